@@ -1,0 +1,31 @@
+//! Why a session call is refused.
+use group_attr::AttrFault;
+
+/// The first bad parameter of a call.
+#[derive(Clone, Copy, Debug, PartialEq, Eq)]
+pub enum Field {
+    Name,
+    Value,
+    Message,
+    Targets,
+    Subscription,
+}
+
+/// Why a session call is refused: the first check that fails. `Collide` carries the number of the outstanding
+/// request, `SessionsFull` carries 64.
+#[derive(Clone, Copy, Debug, PartialEq, Eq)]
+pub enum GsFault {
+    NoInit,
+    Exists,
+    NameTooLong,
+    BadParameter(Field),
+    BadClientToken,
+    BadMemberToken,
+    UnknownGroup,
+    BadGroupAttributes(AttrFault),
+    VoteNotExpected,
+    Collide(u32),
+    SessionsFull(u32),
+    Spent,
+    NoMemory,
+}

@@ -1,0 +1,6 @@
+//! The attributes of a group.
+#![tactic(auto)]
+
+mod attrs;
+
+pub use attrs::{AttrFault, Attrs, Batch, DefaultVote, Phases};

@@ -1,0 +1,153 @@
+-- What entries make of a group's state.
+use Rattle.std.specs.Prelude.{ℕ, Bool, true, false, not, ◌==◌, ◌&&◌, ◌+◌, ◌++◌, List, [], ◌∷◌, length, map, filter, Option, Some, None, nat_lt, nat_le, is_none}
+use Rattle.rsct_packet.specs.declared.ids.ProviderId.{ProviderId}
+use Rattle.rsct_packet.specs.declared.ids.ViewId.{ViewId}
+use Rattle.rsct_packet.specs.declared.ids.ProtoId.{ProtoId}
+use Rattle.rsct_packet.specs.Ids.{same_proto}
+use Rattle.rsct_packet.specs.Providers.{among, none_among, without_all}
+use Rattle.group_attr.specs.declared.attrs.Attrs.{Attrs}
+use Rattle.group_attr.specs.Attrs.{empty_attrs}
+use Rattle.proposal_core.specs.declared.proposal.Failure.{Failure}
+use Rattle.proposal_core.specs.declared.proposal.Proposal.{Proposal}
+use Rattle.proposal_core.specs.declared.proposal.Proposal.TheVariants.{Join, Leave, Fail, Expel, State, Message, Attributes, Reflect}
+use Rattle.proposal_core.specs.declared.entry.Entry.{Entry}
+use Rattle.proposal_core.specs.declared.entry.Entry.TheVariants.{Once, Begin, Phase, Approve, Reject, Late}
+use Rattle.proposal_core.specs.declared.group_state.GroupState.{GroupState}
+use Rattle.proposal_core.specs.declared.group_state.Running.{Running}
+
+abbrev pub max_providers : ℕ
+max_providers = 64
+
+abbrev pub max_phases : ℕ
+max_phases = 200
+
+abbrev pub empty_state : GroupState
+empty_state = record { members = []; value = []; attrs = empty_attrs; failed = []; value_at = None; reflected_at = None; running = None }
+
+-- the providers of a join
+abbrev pub joins_of : Proposal → List ProviderId
+joins_of (Join ps attrs n) = ps
+joins_of _ = []
+
+abbrev pub joiners_in : Option Running → List ProviderId
+joiners_in None = []
+joiners_in (Some run) = joins_of run.proposal
+
+-- the members, then the running joiners
+abbrev pub present : GroupState → List ProviderId
+present s = s.members ++ joiners_in s.running
+
+abbrev pub fallen_of : List Failure → List ProviderId
+fallen_of out = map (λ f. f.p) out
+
+-- whether a proposal can begin where nothing runs
+unfoldable pub can_begin : GroupState → Proposal → Bool
+can_begin s (Join ps attrs n) = none_among s.members ps && nat_le (length s.members + length ps) max_providers
+can_begin s _ = true
+
+-- whether this protocol and phase run
+unfoldable pub runs : ProtoId → ℕ → Option Running → Bool
+runs proto phase None = false
+runs proto phase (Some run) = phase == run.phase && same_proto proto run.proto
+
+unfoldable pub fits : GroupState → Entry → Bool
+fits s (Once x) = is_none s.running && can_begin s x
+fits s (Begin x) = is_none s.running && can_begin s x
+fits s (Phase c) = runs c.proto c.phase s.running && nat_lt c.phase max_phases
+fits s (Approve c) = runs c.proto c.phase s.running
+fits s (Reject c) = runs c.proto c.phase s.running
+fits s (Late proto phase ps) = runs proto phase s.running
+
+unfoldable pub without : GroupState → List ProviderId → GroupState
+without s ps = record s { members = without_all s.members ps; failed = without_all s.failed ps }
+
+unfoldable pub effect : GroupState → Proposal → GroupState
+effect s (Join ps attrs n) = record s { members = s.members ++ ps }
+effect s (Leave p r) = without s (p ∷ [])
+effect s (Fail out) = without s (fallen_of out)
+effect s (Expel p r out) = without s out
+effect s (State p r value) = s
+effect s (Message p r bytes) = s
+effect s (Attributes p r attrs) = record s { attrs = attrs }
+effect s (Reflect view place value) = record s { reflected_at = Some (record { view = view; place = place }) }
+
+-- what a protocol proposes from its beginning
+unfoldable pub first_value : Proposal → Option (List ℕ)
+first_value (State p r value) = Some value
+first_value _ = None
+
+-- the attributes of the first join
+unfoldable pub begun_attrs : List ProviderId → Attrs → Proposal → Attrs
+begun_attrs [] old (Join ps attrs n) = attrs
+begun_attrs _ old _ = old
+
+unfoldable pub begun : GroupState → ViewId → ℕ → Proposal → GroupState
+begun s v i x =
+    record s {
+      attrs = begun_attrs s.members s.attrs x;
+      running = Some (record { proto = record { view = v; place = i }; proposal = x; phase = 1; proposed = first_value x });
+    }
+
+-- a value of an entry replaces the proposed one
+unfoldable pub newer : Option (List ℕ) → Option (List ℕ) → Option (List ℕ)
+newer None old = old
+newer (Some value) old = Some value
+
+unfoldable pub valued : GroupState → ViewId → ℕ → Option (List ℕ) → GroupState
+valued s v i None = s
+valued s v i (Some value) = record s { value = value; value_at = Some (record { view = v; place = i }) }
+
+unfoldable pub approved : GroupState → ViewId → ℕ → Option (List ℕ) → Option Running → GroupState
+approved s v i value None = s
+approved s v i value (Some run) = valued (effect (record s { running = None }) run.proposal) v i (newer value run.proposed)
+
+unfoldable pub rejected_of : GroupState → Proposal → GroupState
+rejected_of s (Join ps attrs n) = record s { failed = without_all s.failed ps }
+rejected_of s (Fail out) = without s (fallen_of out)
+rejected_of s (Reflect view place value) = record s { reflected_at = Some (record { view = view; place = place }) }
+rejected_of s _ = s
+
+unfoldable pub rejected : GroupState → Option Running → GroupState
+rejected s None = s
+rejected s (Some run) = rejected_of (record s { running = None }) run.proposal
+
+unfoldable pub next_phase : GroupState → Option (List ℕ) → Option Running → GroupState
+next_phase s value None = s
+next_phase s value (Some run) = record s { running = Some (record run { phase = run.phase + 1; proposed = newer value run.proposed }) }
+
+-- the state after an entry that fits
+unfoldable pub applied : GroupState → ViewId → ℕ → Entry → GroupState
+applied s v i (Once x) = let t : GroupState = begun s v i x in approved t v i None t.running
+applied s v i (Begin x) = begun s v i x
+applied s v i (Phase c) = next_phase s c.value s.running
+applied s v i (Approve c) = approved s v i c.value s.running
+applied s v i (Reject c) = rejected s s.running
+applied s v i (Late proto phase ps) = s
+
+unfoldable pub after_if : GroupState → ViewId → ℕ → Entry → Bool → GroupState
+after_if s v i e true = applied s v i e
+after_if s v i e false = s
+
+-- the state after any entry; one that does not fit leaves it
+unfoldable pub after : GroupState → ViewId → ℕ → Entry → GroupState
+after s v i e = after_if s v i e (fits s e)
+
+-- whom a proposal takes off, who does not vote on it
+unfoldable pub leavers_of : Proposal → List ProviderId
+leavers_of (Leave p r) = p ∷ []
+leavers_of (Fail out) = fallen_of out
+leavers_of (Expel p r out) = out
+leavers_of _ = []
+
+unfoldable pub voters_at : List ProviderId → Option Running → List ProviderId
+voters_at members None = []
+voters_at members (Some run) = without_all members (leavers_of run.proposal) ++ joins_of run.proposal
+
+-- empty where nothing runs
+unfoldable pub voters : GroupState → List ProviderId
+voters s = voters_at s.members s.running
+
+-- opens each word of this file, for a computation
+unfoldable pub fold_opens : Unit {0}
+unfolding can_begin runs fits without effect first_value begun_attrs begun newer valued approved rejected_of rejected next_phase applied after_if after leavers_of voters_at voters
+fold_opens = tt

@@ -1,0 +1,12 @@
+//! Proposals, entries, group states and group lists: what a group's members and value are.
+#![tactic(auto)]
+
+mod entry;
+mod group_list;
+mod group_state;
+mod proposal;
+
+pub use entry::{Closed, Entry, Row, RowVote, Rows, Vote};
+pub use group_list::GroupList;
+pub use group_state::{GroupState, Running};
+pub use proposal::{Cause, Failure, Fallen, Proposal};

@@ -1,0 +1,2 @@
+pub mod ProviderLaws
+pub mod SearchLaws

@@ -1,0 +1,96 @@
+-- Lists of providers that differ stay such lists.
+use Rattle.std.proofs.Common.{◌≡◌, ℕ, ◌+◌, ◌≤◌, Bool, true, false, cond, List, [], ◌∷◌, ◌++◌, length, refl, sym, ap, subst, ◌∙◌, arith, length-append}
+use Rattle.std.specs.Prelude.{not, ◌||◌, ◌&&◌, IsTrue, filter}
+use Rattle.std.specs.List.{list_any, list_all}
+use Rattle.rsct_packet.specs.declared.ids.ProviderId.{ProviderId}
+use Rattle.rsct_packet.specs.Providers.{same_provider, among, none_among, without, without_all, differ, AreProviders}
+
+or_false : (a b : Bool) → (a || b) ≡ false → (a ≡ false) × (b ≡ false)
+or_false true b e = absurd cc
+or_false false b e = (refl, e)
+
+and_true : (a b : Bool) → IsTrue (a && b) → IsTrue a × IsTrue b
+and_true true b h = (refl, h)
+and_true false b h = absurd cc
+
+not_true : (b : Bool) → IsTrue (not b) → b ≡ false
+not_true true h = absurd cc
+not_true false h = refl
+
+both_true : (a b : Bool) → IsTrue a → IsTrue b → IsTrue (a && b)
+both_true true b g h = h
+both_true false b g h = absurd cc
+
+not_of_false : (b : Bool) → b ≡ false → IsTrue (not b)
+not_of_false true e = absurd cc
+not_of_false false e = refl
+
+among-filter : (f : ProviderId → Bool) (xs : List ProviderId) (q : ProviderId) → among xs q ≡ false → among (filter f xs) q ≡ false
+among-filter f [] q h = refl
+among-filter f (x ∷ xs) q h =
+    let parts = or_false (same_provider x q) (among xs q) h in
+    elim (f x) as (λ b. among (cond b (x ∷ filter f xs) (filter f xs)) q ≡ false) [
+      | true ↦ rw parts.0 (among-filter f xs q parts.1)
+      | false ↦ among-filter f xs q parts.1
+    ]
+
+differ-filter : (f : ProviderId → Bool) (xs : List ProviderId) → IsTrue (differ xs) → IsTrue (differ (filter f xs))
+differ-filter f [] h = refl
+differ-filter f (x ∷ xs) h =
+    let parts = and_true (not (among xs x)) (differ xs) h in
+    elim (f x) as (λ b. IsTrue (differ (cond b (x ∷ filter f xs) (filter f xs)))) [
+      | true ↦ both_true (not (among (filter f xs) x)) (differ (filter f xs)) (not_of_false _ (among-filter f xs x (not_true _ parts.0))) (differ-filter f xs parts.1)
+      | false ↦ differ-filter f xs parts.1
+    ]
+
+length-filter_le : (f : ProviderId → Bool) (xs : List ProviderId) → length (filter f xs) ≤ length xs
+length-filter_le f [] = omega arith
+length-filter_le f (x ∷ xs) =
+    let h = length-filter_le f xs in
+    elim (f x) as (λ b. length (cond b (x ∷ filter f xs) (filter f xs)) ≤ length (x ∷ xs)) [
+      | true ↦ omega arith
+      | false ↦ omega arith
+    ]
+
+pub AreProviders-without : (xs : List ProviderId) (p : ProviderId) → AreProviders xs → AreProviders (without xs p)
+AreProviders-without xs p h = record {
+  few = omega (arith, length-filter_le (λ q. not (same_provider q p)) xs, h.few);
+  apart = differ-filter (λ q. not (same_provider q p)) xs h.apart;
+}
+
+pub AreProviders-without_all : (xs ps : List ProviderId) → AreProviders xs → AreProviders (without_all xs ps)
+AreProviders-without_all xs ps h = record {
+  few = omega (arith, length-filter_le (λ q. not (among ps q)) xs, h.few);
+  apart = differ-filter (λ q. not (among ps q)) xs h.apart;
+}
+
+same_sym : (a b : ProviderId) → same_provider a b ≡ same_provider b a
+same_sym a b = grind arith
+
+among-append : (xs ys : List ProviderId) (q : ProviderId) → among xs q ≡ false → among ys q ≡ false → among (xs ++ ys) q ≡ false
+among-append [] ys q g h = h
+among-append (x ∷ xs) ys q g h = let parts = or_false (same_provider x q) (among xs q) g in rw parts.0 (among-append xs ys q parts.1 h)
+
+-- none of ps is x ∷ xs: x is none of ps, and none is among xs
+head_apart : (x : ProviderId) (xs ps : List ProviderId) → IsTrue (none_among (x ∷ xs) ps) → (among ps x ≡ false) × IsTrue (none_among xs ps)
+head_apart x xs [] h = (refl, refl)
+head_apart x xs (p ∷ ps) h =
+    let parts = and_true (not (same_provider x p || among xs p)) (none_among (x ∷ xs) ps) h in
+    let here = or_false (same_provider x p) (among xs p) (not_true _ parts.0) in
+    let there = head_apart x xs ps parts.1 in
+    (rw (same_sym p x, here.0) there.0, both_true (not (among xs p)) (none_among xs ps) (not_of_false _ here.1) there.1)
+
+differ-append : (xs ps : List ProviderId) → IsTrue (differ xs) → IsTrue (differ ps) → IsTrue (none_among xs ps) → IsTrue (differ (xs ++ ps))
+differ-append [] ps g h k = h
+differ-append (x ∷ xs) ps g h k =
+    let parts = and_true (not (among xs x)) (differ xs) g in
+    let away = head_apart x xs ps k in
+    both_true (not (among (xs ++ ps) x)) (differ (xs ++ ps))
+    (not_of_false _ (among-append xs ps x (not_true _ parts.0) away.0))
+    (differ-append xs ps parts.1 h away.1)
+
+pub AreProviders-append : (xs ps : List ProviderId) → AreProviders xs → AreProviders ps → length xs + length ps ≤ 64 → IsTrue (none_among xs ps) → AreProviders (xs ++ ps)
+AreProviders-append xs ps g h room k = record {
+  few = omega (arith, length-append xs ps, room);
+  apart = differ-append xs ps g.apart h.apart k;
+}

@@ -1,0 +1,125 @@
+-- A search from the front, as a loop does it, and what is found there.
+use Rattle.std.proofs.Common.{◌≡◌, ℕ, zero, suc, ◌+◌, ◌≤◌, ◌<◌, Bool, true, false, cond, List, [], ◌∷◌, length, get_or, set, drop, Option, Some, None, refl, sym, ap, ◌∙◌, arith}
+use Rattle.std.specs.Option.{option_map}
+use Rattle.std.specs.Prelude.{slice_get, insert, find}
+use Rattle.std.proofs.lemmas.List.{drop_more}
+use Rattle.rsct_packet.specs.Search.{place_where, edit_where, front_len, insert_before}
+
+-- what is left of the search at a place
+abbrev pub place_from : {A : Type 0} → (A → Bool) → ℕ → List A → Option ℕ
+place_from test i xs = option_map (λ k. i + k) (place_where test (drop i xs))
+
+same_map : (o : Option ℕ) → o ≡ option_map (λ k. 0 + k) o
+same_map (Some k) = ap Some (omega arith)
+same_map None = refl
+
+pub place_begins : {A : Type 0} (test : A → Bool) (xs : List A) → place_where test xs ≡ place_from test 0 xs
+place_begins test xs = same_map (place_where test xs)
+
+shift : (o : Option ℕ) (i : ℕ) → option_map (λ k. i + k) (option_map suc o) ≡ option_map (λ k. (i + 1) + k) o
+shift (Some k) i = ap Some (omega arith)
+shift None i = refl
+
+pub place_goes_on : {A : Type 0} (test : A → Bool) (xs : List A) (i : ℕ) (d : A) → i < length xs → test (get_or xs i d) ≡ false → place_from test i xs ≡ place_from test (i + 1) xs
+place_goes_on test xs i d lt h = rw (drop_more xs i d lt, h) (shift (place_where test (drop (i + 1) xs)) i)
+
+pub place_found : {A : Type 0} (test : A → Bool) (xs : List A) (i : ℕ) (d : A) → i < length xs → test (get_or xs i d) ≡ true → place_from test i xs ≡ Some i
+place_found test xs i d lt h = rw (drop_more xs i d lt, h) (ap Some (omega arith))
+
+nothing_left : {A : Type 0} (xs : List A) (i : ℕ) → length xs ≤ i → drop i xs ≡ []
+nothing_left [] zero le = refl
+nothing_left [] (suc i) le = refl
+nothing_left (x ∷ xs) zero le = absurd (omega arith)
+nothing_left (x ∷ xs) (suc i) le = nothing_left xs i (omega arith)
+
+pub place_missing : {A : Type 0} (test : A → Bool) (xs : List A) (i : ℕ) → length xs ≤ i → place_from test i xs ≡ None
+place_missing test xs i le = rw (nothing_left xs i le) refl
+
+-- one element more in front
+get_at_head : {A : Type 0} (b : Bool) (o : Option ℕ) (x : A) (xs : List A) (rest : Option A) → ((k : ℕ) → o ≡ Some k → slice_get xs k ≡ rest) → (i : ℕ) → cond b (Some 0) (option_map suc o) ≡ Some i → slice_get (x ∷ xs) i ≡ cond b (Some x) rest
+get_at_head true o x xs rest ih i e = let k : 0 ≡ i = cc in rw (← k) refl
+get_at_head false None x xs rest ih i e = absurd cc
+get_at_head false (Some k) x xs rest ih i e = let s : suc k ≡ i = cc in rw (← s) (ih k refl)
+
+set_at_head : {A : Type 0} (b : Bool) (o : Option ℕ) (f : A → A) (d x : A) (xs rest : List A) → ((k : ℕ) → o ≡ Some k → set xs k (f (get_or xs k d)) ≡ rest) → (i : ℕ) → cond b (Some 0) (option_map suc o) ≡ Some i → set (x ∷ xs) i (f (get_or (x ∷ xs) i d)) ≡ cond b (f x ∷ xs) (x ∷ rest)
+set_at_head true o f d x xs rest ih i e = let k : 0 ≡ i = cc in rw (← k) refl
+set_at_head false None f d x xs rest ih i e = absurd cc
+set_at_head false (Some k) f d x xs rest ih i e = let s : suc k ≡ i = cc in rw (← s) (ap (λ (ys : List _). x ∷ ys) (ih k refl))
+
+-- what stands at the place that is found
+pub get_at_place : {A : Type 0} (test : A → Bool) (xs : List A) (i : ℕ) → place_where test xs ≡ Some i → slice_get xs i ≡ find test xs
+get_at_place test [] i e = absurd cc
+get_at_place test (x ∷ xs) i e = get_at_head (test x) (place_where test xs) x xs (find test xs) (λ k h. get_at_place test xs k h) i e
+
+pub set_at_place : {A : Type 0} (test : A → Bool) (f : A → A) (d : A) (xs : List A) (i : ℕ) → place_where test xs ≡ Some i → set xs i (f (get_or xs i d)) ≡ edit_where test f xs
+set_at_place test f d [] i e = absurd cc
+set_at_place test f d (x ∷ xs) i e = set_at_head (test x) (place_where test xs) f d x xs (edit_where test f xs) (λ k h. set_at_place test f d xs k h) i e
+
+missing_head : {A : Type 0} (b : Bool) (o : Option ℕ) (x : A) (rest : Option A) → (o ≡ None → rest ≡ None) → cond b (Some 0) (option_map suc o) ≡ None → cond b (Some x) rest ≡ None
+missing_head true o x rest ih e = absurd cc
+missing_head false None x rest ih e = ih refl
+missing_head false (Some k) x rest ih e = absurd cc
+
+pub missing_at_place : {A : Type 0} (test : A → Bool) (xs : List A) → place_where test xs ≡ None → find test xs ≡ None
+missing_at_place test [] e = refl
+missing_at_place test (x ∷ xs) e = missing_head (test x) (place_where test xs) x (find test xs) (missing_at_place test xs) e
+
+place_in_head : {A : Type 0} (b : Bool) (o : Option ℕ) (xs : List A) → ((k : ℕ) → o ≡ Some k → k < length xs) → (i : ℕ) → cond b (Some 0) (option_map suc o) ≡ Some i → i < suc (length xs)
+place_in_head true o xs ih i e = let k : 0 ≡ i = cc in omega arith
+place_in_head false None xs ih i e = absurd cc
+place_in_head false (Some k) xs ih i e = let s : suc k ≡ i = cc in let h = ih k refl in omega arith
+
+pub place_is_in : {A : Type 0} (test : A → Bool) (xs : List A) (i : ℕ) → place_where test xs ≡ Some i → i < length xs
+place_is_in test [] i e = absurd cc
+place_is_in test (x ∷ xs) i e = place_in_head (test x) (place_where test xs) xs (λ k h. place_is_in test xs k h) i e
+
+-- the same for an element that was read there
+pub set_is_edit : {A : Type 0} (test : A → Bool) (f : A → A) (xs : List A) (i : ℕ) (x y : A) → Some i ≡ place_where test xs → x ≡ get_or xs i x → y ≡ f x → set xs i y ≡ edit_where test f xs
+set_is_edit test f xs i x y e read changed = ap (set xs i) (changed ∙ ap f read) ∙ set_at_place test f x xs i (sym e)
+
+-- what is left to count at a place
+abbrev pub front_from : {A : Type 0} → (A → Bool) → ℕ → List A → ℕ
+front_from test i xs = i + front_len test (drop i xs)
+
+pub front_begins : {A : Type 0} (test : A → Bool) (xs : List A) → front_len test xs ≡ front_from test 0 xs
+front_begins test xs = omega arith
+
+pub front_goes_on : {A : Type 0} (test : A → Bool) (xs : List A) (i : ℕ) (d : A) → i < length xs → test (get_or xs i d) ≡ false → front_from test i xs ≡ front_from test (i + 1) xs
+front_goes_on test xs i d lt h = rw (drop_more xs i d lt, h) (omega arith)
+
+pub front_found : {A : Type 0} (test : A → Bool) (xs : List A) (i : ℕ) (d : A) → i < length xs → test (get_or xs i d) ≡ true → front_from test i xs ≡ i
+front_found test xs i d lt h = rw (drop_more xs i d lt, h) (omega arith)
+
+pub front_missing : {A : Type 0} (test : A → Bool) (xs : List A) (i : ℕ) → length xs ≤ i → front_from test i xs ≡ i
+front_missing test xs i le = rw (nothing_left xs i le) (omega arith)
+
+pub front_is_in : {A : Type 0} (test : A → Bool) (xs : List A) → front_len test xs ≤ length xs
+front_is_in test [] = omega arith
+front_is_in test (x ∷ xs) =
+    let h = front_is_in test xs in
+    elim (test x) as (λ b. cond b 0 (suc (front_len test xs)) ≤ suc (length xs)) [ true ↦ omega arith | false ↦ omega arith ]
+
+pub insert_at_front : {A : Type 0} (test : A → Bool) (y : A) (xs : List A) → insert xs (front_len test xs) y ≡ insert_before test y xs
+insert_at_front test y [] = refl
+insert_at_front test y (x ∷ xs) =
+    let h = insert_at_front test y xs in
+    elim (test x) as (λ b. insert (x ∷ xs) (cond b 0 (suc (front_len test xs))) y ≡ cond b (y ∷ x ∷ xs) (x ∷ insert_before test y xs)) [ true ↦ refl | false ↦ ap (λ (ys : List _). x ∷ ys) h ]
+
+missing_edit_head : {A : Type 0} (b : Bool) (o : Option ℕ) (f : A → A) (x : A) (xs rest : List A) → (o ≡ None → rest ≡ xs) → cond b (Some 0) (option_map suc o) ≡ None → cond b (f x ∷ xs) (x ∷ rest) ≡ x ∷ xs
+missing_edit_head true o f x xs rest ih e = absurd cc
+missing_edit_head false None f x xs rest ih e = ap (λ (ys : List _). x ∷ ys) (ih refl)
+missing_edit_head false (Some k) f x xs rest ih e = absurd cc
+
+pub missing_edit : {A : Type 0} (test : A → Bool) (f : A → A) (xs : List A) → None ≡ place_where test xs → edit_where test f xs ≡ xs
+missing_edit test f [] e = refl
+missing_edit test f (x ∷ xs) e = missing_edit_head (test x) (place_where test xs) f x xs (edit_where test f xs) (λ h. missing_edit test f xs (sym h)) (sym e)
+
+read_at_head : {A : Type 0} (b : Bool) (o : Option ℕ) (x : A) (xs : List A) (rest : Option A) (d : A) → ((k : ℕ) → o ≡ Some k → rest ≡ Some (get_or xs k d)) → (i : ℕ) → cond b (Some 0) (option_map suc o) ≡ Some i → cond b (Some x) rest ≡ Some (get_or (x ∷ xs) i d)
+read_at_head true o x xs rest d ih i e = let k : 0 ≡ i = cc in rw (← k) refl
+read_at_head false None x xs rest d ih i e = absurd cc
+read_at_head false (Some k) x xs rest d ih i e = let s : suc k ≡ i = cc in rw (← s) (ih k refl)
+
+-- what is read at the place that is found
+pub read_at_place : {A : Type 0} (test : A → Bool) (xs : List A) (i : ℕ) (d : A) → place_where test xs ≡ Some i → find test xs ≡ Some (get_or xs i d)
+read_at_place test [] i d e = absurd cc
+read_at_place test (x ∷ xs) i d e = read_at_head (test x) (place_where test xs) x xs (find test xs) d (λ k h. read_at_place test xs k d h) i e

@@ -1,0 +1,5 @@
+pub mod Ids
+pub mod Text
+pub mod Mask
+pub mod Providers
+pub mod Search

@@ -1,0 +1,80 @@
+//! Sets of nodes.
+ghost use Rattle.std.specs.Prelude.{◌≡◌, ◌≤◌, ◌<◌, ◌==◌};
+ghost use Rattle.std.specs.Int.{bit_at};
+ghost use Rattle.rsct_packet.specs.Mask.{no_nodes, has_node, with_node, without_node, union_of, common_of};
+
+/// A set of nodes from 1 to 32: bit `n - 1` stands for node `n`.
+#[derive(Clone, Copy, Debug, PartialEq, Eq)]
+pub struct Mask {
+    pub bits: u32,
+}
+
+/// Is this bit one?
+#[tactic(auto, using(std::proofs::lemmas::Nat::Bits::shr_and_one, std::proofs::lemmas::Grind::common_steps))]
+fn is_set(bits: u32, place: u8) -> bool
+    requires { place < 32 }
+    ensures { result ≡ (bit_at bits place == 1) }
+{
+    (bits >> place) & 1 == 1
+}
+
+impl Mask {
+    /// The set of no node.
+    pub fn empty() -> Mask
+        ensures { result ≡ no_nodes }
+    {
+        Mask { bits: 0 }
+    }
+
+    /// Is the node one of them? No node outside 1 to 32 is.
+    #[tactic(auto, unfolding(crate::specs::Mask::has_node))]
+    pub fn has(self, node: u8) -> bool
+        ensures { result ≡ has_node self node }
+    {
+        node >= 1 && node <= 32 && is_set(self.bits, node - 1)
+    }
+
+    /// The set with this node.
+    #[tactic(auto, unfolding(crate::specs::Mask::with_node))]
+    pub fn with(self, node: u8) -> Mask
+        requires low { 1 ≤ node }
+        requires high { node ≤ 32 }
+        ensures { result ≡ with_node self node }
+    {
+        Mask {
+            bits: self.bits | 1 << (node - 1),
+        }
+    }
+
+    /// The set without this node.
+    #[tactic(auto, unfolding(crate::specs::Mask::without_node))]
+    pub fn without(self, node: u8) -> Mask
+        requires low { 1 ≤ node }
+        requires high { node ≤ 32 }
+        ensures { result ≡ without_node self node }
+    {
+        Mask {
+            bits: self.bits & !(1 << (node - 1)),
+        }
+    }
+
+    /// The nodes of either.
+    #[tactic(auto, unfolding(crate::specs::Mask::union_of))]
+    pub fn union(self, other: Mask) -> Mask
+        ensures { result ≡ union_of self other }
+    {
+        Mask {
+            bits: self.bits | other.bits,
+        }
+    }
+
+    /// The nodes of both.
+    #[tactic(auto, unfolding(crate::specs::Mask::common_of))]
+    pub fn common(self, other: Mask) -> Mask
+        ensures { result ≡ common_of self other }
+    {
+        Mask {
+            bits: self.bits & other.bits,
+        }
+    }
+}

@@ -1,0 +1,135 @@
+//! Names and texts.
+ghost use Rattle.std.specs.Prelude.{◌≡◌, [], ◌<◌, ◌≤◌, ◌^◌, ◌↔◌, IsTrue, length, IfOk, MatchOption};
+ghost use Rattle.std.specs.List.{list_all};
+ghost use Rattle.rsct_packet.specs.Text.{IsName, is_name_of, name_byte};
+
+use crate::ids::NoMemory;
+use std::alloc::Global;
+use std::marker::Model;
+
+/// How many bytes a group name has at most.
+pub const MAX_NAME: usize = 32;
+
+/// How many bytes a text has at most.
+pub const MAX_TEXT: usize = 65535;
+
+/// A state value, a message or another text of at most 65,535 bytes.
+#[derive(Drop)]
+pub struct Text {
+    bytes: Vec<u8>,
+}
+
+impl Model for Text {
+    ghost use Rattle.std.specs.Prelude.{List, ℕ, ◌<◌, ◌^◌, length};
+
+    ghost Value = { List ℕ };
+
+    ghost view = { λ t. t.bytes.items };
+
+    ghost invariant = { λ t. length t.bytes.items < 2 ^ 16 };
+}
+
+impl Text {
+    /// The empty text.
+    pub fn new(alloc: Global) -> Text
+        ensures { result ≡ [] }
+    {
+        Text {
+            bytes: Vec::new(alloc),
+        }
+    }
+
+    /// The text of these bytes; `Ok(None)` exactly where they are more than 65,535.
+    pub fn of(alloc: Global, b: &[u8]) -> Result<Option<Text>, NoMemory>
+        ensures { IfOk result (λ o. MatchOption o (2 ^ 16 ≤ length b.now) (λ t. (length b.now < 2 ^ 16) × (t ≡ b.now))) }
+    {
+        if b.len() > MAX_TEXT {
+            return Ok(None);
+        }
+        Ok(Some(Text {
+            bytes: Vec::from_slice(alloc, b)?,
+        }))
+    }
+
+    pub fn bytes(&self) -> &[u8]
+        ensures value { result.now ≡ self.now }
+        ensures short { length self.now < 2 ^ 16 }
+    {
+        self.bytes.as_slice()
+    }
+
+    pub fn copy(&self, alloc: Global) -> Result<Text, NoMemory>
+        ensures { IfOk result (λ t. t ≡ self.now) }
+    {
+        Ok(Text {
+            bytes: Vec::from_slice(alloc, self.bytes.as_slice())?,
+        })
+    }
+}
+
+/// A group name: 1 to 32 letters, digits, `_`, `-` and `.`.
+#[derive(Drop)]
+pub struct Name {
+    bytes: Vec<u8>,
+}
+
+impl Model for Name {
+    ghost use Rattle.std.specs.Prelude.{List, ℕ};
+    ghost use Rattle.rsct_packet.specs.Text.{IsName, name_byte};
+
+    ghost Value = { List ℕ };
+
+    ghost view = { λ t. t.bytes.items };
+
+    ghost invariant = { λ t. IsName t.bytes.items };
+}
+
+/// Is this a byte of a name?
+fn is_name_byte(b: u8) -> bool
+    ensures { result ≡ name_byte b }
+{
+    b.is_ascii_alphanumeric() || b == b'_' || b == b'-' || b == b'.'
+}
+
+/// Is each of these a byte of a name?
+fn are_name_bytes(b: &[u8]) -> bool
+    ensures { result ≡ list_all name_byte b.now }
+{
+    b.iter().all(|x| is_name_byte(*x))
+}
+
+/// Is this a group name?
+pub fn is_name(b: &[u8]) -> bool
+    ensures { result ≡ is_name_of b.now }
+{
+    b.len() >= 1 && b.len() <= MAX_NAME && are_name_bytes(b)
+}
+
+impl Name {
+    /// The name of these bytes; `Ok(None)` exactly where they are no group name.
+    pub fn of(alloc: Global, b: &[u8]) -> Result<Option<Name>, NoMemory>
+        ensures { IfOk result (λ o. MatchOption o (¬ IsName b.now) (λ t. IsName b.now × (t ≡ b.now))) }
+    {
+        if !is_name(b) {
+            return Ok(None);
+        }
+        Ok(Some(Name {
+            bytes: Vec::from_slice(alloc, b)?,
+        }))
+    }
+
+    pub fn bytes(&self) -> &[u8]
+        ensures value { result.now ≡ self.now }
+        ensures name { IsName self.now }
+    {
+        self.bytes.as_slice()
+    }
+
+    pub fn copy(&self, alloc: Global) -> Result<Name, NoMemory>
+        ensures { IfOk result (λ t. t ≡ self.now) }
+    {
+        Ok(Name {
+            bytes: Vec::from_slice(alloc, self.bytes.as_slice())?,
+        })
+    }
+}
