@@ -2,6 +2,10 @@
 //! `specs/`, its step.
 #![tactic(auto)]
 
+mod config;
 mod happened;
+mod packet;
 
+pub use config::{Config, Mode};
 pub use happened::{Happened, Records};
+pub use packet::{Body, Packet, Packets, Report, ReportRow, What};

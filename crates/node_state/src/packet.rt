@@ -1,0 +1,159 @@
+//! The packets of daemons, as values.
+use client_session::Why;
+use group_attr::Phases;
+use proposal_core::{Entry, Proposal, Vote};
+use rsct_packet::{List, Mask, Name, ProtoId, ProviderId, RingId, Text, ViewId};
+use view_exchange::{Install, Parts};
+
+/// What a status asks for: the rings, the view, the groups, or the votes.
+#[derive(Clone, Copy, Debug, PartialEq, Eq)]
+pub enum What {
+    Hats,
+    Hagsns,
+    Hagsgr,
+    Hagsvote,
+}
+
+/// A row of a report: the node's incarnation, the number of its own report, and the nodes in its rings.
+#[derive(Clone, Copy, Debug, PartialEq, Eq)]
+pub struct ReportRow {
+    pub node: u8,
+    pub inc: u32,
+    pub seq: u32,
+    pub mask: Mask,
+}
+
+/// Rows with nodes ascending.
+pub type Report = List<ReportRow>;
+
+/// What a packet says.
+#[derive(Drop)]
+pub enum Body {
+    Heartbeat {
+        ring: RingId,
+    },
+    Proclaim {
+        ring: RingId,
+    },
+    /// These want to join the receiver's ring.
+    JoinRing {
+        mask: Mask,
+    },
+    /// Prepare to commit: the ring that is to be, and the nodes asked for it.
+    Ptc {
+        ring: RingId,
+        mask: Mask,
+    },
+    PtcAck {
+        ring: RingId,
+    },
+    Commit {
+        ring: RingId,
+        mask: Mask,
+    },
+    Death {
+        ring: RingId,
+        node: u8,
+    },
+    Report {
+        rows: Report,
+    },
+    Prepare {
+        view: ViewId,
+        mask: Mask,
+    },
+    /// The sender comes from the view `old` with these lists.
+    Answer {
+        view: ViewId,
+        old: ViewId,
+        parts: Parts,
+    },
+    /// The sender promised a view of this number.
+    Refuse {
+        view: ViewId,
+        number: u32,
+    },
+    Install {
+        install: Install,
+    },
+    Taken {
+        view: ViewId,
+    },
+    Lookup {
+        view: ViewId,
+        name: Name,
+    },
+    /// The group's leader; 0 where no group more can be had.
+    Name {
+        view: ViewId,
+        name: Name,
+        leader: u8,
+    },
+    Request {
+        view: ViewId,
+        name: Name,
+        p: ProviderId,
+        r: u32,
+        phases: Phases,
+        proposal: Proposal,
+    },
+    Tell {
+        view: ViewId,
+        name: Name,
+        p: ProviderId,
+        r: u32,
+        why: Why,
+    },
+    /// An entry at its place; all members hold the entries below `stable`.
+    Entry {
+        view: ViewId,
+        name: Name,
+        place: u32,
+        stable: u32,
+        entry: Entry,
+    },
+    Ack {
+        view: ViewId,
+        name: Name,
+        len: u32,
+    },
+    Vote {
+        view: ViewId,
+        name: Name,
+        proto: ProtoId,
+        phase: u16,
+        p: ProviderId,
+        vote: Vote,
+        value: Option<Text>,
+        message: Option<Text>,
+    },
+    Gone {
+        view: ViewId,
+        name: Name,
+        p: ProviderId,
+    },
+    Query {
+        question: u32,
+        what: What,
+    },
+    Reply {
+        question: u32,
+        text: List<u8>,
+    },
+}
+
+/// A packet: the network that it is sent on, its sender with its incarnation and its receiver (0 for a status
+/// client), its level (1 or 2) and at level 2 its domain, else 0.
+#[derive(Drop)]
+pub struct Packet {
+    pub network: u8,
+    pub from: u8,
+    pub to: u8,
+    pub inc: u32,
+    pub level: u8,
+    pub domain: u32,
+    pub body: Body,
+}
+
+/// Packets in the order of sending.
+pub type Packets = List<Packet>;

@@ -1,0 +1,2 @@
+//! Views: promises, preparing and installing.
+#![tactic(auto)]
