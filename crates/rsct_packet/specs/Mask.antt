@@ -1,5 +1,5 @@
 -- Sets of nodes.
-use Rattle.std.specs.Prelude.{ℕ, ◌+◌, ◌-◌, ◌*◌, ◌/◌, ◌%◌, ◌^◌, Bool, ◌==◌, ◌&&◌, List, [], ◌∷◌, filter, nat_le, bit_and, bit_or, if◌then◌else◌}
+use Rattle.std.specs.Prelude.{ℕ, ◌-◌, ◌*◌, ◌%◌, ◌^◌, Bool, ◌==◌, ◌&&◌, List, [], ◌∷◌, filter, nat_le, bit_and, bit_or, if◌then◌else◌}
 use Rattle.std.specs.Int.{bit_at, w32, bit_not}
 use Rattle.rsct_packet.specs.declared.mask.Mask.{Mask}
 
@@ -10,16 +10,22 @@ node_numbers = 1 ∷ 2 ∷ 3 ∷ 4 ∷ 5 ∷ 6 ∷ 7 ∷ 8 ∷ 9 ∷ 10 ∷ 11 �
 abbrev pub no_nodes : Mask
 no_nodes = record { bits = 0 }
 
+abbrev pub is_node : ℕ → Bool
+is_node n = nat_le 1 n && nat_le n 32
+
 -- no node outside 1 to 32 is in a set
 unfoldable pub has_node : Mask → ℕ → Bool
-has_node m n = nat_le 1 n && nat_le n 32 && (bit_at m.bits (n - 1) == 1)
+has_node m n = is_node n && (bit_at m.bits (n - 1) == 1)
 
 -- nodes from 1 to 32 alone are put in or taken out
 unfoldable pub with_node : Mask → ℕ → Mask
-with_node m n = record { bits = bit_or m.bits (1 * 2 ^ (n - 1) % 2 ^ 32) }
+with_node m n = if is_node n then record { bits = bit_or m.bits (1 * 2 ^ (n - 1) % 2 ^ 32) } else m
 
 unfoldable pub without_node : Mask → ℕ → Mask
-without_node m n = record { bits = bit_and m.bits (bit_not w32 (1 * 2 ^ (n - 1) % 2 ^ 32)) }
+without_node m n = if is_node n then record { bits = bit_and m.bits (bit_not w32 (1 * 2 ^ (n - 1) % 2 ^ 32)) } else m
+
+abbrev pub same_mask : Mask → Mask → Bool
+same_mask a b = a.bits == b.bits
 
 unfoldable pub union_of : Mask → Mask → Mask
 union_of a b = record { bits = bit_or a.bits b.bits }

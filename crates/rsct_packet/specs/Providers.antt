@@ -1,5 +1,5 @@
 -- Lists of providers that differ.
-use Rattle.std.specs.Prelude.{◌≡◌, ℕ, Bool, true, not, ◌==◌, ◌&&◌, ◌≤◌, IsTrue, List, [], ◌∷◌, length, filter}
+use Rattle.std.specs.Prelude.{Bool, true, not, ◌==◌, ◌&&◌, ◌≤◌, IsTrue, List, [], ◌∷◌, length, filter}
 use Rattle.std.specs.List.{list_any, list_all}
 use Rattle.rsct_packet.specs.declared.ids.ProviderId.{ProviderId}
 

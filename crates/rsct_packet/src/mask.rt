@@ -1,7 +1,7 @@
 //! Sets of nodes.
 ghost use Rattle.std.specs.Prelude.{◌≡◌, ◌≤◌, ◌<◌, ◌==◌};
 ghost use Rattle.std.specs.Int.{bit_at};
-ghost use Rattle.rsct_packet.specs.Mask.{no_nodes, has_node, with_node, without_node, union_of, common_of};
+ghost use Rattle.rsct_packet.specs.Mask.{no_nodes, is_node, has_node, with_node, without_node, union_of, common_of};
 
 /// A set of nodes from 1 to 32: bit `n - 1` stands for node `n`.
 #[derive(Clone, Copy, Debug, PartialEq, Eq)]
@@ -18,6 +18,13 @@ fn is_set(bits: u32, place: u8) -> bool
     (bits >> place) & 1 == 1
 }
 
+/// Is this the number of a node, from 1 to 32?
+fn is_node_number(node: u8) -> bool
+    ensures { result ≡ is_node node }
+{
+    node >= 1 && node <= 32
+}
+
 impl Mask {
     /// The set of no node.
     pub fn empty() -> Mask
@@ -31,16 +38,17 @@ impl Mask {
     pub fn has(self, node: u8) -> bool
         ensures { result ≡ has_node self node }
     {
-        node >= 1 && node <= 32 && is_set(self.bits, node - 1)
+        is_node_number(node) && is_set(self.bits, node - 1)
     }
 
-    /// The set with this node.
+    /// The set with this node. A number that is none from 1 to 32 changes nothing.
     #[tactic(auto, unfolding(crate::specs::Mask::with_node))]
     pub fn with(self, node: u8) -> Mask
-        requires low { 1 ≤ node }
-        requires high { node ≤ 32 }
         ensures { result ≡ with_node self node }
     {
+        if !is_node_number(node) {
+            return self;
+        }
         Mask {
             bits: self.bits | 1 << (node - 1),
         }
@@ -49,10 +57,11 @@ impl Mask {
     /// The set without this node.
     #[tactic(auto, unfolding(crate::specs::Mask::without_node))]
     pub fn without(self, node: u8) -> Mask
-        requires low { 1 ≤ node }
-        requires high { node ≤ 32 }
         ensures { result ≡ without_node self node }
     {
+        if !is_node_number(node) {
+            return self;
+        }
         Mask {
             bits: self.bits & !(1 << (node - 1)),
         }
