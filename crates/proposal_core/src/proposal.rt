@@ -4,15 +4,16 @@ use rsct_packet::{List, ProviderId, Providers, Text, ViewId};
 
 /// Why a failure leave removes a provider: its node died, its client said goodbye, or its node has no
 /// member of the source group any more.
-#[derive(Clone, Copy, Debug, PartialEq, Eq)]
+#[derive(Clone, Copy, Debug, Default, PartialEq, Eq)]
 pub enum Cause {
+    #[default]
     Died,
     Gone,
     Cast,
 }
 
 /// A provider that a failure leave removes, and why.
-#[derive(Clone, Copy, Debug, PartialEq, Eq)]
+#[derive(Clone, Copy, Debug, Default, PartialEq, Eq)]
 pub struct Failure {
     pub p: ProviderId,
     pub cause: Cause,

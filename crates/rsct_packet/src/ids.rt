@@ -19,7 +19,7 @@ impl<T: Drop> From<AllocFailed<T>> for NoMemory {
 
 /// A provider: its node (1 to 32) and that node's incarnation, the instance number that its client chose,
 /// and the number of the request that joined it. Written `1.1.7.1`.
-#[derive(Clone, Copy, Debug, PartialEq, Eq, PartialOrd, Ord)]
+#[derive(Clone, Copy, Debug, Default, PartialEq, Eq, PartialOrd, Ord)]
 pub struct ProviderId {
     pub node: u8,
     pub inc: u32,

@@ -1,0 +1,28 @@
+-- What begins next: failures before joins.
+use Rattle.std.specs.Prelude.{List, [], ◌∷◌, Option, Some, None}
+use Rattle.rsct_packet.specs.declared.ids.ProviderId.{ProviderId}
+use Rattle.group_attr.specs.declared.attrs.Batch.{Batch}
+use Rattle.proposal_core.specs.declared.proposal.Failure.{Failure}
+use Rattle.batch_rules.specs.declared.waiting.Chosen.{Chosen}
+use Rattle.batch_rules.specs.declared.waiting.Chosen.TheVariants as chosen
+use Rattle.batch_rules.specs.Waiting.{WaitingView, next_failures, failures_left, next_joins, joins_left}
+
+abbrev pub next_of_joins : Batch → WaitingView → List ProviderId → Option Chosen
+next_of_joins b w [] = None
+next_of_joins b w (p ∷ ps) = Some (chosen.Joins (record { items = next_joins b w }))
+
+abbrev pub next_of_failures : Batch → WaitingView → List Failure → Option Chosen
+next_of_failures b w [] = next_of_joins b w w.joins
+next_of_failures b w (f ∷ fs) = Some (chosen.Failures (record { items = next_failures b w }))
+
+-- none exactly where nothing waits
+abbrev pub next_chosen : Batch → WaitingView → Option Chosen
+next_chosen b w = next_of_failures b w w.failures
+
+abbrev pub left_after : Batch → WaitingView → List Failure → WaitingView
+left_after b w [] = joins_left b w
+left_after b w (f ∷ fs) = failures_left b w
+
+-- what still waits
+abbrev pub next_left : Batch → WaitingView → WaitingView
+next_left b w = left_after b w w.failures

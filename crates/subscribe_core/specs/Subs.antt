@@ -1,0 +1,59 @@
+-- The subscriptions of a node, and which of them a change of a group is noted to.
+use Rattle.std.specs.Prelude.{ℕ, Bool, true, false, not, ◌==◌, ◌&&◌, ◌+◌, ◌++◌, List, [], ◌∷◌, map, filter, if◌then◌else◌}
+use Rattle.std.specs.List.{list_any}
+use Rattle.std.specs.Str.{bytes_eq}
+use Rattle.std.specs.Cmp.Lexicographic.{pointwise}
+use Rattle.rsct_packet.specs.Providers.{same_provider}
+use Rattle.proposal_core.specs.declared.group_state.GroupState.{GroupState}
+use Rattle.subscribe_core.specs.declared.subs.ClientToken.{ClientToken}
+use Rattle.subscribe_core.specs.declared.subs.SubToken.{SubToken}
+use Rattle.subscribe_core.specs.declared.subs.Subscription.{Subscription}
+
+-- the number of the newest token, and the live subscriptions, oldest first
+pub record SubsView : Type 0 where
+  pub last : ℕ
+  pub live : List Subscription
+
+abbrev pub no_subs : SubsView
+no_subs = record { last = 0; live = [] }
+
+abbrev pub has_token : SubToken → Subscription → Bool
+has_token t x = x.token.n == t.n
+
+abbrev pub is_of_client : ClientToken → Subscription → Bool
+is_of_client c x = x.client.n == c.n
+
+abbrev pub is_of_group : List ℕ → Subscription → Bool
+is_of_group g x = bytes_eq x.group g
+
+abbrev pub is_live : SubToken → SubsView → Bool
+is_live t s = list_any (has_token t) s.live
+
+-- the client has a live subscription to the group
+abbrev pub is_subscribed : ClientToken → List ℕ → SubsView → Bool
+is_subscribed c g s = list_any (λ x. is_of_client c x && is_of_group g x) s.live
+
+-- tokens count from 1
+abbrev pub next_token : SubsView → SubToken
+next_token s = record { n = s.last + 1 }
+
+abbrev pub subscribed : ClientToken → List ℕ → SubsView → SubsView
+subscribed c g s = record { last = s.last + 1; live = s.live ++ record { token = next_token s; client = c; group = g } ∷ [] }
+
+abbrev pub unsubscribed : SubToken → SubsView → SubsView
+unsubscribed t s = record s { live = filter (λ x. not (has_token t x)) s.live }
+
+-- without the subscriptions of a client that ended
+abbrev pub client_ended : ClientToken → SubsView → SubsView
+client_ended c s = record s { live = filter (λ x. not (is_of_client c x)) s.live }
+
+-- the live tokens of a group, oldest first
+abbrev pub tokens_of : List ℕ → SubsView → List SubToken
+tokens_of g s = map (λ x. x.token) (filter (is_of_group g) s.live)
+
+-- members or value differ
+abbrev pub differs : GroupState → GroupState → Bool
+differs before after = not (pointwise same_provider before.members after.members && bytes_eq before.value after.value)
+
+abbrev pub notes_of : List ℕ → GroupState → GroupState → SubsView → List SubToken
+notes_of g before after s = if differs before after then tokens_of g s else []

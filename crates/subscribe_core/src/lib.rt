@@ -1,0 +1,6 @@
+//! Subscriptions of clients to groups, and which of them are notified.
+#![tactic(auto)]
+
+mod subs;
+
+pub use subs::{ClientToken, SubToken, Subs, Subscription, Tokens};
