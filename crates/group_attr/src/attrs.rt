@@ -1,9 +1,16 @@
 //! What a group's attributes are.
-ghost use Rattle.std.specs.Prelude.{◌≡◌, IfOk};
-ghost use Rattle.group_attr.specs.Attrs.{empty_attrs};
+ghost use Rattle.std.specs.Prelude.{◌≡◌, ◌↔◌, IfOk, IsTrue};
+ghost use Rattle.std.specs.Result.{result_err};
+ghost use Rattle.group_attr.specs.Attrs.{empty_attrs, is_bad_source, first_fault};
 
 use rsct_packet::{Name, NoMemory};
 use std::alloc::Global;
+
+/// How many ticks a time limit has at most.
+pub const MAX_LIMIT: u16 = 10_000;
+
+/// The name that no group's source may have: it stands for the membership of the hosts.
+pub const HOST_MEMBERSHIP: &[u8] = b"HostMembership";
 
 /// Whether a protocol is decided at once or by votes in phases.
 #[derive(Clone, Copy, Debug, PartialEq, Eq)]
@@ -75,6 +82,59 @@ impl Attrs {
             source_phases: self.source_phases,
             source_limit: self.source_limit,
         })
+    }
+
+    /// May a group of this name have these attributes? The fault is the first bad field: a limit over
+    /// 10,000, then a source limit over 10,000, then a source that is the group itself or `HostMembership`.
+    #[tactic(auto, unfolding(crate::specs::Attrs::first_fault))]
+    pub fn check(&self, group: &[u8]) -> Result<(), AttrFault>
+        ensures { result_err result ≡ first_fault self.now group.now }
+    {
+        if self.limit > MAX_LIMIT {
+            return Err(AttrFault::Limit(self.limit));
+        }
+        if self.source_limit > MAX_LIMIT {
+            return Err(AttrFault::SourceLimit(self.source_limit));
+        }
+        if is_bad_source(&self.source, group) {
+            return Err(AttrFault::Source);
+        }
+        Ok(())
+    }
+
+    /// Are all fields equal?
+    pub fn agrees(&self, o: &Attrs) -> bool
+        ensures { IsTrue result ↔ (self.now ≡ o.now) }
+    {
+        self.phases == o.phases
+            && self.batch == o.batch
+            && self.default_vote == o.default_vote
+            && self.limit == o.limit
+            && is_same_source(&self.source, &o.source)
+            && self.source_phases == o.source_phases
+            && self.source_limit == o.source_limit
+    }
+}
+
+/// Is the source the group itself, or `HostMembership`?
+#[tactic(auto, unfolding(crate::specs::Attrs::is_bad_source))]
+fn is_bad_source(source: &Option<Name>, group: &[u8]) -> bool
+    ensures { result ≡ is_bad_source source.now group.now }
+{
+    match source {
+        None => false,
+        Some(name) => name.bytes() == group || name.bytes() == HOST_MEMBERSHIP,
+    }
+}
+
+/// Are both the same source, or none?
+fn is_same_source(a: &Option<Name>, b: &Option<Name>) -> bool
+    ensures { IsTrue result ↔ (a.now ≡ b.now) }
+{
+    match (a, b) {
+        (None, None) => true,
+        (Some(a), Some(b)) => a.bytes() == b.bytes(),
+        _ => false,
     }
 }
 
