@@ -1,5 +1,5 @@
 -- Lists of providers that differ stay such lists.
-use Rattle.std.proofs.Common.{◌≡◌, ◌+◌, ◌≤◌, Bool, true, false, cond, List, [], ◌∷◌, ◌++◌, length, refl, arith, length-append}
+use Rattle.std.proofs.Common.{◌≡◌, ◌+◌, ◌≤◌, ◌<◌, Bool, true, false, cond, List, [], ◌∷◌, ◌++◌, length, refl, arith, length-append}
 use Rattle.std.specs.Prelude.{not, ◌||◌, ◌&&◌, IsTrue, filter}
 use Rattle.rsct_packet.specs.declared.ids.ProviderId.{ProviderId}
 use Rattle.rsct_packet.specs.Providers.{same_provider, among, none_among, without, without_all, differ, AreProviders}
@@ -93,3 +93,6 @@ AreProviders-append xs ps g h room k = record {
   few = omega (arith, length-append xs ps, room);
   apart = differ-append xs ps g.apart h.apart k;
 }
+
+pub AreProviders-push : (xs : List ProviderId) (p : ProviderId) → AreProviders xs → length xs < 64 → IsTrue (not (among xs p)) → AreProviders (xs ++ p ∷ [])
+AreProviders-push xs p g room k = AreProviders-append xs (p ∷ []) g (record { few = omega arith; apart = refl }) (omega arith) (both_true (not (among xs p)) true k refl)

@@ -1,5 +1,5 @@
 //! Lists of providers.
-ghost use Rattle.std.specs.Prelude.{◌≡◌, ◌≤◌, ◌+◌, ◌++◌, ◌∷◌, [], length, IfOk, IsTrue, slice_get, option_copied, filter, not};
+ghost use Rattle.std.specs.Prelude.{◌≡◌, ◌≤◌, ◌+◌, ◌++◌, ◌∷◌, [], length, IfOk, OnOk, OnErr, ◌<◌, IsTrue, slice_get, option_copied, filter, not};
 ghost use Rattle.std.specs.List.{list_any, list_all};
 ghost use Rattle.rsct_packet.specs.Providers.{same_provider, among, none_among, AreProviders, without, without_all};
 
@@ -68,6 +68,18 @@ fn joined(alloc: Global, xs: &[ProviderId], ps: &[ProviderId]) -> Result<Vec<Pro
     let mut v = Vec::from_slice(alloc, xs)?;
     v.extend_from_slice(ps)?;
     Ok(v)
+}
+
+fn keep_others(items: &mut Vec<ProviderId>, p: ProviderId)
+    ensures { items.new.items ≡ without items.old.items p }
+{
+    items.retain(|q| *q != p);
+}
+
+fn keep_all_but(items: &mut Vec<ProviderId>, ps: &[ProviderId])
+    ensures { items.new.items ≡ without_all items.old.items ps.now }
+{
+    items.retain(|q| !is_among(ps, *q));
 }
 
 impl Providers {
@@ -142,5 +154,41 @@ impl Providers {
         Ok(Providers {
             items: all_but_some(alloc, self.items.as_slice(), ps)?,
         })
+    }
+
+    /// Takes one to the end, in place.
+    pub fn push(&mut self, p: ProviderId) -> Result<(), NoMemory>
+        requires room { length self.old < 64 }
+        requires apart { IsTrue (not (among self.old p)) }
+        ensures ok { OnOk result (self.new ≡ self.old ++ p ∷ []) }
+        ensures err { OnErr result (self.new ≡ self.old) }
+    {
+        self.items.push(p)?;
+        Ok(())
+    }
+
+    /// Takes others to the end, in place.
+    pub fn extend(&mut self, ps: &Providers) -> Result<(), NoMemory>
+        requires room { length self.old + length ps.now ≤ 64 }
+        requires apart { IsTrue (none_among self.old ps.now) }
+        ensures ok { OnOk result (self.new ≡ self.old ++ ps.now) }
+        ensures err { OnErr result (self.new ≡ self.old) }
+    {
+        self.items.extend_from_slice(ps.items.as_slice())?;
+        Ok(())
+    }
+
+    /// Takes one off, in place.
+    pub fn remove(&mut self, p: ProviderId)
+        ensures { self.new ≡ without self.old p }
+    {
+        keep_others(&mut self.items, p);
+    }
+
+    /// Takes these off, in place.
+    pub fn retain_not(&mut self, ps: &[ProviderId])
+        ensures { self.new ≡ without_all self.old ps.now }
+    {
+        keep_all_but(&mut self.items, ps);
     }
 }
