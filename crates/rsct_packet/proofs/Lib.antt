@@ -1,2 +1,4 @@
 pub mod ProviderLaws
 pub mod SearchLaws
+pub mod FormatLaws
+pub mod FieldLaws
