@@ -1,0 +1,2 @@
+//! What a safe run is, and that every run is safe.
+#![tactic(auto)]
