@@ -1,0 +1,5 @@
+pub mod Past
+pub mod Stays
+pub mod SafeLists
+pub mod SafeHeard
+pub mod Safe
