@@ -2,7 +2,6 @@
 #![tactic(auto)]
 
 mod fault;
-mod told;
 
+pub use client_callbacks::{Told, Why};
 pub use fault::{Field, GsFault};
-pub use told::{Told, Why};

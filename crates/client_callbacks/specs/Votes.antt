@@ -1,0 +1,113 @@
+-- The words that say how a client votes: items joined by commas. An item is `-`, which is silent, or a vote,
+-- `A`, `C` or `R`, with `=` and a value after it or not. A value is a text with `%XX` for any byte; `~` alone
+-- is the empty one.
+use Rattle.std.specs.Prelude.{ℕ, Bool, true, false, ◌==◌, ◌&&◌, ◌+◌, ◌-◌, ◌*◌, ◌++◌, List, [], ◌∷◌, Option, Some, None, nat_le, if◌then◌else◌}
+use Rattle.std.specs.List.{fold, list_all}
+use Rattle.proposal_core.specs.declared.entry.Vote.{Vote}
+use Rattle.proposal_core.specs.declared.entry.Vote.TheVariants.{Approve, Continue, Reject}
+use Rattle.client_callbacks.specs.declared.votes.VoteItem.{VoteItem}
+use Rattle.client_callbacks.specs.declared.votes.Escape.{Escape}
+use Rattle.client_callbacks.specs.declared.votes.Escape.TheVariants.{Plain, Percent, Digit}
+
+unfoldable pub hex_value : ℕ → Option ℕ
+hex_value b =
+    if nat_le 48 b && nat_le b 57 then Some (b - 48)
+    else if nat_le 65 b && nat_le b 70 then Some (b - 55)
+    else if nat_le 97 b && nat_le b 102 then Some (b - 87)
+    else None
+
+-- what was read of a text: none where it is no text
+pub record TextRead : Type 0 where
+  pub bytes : Option (List ℕ)
+  pub escape : Escape
+
+abbrev pub with_byte : Option (List ℕ) → Option ℕ → Option (List ℕ)
+with_byte None x = None
+with_byte (Some bytes) None = None
+with_byte (Some bytes) (Some b) = Some (bytes ++ b ∷ [])
+
+abbrev pub hex_pair : Option ℕ → Option ℕ → Option ℕ
+hex_pair None y = None
+hex_pair (Some x) None = None
+hex_pair (Some x) (Some y) = Some (16 * x + y)
+
+abbrev pub text_byte_at : Option (List ℕ) → Escape → ℕ → TextRead
+text_byte_at bytes Plain b = if b == 37 then record { bytes = bytes; escape = Percent } else record { bytes = with_byte bytes (Some b); escape = Plain }
+text_byte_at bytes Percent b = record { bytes = bytes; escape = Digit b }
+text_byte_at bytes (Digit a) b = record { bytes = with_byte bytes (hex_pair (hex_value a) (hex_value b)); escape = Plain }
+
+unfoldable pub text_byte : TextRead → ℕ → TextRead
+text_byte r b = text_byte_at r.bytes r.escape b
+
+abbrev pub text_end_at : Option (List ℕ) → Escape → Option (List ℕ)
+text_end_at bytes Plain = bytes
+text_end_at bytes Percent = None
+text_end_at bytes (Digit a) = None
+
+-- no text ends within a `%XX`
+unfoldable pub text_end : TextRead → Option (List ℕ)
+text_end r = text_end_at r.bytes r.escape
+
+unfoldable pub text_of : List ℕ → Option (List ℕ)
+text_of w = text_end (fold text_byte (record { bytes = Some []; escape = Plain }) w)
+
+unfoldable pub text_word : List ℕ → Option (List ℕ)
+text_word [] = None
+text_word (b ∷ []) = if b == 126 then Some [] else text_of (b ∷ [])
+text_word (b ∷ c ∷ bs) = text_of (b ∷ c ∷ bs)
+
+unfoldable pub vote_letter : ℕ → Option Vote
+vote_letter b = if b == 65 then Some Approve else if b == 67 then Some Continue else if b == 82 then Some Reject else None
+
+abbrev pub vote_valued : Vote → Option (List ℕ) → Option VoteItem
+vote_valued v None = None
+vote_valued v (Some value) = Some (record { vote = v; value = Some value })
+
+abbrev pub vote_with : Option Vote → List ℕ → Option VoteItem
+vote_with None w = None
+vote_with (Some v) [] = Some (record { vote = v; value = None })
+vote_with (Some v) (b ∷ bs) = if b == 61 then vote_valued v (text_word bs) else None
+
+-- `A`, `C` or `R`, and a value after `=` or none
+unfoldable pub vote_word : List ℕ → Option VoteItem
+vote_word [] = None
+vote_word (b ∷ bs) = vote_with (vote_letter b) bs
+
+abbrev pub loud : Option VoteItem → Option (Option VoteItem)
+loud None = None
+loud (Some i) = Some (Some i)
+
+-- an item of a votes word
+unfoldable pub vote_item : List ℕ → Option (Option VoteItem)
+vote_item [] = None
+vote_item (b ∷ []) = if b == 45 then Some None else loud (vote_word (b ∷ []))
+vote_item (b ∷ c ∷ bs) = loud (vote_word (b ∷ c ∷ bs))
+
+abbrev pub with_item : Option (List (Option VoteItem)) → Option (Option VoteItem) → Option (List (Option VoteItem))
+with_item None x = None
+with_item (Some items) None = None
+with_item (Some items) (Some i) = Some (items ++ i ∷ [])
+
+-- what was read of a votes word: the whole items, and the piece since the last comma
+pub record VotesRead : Type 0 where
+  pub items : Option (List (Option VoteItem))
+  pub piece : List ℕ
+
+unfoldable pub votes_end : VotesRead → Option (List (Option VoteItem))
+votes_end r = with_item r.items (vote_item r.piece)
+
+unfoldable pub votes_byte : VotesRead → ℕ → VotesRead
+votes_byte r b = if b == 44 then record { items = votes_end r; piece = [] } else record r { piece = r.piece ++ b ∷ [] }
+
+-- printable, and no space
+abbrev pub is_word : List ℕ → Bool
+is_word w = list_all (λ b. nat_le 33 b && nat_le b 126) w
+
+-- the items of a votes word; `boxed` is none
+unfoldable pub votes_word : List ℕ → Option (List (Option VoteItem))
+votes_word w = if is_word w then votes_end (fold votes_byte (record { items = Some []; piece = [] }) w) else None
+
+-- opens each word of this file, for a computation
+unfoldable pub votes_opens : Unit {0}
+unfolding hex_value text_byte text_end text_of text_word vote_letter vote_word vote_item votes_end votes_byte votes_word
+votes_opens = tt
