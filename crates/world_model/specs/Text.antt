@@ -32,10 +32,10 @@ use Rattle.client_session.specs.declared.fault.Field.{Field}
 use Rattle.client_session.specs.declared.fault.Field.TheVariants as field
 use Rattle.client_session.specs.declared.fault.GsFault.{GsFault}
 use Rattle.client_session.specs.declared.fault.GsFault.TheVariants as fault
-use Rattle.client_session.specs.declared.told.Why.{Why}
-use Rattle.client_session.specs.declared.told.Why.TheVariants as why
-use Rattle.client_session.specs.declared.told.Told.{Told}
-use Rattle.client_session.specs.declared.told.Told.TheVariants as told
+use Rattle.client_callbacks.specs.declared.told.Why.{Why}
+use Rattle.client_callbacks.specs.declared.told.Why.TheVariants as why
+use Rattle.client_callbacks.specs.declared.told.Told.{Told}
+use Rattle.client_callbacks.specs.declared.told.Told.TheVariants as told
 use Rattle.node_state.specs.declared.happened.Happened.{Happened}
 use Rattle.node_state.specs.declared.happened.Happened.TheVariants as happened
 use Rattle.node_state.specs.Wording.{word, view_text, provider_text, ring_text, proto_text, joined, nodes_text, members_text, providers_text, value_text, kind_text}
