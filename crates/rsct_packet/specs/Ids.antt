@@ -1,5 +1,5 @@
 -- When ids are equal, and their order.
-use Rattle.std.specs.Prelude.{ℕ, Bool, true, false, ◌==◌, ◌&&◌, ◌||◌, List, Option, Some, None, nat_lt}
+use Rattle.std.specs.Prelude.{ℕ, ◌+◌, Bool, true, false, ◌==◌, ◌&&◌, ◌||◌, List, Option, Some, None, nat_lt}
 use Rattle.std.specs.List.{list_any}
 use Rattle.rsct_packet.specs.declared.ids.ViewId.{ViewId}
 use Rattle.rsct_packet.specs.declared.ids.RingId.{RingId}
@@ -8,6 +8,10 @@ use Rattle.rsct_packet.specs.declared.ids.Member.{Member}
 
 abbrev pub last_u32 : ℕ
 last_u32 = 4294967295
+
+-- a count that rises stands still at its last value
+unfoldable pub risen : ℕ → ℕ
+risen n = elim (n == last_u32) [ true ↦ n | false ↦ n + 1 ]
 
 abbrev pub same_view : ViewId → ViewId → Bool
 same_view a b = a.number == b.number && a.coord == b.coord && a.inc == b.inc
