@@ -1,2 +1,4 @@
 pub mod Run
 pub mod Text
+pub mod Pieces
+pub mod OneNodeScript

@@ -2,5 +2,7 @@
 #![tactic(auto)]
 
 mod event;
+mod one_node;
 
 pub use event::{CallLine, Event, Events};
+pub use one_node::{Awaited, OneNodeLine, OneNodeScript};
