@@ -1,0 +1,4 @@
+pub mod State
+pub mod Clients
+pub mod Calls
+pub mod HandOn

@@ -1,0 +1,241 @@
+-- What is handed on to the clients of a node, and what they are told.
+use Rattle.std.specs.Prelude.{◌≡◌, ℕ, Bool, true, false, not, ◌==◌, ◌&&◌, ◌||◌, ◌++◌, List, [], ◌∷◌, length, map, filter, Option, Some, None, IsTrue, is_some, slice_get, if◌then◌else◌}
+use Rattle.std.specs.List.{fold, flat_map}
+use Rattle.std.specs.Str.{bytes_eq}
+use Rattle.rsct_packet.specs.declared.ids.ProviderId.{ProviderId}
+use Rattle.rsct_packet.specs.declared.ids.ViewId.{ViewId}
+use Rattle.rsct_packet.specs.declared.ids.ProtoId.{ProtoId}
+use Rattle.rsct_packet.specs.Providers.{among}
+use Rattle.proposal_core.specs.declared.entry.Entry.{Entry}
+use Rattle.proposal_core.specs.declared.entry.Entry.TheVariants.{Once, Begin, Phase, Approve, Reject, Late}
+use Rattle.proposal_core.specs.declared.proposal.Proposal.{Proposal}
+use Rattle.proposal_core.specs.declared.proposal.Proposal.TheVariants.{Join, Leave, Fail, Expel, State, Message, Attributes, Reflect}
+use Rattle.proposal_core.specs.declared.group_state.GroupState.{GroupState}
+use Rattle.proposal_core.specs.declared.group_state.Running.{Running}
+use Rattle.proposal_core.specs.Fold.{present, joins_of, voters}
+use Rattle.subscribe_core.specs.declared.subs.SubToken.{SubToken}
+use Rattle.client_callbacks.specs.declared.ballot.Filled.{Filled}
+use Rattle.client_callbacks.specs.declared.votes.VoteItem.{VoteItem}
+use Rattle.client_callbacks.specs.declared.told.Told.{Told}
+use Rattle.client_callbacks.specs.declared.told.Told.TheVariants as told
+use Rattle.client_callbacks.specs.declared.told.Why.{Why}
+use Rattle.client_callbacks.specs.declared.told.Why.TheVariants as why
+use Rattle.client_callbacks.specs.Ballots.{BallotView, new_ballot, may_hold}
+use Rattle.client_callbacks.specs.Handed.{Handed, Notified, Informed, NoticeView, Fills, voted_by}
+use Rattle.client_session.specs.declared.casts.Cast.{Cast}
+use Rattle.client_session.specs.declared.state.OpenPhase.{OpenPhase}
+use Rattle.client_session.specs.declared.state.Provider.{Provider}
+use Rattle.client_session.specs.declared.state.Request.{Request}
+use Rattle.client_session.specs.declared.state.KeptBallot.{KeptBallot}
+use Rattle.client_session.specs.declared.state.SessionState.{SessionState}
+use Rattle.client_session.specs.State.{is_kept_in, provider_of, outstanding, with_provider, request_ended, without_providers}
+use Rattle.client_session.specs.Clients.{place_of, add_for}
+
+-- an entry that closes a phase ends the kept ballots of that phase of its group
+
+unfoldable pub kept_ended : SessionState → List ℕ → ProtoId → ℕ → SessionState
+kept_ended s g proto phase = record s { kept = filter (λ k. not (is_kept_in g proto phase k)) s.kept }
+
+unfoldable pub kept_after : SessionState → List ℕ → Entry → SessionState
+kept_after s g (Once x) = s
+kept_after s g (Begin x) = s
+kept_after s g (Phase c) = kept_ended s g c.proto c.phase
+kept_after s g (Approve c) = kept_ended s g c.proto c.phase
+kept_after s g (Reject c) = kept_ended s g c.proto c.phase
+kept_after s g (Late proto phase ps) = s
+
+-- who is handed an entry
+
+abbrev pub hears : List ℕ → Bool → Option Provider → Bool
+hears g part None = false
+hears g true (Some x) = x.takes_part && bytes_eq x.group g
+hears g false (Some x) = not x.takes_part && bytes_eq x.group g
+
+-- those of ps that are local providers of the group and take part, or that do not
+unfoldable pub hearers_in : SessionState → List ℕ → Bool → List ProviderId → List ProviderId
+hearers_in s g part ps = filter (λ p. hears g part (provider_of s p)) ps
+
+-- those whom an entry's join brings
+abbrev pub brought_by : Entry → List ProviderId
+brought_by (Once x) = joins_of x
+brought_by (Begin x) = joins_of x
+brought_by _ = []
+
+-- the local providers that begin to take part
+unfoldable pub beginners : SessionState → List ℕ → Entry → List ProviderId
+beginners s g e = hearers_in s g false (brought_by e)
+
+-- members before the entry, running joiners before it, new ones
+unfoldable pub hearers : SessionState → List ℕ → GroupState → Entry → List ProviderId
+hearers s g before e = hearers_in s g true (present before) ++ beginners s g e
+
+abbrev pub taking_part : Provider → Provider
+taking_part x = record x { takes_part = true }
+
+unfoldable pub part_taken : SessionState → List ProviderId → SessionState
+part_taken s ps = fold (λ t p. with_provider t p taking_part) s ps
+
+-- the notice, and the phase that it opens
+
+abbrev pub opens_phase : Entry → Bool
+opens_phase (Begin x) = true
+opens_phase (Phase c) = true
+opens_phase _ = false
+
+-- the notice of a Begin or a Phase asks each voter for its vote
+unfoldable pub asks : Entry → GroupState → ProviderId → Bool
+asks e after p = opens_phase e && among (voters after) p
+
+abbrev pub notice_to : ViewId → List ℕ → ℕ → Entry → GroupState → ProviderId → NoticeView
+notice_to v g i e after p = record { p = p; view = v; group = g; place = i; entry = e; after = after; votes = asks e after p }
+
+abbrev pub running_phase : Option Running → Option OpenPhase
+running_phase None = None
+running_phase (Some run) = Some (record { proto = run.proto; phase = run.phase })
+
+abbrev pub is_late : Entry → Bool
+is_late (Late proto phase ps) = true
+is_late _ = false
+
+-- a Late leaves the phase as it is for the provider, any other entry opens or closes it
+unfoldable pub opened_after : Entry → GroupState → Provider → Provider
+opened_after e after x =
+    if is_late e then x
+    else record x { opened = if asks e after x.p then running_phase after.running else None }
+
+unfoldable pub phases_opened : SessionState → Entry → GroupState → List ProviderId → SessionState
+phases_opened s e after ps = fold (λ t p. with_provider t p (opened_after e after)) s ps
+
+-- the ballots that clients fill
+
+abbrev pub cast_in : Option Running → ℕ → Option Filled → Option (ProtoId × ℕ × BallotView)
+cast_in None level b = None
+cast_in (Some run) level None = None
+cast_in (Some run) level (Some f) = Some (run.proto, run.phase, record { votes = true; level = level; filled = Some f })
+
+-- what a provider that was handed the notice casts, where its client fills the ballot with b
+unfoldable pub cast_of : Entry → GroupState → ℕ → ProviderId → Option Filled → Cast
+cast_of e after level p b = record { p = p; cast = if asks e after p then cast_in after.running level b else None }
+
+-- bs: what each client fills, in the order of ps
+abbrev pub casts_of : Entry → GroupState → ℕ → List ProviderId → List (Option Filled) → List Cast
+casts_of e after level [] bs = []
+casts_of e after level (p ∷ ps) [] = cast_of e after level p None ∷ casts_of e after level ps []
+casts_of e after level (p ∷ ps) (b ∷ bs) = cast_of e after level p b ∷ casts_of e after level ps bs
+
+abbrev pub kept_by : List ℕ → ProviderId → Option (ProtoId × ℕ × BallotView) → List KeptBallot
+kept_by g p None = []
+kept_by g p (Some c) = record { p = p; group = g; proto = c.0; phase = c.1; ballot = c.2 } ∷ []
+
+unfoldable pub casts_kept : SessionState → List ℕ → List Cast → SessionState
+casts_kept s g cs = record s { kept = s.kept ++ flat_map (λ c. kept_by g c.p c.cast) cs }
+
+-- the outstanding requests that a Begin or Once carries are ended
+
+unfoldable pub proposal_begun : SessionState → Proposal → SessionState
+proposal_begun s (Join ps attrs n) = fold (λ t p. request_ended t p p.join) s ps
+proposal_begun s (Leave p r) = request_ended s p r
+proposal_begun s (Fail out) = s
+proposal_begun s (Expel p r out) = request_ended s p r
+proposal_begun s (State p r value) = request_ended s p r
+proposal_begun s (Message p r bytes) = request_ended s p r
+proposal_begun s (Attributes p r attrs) = request_ended s p r
+proposal_begun s (Reflect view place value) = s
+
+unfoldable pub requests_after : SessionState → Entry → SessionState
+requests_after s (Once x) = proposal_begun s x
+requests_after s (Begin x) = proposal_begun s x
+requests_after s (Phase c) = s
+requests_after s (Approve c) = s
+requests_after s (Reject c) = s
+requests_after s (Late proto phase ps) = s
+
+-- those of ps whom the entry removes, or whose join it rejects
+unfoldable pub removed_from : GroupState → List ProviderId → List ProviderId
+removed_from after ps = filter (λ p. not (among (present after) p)) ps
+
+-- hand on
+
+-- what is given out, where the clients of those that hear fill bs
+unfoldable pub casts_out : SessionState → List ℕ → GroupState → GroupState → Entry → List (Option Filled) → List Cast
+casts_out s g before after e bs = casts_of e after s.level (hearers s g before e) bs
+
+-- the state after an entry was handed on, and the clients filled bs
+unfoldable pub handed_on : SessionState → List ℕ → GroupState → GroupState → Entry → List (Option Filled) → SessionState
+handed_on s g before after e bs =
+    let ps : List ProviderId = hearers s g before e in
+    let t : SessionState = part_taken (kept_after s g e) (beginners s g e) in
+    let u : SessionState = casts_kept (phases_opened t e after ps) g (casts_out s g before after e bs) in
+    without_providers (requests_after u e) (removed_from after ps)
+
+-- the lists of clients after those of ps were handed the notice
+unfoldable pub notified : SessionState → ViewId → List ℕ → ℕ → Entry → GroupState → List ProviderId → List (List Handed) → List (List Handed)
+notified s v g i e after ps hs = fold (λ t p. add_for (place_of s p) (Notified (notice_to v g i e after p)) t) hs ps
+
+-- what clients fill that vote by items
+
+abbrev pub script_for : List (Option (List (Option VoteItem))) → Option ℕ → Option (Option (List (Option VoteItem)))
+script_for scripts None = None
+script_for scripts (Some i) = slice_get scripts i
+
+abbrev pub filled_in : Option (Option (List (Option VoteItem))) → GroupState → BallotView → Option Filled
+filled_in None after b = None
+filled_in (Some None) after b = None
+filled_in (Some (Some items)) after b = (voted_by items after b).filled
+
+-- what the clients of ps fill, where each has the items of its place
+unfoldable pub scripted : List (Option (List (Option VoteItem))) → SessionState → Entry → GroupState → List ProviderId → List (Option Filled)
+scripted scripts s e after ps = map (λ p. filled_in (script_for scripts (place_of s p)) after (new_ballot (asks e after p) s.level)) ps
+
+abbrev pub FillsAs : Option (Option (List (Option VoteItem))) → GroupState → BallotView → BallotView → Type 0
+FillsAs None after b c = c ≡ b
+FillsAs (Some script) after b c = Fills script after b c
+
+-- what the client of a provider may fill: nothing where no vote is asked for, or over the limits, and what its
+-- items say where it votes by items
+pub record Filling (scripts : List (Option (List (Option VoteItem)))) (s : SessionState) (e : Entry) (after : GroupState) (p : ProviderId) (b : Option Filled) : Type 0 where
+  pub holds : IsTrue (may_hold (asks e after p) s.level b)
+  pub fills : FillsAs (script_for scripts (place_of s p)) after (new_ballot (asks e after p) s.level) (record { votes = asks e after p; level = s.level; filled = b })
+
+-- each of ps may fill its own
+abbrev pub Fillings : List (Option (List (Option VoteItem))) → SessionState → Entry → GroupState → List ProviderId → List (Option Filled) → Type 0
+Fillings scripts s e after [] [] = Unit {0}
+Fillings scripts s e after [] (b ∷ bs) = ⊥
+Fillings scripts s e after (p ∷ ps) [] = ⊥
+Fillings scripts s e after (p ∷ ps) (b ∷ bs) = Filling scripts s e after p b × Fillings scripts s e after ps bs
+
+-- telling
+
+abbrev pub is_dissolved : Why → Bool
+is_dissolved why.Dissolved = true
+is_dissolved _ = false
+
+abbrev pub is_numbered : ℕ → Option Request → Bool
+is_numbered r None = false
+is_numbered r (Some q) = q.r == r
+
+-- a telling is for a live provider: of its outstanding request, or that it is dissolved
+unfoldable pub takes_telling : SessionState → ProviderId → ℕ → Why → Bool
+takes_telling s p r y = is_some (provider_of s p) && (is_numbered r (outstanding s p) || is_dissolved y)
+
+abbrev pub is_join : Proposal → Bool
+is_join (Join ps attrs n) = true
+is_join _ = false
+
+abbrev pub is_join_request : Option Request → Bool
+is_join_request None = false
+is_join_request (Some q) = is_join q.proposal
+
+-- a provider whose join is refused, or that is dissolved, is dropped
+unfoldable pub told_of : SessionState → ProviderId → Why → SessionState
+told_of s p y =
+    if is_join_request (outstanding s p) || is_dissolved y then without_providers s (p ∷ [])
+    else record s { requests = filter (λ q. not (among (p ∷ []) q.p)) s.requests }
+
+unfoldable pub telling_taken : SessionState → ProviderId → ℕ → Why → SessionState
+telling_taken s p r y = if takes_telling s p r y then told_of s p y else s
+
+-- opens each word of this file, for a computation
+unfoldable pub handon_opens : Unit {0}
+unfolding kept_ended kept_after hearers_in beginners hearers part_taken asks opened_after phases_opened cast_of casts_kept proposal_begun requests_after removed_from casts_out handed_on notified scripted takes_telling told_of telling_taken
+handon_opens = tt

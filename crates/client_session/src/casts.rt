@@ -1,0 +1,14 @@
+//! What handing an entry on gives out.
+use client_callbacks::Ballot;
+use rsct_packet::{List, ProtoId, ProviderId};
+
+/// A provider that was handed a notice, and the ballot that its client filled, with the protocol and the phase
+/// that it is for.
+#[derive(Drop)]
+pub struct Cast {
+    pub p: ProviderId,
+    pub cast: Option<(ProtoId, u16, Ballot)>,
+}
+
+/// Those that were handed a notice, in that order.
+pub type Casts = List<Cast>;

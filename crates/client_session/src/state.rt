@@ -1,0 +1,74 @@
+//! What a node has of its clients, apart from the clients themselves.
+use client_callbacks::Ballot;
+use group_attr::Phases;
+use proposal_core::Proposal;
+use rsct_packet::{List, Name, ProtoId, ProviderId};
+use subscribe_core::{ClientToken, Subs};
+
+/// A provider of a client in a group: the number of its join's request.
+#[derive(Clone, Copy, Debug, PartialEq, Eq)]
+pub struct MemberToken {
+    pub n: u32,
+}
+
+/// A live session: its token, and its client's name.
+#[derive(Drop)]
+pub struct Session {
+    pub token: ClientToken,
+    pub name: List<u8>,
+}
+
+/// A phase in which a provider may vote.
+#[derive(Clone, Copy, Debug, PartialEq, Eq)]
+pub struct OpenPhase {
+    pub proto: ProtoId,
+    pub phase: u16,
+}
+
+/// A provider, joining or joined: its client and group, whether it takes part, and the phase that is open for
+/// it.
+#[derive(Drop)]
+pub struct Provider {
+    pub p: ProviderId,
+    pub client: ClientToken,
+    pub group: Name,
+    pub takes_part: bool,
+    pub opened: Option<OpenPhase>,
+}
+
+/// An outstanding request of a provider: its number, and what it proposes, in one phase or many.
+#[derive(Drop)]
+pub struct Request {
+    pub p: ProviderId,
+    pub r: u32,
+    pub group: Name,
+    pub phases: Phases,
+    pub proposal: Proposal,
+}
+
+/// A ballot that is kept for a provider, protocol and phase until the phase closes.
+#[derive(Drop)]
+pub struct KeptBallot {
+    pub p: ProviderId,
+    pub group: Name,
+    pub proto: ProtoId,
+    pub phase: u16,
+    pub ballot: Ballot,
+}
+
+/// What a node of this number and incarnation has of its clients: the level that limits values, the numbers
+/// that were given last, and, oldest first, the live sessions, their providers, the outstanding requests, the
+/// subscriptions and the kept ballots.
+#[derive(Drop)]
+pub struct SessionState {
+    pub me: u8,
+    pub inc: u32,
+    pub level: u8,
+    pub last_request: u32,
+    pub last_client: u32,
+    pub sessions: List<Session>,
+    pub providers: List<Provider>,
+    pub requests: List<Request>,
+    pub subs: Subs,
+    pub kept: List<KeptBallot>,
+}
