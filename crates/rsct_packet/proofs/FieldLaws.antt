@@ -4,8 +4,9 @@ use Rattle.std.specs.Prelude.{IsTrue, ◌&&◌, nat_le}
 use Rattle.std.specs.List.{list_all}
 use Rattle.std.proofs.lemmas.Bool.{leb-true, le-leb}
 use Rattle.rsct_packet.specs.Text.{IsName, is_name_of, name_byte}
+use Rattle.rsct_packet.specs.Mask.{is_node}
 use Rattle.rsct_packet.specs.Format.{IsFormat}
-use Rattle.rsct_packet.specs.Fields.{is_node_number, IsNode, node_at, u8_text, IsNodeOrNone, node_or_none_at, bytes_at, bytes_text, AreShort, name_at, name_text, mask_at, mask_text, mask_of_bits, IsMask, view_at, view_text, view_of_parts, IsView, ring_at, ring_text, ring_of_parts, IsRing, provider_at, provider_text, provider_of_parts, IsProvider, proto_at, proto_text, proto_of_parts, IsProto, member_at, member_text, member_of_parts, IsMember}
+use Rattle.rsct_packet.specs.Fields.{IsNode, node_at, u8_text, IsNodeOrNone, node_or_none_at, bytes_at, bytes_text, AreShort, name_at, name_text, mask_at, mask_text, mask_of_bits, IsMask, view_at, view_text, view_of_parts, IsView, ring_at, ring_text, ring_of_parts, IsRing, provider_at, provider_text, provider_of_parts, IsProvider, proto_at, proto_text, proto_of_parts, IsProto, member_at, member_text, member_of_parts, IsMember}
 use Rattle.rsct_packet.proofs.FormatLaws.{both_format, made_format, guarded_format, fits_format, keyed_format, part_keyed, u8_format, u16_format, u32_format}
 
 and_true : (a b : Bool) → IsTrue (a && b) → IsTrue a × IsTrue b
@@ -16,14 +17,14 @@ both_true : (a b : Bool) → IsTrue a → IsTrue b → IsTrue (a && b)
 both_true true b g h = h
 both_true false b g h = absurd cc
 
-node_passes : (n : ℕ) → IsTrue (is_node_number n) → IsNode n
+node_passes : (n : ℕ) → IsTrue (is_node n) → IsNode n
 node_passes n h = let p = and_true (nat_le 1 n) (nat_le n 32) h in (leb-true 1 n p.0, leb-true n 32 p.1)
 
-passes_node : (n : ℕ) → IsNode n → IsTrue (is_node_number n)
+passes_node : (n : ℕ) → IsNode n → IsTrue (is_node n)
 passes_node n h = both_true (nat_le 1 n) (nat_le n 32) (le-leb 1 n h.0) (le-leb n 32 h.1)
 
 pub node_format : IsFormat node_at u8_text IsNode
-node_format = fits_format IsNode (λ n h. node_passes n h.1) (λ n h. let le : n ≤ 32 = h.1 in (omega arith, passes_node n h)) (guarded_format is_node_number u8_format)
+node_format = fits_format IsNode (λ n h. node_passes n h.1) (λ n h. let le : n ≤ 32 = h.1 in (omega arith, passes_node n h)) (guarded_format is_node u8_format)
 
 pub node_or_none_format : IsFormat node_or_none_at u8_text IsNodeOrNone
 node_or_none_format = fits_format IsNodeOrNone (λ n h. leb-true n 32 h.1) (λ n h. let le : n ≤ 32 = h in (omega arith, le-leb n 32 le)) (guarded_format (λ n. nat_le n 32) u8_format)

@@ -6,6 +6,7 @@ use Rattle.std.proofs.lemmas.Bool.{cases_lt, ltb-false, le-ltb}
 use Rattle.std.proofs.lemmas.List.{take_at, drop_at, take-append-drop, length-append, length-take, get_or-drop, get_or-take, get_or_past}
 use Rattle.std.proofs.lemmas.Nat.{be_bytes_2, be_bytes_4, be_bytes_8, from_be_bytes-to_be_bytes_2, from_be_bytes-to_be_bytes_4, from_be_bytes-to_be_bytes_8}
 use Rattle.rsct_packet.specs.Reading.{◌>>=◌, number_at, part_at, both_at, made_at, decoded_at, guarded_at, keyed_at, many_at, counted_at, option_at, optional_at, Reads}
+use Rattle.rsct_packet.specs.Fields.{IsU8, IsU16, IsU32, IsU64, u8_text, u16_text, u32_text, u64_text}
 use Rattle.rsct_packet.specs.Format.{IsBytes, Takes, IsFormat, IsKeyed, IsVariant, counted_text, option_key, option_text, optional_text, OptionFits, EachFits, IsFound, IsOnly}
 
 IsBytes-drop : (n : ℕ) (bytes : List ℕ) → IsBytes bytes → IsBytes (drop n bytes)
@@ -77,16 +78,19 @@ number_again w limit wide n rest lt =
 pub number_format : (w : Width) (limit : ℕ) → IsWide w limit → IsFormat (number_at w) (to_be_bytes w) (λ n. n < limit)
 number_format w limit wide = record { found = number_found w limit wide; again = number_again w limit wide }
 
-pub u8_format : IsFormat (number_at w8) (to_be_bytes w8) (λ n. n < 256)
+pub u8_format : IsFormat (number_at w8) u8_text IsU8
 u8_format = number_format w8 256 wide8
 
-pub u16_format : IsFormat (number_at w16) (to_be_bytes w16) (λ n. n < 2 ^ 16)
+pub u16_format : IsFormat (number_at w16) u16_text IsU16
+unfolding u16_text
 u16_format = number_format w16 (2 ^ 16) wide16
 
-pub u32_format : IsFormat (number_at w32) (to_be_bytes w32) (λ n. n < 2 ^ 32)
+pub u32_format : IsFormat (number_at w32) u32_text IsU32
+unfolding u32_text
 u32_format = number_format w32 (2 ^ 32) wide32
 
-pub u64_format : IsFormat (number_at w64) (to_be_bytes w64) (λ n. n < 2 ^ 64)
+pub u64_format : IsFormat (number_at w64) u64_text IsU64
+unfolding u64_text
 u64_format = number_format w64 (2 ^ 64) wide64
 
 -- one after the other

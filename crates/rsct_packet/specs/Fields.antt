@@ -7,19 +7,20 @@ use Rattle.rsct_packet.specs.declared.ids.RingId.{RingId}
 use Rattle.rsct_packet.specs.declared.ids.ProtoId.{ProtoId}
 use Rattle.rsct_packet.specs.declared.ids.Member.{Member}
 use Rattle.rsct_packet.specs.declared.mask.Mask.{Mask}
+use Rattle.rsct_packet.specs.Mask.{is_node}
 use Rattle.rsct_packet.specs.Text.{is_name_of}
 use Rattle.rsct_packet.specs.Reading.{number_at, part_at, both_at, made_at, guarded_at, keyed_at}
 
 abbrev pub u8_text : ℕ → List ℕ
 u8_text n = to_be_bytes w8 n
 
-abbrev pub u16_text : ℕ → List ℕ
+unfoldable pub u16_text : ℕ → List ℕ
 u16_text n = to_be_bytes w16 n
 
-abbrev pub u32_text : ℕ → List ℕ
+unfoldable pub u32_text : ℕ → List ℕ
 u32_text n = to_be_bytes w32 n
 
-abbrev pub u64_text : ℕ → List ℕ
+unfoldable pub u64_text : ℕ → List ℕ
 u64_text n = to_be_bytes w64 n
 
 abbrev pub IsU8 : ℕ → Type 0
@@ -36,14 +37,11 @@ IsU64 n = n < 2 ^ 64
 
 -- a node: 1 to 32
 
-abbrev pub is_node_number : ℕ → Bool
-is_node_number n = nat_le 1 n && nat_le n 32
-
 abbrev pub IsNode : ℕ → Type 0
 IsNode n = (1 ≤ n) × (n ≤ 32)
 
 abbrev pub node_at : List ℕ → Option (ℕ × List ℕ)
-node_at bytes = guarded_at is_node_number (number_at w8) bytes
+node_at bytes = guarded_at is_node (number_at w8) bytes
 
 -- a node or nobody: 0 to 32
 

@@ -1,16 +1,23 @@
 //! The bottom layer: ids, sets of nodes, names, texts, lists, and what packets are spelled like.
 #![tactic(auto)]
 
+mod fields;
 mod ids;
 mod list;
 mod mask;
 mod providers;
+mod reading;
 mod text;
 
+pub use fields::Fields;
 pub use ids::{Member, NoMemory, ProtoId, ProviderId, RingId, ViewId};
 pub use list::List;
-pub use mask::Mask;
+pub use mask::{Mask, is_node_number};
 pub use providers::{MAX_PROVIDERS, Providers, is_among, is_none_among};
+pub use reading::{
+    read_bytes, read_mask, read_member, read_name, read_node, read_node_or_none, read_part,
+    read_proto, read_provider, read_ring, read_u8, read_u16, read_u32, read_u64, read_view,
+};
 pub use text::{MAX_NAME, MAX_TEXT, Name, Text, is_name};
 
 /// The members of a view, ascending by node, each with its incarnation.

@@ -19,7 +19,7 @@ fn is_set(bits: u32, place: u8) -> bool
 }
 
 /// Is this the number of a node, from 1 to 32?
-fn is_node_number(node: u8) -> bool
+pub fn is_node_number(node: u8) -> bool
     ensures { result ≡ is_node node }
 {
     node >= 1 && node <= 32
