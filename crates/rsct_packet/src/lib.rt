@@ -8,6 +8,7 @@ mod mask;
 mod providers;
 mod reading;
 mod text;
+mod writing;
 
 pub use fields::Fields;
 pub use ids::{Member, NoMemory, ProtoId, ProviderId, RingId, ViewId};
@@ -19,6 +20,10 @@ pub use reading::{
     read_proto, read_provider, read_ring, read_u8, read_u16, read_u32, read_u64, read_view,
 };
 pub use text::{MAX_NAME, MAX_TEXT, Name, Text, is_name};
+pub use writing::{
+    put_bytes, put_mask, put_member, put_name, put_proto, put_provider, put_ring, put_u8, put_u16,
+    put_u32, put_u64, put_view,
+};
 
 /// The members of a view, ascending by node, each with its incarnation.
 pub type Members = List<Member>;
