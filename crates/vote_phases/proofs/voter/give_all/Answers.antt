@@ -1,0 +1,7 @@
+use Rattle.std.proofs.Common.{arith}
+use Rattle.vote_phases.specs.Tally.{given}
+use Rattle.vote_phases.proofs.TallyLaws.{mapped_more}
+use Rattle.vote_phases.proofs.voter.give_all.Goals as goal
+
+pub loop-i-preserved : goal.loop-i-preserved
+loop-i-preserved c = rw c.given.ensures (mapped_more (given c.args.vote) c.args.voters.now c.loop-i.voters c.loop-i.i _ (omega arith) (omega arith) c.loop-i.invariant)
