@@ -6,3 +6,4 @@ pub mod Search
 pub mod Reading
 pub mod Format
 pub mod Fields
+pub mod Lists

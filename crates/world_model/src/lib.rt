@@ -3,6 +3,8 @@
 
 mod event;
 mod one_node;
+mod script;
 
 pub use event::{CallLine, Event, Events};
 pub use one_node::{Awaited, OneNodeLine, OneNodeScript};
+pub use script::{Line, LineWhy, Lines, Script};
