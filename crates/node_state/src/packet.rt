@@ -1,8 +1,10 @@
 //! The packets of daemons, as values.
+use adapter_ring::RingPacket;
 use client_session::Why;
 use group_attr::Phases;
+use node_reach::ReachRow;
 use proposal_core::{Entry, Proposal, Vote};
-use rsct_packet::{List, Mask, Name, ProtoId, ProviderId, RingId, Text, ViewId};
+use rsct_packet::{List, Mask, Name, ProtoId, ProviderId, Text, ViewId};
 use view_exchange::{Install, Parts};
 
 /// What a status asks for: the rings, the view, the groups, or the votes.
@@ -14,13 +16,11 @@ pub enum What {
     Hagsvote,
 }
 
-/// A row of a report: the node's incarnation, the number of its own report, and the nodes in its rings.
+/// A row of a report: what this node reported last, as the sender knows it.
 #[derive(Clone, Copy, Debug, PartialEq, Eq)]
 pub struct ReportRow {
     pub node: u8,
-    pub inc: u32,
-    pub seq: u32,
-    pub mask: Mask,
+    pub row: ReachRow,
 }
 
 /// Rows with nodes ascending.
@@ -29,31 +29,9 @@ pub type Report = List<ReportRow>;
 /// What a packet says.
 #[derive(Drop)]
 pub enum Body {
-    Heartbeat {
-        ring: RingId,
-    },
-    Proclaim {
-        ring: RingId,
-    },
-    /// These want to join the receiver's ring.
-    JoinRing {
-        mask: Mask,
-    },
-    /// Prepare to commit: the ring that is to be, and the nodes asked for it.
-    Ptc {
-        ring: RingId,
-        mask: Mask,
-    },
-    PtcAck {
-        ring: RingId,
-    },
-    Commit {
-        ring: RingId,
-        mask: Mask,
-    },
-    Death {
-        ring: RingId,
-        node: u8,
+    /// What an adapter's ring says.
+    Ring {
+        packet: RingPacket,
     },
     Report {
         rows: Report,

@@ -4,3 +4,4 @@ pub mod Pieces
 pub mod OneNodeScript
 pub mod Words
 pub mod Lines
+pub mod Reading

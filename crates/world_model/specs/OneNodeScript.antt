@@ -80,7 +80,7 @@ unfoldable pub client_read : OneNodeScript → List (List ℕ) → Option OneNod
 client_read s ws = do
   name ← slice_get ws 2
   if is_some s.client || not (is_client_name name) then None
-    else Some (event_added (record s { client = Some name }) (line.Client name))
+      else Some (event_added (record s { client = Some name }) (line.Client name))
 
 -- the client named is that of the script
 unfoldable pub join_read : OneNodeScript → List (List ℕ) → Option OneNodeScript
@@ -90,8 +90,8 @@ join_read s ws = do
   number ← slice_get ws 3
   instance ← number_of 65535 number
   if equals name s.client && is_open_group group && has_room s.groups group
-    then Some (event_added (record s { groups = with_group s.groups group }) (line.Join group instance))
-    else None
+      then Some (event_added (record s { groups = with_group s.groups group }) (line.Join group instance))
+      else None
 
 unfoldable pub event_read : OneNodeScript → List (List ℕ) → Option OneNodeScript
 event_read s ws =

@@ -14,8 +14,7 @@ use Rattle.group_attr.specs.declared.attrs.Batch.TheVariants as batch
 use Rattle.group_attr.specs.declared.attrs.DefaultVote.{DefaultVote}
 use Rattle.group_attr.specs.declared.attrs.DefaultVote.TheVariants as default_vote
 use Rattle.group_attr.specs.Attrs.{empty_attrs}
-use Rattle.proposal_core.specs.declared.entry.Vote.{Vote}
-use Rattle.proposal_core.specs.declared.entry.Vote.TheVariants as vote
+use Rattle.client_callbacks.specs.Votes.{hex_value}
 use Rattle.node_state.specs.declared.config.Mode.{Mode}
 use Rattle.node_state.specs.declared.config.Mode.TheVariants as mode
 use Rattle.node_state.specs.declared.packet.What.{What}
@@ -67,41 +66,11 @@ unfoldable pub number_word : ℕ → ℕ → List ℕ → Option ℕ
 number_word low high w =
     elim (not (is_empty w) && (list_all is_digit w && (not (has_needless_zero w) && nat_le (length w) 20))) [ true ↦ in_range low high (number_from 0 w) | false ↦ None ]
 
-unfoldable pub hex_value : ℕ → Option ℕ
-hex_value b =
-    elim (is_digit b) [
-      | true ↦ Some (b - 48)
-      | false ↦ elim (nat_le 65 b && nat_le b 70) [
-        | true ↦ Some (b - 55)
-        | false ↦ elim (nat_le 97 b && nat_le b 102) [ true ↦ Some (b - 87) | false ↦ None ]
-      ]
-    ]
-
 unfoldable pub hex_pair : ℕ → ℕ → Option ℕ
 hex_pair a b = do
   x ← hex_value a
   y ← hex_value b
   Some (16 * x + y)
-
--- what %XX has been read of so far
-pub data Escape : Type 0 where
-  Plain : Escape
-  Percent : Escape
-  Digit : (b : ℕ) → Escape
-
-unfoldable pub text_from : Escape → List ℕ → Option (List ℕ)
-text_from Plain [] = Some []
-text_from Percent [] = None
-text_from (Digit a) [] = None
-text_from Plain (b ∷ bs) = elim (b == 37) [ true ↦ text_from Percent bs | false ↦ elim (text_from Plain bs) [ None ↦ None | Some t ↦ Some (b ∷ t) ] ]
-text_from Percent (b ∷ bs) = text_from (Digit b) bs
-text_from (Digit a) (b ∷ bs) =
-    elim (hex_pair a b) [ None ↦ None | Some x ↦ elim (text_from Plain bs) [ None ↦ None | Some t ↦ Some (x ∷ t) ] ]
-
--- a text has %XX for any byte; `~` alone is the empty text
-unfoldable pub text_word : List ℕ → Option (List ℕ)
-text_word [] = None
-text_word (b ∷ bs) = elim (b == 126 && is_empty bs) [ true ↦ Some [] | false ↦ text_from Plain (b ∷ bs) ]
 
 unfoldable pub hex_word : List ℕ → Option (List ℕ)
 hex_word [] = Some []
@@ -175,32 +144,6 @@ batch_word w =
 
 unfoldable pub default_word : List ℕ → Option DefaultVote
 default_word w = chosen (record { word = codes "approve"; means = default_vote.Approve } ∷ record { word = codes "reject"; means = default_vote.Reject } ∷ []) w
-
--- a vote with the value that it carries
-pub record VoteItem : Type 0 where
-  pub vote : Vote
-  pub value : Option (List ℕ)
-
-unfoldable pub vote_letter : ℕ → Option Vote
-vote_letter b = elim (b == 65) [ true ↦ Some vote.Approve | false ↦ elim (b == 67) [ true ↦ Some vote.Continue | false ↦ elim (b == 82) [ true ↦ Some vote.Reject | false ↦ None ] ] ]
-
-unfoldable pub vote_with : Option Vote → List ℕ → Option VoteItem
-vote_with None bs = None
-vote_with (Some v) [] = Some (record { vote = v; value = None })
-vote_with (Some v) (b ∷ bs) =
-    elim (b == 61) [ true ↦ elim (text_word bs) [ None ↦ None | Some t ↦ Some (record { vote = v; value = Some t }) ] | false ↦ None ]
-
--- `A`, `C` or `R`, with `=TEXT` after it or not
-unfoldable pub vote_word : List ℕ → Option VoteItem
-vote_word [] = None
-vote_word (b ∷ bs) = vote_with (vote_letter b) bs
-
--- the votes of the phases; none is silent
-unfoldable pub votes_item : List ℕ → Option (Option VoteItem)
-votes_item w = elim (bytes_eq w (codes "-")) [ true ↦ Some None | false ↦ elim (vote_word w) [ None ↦ None | Some i ↦ Some (Some i) ] ]
-
-unfoldable pub votes_word : List ℕ → Option (List (Option VoteItem))
-votes_word w = each_read votes_item (split_on 44 w)
 
 -- an attribute that a word sets
 pub data AttrKey : Type 0 where
@@ -286,5 +229,5 @@ attr_words ws = attrs_from [] empty_attrs ws
 
 -- opens each word of this file, for a computation
 unfoldable pub words_opens : Unit {0}
-unfolding ◌>>=◌ when_true push_head split_on each_read is_digit number_from has_needless_zero in_range number_word hex_value hex_pair text_from text_word hex_word name_word client_word group_word node_word network_word address_of address_word provider_of provider_word chosen phases_word mode_word what_word batch_word default_word vote_letter vote_with vote_word votes_item votes_word key_number key_word attr_set before_equals after_equals attrs_from attr_words
+unfolding ◌>>=◌ when_true push_head split_on each_read is_digit number_from has_needless_zero in_range number_word hex_pair hex_word name_word client_word group_word node_word network_word address_of address_word provider_of provider_word chosen phases_word mode_word what_word batch_word default_word key_number key_word attr_set before_equals after_equals attrs_from attr_words
 words_opens = tt
