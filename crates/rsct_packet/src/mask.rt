@@ -1,7 +1,16 @@
 //! Sets of nodes.
-ghost use Rattle.std.specs.Prelude.{◌≡◌, ◌≤◌, ◌<◌, ◌==◌};
+ghost use Rattle.std.specs.Prelude.{◌≡◌, ◌≤◌, ◌<◌, ◌==◌, IfOk, count_by, find, option_copied};
 ghost use Rattle.std.specs.Int.{bit_at};
-ghost use Rattle.rsct_packet.specs.Mask.{no_nodes, is_node, has_node, with_node, without_node, union_of, common_of};
+ghost use Rattle.rsct_packet.specs.Mask.{no_nodes, is_node, node_numbers, has_node, with_node, without_node, union_of, common_of, nodes_of};
+
+use crate::ids::NoMemory;
+use std::alloc::Global;
+
+/// The numbers that nodes have, ascending.
+pub const NODES: [u8; 32] = [
+    1, 2, 3, 4, 5, 6, 7, 8, 9, 10, 11, 12, 13, 14, 15, 16, 17, 18, 19, 20, 21, 22, 23, 24, 25, 26,
+    27, 28, 29, 30, 31, 32,
+];
 
 /// A set of nodes from 1 to 32: bit `n - 1` stands for node `n`.
 #[derive(Clone, Copy, Debug, PartialEq, Eq)]
@@ -85,5 +94,33 @@ impl Mask {
         Mask {
             bits: self.bits & other.bits,
         }
+    }
+
+    /// How many they are.
+    pub fn len(self) -> usize
+        ensures { result ≡ count_by (has_node self) node_numbers }
+    {
+        NODES.iter().filter(|n| self.has(**n)).count()
+    }
+
+    /// The least of them.
+    pub fn first(self) -> Option<u8>
+        ensures { result ≡ find (has_node self) node_numbers }
+    {
+        NODES.iter().copied().find(|n| self.has(*n))
+    }
+
+    /// They, ascending.
+    #[tactic(auto, unfolding(crate::specs::Mask::nodes_of))]
+    pub fn nodes(self, alloc: Global) -> Result<Vec<u8>, NoMemory>
+        ensures { IfOk result (λ v. v.items ≡ nodes_of self) }
+    {
+        Ok(
+            NODES
+                .iter()
+                .copied()
+                .filter(|n| self.has(*n))
+                .collect(alloc)?,
+        )
     }
 }
