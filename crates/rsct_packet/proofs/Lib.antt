@@ -1,4 +1,6 @@
 pub mod ProviderLaws
 pub mod SearchLaws
 pub mod FormatLaws
+pub mod HasLaws
+pub mod MaskLaws
 pub mod FieldLaws

@@ -1,6 +1,11 @@
--- The first element that passes a test: its place, itself, and the list with it replaced.
-use Rattle.std.specs.Prelude.{ℕ, suc, Bool, List, [], ◌∷◌, Option, Some, None, if◌then◌else◌}
+-- What is in a list, and the first element that passes a test: its place, itself, and the list with it replaced.
+use Rattle.std.specs.Prelude.{◌≡◌, ◌⊎◌, ℕ, suc, Bool, List, [], ◌∷◌, Option, Some, None, if◌then◌else◌}
 use Rattle.std.specs.Option.{option_map}
+
+-- x is in the list
+abbrev pub Has : {A : Type 0} → A → List A → Type 0
+Has x [] = ⊥
+Has x (y ∷ ys) = (x ≡ y) ⊎ Has x ys
 
 abbrev pub place_where : {A : Type 0} → (A → Bool) → List A → Option ℕ
 place_where test [] = None

@@ -13,7 +13,7 @@ mod writing;
 pub use fields::Fields;
 pub use ids::{Member, NoMemory, ProtoId, ProviderId, RingId, ViewId};
 pub use list::List;
-pub use mask::{Mask, is_node_number};
+pub use mask::{Mask, NODES, is_node_number};
 pub use providers::{MAX_PROVIDERS, Providers, is_among, is_none_among};
 pub use reading::{
     read_bytes, read_mask, read_member, read_name, read_node, read_node_or_none, read_part,
