@@ -1,5 +1,6 @@
 -- What ballots may be filled with, and when.
 use Rattle.std.specs.Prelude.{ℕ, Bool, true, ◌==◌, ◌&&◌, ◌||◌, List, length, Option, Some, None, nat_le, is_none, if◌then◌else◌}
+use Rattle.proposal_core.specs.declared.entry.Vote.{Vote}
 use Rattle.client_callbacks.specs.declared.ballot.Filled.{Filled}
 
 -- a ballot: whether a vote is asked for, the level that limits its value, and what it is filled with
@@ -18,6 +19,9 @@ message_limit = 1024
 abbrev pub is_within : ℕ → Option (List ℕ) → Bool
 is_within most None = true
 is_within most (Some bytes) = nat_le (length bytes) most
+
+abbrev pub filling : Vote → Option (List ℕ) → Option (List ℕ) → Filled
+filling v value message = record { vote = v; value = value; message = message }
 
 -- the value and the message are within their limits
 abbrev pub filled_fits : ℕ → Filled → Bool

@@ -1,11 +1,12 @@
 -- What clients are handed, and how they answer.
-use Rattle.std.specs.Prelude.{◌≡◌, ℕ, Bool, ◌-◌, List, length, Option, Some, None, nat_lt, slice_get, if◌then◌else◌}
+use Rattle.std.specs.Prelude.{◌≡◌, ℕ, Bool, ◌-◌, List, [], ◌∷◌, length, Option, Some, None, nat_lt, slice_get, if◌then◌else◌}
 use Rattle.std.specs.Option.{option_flatten}
 use Rattle.rsct_packet.specs.declared.ids.ProviderId.{ProviderId}
 use Rattle.rsct_packet.specs.declared.ids.ViewId.{ViewId}
 use Rattle.proposal_core.specs.declared.entry.Entry.{Entry}
 use Rattle.proposal_core.specs.declared.group_state.GroupState.{GroupState}
 use Rattle.proposal_core.specs.declared.group_state.Running.{Running}
+use Rattle.proposal_core.specs.declared.entry.Vote.TheVariants.{Approve}
 use Rattle.client_callbacks.specs.declared.notice.Notice.{Notice}
 use Rattle.client_callbacks.specs.declared.told.Told.{Told}
 use Rattle.client_callbacks.specs.declared.votes.VoteItem.{VoteItem}
@@ -54,6 +55,10 @@ voted_by items after b = filled_by (item_at items (phase_in after.running)) b
 abbrev pub Fills : Option (List (Option VoteItem)) → GroupState → BallotView → BallotView → Type 0
 Fills None after b c = Unit {0}
 Fills (Some items) after b c = c ≡ voted_by items after b
+
+-- the items of a client that always approves
+abbrev pub steady_items : List (Option VoteItem)
+steady_items = Some (record { vote = Approve; value = None }) ∷ []
 
 -- opens each word of this file, for a computation
 unfoldable pub handed_opens : Unit {0}

@@ -1,3 +1,4 @@
 pub mod Ballots
 pub mod Handed
 pub mod Votes
+pub mod Kinds

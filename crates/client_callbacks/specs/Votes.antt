@@ -1,13 +1,16 @@
 -- The words that say how a client votes: items joined by commas. An item is `-`, which is silent, or a vote,
 -- `A`, `C` or `R`, with `=` and a value after it or not. A value is a text with `%XX` for any byte; `~` alone
 -- is the empty one.
-use Rattle.std.specs.Prelude.{ℕ, Bool, true, false, ◌==◌, ◌&&◌, ◌+◌, ◌-◌, ◌*◌, ◌++◌, List, [], ◌∷◌, Option, Some, None, nat_le, if◌then◌else◌}
+use Rattle.std.specs.Prelude.{ℕ, Bool, ◌==◌, ◌&&◌, ◌+◌, ◌-◌, ◌*◌, ◌++◌, List, [], ◌∷◌, Option, Some, None, nat_le, length, codes, if◌then◌else◌}
 use Rattle.std.specs.List.{fold, list_all}
+use Rattle.std.specs.Str.{bytes_eq}
 use Rattle.proposal_core.specs.declared.entry.Vote.{Vote}
 use Rattle.proposal_core.specs.declared.entry.Vote.TheVariants.{Approve, Continue, Reject}
 use Rattle.client_callbacks.specs.declared.votes.VoteItem.{VoteItem}
-use Rattle.client_callbacks.specs.declared.votes.Escape.{Escape}
-use Rattle.client_callbacks.specs.declared.votes.Escape.TheVariants.{Plain, Percent, Digit}
+use Rattle.client_callbacks.specs.declared.votes.VotesRead.{VotesRead}
+use Rattle.client_callbacks.specs.declared.texts.TextRead.{TextRead}
+use Rattle.client_callbacks.specs.declared.texts.Escape.{Escape}
+use Rattle.client_callbacks.specs.declared.texts.Escape.TheVariants.{Plain, Percent, Digit}
 
 unfoldable pub hex_value : ℕ → Option ℕ
 hex_value b =
@@ -15,11 +18,6 @@ hex_value b =
     else if nat_le 65 b && nat_le b 70 then Some (b - 55)
     else if nat_le 97 b && nat_le b 102 then Some (b - 87)
     else None
-
--- what was read of a text: none where it is no text
-pub record TextRead : Type 0 where
-  pub bytes : Option (List ℕ)
-  pub escape : Escape
 
 abbrev pub with_byte : Option (List ℕ) → Option ℕ → Option (List ℕ)
 with_byte None x = None
@@ -52,9 +50,7 @@ unfoldable pub text_of : List ℕ → Option (List ℕ)
 text_of w = text_end (fold text_byte (record { bytes = Some []; escape = Plain }) w)
 
 unfoldable pub text_word : List ℕ → Option (List ℕ)
-text_word [] = None
-text_word (b ∷ []) = if b == 126 then Some [] else text_of (b ∷ [])
-text_word (b ∷ c ∷ bs) = text_of (b ∷ c ∷ bs)
+text_word w = if length w == 0 then None else if bytes_eq w (codes "~") then Some [] else text_of w
 
 unfoldable pub vote_letter : ℕ → Option Vote
 vote_letter b = if b == 65 then Some Approve else if b == 67 then Some Continue else if b == 82 then Some Reject else None
@@ -79,19 +75,12 @@ loud (Some i) = Some (Some i)
 
 -- an item of a votes word
 unfoldable pub vote_item : List ℕ → Option (Option VoteItem)
-vote_item [] = None
-vote_item (b ∷ []) = if b == 45 then Some None else loud (vote_word (b ∷ []))
-vote_item (b ∷ c ∷ bs) = loud (vote_word (b ∷ c ∷ bs))
+vote_item w = if bytes_eq w (codes "-") then Some None else loud (vote_word w)
 
 abbrev pub with_item : Option (List (Option VoteItem)) → Option (Option VoteItem) → Option (List (Option VoteItem))
 with_item None x = None
 with_item (Some items) None = None
 with_item (Some items) (Some i) = Some (items ++ i ∷ [])
-
--- what was read of a votes word: the whole items, and the piece since the last comma
-pub record VotesRead : Type 0 where
-  pub items : Option (List (Option VoteItem))
-  pub piece : List ℕ
 
 unfoldable pub votes_end : VotesRead → Option (List (Option VoteItem))
 votes_end r = with_item r.items (vote_item r.piece)
