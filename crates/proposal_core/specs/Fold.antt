@@ -1,5 +1,5 @@
 -- What entries make of a group's state.
-use Rattle.std.specs.Prelude.{ℕ, Bool, true, false, not, ◌==◌, ◌&&◌, ◌+◌, ◌++◌, List, [], ◌∷◌, length, map, filter, Option, Some, None, nat_lt, nat_le, is_none}
+use Rattle.std.specs.Prelude.{ℕ, Bool, true, false, ◌==◌, ◌&&◌, ◌+◌, ◌++◌, List, [], ◌∷◌, length, map, filter, Option, Some, None, nat_lt, nat_le, is_none, if◌then◌else◌}
 use Rattle.rsct_packet.specs.declared.ids.ProviderId.{ProviderId}
 use Rattle.rsct_packet.specs.declared.ids.ViewId.{ViewId}
 use Rattle.rsct_packet.specs.declared.ids.ProtoId.{ProtoId}
@@ -76,15 +76,18 @@ unfoldable pub first_value : Proposal → Option (List ℕ)
 first_value (State p r value) = Some value
 first_value _ = None
 
--- the attributes of the first join
-unfoldable pub begun_attrs : List ProviderId → Attrs → Proposal → Attrs
-begun_attrs [] old (Join ps attrs n) = attrs
-begun_attrs _ old _ = old
+-- the attributes that the first join brings
+unfoldable pub first_attrs : GroupState → Proposal → Option Attrs
+first_attrs s (Join ps attrs n) = if length s.members == 0 then Some attrs else None
+first_attrs s _ = None
+
+unfoldable pub with_attrs : GroupState → Option Attrs → GroupState
+with_attrs s None = s
+with_attrs s (Some attrs) = record s { attrs = attrs }
 
 unfoldable pub begun : GroupState → ViewId → ℕ → Proposal → GroupState
 begun s v i x =
-    record s {
-      attrs = begun_attrs s.members s.attrs x;
+    record (with_attrs s (first_attrs s x)) {
       running = Some (record { proto = record { view = v; place = i }; proposal = x; phase = 1; proposed = first_value x });
     }
 
@@ -111,11 +114,18 @@ unfoldable pub rejected : GroupState → Option Running → GroupState
 rejected s None = s
 rejected s (Some run) = rejected_of (record s { running = None }) run.proposal
 
+unfoldable pub advanced : Option (List ℕ) → Running → Running
+advanced value run = record run { phase = run.phase + 1; proposed = newer value run.proposed }
+
 unfoldable pub next_phase : GroupState → Option (List ℕ) → Option Running → GroupState
 next_phase s value None = s
-next_phase s value (Some run) = record s { running = Some (record run { phase = run.phase + 1; proposed = newer value run.proposed }) }
+next_phase s value (Some run) = record s { running = Some (advanced value run) }
 
--- the state after an entry that fits
+-- what a one-phase protocol does, which never runs
+unfoldable pub once : GroupState → ViewId → ℕ → Proposal → GroupState
+once s v i x = valued (with_attrs (effect s x) (first_attrs s x)) v i (first_value x)
+
+-- the state after an entry that fits: a one-phase protocol begins and is approved at once
 unfoldable pub applied : GroupState → ViewId → ℕ → Entry → GroupState
 applied s v i (Once x) = let t : GroupState = begun s v i x in approved t v i None t.running
 applied s v i (Begin x) = begun s v i x
@@ -132,22 +142,31 @@ after_if s v i e false = s
 unfoldable pub after : GroupState → ViewId → ℕ → Entry → GroupState
 after s v i e = after_if s v i e (fits s e)
 
--- whom a proposal takes off, who does not vote on it
-unfoldable pub leavers_of : Proposal → List ProviderId
-leavers_of (Leave p r) = p ∷ []
-leavers_of (Fail out) = fallen_of out
-leavers_of (Expel p r out) = out
-leavers_of _ = []
+-- whether the running joiners are no members, and with the members at most 64
+unfoldable pub joiners_fit_at : GroupState → Option Running → Bool
+joiners_fit_at s None = true
+joiners_fit_at s (Some run) = can_begin s run.proposal
 
-unfoldable pub voters_at : List ProviderId → Option Running → List ProviderId
-voters_at members None = []
-voters_at members (Some run) = without_all members (leavers_of run.proposal) ++ joins_of run.proposal
+unfoldable pub joiners_fit : GroupState → Bool
+joiners_fit s = joiners_fit_at s s.running
+
+-- who votes on a proposal: the members that it does not take off, then its joiners
+unfoldable pub voters_on : GroupState → Proposal → List ProviderId
+voters_on s (Join ps attrs n) = s.members ++ ps
+voters_on s (Leave p r) = without_all s.members (p ∷ [])
+voters_on s (Fail out) = without_all s.members (fallen_of out)
+voters_on s (Expel p r out) = without_all s.members out
+voters_on s _ = s.members
+
+unfoldable pub voters_at : GroupState → Option Running → List ProviderId
+voters_at s None = []
+voters_at s (Some run) = voters_on s run.proposal
 
 -- empty where nothing runs
 unfoldable pub voters : GroupState → List ProviderId
-voters s = voters_at s.members s.running
+voters s = voters_at s s.running
 
 -- opens each word of this file, for a computation
 unfoldable pub fold_opens : Unit {0}
-unfolding can_begin runs fits without effect first_value begun_attrs begun newer valued approved rejected_of rejected next_phase applied after_if after leavers_of voters_at voters
+unfolding can_begin runs fits without effect first_value first_attrs with_attrs begun newer valued approved rejected_of rejected advanced next_phase once applied after_if after joiners_fit_at joiners_fit voters_on voters_at voters
 fold_opens = tt

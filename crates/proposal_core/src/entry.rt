@@ -1,7 +1,10 @@
 //! The entries of a group's list.
+ghost use Rattle.std.specs.Prelude.{◌≡◌, IfOk};
+
 use crate::proposal::Proposal;
 use group_attr::DefaultVote;
-use rsct_packet::{List, ProtoId, ProviderId, Providers, Text};
+use rsct_packet::{List, NoMemory, ProtoId, ProviderId, Providers, Text};
+use std::alloc::Global;
 
 /// A vote in a phase.
 #[derive(Clone, Copy, Debug, PartialEq, Eq)]
@@ -59,4 +62,49 @@ pub enum Entry {
         phase: u16,
         ps: Providers,
     },
+}
+
+/// An equal text, or none.
+pub fn copy_text(alloc: Global, text: &Option<Text>) -> Result<Option<Text>, NoMemory>
+    ensures { IfOk result (λ t. t ≡ text.now) }
+{
+    match text {
+        None => Ok(None),
+        Some(text) => Ok(Some(text.copy(alloc)?)),
+    }
+}
+
+impl Closed {
+    /// An equal record of the phase.
+    pub fn copy(&self, alloc: Global) -> Result<Closed, NoMemory>
+        ensures { IfOk result (λ c. c ≡ self.now) }
+    {
+        Ok(Closed {
+            proto: self.proto,
+            phase: self.phase,
+            rows: List::of(alloc, self.rows.as_slice())?,
+            value: copy_text(alloc, &self.value)?,
+            message: copy_text(alloc, &self.message)?,
+        })
+    }
+}
+
+impl Entry {
+    /// An equal entry.
+    pub fn copy(&self, alloc: Global) -> Result<Entry, NoMemory>
+        ensures { IfOk result (λ e. e ≡ self.now) }
+    {
+        Ok(match self {
+            Entry::Once(x) => Entry::Once(x.copy(alloc)?),
+            Entry::Begin(x) => Entry::Begin(x.copy(alloc)?),
+            Entry::Phase(c) => Entry::Phase(c.copy(alloc)?),
+            Entry::Approve(c) => Entry::Approve(c.copy(alloc)?),
+            Entry::Reject(c) => Entry::Reject(c.copy(alloc)?),
+            Entry::Late { proto, phase, ps } => Entry::Late {
+                proto: *proto,
+                phase: *phase,
+                ps: ps.copy(alloc)?,
+            },
+        })
+    }
 }

@@ -1,10 +1,12 @@
 //! A group's state.
-ghost use Rattle.std.specs.Prelude.{◌≡◌};
-ghost use Rattle.proposal_core.specs.Fold.{empty_state};
+ghost use Rattle.std.specs.Prelude.{◌≡◌, IfOk, IsTrue};
+ghost use Rattle.proposal_core.specs.Fold.{empty_state, voters, voters_on, can_begin, joiners_fit};
 
+use crate::entry::copy_text;
+use crate::fold::take_off_fallen;
 use crate::proposal::Proposal;
 use group_attr::Attrs;
-use rsct_packet::{ProtoId, Providers, Text};
+use rsct_packet::{NoMemory, ProtoId, Providers, Text};
 use std::alloc::Global;
 
 /// A protocol that runs: its phase is from 1 to 200, and `proposed` is the value that its approval sets.
@@ -30,6 +32,29 @@ pub struct GroupState {
     pub running: Option<Running>,
 }
 
+impl Running {
+    /// An equal record of it.
+    pub fn copy(&self, alloc: Global) -> Result<Running, NoMemory>
+        ensures { IfOk result (λ r. r ≡ self.now) }
+    {
+        Ok(Running {
+            proto: self.proto,
+            proposal: self.proposal.copy(alloc)?,
+            phase: self.phase,
+            proposed: copy_text(alloc, &self.proposed)?,
+        })
+    }
+}
+
+fn copy_running(alloc: Global, run: &Option<Running>) -> Result<Option<Running>, NoMemory>
+    ensures { IfOk result (λ r. r ≡ run.now) }
+{
+    match run {
+        None => Ok(None),
+        Some(run) => Ok(Some(run.copy(alloc)?)),
+    }
+}
+
 impl GroupState {
     /// The state of a group that nobody has joined.
     pub fn empty(alloc: Global) -> GroupState
@@ -43,6 +68,53 @@ impl GroupState {
             value_at: None,
             reflected_at: None,
             running: None,
+        }
+    }
+
+    /// An equal state.
+    pub fn copy(&self, alloc: Global) -> Result<GroupState, NoMemory>
+        ensures { IfOk result (λ s. s ≡ self.now) }
+    {
+        Ok(GroupState {
+            members: self.members.copy(alloc)?,
+            value: self.value.copy(alloc)?,
+            attrs: self.attrs.copy(alloc)?,
+            failed: self.failed.copy(alloc)?,
+            value_at: self.value_at,
+            reflected_at: self.reflected_at,
+            running: copy_running(alloc, &self.running)?,
+        })
+    }
+
+    /// Who votes on a proposal.
+    #[tactic(auto, unfolding(crate::specs::Fold::voters_on, crate::specs::Fold::can_begin))]
+    fn voters_on(&self, alloc: Global, x: &Proposal) -> Result<Providers, NoMemory>
+        requires { IsTrue (can_begin self.now x.now) }
+        ensures { IfOk result (λ ps. ps ≡ voters_on self.now x.now) }
+    {
+        match x {
+            Proposal::Join { ps, .. } => self.members.with(alloc, ps),
+            Proposal::Leave { p, .. } => self.members.without_all(alloc, &[*p]),
+            Proposal::Fail { out } => {
+                let mut voters = self.members.copy(alloc)?;
+                take_off_fallen(&mut voters, out.as_slice());
+                Ok(voters)
+            }
+            Proposal::Expel { out, .. } => self.members.without_all(alloc, out.as_slice()),
+            _ => self.members.copy(alloc),
+        }
+    }
+
+    /// Who votes on what runs: the members in their order without those that it takes off, then its
+    /// joiners. Empty where nothing runs.
+    #[tactic(auto, unfolding(crate::specs::Fold::voters, crate::specs::Fold::voters_at, crate::specs::Fold::joiners_fit, crate::specs::Fold::joiners_fit_at))]
+    pub fn voters(&self, alloc: Global) -> Result<Providers, NoMemory>
+        requires { IsTrue (joiners_fit self.now) }
+        ensures { IfOk result (λ ps. ps ≡ voters self.now) }
+    {
+        match &self.running {
+            None => Ok(Providers::new(alloc)),
+            Some(run) => self.voters_on(alloc, &run.proposal),
         }
     }
 }

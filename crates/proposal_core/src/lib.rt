@@ -2,6 +2,7 @@
 #![tactic(auto)]
 
 mod entry;
+mod fold;
 mod group_list;
 mod group_state;
 mod proposal;

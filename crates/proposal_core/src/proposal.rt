@@ -1,6 +1,9 @@
 //! What a protocol proposes.
+ghost use Rattle.std.specs.Prelude.{◌≡◌, IfOk};
+
 use group_attr::Attrs;
-use rsct_packet::{List, ProviderId, Providers, Text, ViewId};
+use rsct_packet::{List, NoMemory, ProviderId, Providers, Text, ViewId};
+use std::alloc::Global;
 
 /// Why a failure leave removes a provider: its node died, its client said goodbye, or its node has no
 /// member of the source group any more.
@@ -70,4 +73,52 @@ pub enum Proposal {
         place: u32,
         value: Text,
     },
+}
+
+impl Proposal {
+    /// An equal proposal.
+    pub fn copy(&self, alloc: Global) -> Result<Proposal, NoMemory>
+        ensures { IfOk result (λ x. x ≡ self.now) }
+    {
+        Ok(match self {
+            Proposal::Join {
+                ps,
+                attrs,
+                source_len,
+            } => Proposal::Join {
+                ps: ps.copy(alloc)?,
+                attrs: attrs.copy(alloc)?,
+                source_len: *source_len,
+            },
+            Proposal::Leave { p, r } => Proposal::Leave { p: *p, r: *r },
+            Proposal::Fail { out } => Proposal::Fail {
+                out: List::of(alloc, out.as_slice())?,
+            },
+            Proposal::Expel { p, r, out } => Proposal::Expel {
+                p: *p,
+                r: *r,
+                out: out.copy(alloc)?,
+            },
+            Proposal::State { p, r, value } => Proposal::State {
+                p: *p,
+                r: *r,
+                value: value.copy(alloc)?,
+            },
+            Proposal::Message { p, r, bytes } => Proposal::Message {
+                p: *p,
+                r: *r,
+                bytes: bytes.copy(alloc)?,
+            },
+            Proposal::Attributes { p, r, attrs } => Proposal::Attributes {
+                p: *p,
+                r: *r,
+                attrs: attrs.copy(alloc)?,
+            },
+            Proposal::Reflect { view, place, value } => Proposal::Reflect {
+                view: *view,
+                place: *place,
+                value: value.copy(alloc)?,
+            },
+        })
+    }
 }

@@ -1,0 +1,320 @@
+//! What entries make of a group's state. What an entry brings is copied and room is taken before the state
+//! changes, so that want of memory leaves it as it was.
+ghost use Rattle.std.specs.Prelude.{◌≡◌, ◌∷◌, [], ◌<◌, length, IfOk, IfSome, OnOk, OnErr, IsTrue, take};
+ghost use Rattle.rsct_packet.specs.Providers.{without_all};
+ghost use Rattle.proposal_core.specs.Fold.{fallen_of, without, can_begin, runs, fits, joiners_fit, effect, first_value, begun, valued, approved, rejected_of, rejected, next_phase, applied, newer, first_attrs, with_attrs, advanced, once};
+
+use crate::entry::{Closed, Entry, copy_text};
+use crate::group_state::{GroupState, Running};
+use crate::proposal::{Failure, Proposal};
+use group_attr::Attrs;
+use rsct_packet::{
+    MAX_PROVIDERS, NoMemory, ProtoId, ProviderId, Providers, Text, ViewId, is_none_among,
+};
+use std::alloc::Global;
+
+/// How many phases a protocol has at most.
+pub const MAX_PHASES: u16 = 200;
+
+/// Whether this protocol and phase run.
+#[tactic(auto, unfolding(crate::specs::Fold::runs))]
+fn is_running(proto: ProtoId, phase: u16, running: &Option<Running>) -> bool
+    ensures { result ≡ runs proto phase running.now }
+{
+    match running {
+        None => false,
+        Some(run) => phase == run.phase && proto == run.proto,
+    }
+}
+
+/// Takes those who failed off a list.
+pub fn take_off_fallen(ps: &mut Providers, out: &[Failure])
+    ensures { ps.new ≡ without_all ps.old (fallen_of out.now) }
+{
+    for f in out {
+        ps.remove(f.p);
+    }
+}
+
+/// The value that a protocol proposes from its beginning.
+#[tactic(auto, unfolding(crate::specs::Fold::first_value))]
+fn first_value(alloc: Global, x: &Proposal) -> Result<Option<Text>, NoMemory>
+    ensures { IfOk result (λ t. t ≡ first_value x.now) }
+{
+    match x {
+        Proposal::State { value, .. } => Ok(Some(value.copy(alloc)?)),
+        _ => Ok(None),
+    }
+}
+
+/// The value that an entry brings, or else the proposed one.
+#[tactic(auto, unfolding(crate::specs::Fold::newer))]
+fn newer(value: Option<Text>, old: Option<Text>) -> Option<Text>
+    ensures { result ≡ newer value old }
+{
+    match value {
+        None => old,
+        Some(value) => Some(value),
+    }
+}
+
+/// A value that an entry brings replaces the proposed one.
+#[tactic(auto, unfolding(crate::specs::Fold::newer))]
+fn replace_proposed(proposed: &mut Option<Text>, value: Option<Text>)
+    ensures { proposed.new ≡ newer value proposed.old }
+{
+    if let Some(value) = value {
+        *proposed = Some(value);
+    }
+}
+
+impl GroupState {
+    /// Can this begin where nothing runs? A join can where its providers are no members and leave at most 64.
+    #[tactic(auto, unfolding(crate::specs::Fold::can_begin))]
+    fn can_begin(&self, x: &Proposal) -> bool
+        ensures { result ≡ can_begin self.now x.now }
+    {
+        match x {
+            Proposal::Join { ps, .. } => {
+                is_none_among(self.members.as_slice(), ps.as_slice())
+                    && self.members.len() + ps.len() <= MAX_PROVIDERS
+            }
+            _ => true,
+        }
+    }
+
+    /// Can this entry come next?
+    #[tactic(auto, unfolding(crate::specs::Fold::fits))]
+    pub fn fits(&self, e: &Entry) -> bool
+        ensures { result ≡ fits self.now e.now }
+    {
+        match e {
+            Entry::Once(x) => self.running.is_none() && self.can_begin(x),
+            Entry::Begin(x) => self.running.is_none() && self.can_begin(x),
+            Entry::Phase(c) => {
+                is_running(c.proto, c.phase, &self.running) && c.phase < MAX_PHASES
+            }
+            Entry::Approve(c) => is_running(c.proto, c.phase, &self.running),
+            Entry::Reject(c) => is_running(c.proto, c.phase, &self.running),
+            Entry::Late { proto, phase, .. } => is_running(*proto, *phase, &self.running),
+        }
+    }
+
+    /// Takes these off the members and the failed.
+    #[tactic(auto, unfolding(crate::specs::Fold::without))]
+    fn take_off(&mut self, ps: &[ProviderId])
+        ensures { self.new ≡ without self.old ps.now }
+    {
+        self.members.retain_not(ps);
+        self.failed.retain_not(ps);
+    }
+
+    /// Takes those who failed off the members and the failed.
+    #[tactic(auto, unfolding(crate::specs::Fold::without))]
+    fn take_off_failures(&mut self, out: &[Failure])
+        ensures { self.new ≡ without self.old (fallen_of out.now) }
+    {
+        take_off_fallen(&mut self.members, out);
+        take_off_fallen(&mut self.failed, out);
+    }
+
+    /// What an approved protocol does.
+    #[tactic(auto, unfolding(crate::specs::Fold::effect, crate::specs::Fold::can_begin))]
+    fn take_effect(&mut self, alloc: Global, x: &Proposal) -> Result<(), NoMemory>
+        requires { IsTrue (can_begin self.old x.now) }
+        ensures ok { OnOk result (self.new ≡ effect self.old x.now) }
+        ensures err { OnErr result (self.new ≡ self.old) }
+    {
+        match x {
+            Proposal::Join { ps, .. } => self.members.extend(ps)?,
+            Proposal::Leave { p, .. } => self.take_off(&[*p]),
+            Proposal::Fail { out } => self.take_off_failures(out.as_slice()),
+            Proposal::Expel { out, .. } => self.take_off(out.as_slice()),
+            Proposal::State { .. } => {}
+            Proposal::Message { .. } => {}
+            Proposal::Attributes { attrs, .. } => self.attrs = attrs.copy(alloc)?,
+            Proposal::Reflect { view, place, .. } => {
+                self.reflected_at = Some(ProtoId {
+                    view: *view,
+                    place: *place,
+                });
+            }
+        }
+        Ok(())
+    }
+
+    /// The attributes that the first join brings.
+    #[tactic(auto, unfolding(crate::specs::Fold::first_attrs))]
+    fn first_attrs(&self, alloc: Global, x: &Proposal) -> Result<Option<Attrs>, NoMemory>
+        ensures { IfOk result (λ a. a ≡ first_attrs self.now x.now) }
+    {
+        match x {
+            Proposal::Join { attrs, .. } => {
+                if self.members.len() == 0 {
+                    Ok(Some(attrs.copy(alloc)?))
+                } else {
+                    Ok(None)
+                }
+            }
+            _ => Ok(None),
+        }
+    }
+
+    #[tactic(auto, unfolding(crate::specs::Fold::with_attrs))]
+    fn take_attrs(&mut self, attrs: Option<Attrs>)
+        ensures { self.new ≡ with_attrs self.old attrs }
+    {
+        if let Some(attrs) = attrs {
+            self.attrs = attrs;
+        }
+    }
+
+    /// An approved value becomes the group's.
+    #[tactic(auto, unfolding(crate::specs::Fold::valued))]
+    fn take_value(&mut self, v: ViewId, place: u32, value: Option<Text>)
+        ensures { self.new ≡ valued self.old v place value }
+    {
+        if let Some(value) = value {
+            self.value = value;
+            self.value_at = Some(ProtoId { view: v, place });
+        }
+    }
+
+    #[tactic(auto, unfolding(crate::specs::Fold::begun))]
+    fn begin(&mut self, alloc: Global, v: ViewId, place: u32, x: &Proposal) -> Result<(), NoMemory>
+        ensures ok { OnOk result (self.new ≡ begun self.old v place x.now) }
+        ensures err { OnErr result (self.new ≡ self.old) }
+    {
+        let proposed = first_value(alloc, x)?;
+        let proposal = x.copy(alloc)?;
+        let attrs = self.first_attrs(alloc, x)?;
+        self.take_attrs(attrs);
+        self.running = Some(Running {
+            proto: ProtoId { view: v, place },
+            proposal,
+            phase: 1,
+            proposed,
+        });
+        Ok(())
+    }
+
+    /// Begins and approves at once.
+    #[tactic(auto, unfolding(crate::specs::Fold::once))]
+    fn apply_once(
+        &mut self,
+        alloc: Global,
+        v: ViewId,
+        place: u32,
+        x: &Proposal,
+    ) -> Result<(), NoMemory>
+        requires { IsTrue (can_begin self.old x.now) }
+        ensures ok { OnOk result (self.new ≡ once self.old v place x.now) }
+        ensures err { OnErr result (self.new ≡ self.old) }
+    {
+        let value = first_value(alloc, x)?;
+        let attrs = self.first_attrs(alloc, x)?;
+        self.take_effect(alloc, x)?;
+        self.take_attrs(attrs);
+        self.take_value(v, place, value);
+        Ok(())
+    }
+
+    #[tactic(auto, unfolding(crate::specs::Fold::next_phase))]
+    fn next_phase(&mut self, alloc: Global, value: &Option<Text>) -> Result<(), NoMemory>
+        requires { IfSome self.old.running (λ r. r.phase < 200) }
+        ensures ok { OnOk result (self.new ≡ next_phase self.old value.now self.old.running) }
+        ensures err { OnErr result (self.new ≡ self.old) }
+    {
+        let value = copy_text(alloc, value)?;
+        if let Some(run) = &mut self.running {
+            run.advance(value);
+        }
+        Ok(())
+    }
+
+    #[tactic(auto, unfolding(crate::specs::Fold::approved, crate::specs::Fold::joiners_fit, crate::specs::Fold::joiners_fit_at, crate::specs::Fold::can_begin))]
+    fn approve(
+        &mut self,
+        alloc: Global,
+        v: ViewId,
+        place: u32,
+        value: &Option<Text>,
+    ) -> Result<(), NoMemory>
+        requires { IsTrue (joiners_fit self.old) }
+        ensures ok { OnOk result (self.new ≡ approved self.old v place value.now self.old.running) }
+        ensures err { OnErr result (self.new ≡ self.old) }
+    {
+        let value = copy_text(alloc, value)?;
+        let Some(run) = self.running.take() else {
+            return Ok(());
+        };
+        if let Err(e) = self.take_effect(alloc, &run.proposal) {
+            self.running = Some(run);
+            return Err(e);
+        }
+        let Running { proposed, .. } = run;
+        self.take_value(v, place, newer(value, proposed));
+        Ok(())
+    }
+
+    /// What a rejected protocol does.
+    #[tactic(auto, unfolding(crate::specs::Fold::rejected_of))]
+    fn take_rejection(&mut self, x: &Proposal)
+        ensures { self.new ≡ rejected_of self.old x.now }
+    {
+        match x {
+            Proposal::Join { ps, .. } => self.failed.retain_not(ps.as_slice()),
+            Proposal::Fail { out } => self.take_off_failures(out.as_slice()),
+            Proposal::Reflect { view, place, .. } => {
+                self.reflected_at = Some(ProtoId {
+                    view: *view,
+                    place: *place,
+                });
+            }
+            _ => {}
+        }
+    }
+
+    #[tactic(auto, unfolding(crate::specs::Fold::rejected))]
+    fn reject(&mut self)
+        ensures { self.new ≡ rejected self.old self.old.running }
+    {
+        if let Some(run) = self.running.take() {
+            self.take_rejection(&run.proposal);
+        }
+    }
+
+    /// Takes an entry that fits. Of the state it copies nothing; it copies the text, the attributes or the
+    /// proposal that the entry brings. Want of memory leaves the state as it was.
+    pub fn apply(&mut self, alloc: Global, v: ViewId, place: u32, e: &Entry) -> Result<(), NoMemory>
+        requires fits { IsTrue (fits self.old e.now) }
+        requires joiners { IsTrue (joiners_fit self.old) }
+        ensures ok { OnOk result (self.new ≡ applied self.old v place e.now) }
+        ensures joiners { OnOk result (IsTrue (joiners_fit self.new)) }
+        ensures err { OnErr result (self.new ≡ self.old) }
+    {
+        match e {
+            Entry::Once(x) => self.apply_once(alloc, v, place, x),
+            Entry::Begin(x) => self.begin(alloc, v, place, x),
+            Entry::Phase(c) => self.next_phase(alloc, &c.value),
+            Entry::Approve(c) => self.approve(alloc, v, place, &c.value),
+            Entry::Reject(_) => {
+                self.reject();
+                Ok(())
+            }
+            Entry::Late { .. } => Ok(()),
+        }
+    }
+}
+
+impl Running {
+    /// The next phase opens; a value replaces the proposed one.
+    #[tactic(auto, unfolding(crate::specs::Fold::advanced))]
+    fn advance(&mut self, value: Option<Text>)
+        requires { self.old.phase < 200 }
+        ensures { self.new ≡ advanced value self.old }
+    {
+        self.phase += 1;
+        replace_proposed(&mut self.proposed, value);
+    }
+}
