@@ -32,7 +32,7 @@ pub fn take_off_fallen(ps: &mut Providers, out: &[Failure])
     ensures { ps.new ≡ without_all ps.old (fallen_of out.now) }
 {
     for f in out {
-        ps.remove(f.p);
+        ps.retain_not(&[f.p]);
     }
 }
 
@@ -284,13 +284,17 @@ impl GroupState {
         }
     }
 
-    /// Takes an entry that fits. Of the state it copies nothing; it copies the text, the attributes or the
-    /// proposal that the entry brings. Want of memory leaves the state as it was.
-    pub fn apply(&mut self, alloc: Global, v: ViewId, place: u32, e: &Entry) -> Result<(), NoMemory>
+    #[tactic(auto, unfolding(crate::specs::Fold::applied, crate::specs::Fold::fits, crate::specs::Fold::runs), using(crate::proofs::FoldLaws::once_is_applied, std::proofs::lemmas::Grind::common_steps))]
+    fn take_entry(
+        &mut self,
+        alloc: Global,
+        v: ViewId,
+        place: u32,
+        e: &Entry,
+    ) -> Result<(), NoMemory>
         requires fits { IsTrue (fits self.old e.now) }
         requires joiners { IsTrue (joiners_fit self.old) }
         ensures ok { OnOk result (self.new ≡ applied self.old v place e.now) }
-        ensures joiners { OnOk result (IsTrue (joiners_fit self.new)) }
         ensures err { OnErr result (self.new ≡ self.old) }
     {
         match e {
@@ -304,6 +308,19 @@ impl GroupState {
             }
             Entry::Late { .. } => Ok(()),
         }
+    }
+
+    /// Takes an entry that fits. Of the state it copies nothing; it copies the text, the attributes or the
+    /// proposal that the entry brings. Want of memory leaves the state as it was.
+    #[tactic(auto, using(crate::proofs::FoldLaws::joiners_fit_after, std::proofs::lemmas::Grind::common_steps))]
+    pub fn apply(&mut self, alloc: Global, v: ViewId, place: u32, e: &Entry) -> Result<(), NoMemory>
+        requires fits { IsTrue (fits self.old e.now) }
+        requires joiners { IsTrue (joiners_fit self.old) }
+        ensures ok { OnOk result (self.new ≡ applied self.old v place e.now) }
+        ensures joiners { OnOk result (IsTrue (joiners_fit self.new)) }
+        ensures err { OnErr result (self.new ≡ self.old) }
+    {
+        self.take_entry(alloc, v, place, e)
     }
 }
 

@@ -1,6 +1,7 @@
 -- Lists of providers that differ stay such lists.
-use Rattle.std.proofs.Common.{◌≡◌, ◌+◌, ◌≤◌, ◌<◌, Bool, true, false, cond, List, [], ◌∷◌, ◌++◌, length, refl, arith, length-append}
+use Rattle.std.proofs.Common.{◌≡◌, ◌+◌, ◌≤◌, ◌<◌, Bool, true, false, cond, List, [], ◌∷◌, ◌++◌, length, refl, ap, arith, length-append}
 use Rattle.std.specs.Prelude.{not, ◌||◌, ◌&&◌, IsTrue, filter}
+use Rattle.std.proofs.lemmas.List.Folds.{list_any-append}
 use Rattle.rsct_packet.specs.declared.ids.ProviderId.{ProviderId}
 use Rattle.rsct_packet.specs.Providers.{same_provider, among, none_among, without, without_all, differ, AreProviders}
 
@@ -96,3 +97,14 @@ AreProviders-append xs ps g h room k = record {
 
 pub AreProviders-push : (xs : List ProviderId) (p : ProviderId) → AreProviders xs → length xs < 64 → IsTrue (not (among xs p)) → AreProviders (xs ++ p ∷ [])
 AreProviders-push xs p g room k = AreProviders-append xs (p ∷ []) g (record { few = omega arith; apart = refl }) (omega arith) (both_true (not (among xs p)) true k refl)
+
+-- without some, then without others
+pub without_all-append : (xs ps qs : List ProviderId) → without_all xs (ps ++ qs) ≡ without_all (without_all xs ps) qs
+without_all-append [] ps qs = refl
+without_all-append (x ∷ xs) ps qs =
+    let h = without_all-append xs ps qs in
+    rw (list_any-append (λ q. same_provider q x) ps qs)
+    (elim (among ps x) as (λ b. cond (not (b || among qs x)) (x ∷ without_all xs (ps ++ qs)) (without_all xs (ps ++ qs)) ≡ without_all (cond (not b) (x ∷ without_all xs ps) (without_all xs ps)) qs) [
+      | true ↦ h
+      | false ↦ ap (λ (ys : List ProviderId). cond (not (among qs x)) (x ∷ ys) ys) h
+    ])

@@ -70,12 +70,6 @@ fn joined(alloc: Global, xs: &[ProviderId], ps: &[ProviderId]) -> Result<Vec<Pro
     Ok(v)
 }
 
-fn keep_others(items: &mut Vec<ProviderId>, p: ProviderId)
-    ensures { items.new.items ≡ without items.old.items p }
-{
-    items.retain(|q| *q != p);
-}
-
 fn keep_all_but(items: &mut Vec<ProviderId>, ps: &[ProviderId])
     ensures { items.new.items ≡ without_all items.old.items ps.now }
 {
@@ -176,13 +170,6 @@ impl Providers {
     {
         self.items.extend_from_slice(ps.items.as_slice())?;
         Ok(())
-    }
-
-    /// Takes one off, in place.
-    pub fn remove(&mut self, p: ProviderId)
-        ensures { self.new ≡ without self.old p }
-    {
-        keep_others(&mut self.items, p);
     }
 
     /// Takes these off, in place.
