@@ -9,7 +9,7 @@ use Rattle.rsct_packet.specs.Format.{IsFormat}
 use Rattle.rsct_packet.specs.Fields.{IsNode, node_at, u8_text, IsNodeOrNone, node_or_none_at, bytes_at, bytes_text, AreShort, name_at, name_text, mask_at, mask_text, mask_of_bits, IsMask, view_at, view_text, view_of_parts, IsView, ring_at, ring_text, ring_of_parts, IsRing, provider_at, provider_text, provider_of_parts, IsProvider, proto_at, proto_text, proto_of_parts, IsProto, member_at, member_text, member_of_parts, IsMember}
 use Rattle.rsct_packet.proofs.FormatLaws.{both_format, made_format, guarded_format, fits_format, keyed_format, part_keyed, u8_format, u16_format, u32_format}
 
-and_true : (a b : Bool) → IsTrue (a && b) → IsTrue a × IsTrue b
+pub and_true : (a b : Bool) → IsTrue (a && b) → IsTrue a × IsTrue b
 and_true true b h = (refl, h)
 and_true false b h = absurd cc
 

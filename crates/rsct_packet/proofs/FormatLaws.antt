@@ -5,7 +5,7 @@ use Rattle.std.specs.Int.{Width, w8, w16, w32, w64, byte_len, from_be_bytes, to_
 use Rattle.std.proofs.lemmas.Bool.{cases_lt, ltb-false, le-ltb}
 use Rattle.std.proofs.lemmas.List.{take_at, drop_at, take-append-drop, length-append, length-take, get_or-drop, get_or-take, get_or_past}
 use Rattle.std.proofs.lemmas.Nat.{be_bytes_2, be_bytes_4, be_bytes_8, from_be_bytes-to_be_bytes_2, from_be_bytes-to_be_bytes_4, from_be_bytes-to_be_bytes_8}
-use Rattle.rsct_packet.specs.Reading.{◌>>=◌, number_at, part_at, both_at, made_at, decoded_at, guarded_at, keyed_at, many_at, counted_at, option_at, optional_at, Reads}
+use Rattle.rsct_packet.specs.Reading.{◌>>=◌, number_at, part_at, both_at, then_at, made_at, decoded_at, guarded_at, keyed_at, many_at, counted_at, option_at, optional_at, Reads}
 use Rattle.rsct_packet.specs.Fields.{IsU8, IsU16, IsU32, IsU64, u8_text, u16_text, u32_text, u64_text}
 use Rattle.rsct_packet.specs.Format.{IsBytes, Takes, IsFormat, IsKeyed, IsVariant, counted_text, option_key, option_text, optional_text, OptionFits, EachFits, IsFound, IsOnly}
 
@@ -93,20 +93,23 @@ pub u64_format : IsFormat (number_at w64) u64_text IsU64
 unfolding u64_text
 u64_format = number_format w64 (2 ^ 64) wide64
 
--- one after the other
-pub both_format : {A B : Type 0} {f : List ℕ → Option (A × List ℕ)} {tf : A → List ℕ} {ff : A → Type 0} {g : List ℕ → Option (B × List ℕ)} {tg : B → List ℕ} {fg : B → Type 0} → IsFormat f tf ff → IsFormat g tg fg → IsFormat (both_at f g) (λ x. tf x.0 ++ tg x.1) (λ x. ff x.0 × fg x.1)
-both_format {A = A} {B = B} {f = f} {tf = tf} {ff = ff} {g = g} {tg = tg} {fg = fg} first second = record {
+-- one after the other, which the first may say more of
+pub then_format : {A B : Type 0} {f : List ℕ → Option (A × List ℕ)} {tf : A → List ℕ} {ff : A → Type 0} {g : A → List ℕ → Option (B × List ℕ)} {tg : A → B → List ℕ} {fg : A → B → Type 0} → IsFormat f tf ff → ((a : A) → IsFormat (g a) (tg a) (fg a)) → IsFormat (then_at f g) (λ x. tf x.0 ++ tg x.0 x.1) (λ x. ff x.0 × fg x.0 x.1)
+then_format {A = A} {B = B} {f = f} {tf = tf} {ff = ff} {g = g} {tg = tg} {fg = fg} first second = record {
   found = λ bytes x fits e.
-      let a = bind_some (f bytes) (λ a. g a.1 >>= λ b. Some ((a.0, b.0), b.1)) x e in
-      let b = bind_some (g a.0.1) (λ b. Some ((a.0.0, b.0), b.1)) x a.2 in
+      let a = bind_some (f bytes) (λ a. g a.0 a.1 >>= λ b. Some ((a.0, b.0), b.1)) x e in
+      let b = bind_some (g a.0.0 a.0.1) (λ b. Some ((a.0.0, b.0), b.1)) x a.2 in
       let p = first.found bytes a.0 fits a.1 in
-      let q = second.found a.0.1 b.0 p.0.rest_fits b.1 in
+      let q = (second a.0.0).found a.0.1 b.0 p.0.rest_fits b.1 in
       let is : ◌≡◌ {A = (A × B) × List ℕ} ((a.0.0, b.0.0), b.0.1) x = cc in
-      subst (λ (y : (A × B) × List ℕ). Takes bytes (tf y.0.0 ++ tg y.0.1) y.1 × (ff y.0.0 × fg y.0.1)) is (Takes-then _ _ _ _ _ p.0 q.0, (p.1, q.1));
+      subst (λ (y : (A × B) × List ℕ). Takes bytes (tf y.0.0 ++ tg y.0.0 y.0.1) y.1 × (ff y.0.0 × fg y.0.0 y.0.1)) is (Takes-then _ _ _ _ _ p.0 q.0, (p.1, q.1));
   again = λ x rest h.
-      ap (both_at f g) (append_assoc (tf x.0) (tg x.1) rest)
-      ∙ rw (first.again x.0 (tg x.1 ++ rest) h.0, second.again x.1 rest h.1) refl;
+      ap (then_at f g) (append_assoc (tf x.0) (tg x.0 x.1) rest)
+      ∙ rw (first.again x.0 (tg x.0 x.1 ++ rest) h.0, (second x.0).again x.1 rest h.1) refl;
 }
+
+pub both_format : {A B : Type 0} {f : List ℕ → Option (A × List ℕ)} {tf : A → List ℕ} {ff : A → Type 0} {g : List ℕ → Option (B × List ℕ)} {tg : B → List ℕ} {fg : B → Type 0} → IsFormat f tf ff → IsFormat g tg fg → IsFormat (both_at f g) (λ x. tf x.0 ++ tg x.1) (λ x. ff x.0 × fg x.1)
+both_format {g = g} {tg = tg} {fg = fg} first second = then_format {g = λ a. g} {tg = λ a. tg} {fg = λ a. fg} first (λ a. second)
 
 -- another type
 pub decoded_format : {A B : Type 0} {f : List ℕ → Option (A × List ℕ)} {tf : A → List ℕ} {ff : A → Type 0} (decode : A → Option B) (parts : B → A) → ((a : A) (b : B) → decode a ≡ Some b → parts b ≡ a) → ((b : B) → ff (parts b) → decode (parts b) ≡ Some b) → IsFormat f tf ff → IsFormat (decoded_at decode f) (λ b. tf (parts b)) (λ b. ff (parts b))
@@ -149,6 +152,15 @@ pub fits_format : {A : Type 0} {f : List ℕ → Option (A × List ℕ)} {tf : A
 fits_format fits to back format = record {
   found = λ bytes x h e. let p = format.found bytes x h e in (p.0, to x.0 p.1);
   again = λ x rest h. format.again x rest (back x h);
+}
+
+-- nothing, which stands for one value
+pub nothing_format : {A : Type 0} (a : A) → IsFormat (λ bytes. Some (a, bytes)) (λ x. []) (λ x. x ≡ a)
+nothing_format {A = A} a = record {
+  found = λ bytes x h e.
+      let is : ◌≡◌ {A = A × List ℕ} (a, bytes) x = cc in
+      subst (λ (y : A × List ℕ). Takes bytes [] y.1 × (y.0 ≡ a)) is (record { parts = refl; rest_fits = h }, refl);
+  again = λ x rest h. ap (λ (y : A). Some (y, rest)) (sym h);
 }
 
 -- the first says how the second is read

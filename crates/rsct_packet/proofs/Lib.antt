@@ -4,3 +4,4 @@ pub mod FormatLaws
 pub mod HasLaws
 pub mod MaskLaws
 pub mod FieldLaws
+pub mod PacketLaws

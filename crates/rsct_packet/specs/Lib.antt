@@ -7,3 +7,4 @@ pub mod Reading
 pub mod Format
 pub mod Fields
 pub mod Lists
+pub mod Packet

@@ -24,6 +24,13 @@ both_at f g bytes = do
   b ← g a.1
   Some ((a.0, b.0), b.1)
 
+-- the first says what the second has to be
+abbrev pub then_at : {A B : Type 0} → (List ℕ → Option (A × List ℕ)) → (A → List ℕ → Option (B × List ℕ)) → List ℕ → Option ((A × B) × List ℕ)
+then_at f g bytes = do
+  a ← f bytes
+  b ← g a.0 a.1
+  Some ((a.0, b.0), b.1)
+
 -- another type, made of what is read
 abbrev pub made_at : {A B : Type 0} → (A → B) → (List ℕ → Option (A × List ℕ)) → List ℕ → Option (B × List ℕ)
 made_at make f bytes = do

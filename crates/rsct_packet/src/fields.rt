@@ -3,14 +3,14 @@ ghost use Rattle.std.specs.Prelude.{◌≡◌, List, ℕ, option_copied};
 ghost use Rattle.std.specs.Option.{option_map};
 ghost use Rattle.std.specs.Int.{w8, w16, w32, w64};
 ghost use Rattle.rsct_packet.specs.Reading.{Reads, number_at};
-ghost use Rattle.rsct_packet.specs.Format.{IsBytes, IsFound, IsOnly};
+ghost use Rattle.rsct_packet.specs.Format.{IsFound, IsOnly};
 ghost use Rattle.rsct_packet.specs.Text.{IsName};
 ghost use Rattle.rsct_packet.specs.Fields.{IsU8, IsU16, IsU32, IsU64, AreShort, IsView, IsRing, IsProvider, IsProto, u8_text, u16_text, u32_text, u64_text, bytes_at, bytes_text, name_at, name_text, view_at, view_text, ring_at, ring_text, provider_at, provider_text, proto_at, proto_text};
 
 use crate::ids::{ProtoId, ProviderId, RingId, ViewId};
 use crate::reading::{
-    read_bytes, read_name, read_proto, read_provider, read_ring, read_u8, read_u16, read_u32,
-    read_u64, read_view,
+    known, read_bytes, read_name, read_proto, read_provider, read_ring, read_u8, read_u16,
+    read_u32, read_u64, read_view,
 };
 use std::marker::Model;
 
@@ -27,14 +27,6 @@ impl<'a> Model for Fields<'a> {
     ghost Value = { List ℕ };
 
     ghost view = { λ f. f.left.now };
-}
-
-/// The same bytes, with what their type says of them.
-fn known(b: &[u8]) -> &[u8]
-    ensures same { result.now ≡ b.now }
-    ensures bytes { IsBytes b.now }
-{
-    b
 }
 
 impl<'a> Fields<'a> {

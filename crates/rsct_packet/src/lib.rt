@@ -5,6 +5,7 @@ mod fields;
 mod ids;
 mod list;
 mod mask;
+mod packet;
 mod providers;
 mod reading;
 mod text;
@@ -14,6 +15,7 @@ pub use fields::Fields;
 pub use ids::{Member, NoMemory, ProtoId, ProviderId, RingId, ViewId};
 pub use list::List;
 pub use mask::{Mask, NODES, is_node_number};
+pub use packet::{Head, Packet, is_group_kind, is_head, write_head, write_head2};
 pub use providers::{MAX_PROVIDERS, Providers, is_among, is_none_among};
 pub use reading::{
     read_bytes, read_mask, read_member, read_name, read_node, read_node_or_none, read_part,

@@ -1,5 +1,7 @@
 //! Readers: each takes a value off the front of bytes, and gives it with the bytes after it. `None` says
 //! that the front spells no such value. They compose by `?` and take no memory.
+ghost use Rattle.std.specs.Prelude.{◌≡◌};
+ghost use Rattle.rsct_packet.specs.Format.{IsBytes};
 ghost use Rattle.std.specs.Int.{w8, w16, w32, w64};
 ghost use Rattle.rsct_packet.specs.Reading.{Gives, GivesPart, number_at, part_at};
 ghost use Rattle.rsct_packet.specs.Fields.{node_at, node_or_none_at, bytes_at, name_at, mask_at, view_at, ring_at, provider_at, proto_at, member_at};
@@ -7,6 +9,14 @@ ghost use Rattle.rsct_packet.specs.Fields.{node_at, node_or_none_at, bytes_at, n
 use crate::ids::{Member, ProtoId, ProviderId, RingId, ViewId};
 use crate::mask::{Mask, is_node_number};
 use crate::text::is_name;
+
+/// The same bytes. A caller knows of them what their type says.
+pub fn known(b: &[u8]) -> &[u8]
+    ensures same { result.now ≡ b.now }
+    ensures bytes { IsBytes b.now }
+{
+    b
+}
 
 pub fn read_u8(b: &[u8]) -> Option<(u8, &[u8])>
     ensures { Gives result (number_at w8 b.now) }

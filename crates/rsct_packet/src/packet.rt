@@ -1,0 +1,228 @@
+//! Packets: a head and a body.
+ghost use Rattle.std.specs.Prelude.{◌≡◌, Some, ◌≤◌, ◌++◌, IsTrue, IfSome, OnOk, OnErr, option_map};
+ghost use Rattle.rsct_packet.specs.Reading.{Gives};
+ghost use Rattle.rsct_packet.specs.Packet.{is_group_kind, is_level, is_sender, is_head, is_front, front_at, front_text, domain_at, head_text, PacketView, packet_view, IsPacket, packet_text, packet_at};
+
+use crate::ids::NoMemory;
+use crate::reading::{known, read_u8, read_u16, read_u32};
+
+/// What a packet's head says: its kind (1 to 23), the network (1 to 4) that it is sent on, its sender and
+/// its receiver (1 to 32, or 0 for a status client), and the sender's incarnation, which is 0 exactly where
+/// the sender is.
+#[derive(Clone, Copy, Debug, PartialEq, Eq)]
+pub struct Head {
+    pub kind: u8,
+    pub network: u8,
+    pub from: u8,
+    pub to: u8,
+    pub inc: u32,
+}
+
+/// What both levels have at the front.
+#[derive(Clone, Copy)]
+struct Front {
+    head: Head,
+    level: u8,
+    body_len: u32,
+}
+
+/// A packet of level 1, or of level 2 in a domain of at least 1; at level 1 the domain is 0. The body is a
+/// part of the datagram.
+#[derive(Clone, Copy)]
+pub struct Packet<'a> {
+    pub head: Head,
+    pub level: u8,
+    pub domain: u32,
+    pub body: &'a [u8],
+}
+
+/// Is it a kind that occurs at both levels? These are the packets of a view's groups, 14 to 21.
+pub fn is_group_kind(kind: u8) -> bool
+    ensures { result ≡ is_group_kind kind }
+{
+    kind >= 14 && kind <= 21
+}
+
+fn is_level(level: u8, kind: u8) -> bool
+    ensures { result ≡ is_level level kind }
+{
+    level == 1 || level == 2 && is_group_kind(kind)
+}
+
+/// A status client has neither number nor incarnation.
+fn is_sender(from: u8, inc: u32) -> bool
+    ensures { result ≡ is_sender from inc }
+{
+    if from == 0 {
+        inc == 0
+    } else {
+        from <= 32 && inc >= 1
+    }
+}
+
+/// Has this head a spelling?
+#[tactic(auto, unfolding(crate::specs::Packet::is_head))]
+pub fn is_head(h: Head) -> bool
+    ensures { result ≡ is_head h }
+{
+    h.kind >= 1
+        && h.kind <= 23
+        && h.network >= 1
+        && h.network <= 4
+        && is_sender(h.from, h.inc)
+        && h.to <= 32
+}
+
+#[tactic(auto, unfolding(crate::specs::Packet::is_front))]
+fn is_front(f: Front) -> bool
+    ensures { result ≡ is_front f }
+{
+    is_head(f.head) && is_level(f.level, f.head.kind)
+}
+
+#[tactic(auto, unfolding(crate::specs::Packet::front_at))]
+fn read_front(b: &[u8]) -> Option<(Front, &[u8])>
+    ensures { Gives result (front_at b.now) }
+{
+    let (mark, b) = read_u16(b)?;
+    let (level, b) = read_u8(b)?;
+    let (kind, b) = read_u8(b)?;
+    let (network, b) = read_u8(b)?;
+    let (from, b) = read_u8(b)?;
+    let (to, b) = read_u8(b)?;
+    let (zero, b) = read_u8(b)?;
+    let (inc, b) = read_u32(b)?;
+    let (body_len, b) = read_u32(b)?;
+    if mark != 0x5247 || zero != 0 {
+        return None;
+    }
+    let front = Front {
+        head: Head {
+            kind,
+            network,
+            from,
+            to,
+            inc,
+        },
+        level,
+        body_len,
+    };
+    if !is_front(front) {
+        return None;
+    }
+    Some((front, b))
+}
+
+fn read_domain(level: u8, b: &[u8]) -> Option<(u32, &[u8])>
+    ensures { Gives result (domain_at level b.now) }
+{
+    if level == 1 {
+        return Some((0, b));
+    }
+    let (domain, b) = read_u32(b)?;
+    if domain < 1 {
+        return None;
+    }
+    Some((domain, b))
+}
+
+#[tactic(auto, unfolding(crate::specs::Packet::packet_at))]
+fn read_alone(b: &[u8]) -> Option<Packet>
+    ensures { option_map packet_view result ≡ packet_at b.now }
+{
+    let (front, b) = read_front(b)?;
+    let (domain, body) = read_domain(front.level, b)?;
+    if front.body_len as usize != body.len() {
+        return None;
+    }
+    Some(Packet {
+        head: front.head,
+        level: front.level,
+        domain,
+        body,
+    })
+}
+
+impl<'a> Packet<'a> {
+    /// The packet of a datagram; `None` exactly where the bytes are not a head followed by just as many bytes
+    /// as it names for the body.
+    #[tactic(auto, using(crate::proofs::PacketLaws::read_found, crate::proofs::PacketLaws::read_only))]
+    pub fn read(b: &'a [u8]) -> Option<Packet<'a>>
+        ensures value { option_map packet_view result ≡ packet_at b.now }
+        ensures found { IfSome result (λ p. IsPacket (packet_view p) × (b.now ≡ packet_text (packet_view p))) }
+        ensures only { (p : PacketView) → IsPacket p → b.now ≡ packet_text p → option_map packet_view result ≡ Some p }
+    {
+        read_alone(known(b))
+    }
+}
+
+/// What both levels have at the front, as bytes.
+#[tactic(auto, unfolding(crate::specs::Packet::front_text, crate::specs::Fields::u32_text, crate::specs::Fields::u16_text))]
+fn front_bytes(f: Front) -> [u8; 16]
+    ensures { result ≡ front_text f }
+{
+    let [a, b, c, d] = f.head.inc.to_be_bytes();
+    let [i, j, k, l] = f.body_len.to_be_bytes();
+    [
+        0x52,
+        0x47,
+        f.level,
+        f.head.kind,
+        f.head.network,
+        f.head.from,
+        f.head.to,
+        0,
+        a,
+        b,
+        c,
+        d,
+        i,
+        j,
+        k,
+        l,
+    ]
+}
+
+/// A head of level 1, for a body of so many bytes.
+#[tactic(auto, unfolding(crate::specs::Packet::head_text))]
+pub fn write_head(out: &mut Vec<u8>, head: &Head, body_len: u32) -> Result<(), NoMemory>
+    requires { IsTrue (is_head head.now) }
+    ensures ok { OnOk result (out.new.items ≡ out.old.items ++ head_text head.now 1 0 body_len) }
+    ensures err { OnErr result (out.new.items ≡ out.old.items) }
+{
+    let front = Front {
+        head: *head,
+        level: 1,
+        body_len,
+    };
+    out.extend_from_slice(&front_bytes(front))?;
+    Ok(())
+}
+
+/// A head of level 2 in a domain, for a body of so many bytes.
+#[tactic(auto, unfolding(crate::specs::Packet::head_text, crate::specs::Fields::u32_text))]
+pub fn write_head2(
+    out: &mut Vec<u8>,
+    head: &Head,
+    domain: u32,
+    body_len: u32,
+) -> Result<(), NoMemory>
+    requires passes { IsTrue (is_head head.now) }
+    requires kind { IsTrue (is_group_kind head.now.kind) }
+    requires domain { 1 ≤ domain }
+    ensures ok { OnOk result (out.new.items ≡ out.old.items ++ head_text head.now 2 domain body_len) }
+    ensures err { OnErr result (out.new.items ≡ out.old.items) }
+{
+    let before = out.len();
+    let front = Front {
+        head: *head,
+        level: 2,
+        body_len,
+    };
+    out.extend_from_slice(&front_bytes(front))?;
+    if let Err(e) = out.extend_from_slice(&domain.to_be_bytes()) {
+        out.truncate(before);
+        return Err(NoMemory::from(e));
+    }
+    Ok(())
+}
