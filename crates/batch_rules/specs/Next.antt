@@ -1,11 +1,31 @@
--- What begins next: failures before joins.
-use Rattle.std.specs.Prelude.{List, [], ◌∷◌, Option, Some, None}
+-- What becomes of a join, and what begins next: failures before joins.
+use Rattle.std.specs.Prelude.{ℕ, Bool, ◌==◌, ◌||◌, List, [], ◌∷◌, length, Option, Some, None, if◌then◌else◌}
 use Rattle.rsct_packet.specs.declared.ids.ProviderId.{ProviderId}
 use Rattle.group_attr.specs.declared.attrs.Batch.{Batch}
 use Rattle.proposal_core.specs.declared.proposal.Failure.{Failure}
+use Rattle.batch_rules.specs.declared.waiting.Added.{Added}
+use Rattle.batch_rules.specs.declared.waiting.Added.TheVariants.{Queued, Full, DuplicateInstance}
 use Rattle.batch_rules.specs.declared.waiting.Chosen.{Chosen}
 use Rattle.batch_rules.specs.declared.waiting.Chosen.TheVariants as chosen
-use Rattle.batch_rules.specs.Waiting.{WaitingView, next_failures, failures_left, next_joins, joins_left}
+use Rattle.batch_rules.specs.Waiting.{WaitingView, has_instance, waits_join, next_failures, failures_left, next_joins, joins_left}
+
+abbrev pub max_waiting : ℕ
+max_waiting = 64
+
+-- a provider with its node and instance number is present or waits
+abbrev pub is_duplicate : ProviderId → List ProviderId → WaitingView → Bool
+is_duplicate p present w = has_instance present p || has_instance w.joins p
+
+abbrev pub added_as : ProviderId → List ProviderId → WaitingView → Added
+added_as p present w = if is_duplicate p present w then DuplicateInstance else if length w.joins == max_waiting then Full else Queued
+
+abbrev pub joined_as : ProviderId → WaitingView → Added → WaitingView
+joined_as p w Queued = waits_join p w
+joined_as p w Full = w
+joined_as p w DuplicateInstance = w
+
+abbrev pub after_join : ProviderId → List ProviderId → WaitingView → WaitingView
+after_join p present w = joined_as p w (added_as p present w)
 
 abbrev pub next_of_joins : Batch → WaitingView → List ProviderId → Option Chosen
 next_of_joins b w [] = None

@@ -1,5 +1,5 @@
 -- What waits to begin.
-use Rattle.std.specs.Prelude.{ℕ, Bool, true, false, ◌==◌, ◌&&◌, ◌||◌, ◌++◌, List, [], ◌∷◌, take, drop, length, nat_le, if◌then◌else◌}
+use Rattle.std.specs.Prelude.{ℕ, Bool, true, false, ◌==◌, ◌&&◌, ◌++◌, List, [], ◌∷◌, take, drop, length, if◌then◌else◌}
 use Rattle.std.specs.List.{list_any}
 use Rattle.rsct_packet.specs.declared.ids.ProviderId.{ProviderId}
 use Rattle.rsct_packet.specs.Providers.{same_provider, without}
@@ -26,9 +26,12 @@ has_instance ps p = list_any (λ q. same_instance q p) ps
 abbrev pub waits_join : ProviderId → WaitingView → WaitingView
 waits_join p w = record w { joins = w.joins ++ p ∷ [] }
 
+abbrev pub is_failure_of : ProviderId → Failure → Bool
+is_failure_of p f = same_provider f.p p
+
 -- the provider waits as a failure
 abbrev pub is_failing : ProviderId → WaitingView → Bool
-is_failing p w = list_any (λ f. same_provider f.p p) w.failures
+is_failing p w = list_any (is_failure_of p) w.failures
 
 -- a provider that waits as a failure keeps its first cause
 abbrev pub waits_failure : ProviderId → Cause → WaitingView → WaitingView

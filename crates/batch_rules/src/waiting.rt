@@ -1,7 +1,16 @@
 //! The queue of a group.
+ghost use Rattle.std.specs.Prelude.{◌≡◌, ◌≤◌, ◌<◌, length, not};
+ghost use Rattle.rsct_packet.specs.Providers.{among};
+ghost use Rattle.batch_rules.specs.Waiting.{nothing_waits, is_failing as is_failing_in, waits_failure, join_dropped};
+ghost use Rattle.batch_rules.specs.Next.{added_as, after_join, next_chosen, next_left};
+
+use crate::queue::{
+    batches_failures, batches_joins, is_failing, is_instance_among, remove_join, take_next,
+};
 use arrayvec::ArrayVec;
-use proposal_core::Failure;
-use rsct_packet::ProviderId;
+use group_attr::Batch;
+use proposal_core::{Cause, Failure};
+use rsct_packet::{ProviderId, is_among};
 use std::marker::Model;
 
 /// How many joins and how many failures wait at most.
@@ -36,4 +45,86 @@ impl Model for Waiting {
     ghost Value = { WaitingView };
 
     ghost view = { λ w. record { joins = w.joins.items; failures = w.failures.items } };
+}
+
+impl Waiting {
+    /// The queue in which nothing waits.
+    pub fn new() -> Waiting
+        ensures { result ≡ nothing_waits }
+    {
+        Waiting {
+            joins: ArrayVec::new(),
+            failures: ArrayVec::new(),
+        }
+    }
+
+    /// How many joins wait.
+    pub fn joins(&self) -> usize
+        ensures value { result ≡ length self.now.joins }
+        ensures few { result ≤ 64 }
+    {
+        self.joins.len()
+    }
+
+    /// How many failures wait.
+    pub fn failures(&self) -> usize
+        ensures value { result ≡ length self.now.failures }
+        ensures few { result ≤ 64 }
+    {
+        self.failures.len()
+    }
+
+    /// Puts a join at the end, unless a provider with its node and instance number is present or waits, or 64
+    /// joins wait.
+    pub fn add_join(&mut self, p: ProviderId, present: &[ProviderId]) -> Added
+        ensures answer { result ≡ added_as p present.now self.old }
+        ensures queue { self.new ≡ after_join p present.now self.old }
+    {
+        if is_instance_among(present, p) || is_instance_among(self.joins.as_slice(), p) {
+            return Added::DuplicateInstance;
+        }
+        if self.joins.is_full() {
+            return Added::Full;
+        }
+        self.joins.push(p);
+        Added::Queued
+    }
+
+    /// Puts a failure at the end, unless its provider waits as one; then its first cause stays.
+    pub fn add_failure(&mut self, p: ProviderId, cause: Cause) -> bool
+        requires { length self.old.failures < 64 }
+        ensures answer { result ≡ not (is_failing_in p self.old) }
+        ensures queue { self.new ≡ waits_failure p cause self.old }
+    {
+        if is_failing(self.failures.as_slice(), p) {
+            return false;
+        }
+        self.failures.push(Failure { p, cause });
+        true
+    }
+
+    /// Takes a join out; `false` exactly where the provider's join does not wait.
+    pub fn drop_join(&mut self, p: ProviderId) -> bool
+        ensures answer { result ≡ among self.old.joins p }
+        ensures queue { self.new ≡ join_dropped p self.old }
+    {
+        let waits = is_among(self.joins.as_slice(), p);
+        remove_join(&mut self.joins, p);
+        waits
+    }
+
+    /// Takes out what begins next: failures before joins, all of them where the batch control has them, else
+    /// the oldest. `None` exactly where nothing waits.
+    pub fn next(&mut self, batch: Batch) -> Option<Chosen>
+        ensures chosen { result ≡ next_chosen batch self.old }
+        ensures queue { self.new ≡ next_left batch self.old }
+    {
+        if !self.failures.is_empty() {
+            return Some(Chosen::Failures(take_next(&mut self.failures, batches_failures(batch))));
+        }
+        if !self.joins.is_empty() {
+            return Some(Chosen::Joins(take_next(&mut self.joins, batches_joins(batch))));
+        }
+        None
+    }
 }

@@ -1,0 +1,67 @@
+//! Parts of the queue.
+ghost use Rattle.std.specs.Prelude.{◌≡◌, [], take, drop, filter, not, length, ◌<◌};
+ghost use Rattle.std.specs.List.{list_any};
+ghost use Rattle.rsct_packet.specs.Providers.{without};
+ghost use Rattle.batch_rules.specs.Waiting.{has_instance, same_instance, is_failure_of, batches_joins, batches_failures, chosen_of, left_of};
+
+use arrayvec::ArrayVec;
+use group_attr::Batch;
+use proposal_core::Failure;
+use rsct_packet::ProviderId;
+
+/// Do they have the same node and instance number?
+fn are_same_instance(a: &ProviderId, b: ProviderId) -> bool
+    ensures { result ≡ same_instance a.now b }
+{
+    a.node == b.node && a.instance == b.instance
+}
+
+/// Has one of them the node and the instance number?
+pub(crate) fn is_instance_among(ps: &[ProviderId], p: ProviderId) -> bool
+    ensures { result ≡ has_instance ps.now p }
+{
+    ps.iter().any(|q| are_same_instance(q, p))
+}
+
+/// Does the provider wait as a failure?
+pub(crate) fn is_failing(failures: &[Failure], p: ProviderId) -> bool
+    ensures { result ≡ list_any (is_failure_of p) failures.now }
+{
+    failures.iter().any(|f| f.p == p)
+}
+
+/// Takes the provider out.
+pub(crate) fn remove_join(joins: &mut ArrayVec<ProviderId, 64>, p: ProviderId)
+    ensures { joins.new.items ≡ without joins.old.items p }
+{
+    joins.retain(|q| *q != p);
+}
+
+pub(crate) fn batches_joins(batch: Batch) -> bool
+    ensures { result ≡ batches_joins batch }
+{
+    matches!(batch, Batch::Joins | Batch::Both)
+}
+
+pub(crate) fn batches_failures(batch: Batch) -> bool
+    ensures { result ≡ batches_failures batch }
+{
+    matches!(batch, Batch::Failures | Batch::Both)
+}
+
+/// Takes all of them, or the oldest one.
+pub(crate) fn take_next<T: Default + Drop>(
+    items: &mut ArrayVec<T, 64>,
+    all: bool,
+) -> ArrayVec<T, 64>
+    requires { 0 < length items.old.items }
+    ensures taken { result.items ≡ chosen_of all items.old.items }
+    ensures left { items.new.items ≡ left_of all items.old.items }
+{
+    if all {
+        return items.take();
+    }
+    let mut oldest = ArrayVec::new();
+    oldest.push(items.remove(0));
+    oldest
+}
