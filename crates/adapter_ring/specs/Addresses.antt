@@ -1,6 +1,6 @@
 -- The order of adapters by address.
 use Rattle.std.specs.Prelude.{ℕ, ◌-◌, Bool, true, false, not, ◌==◌, ◌&&◌, List, filter, Option, Some, None, nat_lt, slice_index}
-use Rattle.std.specs.List.{fold}
+use Rattle.std.specs.List.{fold, list_all}
 use Rattle.rsct_packet.specs.declared.mask.Mask.{Mask}
 use Rattle.rsct_packet.specs.Mask.{is_node, node_numbers, has_node, without_node, nodes_of}
 use Rattle.adapter_ring.specs.declared.ring.RingSettings.{RingSettings}
@@ -70,11 +70,14 @@ crown_prince_in s ms = node_or_none (highest_of s (without_node ms (node_or_none
 unfoldable pub is_highest : RingSettings → ℕ → Mask → Bool
 is_highest s n ms = node_or_none (highest_of s ms) == n
 
+unfoldable pub all_have_addr : RingSettings → Mask → Bool
+all_have_addr s ms = list_all (has_addr s) (nodes_of ms)
+
 -- the nodes of the network outside
 unfoldable pub outside : RingSettings → Mask → List ℕ
 outside s ms = filter (λ n. has_addr s n && not (has_node ms n)) node_numbers
 
 -- opens each word of this file, for a computation
 unfoldable pub addresses_open : Unit {0}
-unfolding addr_of has_addr is_higher higher_of lower_of highest lowest highest_of lowest_of next_lower next_higher some_of neighbour_in upstream_in node_or_none crown_prince_in is_highest outside
+unfolding addr_of has_addr is_higher higher_of lower_of highest lowest highest_of lowest_of next_lower next_higher some_of neighbour_in upstream_in node_or_none crown_prince_in is_highest all_have_addr outside
 addresses_open = tt

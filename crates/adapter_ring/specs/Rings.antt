@@ -17,7 +17,7 @@ use Rattle.adapter_ring.specs.declared.ring.RingSet.{RingSet}
 use Rattle.adapter_ring.specs.declared.ring.RingSettings.{RingSettings}
 use Rattle.adapter_ring.specs.declared.ring.Gathering.{Gathering}
 use Rattle.adapter_ring.specs.declared.work.RingWork.{RingWork}
-use Rattle.adapter_ring.specs.Addresses.{has_addr, is_higher, neighbour_in, upstream_in, crown_prince_in, is_highest, outside}
+use Rattle.adapter_ring.specs.Addresses.{has_addr, is_higher, neighbour_in, upstream_in, crown_prince_in, is_highest, outside, all_have_addr}
 
 unfoldable pub neighbour : Ring → ℕ
 neighbour r = neighbour_in r.settings r.me r.members
@@ -184,9 +184,6 @@ takes_join r from ms = ring_leads r && is_none r.gathering && has_node ms from &
 unfoldable pub join_row : RingWork → ℕ → Mask → RingWork
 join_row w from ms = elim (takes_join w.ring from ms) [ true ↦ ring_gathers w (union_of w.ring.members ms) | false ↦ w ]
 
-unfoldable pub all_have_addr : RingSettings → Mask → Bool
-all_have_addr s ms = list_all (has_addr s) (nodes_of ms)
-
 -- from the leader of that ring to a node asked for it, who has the highest address of the asked
 unfoldable pub may_promise : Ring → ℕ → ℕ → RingId → Mask → Bool
 may_promise r from inc id ms =
@@ -255,5 +252,5 @@ ring_new net me inc settings =
 
 -- opens each word of this file, for a computation
 unfoldable pub rings_open : Unit {0}
-unfolding neighbour upstream crown_prince ring_leads is_shared patience ring_sent ring_sent_all ring_set ring_closed ring_gathering next_ring ring_numbered ring_gathers_on ring_gathers ring_alone heartbeat_sent ring_proclaimed ring_beats buries death_counts death_row death_told_to death_told ring_waited ring_waits ring_ages_of ring_ages ring_tick heartbeat_row answers_proclaim proclaim_row is_lower all_lower takes_join join_row all_have_addr may_promise ptc_row ack_row_of ack_row is_promised commit_row packet_row ring_row at_work ring_stepped ring_new
+unfolding neighbour upstream crown_prince ring_leads is_shared patience ring_sent ring_sent_all ring_set ring_closed ring_gathering next_ring ring_numbered ring_gathers_on ring_gathers ring_alone heartbeat_sent ring_proclaimed ring_beats buries death_counts death_row death_told_to death_told ring_waited ring_waits ring_ages_of ring_ages ring_tick heartbeat_row answers_proclaim proclaim_row is_lower all_lower takes_join join_row may_promise ptc_row ack_row_of ack_row is_promised commit_row packet_row ring_row at_work ring_stepped ring_new
 rings_open = tt

@@ -1,6 +1,6 @@
 //! The ring of one adapter, as its callers see it.
-ghost use Rattle.std.specs.Prelude.{◌≡◌, ◌++◌, [], None, OnOk, OnErr};
-ghost use Rattle.adapter_ring.specs.Rings.{ring_new, neighbour, ring_stepped};
+ghost use Rattle.std.specs.Prelude.{◌≡◌, ◌++◌, ◌<◌, ◌==◌, [], None, OnOk, OnErr};
+ghost use Rattle.adapter_ring.specs.Rings.{ring_new, neighbour, upstream, crown_prince, ring_leads, is_shared, next_ring, ring_stepped};
 
 use crate::packet::{RingEvent, RingSend};
 use crate::work::RingWork;
@@ -66,6 +66,122 @@ impl RingOut {
         RingOut {
             sends: List::new(alloc),
             set: None,
+        }
+    }
+}
+
+impl Ring {
+    /// The ring of an adapter that starts: the node alone, in a ring of number 1.
+    #[tactic(auto, unfolding(crate::specs::Rings::ring_new))]
+    pub fn new(net: u8, me: u8, inc: u32, settings: RingSettings) -> Ring
+        ensures { result ≡ ring_new net me inc settings }
+    {
+        Ring {
+            net,
+            me,
+            inc,
+            settings,
+            last: 1,
+            id: RingId {
+                leader: me,
+                inc,
+                number: 1,
+            },
+            members: Mask::empty().with(me),
+            gathering: None,
+            promised: None,
+            silent: 0,
+            beat: 0,
+        }
+    }
+
+    pub fn id(&self) -> RingId
+        ensures { result ≡ self.now.id }
+    {
+        self.id
+    }
+
+    pub fn members(&self) -> Mask
+        ensures { result ≡ self.now.members }
+    {
+        self.members
+    }
+
+    /// The next lower member, and of the lowest the highest.
+    #[tactic(auto, unfolding(crate::specs::Rings::neighbour))]
+    pub fn neighbour(&self) -> u8
+        ensures { result ≡ neighbour self.now }
+    {
+        self.settings.neighbour_in(self.me, self.members)
+    }
+
+    pub fn leader(&self) -> u8
+        ensures { result ≡ self.now.id.leader }
+    {
+        self.id.leader
+    }
+
+    /// One event. Where memory has run out the ring is as before.
+    #[tactic(auto, unfolding(crate::specs::Rings::ring_stepped, crate::specs::Rings::at_work))]
+    pub fn step(&mut self, alloc: Global, e: RingEvent, out: &mut RingOut) -> Result<(), NoMemory>
+        ensures ring { OnOk result (self.new ≡ (ring_stepped self.old e).ring) }
+        ensures sends { OnOk result (out.new.sends ≡ out.old.sends ++ (ring_stepped self.old e).sends) }
+        ensures set { OnOk result (out.new.set ≡ (ring_stepped self.old e).set) }
+        ensures err { OnErr result (self.new ≡ self.old) }
+    {
+        let mut work = RingWork {
+            ring: *self,
+            sends: List::new(alloc),
+            set: None,
+        };
+        work.row(alloc, e)?;
+        out.sends.append(&mut work.sends)?;
+        out.set = work.set;
+        *self = work.ring;
+        Ok(())
+    }
+
+    /// The next higher member, and of the highest the lowest.
+    #[tactic(auto, unfolding(crate::specs::Rings::upstream))]
+    pub(crate) fn upstream(&self) -> u8
+        ensures { result ≡ upstream self.now }
+    {
+        self.settings.upstream_in(self.me, self.members)
+    }
+
+    /// The member of the second highest address.
+    #[tactic(auto, unfolding(crate::specs::Rings::crown_prince))]
+    pub(crate) fn crown_prince(&self) -> u8
+        ensures { result ≡ crown_prince self.now }
+    {
+        self.settings.crown_prince_in(self.members)
+    }
+
+    #[tactic(auto, unfolding(crate::specs::Rings::ring_leads))]
+    pub(crate) fn leads(&self) -> bool
+        ensures { result ≡ ring_leads self.now }
+    {
+        self.id.leader == self.me
+    }
+
+    /// Has it two members or more?
+    #[tactic(auto, unfolding(crate::specs::Rings::is_shared))]
+    pub(crate) fn is_shared(&self) -> bool
+        ensures { result ≡ is_shared self.now }
+    {
+        self.members.len() >= 2
+    }
+
+    /// The id with the next number.
+    #[tactic(auto, unfolding(crate::specs::Rings::next_ring))]
+    pub(crate) fn next_ring(&self) -> RingId
+        requires { self.now.last < 4294967295 }
+        ensures { result ≡ next_ring self.now }
+    {
+        RingId {
+            leader: self.me,
+            inc: self.inc,
+            number: self.last + 1,
         }
     }
 }

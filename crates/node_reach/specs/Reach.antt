@@ -54,13 +54,10 @@ unfoldable pub walk_on : Reach → Walk → ℕ → Walk
 walk_on r w a =
     let new : Mask = newly_seen r w.seen a in record { seen = union_of w.seen new; todo = union_of (without_node w.todo a) new }
 
-unfoldable pub first_node : Mask → Option ℕ
-first_node m = find (has_node m) node_numbers
-
 -- so many steps of the walk, or until none is left
 unfoldable pub walked : ℕ → Reach → Walk → Walk
 walked zero r w = w
-walked (suc k) r w = elim (first_node w.todo) [ None ↦ w | Some a ↦ walked k r (walk_on r w a) ]
+walked (suc k) r w = elim (find (has_node w.todo) node_numbers) [ None ↦ w | Some a ↦ walked k r (walk_on r w a) ]
 
 -- each node is gone on from once at most
 unfoldable pub reach_of : Reach → Mask
@@ -68,5 +65,5 @@ reach_of r = (walked 32 r (record { seen = with_node no_nodes r.me; todo = with_
 
 -- opens each word of this file, for a computation
 unfoldable pub reach_opens : Unit {0}
-unfolding reach_new row_of with_row own_set is_newer is_news reported mask_of names leads_on newly_seen walk_on first_node walked reach_of
+unfolding reach_new row_of with_row own_set is_newer is_news reported mask_of names leads_on newly_seen walk_on walked reach_of
 reach_opens = tt

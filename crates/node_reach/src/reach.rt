@@ -1,8 +1,9 @@
 //! The rows of the nodes, and the walk over them.
-ghost use Rattle.std.specs.Prelude.{◌≡◌};
-ghost use Rattle.node_reach.specs.Reach.{reach_new};
+ghost use Rattle.std.specs.Prelude.{◌≡◌, ℕ, ◌↔◌, IsTrue};
+ghost use Rattle.rsct_packet.specs.Mask.{is_node, has_node};
+ghost use Rattle.node_reach.specs.Reach.{reach_new, row_of, with_row, own_set, is_newer, is_news, reported, names, leads_on, newly_seen, walk_on, walked, reach_of};
 
-use rsct_packet::Mask;
+use rsct_packet::{Mask, NODES, is_node_number, risen};
 
 /// What a node reported: in which incarnation, its how manieth report it was, and the nodes in its rings.
 #[derive(Clone, Copy, Debug, PartialEq, Eq)]
@@ -29,6 +30,17 @@ pub struct Walk {
     pub todo: Mask,
 }
 
+/// Is a report of this number newer than the kept row?
+#[tactic(auto, unfolding(crate::specs::Reach::is_newer))]
+fn is_newer(inc: u32, seq: u32, kept: Option<ReachRow>) -> bool
+    ensures { result ≡ is_newer inc seq kept }
+{
+    match kept {
+        None => true,
+        Some(old) => inc > old.inc || (inc == old.inc && seq > old.seq),
+    }
+}
+
 impl Reach {
     /// No row is kept yet.
     #[tactic(auto, unfolding(crate::specs::Reach::reach_new))]
@@ -40,6 +52,103 @@ impl Reach {
             inc,
             seq: 0,
             rows: [None; 32],
+        }
+    }
+
+    /// The kept row of the node.
+    #[tactic(auto, unfolding(crate::specs::Reach::row_of))]
+    pub fn row(&self, node: u8) -> Option<ReachRow>
+        ensures { result ≡ row_of self.now node }
+    {
+        if is_node_number(node) {
+            self.rows[(node - 1) as usize]
+        } else {
+            None
+        }
+    }
+
+    #[tactic(auto, unfolding(crate::specs::Reach::with_row))]
+    fn keep(&mut self, node: u8, row: ReachRow)
+        ensures { self.new ≡ with_row self.old node row }
+    {
+        if is_node_number(node) {
+            self.rows[(node - 1) as usize] = Some(row);
+        }
+    }
+
+    /// The own row becomes these nodes, with the next number; the last number stands still.
+    #[tactic(auto, unfolding(crate::specs::Reach::own_set))]
+    pub fn set_own(&mut self, mask: Mask)
+        ensures { self.new ≡ own_set self.old mask }
+    {
+        self.seq = risen(self.seq);
+        let row = ReachRow {
+            inc: self.inc,
+            seq: self.seq,
+            mask,
+        };
+        self.keep(self.me, row);
+    }
+
+    #[tactic(auto, unfolding(crate::specs::Reach::is_news))]
+    fn is_news(&self, node: u8, inc: u32, seq: u32) -> bool
+        ensures { result ≡ is_news self.now node inc seq }
+    {
+        is_node_number(node) && node != self.me && is_newer(inc, seq, self.row(node))
+    }
+
+    /// Takes a report. False exactly where the node is this one (or no number of a node), or the report is not
+    /// of a later incarnation, or of a later number of the same, than the kept row; then nothing changes.
+    #[tactic(auto, unfolding(crate::specs::Reach::reported))]
+    pub fn report(&mut self, node: u8, inc: u32, seq: u32, mask: Mask) -> bool
+        ensures news { result ≡ is_news self.old node inc seq }
+        ensures reach { self.new ≡ reported self.old node (record { inc = inc; seq = seq; mask = mask }) }
+    {
+        let is_news = self.is_news(node, inc, seq);
+        if is_news {
+            self.keep(node, ReachRow { inc, seq, mask });
+        }
+        is_news
+    }
+
+    /// Does the kept row of `a` name `b`?
+    #[tactic(auto, unfolding(crate::specs::Reach::names, crate::specs::Reach::mask_of))]
+    fn names(&self, a: u8, b: u8) -> bool
+        ensures { result ≡ names self.now a b }
+    {
+        match self.row(a) {
+            None => Mask::empty().has(b),
+            Some(row) => row.mask.has(b),
+        }
+    }
+
+    /// Does a step of a walk lead from `a` to `b`, which was not seen before?
+    #[tactic(auto, unfolding(crate::specs::Reach::leads_on))]
+    fn leads_on(&self, seen: Mask, a: u8, b: u8) -> bool
+        ensures { result ≡ leads_on self.now seen a b }
+    {
+        !seen.has(b) && self.names(a, b) && self.names(b, a)
+    }
+
+    #[tactic(auto, unfolding(crate::specs::Reach::newly_seen))]
+    fn newly_seen(&self, seen: Mask, a: u8) -> Mask
+        ensures { result ≡ newly_seen self.now seen a }
+    {
+        NODES
+            .iter()
+            .copied()
+            .filter(|b| self.leads_on(seen, a, *b))
+            .fold(Mask::empty(), |new, b| new.with(b))
+    }
+
+    #[tactic(auto, unfolding(crate::specs::Reach::walk_on))]
+    fn walk_on(&self, walk: Walk, a: u8) -> Walk
+        ensures { result ≡ walk_on self.now walk a }
+    {
+        let new = self.newly_seen(walk.seen, a);
+        Walk {
+            seen: walk.seen.union(new),
+            todo: walk.todo.without(a).union(new),
         }
     }
 }

@@ -1,4 +1,7 @@
 //! The ids of providers, views, rings and protocols, and want of memory.
+ghost use Rattle.std.specs.Prelude.{◌≡◌};
+ghost use Rattle.rsct_packet.specs.Ids.{risen};
+
 use std::alloc::{AllocError, AllocFailed};
 
 /// Memory has run out. It is the one answer that no clause ties to a cause.
@@ -58,4 +61,12 @@ pub struct ProtoId {
 pub struct Member {
     pub node: u8,
     pub inc: u32,
+}
+
+/// A count that has risen by one, or stands still at its last value.
+#[tactic(auto, unfolding(crate::specs::Ids::risen))]
+pub fn risen(n: u32) -> u32
+    ensures { result ≡ risen n }
+{
+    if n == u32::MAX { n } else { n + 1 }
 }

@@ -12,7 +12,7 @@ mod text;
 mod writing;
 
 pub use fields::Fields;
-pub use ids::{Member, NoMemory, ProtoId, ProviderId, RingId, ViewId};
+pub use ids::{Member, NoMemory, ProtoId, ProviderId, RingId, ViewId, risen};
 pub use list::List;
 pub use mask::{Mask, NODES, is_node_number};
 pub use packet::{Head, Packet, is_group_kind, is_head, write_head, write_head2};
