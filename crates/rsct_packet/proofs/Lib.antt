@@ -5,3 +5,4 @@ pub mod HasLaws
 pub mod MaskLaws
 pub mod FieldLaws
 pub mod PacketLaws
+pub mod ListedLaws

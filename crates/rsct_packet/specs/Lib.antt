@@ -8,3 +8,4 @@ pub mod Format
 pub mod Fields
 pub mod Lists
 pub mod Packet
+pub mod Listed

@@ -4,6 +4,7 @@
 mod fields;
 mod ids;
 mod list;
+mod listed;
 mod mask;
 mod packet;
 mod providers;
@@ -14,6 +15,7 @@ mod writing;
 pub use fields::Fields;
 pub use ids::{Member, NoMemory, ProtoId, ProviderId, RingId, ViewId, risen};
 pub use list::List;
+pub use listed::{Item, Listed, read_listed};
 pub use mask::{Mask, NODES, is_node_number};
 pub use packet::{Head, Packet, is_group_kind, is_head, write_head, write_head2};
 pub use providers::{MAX_PROVIDERS, Providers, is_among, is_none_among};
