@@ -78,6 +78,6 @@ unfoldable pub outside : RingSettings → Mask → List ℕ
 outside s ms = filter (λ n. has_addr s n && not (has_node ms n)) node_numbers
 
 -- opens each word of this file, for a computation
-unfoldable pub addresses_open : Unit {0}
+unfoldable pub addresses_opens : Unit {0}
 unfolding addr_of has_addr is_higher higher_of lower_of highest lowest highest_of lowest_of next_lower next_higher some_of neighbour_in upstream_in node_or_none crown_prince_in is_highest all_have_addr outside
-addresses_open = tt
+addresses_opens = tt

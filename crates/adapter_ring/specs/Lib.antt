@@ -1,2 +1,4 @@
 pub mod Addresses
 pub mod Rings
+pub mod Network
+pub mod WorkedRows

@@ -251,6 +251,6 @@ ring_new net me inc settings =
     }
 
 -- opens each word of this file, for a computation
-unfoldable pub rings_open : Unit {0}
+unfoldable pub rings_opens : Unit {0}
 unfolding neighbour upstream crown_prince ring_leads is_shared patience ring_sent ring_sent_all ring_set ring_closed ring_gathering next_ring ring_numbered ring_gathers_on ring_gathers ring_alone heartbeat_sent ring_proclaimed ring_beats buries death_counts death_row death_told_to death_told ring_waited ring_waits ring_ages_of ring_ages ring_tick heartbeat_row answers_proclaim proclaim_row is_lower all_lower takes_join join_row may_promise ptc_row ack_row_of ack_row is_promised commit_row packet_row ring_row at_work ring_stepped ring_new
-rings_open = tt
+rings_opens = tt

@@ -7,6 +7,8 @@ mod packet_rows;
 mod ring;
 mod tick;
 mod work;
+mod worked_rows;
 
 pub use packet::{RingEvent, RingPacket, RingSend};
+pub use worked_rows::{one_of_three_stops, two_nodes_meet};
 pub use ring::{Gathering, Ring, RingOut, RingSet, RingSettings};

@@ -36,3 +36,8 @@ common_of a b = record { bits = bit_and a.bits b.bits }
 -- the nodes of a set, ascending
 unfoldable pub nodes_of : Mask → List ℕ
 nodes_of m = filter (has_node m) node_numbers
+
+-- opens each word of this file, for a computation
+unfoldable pub mask_opens : Unit {0}
+unfolding has_node with_node without_node union_of common_of nodes_of
+mask_opens = tt
