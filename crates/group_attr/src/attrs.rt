@@ -1,6 +1,7 @@
 //! What a group's attributes are.
 ghost use Rattle.std.specs.Prelude.{◌≡◌, ◌↔◌, IfOk, IsTrue};
 ghost use Rattle.std.specs.Result.{result_err};
+ghost use Rattle.group_attr.specs.Agree.{same_source, agree};
 ghost use Rattle.group_attr.specs.Attrs.{empty_attrs, is_bad_source, first_fault};
 
 use rsct_packet::{Name, NoMemory};
@@ -103,8 +104,10 @@ impl Attrs {
     }
 
     /// Are all fields equal?
+    #[tactic(auto, unfolding(crate::specs::Agree::agree))]
     pub fn agrees(&self, o: &Attrs) -> bool
-        ensures { IsTrue result ↔ (self.now ≡ o.now) }
+        ensures value { result ≡ agree self.now o.now }
+        ensures equal { IsTrue result ↔ (self.now ≡ o.now) }
     {
         self.phases == o.phases
             && self.batch == o.batch
@@ -129,7 +132,8 @@ fn is_bad_source(source: &Option<Name>, group: &[u8]) -> bool
 
 /// Are both the same source, or none?
 fn is_same_source(a: &Option<Name>, b: &Option<Name>) -> bool
-    ensures { IsTrue result ↔ (a.now ≡ b.now) }
+    ensures value { result ≡ same_source a.now b.now }
+    ensures equal { IsTrue result ↔ (a.now ≡ b.now) }
 {
     match (a, b) {
         (None, None) => true,

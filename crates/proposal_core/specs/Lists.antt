@@ -1,5 +1,5 @@
 -- Groups' lists: what they hold, and what entries make of them.
-use Rattle.std.specs.Prelude.{ℕ, Bool, true, false, ◌&&◌, ◌||◌, ◌+◌, ◌-◌, ◌++◌, List, [], ◌∷◌, drop, max, Option, Some, None, nat_le, nat_lt, if◌then◌else◌}
+use Rattle.std.specs.Prelude.{ℕ, Bool, true, false, ◌&&◌, ◌||◌, ◌+◌, ◌-◌, ◌++◌, List, [], ◌∷◌, drop, max, Option, Some, None, nat_le, nat_lt, slice_get, if◌then◌else◌}
 use Rattle.rsct_packet.specs.declared.ids.ViewId.{ViewId}
 use Rattle.rsct_packet.specs.Ids.{last_u32}
 use Rattle.proposal_core.specs.declared.entry.Entry.{Entry}
@@ -49,7 +49,11 @@ with_entry l v e =
 unfoldable pub forgotten : GroupView → ℕ → GroupView
 forgotten l place = if nat_le place l.len then record l { start = max l.start place; entries = drop (place - l.start) l.entries } else l
 
+-- the entry at a place: none below the start, and none from the length on
+unfoldable pub entry_at : GroupView → ℕ → Option Entry
+entry_at l place = if nat_lt place l.start then None else slice_get l.entries (place - l.start)
+
 -- opens each word of this file, for a computation
 unfoldable pub lists_opens : Unit {0}
-unfolding is_at_limit has_room entry_fits with_entry forgotten
+unfolding is_at_limit has_room entry_fits with_entry forgotten entry_at
 lists_opens = tt

@@ -1,5 +1,5 @@
 -- How many bytes an entry is spelled in.
-use Rattle.std.specs.Prelude.{ℕ, ◌+◌, ◌*◌, List, length, Option, Some, None}
+use Rattle.std.specs.Prelude.{ℕ, ◌+◌, ◌*◌, ◌^◌, List, length, Option, Some, None, nat_lt, if◌then◌else◌}
 use Rattle.group_attr.specs.declared.attrs.Attrs.{Attrs}
 use Rattle.proposal_core.specs.declared.proposal.Proposal.{Proposal}
 use Rattle.proposal_core.specs.declared.proposal.Proposal.TheVariants.{Join, Leave, Fail, Expel, State, Message, Attributes, Reflect}
@@ -45,6 +45,10 @@ entry_len (Phase c) = closed_len c
 entry_len (Approve c) = closed_len c
 entry_len (Reject c) = closed_len c
 entry_len (Late proto phase ps) = 17 + 11 * length ps
+
+-- a number where it is at most 4,294,967,295
+abbrev pub in_u32 : ℕ → Option ℕ
+in_u32 n = if nat_lt n (2 ^ 32) then Some n else None
 
 -- opens each word of this file, for a computation
 unfoldable pub sizes_opens : Unit {0}
