@@ -6,8 +6,11 @@ use Rattle.std.proofs.lemmas.Bool.{leb-true, le-leb}
 use Rattle.rsct_packet.specs.Text.{IsName, is_name_of, name_byte}
 use Rattle.rsct_packet.specs.Mask.{is_node}
 use Rattle.rsct_packet.specs.Format.{IsFormat}
-use Rattle.rsct_packet.specs.Fields.{IsNode, node_at, u8_text, IsNodeOrNone, node_or_none_at, bytes_at, bytes_text, AreShort, name_at, name_text, mask_at, mask_text, mask_of_bits, IsMask, view_at, view_text, view_of_parts, IsView, ring_at, ring_text, ring_of_parts, IsRing, provider_at, provider_text, provider_of_parts, IsProvider, proto_at, proto_text, proto_of_parts, IsProto, member_at, member_text, member_of_parts, IsMember}
-use Rattle.rsct_packet.proofs.FormatLaws.{both_format, made_format, guarded_format, fits_format, keyed_format, part_keyed, u8_format, u16_format, u32_format}
+use Rattle.rsct_packet.specs.Fields.{IsNode, node_at, u8_text, IsNodeOrNone, node_or_none_at, bytes_at, bytes_text, AreShort, name_at, name_text, mask_at, mask_text, mask_of_bits, IsMask, view_at, view_text, view_of_parts, IsView, ring_at, ring_text, ring_of_parts, IsRing, provider_at, provider_text, provider_of_parts, IsProvider, proto_at, proto_text, proto_of_parts, IsProto, member_at, member_text, member_of_parts, IsMember, providers_at, providers_text, IsProviders, some_providers_at, IsSomeProviders}
+use Rattle.rsct_packet.specs.declared.ids.ProviderId.{ProviderId}
+use Rattle.rsct_packet.specs.Providers.{AreProviders, are_providers, differ}
+use Rattle.std.specs.Int.{w8}
+use Rattle.rsct_packet.proofs.FormatLaws.{counted_format, wide8, both_format, made_format, guarded_format, fits_format, keyed_format, part_keyed, u8_format, u16_format, u32_format}
 
 pub and_true : (a b : Bool) → IsTrue (a && b) → IsTrue a × IsTrue b
 and_true true b h = (refl, h)
@@ -68,3 +71,19 @@ pub member_format : IsFormat member_at member_text IsMember
 unfolding member_at member_text
 member_format = fits_format IsMember (λ m h. record { node = h.0; inc = h.1 }) (λ m h. (h.node, h.inc))
     (made_format member_of_parts (λ m. (m.node, m.inc)) (λ a. refl) (λ b. refl) (both_format node_format u32_format))
+
+few_apart : (ps : List ProviderId) → IsTrue (are_providers ps) → AreProviders ps
+few_apart ps h = let p = and_true (nat_le (length ps) 64) (differ ps) h in record { few = leb-true (length ps) 64 p.0; apart = p.1 }
+
+apart_few : (ps : List ProviderId) → AreProviders ps → IsTrue (are_providers ps)
+apart_few ps h = both_true (nat_le (length ps) 64) (differ ps) (le-leb (length ps) 64 h.few) h.apart
+
+pub providers_format : IsFormat providers_at providers_text IsProviders
+unfolding providers_at providers_text
+providers_format = fits_format IsProviders (λ ps h. record { are = few_apart ps h.1; each = h.0.1 }) (λ ps h. let few = h.are.few in ((omega arith, h.each), apart_few ps h.are))
+    (guarded_format are_providers (counted_format w8 256 wide8 provider_format))
+
+pub some_providers_format : IsFormat some_providers_at providers_text IsSomeProviders
+unfolding some_providers_at
+some_providers_format = fits_format IsSomeProviders (λ ps h. record { are = h.0; some = leb-true 1 (length ps) h.1 }) (λ ps h. (h.are, le-leb 1 (length ps) h.some))
+    (guarded_format (λ ps. nat_le 1 (length ps)) providers_format)

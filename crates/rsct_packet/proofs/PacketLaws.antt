@@ -1,16 +1,15 @@
 -- The format of heads, and what `Packet::read` says.
-use Rattle.std.proofs.Common.{◌≡◌, ℕ, ◌^◌, ◌<◌, ◌≤◌, Bool, true, false, cond, List, [], ◌∷◌, ◌++◌, length, Option, Some, None, refl, sym, ap, subst, ◌∙◌, append_assoc, arith, eqb-true, eq-eqb}
-use Rattle.std.specs.Prelude.{IsTrue, ◌&&◌, ◌||◌, ◌==◌, nat_le, if◌then◌else◌, OnSome, IfSome}
+use Rattle.std.proofs.Common.{◌≡◌, ℕ, ◌<◌, ◌≤◌, Bool, true, false, cond, List, [], ◌++◌, length, Option, Some, None, refl, sym, ap, subst, ◌∙◌, arith, eqb-true, eq-eqb}
+use Rattle.std.specs.Prelude.{IsTrue, ◌&&◌, ◌||◌, ◌==◌, nat_le, if◌then◌else◌, IfSome}
 use Rattle.std.specs.Int.{w32}
 use Rattle.std.proofs.lemmas.Bool.{leb-true, le-leb}
-use Rattle.rsct_packet.specs.declared.packet.Head.{Head}
 use Rattle.rsct_packet.specs.declared.packet.Front.{Front}
 use Rattle.rsct_packet.specs.declared.packet.Packet.{Packet}
 use Rattle.std.specs.Option.{option_map}
-use Rattle.rsct_packet.specs.Reading.{◌>>=◌, number_at, guarded_at}
-use Rattle.rsct_packet.specs.Fields.{IsU32, u32_text}
-use Rattle.rsct_packet.specs.Format.{IsBytes, IsFormat, Takes}
-use Rattle.rsct_packet.specs.Packet.{is_kind, is_network, is_sender, is_level, is_group_kind, is_head, is_front, FrontParts, front_parts, front_of_parts, front_parts_at, front_at, front_text, IsFront, domain_at, domain_text, DomainFits, head_at, head_text, PacketView, packet_view, IsPacket, packet_text, packet_at}
+use Rattle.rsct_packet.specs.Reading.{number_at, guarded_at}
+use Rattle.rsct_packet.specs.Fields.{u32_text}
+use Rattle.rsct_packet.specs.Format.{IsBytes, IsFormat}
+use Rattle.rsct_packet.specs.Packet.{is_kind, is_network, is_sender, is_level, is_group_kind, is_head, is_front, FrontParts, front_parts, front_of_parts, front_at, front_text, IsFront, domain_at, domain_text, DomainFits, head_at, head_text, PacketView, packet_view, IsPacket, packet_text, packet_at}
 use Rattle.rsct_packet.proofs.FormatLaws.{bind_some, then_some, both_format, then_format, decoded_format, guarded_format, fits_format, nothing_format, u8_format, u16_format, u32_format}
 use Rattle.rsct_packet.proofs.FieldLaws.{and_true}
 

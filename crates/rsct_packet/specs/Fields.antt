@@ -1,5 +1,5 @@
 -- The fields of packets: what spells each, its one spelling, and which values have one.
-use Rattle.std.specs.Prelude.{ℕ, ◌<◌, ◌≤◌, ◌^◌, Bool, ◌&&◌, nat_le, List, ◌++◌, length, Option}
+use Rattle.std.specs.Prelude.{ℕ, ◌<◌, ◌≤◌, ◌^◌, nat_le, List, ◌++◌, length, Option}
 use Rattle.std.specs.Int.{w8, w16, w32, w64, to_be_bytes}
 use Rattle.rsct_packet.specs.declared.ids.ProviderId.{ProviderId}
 use Rattle.rsct_packet.specs.declared.ids.ViewId.{ViewId}
@@ -9,7 +9,9 @@ use Rattle.rsct_packet.specs.declared.ids.Member.{Member}
 use Rattle.rsct_packet.specs.declared.mask.Mask.{Mask}
 use Rattle.rsct_packet.specs.Mask.{is_node}
 use Rattle.rsct_packet.specs.Text.{is_name_of}
-use Rattle.rsct_packet.specs.Reading.{number_at, part_at, both_at, made_at, guarded_at, keyed_at}
+use Rattle.rsct_packet.specs.Providers.{AreProviders, are_providers}
+use Rattle.rsct_packet.specs.Format.{EachFits, counted_text}
+use Rattle.rsct_packet.specs.Reading.{number_at, part_at, both_at, made_at, guarded_at, keyed_at, counted_at}
 
 abbrev pub u8_text : ℕ → List ℕ
 u8_text n = to_be_bytes w8 n
@@ -162,3 +164,24 @@ member_text m = u8_text m.node ++ u32_text m.inc
 
 unfoldable pub member_at : List ℕ → Option (Member × List ℕ)
 member_at bytes = made_at member_of_parts (both_at node_at (number_at w32)) bytes
+
+-- at most 64 providers that differ
+
+pub record IsProviders (ps : List ProviderId) : Type 0 where
+  pub are : AreProviders ps
+  pub each : EachFits IsProvider ps
+
+unfoldable pub providers_text : List ProviderId → List ℕ
+providers_text ps = counted_text w8 provider_text ps
+
+unfoldable pub providers_at : List ℕ → Option (List ProviderId × List ℕ)
+providers_at bytes = guarded_at are_providers (counted_at w8 provider_at) bytes
+
+-- at least one of them
+
+unfoldable pub some_providers_at : List ℕ → Option (List ProviderId × List ℕ)
+some_providers_at bytes = guarded_at (λ ps. nat_le 1 (length ps)) providers_at bytes
+
+pub record IsSomeProviders (ps : List ProviderId) : Type 0 where
+  pub are : IsProviders ps
+  pub some : 1 ≤ length ps

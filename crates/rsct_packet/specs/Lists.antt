@@ -1,5 +1,5 @@
 -- Small words on lists and options, which compute.
-use Rattle.std.specs.Prelude.{ℕ, Bool, true, false, List, [], ◌∷◌, Option, Some, None}
+use Rattle.std.specs.Prelude.{Bool, true, false, List, [], ◌∷◌, Option, Some, None}
 
 abbrev pub is_empty : {A : Type 0} → List A → Bool
 is_empty [] = true

@@ -1,7 +1,6 @@
 -- The packet whole: its head and its body.
-use Rattle.std.specs.Prelude.{◌≡◌, ℕ, ◌<◌, ◌≤◌, ◌^◌, Bool, true, false, ◌&&◌, ◌||◌, ◌==◌, nat_le, IsTrue, List, [], ◌++◌, length, Option, Some, None, if◌then◌else◌}
+use Rattle.std.specs.Prelude.{◌≡◌, ℕ, ◌≤◌, Bool, true, false, ◌&&◌, ◌||◌, ◌==◌, nat_le, IsTrue, List, [], ◌++◌, length, Option, Some, None, if◌then◌else◌}
 use Rattle.std.specs.Int.{w8, w16, w32}
-use Rattle.std.specs.Borrow.{Bor}
 use Rattle.rsct_packet.specs.declared.packet.Head.{Head}
 use Rattle.rsct_packet.specs.declared.packet.Front.{Front}
 use Rattle.rsct_packet.specs.declared.packet.Packet.{Packet}

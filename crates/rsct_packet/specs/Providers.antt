@@ -1,5 +1,5 @@
 -- Lists of providers that differ.
-use Rattle.std.specs.Prelude.{Bool, true, not, ◌==◌, ◌&&◌, ◌≤◌, IsTrue, List, [], ◌∷◌, length, filter}
+use Rattle.std.specs.Prelude.{Bool, true, not, ◌==◌, ◌&&◌, ◌≤◌, IsTrue, nat_le, List, [], ◌∷◌, length, filter}
 use Rattle.std.specs.List.{list_any, list_all}
 use Rattle.rsct_packet.specs.declared.ids.ProviderId.{ProviderId}
 
@@ -28,3 +28,7 @@ pub record AreProviders (ps : List ProviderId) : Type 0 where
 -- without each of ps
 abbrev pub without_all : List ProviderId → List ProviderId → List ProviderId
 without_all xs ps = filter (λ q. not (among ps q)) xs
+
+-- the same as a test
+abbrev pub are_providers : List ProviderId → Bool
+are_providers ps = nat_le (length ps) 64 && differ ps

@@ -15,7 +15,10 @@ mod writing;
 pub use fields::Fields;
 pub use ids::{Member, NoMemory, ProtoId, ProviderId, RingId, ViewId, risen};
 pub use list::List;
-pub use listed::{Item, Listed, read_listed};
+pub use listed::{
+    Item, Listed, put_list, put_providers, read_list, read_listed, read_providers,
+    read_some_providers,
+};
 pub use mask::{Mask, NODES, is_node_number};
 pub use packet::{Head, Packet, is_group_kind, is_head, write_head, write_head2};
 pub use providers::{MAX_PROVIDERS, Providers, is_among, is_none_among};

@@ -1,40 +1,66 @@
 //! Lists that stand in a datagram.
-ghost use Rattle.std.specs.Prelude.{◌≡◌, ◌∷◌, ◌↔◌, [], List as Listing, ℕ, Option, length, map, IfNone, IfSome, IfOk, IsTrue};
-ghost use Rattle.rsct_packet.specs.Reading.{Gives, many_at};
+ghost use Rattle.std.specs.Prelude.{◌≡◌, ◌∷◌, ◌↔◌, [], List as Listing, ℕ, Option, length, map, IfNone, IfSome, IfOk, OnOk, OnErr, IsTrue, ◌++◌, ◌≤◌, ◌<◌, ◌^◌, take};
+ghost use Rattle.rsct_packet.specs.Fields.{IsNode, providers_at, some_providers_at, providers_text, provider_at, provider_text, member_at, member_text};
+ghost use Rattle.rsct_packet.specs.Format.{EachFits, counted_text};
+ghost use Rattle.std.specs.Prelude.{flat_map};
+ghost use Rattle.std.specs.Int.{w8, w16, w32};
+ghost use Rattle.rsct_packet.specs.Reading.{Gives, many_at, counted_at};
 ghost use Rattle.rsct_packet.specs.Listed.{ascending};
-ghost use Rattle.rsct_packet.specs.Providers.{among, differ};
+ghost use Rattle.rsct_packet.specs.Providers.{among, differ, are_providers};
 
 use crate::ids::{Member, NoMemory, ProviderId};
 use crate::list::List;
-use crate::reading::{read_member, read_provider};
+use crate::reading::{read_member, read_provider, read_u8};
+use crate::writing::{put_member, put_provider, put_u8, put_u16, put_u32};
 use std::alloc::Global;
 use std::marker::{Model, PhantomData};
 
-/// What lists hold: values that can be read off the front of bytes.
+/// What lists hold: values that are read off the front of bytes, and written.
 pub trait Item: Sized + Drop {
     ghost read_at: { Listing ℕ → Option (Self × Listing ℕ) };
 
+    ghost text: { Self → Listing ℕ };
+
+    ghost can_put: { Self → Type 0 };
+
     fn read(b: &[u8]) -> Option<(Self, &[u8])>
         ensures { Gives result (read_at b.now) };
+
+    fn put(&self, out: &mut Vec<u8>) -> Result<(), NoMemory>
+        requires { can_put self.now }
+        ensures ok { OnOk result (out.new.items ≡ out.old.items ++ text self.now) }
+        ensures err { OnErr result (out.new.items ≡ out.old.items) };
 }
 
 impl Item for ProviderId {
-    ghost use Rattle.rsct_packet.specs.Fields.{provider_at};
-
     ghost read_at = { provider_at };
+
+    ghost text = { provider_text };
+
+    ghost can_put = { λ x. IsNode x.node };
 
     fn read(b: &[u8]) -> Option<(ProviderId, &[u8])> {
         read_provider(b)
     }
+
+    fn put(&self, out: &mut Vec<u8>) -> Result<(), NoMemory> {
+        put_provider(out, *self)
+    }
 }
 
 impl Item for Member {
-    ghost use Rattle.rsct_packet.specs.Fields.{member_at};
-
     ghost read_at = { member_at };
+
+    ghost text = { member_text };
+
+    ghost can_put = { λ x. IsNode x.node };
 
     fn read(b: &[u8]) -> Option<(Member, &[u8])> {
         read_member(b)
+    }
+
+    fn put(&self, out: &mut Vec<u8>) -> Result<(), NoMemory> {
+        put_member(out, *self)
     }
 }
 
@@ -125,4 +151,107 @@ impl<'a, T: Item> Listed<'a, T> {
         }
         Ok(out)
     }
+}
+
+/// All of them, one after another. Where memory has run out, what was there before still stands in front.
+fn put_each<T: Item>(out: &mut Vec<u8>, xs: &[T]) -> Result<(), NoMemory>
+    requires { EachFits T.can_put xs.now }
+    ensures ok { OnOk result (out.new.items ≡ out.old.items ++ flat_map T.text xs.now) }
+    ensures err { OnErr result (take (length out.old.items) out.new.items ≡ out.old.items) }
+{
+    for x in xs {
+        x.put(out)?;
+    }
+    Ok(())
+}
+
+/// A count of one byte and so many items, left where they stand.
+pub fn read_list<'a, T: Item>(b: &'a [u8]) -> Option<(Listed<'a, T>, &'a [u8])>
+    ensures { Gives result (counted_at w8 T.read_at b.now) }
+{
+    let (n, b) = read_u8(b)?;
+    read_listed(n as usize, b)
+}
+
+/// A count of one byte and the items.
+pub fn put_list<T: Item>(out: &mut Vec<u8>, xs: &[T]) -> Result<(), NoMemory>
+    requires few { length xs.now < 256 }
+    requires each { EachFits T.can_put xs.now }
+    ensures ok { OnOk result (out.new.items ≡ out.old.items ++ counted_text w8 T.text xs.now) }
+    ensures err { OnErr result (out.new.items ≡ out.old.items) }
+{
+    let before = out.len();
+    put_u8(out, xs.len() as u8)?;
+    if put_each(out, xs).is_err() {
+        out.truncate(before);
+        return Err(NoMemory);
+    }
+    Ok(())
+}
+
+/// Does each differ from those after it?
+fn are_apart(ps: &Listed<ProviderId>) -> bool
+    ensures { result ≡ differ ps.now }
+{
+    let mut left = ps.copy();
+    while let Some(p) = left.take_first() {
+        if is_listed(&left, p) {
+            return false;
+        }
+    }
+    true
+}
+
+/// Is it one of them?
+fn is_listed(ps: &Listed<ProviderId>, p: ProviderId) -> bool
+    ensures { result ≡ among ps.now p }
+{
+    let mut left = ps.copy();
+    while let Some(q) = left.take_first() {
+        if q == p {
+            return true;
+        }
+    }
+    false
+}
+
+fn are_providers(ps: &Listed<ProviderId>) -> bool
+    ensures { result ≡ are_providers ps.now }
+{
+    ps.len() <= 64 && are_apart(ps)
+}
+
+/// At most 64 providers that differ, left where they stand.
+#[tactic(auto, unfolding(crate::specs::Fields::providers_at))]
+pub fn read_providers(b: &[u8]) -> Option<(Listed<ProviderId>, &[u8])>
+    ensures { Gives result (providers_at b.now) }
+{
+    let (ps, b) = read_list::<ProviderId>(b)?;
+    if !are_providers(&ps) {
+        return None;
+    }
+    Some((ps, b))
+}
+
+/// 1 to 64 providers that differ, left where they stand.
+#[tactic(auto, unfolding(crate::specs::Fields::some_providers_at))]
+pub fn read_some_providers(b: &[u8]) -> Option<(Listed<ProviderId>, &[u8])>
+    ensures { Gives result (some_providers_at b.now) }
+{
+    let (ps, b) = read_providers(b)?;
+    if ps.len() < 1 {
+        return None;
+    }
+    Some((ps, b))
+}
+
+/// A count of one byte and the providers.
+#[tactic(auto, unfolding(crate::specs::Fields::providers_text))]
+pub fn put_providers(out: &mut Vec<u8>, ps: &[ProviderId]) -> Result<(), NoMemory>
+    requires few { length ps.now < 256 }
+    requires each { EachFits (λ p. IsNode p.node) ps.now }
+    ensures ok { OnOk result (out.new.items ≡ out.old.items ++ providers_text ps.now) }
+    ensures err { OnErr result (out.new.items ≡ out.old.items) }
+{
+    put_list(out, ps)
 }

@@ -4,6 +4,7 @@ ghost use Rattle.std.specs.List.{list_any, list_all};
 ghost use Rattle.rsct_packet.specs.Providers.{same_provider, among, none_among, AreProviders, without, without_all};
 
 use crate::ids::{NoMemory, ProviderId};
+use crate::listed::Listed;
 use std::alloc::Global;
 use std::marker::Model;
 
@@ -91,6 +92,17 @@ impl Providers {
         let mut items = Vec::new(alloc);
         items.push(p)?;
         Ok(Providers { items })
+    }
+
+    /// Those that a datagram lists.
+    pub fn of_listed(alloc: Global, ps: &Listed<ProviderId>) -> Result<Providers, NoMemory>
+        requires { AreProviders ps.now }
+        ensures { IfOk result (λ v. v ≡ ps.now) }
+    {
+        let list = ps.own(alloc)?;
+        Ok(Providers {
+            items: list.into_items(),
+        })
     }
 
     pub fn len(&self) -> usize
