@@ -1,2 +1,3 @@
-pub mod Attrs
 pub mod Agree
+pub mod Attrs
+pub mod Codec

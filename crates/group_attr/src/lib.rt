@@ -2,5 +2,7 @@
 #![tactic(auto)]
 
 mod attrs;
+mod codec;
 
 pub use attrs::{AttrFault, Attrs, Batch, DefaultVote, Phases};
+pub use codec::{AttrsRef, read_attrs};

@@ -23,7 +23,7 @@ pub use mask::{Mask, NODES, is_node_number};
 pub use packet::{Head, Packet, is_group_kind, is_head, write_head, write_head2};
 pub use providers::{MAX_PROVIDERS, Providers, is_among, is_none_among};
 pub use reading::{
-    read_bytes, read_mask, read_member, read_name, read_node, read_node_or_none, read_part,
+    known, read_bytes, read_mask, read_member, read_name, read_node, read_node_or_none, read_part,
     read_proto, read_provider, read_ring, read_u8, read_u16, read_u32, read_u64, read_view,
 };
 pub use text::{MAX_NAME, MAX_TEXT, Name, Text, is_name};
