@@ -1,5 +1,5 @@
 -- The calls of clients: the checks in their order, and what a taken call makes of the state.
-use Rattle.std.specs.Prelude.{◌≡◌, ℕ, Bool, true, false, not, ◌==◌, ◌&&◌, ◌||◌, ◌+◌, ◌++◌, List, [], ◌∷◌, length, map, filter, find, Option, Some, None, Result, Ok, Err, nat_le, nat_lt, is_none, is_some, if◌then◌else◌, remove}
+use Rattle.std.specs.Prelude.{◌≡◌, ℕ, Bool, true, false, not, ◌==◌, ◌&&◌, ◌||◌, ◌+◌, ◌++◌, List, [], ◌∷◌, length, map, filter, find, Option, Some, None, Result, Ok, Err, nat_le, nat_lt, if◌then◌else◌, remove}
 use Rattle.std.specs.List.{list_any}
 use Rattle.std.specs.Str.{bytes_eq}
 use Rattle.rsct_packet.specs.declared.ids.ProviderId.{ProviderId}
@@ -66,8 +66,7 @@ Answers (Err f) old new r = (new ≡ old) × (¬ (f ≡ fault.NoMemory) → r �
 -- checks
 
 abbrev pub is_empty : {A : Type 0} → List A → Bool
-is_empty [] = true
-is_empty (x ∷ xs) = false
+is_empty xs = length xs == 0
 
 unfoldable pub no_session_fault : SessionState → Option GsFault
 no_session_fault s = fault_if (is_empty s.sessions) fault.NoInit

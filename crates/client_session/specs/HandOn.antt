@@ -12,7 +12,7 @@ use Rattle.proposal_core.specs.declared.proposal.Proposal.{Proposal}
 use Rattle.proposal_core.specs.declared.proposal.Proposal.TheVariants.{Join, Leave, Fail, Expel, State, Message, Attributes, Reflect}
 use Rattle.proposal_core.specs.declared.group_state.GroupState.{GroupState}
 use Rattle.proposal_core.specs.declared.group_state.Running.{Running}
-use Rattle.proposal_core.specs.Fold.{present, joins_of, voters}
+use Rattle.proposal_core.specs.Fold.{joiners_in, joins_of, voters}
 use Rattle.subscribe_core.specs.declared.subs.SubToken.{SubToken}
 use Rattle.client_callbacks.specs.declared.ballot.Filled.{Filled}
 use Rattle.client_callbacks.specs.declared.votes.VoteItem.{VoteItem}
@@ -67,7 +67,7 @@ beginners s g e = hearers_in s g false (brought_by e)
 
 -- members before the entry, running joiners before it, new ones
 unfoldable pub hearers : SessionState → List ℕ → GroupState → Entry → List ProviderId
-hearers s g before e = hearers_in s g true (present before) ++ beginners s g e
+hearers s g before e = hearers_in s g true before.members ++ hearers_in s g true (joiners_in before.running) ++ beginners s g e
 
 abbrev pub taking_part : Provider → Provider
 taking_part x = record x { takes_part = true }
@@ -150,9 +150,13 @@ requests_after s (Approve c) = s
 requests_after s (Reject c) = s
 requests_after s (Late proto phase ps) = s
 
+-- a member or a running joiner
+unfoldable pub is_present : GroupState → ProviderId → Bool
+is_present after p = among after.members p || among (joiners_in after.running) p
+
 -- those of ps whom the entry removes, or whose join it rejects
 unfoldable pub removed_from : GroupState → List ProviderId → List ProviderId
-removed_from after ps = filter (λ p. not (among (present after) p)) ps
+removed_from after ps = filter (λ p. not (is_present after p)) ps
 
 -- hand on
 
@@ -237,5 +241,5 @@ telling_taken s p r y = if takes_telling s p r y then told_of s p y else s
 
 -- opens each word of this file, for a computation
 unfoldable pub handon_opens : Unit {0}
-unfolding kept_ended kept_after hearers_in beginners hearers part_taken asks opened_after phases_opened cast_of casts_kept proposal_begun requests_after removed_from casts_out handed_on notified scripted takes_telling told_of telling_taken
+unfolding kept_ended kept_after hearers_in beginners hearers part_taken asks opened_after phases_opened cast_of casts_kept proposal_begun requests_after is_present removed_from casts_out handed_on notified scripted takes_telling told_of telling_taken
 handon_opens = tt

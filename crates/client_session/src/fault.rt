@@ -1,5 +1,6 @@
 //! Why a session call is refused.
 use group_attr::AttrFault;
+use rsct_packet::NoMemory;
 
 /// The first bad parameter of a call.
 #[derive(Clone, Copy, Debug, PartialEq, Eq)]
@@ -28,4 +29,15 @@ pub enum GsFault {
     SessionsFull(u32),
     Spent,
     NoMemory,
+}
+
+impl From<NoMemory> for GsFault {
+    ghost use Rattle.std.specs.Prelude.{◌≡◌};
+    ghost use Rattle.client_session.specs.declared.fault.GsFault.TheVariants.{NoMemory};
+
+    ghost from_gives = { λ _ f. f ≡ NoMemory };
+
+    fn from(_e: NoMemory) -> GsFault {
+        GsFault::NoMemory
+    }
 }

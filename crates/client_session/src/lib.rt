@@ -1,8 +1,11 @@
 //! Sessions of clients: what they may ask, what they are handed, and what they answer.
 #![tactic(auto)]
 
+mod calls;
 mod casts;
+mod checks;
 mod fault;
+mod locals;
 mod sessions;
 mod state;
 
@@ -10,4 +13,5 @@ pub use casts::{Cast, Casts};
 pub use client_callbacks::{Told, Why};
 pub use fault::{Field, GsFault};
 pub use sessions::Sessions;
+pub use locals::Locals;
 pub use state::{KeptBallot, MemberToken, OpenPhase, Provider, Request, Session, SessionState};

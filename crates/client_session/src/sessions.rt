@@ -2,6 +2,7 @@
 ghost use Rattle.std.specs.Prelude.{◌≡◌, []};
 ghost use Rattle.client_session.specs.State.{no_sessions};
 
+use crate::locals::Locals;
 use crate::state::SessionState;
 use client_callbacks::Callbacks;
 use rsct_packet::List;
@@ -40,7 +41,7 @@ impl<C: Callbacks> Sessions<C> {
                 last_request: 0,
                 last_client: 0,
                 sessions: List::new(alloc),
-                providers: List::new(alloc),
+                providers: Locals::new(alloc),
                 requests: List::new(alloc),
                 subs: Subs::new(alloc),
                 kept: List::new(alloc),

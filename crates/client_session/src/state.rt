@@ -1,5 +1,6 @@
 //! What a node has of its clients, apart from the clients themselves.
 use client_callbacks::Ballot;
+use crate::locals::Locals;
 use group_attr::Phases;
 use proposal_core::Proposal;
 use rsct_packet::{List, Name, ProtoId, ProviderId};
@@ -67,7 +68,7 @@ pub struct SessionState {
     pub last_request: u32,
     pub last_client: u32,
     pub sessions: List<Session>,
-    pub providers: List<Provider>,
+    pub providers: Locals,
     pub requests: List<Request>,
     pub subs: Subs,
     pub kept: List<KeptBallot>,

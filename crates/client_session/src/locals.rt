@@ -1,0 +1,94 @@
+//! The table of local providers.
+ghost use Rattle.std.specs.Prelude.{◌≡◌, ◌++◌, ◌∷◌, ◌<◌, [], length, not, find, filter, take, OnOk, OnErr, IfSome, IfNone, Some, None, option_copied, slice_index_or};
+ghost use Rattle.rsct_packet.specs.Providers.{among};
+ghost use Rattle.rsct_packet.specs.Search.{place_where, edit_where};
+ghost use Rattle.client_session.specs.State.{is_provider};
+
+use crate::state::Provider;
+use rsct_packet::{NoMemory, ProviderId, is_among};
+use std::alloc::Global;
+use std::marker::Model;
+
+/// The providers of a node's clients, in the order of their joins.
+#[derive(Drop)]
+pub struct Locals {
+    rows: Vec<Provider>,
+}
+
+impl Model for Locals {
+    ghost use Rattle.std.specs.Prelude.{List};
+    ghost use Rattle.client_session.specs.declared.state.Provider.{Provider};
+
+    ghost Value = { List Provider };
+
+    ghost view = { λ l. l.rows.items };
+}
+
+#[tactic(auto, using(rsct_packet::proofs::SearchLaws::place_begins, rsct_packet::proofs::SearchLaws::place_goes_on, rsct_packet::proofs::SearchLaws::place_found, rsct_packet::proofs::SearchLaws::place_missing))]
+fn place(rows: &[Provider], p: ProviderId) -> Option<usize>
+    ensures { result ≡ place_where (is_provider p) rows.now }
+{
+    for (i, row) in rows.iter().enumerate() {
+        if row.p == p {
+            return Some(i);
+        }
+    }
+    None
+}
+
+fn keep_all_but(rows: &mut Vec<Provider>, ps: &[ProviderId])
+    ensures { rows.new.items ≡ filter (λ x. not (among ps.now x.p)) rows.old.items }
+{
+    rows.retain(|x| !is_among(ps, x.p));
+}
+
+impl Locals {
+    pub fn new(alloc: Global) -> Locals
+        ensures { result ≡ [] }
+    {
+        Locals {
+            rows: Vec::new(alloc),
+        }
+    }
+
+    pub fn as_slice(&self) -> &[Provider]
+        ensures { result.now ≡ self.now }
+    {
+        self.rows.as_slice()
+    }
+
+    pub fn len(&self) -> usize
+        ensures { result ≡ length self.now }
+    {
+        self.rows.len()
+    }
+
+    /// The provider of this id.
+    pub fn get(&self, p: ProviderId) -> Option<&Provider>
+        ensures { option_copied result ≡ find (is_provider p) self.now }
+    {
+        self.rows.iter().find(|x| x.p == p)
+    }
+
+    pub fn push(&mut self, x: Provider) -> Result<(), NoMemory>
+        ensures ok { OnOk result (self.new ≡ self.old ++ x ∷ []) }
+        ensures err { OnErr result (self.new ≡ self.old) }
+    {
+        self.rows.push(x)?;
+        Ok(())
+    }
+
+    /// Keeps the first `n`.
+    pub fn truncate(&mut self, n: usize)
+        ensures { self.new ≡ take n self.old }
+    {
+        self.rows.truncate(n);
+    }
+
+    /// Takes these off.
+    pub fn retain_not(&mut self, ps: &[ProviderId])
+        ensures { self.new ≡ filter (λ x. not (among ps.now x.p)) self.old }
+    {
+        keep_all_but(&mut self.rows, ps);
+    }
+}
