@@ -176,7 +176,7 @@ impl SessionState {
         let Some(x) = self.member(m) else {
             return Err(GsFault::BadMemberToken);
         };
-        self.check_value(Some(value))?;
+        self.check_bytes(value)?;
         self.check_ask(x.p)?;
         let p = x.p;
         let group = x.group.copy(alloc)?;

@@ -124,19 +124,26 @@ impl SessionState {
         Ok(())
     }
 
-    /// The value is within the limit of the level.
+    /// The bytes of a value are within the limit of the level.
+    #[tactic(auto, unfolding(crate::specs::Calls::value_fault))]
+    pub fn check_bytes(&self, b: &[u8]) -> Result<(), GsFault>
+        ensures fault { result_err result ≡ value_fault self.now (Some b.now) }
+        ensures short { IfOk result (λ _. length b.now < 2 ^ 16) }
+    {
+        if b.len() > value_limit(self.level) {
+            return Err(GsFault::BadParameter(Field::Value));
+        }
+        Ok(())
+    }
+
+    /// A value is within the limit of the level.
     #[tactic(auto, unfolding(crate::specs::Calls::value_fault))]
     pub fn check_value(&self, value: Option<&[u8]>) -> Result<(), GsFault>
         ensures { result_err result ≡ value_fault self.now (option_copied value.entry) }
     {
         match value {
             None => Ok(()),
-            Some(b) => {
-                if b.len() > value_limit(self.level) {
-                    return Err(GsFault::BadParameter(Field::Value));
-                }
-                Ok(())
-            }
+            Some(b) => self.check_bytes(b),
         }
     }
 

@@ -105,6 +105,16 @@ impl Providers {
         })
     }
 
+    /// The list of these.
+    pub fn of(alloc: Global, ps: &[ProviderId]) -> Result<Providers, NoMemory>
+        requires { AreProviders ps.now }
+        ensures { IfOk result (λ v. v ≡ ps.now) }
+    {
+        Ok(Providers {
+            items: Vec::from_slice(alloc, ps)?,
+        })
+    }
+
     pub fn len(&self) -> usize
         ensures value { result ≡ length self.now }
         ensures few { result ≤ 64 }
