@@ -6,6 +6,7 @@ mod ids;
 mod list;
 mod listed;
 mod mask;
+mod optional;
 mod packet;
 mod providers;
 mod reading;
@@ -20,6 +21,10 @@ pub use listed::{
     read_some_providers,
 };
 pub use mask::{Mask, NODES, is_node_number};
+pub use optional::{
+    put_optional_bytes, put_optional_proto, put_optional_u32, read_optional_bytes,
+    read_optional_proto, read_optional_u32,
+};
 pub use packet::{Head, Packet, is_group_kind, is_head, write_head, write_head2};
 pub use providers::{MAX_PROVIDERS, Providers, is_among, is_none_among};
 pub use reading::{
