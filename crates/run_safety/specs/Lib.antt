@@ -3,3 +3,11 @@ pub mod Stays
 pub mod SafeLists
 pub mod SafeHeard
 pub mod Safe
+pub mod ViewOrder
+pub mod Group
+pub mod GroupLists
+pub mod Bases
+pub mod Requests
+pub mod Moves
+pub mod GroupLaws
+pub mod Always

@@ -1,2 +1,82 @@
-//! What a safe run is, and that every run is safe.
+//! What a safe run is, and that whatever happens to a group, its life is safe.
+//!
+//! `specs/Safe` says what a safe run is, over the records of all nodes. `specs/Moves` says all that can happen to
+//! one group; each function here is a law over every list of such moves, in whatever order they come.
 #![tactic(auto)]
+
+ghost use Rattle.run_safety.specs.Always.{AlwaysOneList, AlwaysInOrder, AlwaysRising, AlwaysSameMembers, AlwaysOneInstall, AlwaysOneBase, AlwaysTogether, AlwaysCut, AlwaysFold, AlwaysBase, AlwaysLed, AlwaysOnce, AlwaysStable};
+
+/// Two entries that nodes put at one place of one view's list are the same.
+#[tactic(auto, using(crate::proofs::Lives::always_one_list))]
+pub fn one_list()
+    ensures { AlwaysOneList }
+{}
+
+/// The places of a node's entries of one view are 0, 1, 2 and on.
+#[tactic(auto, using(crate::proofs::Lives::always_in_order))]
+pub fn places_in_order()
+    ensures { AlwaysInOrder }
+{}
+
+/// The views that a node enters rise as long as its incarnation lasts.
+#[tactic(auto, using(crate::proofs::Lives::always_rising))]
+pub fn views_rise()
+    ensures { AlwaysRising }
+{}
+
+/// All nodes that enter a view name the same members, and each is one of them.
+pub fn same_members()
+    ensures { AlwaysSameMembers }
+{}
+
+/// There is one install of a view.
+#[tactic(auto, using(crate::proofs::Lives::always_one_install))]
+pub fn one_install()
+    ensures { AlwaysOneInstall }
+{}
+
+/// A view has one base, and each node that enters the view notes it.
+#[tactic(auto, using(crate::proofs::Lives::always_one_base))]
+pub fn one_base()
+    ensures { AlwaysOneBase }
+{}
+
+/// Nodes that pass from one view into the same next one leave the first with equal lists.
+pub fn passing_together()
+    ensures { AlwaysTogether }
+{}
+
+/// Such a list is as long as the longest that a member of the next view held when it left.
+pub fn cut()
+    ensures { AlwaysCut }
+{}
+
+/// A provider hears each entry with the members and the value that the entries up to it make of the view's base.
+pub fn heard_is_fold()
+    ensures { AlwaysFold }
+{}
+
+/// The base of a view is that of the side with the most live providers, cut where that side's list ends.
+#[tactic(auto, using(crate::proofs::Lives::always_base))]
+pub fn base_of_install()
+    ensures { AlwaysBase }
+{}
+
+/// The first put of each place is of the view's leader, which is that of its base where there is one.
+#[tactic(auto, using(crate::proofs::Lives::always_led))]
+pub fn leader_puts_first()
+    ensures { AlwaysLed }
+{}
+
+/// At its own node a request begins at most once over all views, after it was asked and not after a refusal was told.
+#[tactic(auto, using(crate::proofs::Lives::always_once))]
+pub fn begun_once()
+    ensures { AlwaysOnce }
+{}
+
+/// What is stable every member of the view has put, so a list that keeps the entries from there on lacks none of
+/// theirs.
+#[tactic(auto, using(crate::proofs::Lives::always_stable))]
+pub fn stable_is_held()
+    ensures { AlwaysStable }
+{}
