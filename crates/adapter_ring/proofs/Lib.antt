@@ -1,0 +1,4 @@
+pub mod AddressLaws
+pub mod Parts
+pub mod Works
+pub mod Runs

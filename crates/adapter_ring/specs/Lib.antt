@@ -1,4 +1,5 @@
 pub mod Addresses
 pub mod Rings
 pub mod Network
+pub mod Agreement
 pub mod WorkedRows

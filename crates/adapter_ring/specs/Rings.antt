@@ -1,5 +1,5 @@
 -- The machine of one adapter's ring.
-use Rattle.std.specs.Prelude.{ℕ, Bool, true, false, not, ◌==◌, ◌&&◌, ◌||◌, ◌+◌, ◌*◌, ◌++◌, List, [], ◌∷◌, map, count_by, filter, Option, Some, None, nat_lt, nat_le, is_none}
+use Rattle.std.specs.Prelude.{ℕ, Bool, true, false, not, ◌==◌, ◌&&◌, ◌||◌, ◌+◌, ◌*◌, ◌++◌, List, [], ◌∷◌, map, count_by, Option, Some, None, nat_le, is_none}
 use Rattle.std.specs.List.{list_all}
 use Rattle.rsct_packet.specs.declared.ids.RingId.{RingId}
 use Rattle.rsct_packet.specs.declared.mask.Mask.{Mask}
@@ -9,11 +9,9 @@ use Rattle.ring_commit.specs.declared.gather.Gather.{Gather}
 use Rattle.ring_commit.specs.Gather.{gather_opened, gather_acked, all_acked}
 use Rattle.adapter_ring.specs.declared.packet.RingPacket.{RingPacket}
 use Rattle.adapter_ring.specs.declared.packet.RingPacket.TheVariants.{Heartbeat, Proclaim, Join, Ptc, PtcAck, Commit, Death}
-use Rattle.adapter_ring.specs.declared.packet.RingSend.{RingSend}
 use Rattle.adapter_ring.specs.declared.packet.RingEvent.{RingEvent}
 use Rattle.adapter_ring.specs.declared.packet.RingEvent.TheVariants.{Tick, Packet}
 use Rattle.adapter_ring.specs.declared.ring.Ring.{Ring}
-use Rattle.adapter_ring.specs.declared.ring.RingSet.{RingSet}
 use Rattle.adapter_ring.specs.declared.ring.RingSettings.{RingSettings}
 use Rattle.adapter_ring.specs.declared.ring.Gathering.{Gathering}
 use Rattle.adapter_ring.specs.declared.work.RingWork.{RingWork}

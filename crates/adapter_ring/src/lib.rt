@@ -2,6 +2,7 @@
 #![tactic(auto)]
 
 mod addresses;
+mod agreement;
 mod packet;
 mod packet_rows;
 mod ring;
@@ -9,6 +10,7 @@ mod tick;
 mod work;
 mod worked_rows;
 
+pub use agreement::rings_always_agree;
 pub use packet::{RingEvent, RingPacket, RingSend};
-pub use worked_rows::{one_of_three_stops, two_nodes_meet};
 pub use ring::{Gathering, Ring, RingOut, RingSet, RingSettings};
+pub use worked_rows::{one_of_three_stops, two_nodes_meet};
