@@ -4,5 +4,5 @@
 mod attrs;
 mod codec;
 
-pub use attrs::{AttrFault, Attrs, Batch, DefaultVote, Phases};
+pub use attrs::{AttrFault, Attrs, Batch, DefaultVote, HOST_MEMBERSHIP, MAX_LIMIT, Phases};
 pub use codec::{AttrsRef, read_attrs};
