@@ -1,9 +1,10 @@
 -- The subscriptions of a node, and which of them a change of a group is noted to.
-use Rattle.std.specs.Prelude.{ℕ, Bool, true, false, not, ◌==◌, ◌&&◌, ◌+◌, ◌++◌, List, [], ◌∷◌, map, filter, if◌then◌else◌}
+use Rattle.std.specs.Prelude.{ℕ, Bool, not, ◌==◌, ◌&&◌, ◌+◌, ◌++◌, List, [], ◌∷◌, map, filter, if◌then◌else◌}
 use Rattle.std.specs.List.{list_any}
 use Rattle.std.specs.Str.{bytes_eq}
 use Rattle.std.specs.Cmp.Lexicographic.{pointwise}
 use Rattle.rsct_packet.specs.Providers.{same_provider}
+use Rattle.group_attr.specs.Attrs.{host_membership}
 use Rattle.proposal_core.specs.declared.group_state.GroupState.{GroupState}
 use Rattle.subscribe_core.specs.declared.subs.ClientToken.{ClientToken}
 use Rattle.subscribe_core.specs.declared.subs.SubToken.{SubToken}
@@ -26,12 +27,16 @@ is_of_client c x = x.client.n == c.n
 abbrev pub is_of_group : List ℕ → Subscription → Bool
 is_of_group g x = bytes_eq x.group g
 
+-- the client's subscription to the group
+abbrev pub is_of : ClientToken → List ℕ → Subscription → Bool
+is_of c g x = is_of_client c x && is_of_group g x
+
 abbrev pub is_live : SubToken → SubsView → Bool
 is_live t s = list_any (has_token t) s.live
 
 -- the client has a live subscription to the group
 abbrev pub is_subscribed : ClientToken → List ℕ → SubsView → Bool
-is_subscribed c g s = list_any (λ x. is_of_client c x && is_of_group g x) s.live
+is_subscribed c g s = list_any (is_of c g) s.live
 
 -- tokens count from 1
 abbrev pub next_token : SubsView → SubToken
@@ -47,9 +52,19 @@ unsubscribed t s = record s { live = filter (λ x. not (has_token t x)) s.live }
 abbrev pub client_ended : ClientToken → SubsView → SubsView
 client_ended c s = record s { live = filter (λ x. not (is_of_client c x)) s.live }
 
+-- no group of this name is known, and it does not stand for the hosts
+abbrev pub is_unknown : List ℕ → Bool → Bool
+is_unknown g known = not known && not (bytes_eq g host_membership)
+
+abbrev pub token_of : Subscription → SubToken
+token_of x = x.token
+
+abbrev pub tokens_among : List ℕ → List Subscription → List SubToken
+tokens_among g xs = map token_of (filter (is_of_group g) xs)
+
 -- the live tokens of a group, oldest first
 abbrev pub tokens_of : List ℕ → SubsView → List SubToken
-tokens_of g s = map (λ x. x.token) (filter (is_of_group g) s.live)
+tokens_of g s = tokens_among g s.live
 
 -- members or value differ
 abbrev pub differs : GroupState → GroupState → Bool
