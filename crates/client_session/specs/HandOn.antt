@@ -113,9 +113,12 @@ cast_in None level b = None
 cast_in (Some run) level None = None
 cast_in (Some run) level (Some f) = Some (run.proto, run.phase, record { votes = true; level = level; filled = Some f })
 
+abbrev pub cast_with : Bool → Option Running → ℕ → ProviderId → Option Filled → Cast
+cast_with votes running level p b = record { p = p; cast = if votes then cast_in running level b else None }
+
 -- what a provider that was handed the notice casts, where its client fills the ballot with b
 unfoldable pub cast_of : Entry → GroupState → ℕ → ProviderId → Option Filled → Cast
-cast_of e after level p b = record { p = p; cast = if asks e after p then cast_in after.running level b else None }
+cast_of e after level p b = cast_with (asks e after p) after.running level p b
 
 -- bs: what each client fills, in the order of ps
 abbrev pub casts_of : Entry → GroupState → ℕ → List ProviderId → List (Option Filled) → List Cast
@@ -164,13 +167,16 @@ removed_from after ps = filter (λ p. not (is_present after p)) ps
 unfoldable pub casts_out : SessionState → List ℕ → GroupState → GroupState → Entry → List (Option Filled) → List Cast
 casts_out s g before after e bs = casts_of e after s.level (hearers s g before e) bs
 
+-- ps were handed the notice, of whom beginning begin to take part, and their clients cast cs
+unfoldable pub heard : SessionState → List ℕ → GroupState → Entry → List ProviderId → List ProviderId → List Cast → SessionState
+heard s g after e ps beginning cs =
+    let t : SessionState = part_taken (kept_after s g e) beginning in
+    let u : SessionState = casts_kept (phases_opened t e after ps) g cs in
+    without_providers (requests_after u e) (removed_from after ps)
+
 -- the state after an entry was handed on, and the clients filled bs
 unfoldable pub handed_on : SessionState → List ℕ → GroupState → GroupState → Entry → List (Option Filled) → SessionState
-handed_on s g before after e bs =
-    let ps : List ProviderId = hearers s g before e in
-    let t : SessionState = part_taken (kept_after s g e) (beginners s g e) in
-    let u : SessionState = casts_kept (phases_opened t e after ps) g (casts_out s g before after e bs) in
-    without_providers (requests_after u e) (removed_from after ps)
+handed_on s g before after e bs = heard s g after e (hearers s g before e) (beginners s g e) (casts_out s g before after e bs)
 
 -- the lists of clients after those of ps were handed the notice
 unfoldable pub notified : SessionState → ViewId → List ℕ → ℕ → Entry → GroupState → List ProviderId → List (List Handed) → List (List Handed)
@@ -241,5 +247,5 @@ telling_taken s p r y = if takes_telling s p r y then told_of s p y else s
 
 -- opens each word of this file, for a computation
 unfoldable pub handon_opens : Unit {0}
-unfolding kept_ended kept_after hearers_in beginners hearers part_taken asks opened_after phases_opened cast_of casts_kept proposal_begun requests_after is_present removed_from casts_out handed_on notified scripted takes_telling told_of telling_taken
+unfolding kept_ended kept_after hearers_in beginners hearers part_taken asks opened_after phases_opened cast_of casts_kept proposal_begun requests_after is_present removed_from casts_out heard handed_on notified scripted takes_telling told_of telling_taken
 handon_opens = tt

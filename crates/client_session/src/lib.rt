@@ -5,13 +5,15 @@ mod calls;
 mod casts;
 mod checks;
 mod fault;
+mod hand;
 mod locals;
+mod new_entry;
 mod sessions;
 mod state;
 
 pub use casts::{Cast, Casts};
 pub use client_callbacks::{Told, Why};
 pub use fault::{Field, GsFault};
-pub use sessions::Sessions;
 pub use locals::Locals;
+pub use sessions::Sessions;
 pub use state::{KeptBallot, MemberToken, OpenPhase, Provider, Request, Session, SessionState};

@@ -3,7 +3,9 @@ ghost use Rattle.std.specs.Prelude.{◌≡◌, ◌++◌, ◌∷◌, ◌<◌, [],
 ghost use Rattle.rsct_packet.specs.Providers.{among};
 ghost use Rattle.rsct_packet.specs.Search.{place_where, edit_where};
 ghost use Rattle.client_session.specs.State.{is_provider};
+ghost use Rattle.client_session.specs.HandOn.{taking_part, opened_after};
 
+use crate::new_entry::{NewEntry, is_late, running_phase};
 use crate::state::Provider;
 use rsct_packet::{NoMemory, ProviderId, is_among};
 use std::alloc::Global;
@@ -25,7 +27,7 @@ impl Model for Locals {
 }
 
 #[tactic(auto, using(rsct_packet::proofs::SearchLaws::place_begins, rsct_packet::proofs::SearchLaws::place_goes_on, rsct_packet::proofs::SearchLaws::place_found, rsct_packet::proofs::SearchLaws::place_missing))]
-fn place(rows: &[Provider], p: ProviderId) -> Option<usize>
+fn place_alone(rows: &[Provider], p: ProviderId) -> Option<usize>
     ensures { result ≡ place_where (is_provider p) rows.now }
 {
     for (i, row) in rows.iter().enumerate() {
@@ -34,6 +36,37 @@ fn place(rows: &[Provider], p: ProviderId) -> Option<usize>
         }
     }
     None
+}
+
+#[tactic(auto, using(rsct_packet::proofs::SearchLaws::place_is_in, rsct_packet::proofs::SearchLaws::missing_at_place))]
+fn place(rows: &[Provider], p: ProviderId) -> Option<usize>
+    ensures value { result ≡ place_where (is_provider p) rows.now }
+    ensures within { IfSome result (λ i. i < length rows.now) }
+    ensures missing { IfNone result (find (is_provider p) rows.now ≡ None) }
+{
+    place_alone(rows, p)
+}
+
+/// The provider takes part.
+fn let_take_part(row: &mut Provider)
+    ensures { row.new ≡ taking_part row.old }
+{
+    row.takes_part = true;
+}
+
+/// The phase that is open for the provider after an entry.
+#[tactic(auto, unfolding(crate::specs::HandOn::opened_after))]
+fn note_entry(row: &mut Provider, n: &NewEntry<'_>)
+    ensures { row.new ≡ opened_after n.now.entry.now n.now.after.now row.old }
+{
+    if is_late(n.entry) {
+        return;
+    }
+    row.opened = if n.asks(row.p) {
+        running_phase(&n.after.running)
+    } else {
+        None
+    };
 }
 
 fn keep_all_but(rows: &mut Vec<Provider>, ps: &[ProviderId])
@@ -83,6 +116,26 @@ impl Locals {
         ensures { self.new ≡ take n self.old }
     {
         self.rows.truncate(n);
+    }
+
+    /// Lets a provider take part.
+    #[tactic(auto, using(rsct_packet::proofs::SearchLaws::set_is_edit, rsct_packet::proofs::SearchLaws::missing_edit, std::proofs::lemmas::Grind::common_steps))]
+    pub fn take_part(&mut self, p: ProviderId)
+        ensures { self.new ≡ edit_where (is_provider p) taking_part self.old }
+    {
+        if let Some(i) = place(self.rows.as_slice(), p) {
+            let_take_part(&mut self.rows[i]);
+        }
+    }
+
+    /// Opens or closes the phase of a provider that was handed an entry.
+    #[tactic(auto, using(rsct_packet::proofs::SearchLaws::set_is_edit, rsct_packet::proofs::SearchLaws::missing_edit, std::proofs::lemmas::Grind::common_steps))]
+    pub fn note(&mut self, p: ProviderId, n: &NewEntry<'_>)
+        ensures { self.new ≡ edit_where (is_provider p) (opened_after n.now.entry.now n.now.after.now) self.old }
+    {
+        if let Some(i) = place(self.rows.as_slice(), p) {
+            note_entry(&mut self.rows[i], n);
+        }
     }
 
     /// Takes these off.

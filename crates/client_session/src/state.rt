@@ -1,6 +1,6 @@
 //! What a node has of its clients, apart from the clients themselves.
-use client_callbacks::Ballot;
 use crate::locals::Locals;
+use client_callbacks::Ballot;
 use group_attr::Phases;
 use proposal_core::Proposal;
 use rsct_packet::{List, Name, ProtoId, ProviderId};
