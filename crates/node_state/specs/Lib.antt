@@ -1,2 +1,10 @@
 pub mod Wording
 pub mod Settings
+pub mod State
+pub mod Sending
+pub mod HandOn
+pub mod Leading
+pub mod Deciding
+pub mod Ending
+pub mod Following
+pub mod Applying

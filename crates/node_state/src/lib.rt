@@ -2,10 +2,16 @@
 //! `specs/`, its step.
 #![tactic(auto)]
 
+mod call;
 mod config;
+mod group;
 mod happened;
 mod packet;
+mod state;
 
+pub use call::CallLine;
 pub use config::{Config, Mode};
+pub use group::{Acked, Decision, Given, GroupRow, Groups, JoinAttrs, Led};
 pub use happened::{Happened, Records};
 pub use packet::{Body, Packet, Packets, Report, ReportRow, What};
+pub use state::{Core, Rings};

@@ -4,8 +4,8 @@ use client_session::Why;
 use group_attr::Phases;
 use node_reach::ReachRow;
 use proposal_core::{Entry, Proposal, Vote};
-use rsct_packet::{List, Mask, Name, ProtoId, ProviderId, Text, ViewId};
-use view_exchange::{Install, Parts};
+use rsct_packet::{List, Name, ProtoId, ProviderId, Text, ViewId};
+use view_core::ViewPacket;
 
 /// What a status asks for: the rings, the view, the groups, or the votes.
 #[derive(Clone, Copy, Debug, PartialEq, Eq)]
@@ -36,26 +36,9 @@ pub enum Body {
     Report {
         rows: Report,
     },
-    Prepare {
-        view: ViewId,
-        mask: Mask,
-    },
-    /// The sender comes from the view `old` with these lists.
-    Answer {
-        view: ViewId,
-        old: ViewId,
-        parts: Parts,
-    },
-    /// The sender promised a view of this number.
-    Refuse {
-        view: ViewId,
-        number: u32,
-    },
-    Install {
-        install: Install,
-    },
-    Taken {
-        view: ViewId,
+    /// What is said of a view that is to be.
+    View {
+        packet: ViewPacket,
     },
     Lookup {
         view: ViewId,

@@ -17,8 +17,8 @@ use Rattle.node_state.specs.declared.happened.Happened.TheVariants.{Up, Down, In
 use Rattle.world_model.specs.Run.{Happening}
 use Rattle.world_model.specs.declared.event.Event.{Event}
 use Rattle.world_model.specs.declared.event.Event.TheVariants.{Call}
-use Rattle.world_model.specs.declared.event.CallLine.{CallLine}
-use Rattle.world_model.specs.declared.event.CallLine.TheVariants.{Join, Goodbye}
+use Rattle.node_state.specs.declared.call.CallLine.{CallLine}
+use Rattle.node_state.specs.declared.call.CallLine.TheVariants.{Join, Goodbye}
 use Rattle.run_safety.specs.Past.{History}
 
 -- a node's stay in a view, for one group: the base there, and what it put

@@ -4,8 +4,8 @@ use Rattle.std.specs.Str.{bytes_eq}
 use Rattle.rsct_packet.specs.Ids.{last_u32}
 use Rattle.rsct_packet.specs.Mask.{no_nodes, with_node}
 use Rattle.node_state.specs.declared.config.Mode.{Mode}
-use Rattle.world_model.specs.declared.event.CallLine.{CallLine}
-use Rattle.world_model.specs.declared.event.CallLine.TheVariants as call
+use Rattle.node_state.specs.declared.call.CallLine.{CallLine}
+use Rattle.node_state.specs.declared.call.CallLine.TheVariants as call
 use Rattle.world_model.specs.declared.event.Event.{Event}
 use Rattle.world_model.specs.declared.event.Event.TheVariants as event
 use Rattle.world_model.specs.declared.script.Line.{Line}

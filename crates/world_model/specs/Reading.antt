@@ -9,7 +9,7 @@ use Rattle.node_state.specs.declared.config.Mode.TheVariants.{Rings}
 use Rattle.node_state.specs.Settings.{is_fixed, is_rings, addresses_on, address_at, shared_network}
 use Rattle.world_model.specs.declared.event.Event.{Event}
 use Rattle.world_model.specs.declared.event.Event.TheVariants.{Start, Stop, Ask, Call}
-use Rattle.world_model.specs.declared.event.CallLine.TheVariants.{Init}
+use Rattle.node_state.specs.declared.call.CallLine.TheVariants.{Init}
 use Rattle.world_model.specs.declared.script.Line.{Line}
 use Rattle.world_model.specs.declared.script.Line.TheVariants.{Plain}
 use Rattle.world_model.specs.declared.script.LineWhy.{LineWhy}

@@ -5,6 +5,7 @@ mod event;
 mod one_node;
 mod script;
 
-pub use event::{CallLine, Event, Events};
+pub use event::{Event, Events};
+pub use node_state::CallLine;
 pub use one_node::{Awaited, OneNodeLine, OneNodeScript};
 pub use script::{Line, LineWhy, Lines, Script};

@@ -1,0 +1,30 @@
+//! The state of a node.
+use crate::config::Config;
+use crate::group::Groups;
+use crate::happened::Records;
+use crate::packet::Packets;
+use adapter_ring::Ring;
+use client_session::SessionState;
+use name_server::Names;
+use node_reach::Reach;
+use rsct_packet::List;
+use view_core::Views;
+
+/// The rings of a node's adapters, ascending by network.
+pub type Rings = List<Ring>;
+
+/// A node at work: its settings, its views, the names of groups where it is the coordinator, its groups, what it
+/// has of its clients, its rings, which nodes it reaches, and what this step has sent and recorded so far. The
+/// clients themselves stand beside it.
+#[derive(Drop)]
+pub struct Core {
+    pub config: Config,
+    pub views: Views,
+    pub names: Names,
+    pub groups: Groups,
+    pub sessions: SessionState,
+    pub rings: Rings,
+    pub reach: Reach,
+    pub sends: Packets,
+    pub records: Records,
+}
