@@ -8,3 +8,8 @@ pub mod Deciding
 pub mod Ending
 pub mod Following
 pub mod Applying
+pub mod Ticks
+pub mod Status
+pub mod Calls
+pub mod Step
+pub mod Opens

@@ -3,6 +3,8 @@ use Rattle.std.specs.Prelude.{ℕ, Bool, true, false, ◌-◌, ◌&&◌, List, [
 use Rattle.std.specs.List.{list_all}
 use Rattle.std.specs.Option.{unwrap_or}
 use Rattle.rsct_packet.specs.declared.ids.Member.{Member}
+use Rattle.rsct_packet.specs.declared.mask.Mask.{Mask}
+use Rattle.rsct_packet.specs.Mask.{has_node, node_numbers}
 use Rattle.node_state.specs.declared.config.Config.{Config}
 use Rattle.node_state.specs.declared.config.Mode.{Mode}
 use Rattle.node_state.specs.declared.config.Mode.TheVariants.{Fixed, Asked, Rings}
@@ -50,7 +52,11 @@ level_if false = 1
 unfoldable pub view_level : Config → List Member → ℕ
 view_level c ms = level_if (list_all (speaks_two c) ms)
 
+-- the least node of a set, if it has one
+unfoldable pub least_node : Mask → Option ℕ
+least_node m = find (has_node m) node_numbers
+
 -- opens each word of this file, for a computation
 unfoldable pub settings_opens : Unit {0}
-unfolding addresses_on address_at has_adapter networks_of shared_network speaks_two level_if view_level
+unfolding least_node addresses_on address_at has_adapter networks_of shared_network speaks_two level_if view_level
 settings_opens = tt

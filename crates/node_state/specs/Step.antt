@@ -1,0 +1,157 @@
+-- The step of a node.
+use Rattle.std.specs.Prelude.{ℕ, Bool, true, false, not, ◌==◌, ◌&&◌, ◌||◌, ◌++◌, List, [], ◌∷◌, map, find, Option, None}
+use Rattle.std.specs.Option.{unwrap_or}
+use Rattle.rsct_packet.specs.declared.mask.Mask.{Mask}
+use Rattle.rsct_packet.specs.declared.ids.ViewId.{ViewId}
+use Rattle.rsct_packet.specs.declared.ids.Member.{Member}
+use Rattle.rsct_packet.specs.Ids.{same_view, is_member}
+use Rattle.rsct_packet.specs.Mask.{has_node, nodes_of, node_numbers}
+use Rattle.adapter_ring.specs.declared.ring.Ring.{Ring}
+use Rattle.adapter_ring.specs.Rings.{ring_new, neighbour}
+use Rattle.node_reach.specs.Reach.{reach_new}
+use Rattle.client_session.specs.State.{no_sessions}
+use Rattle.view_core.specs.declared.packet.ViewPacket.{ViewPacket}
+use Rattle.view_core.specs.declared.packet.ViewPacket.TheVariants as packet
+use Rattle.view_core.specs.Views.{views_new, views_at_work, ask_row, prepare_row, answer_row, refuse_row, install_row, taken_row}
+use Rattle.node_state.specs.declared.call.CallLine.{CallLine}
+use Rattle.node_state.specs.declared.config.Config.{Config}
+use Rattle.node_state.specs.declared.config.Mode.{Mode}
+use Rattle.node_state.specs.declared.config.Mode.TheVariants.{Fixed, Asked, Rings}
+use Rattle.node_state.specs.declared.happened.Happened.{Happened}
+use Rattle.node_state.specs.declared.happened.Happened.TheVariants as happened
+use Rattle.node_state.specs.declared.packet.Body.{Body}
+use Rattle.node_state.specs.declared.packet.Body.TheVariants as body
+use Rattle.node_state.specs.declared.packet.Packet.{Packet}
+use Rattle.node_state.specs.declared.state.Core.{Core}
+use Rattle.node_state.specs.Settings.{is_fixed, least_node, networks_of, addresses_on, view_level}
+use Rattle.node_state.specs.State.{frozen, with_sessions, recorded}
+use Rattle.node_state.specs.Sending.{sent_on}
+use Rattle.node_state.specs.HandOn.{Answering}
+use Rattle.node_state.specs.Following.{lookup_row, name_row, request_row, tell_row, entry_row, ack_row, vote_row, gone_row}
+use Rattle.node_state.specs.Applying.{own_parts, level_set, views_taken}
+use Rattle.node_state.specs.Ticks.{ring_row, report_row, tick_row}
+use Rattle.node_state.specs.Ending.{step_ended}
+use Rattle.node_state.specs.Status.{status_text}
+use Rattle.node_state.specs.Calls.{call_row}
+
+-- what happens to a node: bytes that are no packet make the end of a step alone
+pub data NodeEvent : Type 0 where
+  Ticks : NodeEvent
+  Asks : (mask : Mask) → NodeEvent
+  Given : (p : Packet) → NodeEvent
+  Calls : (c : CallLine) → NodeEvent
+  Garbage : NodeEvent
+
+-- ---- packets
+
+-- a packet of a view is used in that view alone, at its level, in the own domain, where the node is not frozen and
+-- the sender with its incarnation is a member
+unfoldable pub is_used : Core → Packet → ViewId → Bool
+is_used s p v =
+    same_view v s.views.view && p.level == s.sessions.level && (p.level == 1 || p.domain == s.config.domain) && not (frozen s)
+    && is_member s.views.members p.from p.inc
+
+unfoldable pub used_if : Core → Core → Bool → Core
+used_if s t true = t
+used_if s t false = s
+
+-- an order to ask for a view does nothing in mode fixed
+unfoldable pub order_row : Answering → Core → Mask → Core
+order_row f s mask =
+    elim (is_fixed s.config.mode) [ true ↦ s | false ↦ views_taken f s (ask_row (views_at_work s.views) mask (own_parts s)) ]
+
+-- the packets of views
+unfoldable pub view_row : Answering → Core → ℕ → ℕ → ViewPacket → Core
+view_row f s from inc (packet.Prepare v mask) = views_taken f s (prepare_row (views_at_work s.views) from inc v mask (own_parts s))
+view_row f s from inc (packet.Answer v old parts) = views_taken f s (answer_row (views_at_work s.views) v (record { node = from; inc = inc; view = old; parts = parts }))
+view_row f s from inc (packet.Refuse v n) = views_taken f s (refuse_row (views_at_work s.views) v n)
+view_row f s from inc (packet.Install i) = views_taken f s (install_row (views_at_work s.views) i)
+view_row f s from inc (packet.Taken v) = views_taken f s (taken_row (views_at_work s.views) from v)
+
+-- the table of packets
+unfoldable pub body_row : Answering → Core → Packet → Body → Core
+body_row f s p (body.Ring x) = ring_row s p.network p.from p.inc x
+body_row f s p (body.Report rows) = report_row s rows
+body_row f s p (body.View x) = view_row f s p.from p.inc x
+body_row f s p (body.Lookup v g) = used_if s (lookup_row s p.from g) (is_used s p v)
+body_row f s p (body.Name v g n) = used_if s (name_row s g n) (is_used s p v)
+body_row f s p (body.Request v g q r phases x) = used_if s (request_row f s p.from g q r phases x) (is_used s p v)
+body_row f s p (body.Tell v g q r y) = used_if s (tell_row s q r y) (is_used s p v)
+body_row f s p (body.Entry v g place stable e) = used_if s (entry_row f s p.from g place stable e) (is_used s p v)
+body_row f s p (body.Ack v g n) = used_if s (ack_row s p.from g n) (is_used s p v)
+body_row f s p (body.Vote v g proto phase q vote value message) = used_if s (vote_row f s g proto phase q vote value message) (is_used s p v)
+body_row f s p (body.Gone v g q) = used_if s (gone_row f s g q) (is_used s p v)
+body_row f s p (body.Query question what) = sent_on s p.network p.from (body.Reply question (status_text s what))
+body_row f s p (body.Reply question text) = s
+
+-- a packet for another node is dropped
+unfoldable pub packet_row : Answering → Core → Packet → Core
+packet_row f s p = elim (p.to == s.views.me) [ true ↦ body_row f s p p.body | false ↦ s ]
+
+-- ---- the step
+
+unfoldable pub event_row : Answering → Core → NodeEvent → Core
+event_row f s Ticks = tick_row f s
+event_row f s (Asks mask) = step_ended f (order_row f s mask)
+event_row f s (Given p) = step_ended f (packet_row f s p)
+event_row f s (Calls c) = step_ended f (call_row s c)
+event_row f s Garbage = step_ended f s
+
+-- at work, with nothing sent or recorded yet
+abbrev pub at_work : Core → Core
+at_work s = record s { sends = []; records = [] }
+
+-- The step: the state after it, with what it sends and records. `f` says what clients answer.
+unfoldable pub stepped : Answering → Core → NodeEvent → Core
+stepped f s e = event_row f (at_work s) e
+
+-- ---- the start
+
+unfoldable pub own_ring : Config → ℕ → ℕ → ℕ → Ring
+own_ring c me inc network = ring_new network me inc (record { addr = addresses_on c network; every = c.every; misses = c.misses })
+
+-- in mode rings, one for each adapter, in network order
+unfoldable pub own_rings : Config → Mode → ℕ → ℕ → List Ring
+own_rings c Fixed me inc = []
+own_rings c Asked me inc = []
+own_rings c Rings me inc = map (own_ring c me inc) (networks_of c me)
+
+-- in mode fixed the view of all nodes, else of the node alone
+unfoldable pub first_view : Config → Mode → ℕ → ℕ → ViewId
+first_view c Fixed me inc = record { number = 1; coord = unwrap_or (least_node c.nodes) me; inc = 1 }
+first_view c Asked me inc = record { number = 1; coord = me; inc = inc }
+first_view c Rings me inc = record { number = 1; coord = me; inc = inc }
+
+unfoldable pub first_members : Config → Mode → ℕ → ℕ → List Member
+first_members c Fixed me inc = map (λ n. record { node = n; inc = 1 }) (nodes_of c.nodes)
+first_members c Asked me inc = record { node = me; inc = inc } ∷ []
+first_members c Rings me inc = record { node = me; inc = inc } ∷ []
+
+unfoldable pub ring_record : ℕ → Ring → Happened
+ring_record me r = happened.Ring me r.net r.id r.members (neighbour r)
+
+-- a node that starts: its state, with what it records
+unfoldable pub started : Config → ℕ → ℕ → Core
+started c me inc =
+    let v : ViewId = first_view c c.mode me inc in
+    let ms : List Member = first_members c c.mode me inc in
+    let rings : List Ring = own_rings c c.mode me inc in
+    let s : Core =
+    record {
+      config = c;
+      views = views_new me inc v ms;
+      names = [];
+      groups = [];
+      sessions = no_sessions me inc;
+      rings = rings;
+      reach = reach_new me inc;
+      sends = [];
+      records = happened.Up me inc ∷ map (ring_record me) rings ++ happened.In me v ms ∷ [];
+    }
+    in
+    with_sessions s (level_set s ms)
+
+-- opens each word of this file, for a computation
+unfoldable pub step_opens : Unit {0}
+unfolding is_used used_if order_row view_row body_row packet_row event_row stepped own_ring own_rings first_view first_members ring_record started
+step_opens = tt
