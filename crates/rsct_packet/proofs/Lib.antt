@@ -6,3 +6,4 @@ pub mod MaskLaws
 pub mod FieldLaws
 pub mod PacketLaws
 pub mod ListedLaws
+pub mod MaskOrder

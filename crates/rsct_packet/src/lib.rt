@@ -39,3 +39,18 @@ pub use writing::{
 
 /// The members of a view, ascending by node, each with its incarnation.
 pub type Members = List<Member>;
+
+/// A datagram on its way: the node that it goes to, the network that it takes (0: none leads there), and its
+/// bytes.
+#[derive(Drop)]
+pub struct Datagram {
+    pub node: u8,
+    pub network: u8,
+    pub bytes: List<u8>,
+}
+
+/// Datagrams in the order of sending.
+pub type Sends = List<Datagram>;
+
+#[cfg(test)]
+mod tests;
