@@ -1,7 +1,7 @@
 -- The highest of some nodes, and a node's neighbour.
 use Rattle.std.proofs.Common.{◌≡◌, ◌≢◌, ℕ, ◌<◌, ◌≤◌, ◌⊎◌, Bool, true, false, List, [], ◌∷◌, Option, Some, None, refl, sym, ap, ◌∙◌, subst, inl, inr, ⊎_elim, arith}
 use Rattle.std.specs.Prelude.{◌==◌, ◌&&◌, not, slice_index, ◌-◌, filter}
-use Rattle.std.specs.List.{fold, list_all}
+use Rattle.std.specs.List.{fold}
 use Rattle.std.proofs.lemmas.Bool.{ltb-true, ltb-false, lt-ltb, cases_lt, and_parts, and_from, or_cases, or_left, or_right, eq-eqb, eqb-true, ne_eqb, not_from_false}
 use Rattle.rsct_packet.specs.declared.mask.Mask.{Mask}
 use Rattle.rsct_packet.specs.Mask.{is_node, no_nodes, has_node, with_node, without_node, union_of, nodes_of}
@@ -153,13 +153,6 @@ neighbour_is s n ms h = by (next_lower s n ms) refl
     by : (o : Option ℕ) → next_lower s n ms ≡ o → IsNeighbour s n ms (some_of o (highest_of s ms) n)
     by (Some x) e = one_lower s n ms x e
     by None e = let t = highest_there s ms n h in subst (λ o. IsNeighbour s n ms (some_of None o n)) (sym t.1) (round_the_end s n ms t.0 t.1 e)
-
--- a test that holds of a list holds of what is in it
-pub all_has : {A : Type 0} (test : A → Bool) (xs : List A) (x : A) → list_all test xs ≡ true → Has x xs → test x ≡ true
-all_has test [] x e h = absurd h
-all_has test (y ∷ ys) x e h =
-    let p = and_parts (test y) (list_all test ys) e in
-    ⊎_elim (λ (s : x ≡ y). ap test s ∙ p.0) (λ (t : Has x ys). all_has test ys x p.1 t) h
 
 -- alone, a node is the highest
 pub greatest_alone : (s : RingSettings) (n : ℕ) → 0 < addr_of s n → HasGreatest s n (with_node no_nodes n)

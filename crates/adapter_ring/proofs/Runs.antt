@@ -1,13 +1,13 @@
 -- Whatever happens in a network, its rings agree.
-use Rattle.std.proofs.Common.{◌≡◌, ℕ, zero, suc, ◌<◌, ◌≤◌, ◌⊎◌, Bool, true, false, List, [], ◌∷◌, Option, Some, None, refl, sym, ap, ◌∙◌, subst, inl, inr, ⊎_elim, arith}
-use Rattle.std.specs.Prelude.{◌==◌, ◌&&◌, ◌||◌, not, nat_lt, map, filter, find, is_none, slice_get, if◌then◌else◌}
+use Rattle.std.proofs.Common.{◌≡◌, ℕ, ◌<◌, ◌≤◌, ◌⊎◌, Bool, true, false, List, [], ◌∷◌, Option, Some, None, refl, sym, ap, ◌∙◌, subst, inl, inr, ⊎_elim, arith}
+use Rattle.std.specs.Prelude.{◌==◌, ◌&&◌, ◌||◌, not, nat_lt, map, filter, find, is_none, slice_get}
 use Rattle.std.specs.List.{list_all}
 use Rattle.std.proofs.lemmas.Bool.{and_parts, or_cases, eqb-false, eq-eqb, not-true, ltb-true}
 use Rattle.rsct_packet.specs.declared.ids.RingId.{RingId}
 use Rattle.rsct_packet.specs.declared.mask.Mask.{Mask}
 use Rattle.rsct_packet.specs.Mask.{no_nodes, with_node}
 use Rattle.rsct_packet.specs.Search.{Has}
-use Rattle.rsct_packet.proofs.HasLaws.{has_filter, has_append, has_map}
+use Rattle.rsct_packet.proofs.HasLaws.{all_has, find_has, find_none, get_has, has_filter, has_append, has_map}
 use Rattle.adapter_ring.specs.declared.packet.RingEvent.{RingEvent}
 use Rattle.adapter_ring.specs.declared.packet.RingEvent.TheVariants.{Tick, Packet}
 use Rattle.adapter_ring.specs.declared.ring.Ring.{Ring}
@@ -19,7 +19,7 @@ use Rattle.adapter_ring.specs.Addresses.{addr_of, has_addr, neighbour_in}
 use Rattle.adapter_ring.specs.Rings.{neighbour, ring_new, ring_stepped}
 use Rattle.adapter_ring.specs.Network.{Happening, Starts, Stops, Ticks, Given, Sent, Told, Started, Network, quiet, ring_at, may_start, ring_told, ring_started, sent_by, told_by, with_ring, step_taken, stepped_in, given_in, happens, after}
 use Rattle.adapter_ring.specs.Agreement.{AddressesDiffer, IsNeighbour, RingsAgree}
-use Rattle.adapter_ring.proofs.AddressLaws.{neighbour_is, greatest_alone, all_has}
+use Rattle.adapter_ring.proofs.AddressLaws.{neighbour_is, greatest_alone}
 use Rattle.adapter_ring.proofs.Parts.{Made, Books, GathersOk, RingOk, PacketOk, SetOk, SetsOk, WorkOk, books_more, packet_kept, either}
 use Rattle.adapter_ring.proofs.Works.{EventOk, stepped_ok}
 
@@ -34,31 +34,6 @@ pub record Fine (s : RingSettings) (w : Network) : Type 0 where
   pub one : (r q : Ring) → Has r w.rings → Has q w.rings → r.me ≡ q.me → r ≡ q
   pub sent : (x : Sent) → Has x w.sent → PacketOk made x.packet
   pub told : (t : Told) → Has t w.told → SetOk s made t.node t.id t.members t.neighbour
-
--- what is found is there, and passes
-find_has : {A : Type 0} (test : A → Bool) (xs : List A) (x : A) → find test xs ≡ Some x → Has x xs × (test x ≡ true)
-find_has test [] x e = absurd (cc)
-find_has test (y ∷ ys) x e = by (test y) refl (find_has test ys x) e
-  where
-    by : (b : Bool) → test y ≡ b → (find test ys ≡ Some x → Has x ys × (test x ≡ true)) → (if b then Some y else find test ys) ≡ Some x → Has x (y ∷ ys) × (test x ≡ true)
-    by true f more g = let s : x ≡ y = cc in (inl s, ap test s ∙ f)
-    by false f more g = let r = more g in (inr r.0, r.1)
-
--- where none is found, none passes
-find_none : {A : Type 0} (test : A → Bool) (xs : List A) (x : A) → is_none (find test xs) ≡ true → Has x xs → test x ≡ true → ⊥
-find_none test [] x e h t = h
-find_none test (y ∷ ys) x e h t = by (test y) refl (λ e h. find_none test ys x e h t) e h
-  where
-    by : (b : Bool) → test y ≡ b → (is_none (find test ys) ≡ true → Has x ys → ⊥) → is_none (if b then Some y else find test ys) ≡ true → Has x (y ∷ ys) → ⊥
-    by true f more g h = cc
-    by false f more g (inl s) = let u : test y ≡ true = ap test (sym s) ∙ t in cc
-    by false f more g (inr k) = more g k
-
--- what is got from a list is in it
-get_has : {A : Type 0} (xs : List A) (i : ℕ) (x : A) → slice_get xs i ≡ Some x → Has x xs
-get_has [] i x e = absurd (cc)
-get_has (y ∷ ys) zero x e = let s : x ≡ y = cc in inl s
-get_has (y ∷ ys) (suc i) x e = inr (get_has ys i x e)
 
 -- a ring of another node after the step of one: nothing that was made concerns it
 other_ring : (s : RingSettings) (n j : ℕ) (made more : List Made) (q : Ring) → ((a : Made) → Has a made → Has a more) → ((a : Made) → Has a more → Has a made ⊎ ((a.id.leader ≡ n) × (a.id.inc ≡ j))) → (q.me ≡ n → ⊥) → RingOk s made q → RingOk s more q

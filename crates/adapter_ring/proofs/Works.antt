@@ -7,7 +7,7 @@ use Rattle.rsct_packet.specs.declared.mask.Mask.{Mask}
 use Rattle.rsct_packet.specs.Ids.{same_ring, last_u32, risen}
 use Rattle.rsct_packet.specs.Mask.{no_nodes, has_node, with_node, without_node, union_of, nodes_of}
 use Rattle.rsct_packet.specs.Search.{Has}
-use Rattle.rsct_packet.proofs.HasLaws.{has_append, has_map}
+use Rattle.rsct_packet.proofs.HasLaws.{all_has, has_append, has_map}
 use Rattle.rsct_packet.proofs.MaskLaws.{has_listed}
 use Rattle.ring_commit.specs.declared.gather.Gather.{Gather}
 use Rattle.ring_commit.specs.Gather.{gather_opened, is_awaited, gather_acked, all_acked}
@@ -23,7 +23,7 @@ use Rattle.adapter_ring.specs.declared.work.RingWork.{RingWork}
 use Rattle.adapter_ring.specs.Addresses.{has_addr, outside, is_higher, neighbour_in, crown_prince_in}
 use Rattle.adapter_ring.specs.Rings.{ring_sent, ring_sent_all, ring_set, ring_closed, ring_gathering, next_ring, ring_numbered, ring_gathers_on, ring_gathers, ring_alone, heartbeat_sent, ring_proclaimed, ring_beats, buries, death_counts, death_row, death_told, ring_waited, ring_waits, ring_ages_of, ring_ages, ring_tick, heartbeat_row, proclaim_row, is_lower, all_lower, takes_join, join_row, ptc_row, ack_row_of, ack_row, commit_row, packet_row, ring_row, at_work, ring_stepped, is_shared, neighbour, upstream, death_told_to, patience, ring_leads, crown_prince, answers_proclaim, may_promise, is_promised}
 use Rattle.adapter_ring.specs.Agreement.{AddressesDiffer, HasGreatest, IsNeighbour}
-use Rattle.adapter_ring.proofs.AddressLaws.{higher_lt, neighbour_is, all_has, greatest_alone, greatest_without, greatest_union, greatest_with, prince_greatest}
+use Rattle.adapter_ring.proofs.AddressLaws.{higher_lt, neighbour_is, greatest_alone, greatest_without, greatest_union, greatest_with, prince_greatest}
 use Rattle.adapter_ring.proofs.Parts.{Made, Books, GatheringOk, GathersOk, RingOk, PacketOk, WorkOk, books_more, sets_kept, packet_kept, gathers_later, either}
 
 module _ (s : RingSettings) (differ : AddressesDiffer s) (n inc : ℕ) (before : List Made) where

@@ -1,5 +1,5 @@
 -- The rows of the nodes, and the walk over them.
-use Rattle.std.specs.Prelude.{ℕ, zero, suc, ◌-◌, Bool, true, false, not, ◌==◌, ◌&&◌, ◌||◌, List, filter, Option, Some, None, nat_lt, find, slice_index_or, slice_set, replicate}
+use Rattle.std.specs.Prelude.{ℕ, zero, suc, ◌-◌, Bool, true, false, not, ◌==◌, ◌&&◌, ◌||◌, filter, Option, Some, None, nat_lt, find, slice_index_or, slice_set, replicate}
 use Rattle.std.specs.List.{fold}
 use Rattle.rsct_packet.specs.declared.mask.Mask.{Mask}
 use Rattle.rsct_packet.specs.Ids.{risen}

@@ -1,6 +1,7 @@
 //! The rows of the nodes, and the walk over them.
 ghost use Rattle.std.specs.Prelude.{◌≡◌, ℕ, ◌↔◌, IsTrue};
 ghost use Rattle.rsct_packet.specs.Mask.{is_node, has_node};
+ghost use Rattle.node_reach.specs.Walks.{Reached};
 ghost use Rattle.node_reach.specs.Reach.{reach_new, row_of, with_row, own_set, is_newer, is_news, reported, names, leads_on, newly_seen, walk_on, walked, reach_of};
 
 use rsct_packet::{Mask, NODES, is_node_number, risen};
@@ -150,5 +151,30 @@ impl Reach {
             seen: walk.seen.union(new),
             todo: walk.todo.without(a).union(new),
         }
+    }
+
+    /// Goes on until no node is left. Each is gone on from once at most, so 32 steps are enough.
+    #[tactic(auto, using(crate::proofs::WalkLaws::walked_more, crate::proofs::WalkLaws::walked_none, crate::proofs::WalkLaws::walked_end, std::proofs::lemmas::Grind::common_steps))]
+    fn walk_all(&self, start: Walk) -> Walk
+        ensures { result ≡ walked 32 self.now start }
+    {
+        let mut walk = start;
+        for i in 0..32u8 {
+            match walk.todo.first() {
+                None => return walk,
+                Some(next) => walk = self.walk_on(walk, next),
+            }
+        }
+        walk
+    }
+
+    /// The nodes at the end of a walk from this one whose each two neighbours stand in each other's kept rows.
+    #[tactic(auto, unfolding(crate::specs::Reach::reach_of), using(crate::proofs::WalkLaws::reach_exact))]
+    pub fn reach(&self) -> Mask
+        ensures value { result ≡ reach_of self.now }
+        ensures walks { IsTrue (is_node self.now.me) → (n : ℕ) → IsTrue (has_node result n) ↔ Reached self.now n }
+    {
+        let me = Mask::empty().with(self.me);
+        self.walk_all(Walk { seen: me, todo: me }).seen
     }
 }

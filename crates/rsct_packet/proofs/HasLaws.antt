@@ -1,6 +1,8 @@
--- What is in a list that was filtered, joined or made from another.
-use Rattle.std.proofs.Common.{◌≡◌, ◌⊎◌, Bool, true, false, List, [], ◌∷◌, ◌++◌, refl, sym, ap, ◌∙◌, inl, inr, ⊎_elim}
-use Rattle.std.specs.Prelude.{filter, map, if◌then◌else◌}
+-- What is in a list that was filtered, joined or made from another, and what a search finds.
+use Rattle.std.proofs.Common.{◌≡◌, ℕ, zero, suc, ◌⊎◌, Bool, true, false, List, [], ◌∷◌, ◌++◌, Option, Some, None, refl, sym, ap, ◌∙◌, inl, inr, ⊎_elim}
+use Rattle.std.specs.Prelude.{filter, map, find, is_none, slice_get, if◌then◌else◌}
+use Rattle.std.specs.List.{list_all}
+use Rattle.std.proofs.lemmas.Bool.{and_parts}
 use Rattle.rsct_packet.specs.Search.{Has}
 
 pub has_filter : {A : Type 0} (test : A → Bool) (x : A) (xs : List A) → Has x (filter test xs) → Has x xs × (test x ≡ true)
@@ -41,3 +43,35 @@ pub has_map : {A B : Type 0} (f : A → B) (y : B) (xs : List A) → Has y (map 
 has_map f y [] h = absurd h
 has_map f y (x ∷ xs) (inl e) = (x, inl refl, e)
 has_map f y (x ∷ xs) (inr h) = let r = has_map f y xs h in (r.0, inr r.1, r.2)
+
+-- a test that holds of a list holds of what is in it
+pub all_has : {A : Type 0} (test : A → Bool) (xs : List A) (x : A) → list_all test xs ≡ true → Has x xs → test x ≡ true
+all_has test [] x e h = absurd h
+all_has test (y ∷ ys) x e h =
+    let p = and_parts (test y) (list_all test ys) e in
+    ⊎_elim (λ (s : x ≡ y). ap test s ∙ p.0) (λ (t : Has x ys). all_has test ys x p.1 t) h
+
+-- what is found is there, and passes
+pub find_has : {A : Type 0} (test : A → Bool) (xs : List A) (x : A) → find test xs ≡ Some x → Has x xs × (test x ≡ true)
+find_has test [] x e = absurd (cc)
+find_has test (y ∷ ys) x e = by (test y) refl (find_has test ys x) e
+  where
+    by : (b : Bool) → test y ≡ b → (find test ys ≡ Some x → Has x ys × (test x ≡ true)) → (if b then Some y else find test ys) ≡ Some x → Has x (y ∷ ys) × (test x ≡ true)
+    by true f more g = let s : x ≡ y = cc in (inl s, ap test s ∙ f)
+    by false f more g = let r = more g in (inr r.0, r.1)
+
+-- where none is found, none passes
+pub find_none : {A : Type 0} (test : A → Bool) (xs : List A) (x : A) → is_none (find test xs) ≡ true → Has x xs → test x ≡ true → ⊥
+find_none test [] x e h t = h
+find_none test (y ∷ ys) x e h t = by (test y) refl (λ e h. find_none test ys x e h t) e h
+  where
+    by : (b : Bool) → test y ≡ b → (is_none (find test ys) ≡ true → Has x ys → ⊥) → is_none (if b then Some y else find test ys) ≡ true → Has x (y ∷ ys) → ⊥
+    by true f more g h = cc
+    by false f more g (inl s) = let u : test y ≡ true = ap test (sym s) ∙ t in cc
+    by false f more g (inr k) = more g k
+
+-- what is got from a list is in it
+pub get_has : {A : Type 0} (xs : List A) (i : ℕ) (x : A) → slice_get xs i ≡ Some x → Has x xs
+get_has [] i x e = absurd (cc)
+get_has (y ∷ ys) zero x e = let s : x ≡ y = cc in inl s
+get_has (y ∷ ys) (suc i) x e = inr (get_has ys i x e)
