@@ -1,13 +1,14 @@
 -- What is read is spelled so, and what is spelled so is read: once for all records, part by part.
 use Rattle.std.proofs.Common.{◌≡◌, ℕ, zero, suc, ◌+◌, ◌^◌, ◌<◌, ◌≤◌, Bool, true, false, cond, ltb, List, [], ◌∷◌, ◌++◌, length, take, drop, Option, Some, None, refl, sym, ap, subst, ◌∙◌, append_assoc, arith, inl, inr, eqb-true}
 use Rattle.std.specs.Prelude.{IsTrue, flat_map, ◌==◌, if◌then◌else◌}
+use Rattle.std.specs.Borrow.{Bor}
 use Rattle.std.specs.Int.{Width, w8, w16, w32, w64, byte_len, from_be_bytes, to_be_bytes}
 use Rattle.std.proofs.lemmas.Bool.{cases_lt, ltb-false, le-ltb}
 use Rattle.std.proofs.lemmas.List.{take_at, drop_at, take-append-drop, length-append, length-take, get_or-drop, get_or-take, get_or_past}
 use Rattle.std.proofs.lemmas.Nat.{be_bytes_2, be_bytes_4, be_bytes_8, from_be_bytes-to_be_bytes_2, from_be_bytes-to_be_bytes_4, from_be_bytes-to_be_bytes_8}
-use Rattle.rsct_packet.specs.Reading.{◌>>=◌, number_at, part_at, both_at, then_at, made_at, decoded_at, guarded_at, keyed_at, many_at, counted_at, option_at, optional_at, Reads}
+use Rattle.rsct_packet.specs.Reading.{◌>>=◌, number_at, part_at, both_at, then_at, made_at, decoded_at, guarded_at, keyed_at, many_at, counted_at, option_at, optional_at, Reads, Gives}
 use Rattle.rsct_packet.specs.Fields.{IsU8, IsU16, IsU32, IsU64, u8_text, u16_text, u32_text, u64_text}
-use Rattle.rsct_packet.specs.Format.{IsBytes, Takes, IsFormat, IsKeyed, IsVariant, counted_text, option_key, option_text, optional_text, OptionFits, EachFits, IsFound, IsOnly}
+use Rattle.rsct_packet.specs.Format.{IsBytes, Takes, IsFormat, IsKeyed, IsVariant, counted_text, option_key, option_text, optional_text, OptionFits, EachFits, IsFound, IsOnly, IsFoundAt}
 
 IsBytes-drop : (n : ℕ) (bytes : List ℕ) → IsBytes bytes → IsBytes (drop n bytes)
 IsBytes-drop n bytes h i = rw get_or-drop (h (n + i))
@@ -284,3 +285,12 @@ pub reads_only : {A : Type 0} {f : List ℕ → Option (A × List ℕ)} {text : 
 reads_only {A = A} {f = f} {text = text} {fits = fits} format old new result reads x rest h e =
     let is : f old ≡ Some (x, rest) = ap f e ∙ format.again x rest h in
     subst (λ (o : Option (A × List ℕ)). Reads o result old new) is reads
+
+gives_by : {A : Type 0} {f : List ℕ → Option (A × List ℕ)} {text : A → List ℕ} {fits : A → Type 0} → IsFormat f text fits → (bytes : List ℕ) (result : Option (A × Bor (List ℕ))) (read : Option (A × List ℕ)) → f bytes ≡ read → IsBytes bytes → Gives result read → IsFoundAt text fits result bytes
+gives_by format bytes None read is h e = tt
+gives_by {A = A} {f = f} format bytes (Some x) read is h e =
+    let p = format.found bytes (x.0, x.1.now) h (is ∙ sym e) in
+    (p.1, p.0.parts)
+
+pub gives_found : {A : Type 0} {f : List ℕ → Option (A × List ℕ)} {text : A → List ℕ} {fits : A → Type 0} → IsFormat f text fits → (bytes : List ℕ) (result : Option (A × Bor (List ℕ))) → IsBytes bytes → Gives result (f bytes) → IsFoundAt text fits result bytes
+gives_found {f = f} format bytes result h e = gives_by format bytes result (f bytes) refl h e

@@ -1,5 +1,6 @@
 -- A format: what is read is spelled so and fits, and what is spelled so and fits is read again.
 use Rattle.std.specs.Prelude.{◌≡◌, ℕ, ◌<◌, List, [], ◌∷◌, ◌++◌, length, get_or, flat_map, Option, Some, None}
+use Rattle.std.specs.Borrow.{Bor}
 use Rattle.std.specs.Int.{Width, w8, to_be_bytes}
 
 -- each is a byte
@@ -56,3 +57,8 @@ IsFound text fits (Some x) old new = fits x × (old ≡ text x ++ new)
 
 abbrev pub IsOnly : {A : Type 0} → (A → List ℕ) → (A → Type 0) → Option A → List ℕ → List ℕ → Type 0
 IsOnly text fits result old new = (x : _) (rest : List ℕ) → fits x → old ≡ text x ++ rest → (result ≡ Some x) × (new ≡ rest)
+
+-- the same where the answer has what is left beside it
+abbrev pub IsFoundAt : {A : Type 0} → (A → List ℕ) → (A → Type 0) → Option (A × Bor (List ℕ)) → List ℕ → Type 0
+IsFoundAt text fits None bytes = Unit {0}
+IsFoundAt text fits (Some x) bytes = fits x.0 × (bytes ≡ text x.0 ++ x.1.now)

@@ -1,7 +1,7 @@
 //! Lists that stand in a datagram.
 ghost use Rattle.std.specs.Prelude.{◌≡◌, ◌∷◌, ◌↔◌, [], List as Listing, ℕ, Option, length, map, IfNone, IfSome, IfOk, OnOk, OnErr, IsTrue, ◌++◌, ◌≤◌, ◌<◌, ◌^◌, take};
-ghost use Rattle.rsct_packet.specs.Fields.{IsNode, providers_at, some_providers_at, providers_text, provider_at, provider_text, member_at, member_text};
-ghost use Rattle.rsct_packet.specs.Format.{EachFits, counted_text};
+ghost use Rattle.rsct_packet.specs.Fields.{IsNode, providers_at, some_providers_at, IsProviders, IsSomeProviders, providers_text, provider_at, provider_text, member_at, member_text};
+ghost use Rattle.rsct_packet.specs.Format.{EachFits, counted_text, IsFoundAt};
 ghost use Rattle.std.specs.Prelude.{flat_map};
 ghost use Rattle.std.specs.Int.{w8, w16, w32};
 ghost use Rattle.rsct_packet.specs.Reading.{Gives, many_at, counted_at};
@@ -10,7 +10,7 @@ ghost use Rattle.rsct_packet.specs.Providers.{among, differ, are_providers};
 
 use crate::ids::{Member, NoMemory, ProviderId};
 use crate::list::List;
-use crate::reading::{read_member, read_provider, read_u8};
+use crate::reading::{known, read_member, read_provider, read_u8};
 use crate::writing::{put_member, put_provider, put_u8, put_u16, put_u32};
 use std::alloc::Global;
 use std::marker::{Model, PhantomData};
@@ -221,9 +221,8 @@ fn are_providers(ps: &Listed<ProviderId>) -> bool
     ps.len() <= 64 && are_apart(ps)
 }
 
-/// At most 64 providers that differ, left where they stand.
 #[tactic(auto, unfolding(crate::specs::Fields::providers_at))]
-pub fn read_providers(b: &[u8]) -> Option<(Listed<ProviderId>, &[u8])>
+fn providers_alone(b: &[u8]) -> Option<(Listed<ProviderId>, &[u8])>
     ensures { Gives result (providers_at b.now) }
 {
     let (ps, b) = read_list::<ProviderId>(b)?;
@@ -233,16 +232,33 @@ pub fn read_providers(b: &[u8]) -> Option<(Listed<ProviderId>, &[u8])>
     Some((ps, b))
 }
 
-/// 1 to 64 providers that differ, left where they stand.
+/// At most 64 providers that differ, left where they stand.
+#[tactic(auto, using(crate::proofs::FormatLaws::gives_found, crate::proofs::FieldLaws::providers_format))]
+pub fn read_providers(b: &[u8]) -> Option<(Listed<ProviderId>, &[u8])>
+    ensures value { Gives result (providers_at b.now) }
+    ensures found { IsFoundAt providers_text IsProviders result b.now }
+{
+    providers_alone(known(b))
+}
+
 #[tactic(auto, unfolding(crate::specs::Fields::some_providers_at))]
-pub fn read_some_providers(b: &[u8]) -> Option<(Listed<ProviderId>, &[u8])>
+fn some_providers_alone(b: &[u8]) -> Option<(Listed<ProviderId>, &[u8])>
     ensures { Gives result (some_providers_at b.now) }
 {
-    let (ps, b) = read_providers(b)?;
+    let (ps, b) = providers_alone(b)?;
     if ps.len() < 1 {
         return None;
     }
     Some((ps, b))
+}
+
+/// 1 to 64 providers that differ, left where they stand.
+#[tactic(auto, using(crate::proofs::FormatLaws::gives_found, crate::proofs::FieldLaws::some_providers_format))]
+pub fn read_some_providers(b: &[u8]) -> Option<(Listed<ProviderId>, &[u8])>
+    ensures value { Gives result (some_providers_at b.now) }
+    ensures found { IsFoundAt providers_text IsSomeProviders result b.now }
+{
+    some_providers_alone(known(b))
 }
 
 /// A count of one byte and the providers.

@@ -51,6 +51,7 @@ fn no_part_of_a_heartbeat_is_a_packet(rt: HostRuntime) -> Result<(), Fail> {
 }
 
 #[test]
+#[tactic(auto, unfolding(crate::specs::Packet::is_head))]
 fn kinds_14_to_21_have_two_levels(rt: HostRuntime) -> Result<(), Fail> {
     for kind in 1..24u8 {
         let head = Head {
@@ -80,6 +81,7 @@ fn kinds_14_to_21_have_two_levels(rt: HostRuntime) -> Result<(), Fail> {
 }
 
 #[test]
+#[tactic(auto, unfolding(crate::specs::Packet::is_head))]
 fn a_heartbeat_is_written(rt: HostRuntime) -> Result<(), Fail> {
     let mut bytes = Vec::new(rt.alloc());
     write_head(
