@@ -5,3 +5,6 @@ pub mod OneNodeScript
 pub mod Words
 pub mod Lines
 pub mod Reading
+pub mod World
+pub mod Play
+pub mod Opens
