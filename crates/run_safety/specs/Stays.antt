@@ -6,8 +6,8 @@ use Rattle.rsct_packet.specs.declared.ids.ViewId.{ViewId}
 use Rattle.rsct_packet.specs.declared.ids.ProviderId.{ProviderId}
 use Rattle.rsct_packet.specs.Providers.{among, same_provider}
 use Rattle.rsct_packet.specs.Search.{place_where}
-use Rattle.client_session.specs.declared.told.Why.{Why}
-use Rattle.client_session.specs.declared.told.Why.TheVariants.{Dissolved}
+use Rattle.client_callbacks.specs.declared.told.Why.{Why}
+use Rattle.client_callbacks.specs.declared.told.Why.TheVariants.{Dissolved}
 use Rattle.proposal_core.specs.declared.entry.Entry.{Entry}
 use Rattle.proposal_core.specs.declared.entry.Entry.TheVariants.{Once, Begin}
 use Rattle.proposal_core.specs.declared.group_state.GroupState.{GroupState}
