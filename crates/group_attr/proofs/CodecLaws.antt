@@ -21,11 +21,11 @@ use Rattle.group_attr.specs.Agree.{batch_number}
 use Rattle.group_attr.specs.Codec.{phases_number, phases_of, phases_at, batch_of, batch_at, default_number, default_of, default_at, dissolve_of, dissolve_at, source_key, source_body, source_part_at, source_at, source_text, attrs_of_parts, attrs_at, attrs_text, IsAttrs}
 
 -- a choice by numbers: the value that is found has the number
-chosen : {A : Type 0} (number : A → ℕ) (n k : ℕ) (x y : A) (b : Bool) (rest : Option A) → (b ≡ true → k ≡ n) → number x ≡ n → (rest ≡ Some y → number y ≡ k) → cond b (Some x) rest ≡ Some y → number y ≡ k
+pub chosen : {A : Type 0} (number : A → ℕ) (n k : ℕ) (x y : A) (b : Bool) (rest : Option A) → (b ≡ true → k ≡ n) → number x ≡ n → (rest ≡ Some y → number y ≡ k) → cond b (Some x) rest ≡ Some y → number y ≡ k
 chosen number n k x y true rest same is others e = let h : x ≡ y = cc in ap number (sym h) ∙ is ∙ sym (same refl)
 chosen number n k x y false rest same is others e = others e
 
-not_chosen : {A : Type 0} {P : Type 0} (y : A) → None ≡ Some y → P
+pub not_chosen : {A : Type 0} {P : Type 0} (y : A) → None ≡ Some y → P
 not_chosen y e = absurd cc
 
 phases_back : (k : ℕ) (y : Phases) → phases_of k ≡ Some y → phases_number y ≡ k

@@ -2,15 +2,21 @@
 #![tactic(auto)]
 
 mod entry;
+mod entry_codec;
 mod fold;
 mod group_list;
 mod group_state;
 mod laws;
 mod proposal;
+mod proposal_codec;
 mod sizes;
+mod state_codec;
 
 pub use entry::{Closed, Entry, Row, RowVote, Rows, Vote};
+pub use entry_codec::{ClosedRef, EntryRef};
 pub use group_list::GroupList;
 pub use group_state::{GroupState, Running};
-pub use laws::lists_are_folds;
+pub use laws::{entries_have_their_lengths, lists_are_folds};
 pub use proposal::{Cause, Failure, Fallen, Proposal};
+pub use proposal_codec::{ProposalRef, read_proposal};
+pub use state_codec::{RunningRef, StateParts, StateRef, read_state};

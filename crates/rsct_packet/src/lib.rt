@@ -17,7 +17,7 @@ pub use fields::Fields;
 pub use ids::{Member, NoMemory, ProtoId, ProviderId, RingId, ViewId, risen};
 pub use list::List;
 pub use listed::{
-    Item, Listed, put_list, put_providers, read_list, read_listed, read_providers,
+    Item, Listed, is_listed, put_list, put_providers, read_list, read_listed, read_providers,
     read_some_providers,
 };
 pub use mask::{Mask, NODES, is_node_number};

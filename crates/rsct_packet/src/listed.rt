@@ -203,7 +203,7 @@ fn are_apart(ps: &Listed<ProviderId>) -> bool
 }
 
 /// Is it one of them?
-fn is_listed(ps: &Listed<ProviderId>, p: ProviderId) -> bool
+pub fn is_listed(ps: &Listed<ProviderId>, p: ProviderId) -> bool
     ensures { result ≡ among ps.now p }
 {
     let mut left = ps.copy();

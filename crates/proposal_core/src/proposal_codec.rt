@@ -1,0 +1,417 @@
+//! How proposals are spelled: a byte for the kind, and what the kind has.
+ghost use Rattle.std.specs.Prelude.{◌≡◌, ◌++◌, IfOk, OnOk, OnErr};
+ghost use Rattle.std.specs.Option.{option_map};
+ghost use Rattle.rsct_packet.specs.Reading.{Gives, Reads};
+ghost use Rattle.std.specs.List.{list_any};
+ghost use Rattle.rsct_packet.specs.Fields.{AreShort};
+ghost use Rattle.rsct_packet.specs.Format.{IsBytes, IsFound, IsOnly};
+ghost use Rattle.proposal_core.specs.ProposalCodec.{cause_number, cause_at, same_failure, failures_differ, are_failures, fallen_at, join_at, leave_at, fail_at, expel_at, state_change_at, message_at, attributes_at, reflect_at, proposal_at, proposal_text, IsProposal, proposal_in};
+
+use crate::proposal::{Cause, Failure, Proposal};
+use group_attr::{AttrsRef, read_attrs};
+use rsct_packet::{
+    Fields, Item, Listed, NoMemory, ProviderId, Providers, Text, ViewId, known, put_bytes,
+    put_list, put_optional_u32, put_provider, put_providers, put_u8, put_u32, put_view, read_bytes,
+    read_list, read_optional_u32, read_provider, read_some_providers, read_u8, read_u32, read_view,
+};
+use std::alloc::Global;
+
+/// A proposal as it stands in a datagram.
+#[derive(Drop)]
+pub enum ProposalRef<'a> {
+    Join {
+        ps: Listed<'a, ProviderId>,
+        attrs: AttrsRef<'a>,
+        source_len: Option<u32>,
+    },
+    Leave {
+        p: ProviderId,
+        r: u32,
+    },
+    Fail {
+        out: Listed<'a, Failure>,
+    },
+    Expel {
+        p: ProviderId,
+        r: u32,
+        out: Listed<'a, ProviderId>,
+    },
+    State {
+        p: ProviderId,
+        r: u32,
+        value: &'a [u8],
+    },
+    Message {
+        p: ProviderId,
+        r: u32,
+        bytes: &'a [u8],
+    },
+    Attributes {
+        p: ProviderId,
+        r: u32,
+        attrs: AttrsRef<'a>,
+    },
+    Reflect {
+        view: ViewId,
+        place: u32,
+        value: &'a [u8],
+    },
+}
+
+fn cause_number(cause: Cause) -> u8
+    ensures { result ≡ cause_number cause }
+{
+    match cause {
+        Cause::Died => 1,
+        Cause::Gone => 2,
+        Cause::Cast => 3,
+    }
+}
+
+#[tactic(auto, unfolding(crate::specs::ProposalCodec::cause_at))]
+fn read_cause(b: &[u8]) -> Option<(Cause, &[u8])>
+    ensures { Gives result (cause_at b.now) }
+{
+    let (n, b) = read_u8(b)?;
+    match n {
+        1 => Some((Cause::Died, b)),
+        2 => Some((Cause::Gone, b)),
+        3 => Some((Cause::Cast, b)),
+        _ => None,
+    }
+}
+
+impl Item for Failure {
+    ghost use Rattle.rsct_packet.specs.Fields.{IsNode};
+    ghost use Rattle.proposal_core.specs.ProposalCodec.{failure_at, failure_text};
+
+    ghost read_at = { failure_at };
+
+    ghost text = { failure_text };
+
+    ghost can_put = { λ x. IsNode x.p.node };
+
+    fn read(b: &[u8]) -> Option<(Failure, &[u8])> {
+        let (p, b) = read_provider(b)?;
+        let (cause, b) = read_cause(b)?;
+        Some((Failure { p, cause }, b))
+    }
+
+    fn put(&self, out: &mut Vec<u8>) -> Result<(), NoMemory> {
+        let before = out.len();
+        put_provider(out, self.p)?;
+        if let Err(e) = put_u8(out, cause_number(self.cause)) {
+            out.truncate(before);
+            return Err(e);
+        }
+        Ok(())
+    }
+}
+
+fn is_same_failure(a: &Failure, b: &Failure) -> bool
+    ensures { result ≡ same_failure a.now b.now }
+{
+    a.p == b.p && cause_number(a.cause) == cause_number(b.cause)
+}
+
+/// Is it one of them?
+fn is_listed(fs: &Listed<Failure>, f: &Failure) -> bool
+    ensures { result ≡ list_any (λ g. same_failure g f.now) fs.now }
+{
+    let mut left = fs.copy();
+    while let Some(g) = left.take_first() {
+        if is_same_failure(&g, f) {
+            return true;
+        }
+    }
+    false
+}
+
+/// Does each differ from those after it?
+fn are_apart(fs: &Listed<Failure>) -> bool
+    ensures { result ≡ failures_differ fs.now }
+{
+    let mut left = fs.copy();
+    while let Some(f) = left.take_first() {
+        if is_listed(&left, &f) {
+            return false;
+        }
+    }
+    true
+}
+
+fn are_failures(fs: &Listed<Failure>) -> bool
+    ensures { result ≡ are_failures fs.now }
+{
+    fs.len() >= 1 && fs.len() <= 64 && are_apart(fs)
+}
+
+/// 1 to 64 pairs of a provider and a cause that differ.
+#[tactic(auto, unfolding(crate::specs::ProposalCodec::fallen_at))]
+fn read_fallen(b: &[u8]) -> Option<(Listed<Failure>, &[u8])>
+    ensures { Gives result (fallen_at b.now) }
+{
+    let (out, b) = read_list::<Failure>(b)?;
+    if !are_failures(&out) {
+        return None;
+    }
+    Some((out, b))
+}
+
+#[tactic(auto, unfolding(crate::specs::ProposalCodec::join_at))]
+fn read_join(b: &[u8]) -> Option<(ProposalRef<'_>, &[u8])>
+    ensures { option_map (λ x. (proposal_in x.0, x.1.now)) result ≡ join_at b.now }
+{
+    let (ps, b) = read_some_providers(b)?;
+    let (attrs, b) = read_attrs(b)?;
+    let (source_len, b) = read_optional_u32(b)?;
+    Some((
+        ProposalRef::Join {
+            ps,
+            attrs,
+            source_len,
+        },
+        b,
+    ))
+}
+
+#[tactic(auto, unfolding(crate::specs::ProposalCodec::leave_at))]
+fn read_leave(b: &[u8]) -> Option<(ProposalRef<'_>, &[u8])>
+    ensures { option_map (λ x. (proposal_in x.0, x.1.now)) result ≡ leave_at b.now }
+{
+    let (p, b) = read_provider(b)?;
+    let (r, b) = read_u32(b)?;
+    Some((ProposalRef::Leave { p, r }, b))
+}
+
+#[tactic(auto, unfolding(crate::specs::ProposalCodec::fail_at))]
+fn read_fail(b: &[u8]) -> Option<(ProposalRef<'_>, &[u8])>
+    ensures { option_map (λ x. (proposal_in x.0, x.1.now)) result ≡ fail_at b.now }
+{
+    let (out, b) = read_fallen(b)?;
+    Some((ProposalRef::Fail { out }, b))
+}
+
+#[tactic(auto, unfolding(crate::specs::ProposalCodec::expel_at))]
+fn read_expel(b: &[u8]) -> Option<(ProposalRef<'_>, &[u8])>
+    ensures { option_map (λ x. (proposal_in x.0, x.1.now)) result ≡ expel_at b.now }
+{
+    let (p, b) = read_provider(b)?;
+    let (r, b) = read_u32(b)?;
+    let (out, b) = read_some_providers(b)?;
+    Some((ProposalRef::Expel { p, r, out }, b))
+}
+
+#[tactic(auto, unfolding(crate::specs::ProposalCodec::state_change_at))]
+fn read_state_change(b: &[u8]) -> Option<(ProposalRef<'_>, &[u8])>
+    ensures { option_map (λ x. (proposal_in x.0, x.1.now)) result ≡ state_change_at b.now }
+{
+    let (p, b) = read_provider(b)?;
+    let (r, b) = read_u32(b)?;
+    let (value, b) = read_bytes(b)?;
+    Some((ProposalRef::State { p, r, value }, b))
+}
+
+#[tactic(auto, unfolding(crate::specs::ProposalCodec::message_at))]
+fn read_message(b: &[u8]) -> Option<(ProposalRef<'_>, &[u8])>
+    ensures { option_map (λ x. (proposal_in x.0, x.1.now)) result ≡ message_at b.now }
+{
+    let (p, b) = read_provider(b)?;
+    let (r, b) = read_u32(b)?;
+    let (bytes, b) = read_bytes(b)?;
+    Some((ProposalRef::Message { p, r, bytes }, b))
+}
+
+#[tactic(auto, unfolding(crate::specs::ProposalCodec::attributes_at))]
+fn read_attributes(b: &[u8]) -> Option<(ProposalRef<'_>, &[u8])>
+    ensures { option_map (λ x. (proposal_in x.0, x.1.now)) result ≡ attributes_at b.now }
+{
+    let (p, b) = read_provider(b)?;
+    let (r, b) = read_u32(b)?;
+    let (attrs, b) = read_attrs(b)?;
+    Some((ProposalRef::Attributes { p, r, attrs }, b))
+}
+
+#[tactic(auto, unfolding(crate::specs::ProposalCodec::reflect_at))]
+fn read_reflect(b: &[u8]) -> Option<(ProposalRef<'_>, &[u8])>
+    ensures { option_map (λ x. (proposal_in x.0, x.1.now)) result ≡ reflect_at b.now }
+{
+    let (view, b) = read_view(b)?;
+    let (place, b) = read_u32(b)?;
+    let (value, b) = read_bytes(b)?;
+    Some((ProposalRef::Reflect { view, place, value }, b))
+}
+
+/// A proposal off the front of bytes, with the bytes after it.
+#[tactic(auto, unfolding(crate::specs::ProposalCodec::proposal_at))]
+pub fn read_proposal(b: &[u8]) -> Option<(ProposalRef<'_>, &[u8])>
+    ensures { option_map (λ x. (proposal_in x.0, x.1.now)) result ≡ proposal_at b.now }
+{
+    let (kind, b) = read_u8(b)?;
+    match kind {
+        1 => read_join(b),
+        2 => read_leave(b),
+        3 => read_fail(b),
+        4 => read_expel(b),
+        5 => read_state_change(b),
+        6 => read_message(b),
+        7 => read_attributes(b),
+        8 => read_reflect(b),
+        _ => None,
+    }
+}
+
+fn take_proposal<'a>(f: &mut Fields<'a>) -> Option<ProposalRef<'a>>
+    ensures value { Reads (proposal_at f.old) (option_map (λ x. proposal_in x) result) f.old f.new }
+    ensures bytes { IsBytes f.old }
+{
+    let (x, rest) = read_proposal(known(f.rest()))?;
+    *f = Fields::new(rest);
+    Some(x)
+}
+
+/// The text of bytes that are short enough.
+pub fn text_of(alloc: Global, b: &[u8]) -> Result<Text, NoMemory>
+    requires { AreShort b.now }
+    ensures { IfOk result (λ t. t ≡ b.now) }
+{
+    Ok(Text::of(alloc, b)?.unwrap())
+}
+
+impl Proposal {
+    /// Takes a proposal off the front of what is left, and copies nothing. None exactly where the front is
+    /// no spelling of a proposal; then it takes nothing.
+    #[tactic(auto, using(rsct_packet::proofs::FormatLaws::reads_found, rsct_packet::proofs::FormatLaws::reads_only, crate::proofs::ProposalFormat::proposal_format))]
+    pub fn read<'a>(f: &mut Fields<'a>) -> Option<ProposalRef<'a>>
+        ensures value { Reads (proposal_at f.old) (option_map (λ x. proposal_in x) result) f.old f.new }
+        ensures found { IsFound proposal_text IsProposal (option_map (λ x. proposal_in x) result) f.old f.new }
+        ensures only { IsOnly proposal_text IsProposal (option_map (λ x. proposal_in x) result) f.old f.new }
+    {
+        take_proposal(f)
+    }
+
+    /// The spelling, in memory of its own.
+    #[tactic(auto, unfolding(crate::specs::ProposalCodec::proposal_text, crate::specs::ProposalCodec::fallen_text), using(crate::proofs::ProposalFormat::some_nodes, crate::proofs::ProposalFormat::fallen_nodes, std::proofs::lemmas::Grind::common_steps))]
+    fn spelled(&self, alloc: Global) -> Result<Vec<u8>, NoMemory>
+        requires { IsProposal self.now }
+        ensures { IfOk result (λ v. v.items ≡ proposal_text self.now) }
+    {
+        let mut out = Vec::new(alloc);
+        match self {
+            Proposal::Join {
+                ps,
+                attrs,
+                source_len,
+            } => {
+                put_u8(&mut out, 1)?;
+                put_providers(&mut out, ps.as_slice())?;
+                attrs.write(&mut out)?;
+                put_optional_u32(&mut out, *source_len)?;
+            }
+            Proposal::Leave { p, r } => {
+                put_u8(&mut out, 2)?;
+                put_provider(&mut out, *p)?;
+                put_u32(&mut out, *r)?;
+            }
+            Proposal::Fail { out: fallen } => {
+                put_u8(&mut out, 3)?;
+                put_list(&mut out, fallen.as_slice())?;
+            }
+            Proposal::Expel {
+                p,
+                r,
+                out: expelled,
+            } => {
+                put_u8(&mut out, 4)?;
+                put_provider(&mut out, *p)?;
+                put_u32(&mut out, *r)?;
+                put_providers(&mut out, expelled.as_slice())?;
+            }
+            Proposal::State { p, r, value } => {
+                put_u8(&mut out, 5)?;
+                put_provider(&mut out, *p)?;
+                put_u32(&mut out, *r)?;
+                put_bytes(&mut out, value.bytes())?;
+            }
+            Proposal::Message { p, r, bytes } => {
+                put_u8(&mut out, 6)?;
+                put_provider(&mut out, *p)?;
+                put_u32(&mut out, *r)?;
+                put_bytes(&mut out, bytes.bytes())?;
+            }
+            Proposal::Attributes { p, r, attrs } => {
+                put_u8(&mut out, 7)?;
+                put_provider(&mut out, *p)?;
+                put_u32(&mut out, *r)?;
+                attrs.write(&mut out)?;
+            }
+            Proposal::Reflect { view, place, value } => {
+                put_u8(&mut out, 8)?;
+                put_view(&mut out, *view)?;
+                put_u32(&mut out, *place)?;
+                put_bytes(&mut out, value.bytes())?;
+            }
+        }
+        Ok(out)
+    }
+
+    /// Takes the spelling to the end of `out`, and leaves `out` as before where memory has run out.
+    pub fn write(&self, alloc: Global, out: &mut Vec<u8>) -> Result<(), NoMemory>
+        requires { IsProposal self.now }
+        ensures ok { OnOk result (out.new.items ≡ out.old.items ++ proposal_text self.now) }
+        ensures err { OnErr result (out.new.items ≡ out.old.items) }
+    {
+        let text = self.spelled(alloc)?;
+        out.extend_from_slice(text.as_slice())?;
+        Ok(())
+    }
+}
+
+impl<'a> ProposalRef<'a> {
+    /// A proposal of its own.
+    pub fn own(&self, alloc: Global) -> Result<Proposal, NoMemory>
+        requires { IsProposal (proposal_in self.now) }
+        ensures { IfOk result (λ x. x ≡ proposal_in self.now) }
+    {
+        Ok(match self {
+            ProposalRef::Join {
+                ps,
+                attrs,
+                source_len,
+            } => Proposal::Join {
+                ps: Providers::of_listed(alloc, ps)?,
+                attrs: attrs.own(alloc)?,
+                source_len: *source_len,
+            },
+            ProposalRef::Leave { p, r } => Proposal::Leave { p: *p, r: *r },
+            ProposalRef::Fail { out } => Proposal::Fail {
+                out: out.own(alloc)?,
+            },
+            ProposalRef::Expel { p, r, out } => Proposal::Expel {
+                p: *p,
+                r: *r,
+                out: Providers::of_listed(alloc, out)?,
+            },
+            ProposalRef::State { p, r, value } => Proposal::State {
+                p: *p,
+                r: *r,
+                value: text_of(alloc, value)?,
+            },
+            ProposalRef::Message { p, r, bytes } => Proposal::Message {
+                p: *p,
+                r: *r,
+                bytes: text_of(alloc, bytes)?,
+            },
+            ProposalRef::Attributes { p, r, attrs } => Proposal::Attributes {
+                p: *p,
+                r: *r,
+                attrs: attrs.own(alloc)?,
+            },
+            ProposalRef::Reflect { view, place, value } => Proposal::Reflect {
+                view: *view,
+                place: *place,
+                value: text_of(alloc, value)?,
+            },
+        })
+    }
+}
