@@ -1,5 +1,5 @@
 -- What becomes of a join, and what begins next: failures before joins.
-use Rattle.std.specs.Prelude.{ℕ, Bool, ◌==◌, ◌||◌, List, [], ◌∷◌, length, Option, Some, None, if◌then◌else◌}
+use Rattle.std.specs.Prelude.{Bool, ◌==◌, ◌||◌, List, [], ◌∷◌, length, Option, Some, None, if◌then◌else◌}
 use Rattle.rsct_packet.specs.declared.ids.ProviderId.{ProviderId}
 use Rattle.group_attr.specs.declared.attrs.Batch.{Batch}
 use Rattle.proposal_core.specs.declared.proposal.Failure.{Failure}
@@ -7,10 +7,7 @@ use Rattle.batch_rules.specs.declared.waiting.Added.{Added}
 use Rattle.batch_rules.specs.declared.waiting.Added.TheVariants.{Queued, Full, DuplicateInstance}
 use Rattle.batch_rules.specs.declared.waiting.Chosen.{Chosen}
 use Rattle.batch_rules.specs.declared.waiting.Chosen.TheVariants as chosen
-use Rattle.batch_rules.specs.Waiting.{WaitingView, has_instance, waits_join, next_failures, failures_left, next_joins, joins_left}
-
-abbrev pub max_waiting : ℕ
-max_waiting = 64
+use Rattle.batch_rules.specs.Waiting.{WaitingView, max_waiting, has_instance, waits_join, next_failures, failures_left, next_joins, joins_left}
 
 -- a provider with its node and instance number is present or waits
 abbrev pub is_duplicate : ProviderId → List ProviderId → WaitingView → Bool

@@ -1,5 +1,5 @@
 -- What waits to begin.
-use Rattle.std.specs.Prelude.{ℕ, Bool, true, false, ◌==◌, ◌&&◌, ◌++◌, List, [], ◌∷◌, take, drop, length, if◌then◌else◌}
+use Rattle.std.specs.Prelude.{ℕ, Bool, true, false, not, ◌==◌, ◌&&◌, ◌++◌, List, [], ◌∷◌, take, drop, length, nat_lt, if◌then◌else◌}
 use Rattle.std.specs.List.{list_any}
 use Rattle.rsct_packet.specs.declared.ids.ProviderId.{ProviderId}
 use Rattle.rsct_packet.specs.Providers.{same_provider, without}
@@ -33,9 +33,17 @@ is_failure_of p f = same_provider f.p p
 abbrev pub is_failing : ProviderId → WaitingView → Bool
 is_failing p w = list_any (is_failure_of p) w.failures
 
+-- how many joins and how many failures wait at most
+abbrev pub max_waiting : ℕ
+max_waiting = 64
+
+-- it does not wait as a failure yet, and there is room
+abbrev pub takes_failure : ProviderId → WaitingView → Bool
+takes_failure p w = not (is_failing p w) && nat_lt (length w.failures) max_waiting
+
 -- a provider that waits as a failure keeps its first cause
 abbrev pub waits_failure : ProviderId → Cause → WaitingView → WaitingView
-waits_failure p c w = if is_failing p w then w else record w { failures = w.failures ++ record { p = p; cause = c } ∷ [] }
+waits_failure p c w = if takes_failure p w then record w { failures = w.failures ++ record { p = p; cause = c } ∷ [] } else w
 
 abbrev pub join_dropped : ProviderId → WaitingView → WaitingView
 join_dropped p w = record w { joins = without w.joins p }

@@ -1,7 +1,7 @@
 //! The queue of a group.
-ghost use Rattle.std.specs.Prelude.{◌≡◌, ◌≤◌, ◌<◌, length, not};
+ghost use Rattle.std.specs.Prelude.{◌≡◌, ◌≤◌, length};
 ghost use Rattle.rsct_packet.specs.Providers.{among};
-ghost use Rattle.batch_rules.specs.Waiting.{nothing_waits, is_failing as is_failing_in, waits_failure, join_dropped};
+ghost use Rattle.batch_rules.specs.Waiting.{nothing_waits, takes_failure, waits_failure, join_dropped};
 ghost use Rattle.batch_rules.specs.Next.{added_as, after_join, next_chosen, next_left};
 
 use crate::queue::{
@@ -90,13 +90,13 @@ impl Waiting {
         Added::Queued
     }
 
-    /// Puts a failure at the end, unless its provider waits as one; then its first cause stays.
+    /// Puts a failure at the end, and answers `false`, changing nothing, exactly where its provider waits as a
+    /// failure already or 64 failures wait. A group has at most 64 providers, so its leader meets the first alone.
     pub fn add_failure(&mut self, p: ProviderId, cause: Cause) -> bool
-        requires { length self.old.failures < 64 }
-        ensures answer { result ≡ not (is_failing_in p self.old) }
+        ensures answer { result ≡ takes_failure p self.old }
         ensures queue { self.new ≡ waits_failure p cause self.old }
     {
-        if is_failing(self.failures.as_slice(), p) {
+        if is_failing(self.failures.as_slice(), p) || self.failures.is_full() {
             return false;
         }
         self.failures.push(Failure { p, cause });
