@@ -1,5 +1,6 @@
 //! A gathering for a ring that is to be.
-ghost use Rattle.std.specs.Prelude.{◌≡◌};
+ghost use Rattle.std.specs.Prelude.{◌≡◌, ℕ, IsTrue};
+ghost use Rattle.rsct_packet.specs.Mask.{has_node};
 ghost use Rattle.ring_commit.specs.Gather.{gather_opened, is_awaited, gather_acked, all_acked};
 
 use rsct_packet::{Mask, RingId};
@@ -41,7 +42,8 @@ impl Gather {
     /// Have all that were asked acknowledged?
     #[tactic(auto, unfolding(crate::specs::Gather::all_acked))]
     pub fn all(&self) -> bool
-        ensures { result ≡ all_acked self.now }
+        ensures value { result ≡ all_acked self.now }
+        ensures each { IsTrue result → (n : ℕ) → IsTrue (has_node self.now.asked n) → IsTrue (has_node self.now.acked n) }
     {
         self.asked.common(self.acked) == self.asked
     }

@@ -2,5 +2,7 @@
 #![tactic(auto)]
 
 mod gather;
+mod laws;
 
 pub use gather::Gather;
+pub use laws::closes_with_the_acknowledged;
