@@ -76,7 +76,7 @@ set_kept : (s : RingSettings) (made more : List Made) → ((a : Made) → Has a 
 set_kept s made more kept t k = record { own = kept (record { id = t.id; members = t.members }) k.own; mine = k.mine; beside = k.beside }
 
 -- what a ring's step leaves
-taken_fine : (s : RingSettings) (w : Network) (r : Ring) (x : RingWork) (f : Fine s w) (more : List Made) → Has r w.rings → WorkOk s r.me r.inc f.made more x → Fine s (step_taken w x)
+pub taken_fine : (s : RingSettings) (w : Network) (r : Ring) (x : RingWork) (f : Fine s w) (more : List Made) → Has r w.rings → WorkOk s r.me r.inc f.made more x → Fine s (step_taken w x)
 unfolding step_taken sent_by told_by
 taken_fine s w r x f more h o =
     record {
@@ -148,7 +148,7 @@ given_fine s differ w k f = by (slice_get w.sent k) refl
     by None g = f
     by (Some x) g = stepped_fine s differ w (Packet x.from x.inc x.packet) x.to f (f.sent x (get_has w.sent k x g))
 
-stop_fine : (s : RingSettings) (w : Network) (n : ℕ) → Fine s w → Fine s (happens w (Stops n))
+pub stop_fine : (s : RingSettings) (w : Network) (n : ℕ) → Fine s w → Fine s (happens w (Stops n))
 unfolding happens
 stop_fine s w n f =
     let rest : (q : Ring) → Has q (filter (λ (r : Ring). not (r.me == n)) w.rings) → Has q w.rings = λ q h. (has_filter (λ (r : Ring). not (r.me == n)) q w.rings h).0 in
@@ -176,7 +176,7 @@ has_addr_up : (s : RingSettings) (n : ℕ) → has_addr s n ≡ true → 0 < add
 unfolding has_addr
 has_addr_up s n h = ltb-true 0 (addr_of s n) h
 
-started_fine : (s : RingSettings) (w : Network) (n inc : ℕ) → Fine s w → 0 < addr_of s n → ((q : Ring) → Has q w.rings → q.me ≡ n → ⊥) → ((b : Started) → Has b w.starts → b.node ≡ n → b.inc < inc) → Fine s (ring_started w (ring_new w.net n inc w.settings))
+pub started_fine : (s : RingSettings) (w : Network) (n inc : ℕ) → Fine s w → 0 < addr_of s n → ((q : Ring) → Has q w.rings → q.me ≡ n → ⊥) → ((b : Started) → Has b w.starts → b.node ≡ n → b.inc < inc) → Fine s (ring_started w (ring_new w.net n inc w.settings))
 unfolding ring_started ring_new ring_told neighbour
 started_fine s w n inc f up down later =
     let r : Ring = ring_new w.net n inc w.settings in
@@ -258,7 +258,7 @@ happens_fine s differ w (Stops n) f = stop_fine s w n f
 happens_fine s differ w (Ticks n) f = stepped_fine s differ w Tick n f tt
 happens_fine s differ w (Given k) f = given_fine s differ w k f
 
-quiet_fine : (s : RingSettings) (net : ℕ) → Fine s (quiet net s)
+pub quiet_fine : (s : RingSettings) (net : ℕ) → Fine s (quiet net s)
 unfolding quiet
 quiet_fine s net =
     record {
@@ -278,7 +278,7 @@ unfolding after
 after_fine s differ w [] f = f
 after_fine s differ w (e ∷ es) f = after_fine s differ (happens w e) es (happens_fine s differ w e f)
 
-fine_agree : (s : RingSettings) (w : Network) → Fine s w → RingsAgree s w.told
+pub fine_agree : (s : RingSettings) (w : Network) → Fine s w → RingsAgree s w.told
 fine_agree s w f =
     record {
       same = λ a b g h e. f.books.one (record { id = a.id; members = a.members }) (record { id = b.id; members = b.members }) (f.told a g).own (f.told b h).own e;
