@@ -1,16 +1,14 @@
 -- What is read as attributes is spelled so, and what is spelled so is read.
-use Rattle.std.proofs.Common.{◌≡◌, ℕ, ◌<◌, ◌≤◌, Bool, true, false, cond, List, [], ◌∷◌, ◌++◌, length, Option, Some, None, refl, sym, ap, subst, ◌∙◌, arith, eqb-true}
-use Rattle.std.specs.Prelude.{◌==◌, IsTrue, if◌then◌else◌, ◌&&◌, nat_le}
-use Rattle.std.specs.Int.{w8, w16, to_be_bytes}
+use Rattle.std.proofs.Common.{◌≡◌, ℕ, ◌<◌, ◌≤◌, Bool, true, false, cond, List, ◌++◌, length, Option, Some, None, refl, sym, ap, subst, ◌∙◌, arith, eqb-true}
+use Rattle.std.specs.Prelude.{◌==◌, if◌then◌else◌, ◌&&◌, nat_le}
 use Rattle.std.specs.List.{list_all}
 use Rattle.std.proofs.lemmas.Bool.{leb-true}
-use Rattle.rsct_packet.specs.Reading.{number_at, part_at, made_at, guarded_at, decoded_at}
-use Rattle.rsct_packet.specs.Format.{IsFormat, IsKeyed, IsVariant, IsBytes, Takes, OptionFits}
+use Rattle.rsct_packet.specs.Reading.{part_at, made_at, guarded_at}
+use Rattle.rsct_packet.specs.Format.{IsFormat, IsVariant, Takes, OptionFits}
 use Rattle.rsct_packet.specs.Text.{IsName, is_name_of, name_byte}
-use Rattle.rsct_packet.specs.Fields.{u8_text, u16_text, IsU8, IsU16}
-use Rattle.rsct_packet.proofs.FormatLaws.{both_format, made_format, decoded_format, guarded_format, fits_format, keyed_format, keyed_of, or_variant, plain_variant, part_keyed, bind_some, then_some, u8_format, u16_format}
+use Rattle.rsct_packet.specs.Fields.{u8_text}
+use Rattle.rsct_packet.proofs.FormatLaws.{both_format, made_format, decoded_format, fits_format, keyed_format, keyed_of, or_variant, plain_variant, part_keyed, bind_some, then_some, u8_format, u16_format}
 use Rattle.rsct_packet.proofs.FieldLaws.{and_true}
-use Rattle.group_attr.specs.declared.attrs.Attrs.{Attrs}
 use Rattle.group_attr.specs.declared.attrs.Phases.{Phases}
 use Rattle.group_attr.specs.declared.attrs.Phases.TheVariants.{One, Many}
 use Rattle.group_attr.specs.declared.attrs.Batch.{Batch}

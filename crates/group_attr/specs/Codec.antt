@@ -1,10 +1,10 @@
 -- How attributes are spelled.
-use Rattle.std.specs.Prelude.{ℕ, Bool, ◌==◌, List, [], ◌++◌, length, Option, Some, None, option_copied, if◌then◌else◌}
+use Rattle.std.specs.Prelude.{ℕ, ◌==◌, List, [], ◌++◌, length, Option, Some, None, option_copied, if◌then◌else◌}
 use Rattle.std.specs.Int.{w8, w16}
 use Rattle.rsct_packet.specs.Reading.{number_at, part_at, both_at, made_at, decoded_at, guarded_at, keyed_at}
 use Rattle.rsct_packet.specs.Format.{OptionFits}
 use Rattle.rsct_packet.specs.Text.{IsName, is_name_of}
-use Rattle.rsct_packet.specs.Fields.{u8_text, u16_text, name_text, IsU16}
+use Rattle.rsct_packet.specs.Fields.{u8_text, u16_text, IsU16}
 use Rattle.group_attr.specs.declared.attrs.Attrs.{Attrs}
 use Rattle.group_attr.specs.declared.attrs.Phases.{Phases}
 use Rattle.group_attr.specs.declared.attrs.Phases.TheVariants.{One, Many}

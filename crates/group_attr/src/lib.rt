@@ -3,6 +3,8 @@
 
 mod attrs;
 mod codec;
+#[cfg(test)]
+mod tests;
 
 pub use attrs::{AttrFault, Attrs, Batch, DefaultVote, HOST_MEMBERSHIP, MAX_LIMIT, Phases};
 pub use codec::{AttrsRef, read_attrs};
