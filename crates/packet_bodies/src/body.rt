@@ -1,14 +1,10 @@
 //! The bodies of packets, but for those that carry a group's proposals and entries. A body is read from all of
 //! its bytes: `None` exactly where they are no spelling. What is handed out are parts of the datagram.
-ghost use Rattle.std.specs.Prelude.{◌≡◌, ◌++◌, ◌≤◌, IsTrue, length, map, take, OnOk, OnErr, Option, List as Listing, ℕ, option_map};
-ghost use Rattle.std.specs.Int.{w8};
+ghost use Rattle.std.specs.Prelude.{◌≡◌, Option, option_map};
 ghost use Rattle.rsct_packet.specs.Reading.{Gives};
-ghost use Rattle.rsct_packet.specs.Format.{EachFits};
-ghost use Rattle.rsct_packet.specs.Listed.{ascending_from, ascending};
-ghost use Rattle.rsct_packet.specs.Text.{IsName};
-ghost use Rattle.rsct_packet.specs.Fields.{IsNode, IsNodeOrNone, IsMask, IsRing, IsView, mask_at, mask_text, ring_at, ring_text, view_at, view_text};
-ghost use Rattle.packet_bodies.specs.Body.{whole_of, whole_at, IsWhole, IsOnlyWhole, IsRingMask, ring_mask_at, ring_mask_text, IsDeath, death_at, death_text, IsPrepare, prepare_at, prepare_text, IsRefuse, refuse_at, refuse_text, report_row_at, report_row_text, are_report_rows, IsReport, report_at, report_text, IsLeader, leader_at, leader_text, IsAck, ack_at, ack_text, IsGone, gone_at, gone_text, what_at, what_code, IsQuery, query_at, query_text};
-ghost use Rattle.packet_bodies.specs.Group.{IsGroup, group_at, group_text, IsReply, reply_at, reply_text};
+ghost use Rattle.rsct_packet.specs.Fields.{IsNode, IsMask, IsRing, IsView, mask_at, mask_text, ring_at, ring_text, view_at, view_text};
+ghost use Rattle.packet_bodies.specs.Body.{whole_of, whole_at, IsWhole, IsOnlyWhole, IsRingMask, ring_mask_at, ring_mask_text, IsDeath, death_at, death_text, IsPrepare, prepare_at, prepare_text, IsRefuse, refuse_at, refuse_text, report_row_at, report_row_text, are_report_rows, IsReport, report_at, report_text, IsLeader, leader_at, leader_text, IsAck, ack_at, ack_text, IsGone, gone_at, gone_text, what_at, IsQuery, query_at, query_text};
+ghost use Rattle.packet_bodies.specs.Group.{IsGroup, group_at, group_text};
 
 use crate::group::{GroupRef, read_group};
 use rsct_packet::{

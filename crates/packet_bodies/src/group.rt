@@ -1,10 +1,9 @@
 //! A group in a view, as packets name it.
-ghost use Rattle.std.specs.Prelude.{◌≡◌, ◌++◌, OnOk, OnErr, option_map};
-ghost use Rattle.std.specs.Int.{w32};
+ghost use Rattle.std.specs.Prelude.{◌≡◌, ◌++◌, OnOk, OnErr};
 ghost use Rattle.rsct_packet.specs.Text.{IsName};
 ghost use Rattle.rsct_packet.specs.Fields.{IsNode};
 ghost use Rattle.rsct_packet.specs.Reading.{Gives};
-ghost use Rattle.packet_bodies.specs.Group.{group_at, group_text, reply_at, reply_text, IsReply, ReplyIn};
+ghost use Rattle.packet_bodies.specs.Group.{group_at, group_text};
 
 use rsct_packet::{NoMemory, ViewId, put_name, put_view, read_name, read_view};
 use std::marker::Model;

@@ -1,17 +1,16 @@
 //! Lists that stand in a datagram.
-ghost use Rattle.std.specs.Prelude.{◌≡◌, ◌∷◌, ◌↔◌, [], List as Listing, ℕ, Option, length, map, IfNone, IfSome, IfOk, OnOk, OnErr, IsTrue, ◌++◌, ◌≤◌, ◌<◌, ◌^◌, take};
+ghost use Rattle.std.specs.Prelude.{◌≡◌, ◌∷◌, [], List as Listing, ℕ, Option, length, IfNone, IfSome, IfOk, OnOk, OnErr, ◌++◌, ◌<◌, take};
 ghost use Rattle.rsct_packet.specs.Fields.{IsNode, providers_at, some_providers_at, IsProviders, IsSomeProviders, providers_text, provider_at, provider_text, member_at, member_text};
 ghost use Rattle.rsct_packet.specs.Format.{EachFits, counted_text, IsFoundAt};
 ghost use Rattle.std.specs.Prelude.{flat_map};
-ghost use Rattle.std.specs.Int.{w8, w16, w32};
+ghost use Rattle.std.specs.Int.{w8};
 ghost use Rattle.rsct_packet.specs.Reading.{Gives, many_at, counted_at};
-ghost use Rattle.rsct_packet.specs.Listed.{ascending};
 ghost use Rattle.rsct_packet.specs.Providers.{among, differ, are_providers};
 
 use crate::ids::{Member, NoMemory, ProviderId};
 use crate::list::List;
 use crate::reading::{known, read_member, read_provider, read_u8};
-use crate::writing::{put_member, put_provider, put_u8, put_u16, put_u32};
+use crate::writing::{put_member, put_provider, put_u8};
 use std::alloc::Global;
 use std::marker::{Model, PhantomData};
 

@@ -1,8 +1,10 @@
 //! What the clauses leave open: that memory which is there is used, and bytes that were written elsewhere.
 use crate::{
     Fields, Head, List, Mask, Member, Name, Packet, ProtoId, ProviderId, Providers, RingId, Text,
-    ViewId, put_bytes, put_mask, put_member, put_name, put_proto, put_providers, put_ring, put_u8,
-    put_u16, put_u64, read_providers, write_head, write_head2,
+    ViewId, put_bytes, put_mask, put_member, put_name, put_optional_bytes, put_optional_proto,
+    put_optional_u32, put_proto, put_provider, put_providers, put_ring, put_u8, put_u16, put_u32,
+    put_u64, put_view, read_optional_bytes, read_optional_proto, read_optional_u32, read_providers,
+    write_head, write_head2,
 };
 use std::test::Fail;
 
@@ -120,6 +122,7 @@ fn fields_are_written_and_read(rt: HostRuntime) -> Result<(), Fail> {
     };
     put_u8(&mut out, 5)?;
     put_u16(&mut out, 300)?;
+    put_u32(&mut out, 66000)?;
     put_u64(&mut out, 70000)?;
     put_bytes(&mut out, b"red")?;
     put_name(&mut out, b"db")?;
@@ -129,6 +132,7 @@ fn fields_are_written_and_read(rt: HostRuntime) -> Result<(), Fail> {
     let mut fields = Fields::new(&out);
     assert_eq!(rt; fields.take_u8(), Some(5));
     assert_eq!(rt; fields.take_u16(), Some(300));
+    assert_eq!(rt; fields.take_u32(), Some(66000));
     assert_eq!(rt; fields.take_u64(), Some(70000));
     assert!(rt; fields.take_bytes() == Some(&b"red"[..]));
     assert!(rt; fields.take_name() == Some(&b"db"[..]));
@@ -175,5 +179,72 @@ fn names_and_texts_are_kept(rt: HostRuntime) -> Result<(), Fail> {
     let mut list = List::of(rt.alloc(), &[1u8])?;
     list.push(2)?;
     assert!(rt; list.as_slice() == [1, 2].as_slice());
+    Ok(())
+}
+
+#[test]
+fn optional_fields_and_ids_are_written(rt: HostRuntime) -> Result<(), Fail> {
+    let view = ViewId {
+        number: 2,
+        coord: 1,
+        inc: 3,
+    };
+    let proto = ProtoId { view, place: 4 };
+    let p = ProviderId {
+        node: 1,
+        inc: 1,
+        instance: 7,
+        join: 1,
+    };
+    let mut out = Vec::new(rt.alloc());
+    put_optional_u32(&mut out, Some(9))?;
+    put_optional_bytes(&mut out, Some(b"red"))?;
+    put_optional_proto(&mut out, Some(proto))?;
+    put_view(&mut out, view)?;
+    put_provider(&mut out, p)?;
+    let (n, b) = read_optional_u32(&out).ok_or("a number")?;
+    assert_eq!(rt; n, Some(9));
+    let (bytes, b) = read_optional_bytes(b).ok_or("bytes")?;
+    assert!(rt; bytes == Some(&b"red"[..]));
+    let (place, b) = read_optional_proto(b).ok_or("a protocol")?;
+    assert_eq!(rt; place, Some(proto));
+    let mut fields = Fields::new(b);
+    assert_eq!(rt; fields.take_view(), Some(view));
+    assert_eq!(rt; fields.take_provider(), Some(p));
+    Ok(())
+}
+
+#[test]
+fn lists_grow(rt: HostRuntime) -> Result<(), Fail> {
+    let p = ProviderId {
+        node: 1,
+        inc: 1,
+        instance: 7,
+        join: 1,
+    };
+    let q = ProviderId {
+        node: 2,
+        inc: 1,
+        instance: 7,
+        join: 1,
+    };
+    let mut ps = Providers::one(rt.alloc(), p)?;
+    let qs = Providers::of(rt.alloc(), &[q])?;
+    assert!(rt;
+        ps.with(rt.alloc(), &qs)?
+            .without_all(rt.alloc(), &[p])?
+            .as_slice()
+            == [q].as_slice()
+    );
+    ps.extend(&qs)?;
+    assert_eq!(rt; ps.len(), 2);
+    let mut one = Providers::new(rt.alloc());
+    one.push(p)?;
+    assert_eq!(rt; one.len(), 1);
+    let mut list = List::of(rt.alloc(), &[1u8])?;
+    list.extend(&[2])?;
+    let mut more = List::of(rt.alloc(), &[3u8])?;
+    list.append(&mut more)?;
+    assert!(rt; list.as_slice() == [1, 2, 3].as_slice());
     Ok(())
 }

@@ -1,6 +1,6 @@
 //! Writers: each takes the one spelling of a value to the end of `out`, and leaves `out` as before where
 //! memory has run out.
-ghost use Rattle.std.specs.Prelude.{◌≡◌, ◌++◌, ◌<◌, ◌^◌, length, OnOk, OnErr};
+ghost use Rattle.std.specs.Prelude.{◌≡◌, ◌++◌, ◌<◌, length, OnOk, OnErr};
 ghost use Rattle.rsct_packet.specs.Text.{IsName};
 ghost use Rattle.rsct_packet.specs.Fields.{IsNode, AreShort, u8_text, u16_text, u32_text, u64_text, bytes_text, name_text, mask_text, view_text, ring_text, provider_text, proto_text, member_text};
 
