@@ -21,3 +21,4 @@ pub mod Whole
 pub mod WholeNotes
 pub mod WholeLists
 pub mod Lives
+pub mod Shows

@@ -18,6 +18,8 @@ use Rattle.run_safety.proofs.CutLaw.{cut_by, law_same_members, law_same_lists, l
 use Rattle.run_safety.proofs.Whole.{Whole, whole_dawn, whole_turn, whole_promises, whole_answers, whole_acks, whole_settles, whole_names, whole_asks}
 use Rattle.run_safety.proofs.WholeNotes.{whole_requests, whole_refuses, whole_told, whole_hears}
 use Rattle.run_safety.proofs.WholeLists.{whole_appends, whole_follows, whole_starts, whole_enters, whole_founds}
+use Rattle.run_safety.specs.SafeGroups.{BaseWon, LivesAreSafe}
+use Rattle.run_safety.specs.Bases.{BaseIs, side_state}
 use Rattle.run_safety.specs.Always.{AlwaysOneList, AlwaysInOrder, AlwaysRising, AlwaysSameMembers, AlwaysOneInstall, AlwaysOneBase, AlwaysTogether, AlwaysCut, AlwaysFold, AlwaysBase, AlwaysLed, AlwaysOnce, AlwaysStable}
 use Rattle.run_safety.proofs.OnceLaw.{begun_once}
 use Rattle.run_safety.proofs.HeardLaw.{heard_law}
@@ -147,3 +149,30 @@ always_once o nodes ps all leads bases life = law_requests o nodes ps all leads 
 
 pub always_stable : AlwaysStable
 always_stable o nodes ps all leads bases life = law_stable o nodes ps all leads bases (whole life)
+
+-- a base that is noted was installed
+won : (o : Opening) (nodes : ℕ → Standing) (ps : List Packet) (all : List Line) (leads : Leads) (bases : Bases) (w : Whole o nodes ps all leads bases) → BaseWon all bases
+won o nodes ps all leads bases w n v b h =
+    let e = w.based_ok.noted n v b h in
+    let k = w.based_ok.installed v b e in
+    let q = law_base o nodes ps all leads bases w v k.0 k.1 k.2 in
+    (k.0, q.0, k.1, q.1, subst (λ c. BaseIs q.0 k.1 (λ u. side_state bases k.1 u) c) e q.2)
+
+pub lives_are_safe : LivesAreSafe
+lives_are_safe o nodes ps all leads bases life =
+    let w = whole life in
+    record {
+      leads = leads;
+      bases = bases;
+      one_list = law_one_entry o nodes ps all leads bases w;
+      in_order = w.good.past.order;
+      rising = w.good.inv.rises;
+      members = law_same_members o nodes ps (kept all) w.log leads w.good.inv w.good.past;
+      together = law_same_lists o nodes ps (kept all) w.log leads w.good.inv w.good.past;
+      cut = law_cut o nodes ps (kept all) w.log leads w.good.inv w.good.past;
+      one_base = law_one_base o nodes ps all leads bases w;
+      base_won = won o nodes ps all leads bases w;
+      heard_fold = law_heard o nodes ps all leads bases w;
+      leading = law_leading o nodes ps all leads bases w;
+      requests = law_requests o nodes ps all leads bases w;
+    }

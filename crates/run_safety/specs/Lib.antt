@@ -11,3 +11,5 @@ pub mod Requests
 pub mod Moves
 pub mod GroupLaws
 pub mod Always
+pub mod Sight
+pub mod SafeGroups

@@ -5,6 +5,7 @@
 #![tactic(auto)]
 
 ghost use Rattle.run_safety.specs.Always.{AlwaysOneList, AlwaysInOrder, AlwaysRising, AlwaysSameMembers, AlwaysOneInstall, AlwaysOneBase, AlwaysTogether, AlwaysCut, AlwaysFold, AlwaysBase, AlwaysLed, AlwaysOnce, AlwaysStable};
+ghost use Rattle.run_safety.specs.SafeGroups.{LivesAreSafe};
 
 /// Two entries that nodes put at one place of one view's list are the same.
 #[tactic(auto, using(crate::proofs::Lives::always_one_list))]
@@ -79,4 +80,10 @@ pub fn begun_once()
 #[tactic(auto, using(crate::proofs::Lives::always_stable))]
 pub fn stable_is_held()
     ensures { AlwaysStable }
+{}
+
+/// Together: the lines of a group that such moves make are safe, whoever leads and whatever the bases are.
+#[tactic(auto, using(crate::proofs::Lives::lives_are_safe))]
+pub fn lives_are_safe()
+    ensures { LivesAreSafe }
 {}
