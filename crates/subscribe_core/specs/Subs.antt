@@ -1,5 +1,5 @@
 -- The subscriptions of a node, and which of them a change of a group is noted to.
-use Rattle.std.specs.Prelude.{ℕ, Bool, not, ◌==◌, ◌&&◌, ◌+◌, ◌++◌, List, [], ◌∷◌, map, filter, if◌then◌else◌}
+use Rattle.std.specs.Prelude.{ℕ, Bool, not, ◌==◌, ◌&&◌, ◌+◌, ◌++◌, List, [], ◌∷◌, map, filter, nat_lt, nat_le, if◌then◌else◌}
 use Rattle.std.specs.List.{list_any}
 use Rattle.std.specs.Str.{bytes_eq}
 use Rattle.std.specs.Cmp.Lexicographic.{pointwise}
@@ -14,6 +14,11 @@ use Rattle.subscribe_core.specs.declared.subs.Subscription.{Subscription}
 pub record SubsView : Type 0 where
   pub last : ℕ
   pub live : List Subscription
+
+-- their tokens rise from above low, and none is greater than last
+abbrev pub rise : ℕ → ℕ → List Subscription → Bool
+rise low last [] = nat_le low last
+rise low last (x ∷ xs) = nat_lt low x.token.n && rise x.token.n last xs
 
 abbrev pub no_subs : SubsView
 no_subs = record { last = 0; live = [] }

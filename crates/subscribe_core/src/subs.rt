@@ -1,7 +1,7 @@
 //! The subscriptions of a node's clients.
 ghost use Rattle.std.specs.Prelude.{◌≡◌, ◌<◌, ◌-◌, ◌^◌, ◌↔◌, IsTrue, IfOk, OnOk, OnErr, IsErrOf, filter, not};
 ghost use Rattle.std.specs.List.{list_any};
-ghost use Rattle.subscribe_core.specs.Subs.{no_subs, has_token, is_of_client, is_of as is_of_both, is_live, is_subscribed as is_subscribed_in, next_token, subscribed, unsubscribed, client_ended, is_unknown, tokens_of, tokens_among, differs, notes_of};
+ghost use Rattle.subscribe_core.specs.Subs.{no_subs, has_token, is_of_client, is_of as is_of_both, is_live, is_subscribed as is_subscribed_in, next_token, subscribed, unsubscribed, client_ended, is_unknown, tokens_of, tokens_among, differs, notes_of, rise};
 ghost use Rattle.subscribe_core.specs.declared.subs.SubFault.TheVariants as fault;
 
 use group_attr::HOST_MEMBERSHIP;
@@ -56,11 +56,14 @@ pub struct Subs {
 }
 
 impl Model for Subs {
-    ghost use Rattle.subscribe_core.specs.Subs.{SubsView};
+    ghost use Rattle.std.specs.Prelude.{IsTrue};
+    ghost use Rattle.subscribe_core.specs.Subs.{SubsView, rise};
 
     ghost Value = { SubsView };
 
     ghost view = { λ s. record { last = s.last; live = s.live } };
+
+    ghost invariant = { λ s. IsTrue (rise 0 s.last s.live) };
 }
 
 /// Is the token one of theirs?
@@ -137,9 +140,10 @@ impl Subs {
         self.last
     }
 
-    /// The live subscriptions, oldest first.
+    /// The live subscriptions, oldest first. Their tokens rise, from 1 at least to the newest at most.
     pub fn live(&self) -> &[Subscription]
-        ensures { result.now ≡ self.now.live }
+        ensures value { result.now ≡ self.now.live }
+        ensures rise { IsTrue (rise 0 self.now.last result.now) }
     {
         self.live.as_slice()
     }
