@@ -264,7 +264,9 @@ impl GroupState {
     {
         match x {
             Proposal::Join { ps, .. } => self.failed.retain_not(ps.as_slice()),
-            Proposal::Fail { out } => self.take_off_failures(out.as_slice()),
+            Proposal::Fail { out } => {
+                self.take_off_failures(out.as_slice());
+            }
             Proposal::Reflect { view, place, .. } => {
                 self.reflected_at = Some(ProtoId {
                     view: *view,

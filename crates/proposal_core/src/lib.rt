@@ -9,6 +9,7 @@ mod group_state;
 mod laws;
 mod proposal;
 mod proposal_codec;
+mod samples;
 mod sizes;
 mod state_codec;
 
@@ -19,4 +20,5 @@ pub use group_state::{GroupState, Running};
 pub use laws::{entries_have_their_lengths, lists_are_folds};
 pub use proposal::{Cause, Failure, Fallen, Proposal};
 pub use proposal_codec::{ProposalRef, read_proposal};
+pub use samples::{what_else_is_kept, what_the_value_is, who_is_a_member, who_votes};
 pub use state_codec::{RunningRef, StateParts, StateRef, read_state};
