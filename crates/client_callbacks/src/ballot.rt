@@ -1,7 +1,7 @@
 //! Ballots.
 ghost use Rattle.std.specs.Prelude.{◌≡◌, ◌≤◌, OnOk, OnErr, IfOk, IsTrue, option_copied};
 ghost use Rattle.std.specs.Option.{option_map};
-ghost use Rattle.client_callbacks.specs.Ballots.{new_ballot, value_limit, is_within, filling, filled_fits, can_fill, filled_with, message_limit};
+ghost use Rattle.client_callbacks.specs.Ballots.{is_ballot, new_ballot, value_limit, is_within, filling, can_fill, filled_with, message_limit};
 
 use proposal_core::Vote;
 use rsct_packet::{NoMemory, Text};
@@ -140,6 +140,14 @@ impl Ballot {
             message: text_within(alloc, MAX_MESSAGE, message)?,
         });
         Ok(true)
+    }
+
+    /// Is a vote asked for? A ballot is filled only there, and within the limits.
+    pub fn asks(&self) -> bool
+        ensures value { result ≡ self.now.votes }
+        ensures holds { IsTrue (is_ballot self.now) }
+    {
+        self.votes
     }
 
     /// What it is filled with; none where it is not filled.

@@ -5,7 +5,7 @@ use Rattle.std.specs.Str.{bytes_eq}
 use Rattle.rsct_packet.specs.declared.ids.ProviderId.{ProviderId}
 use Rattle.rsct_packet.specs.Ids.{last_u32}
 use Rattle.rsct_packet.specs.Text.{is_name_of}
-use Rattle.rsct_packet.specs.Providers.{differ, among}
+use Rattle.rsct_packet.specs.Providers.{differ, same_provider}
 use Rattle.group_attr.specs.declared.attrs.Attrs.{Attrs}
 use Rattle.group_attr.specs.declared.attrs.AttrFault.{AttrFault}
 use Rattle.group_attr.specs.declared.attrs.Phases.{Phases}
@@ -18,7 +18,7 @@ use Rattle.client_callbacks.specs.declared.ballot.Filled.{Filled}
 use Rattle.client_callbacks.specs.Ballots.{BallotView, is_within, value_limit, message_limit}
 use Rattle.subscribe_core.specs.declared.subs.ClientToken.{ClientToken}
 use Rattle.subscribe_core.specs.declared.subs.SubToken.{SubToken}
-use Rattle.subscribe_core.specs.Subs.{is_subscribed, subscribed, unsubscribed, client_ended, has_token, is_of_client}
+use Rattle.subscribe_core.specs.Subs.{is_unknown, is_subscribed, subscribed, unsubscribed, client_ended, has_token, is_of_client}
 use Rattle.client_session.specs.declared.state.MemberToken.{MemberToken}
 use Rattle.client_session.specs.declared.state.OpenPhase.{OpenPhase}
 use Rattle.client_session.specs.declared.state.Session.{Session}
@@ -30,7 +30,7 @@ use Rattle.client_session.specs.declared.fault.Field.{Field}
 use Rattle.client_session.specs.declared.fault.Field.TheVariants as field
 use Rattle.client_session.specs.declared.fault.GsFault.{GsFault}
 use Rattle.client_session.specs.declared.fault.GsFault.TheVariants as fault
-use Rattle.client_session.specs.State.{is_session, is_named, is_member_of, is_client_of, is_in_group, is_kept_for, outstanding, without_providers}
+use Rattle.client_session.specs.State.{is_session, is_named, is_member_of, is_client_of, is_in_group, is_kept_for, outstanding}
 use Rattle.client_session.specs.Clients.{client_place}
 
 abbrev pub max_client_name : ℕ
@@ -62,6 +62,15 @@ unless_fault (Some f) s = Err f
 abbrev pub Answers : {X S : Type 0} → Result X GsFault → S → S → Result S GsFault → Type 0
 Answers (Ok x) old new r = r ≡ Ok new
 Answers (Err f) old new r = (new ≡ old) × (¬ (f ≡ fault.NoMemory) → r ≡ Err f)
+
+-- a call that takes no memory
+abbrev pub AnswersAlways : {X S : Type 0} → Result X GsFault → S → S → Result S GsFault → Type 0
+AnswersAlways (Ok x) old new r = r ≡ Ok new
+AnswersAlways (Err f) old new r = (new ≡ old) × (r ≡ Err f)
+
+-- the sessions and the level are as before
+abbrev pub SameSessions : SessionState → SessionState → Type 0
+SameSessions old new = (new.sessions ≡ old.sessions) × (new.level ≡ old.level)
 
 -- checks
 
@@ -219,7 +228,7 @@ subscribe_fault s t g known =
     or_fault (client_fault s t)
     (or_fault (name_fault max_group_name g)
     (or_fault (fault_if (is_subscribed t g s.subs) fault.Exists)
-    (or_fault (fault_if (not known && not (bytes_eq g host_membership)) fault.UnknownGroup)
+    (or_fault (fault_if (is_unknown g known) fault.UnknownGroup)
     (spent_fault s.subs.last))))
 
 -- known: the node holds a list of the group
@@ -243,11 +252,20 @@ removed_at (Some i) xs = remove xs i
 unfoldable pub providers_of : SessionState → ClientToken → List ProviderId
 providers_of s t = map (λ x. x.p) (filter (is_client_of t) s.providers)
 
--- without the session, its providers and its subscriptions
+-- whether a provider is of the client
+abbrev pub is_owned : List Provider → ClientToken → ProviderId → Bool
+is_owned xs t p = list_any (λ x. is_client_of t x && same_provider x.p p) xs
+
+-- without the session, its subscriptions, and its providers with their requests and kept ballots
 unfoldable pub session_ended : SessionState → ClientToken → SessionState
 session_ended s t =
-    let u : SessionState = without_providers s (providers_of s t) in
-    record u { sessions = removed_at (client_place s t) s.sessions; subs = client_ended t s.subs }
+    record s {
+      sessions = removed_at (client_place s t) s.sessions;
+      providers = filter (λ x. not (is_client_of t x)) s.providers;
+      requests = filter (λ q. not (is_owned s.providers t q.p)) s.requests;
+      subs = client_ended t s.subs;
+      kept = filter (λ k. not (is_owned s.providers t k.p)) s.kept;
+    }
 
 unfoldable pub goodbye_taken : SessionState → ClientToken → Result SessionState GsFault
 goodbye_taken s t = unless_fault (client_fault s t) (session_ended s t)

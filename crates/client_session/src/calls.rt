@@ -2,7 +2,7 @@
 ghost use Rattle.std.specs.Prelude.{◌≡◌, ◌++◌, ◌∷◌, [], ◌<◌, ◌^◌, length, IsTrue, IfOk, OnOk, OnErr, option_copied};
 ghost use Rattle.rsct_packet.specs.Text.{IsName};
 ghost use Rattle.client_callbacks.specs.Ballots.{is_level};
-ghost use Rattle.client_session.specs.Calls.{Answers, left, expelled, state_changed, message_sent, attributes_changed, voted, joined};
+ghost use Rattle.client_session.specs.Calls.{Answers, SameSessions, left, expelled, state_changed, message_sent, attributes_changed, voted, joined};
 
 use crate::checks::{check_attributes, check_message, check_targets};
 use crate::fault::GsFault;
@@ -75,6 +75,7 @@ impl SessionState {
         a: Attrs,
     ) -> Result<MemberToken, GsFault>
         ensures answer { Answers result self.old self.new (joined self.old t g.now instance a) }
+        ensures same { SameSessions self.old self.new }
         ensures token { IfOk result (λ m. m.n ≡ self.new.last_request) }
     {
         self.check_join(t, g, &a)?;
@@ -110,7 +111,8 @@ impl SessionState {
     /// Asks that the provider leaves.
     #[tactic(auto, unfolding(crate::specs::Calls::left, crate::specs::Calls::request_made, crate::specs::Calls::ask_fault, crate::specs::Calls::asked, crate::specs::Calls::no_session_fault))]
     pub fn leave(&mut self, alloc: Global, m: MemberToken, ph: Phases) -> Result<(), GsFault>
-        ensures { Answers result self.old self.new (left self.old m ph) }
+        ensures answer { Answers result self.old self.new (left self.old m ph) }
+        ensures same { SameSessions self.old self.new }
     {
         self.check_session()?;
         let Some(x) = self.member(m) else {
@@ -139,7 +141,8 @@ impl SessionState {
         ph: Phases,
         out: &[ProviderId],
     ) -> Result<(), GsFault>
-        ensures { Answers result self.old self.new (expelled self.old m ph out.now) }
+        ensures answer { Answers result self.old self.new (expelled self.old m ph out.now) }
+        ensures same { SameSessions self.old self.new }
     {
         self.check_session()?;
         let Some(x) = self.member(m) else {
@@ -170,7 +173,8 @@ impl SessionState {
         ph: Phases,
         value: &[u8],
     ) -> Result<(), GsFault>
-        ensures { Answers result self.old self.new (state_changed self.old m ph value.now) }
+        ensures answer { Answers result self.old self.new (state_changed self.old m ph value.now) }
+        ensures same { SameSessions self.old self.new }
     {
         self.check_session()?;
         let Some(x) = self.member(m) else {
@@ -201,7 +205,8 @@ impl SessionState {
         ph: Phases,
         b: &[u8],
     ) -> Result<(), GsFault>
-        ensures { Answers result self.old self.new (message_sent self.old m ph b.now) }
+        ensures answer { Answers result self.old self.new (message_sent self.old m ph b.now) }
+        ensures same { SameSessions self.old self.new }
     {
         self.check_session()?;
         let Some(x) = self.member(m) else {
@@ -232,7 +237,8 @@ impl SessionState {
         ph: Phases,
         a: Attrs,
     ) -> Result<(), GsFault>
-        ensures { Answers result self.old self.new (attributes_changed self.old m ph a) }
+        ensures answer { Answers result self.old self.new (attributes_changed self.old m ph a) }
+        ensures same { SameSessions self.old self.new }
     {
         self.check_session()?;
         let Some(x) = self.member(m) else {
@@ -263,7 +269,8 @@ impl SessionState {
         value: Option<&[u8]>,
     ) -> Result<(), GsFault>
         requires { IsTrue (is_level self.old.level) }
-        ensures { Answers result self.old self.new (voted self.old m v (option_copied value.entry)) }
+        ensures answer { Answers result self.old self.new (voted self.old m v (option_copied value.entry)) }
+        ensures same { SameSessions self.old self.new }
     {
         self.check_session()?;
         let Some(x) = self.member(m) else {

@@ -1,5 +1,5 @@
 //! The checks of session calls. Each answers its fault, or that there is none.
-ghost use Rattle.std.specs.Prelude.{◌≡◌, ◌<◌, ◌^◌, None, length, IsTrue, IfOk, find, option_copied};
+ghost use Rattle.std.specs.Prelude.{◌≡◌, ◌<◌, ◌^◌, ◌&&◌, None, length, IsTrue, IfOk, find, option_copied};
 ghost use Rattle.std.specs.Result.{result_err};
 ghost use Rattle.group_attr.specs.Attrs.{first_fault};
 ghost use Rattle.rsct_packet.specs.Text.{IsName};
@@ -7,13 +7,14 @@ ghost use Rattle.rsct_packet.specs.Providers.{differ, AreProviders};
 ghost use Rattle.client_session.specs.State.{is_member_of, is_kept_for, is_in_group, is_session, is_named};
 ghost use Rattle.client_session.specs.Calls.{or_fault, no_session_fault, client_fault, name_fault, hosts_fault, value_fault, message_fault, targets_fault, attributes_fault, collide_fault, spent_fault, init_fault, join_fault, subscribe_fault, unsubscribe_fault};
 ghost use Rattle.std.specs.List.{list_any};
+ghost use Rattle.subscribe_core.specs.Subs.{has_token, is_of_client};
 
 use crate::fault::{Field, GsFault};
 use crate::state::{MemberToken, OpenPhase, Provider, SessionState};
 use client_callbacks::{MAX_MESSAGE, value_limit};
-use group_attr::Attrs;
+use group_attr::{Attrs, HOST_MEMBERSHIP};
 use rsct_packet::{MAX_NAME, ProviderId, is_among, is_name};
-use subscribe_core::ClientToken;
+use subscribe_core::{ClientToken, SubToken, Subscription};
 
 /// How many bytes a client's name has at most.
 pub const MAX_CLIENT_NAME: usize = 16;
@@ -44,7 +45,7 @@ pub fn check_name(most: usize, name: &[u8]) -> Result<(), GsFault>
 fn check_no_hosts(g: &[u8]) -> Result<(), GsFault>
     ensures { result_err result ≡ hosts_fault g.now }
 {
-    if g == b"HostMembership".as_slice() {
+    if g == HOST_MEMBERSHIP {
         return Err(GsFault::BadParameter(Field::Name));
     }
     Ok(())
@@ -223,6 +224,42 @@ impl SessionState {
             return Err(GsFault::Exists);
         }
         check_spent(self.last_request)
+    }
+}
+
+/// Is the subscription the client's?
+fn is_subscription(live: &[Subscription], t: ClientToken, s: SubToken) -> bool
+    ensures { result ≡ list_any (λ x. has_token s x && is_of_client t x) live.now }
+{
+    live.iter().any(|x| x.token == s && x.client == t)
+}
+
+impl SessionState {
+    #[tactic(auto, unfolding(crate::specs::Calls::subscribe_fault))]
+    pub fn check_subscribe(&self, t: ClientToken, g: &[u8], known: bool) -> Result<(), GsFault>
+        ensures fault { result_err result ≡ subscribe_fault self.now t g.now known }
+        ensures next { IfOk result (λ _. self.now.subs.last < 4294967295) }
+    {
+        self.check_client(t)?;
+        check_name(MAX_NAME, g)?;
+        if self.subs.is_subscribed(t, g) {
+            return Err(GsFault::Exists);
+        }
+        if !known && g != HOST_MEMBERSHIP {
+            return Err(GsFault::UnknownGroup);
+        }
+        check_spent(self.subs.last())
+    }
+
+    #[tactic(auto, unfolding(crate::specs::Calls::unsubscribe_fault))]
+    pub fn check_unsubscribe(&self, t: ClientToken, s: SubToken) -> Result<(), GsFault>
+        ensures { result_err result ≡ unsubscribe_fault self.now t s }
+    {
+        self.check_client(t)?;
+        if !is_subscription(self.subs.live(), t, s) {
+            return Err(GsFault::BadParameter(Field::Subscription));
+        }
+        Ok(())
     }
 }
 

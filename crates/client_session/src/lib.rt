@@ -4,6 +4,8 @@
 mod calls;
 mod casts;
 mod checks;
+mod clients;
+mod ends;
 mod fault;
 mod hand;
 mod locals;

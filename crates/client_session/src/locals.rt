@@ -2,7 +2,7 @@
 ghost use Rattle.std.specs.Prelude.{◌≡◌, ◌++◌, ◌∷◌, ◌<◌, [], length, not, find, filter, take, OnOk, OnErr, IfSome, IfNone, Some, None, option_copied, slice_index_or};
 ghost use Rattle.rsct_packet.specs.Providers.{among};
 ghost use Rattle.rsct_packet.specs.Search.{place_where, edit_where};
-ghost use Rattle.client_session.specs.State.{is_provider};
+ghost use Rattle.client_session.specs.State.{is_provider, is_client_of};
 ghost use Rattle.client_session.specs.HandOn.{taking_part, opened_after};
 
 use crate::new_entry::{NewEntry, is_late, running_phase};
@@ -10,6 +10,7 @@ use crate::state::Provider;
 use rsct_packet::{NoMemory, ProviderId, is_among};
 use std::alloc::Global;
 use std::marker::Model;
+use subscribe_core::ClientToken;
 
 /// The providers of a node's clients, in the order of their joins.
 #[derive(Drop)]
@@ -73,6 +74,12 @@ fn keep_all_but(rows: &mut Vec<Provider>, ps: &[ProviderId])
     ensures { rows.new.items ≡ filter (λ x. not (among ps.now x.p)) rows.old.items }
 {
     rows.retain(|x| !is_among(ps, x.p));
+}
+
+fn keep_others(rows: &mut Vec<Provider>, t: ClientToken)
+    ensures { rows.new.items ≡ filter (λ x. not (is_client_of t x)) rows.old.items }
+{
+    rows.retain(|x| x.client != t);
 }
 
 impl Locals {
@@ -143,5 +150,12 @@ impl Locals {
         ensures { self.new ≡ filter (λ x. not (among ps.now x.p)) self.old }
     {
         keep_all_but(&mut self.rows, ps);
+    }
+
+    /// Takes those of a client off.
+    pub fn retain_not_of(&mut self, t: ClientToken)
+        ensures { self.new ≡ filter (λ x. not (is_client_of t x)) self.old }
+    {
+        keep_others(&mut self.rows, t);
     }
 }
