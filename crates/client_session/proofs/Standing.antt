@@ -17,6 +17,8 @@ use Rattle.client_callbacks.specs.declared.ballot.Filled.{Filled}
 use Rattle.client_callbacks.specs.declared.votes.VoteItem.{VoteItem}
 use Rattle.client_callbacks.specs.Handed.{Handed}
 use Rattle.client_session.specs.declared.state.SessionState.{SessionState}
+use Rattle.std.proofs.Common.{length-append, length-take, length-drop}
+use Rattle.client_session.specs.Calls.{removed_at}
 use Rattle.client_session.specs.Clients.{StandFor, add_at, add_for, place_of}
 use Rattle.client_session.specs.HandOn.{asks, notice_to, notified, cast_with, cast_of, casts_of, script_for, FillsAs, Filling, Fillings}
 
@@ -68,9 +70,13 @@ pub casts_one_more : (scripts : List (Option (List (Option VoteItem)))) (s : Ses
     → k < length ps → Fillings scripts s e after (take k ps) bs → Filling scripts s e after (get_or ps k d) b
     → old ≡ start ++ casts_of e after s.level (take k ps) bs → c ≡ cast_of e after s.level (get_or ps k d) b → pushed ≡ old ++ c ∷ []
     → (x : List (Option Filled)) × Fillings scripts s e after (take (k + 1) ps) x × (pushed ≡ start ++ casts_of e after s.level (take (k + 1) ps) x)
-casts_one_more scripts s e after ps k d bs b start old pushed c lt f g eo ec ep =
-    (
-      bs ++ b ∷ [],
-      rw (take_more ps k d lt) (Fillings_more scripts s e after (take k ps) bs (get_or ps k d) b f g),
-      rw (take_more ps k d lt, casts_more scripts s e after s.level (take k ps) bs (get_or ps k d) b f, ep, eo, ec) (append_assoc start (casts_of e after s.level (take k ps) bs) (cast_of e after s.level (get_or ps k d) b ∷ [])),
-    )
+casts_one_more scripts s e after ps k d bs b start old pushed c lt f g eo ec ep = (
+  bs ++ b ∷ [],
+  rw (take_more ps k d lt) (Fillings_more scripts s e after (take k ps) bs (get_or ps k d) b f g),
+  rw (take_more ps k d lt, casts_more scripts s e after s.level (take k ps) bs (get_or ps k d) b f, ep, eo, ec) (append_assoc start (casts_of e after s.level (take k ps) bs) (cast_of e after s.level (get_or ps k d) b ∷ [])),
+)
+
+-- lists of one length without what stands at a place of each
+pub removed_alike : {A B : Type 0} (o : Option ℕ) (xs : List A) (ys : List B) → length xs ≡ length ys → length (removed_at o xs) ≡ length (removed_at o ys)
+removed_alike None xs ys e = e
+removed_alike (Some i) xs ys e = simp (length-append, length-take, length-drop) (rw e refl)

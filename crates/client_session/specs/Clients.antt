@@ -1,12 +1,12 @@
 -- The sessions of a node with its clients, and what the clients stand for.
-use Rattle.std.specs.Prelude.{◌≡◌, ℕ, zero, suc, Bool, List, [], ◌∷◌, ◌++◌, Option, Some, None, find}
+use Rattle.std.specs.Prelude.{◌≡◌, ℕ, zero, suc, Bool, List, [], ◌∷◌, ◌++◌, Option, Some, None, find, slice_get}
 use Rattle.rsct_packet.specs.declared.ids.ProviderId.{ProviderId}
 use Rattle.rsct_packet.specs.Search.{place_where}
 use Rattle.subscribe_core.specs.declared.subs.ClientToken.{ClientToken}
 use Rattle.client_callbacks.specs.Handed.{Handed}
 use Rattle.client_session.specs.declared.state.Provider.{Provider}
 use Rattle.client_session.specs.declared.state.SessionState.{SessionState}
-use Rattle.client_session.specs.State.{is_session, provider_of}
+use Rattle.client_session.specs.State.{is_session, is_named, provider_of}
 
 -- the clients stand in the order of their sessions
 pub record SessionsView (C : Type 0) : Type 0 where
@@ -24,6 +24,14 @@ place_for s (Some x) = client_place s x.client
 -- the place of the client that has the provider
 unfoldable pub place_of : SessionState → ProviderId → Option ℕ
 place_of s p = place_for s (provider_of s p)
+
+abbrev pub client_at : {C : Type 0} → Option ℕ → List C → Option C
+client_at None cs = None
+client_at (Some i) cs = slice_get cs i
+
+-- the client of the live session of this name
+abbrev pub client_named : {C : Type 0} → SessionsView C → List ℕ → Option C
+client_named v name = client_at (place_where (is_named name) v.state.sessions) v.clients
 
 -- each client stands for its list
 abbrev pub StandFor : {C : Type 0} → (C → List Handed → Type 0) → List C → List (List Handed) → Type 0

@@ -1,5 +1,5 @@
 -- What is handed on to the clients of a node, and what they are told.
-use Rattle.std.specs.Prelude.{◌≡◌, ℕ, Bool, true, false, not, ◌==◌, ◌&&◌, ◌||◌, ◌++◌, List, [], ◌∷◌, length, map, filter, Option, Some, None, IsTrue, is_some, slice_get, if◌then◌else◌}
+use Rattle.std.specs.Prelude.{◌≡◌, ℕ, Bool, true, false, not, ◌==◌, ◌&&◌, ◌||◌, ◌++◌, List, [], ◌∷◌, length, map, filter, Option, Some, None, IsTrue, is_some, slice_get, find, if◌then◌else◌}
 use Rattle.std.specs.List.{fold, flat_map}
 use Rattle.std.specs.Str.{bytes_eq}
 use Rattle.rsct_packet.specs.declared.ids.ProviderId.{ProviderId}
@@ -14,6 +14,8 @@ use Rattle.proposal_core.specs.declared.group_state.GroupState.{GroupState}
 use Rattle.proposal_core.specs.declared.group_state.Running.{Running}
 use Rattle.proposal_core.specs.Fold.{joiners_in, joins_of, voters}
 use Rattle.subscribe_core.specs.declared.subs.SubToken.{SubToken}
+use Rattle.subscribe_core.specs.declared.subs.Subscription.{Subscription}
+use Rattle.subscribe_core.specs.Subs.{has_token}
 use Rattle.client_callbacks.specs.declared.ballot.Filled.{Filled}
 use Rattle.client_callbacks.specs.declared.votes.VoteItem.{VoteItem}
 use Rattle.client_callbacks.specs.declared.told.Told.{Told}
@@ -29,7 +31,7 @@ use Rattle.client_session.specs.declared.state.Request.{Request}
 use Rattle.client_session.specs.declared.state.KeptBallot.{KeptBallot}
 use Rattle.client_session.specs.declared.state.SessionState.{SessionState}
 use Rattle.client_session.specs.State.{is_kept_in, provider_of, outstanding, with_provider, request_ended, without_providers}
-use Rattle.client_session.specs.Clients.{place_of, add_for}
+use Rattle.client_session.specs.Clients.{client_place, place_of, add_for}
 
 -- an entry that closes a phase ends the kept ballots of that phase of its group
 
@@ -245,7 +247,19 @@ told_of s p y =
 unfoldable pub telling_taken : SessionState → ProviderId → ℕ → Why → SessionState
 telling_taken s p r y = if takes_telling s p r y then told_of s p y else s
 
+-- the lists of clients after a telling
+unfoldable pub told_lists : SessionState → ProviderId → ℕ → Why → List (List Handed) → List (List Handed)
+told_lists s p r y hs = if takes_telling s p r y then add_for (place_of s p) (Informed (told.Refused p r y)) hs else hs
+
+abbrev pub place_subscribed : SessionState → Option Subscription → Option ℕ
+place_subscribed s None = None
+place_subscribed s (Some x) = client_place s x.client
+
+-- the place of the client that has the subscription
+unfoldable pub subscriber_of : SessionState → SubToken → Option ℕ
+subscriber_of s t = place_subscribed s (find (has_token t) s.subs.live)
+
 -- opens each word of this file, for a computation
 unfoldable pub handon_opens : Unit {0}
-unfolding kept_ended kept_after hearers_in beginners hearers part_taken asks opened_after phases_opened cast_of casts_kept proposal_begun requests_after is_present removed_from casts_out heard handed_on notified scripted takes_telling told_of telling_taken
+unfolding kept_ended kept_after hearers_in beginners hearers part_taken asks opened_after phases_opened cast_of casts_kept proposal_begun requests_after is_present removed_from casts_out heard handed_on notified scripted takes_telling told_of telling_taken told_lists subscriber_of
 handon_opens = tt

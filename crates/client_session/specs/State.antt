@@ -7,7 +7,9 @@ use Rattle.rsct_packet.specs.Ids.{same_proto}
 use Rattle.rsct_packet.specs.Providers.{same_provider, among}
 use Rattle.rsct_packet.specs.Search.{edit_where}
 use Rattle.subscribe_core.specs.declared.subs.ClientToken.{ClientToken}
-use Rattle.subscribe_core.specs.Subs.{no_subs}
+use Rattle.subscribe_core.specs.declared.subs.SubToken.{SubToken}
+use Rattle.subscribe_core.specs.declared.subs.Subscription.{Subscription}
+use Rattle.subscribe_core.specs.Subs.{no_subs, is_of}
 use Rattle.client_session.specs.declared.state.MemberToken.{MemberToken}
 use Rattle.client_session.specs.declared.state.Session.{Session}
 use Rattle.client_session.specs.declared.state.Provider.{Provider}
@@ -57,6 +59,38 @@ provider_of s p = find (is_provider p) s.providers
 unfoldable pub outstanding : SessionState → ProviderId → Option Request
 outstanding s p = find (is_asked_by p) s.requests
 
+abbrev pub token_in : Option Session → ClientToken
+token_in None = record { n = 0 }
+token_in (Some x) = x.token
+
+-- the token of the live session of a name, 0 where there is none
+unfoldable pub client_token : SessionState → List ℕ → ClientToken
+client_token s name = token_in (find (is_named name) s.sessions)
+
+abbrev pub member_in : Option Provider → MemberToken
+member_in None = record { n = 0 }
+member_in (Some x) = record { n = x.p.join }
+
+-- the token of a client's provider of a group, 0 where there is none
+unfoldable pub member_token : SessionState → ClientToken → List ℕ → MemberToken
+member_token s t g = member_in (find (is_in_group t g) s.providers)
+
+abbrev pub sub_in : Option Subscription → SubToken
+sub_in None = record { n = 0 }
+sub_in (Some x) = x.token
+
+-- the token of a client's subscription to a group, 0 where there is none
+unfoldable pub sub_token : SessionState → ClientToken → List ℕ → SubToken
+sub_token s t g = sub_in (find (is_of t g) s.subs.live)
+
+abbrev pub name_in : Option Session → Option (List ℕ)
+name_in None = None
+name_in (Some x) = Some x.name
+
+-- the name of a live client
+unfoldable pub client_name : SessionState → ClientToken → Option (List ℕ)
+client_name s t = name_in (find (is_session t) s.sessions)
+
 -- with a provider changed
 unfoldable pub with_provider : SessionState → ProviderId → (Provider → Provider) → SessionState
 with_provider s p f = record s { providers = edit_where (is_provider p) f s.providers }
@@ -76,5 +110,5 @@ without_providers s ps =
 
 -- opens each word of this file, for a computation
 unfoldable pub state_opens : Unit {0}
-unfolding provider_of outstanding with_provider request_ended without_providers
+unfolding provider_of outstanding client_token member_token sub_token client_name with_provider request_ended without_providers
 state_opens = tt

@@ -4,13 +4,13 @@ ghost use Rattle.std.specs.Result.{result_err};
 ghost use Rattle.group_attr.specs.Attrs.{first_fault};
 ghost use Rattle.rsct_packet.specs.Text.{IsName};
 ghost use Rattle.rsct_packet.specs.Providers.{differ, AreProviders};
-ghost use Rattle.client_session.specs.State.{is_member_of, is_kept_for, is_in_group, is_session, is_named};
+ghost use Rattle.client_session.specs.State.{is_member_of, is_kept_for, is_in_group, is_session, is_named, outstanding};
 ghost use Rattle.client_session.specs.Calls.{or_fault, no_session_fault, client_fault, name_fault, hosts_fault, value_fault, message_fault, targets_fault, attributes_fault, collide_fault, spent_fault, init_fault, join_fault, subscribe_fault, unsubscribe_fault};
 ghost use Rattle.std.specs.List.{list_any};
 ghost use Rattle.subscribe_core.specs.Subs.{has_token, is_of_client};
 
 use crate::fault::{Field, GsFault};
-use crate::state::{MemberToken, OpenPhase, Provider, SessionState};
+use crate::state::{MemberToken, OpenPhase, Provider, Request, SessionState};
 use client_callbacks::{MAX_MESSAGE, value_limit};
 use group_attr::{Attrs, HOST_MEMBERSHIP};
 use rsct_packet::{MAX_NAME, ProviderId, is_among, is_name};
@@ -148,12 +148,20 @@ impl SessionState {
         }
     }
 
+    /// The outstanding request of a provider.
+    #[tactic(auto, unfolding(crate::specs::State::outstanding))]
+    pub fn outstanding(&self, p: ProviderId) -> Option<&Request>
+        ensures { option_copied result ≡ outstanding self.now p }
+    {
+        self.requests.as_slice().iter().find(|q| q.p == p)
+    }
+
     /// The provider has no outstanding request.
-    #[tactic(auto, unfolding(crate::specs::Calls::collide_fault, crate::specs::State::outstanding))]
+    #[tactic(auto, unfolding(crate::specs::Calls::collide_fault))]
     fn check_collide(&self, p: ProviderId) -> Result<(), GsFault>
         ensures { result_err result ≡ collide_fault self.now p }
     {
-        match self.requests.as_slice().iter().find(|q| q.p == p) {
+        match self.outstanding(p) {
             None => Ok(()),
             Some(q) => Err(GsFault::Collide(q.r)),
         }

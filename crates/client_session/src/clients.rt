@@ -5,14 +5,16 @@ ghost use Rattle.client_callbacks.specs.declared.ballot.Filled.{Filled};
 ghost use Rattle.client_callbacks.specs.Ballots.{new_ballot, is_level, may_hold};
 ghost use Rattle.client_callbacks.specs.Handed.{Handed, Notified, Informed, notice_of, Fills};
 ghost use Rattle.client_session.specs.Clients.{StandFor, add_at, add_for, place_of};
-ghost use Rattle.client_session.specs.HandOn.{notice_to, notified, cast_with, cast_of, casts_of, FillsAs, Filling, Fillings};
+ghost use Rattle.client_session.specs.Calls.{SameSessions};
+ghost use Rattle.client_session.specs.HandOn.{hearers, handed_on, casts_out, notice_to, notified, cast_with, cast_of, casts_of, FillsAs, Filling, Fillings};
 
 use crate::casts::{Cast, Casts};
 use crate::new_entry::NewEntry;
 use crate::state::SessionState;
 use client_callbacks::{Ballot, Callbacks, Notice, Told};
-use proposal_core::Running;
-use rsct_packet::{NoMemory, ProviderId};
+use proposal_core::{GroupState, Running};
+use rsct_packet::{List, NoMemory, ProviderId};
+use std::alloc::Global;
 
 /// What a provider casts, where its client left the ballot like this.
 fn cast_from(p: ProviderId, ballot: Ballot, running: &Option<Running>) -> Cast
@@ -81,7 +83,7 @@ fn notify_one<C: Callbacks>(
     let notice = Notice {
         p,
         view: n.view,
-        group: n.group,
+        group: n.group.bytes(),
         place: n.place,
         entry: n.entry,
         after: n.after,
@@ -135,5 +137,38 @@ pub fn tell_at<C: Callbacks>(
     if let Some(i) = place {
         clients[i].told(t)?;
     }
+    Ok(())
+}
+
+/// Hands an entry on: each local provider that takes part hears it.
+#[tactic(auto, unfolding(crate::specs::HandOn::handed_on, crate::specs::HandOn::casts_out))]
+pub fn hand_entry_on<C: Callbacks>(
+    state: &mut SessionState,
+    clients: &mut Vec<C>,
+    alloc: Global,
+    n: &NewEntry<'_>,
+    before: &GroupState,
+    out: &mut Casts,
+) -> Result<(), NoMemory>
+    requires level { IsTrue (is_level state.old.level) }
+    requires aligned { length clients.old.items ≡ length state.old.sessions }
+    ensures stand { (hs : List (List Handed)) → StandFor C.stands_for clients.old.items hs → OnOk result (StandFor C.stands_for clients.new.items (notified state.old n.now.view n.now.group.now n.now.place n.now.entry.now n.now.after.now (hearers state.old n.now.group.now before.now n.now.entry.now) hs)) }
+    ensures scripts { OnOk result (map C.script clients.new.items ≡ map C.script clients.old.items) }
+    ensures length { length clients.new.items ≡ length clients.old.items }
+    ensures same { SameSessions state.old state.new }
+    ensures handed { OnOk result ((bs : List (Option Filled)) × Fillings (map C.script clients.old.items) state.old n.now.entry.now n.now.after.now (hearers state.old n.now.group.now before.now n.now.entry.now) bs × (state.new ≡ handed_on state.old n.now.group.now before.now n.now.after.now n.now.entry.now bs) × (out.new ≡ out.old ++ casts_out state.old n.now.group.now before.now n.now.after.now n.now.entry.now bs)) }
+{
+    let ps = state.hearers(alloc, n.group.bytes(), before, n.entry)?;
+    let beginning = state.beginners(alloc, n.group.bytes(), n.entry)?;
+    let mut casts = List::new(alloc);
+    notify(state, clients, n, ps.as_slice(), &mut casts)?;
+    state.hear(
+        alloc,
+        n,
+        ps.as_slice(),
+        beginning.as_slice(),
+        casts.as_slice(),
+    )?;
+    out.append(&mut casts)?;
     Ok(())
 }

@@ -1,18 +1,18 @@
 //! Subscriptions and ends of sessions, as far as they change what a node has of its clients.
-ghost use Rattle.std.specs.Prelude.{◌≡◌, ◌<◌, ◌+◌, ◌++◌, ◌∷◌, [], not, filter, length, remove, IfOk, IfSome, OnOk, OnErr};
+ghost use Rattle.std.specs.Prelude.{◌≡◌, ◌<◌, ◌+◌, ◌++◌, ◌∷◌, [], not, filter, find, length, option_copied, IfOk, IfSome, OnOk, OnErr};
+ghost use Rattle.std.specs.List.{list_any};
 ghost use Rattle.rsct_packet.specs.Search.{place_where};
+ghost use Rattle.subscribe_core.specs.Subs.{has_token, is_live};
 ghost use Rattle.client_session.specs.State.{is_session, provider_of};
 ghost use Rattle.client_session.specs.Clients.{client_place, place_of};
-ghost use Rattle.client_session.specs.Calls.{Answers, AnswersAlways, SameSessions, is_owned, session_added, subscribe_taken, unsubscribe_taken, session_ended};
-ghost use Rattle.client_session.specs.HandOn.{takes_telling, told_of};
+ghost use Rattle.client_session.specs.Calls.{Answers, AnswersAlways, SameSessions, is_owned, session_added, subscribe_taken, unsubscribe_taken, session_ended, removed_at};
+ghost use Rattle.client_session.specs.HandOn.{subscriber_of};
 
 use crate::fault::GsFault;
 use crate::state::{KeptBallot, Provider, Request, Session, SessionState};
-use client_callbacks::Why;
-use proposal_core::Proposal;
 use rsct_packet::{List, NoMemory, ProviderId};
 use std::alloc::Global;
-use subscribe_core::{ClientToken, SubToken};
+use subscribe_core::{ClientToken, SubToken, Subscription};
 
 #[tactic(auto, using(rsct_packet::proofs::SearchLaws::place_begins, rsct_packet::proofs::SearchLaws::place_goes_on, rsct_packet::proofs::SearchLaws::place_found, rsct_packet::proofs::SearchLaws::place_missing))]
 fn place_alone(rows: &[Session], t: ClientToken) -> Option<usize>
@@ -53,6 +53,20 @@ fn drop_kept_owned(kept: &mut List<KeptBallot>, rows: &[Provider], t: ClientToke
     kept.retain(|k| !is_owned(rows, t, k.p));
 }
 
+/// Is one of them the subscription of this token?
+fn is_live(live: &[Subscription], s: SubToken) -> bool
+    ensures { result ≡ list_any (has_token s) live.now }
+{
+    live.iter().any(|x| x.token == s)
+}
+
+/// The subscription of a token.
+fn subscription(live: &[Subscription], s: SubToken) -> Option<&Subscription>
+    ensures { option_copied result ≡ find (has_token s) live.now }
+{
+    live.iter().find(|x| x.token == s)
+}
+
 impl SessionState {
     /// The place of a client's session.
     pub fn client_place(&self, t: ClientToken) -> Option<usize>
@@ -69,6 +83,25 @@ impl SessionState {
         ensures within { IfSome result (λ i. i < length self.now.sessions) }
     {
         match self.providers.get(p) {
+            None => None,
+            Some(x) => self.client_place(x.client),
+        }
+    }
+
+    /// Is the subscription live?
+    pub fn has_subscription(&self, s: SubToken) -> bool
+        ensures { result ≡ is_live s self.now.subs }
+    {
+        is_live(self.subs.live(), s)
+    }
+
+    /// The place of the client that has the subscription.
+    #[tactic(auto, unfolding(crate::specs::HandOn::subscriber_of))]
+    pub fn subscriber_of(&self, s: SubToken) -> Option<usize>
+        ensures value { result ≡ subscriber_of self.now s }
+        ensures within { IfSome result (λ i. i < length self.now.sessions) }
+    {
+        match subscription(self.subs.live(), s) {
             None => None,
             Some(x) => self.client_place(x.client),
         }
@@ -125,7 +158,9 @@ impl SessionState {
     /// Ends the session at this place, which is the client's, with its providers and its subscriptions.
     #[tactic(auto, unfolding(crate::specs::Calls::session_ended))]
     pub fn end_session(&mut self, t: ClientToken)
-        ensures { self.new ≡ session_ended self.old t }
+        ensures state { self.new ≡ session_ended self.old t }
+        ensures sessions { self.new.sessions ≡ removed_at (client_place self.old t) self.old.sessions }
+        ensures level { self.new.level ≡ self.old.level }
     {
         if let Some(i) = self.client_place(t) {
             self.sessions.remove(i);

@@ -1,13 +1,15 @@
 //! What an entry that is handed on changes of the state.
-ghost use Rattle.std.specs.Prelude.{◌≡◌, ◌++◌, [], not, filter, OnOk, IfOk};
+ghost use Rattle.std.specs.Prelude.{◌≡◌, ◌++◌, [], not, filter, is_some, OnOk, IfOk};
 ghost use Rattle.std.specs.List.{fold, flat_map};
 ghost use Rattle.rsct_packet.specs.Providers.{among};
-ghost use Rattle.client_session.specs.State.{is_request, is_kept_in, with_provider, request_ended, without_providers, provider_of};
-ghost use Rattle.client_session.specs.HandOn.{kept_ended, kept_after, hears, hearers_in, beginners, hearers, taking_part, part_taken, opened_after, phases_opened, kept_by, casts_kept, proposal_begun, requests_after, removed_from, heard, is_present};
+ghost use Rattle.client_session.specs.State.{is_request, is_kept_in, with_provider, request_ended, without_providers, provider_of, outstanding};
+ghost use Rattle.client_session.specs.Calls.{SameSessions};
+ghost use Rattle.client_session.specs.HandOn.{kept_ended, kept_after, hears, hearers_in, beginners, hearers, taking_part, part_taken, opened_after, phases_opened, kept_by, casts_kept, proposal_begun, requests_after, removed_from, heard, is_present, is_numbered, is_join, is_join_request, is_dissolved, takes_telling, told_of};
 
 use crate::casts::Cast;
 use crate::new_entry::{NewEntry, brought_by, is_present, joiners_in};
 use crate::state::{KeptBallot, Request, SessionState};
+use client_callbacks::Why;
 use proposal_core::{Entry, GroupState, Proposal};
 use rsct_packet::{List, Name, NoMemory, ProtoId, ProviderId, is_among};
 use std::alloc::Global;
@@ -79,34 +81,98 @@ fn keep_casts(
     Ok(())
 }
 
+fn is_dissolved(why: Why) -> bool
+    ensures { result ≡ is_dissolved why }
+{
+    match why {
+        Why::Dissolved => true,
+        _ => false,
+    }
+}
+
+fn is_join(x: &Proposal) -> bool
+    ensures { result ≡ is_join x.now }
+{
+    match x {
+        Proposal::Join { .. } => true,
+        _ => false,
+    }
+}
+
 impl SessionState {
     /// Drops these providers, their requests and their kept ballots.
     #[tactic(auto, unfolding(crate::specs::State::without_providers))]
     pub fn drop_providers(&mut self, ps: &[ProviderId])
-        ensures { self.new ≡ without_providers self.old ps.now }
+        ensures state { self.new ≡ without_providers self.old ps.now }
+        ensures same { SameSessions self.old self.new }
     {
         self.providers.retain_not(ps);
         drop_requests_of(&mut self.requests, ps);
         drop_kept_of(&mut self.kept, ps);
     }
 
-    /// Drops the requests of a provider.
-    pub fn drop_requests(&mut self, ps: &[ProviderId])
-        ensures { self.new ≡ record self.old { requests = filter (λ q. not (among ps.now q.p)) self.old.requests } }
+    /// Is this the number of the provider's outstanding request?
+    fn is_outstanding(&self, p: ProviderId, r: u32) -> bool
+        ensures { result ≡ is_numbered r (outstanding self.now p) }
     {
-        drop_requests_of(&mut self.requests, ps);
+        match self.outstanding(p) {
+            None => false,
+            Some(q) => q.r == r,
+        }
+    }
+
+    /// Is the provider's outstanding request its join?
+    fn is_joining(&self, p: ProviderId) -> bool
+        ensures { result ≡ is_join_request (outstanding self.now p) }
+    {
+        match self.outstanding(p) {
+            None => false,
+            Some(q) => is_join(&q.proposal),
+        }
+    }
+
+    /// Is it a provider, joining or joined, of a live session?
+    #[tactic(auto, unfolding(crate::specs::State::provider_of))]
+    pub fn is_live(&self, p: ProviderId) -> bool
+        ensures { result ≡ is_some (provider_of self.now p) }
+    {
+        self.providers.get(p).is_some()
+    }
+
+    /// Is a telling for the provider: of its outstanding request, or that it is dissolved?
+    #[tactic(auto, unfolding(crate::specs::HandOn::takes_telling))]
+    pub fn takes_telling(&self, p: ProviderId, r: u32, why: Why) -> bool
+        ensures { result ≡ takes_telling self.now p r why }
+    {
+        self.is_live(p) && (self.is_outstanding(p, r) || is_dissolved(why))
+    }
+
+    /// Ends the provider's outstanding request, and drops the provider where that was its join, or where it is
+    /// dissolved.
+    #[tactic(auto, unfolding(crate::specs::HandOn::told_of))]
+    pub fn take_telling(&mut self, p: ProviderId, why: Why)
+        ensures state { self.new ≡ told_of self.old p why }
+        ensures same { SameSessions self.old self.new }
+    {
+        if self.is_joining(p) || is_dissolved(why) {
+            self.drop_providers(&[p]);
+        } else {
+            drop_requests_of(&mut self.requests, &[p]);
+        }
     }
 
     #[tactic(auto, unfolding(crate::specs::State::request_ended))]
     fn end_request(&mut self, p: ProviderId, r: u32)
-        ensures { self.new ≡ request_ended self.old p r }
+        ensures state { self.new ≡ request_ended self.old p r }
+        ensures same { SameSessions self.old self.new }
     {
         drop_request(&mut self.requests, p, r);
     }
 
     #[tactic(auto, unfolding(crate::specs::HandOn::kept_ended))]
     fn end_kept(&mut self, g: &[u8], proto: ProtoId, phase: u16)
-        ensures { self.new ≡ kept_ended self.old g.now proto phase }
+        ensures state { self.new ≡ kept_ended self.old g.now proto phase }
+        ensures same { SameSessions self.old self.new }
     {
         drop_kept_in(&mut self.kept, g, proto, phase);
     }
@@ -114,7 +180,8 @@ impl SessionState {
     /// An entry that closes a phase ends the kept ballots of that phase of its group.
     #[tactic(auto, unfolding(crate::specs::HandOn::kept_after))]
     fn end_closed(&mut self, g: &[u8], e: &Entry)
-        ensures { self.new ≡ kept_after self.old g.now e.now }
+        ensures state { self.new ≡ kept_after self.old g.now e.now }
+        ensures same { SameSessions self.old self.new }
     {
         match e {
             Entry::Once(_) => {}
@@ -198,7 +265,8 @@ impl SessionState {
 
     #[tactic(auto, unfolding(crate::specs::State::with_provider))]
     fn let_take_part(&mut self, p: ProviderId)
-        ensures { self.new ≡ with_provider self.old p taking_part }
+        ensures state { self.new ≡ with_provider self.old p taking_part }
+        ensures same { SameSessions self.old self.new }
     {
         self.providers.take_part(p);
     }
@@ -206,7 +274,8 @@ impl SessionState {
     /// Lets these take part.
     #[tactic(auto, unfolding(crate::specs::HandOn::part_taken), using(std::proofs::lemmas::List::Sums::fold_more))]
     fn take_part(&mut self, ps: &[ProviderId])
-        ensures { self.new ≡ part_taken self.old ps.now }
+        ensures state { self.new ≡ part_taken self.old ps.now }
+        ensures same { SameSessions self.old self.new }
     {
         for p in ps {
             self.let_take_part(*p);
@@ -215,7 +284,8 @@ impl SessionState {
 
     #[tactic(auto, unfolding(crate::specs::State::with_provider))]
     fn note_for(&mut self, p: ProviderId, n: &NewEntry<'_>)
-        ensures { self.new ≡ with_provider self.old p (opened_after n.now.entry.now n.now.after.now) }
+        ensures state { self.new ≡ with_provider self.old p (opened_after n.now.entry.now n.now.after.now) }
+        ensures same { SameSessions self.old self.new }
     {
         self.providers.note(p, n);
     }
@@ -223,7 +293,8 @@ impl SessionState {
     /// Opens or closes the phases of those that were handed the entry.
     #[tactic(auto, unfolding(crate::specs::HandOn::phases_opened), using(std::proofs::lemmas::List::Sums::fold_more))]
     fn open_phases(&mut self, n: &NewEntry<'_>, ps: &[ProviderId])
-        ensures { self.new ≡ phases_opened self.old n.now.entry.now n.now.after.now ps.now }
+        ensures state { self.new ≡ phases_opened self.old n.now.entry.now n.now.after.now ps.now }
+        ensures same { SameSessions self.old self.new }
     {
         for p in ps {
             self.note_for(*p, n);
@@ -232,14 +303,16 @@ impl SessionState {
 
     #[tactic(auto, unfolding(crate::specs::HandOn::casts_kept))]
     fn keep(&mut self, alloc: Global, g: &Name, casts: &[Cast]) -> Result<(), NoMemory>
-        ensures { OnOk result (self.new ≡ casts_kept self.old g.now casts.now) }
+        ensures state { OnOk result (self.new ≡ casts_kept self.old g.now casts.now) }
+        ensures same { SameSessions self.old self.new }
     {
         keep_casts(alloc, &mut self.kept, g, casts)
     }
 
     #[tactic(auto, using(std::proofs::lemmas::List::Sums::fold_more))]
     fn end_joins(&mut self, ps: &[ProviderId])
-        ensures { self.new ≡ fold (λ t p. request_ended t p p.join) self.old ps.now }
+        ensures state { self.new ≡ fold (λ t p. request_ended t p p.join) self.old ps.now }
+        ensures same { SameSessions self.old self.new }
     {
         for p in ps {
             self.end_request(*p, p.join);
@@ -248,7 +321,8 @@ impl SessionState {
 
     #[tactic(auto, unfolding(crate::specs::HandOn::proposal_begun))]
     fn end_requests_of(&mut self, x: &Proposal)
-        ensures { self.new ≡ proposal_begun self.old x.now }
+        ensures state { self.new ≡ proposal_begun self.old x.now }
+        ensures same { SameSessions self.old self.new }
     {
         match x {
             Proposal::Join { ps, .. } => self.end_joins(ps.as_slice()),
@@ -265,7 +339,8 @@ impl SessionState {
     /// Ends the outstanding requests that a Begin or Once carries.
     #[tactic(auto, unfolding(crate::specs::HandOn::requests_after))]
     fn end_requests(&mut self, e: &Entry)
-        ensures { self.new ≡ requests_after self.old e.now }
+        ensures state { self.new ≡ requests_after self.old e.now }
+        ensures same { SameSessions self.old self.new }
     {
         match e {
             Entry::Once(x) => self.end_requests_of(x),
@@ -283,18 +358,17 @@ impl SessionState {
         &mut self,
         alloc: Global,
         n: &NewEntry<'_>,
-        g: &Name,
         ps: &[ProviderId],
         beginning: &[ProviderId],
         casts: &[Cast],
     ) -> Result<(), NoMemory>
-        requires { g.now ≡ n.now.group.now }
-        ensures { OnOk result (self.new ≡ heard self.old n.now.group.now n.now.after.now n.now.entry.now ps.now beginning.now casts.now) }
+        ensures same { SameSessions self.old self.new }
+        ensures state { OnOk result (self.new ≡ heard self.old n.now.group.now n.now.after.now n.now.entry.now ps.now beginning.now casts.now) }
     {
-        self.end_closed(n.group, n.entry);
+        self.end_closed(n.group.bytes(), n.entry);
         self.take_part(beginning);
         self.open_phases(n, ps);
-        self.keep(alloc, g, casts)?;
+        self.keep(alloc, n.group, casts)?;
         self.end_requests(n.entry);
         let gone = removed_from(alloc, n.after, ps)?;
         self.drop_providers(gone.as_slice());

@@ -10,6 +10,7 @@ mod fault;
 mod hand;
 mod locals;
 mod new_entry;
+mod reads;
 mod sessions;
 mod state;
 

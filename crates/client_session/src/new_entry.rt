@@ -5,13 +5,13 @@ ghost use Rattle.client_session.specs.HandOn.{is_late, opens_phase, asks, runnin
 
 use crate::state::OpenPhase;
 use proposal_core::{Entry, GroupState, Proposal, Running};
-use rsct_packet::{ProviderId, ViewId, is_among};
+use rsct_packet::{Name, ProviderId, ViewId, is_among};
 
 /// A new entry of a group's list at its place in a view, with the state after it and that state's voters.
 #[derive(Clone, Copy)]
 pub struct NewEntry<'a> {
     pub view: ViewId,
-    pub group: &'a [u8],
+    pub group: &'a Name,
     pub place: u32,
     pub entry: &'a Entry,
     pub after: &'a GroupState,

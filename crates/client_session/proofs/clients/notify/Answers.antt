@@ -14,10 +14,10 @@ loop-p-preserved g c =
     let d : ProviderId = record { node = 0; inc = 0; instance = 0; join = 0 } in
     record {
       stand = λ hs s. rw (notified_more c.args.state.now c.args.n.now.view c.args.n.now.group.now c.args.n.now.place c.args.n.now.entry.now c.args.n.now.after.now c.args.ps.now c.loop-p.p-index d hs c.loop-p-test.true)
-        (c.in_ok-cast.ensures.stand _ (c.loop-p.invariant.stand hs s));
+          (c.in_ok-cast.ensures.stand _ (c.loop-p.invariant.stand hs s));
       scripts = c.in_ok-cast.ensures.scripts ∙ c.loop-p.invariant.scripts;
       length = c.in_ok-cast.ensures.length ∙ c.loop-p.invariant.length;
       casts =
-        casts_one_more _ c.args.state.now c.args.n.now.entry.now c.args.n.now.after.now c.args.ps.now c.loop-p.p-index d c.loop-p.invariant.casts.0 c.in_ok-cast.ensures.cast.0 _ _ _ _
-        c.loop-p-test.true c.loop-p.invariant.casts.1 (rw (← c.loop-p.invariant.scripts) c.in_ok-cast.ensures.cast.1) c.loop-p.invariant.casts.2 c.in_ok-cast.ensures.cast.2 c.in_ok-push.ensures.ok;
+          casts_one_more _ c.args.state.now c.args.n.now.entry.now c.args.n.now.after.now c.args.ps.now c.loop-p.p-index d c.loop-p.invariant.casts.0 c.in_ok-cast.ensures.cast.0 _ _ _ _
+          c.loop-p-test.true c.loop-p.invariant.casts.1 (rw (← c.loop-p.invariant.scripts) c.in_ok-cast.ensures.cast.1) c.loop-p.invariant.casts.2 c.in_ok-cast.ensures.cast.2 c.in_ok-push.ensures.ok;
     }
