@@ -1,0 +1,8 @@
+mod Nodes
+mod Queue
+mod RingsAndSources
+mod Views
+mod Votes
+mod WalksAsked
+mod WalksFixed
+mod WalksRings

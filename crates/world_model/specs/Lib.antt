@@ -8,3 +8,5 @@ pub mod Reading
 pub mod World
 pub mod Play
 pub mod Opens
+pub mod Load
+pub mod Samples

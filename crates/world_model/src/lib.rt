@@ -3,6 +3,12 @@
 
 mod event;
 mod one_node;
+pub mod rows_basic;
+pub mod rows_queue;
+pub mod rows_rings;
+pub mod rows_steps;
+pub mod rows_views;
+pub mod rows_votes;
 mod script;
 
 pub use event::{Event, Events};
