@@ -1,5 +1,5 @@
 //! Parts of the queue.
-ghost use Rattle.std.specs.Prelude.{◌≡◌, [], take, drop, filter, not, length, ◌<◌};
+ghost use Rattle.std.specs.Prelude.{◌≡◌, length, ◌<◌};
 ghost use Rattle.std.specs.List.{list_any};
 ghost use Rattle.rsct_packet.specs.Providers.{without};
 ghost use Rattle.batch_rules.specs.Waiting.{has_instance, same_instance, is_failure_of, batches_joins, batches_failures, chosen_of, left_of};

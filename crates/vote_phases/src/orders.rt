@@ -1,5 +1,5 @@
 //! What holds for every order of casts, failures and ticks.
-ghost use Rattle.std.specs.Prelude.{◌≡◌, ℕ, List, Option, Some, None, if◌then◌else◌};
+ghost use Rattle.std.specs.Prelude.{◌≡◌, ℕ, List, Some, None, if◌then◌else◌};
 ghost use Rattle.std.specs.List.{list_any};
 ghost use Rattle.rsct_packet.specs.declared.ids.ProviderId.{ProviderId};
 ghost use Rattle.group_attr.specs.declared.attrs.DefaultVote.{DefaultVote};

@@ -1,6 +1,5 @@
 //! The tally of one phase.
-ghost use Rattle.std.specs.Prelude.{◌≡◌, ◌≤◌, map, length, slice_get, Some, None};
-ghost use Rattle.std.specs.List.{list_any};
+ghost use Rattle.std.specs.Prelude.{◌≡◌, ◌≤◌, map, length, Some, None};
 ghost use Rattle.vote_phases.specs.Tally.{no_vote, tally_new, tally_cast, tally_fail, tally_tick, passes, counted, cast_answer, row_at, expires, outcome};
 
 use crate::voter::{Voter, give, give_all, is_one_open, one_continues, one_rejects, voter_of};
