@@ -22,3 +22,4 @@ pub mod WholeNotes
 pub mod WholeLists
 pub mod Lives
 pub mod Shows
+pub mod SightLaws

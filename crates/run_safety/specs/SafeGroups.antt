@@ -4,6 +4,7 @@ use Rattle.rsct_packet.specs.declared.ids.ViewId.{ViewId}
 use Rattle.rsct_packet.specs.declared.ids.Member.{Member}
 use Rattle.proposal_core.specs.declared.entry.Entry.{Entry}
 use Rattle.run_safety.specs.Past.{Has, History}
+use Rattle.run_safety.specs.SafeLists.{OneEntry}
 use Rattle.run_safety.specs.Group.{Standing, Reply, Origin, Packet, Line, Noted, Based, kept}
 use Rattle.run_safety.specs.GroupLists.{OneEntryOf, Rises, InOrder, SameLists, CutHolds, SameMembers}
 use Rattle.run_safety.specs.Bases.{Bases, side_state, Wins}
@@ -40,3 +41,7 @@ SafeGroups o h = (g : List ℕ) → SafeLines o (lines_of g h)
 abbrev pub LivesAreSafe : Type 0
 LivesAreSafe =
     (o : Opening) (nodes : ℕ → Standing) (ps : List Packet) (all : List Line) (leads : Leads) (bases : Bases) → Life o nodes ps all leads bases → SafeLines o all
+
+-- where each group's lines are safe, the run has one list for each view and group
+abbrev pub GroupsGiveOneList : Type 0
+GroupsGiveOneList = (o : Opening) (h : History) → SafeGroups o h → OneEntry h

@@ -5,7 +5,7 @@
 #![tactic(auto)]
 
 ghost use Rattle.run_safety.specs.Always.{AlwaysOneList, AlwaysInOrder, AlwaysRising, AlwaysSameMembers, AlwaysOneInstall, AlwaysOneBase, AlwaysTogether, AlwaysCut, AlwaysFold, AlwaysBase, AlwaysLed, AlwaysOnce, AlwaysStable};
-ghost use Rattle.run_safety.specs.SafeGroups.{LivesAreSafe};
+ghost use Rattle.run_safety.specs.SafeGroups.{LivesAreSafe, GroupsGiveOneList};
 
 /// Two entries that nodes put at one place of one view's list are the same.
 #[tactic(auto, using(crate::proofs::Lives::always_one_list))]
@@ -86,4 +86,10 @@ pub fn stable_is_held()
 #[tactic(auto, using(crate::proofs::Lives::lives_are_safe))]
 pub fn lives_are_safe()
     ensures { LivesAreSafe }
+{}
+
+/// Where what each group sees of a run is safe, two entries at one place of one view's list of one group are the same
+/// in the run's own records.
+pub fn groups_give_one_list()
+    ensures { GroupsGiveOneList }
 {}
