@@ -12,6 +12,8 @@ mod proposal_codec;
 mod samples;
 mod sizes;
 mod state_codec;
+#[cfg(test)]
+mod tests;
 
 pub use entry::{Closed, Entry, Row, RowVote, Rows, Vote};
 pub use entry_codec::{ClosedRef, EntryRef};
