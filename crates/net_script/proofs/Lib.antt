@@ -1,2 +1,4 @@
 pub mod WordLaws
 pub mod ReadLaws
+pub mod FlowLaws
+pub mod TextLaws

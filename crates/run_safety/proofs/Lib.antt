@@ -23,3 +23,8 @@ pub mod WholeLists
 pub mod Lives
 pub mod Shows
 pub mod SightLaws
+pub mod OneNodeQuiet
+pub mod OneNodeKnown
+pub mod OneNodeRows
+pub mod OneNodeWorlds
+pub mod OneNodeRuns

@@ -6,6 +6,9 @@
 
 ghost use Rattle.run_safety.specs.Always.{AlwaysOneList, AlwaysInOrder, AlwaysRising, AlwaysSameMembers, AlwaysOneInstall, AlwaysOneBase, AlwaysTogether, AlwaysCut, AlwaysFold, AlwaysBase, AlwaysLed, AlwaysOnce, AlwaysStable};
 ghost use Rattle.run_safety.specs.SafeGroups.{LivesAreSafe, GroupsGiveOneList};
+ghost use Rattle.run_safety.specs.Safe.{Safe};
+ghost use Rattle.world_model.specs.declared.one_node.OneNodeScript.{OneNodeScript};
+ghost use Rattle.world_model.specs.OneNode.{run_of};
 
 /// Two entries that nodes put at one place of one view's list are the same.
 #[tactic(auto, using(crate::proofs::Lives::always_one_list))]
@@ -92,4 +95,10 @@ pub fn lives_are_safe()
 /// in the run's own records.
 pub fn groups_give_one_list()
     ensures { GroupsGiveOneList }
+{}
+
+/// Every run of a script of one node is safe.
+#[tactic(auto, using(crate::proofs::OneNodeRuns::one_node_safe))]
+pub fn one_node_runs_are_safe()
+    ensures { (s : OneNodeScript) → Safe (run_of s) }
 {}

@@ -10,3 +10,5 @@ pub mod Play
 pub mod Opens
 pub mod Load
 pub mod Samples
+pub mod OneNode
+pub mod OneNodeRows

@@ -9,9 +9,10 @@ pub mod rows_rings;
 pub mod rows_steps;
 pub mod rows_views;
 pub mod rows_votes;
+pub mod one_node_rows;
 mod script;
 
 pub use event::{Event, Events};
 pub use node_state::CallLine;
-pub use one_node::{Awaited, OneNodeLine, OneNodeScript};
+pub use one_node::{Awaited, OneNodeLine, OneNodeScript, OneNodeWorld};
 pub use script::{Line, LineWhy, Lines, Script};

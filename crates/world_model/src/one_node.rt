@@ -1,4 +1,6 @@
-//! A script of one node.
+//! A script of one node, and the world that it is played in.
+use node_core::Core;
+use node_state::Packets;
 use rsct_packet::{List, Name};
 
 /// What the next line of a script must be.
@@ -31,4 +33,12 @@ pub struct OneNodeScript {
     pub client: Option<List<u8>>,
     pub groups: List<Name>,
     pub lines: List<OneNodeLine>,
+}
+
+/// A world of one node: the node, all packets that it has sent to itself, and how many of them were given to it.
+#[derive(Drop)]
+pub struct OneNodeWorld {
+    pub node: Core,
+    pub sent: Packets,
+    pub handled: usize,
 }

@@ -1,0 +1,13 @@
+//! The top call: from the words and the bytes read to the bytes written and the status.
+#![tactic(auto)]
+
+mod input;
+mod running;
+mod status;
+
+pub use input::LIMIT;
+pub use running::{Ending, run};
+pub use status::hags;
+
+#[cfg(test)]
+mod tests;
