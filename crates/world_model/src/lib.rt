@@ -3,13 +3,13 @@
 
 mod event;
 mod one_node;
+pub mod one_node_rows;
 pub mod rows_basic;
 pub mod rows_queue;
 pub mod rows_rings;
 pub mod rows_steps;
 pub mod rows_views;
 pub mod rows_votes;
-pub mod one_node_rows;
 mod script;
 
 pub use event::{Event, Events};
