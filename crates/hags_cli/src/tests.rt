@@ -1,3 +1,5 @@
+mod one_node;
+
 use crate::status::hags;
 use hags_io::{MemSink, MemSource};
 use std::alloc::{AllocError, Global};
@@ -38,6 +40,12 @@ fn ran(
     let mut err = sink(alloc, &[1])?;
     let status = hags(alloc, words.as_slice(), &mut input, &mut out, &mut err);
     Ok((status, out))
+}
+
+/// Whether the script gives this transcript.
+fn gives(alloc: Global, script: &[u8], transcript: &[u8]) -> Result<bool, AllocError> {
+    let (status, out) = ran(alloc, script, &[], &[])?;
+    Ok(status == 0 && out.held() == transcript)
 }
 
 #[test]
