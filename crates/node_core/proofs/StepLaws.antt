@@ -1,6 +1,6 @@
 -- What an append comes to.
 use Rattle.std.proofs.Common.{◌≡◌, ℕ, List, length, true, Option, Some, Result, Ok, Err, OnOk, refl, sym, ◌∙◌, ap}
-use Rattle.proposal_core.specs.declared.entry.Entry.{Entry}
+use Rattle.group_entry.specs.declared.entry.Entry.{Entry}
 use Rattle.proposal_core.specs.declared.group_state.GroupState.{GroupState}
 use Rattle.proposal_core.specs.Fold.{applied}
 use Rattle.node_core.specs.declared.groups.GroupRow.{GroupRow}

@@ -4,7 +4,7 @@ use Rattle.std.specs.Str.{bytes_eq}
 use Rattle.rsct_packet.specs.declared.ids.ViewId.{ViewId}
 use Rattle.rsct_packet.specs.Text.{name_lt}
 use Rattle.rsct_packet.specs.Search.{edit_where, insert_before}
-use Rattle.proposal_core.specs.declared.entry.Entry.{Entry}
+use Rattle.group_entry.specs.declared.entry.Entry.{Entry}
 use Rattle.proposal_core.specs.Fold.{empty_state, fits, applied}
 use Rattle.node_core.specs.declared.groups.GroupRow.{GroupRow}
 

@@ -5,7 +5,7 @@ use Rattle.rsct_packet.specs.Mask.{mask_opens}
 use Rattle.group_attr.specs.Attrs.{is_bad_source, first_fault}
 use Rattle.group_attr.specs.Agree.{agree}
 use Rattle.proposal_core.specs.Fold.{fold_opens}
-use Rattle.proposal_core.specs.Sizes.{sizes_opens}
+use Rattle.group_entry.specs.Sizes.{sizes_opens}
 use Rattle.proposal_core.specs.Lists.{lists_opens}
 use Rattle.ring_commit.specs.Gather.{gather_opens}
 use Rattle.adapter_ring.specs.Addresses.{addresses_opens}

@@ -5,7 +5,7 @@ use Rattle.rsct_packet.specs.declared.mask.Mask.{Mask}
 use Rattle.rsct_packet.specs.declared.ids.ProtoId.{ProtoId}
 use Rattle.rsct_packet.specs.declared.ids.ProviderId.{ProviderId}
 use Rattle.rsct_packet.specs.Mask.{has_node}
-use Rattle.proposal_core.specs.declared.entry.Vote.{Vote}
+use Rattle.group_entry.specs.declared.entry.Vote.{Vote}
 use Rattle.proposal_core.specs.Fold.{runs}
 use Rattle.adapter_ring.specs.declared.ring.Ring.{Ring}
 use Rattle.client_callbacks.specs.declared.ballot.Filled.{Filled}

@@ -1,20 +1,20 @@
 -- Laws of the fold.
-use Rattle.std.proofs.Common.{◌≡◌, ℕ, ◌+◌, ◌<◌, Bool, true, false, cond, List, [], ◌∷◌, ◌++◌, length, get_or, take, Option, Some, None, refl, sym, ap, subst, ◌∙◌, arith}
+use Rattle.std.proofs.Common.{◌≡◌, ℕ, ◌+◌, ◌<◌, Bool, true, false, List, [], ◌∷◌, length, get_or, take, Option, Some, None, refl, sym, ap, subst, ◌∙◌}
 use Rattle.std.specs.Prelude.{IsTrue, ◌&&◌}
 use Rattle.std.proofs.lemmas.List.{take_more, map-append}
 use Rattle.rsct_packet.specs.declared.ids.ProviderId.{ProviderId}
 use Rattle.rsct_packet.specs.Providers.{without_all}
 use Rattle.rsct_packet.proofs.ProviderLaws.{without_all-append}
-use Rattle.proposal_core.specs.declared.proposal.Failure.{Failure}
+use Rattle.group_entry.specs.declared.proposal.Failure.{Failure}
 use Rattle.rsct_packet.specs.declared.ids.ViewId.{ViewId}
 use Rattle.group_attr.specs.declared.attrs.Attrs.{Attrs}
-use Rattle.proposal_core.specs.declared.proposal.Proposal.{Proposal}
-use Rattle.proposal_core.specs.declared.proposal.Proposal.TheVariants.{Join, Leave, Fail, Expel, State, Message, Attributes, Reflect}
-use Rattle.proposal_core.specs.declared.entry.Entry.{Entry}
-use Rattle.proposal_core.specs.declared.entry.Entry.TheVariants.{Once, Begin, Phase, Approve, Reject, Late}
+use Rattle.group_entry.specs.declared.proposal.Proposal.{Proposal}
+use Rattle.group_entry.specs.declared.proposal.Proposal.TheVariants.{Join, Leave, Fail, Expel, State, Message, Attributes, Reflect}
+use Rattle.group_entry.specs.declared.entry.Entry.{Entry}
+use Rattle.group_entry.specs.declared.entry.Entry.TheVariants.{Once, Begin, Phase, Approve, Reject, Late}
 use Rattle.proposal_core.specs.declared.group_state.GroupState.{GroupState}
 use Rattle.proposal_core.specs.declared.group_state.Running.{Running}
-use Rattle.proposal_core.specs.Fold.{fallen_of, without, can_begin, fits, runs, effect, first_value, first_attrs, with_attrs, begun, newer, valued, approved, once, applied, rejected, rejected_of, next_phase, advanced, joiners_fit, joiners_fit_at}
+use Rattle.proposal_core.specs.Fold.{fallen_of, without, can_begin, fits, effect, first_value, first_attrs, with_attrs, begun, newer, valued, approved, once, applied, rejected, rejected_of, next_phase, advanced, joiners_fit, joiners_fit_at}
 
 pub nobody_off : (xs : List ProviderId) → without_all xs [] ≡ xs
 nobody_off [] = refl

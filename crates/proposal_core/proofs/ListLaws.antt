@@ -1,18 +1,18 @@
 -- A list is the fold of all that was put, whatever was forgotten.
-use Rattle.std.proofs.Common.{◌≡◌, ℕ, zero, suc, ◌+◌, ◌-◌, ◌≤◌, ◌<◌, Bool, true, false, cond, List, [], ◌∷◌, ◌++◌, length, take, drop, Option, Some, None, refl, sym, ap, subst, ◌∙◌, arith, length-append, append_assoc, inl, inr, max}
-use Rattle.std.specs.Prelude.{IsTrue, map, sum_by, nat_lt, slice_get}
+use Rattle.std.proofs.Common.{◌≡◌, ℕ, zero, suc, ◌+◌, ◌-◌, ◌≤◌, cond, List, [], ◌∷◌, ◌++◌, length, drop, None, refl, sym, ap, subst, ◌∙◌, arith, length-append, append_assoc, inl, inr, max}
+use Rattle.std.specs.Prelude.{IsTrue, map, nat_lt, slice_get}
 use Rattle.std.proofs.lemmas.Bool.{cases_lt, lt-ltb, le-ltb, le-leb}
 use Rattle.std.proofs.lemmas.List.{map-append, length-map, append-nil, drop-drop, drop-append-le}
 use Rattle.std.proofs.lemmas.List.Sums.{sum_by_push}
 use Rattle.std.proofs.lemmas.Option.{slice_get_past}
 use Rattle.rsct_packet.specs.declared.ids.ViewId.{ViewId}
-use Rattle.proposal_core.specs.declared.entry.Entry.{Entry}
+use Rattle.group_entry.specs.declared.entry.Entry.{Entry}
 use Rattle.proposal_core.specs.declared.group_state.GroupState.{GroupState}
 use Rattle.proposal_core.specs.Fold.{fits, applied, after, after_if}
-use Rattle.proposal_core.specs.Sizes.{entry_len}
+use Rattle.group_entry.specs.Sizes.{entry_len}
 use Rattle.proposal_core.specs.GroupView.{GroupView, new_list}
-use Rattle.proposal_core.specs.Lists.{has_room, with_entry, forgotten, entry_at}
-use Rattle.proposal_core.specs.ListLaw.{ListCall, Put, Forget, called, all_called, IsTaken, AllTaken, puts_of, fold_from, IsListOf}
+use Rattle.proposal_core.specs.Lists.{with_entry, forgotten, entry_at}
+use Rattle.proposal_core.specs.ListLaw.{ListCall, Put, Forget, all_called, AllTaken, puts_of, fold_from, IsListOf}
 
 pub after_fits : (s : GroupState) (v : ViewId) (i : ℕ) (e : Entry) → IsTrue (fits s e) → after s v i e ≡ applied s v i e
 unfolding after after_if

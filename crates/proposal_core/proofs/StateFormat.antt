@@ -1,7 +1,6 @@
 -- What is read as a group state is spelled so, and what is spelled so is read.
-use Rattle.std.proofs.Common.{◌≡◌, ℕ, ◌+◌, ◌-◌, ◌<◌, ◌≤◌, Bool, true, false, List, ◌++◌, length, take, Option, Some, None, refl, sym, ap, subst, ◌∙◌, arith, length-append}
-use Rattle.std.specs.Prelude.{IsTrue, ◌&&◌, ◌||◌, nat_le}
-use Rattle.std.specs.Int.{w16}
+use Rattle.std.proofs.Common.{◌≡◌, ℕ, ◌-◌, ◌≤◌, List, ◌++◌, length, take, Some, refl, ap, ◌∙◌, arith, length-append}
+use Rattle.std.specs.Prelude.{IsTrue, ◌||◌, nat_le}
 use Rattle.std.proofs.lemmas.Bool.{leb-true, le-leb}
 use Rattle.std.proofs.lemmas.List.{take_at}
 use Rattle.std.proofs.lemmas.List.Folds.{list_any-append}
@@ -12,9 +11,8 @@ use Rattle.rsct_packet.proofs.FormatLaws.{both_format, made_format, guarded_form
 use Rattle.rsct_packet.proofs.FieldLaws.{and_true, both_true, bytes_format, proto_format, providers_format}
 use Rattle.group_attr.proofs.CodecLaws.{attrs_format}
 use Rattle.proposal_core.specs.declared.group_state.GroupState.{GroupState}
-use Rattle.proposal_core.specs.declared.group_state.Running.{Running}
 use Rattle.proposal_core.specs.Fold.{joiners_fit}
-use Rattle.proposal_core.proofs.ProposalFormat.{proposal_format}
+use Rattle.group_entry.proofs.ProposalFormat.{proposal_format}
 use Rattle.proposal_core.specs.StateCodec.{is_phase, running_of_parts, running_at, running_text, IsRunning, failed_are_present, is_sound, state_of_parts, parts_at, state_at, state_text, IsState, IsRead}
 
 phase_passes : (n : ℕ) → IsTrue (is_phase n) → (1 ≤ n) × (n ≤ 200)

@@ -1,12 +1,12 @@
 -- Groups' lists: what they hold, and what entries make of them.
-use Rattle.std.specs.Prelude.{ℕ, Bool, true, false, ◌&&◌, ◌||◌, ◌+◌, ◌-◌, ◌++◌, List, [], ◌∷◌, drop, max, Option, Some, None, nat_le, nat_lt, slice_get, if◌then◌else◌}
+use Rattle.std.specs.Prelude.{ℕ, Bool, ◌&&◌, ◌||◌, ◌+◌, ◌-◌, ◌++◌, [], ◌∷◌, drop, max, Option, Some, None, nat_le, nat_lt, slice_get, if◌then◌else◌}
 use Rattle.rsct_packet.specs.declared.ids.ViewId.{ViewId}
 use Rattle.rsct_packet.specs.Ids.{last_u32}
-use Rattle.proposal_core.specs.declared.entry.Entry.{Entry}
+use Rattle.group_entry.specs.declared.entry.Entry.{Entry}
 use Rattle.proposal_core.specs.declared.group_state.GroupState.{GroupState}
 use Rattle.proposal_core.specs.Fold.{empty_state, fits, after}
 use Rattle.proposal_core.specs.GroupView.{GroupView, new_list}
-use Rattle.proposal_core.specs.Sizes.{entry_len}
+use Rattle.group_entry.specs.Sizes.{entry_len}
 
 -- nothing begins in a list of so many places or bytes
 abbrev pub max_places : ℕ

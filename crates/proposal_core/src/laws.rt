@@ -1,8 +1,5 @@
-//! Laws of the fold and of lists.
-ghost use Rattle.std.specs.Prelude.{◌≡◌, List, length};
-ghost use Rattle.proposal_core.specs.declared.entry.Entry.{Entry};
-ghost use Rattle.proposal_core.specs.EntryCodec.{entry_text};
-ghost use Rattle.proposal_core.specs.Sizes.{entry_len};
+//! A law of lists.
+ghost use Rattle.std.specs.Prelude.{List};
 ghost use Rattle.proposal_core.specs.declared.group_state.GroupState.{GroupState};
 ghost use Rattle.proposal_core.specs.GroupView.{new_list};
 ghost use Rattle.proposal_core.specs.ListLaw.{ListCall, all_called, AllTaken, puts_of, IsListOf};
@@ -13,10 +10,4 @@ ghost use Rattle.proposal_core.specs.ListLaw.{ListCall, all_called, AllTaken, pu
 #[tactic(auto, using(crate::proofs::ListLaws::lists_are_folds))]
 pub fn lists_are_folds()
     ensures { (base : GroupState) (cs : List ListCall) → AllTaken (new_list base) cs → IsListOf base (puts_of cs) (all_called (new_list base) cs) }
-{}
-
-/// The length that a list counts for an entry is that of its spelling.
-#[tactic(auto, using(crate::proofs::SizeLaws::entry_length))]
-pub fn entries_have_their_lengths()
-    ensures { (e : Entry) → length (entry_text e) ≡ entry_len e }
 {}

@@ -8,10 +8,9 @@ ghost use Rattle.rsct_packet.specs.Providers.{among, none_among};
 ghost use Rattle.proposal_core.specs.Fold.{joiners_fit, joiners_in, present};
 ghost use Rattle.proposal_core.specs.StateCodec.{running_at, running_text, IsRunning, running_in, optional_running_in, is_sound, parts_at, parts_in, state_at, state_text, IsState};
 
-use crate::entry_codec::{optional_bytes, optional_text_of};
 use crate::group_state::{GroupState, Running};
-use crate::proposal_codec::{ProposalRef, read_proposal, text_of};
 use group_attr::{AttrsRef, read_attrs};
+use group_entry::{ProposalRef, optional_bytes, optional_text_of, read_proposal, text_of};
 use rsct_packet::{
     Fields, Listed, MAX_PROVIDERS, NoMemory, ProtoId, ProviderId, Providers, is_listed, known,
     put_bytes, put_optional_bytes, put_optional_proto, put_proto, put_providers, put_u8, put_u16,
@@ -335,7 +334,7 @@ impl GroupState {
     }
 
     /// The spelling, in memory of its own.
-    #[tactic(auto, unfolding(crate::specs::StateCodec::state_text), using(crate::proofs::ProposalFormat::members_nodes, std::proofs::lemmas::Grind::common_steps))]
+    #[tactic(auto, unfolding(crate::specs::StateCodec::state_text), using(group_entry::proofs::ProposalFormat::members_nodes, std::proofs::lemmas::Grind::common_steps))]
     fn spelled(&self, alloc: Global) -> Result<Vec<u8>, NoMemory>
         requires { IsState self.now }
         ensures { IfOk result (λ v. v.items ≡ state_text self.now) }

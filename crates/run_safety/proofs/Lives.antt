@@ -3,8 +3,8 @@ use Rattle.std.proofs.Common.{refl, Some, ◌≡◌, ℕ, ◌+◌, ◌<◌, ◌�
 use Rattle.std.specs.Prelude.{slice_get}
 use Rattle.rsct_packet.specs.declared.ids.ViewId.{ViewId}
 use Rattle.rsct_packet.specs.declared.ids.ProviderId.{ProviderId}
-use Rattle.proposal_core.specs.declared.entry.Entry.{Entry}
-use Rattle.proposal_core.specs.declared.proposal.Proposal.{Proposal}
+use Rattle.group_entry.specs.declared.entry.Entry.{Entry}
+use Rattle.group_entry.specs.declared.proposal.Proposal.{Proposal}
 use Rattle.run_safety.specs.Past.{Has}
 use Rattle.run_safety.specs.ViewOrder.{Lt, Le}
 use Rattle.run_safety.specs.Group.{member, Standing, members_of, Packet, Install, Append, Request, Refusal, In, Put, Told, Line, Kept, Noted, kept}

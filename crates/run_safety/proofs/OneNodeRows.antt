@@ -5,7 +5,7 @@ use Rattle.std.specs.Str.{bytes_eq}
 use Rattle.rsct_packet.specs.declared.ids.ViewId.{ViewId}
 use Rattle.rsct_packet.specs.declared.ids.ProviderId.{ProviderId}
 use Rattle.rsct_packet.specs.Search.{edit_where, insert_before}
-use Rattle.proposal_core.specs.declared.entry.Entry.{Entry}
+use Rattle.group_entry.specs.declared.entry.Entry.{Entry}
 use Rattle.node_core.specs.declared.groups.GroupRow.{GroupRow}
 use Rattle.node_core.specs.Groups.{named, row_of, comes_after, empty_row, opened_in, put_in, with_entry}
 use Rattle.run_safety.proofs.OneNodeKnown.{FirstEntry, entries_in, entries_of, joins, first_view, text_same, text_self}

@@ -4,8 +4,8 @@ use Rattle.std.specs.Prelude.{not, if◌then◌else◌, slice_get}
 use Rattle.rsct_packet.specs.declared.ids.ViewId.{ViewId}
 use Rattle.rsct_packet.specs.declared.ids.Member.{Member}
 use Rattle.rsct_packet.specs.declared.ids.ProviderId.{ProviderId}
-use Rattle.proposal_core.specs.declared.entry.Entry.{Entry}
-use Rattle.proposal_core.specs.declared.proposal.Proposal.{Proposal}
+use Rattle.group_entry.specs.declared.entry.Entry.{Entry}
+use Rattle.group_entry.specs.declared.proposal.Proposal.{Proposal}
 use Rattle.run_safety.specs.Past.{Has}
 use Rattle.run_safety.specs.ViewOrder.{is_same, Lt}
 use Rattle.run_safety.specs.Group.{member, Standing, Reply, members_of, Origin, Packet, Install, Append, Request, Refusal, Ack, Stable, Record, In, Put, Note, Based, Heard, Told, Line, Kept, Noted, kept, lines_from, puts_from}

@@ -2,7 +2,7 @@
 use Rattle.std.specs.Prelude.{ℕ, List}
 use Rattle.rsct_packet.specs.declared.ids.ViewId.{ViewId}
 use Rattle.rsct_packet.specs.declared.ids.Member.{Member}
-use Rattle.proposal_core.specs.declared.entry.Entry.{Entry}
+use Rattle.group_entry.specs.declared.entry.Entry.{Entry}
 use Rattle.run_safety.specs.Past.{Has, History}
 use Rattle.run_safety.specs.SafeLists.{OneEntry}
 use Rattle.run_safety.specs.Group.{Standing, Reply, Origin, Packet, Line, Noted, Based, kept}

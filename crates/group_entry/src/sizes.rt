@@ -1,6 +1,6 @@
 //! The lengths of spellings, in bytes.
 ghost use Rattle.std.specs.Prelude.{◌≡◌, ◌<◌, ◌+◌, ◌*◌, ℕ, length};
-ghost use Rattle.proposal_core.specs.Sizes.{attrs_len, text_option_len, proposal_len, closed_len, entry_len, in_u32};
+ghost use Rattle.group_entry.specs.Sizes.{attrs_len, text_option_len, proposal_len, closed_len, entry_len, in_u32};
 
 use crate::entry::{Closed, Entry};
 use crate::proposal::Proposal;

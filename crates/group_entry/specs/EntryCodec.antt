@@ -1,5 +1,5 @@
 -- How entries are spelled.
-use Rattle.std.specs.Prelude.{◌≡◌, ℕ, Bool, ◌==◌, IsTrue, is_none, List, [], ◌∷◌, ◌++◌, length, map, Option, Some, None, option_copied, if◌then◌else◌}
+use Rattle.std.specs.Prelude.{ℕ, ◌==◌, IsTrue, is_none, List, [], ◌∷◌, ◌++◌, length, Option, Some, None, option_copied, if◌then◌else◌}
 use Rattle.std.specs.Int.{w8, w16}
 use Rattle.rsct_packet.specs.declared.ids.ProviderId.{ProviderId}
 use Rattle.rsct_packet.specs.declared.ids.ProtoId.{ProtoId}
@@ -7,17 +7,17 @@ use Rattle.rsct_packet.specs.Reading.{number_at, both_at, made_at, decoded_at, g
 use Rattle.rsct_packet.specs.Format.{EachFits, OptionFits, counted_text, optional_text}
 use Rattle.rsct_packet.specs.Fields.{u8_text, u16_text, bytes_at, bytes_text, AreShort, IsU8, IsU16, provider_at, provider_text, IsProvider, proto_at, proto_text, IsProto, some_providers_at, providers_text, IsSomeProviders}
 use Rattle.group_attr.specs.declared.attrs.DefaultVote.TheVariants as default_vote
-use Rattle.proposal_core.specs.declared.entry.Vote.TheVariants as vote
-use Rattle.proposal_core.specs.declared.entry.RowVote.{RowVote}
-use Rattle.proposal_core.specs.declared.entry.RowVote.TheVariants as row_vote
-use Rattle.proposal_core.specs.declared.entry.Row.{Row}
-use Rattle.proposal_core.specs.declared.entry.Closed.{Closed}
-use Rattle.proposal_core.specs.declared.entry.Entry.{Entry}
-use Rattle.proposal_core.specs.declared.entry.Entry.TheVariants.{Once, Begin, Phase, Approve, Reject, Late}
-use Rattle.proposal_core.specs.declared.entry_codec.ClosedRef.{ClosedRef}
-use Rattle.proposal_core.specs.declared.entry_codec.EntryRef.{EntryRef}
-use Rattle.proposal_core.specs.declared.entry_codec.EntryRef.TheVariants as ref
-use Rattle.proposal_core.specs.ProposalCodec.{proposal_at, proposal_text, IsProposal, proposal_in}
+use Rattle.group_entry.specs.declared.entry.Vote.TheVariants as vote
+use Rattle.group_entry.specs.declared.entry.RowVote.{RowVote}
+use Rattle.group_entry.specs.declared.entry.RowVote.TheVariants as row_vote
+use Rattle.group_entry.specs.declared.entry.Row.{Row}
+use Rattle.group_entry.specs.declared.entry.Closed.{Closed}
+use Rattle.group_entry.specs.declared.entry.Entry.{Entry}
+use Rattle.group_entry.specs.declared.entry.Entry.TheVariants.{Once, Begin, Phase, Approve, Reject, Late}
+use Rattle.group_entry.specs.declared.entry_codec.ClosedRef.{ClosedRef}
+use Rattle.group_entry.specs.declared.entry_codec.EntryRef.{EntryRef}
+use Rattle.group_entry.specs.declared.entry_codec.EntryRef.TheVariants as ref
+use Rattle.group_entry.specs.ProposalCodec.{proposal_at, proposal_text, IsProposal, proposal_in}
 
 -- what stands for a voter: 1 to 3 its vote, 4 and 5 late, 6 and 7 failed
 

@@ -4,7 +4,7 @@ ghost use Rattle.std.specs.Option.{option_map};
 ghost use Rattle.rsct_packet.specs.Reading.{Gives};
 ghost use Rattle.rsct_packet.specs.Fields.{AreShort};
 ghost use Rattle.rsct_packet.specs.Format.{IsBytes, OptionFits};
-ghost use Rattle.proposal_core.specs.EntryCodec.{row_vote_number, row_vote_at, closed_at, closed_text, IsClosed, closed_in, once_at, begin_at, phase_at, approve_at, reject_at, late_at, entry_front_at, entry_text, IsEntry, entry_in, whole};
+ghost use Rattle.group_entry.specs.EntryCodec.{row_vote_number, row_vote_at, closed_at, closed_text, IsClosed, closed_in, once_at, begin_at, phase_at, approve_at, reject_at, late_at, entry_front_at, entry_text, IsEntry, entry_in, whole};
 
 use crate::entry::{Closed, Entry, Row, RowVote, Vote};
 use crate::proposal_codec::{ProposalRef, read_proposal, text_of};
@@ -74,7 +74,7 @@ fn read_row_vote(b: &[u8]) -> Option<(RowVote, &[u8])>
 
 impl Item for Row {
     ghost use Rattle.rsct_packet.specs.Fields.{IsNode};
-    ghost use Rattle.proposal_core.specs.EntryCodec.{row_at, row_text};
+    ghost use Rattle.group_entry.specs.EntryCodec.{row_at, row_text};
 
     ghost read_at = { row_at };
 
@@ -233,7 +233,8 @@ impl<'a> EntryRef<'a> {
     /// An entry of its own.
     pub fn own(&self, alloc: Global) -> Result<Entry, NoMemory>
         requires { IsEntry (entry_in self.now) }
-        ensures { IfOk result (λ e. e ≡ entry_in self.now) }
+        ensures ok { IfOk result (λ e. e ≡ entry_in self.now) }
+        ensures entry { IfOk result IsEntry }
     {
         Ok(match self {
             EntryRef::Once(x) => Entry::Once(x.own(alloc)?),
@@ -250,6 +251,7 @@ impl<'a> EntryRef<'a> {
     }
 }
 
+/// The bytes of a text, or none.
 pub fn optional_bytes(text: &Option<Text>) -> Option<&[u8]>
     ensures value { option_copied result ≡ text.now }
     ensures short { OptionFits AreShort text.now }

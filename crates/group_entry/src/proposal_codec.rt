@@ -5,7 +5,7 @@ ghost use Rattle.rsct_packet.specs.Reading.{Gives, Reads};
 ghost use Rattle.std.specs.List.{list_any};
 ghost use Rattle.rsct_packet.specs.Fields.{AreShort};
 ghost use Rattle.rsct_packet.specs.Format.{IsBytes, IsFound, IsOnly};
-ghost use Rattle.proposal_core.specs.ProposalCodec.{cause_number, cause_at, same_failure, failures_differ, are_failures, fallen_at, join_at, leave_at, fail_at, expel_at, state_change_at, message_at, attributes_at, reflect_at, proposal_at, proposal_text, IsProposal, proposal_in};
+ghost use Rattle.group_entry.specs.ProposalCodec.{cause_number, cause_at, same_failure, failures_differ, are_failures, fallen_at, join_at, leave_at, fail_at, expel_at, state_change_at, message_at, attributes_at, reflect_at, proposal_at, proposal_text, IsProposal, proposal_in};
 
 use crate::proposal::{Cause, Failure, Proposal};
 use group_attr::{AttrsRef, read_attrs};
@@ -83,7 +83,7 @@ fn read_cause(b: &[u8]) -> Option<(Cause, &[u8])>
 
 impl Item for Failure {
     ghost use Rattle.rsct_packet.specs.Fields.{IsNode};
-    ghost use Rattle.proposal_core.specs.ProposalCodec.{failure_at, failure_text};
+    ghost use Rattle.group_entry.specs.ProposalCodec.{failure_at, failure_text};
 
     ghost read_at = { failure_at };
 
@@ -371,7 +371,8 @@ impl<'a> ProposalRef<'a> {
     /// A proposal of its own.
     pub fn own(&self, alloc: Global) -> Result<Proposal, NoMemory>
         requires { IsProposal (proposal_in self.now) }
-        ensures { IfOk result (λ x. x ≡ proposal_in self.now) }
+        ensures ok { IfOk result (λ x. x ≡ proposal_in self.now) }
+        ensures proposal { IfOk result IsProposal }
     {
         Ok(match self {
             ProposalRef::Join {

@@ -1,6 +1,6 @@
 use Rattle.std.proofs.Common.{◌≡◌, length}
-use Rattle.proposal_core.specs.ProposalCodec.{failures_differ}
-use Rattle.proposal_core.proofs.proposal_codec.are_apart.Given as goal
+use Rattle.group_entry.specs.ProposalCodec.{failures_differ}
+use Rattle.group_entry.proofs.proposal_codec.are_apart.Given as goal
 
 abbrev pub invariant-loop-f : goal.invariant-loop-f
 invariant-loop-f l = failures_differ l.fs ≡ failures_differ l.left

@@ -3,20 +3,18 @@ use Rattle.std.specs.Prelude.{ℕ, ◌≤◌, Bool, true, not, ◌==◌, ◌&&�
 use Rattle.std.specs.Int.{w8, w32}
 use Rattle.std.specs.List.{list_any}
 use Rattle.rsct_packet.specs.declared.ids.ProviderId.{ProviderId}
-use Rattle.rsct_packet.specs.declared.ids.ViewId.{ViewId}
 use Rattle.rsct_packet.specs.Providers.{same_provider}
 use Rattle.rsct_packet.specs.Reading.{number_at, both_at, made_at, decoded_at, guarded_at, keyed_at, counted_at, optional_at}
 use Rattle.rsct_packet.specs.Format.{EachFits, OptionFits, counted_text, optional_text}
 use Rattle.rsct_packet.specs.Fields.{u8_text, u32_text, bytes_at, bytes_text, AreShort, IsU32, view_at, view_text, IsView, provider_at, provider_text, IsProvider, some_providers_at, providers_text, IsSomeProviders}
-use Rattle.group_attr.specs.declared.attrs.Attrs.{Attrs}
 use Rattle.group_attr.specs.Codec.{attrs_at, attrs_text, IsAttrs, attrs_in}
-use Rattle.proposal_core.specs.declared.proposal.Cause.{Cause}
-use Rattle.proposal_core.specs.declared.proposal.Cause.TheVariants.{Died, Gone, Cast}
-use Rattle.proposal_core.specs.declared.proposal.Failure.{Failure}
-use Rattle.proposal_core.specs.declared.proposal.Proposal.{Proposal}
-use Rattle.proposal_core.specs.declared.proposal.Proposal.TheVariants.{Join, Leave, Fail, Expel, State, Message, Attributes, Reflect}
-use Rattle.proposal_core.specs.declared.proposal_codec.ProposalRef.{ProposalRef}
-use Rattle.proposal_core.specs.declared.proposal_codec.ProposalRef.TheVariants as ref
+use Rattle.group_entry.specs.declared.proposal.Cause.{Cause}
+use Rattle.group_entry.specs.declared.proposal.Cause.TheVariants.{Died, Gone, Cast}
+use Rattle.group_entry.specs.declared.proposal.Failure.{Failure}
+use Rattle.group_entry.specs.declared.proposal.Proposal.{Proposal}
+use Rattle.group_entry.specs.declared.proposal.Proposal.TheVariants.{Join, Leave, Fail, Expel, State, Message, Attributes, Reflect}
+use Rattle.group_entry.specs.declared.proposal_codec.ProposalRef.{ProposalRef}
+use Rattle.group_entry.specs.declared.proposal_codec.ProposalRef.TheVariants as ref
 
 -- causes: 1 died, 2 gone, 3 cast
 

@@ -1,23 +1,23 @@
 -- What is read as an entry is spelled so, and what is spelled so is read.
-use Rattle.std.proofs.Common.{◌≡◌, ℕ, ◌<◌, ◌≤◌, Bool, true, false, cond, List, [], ◌∷◌, ◌++◌, length, Option, Some, None, refl, sym, ap, subst, ◌∙◌, arith, eqb-true}
-use Rattle.std.specs.Prelude.{◌==◌, IsTrue, is_none, IfSome, if◌then◌else◌}
+use Rattle.std.proofs.Common.{◌≡◌, ℕ, ◌<◌, List, [], ◌∷◌, ◌++◌, Option, Some, None, refl, sym, ap, ◌∙◌, arith, eqb-true}
+use Rattle.std.specs.Prelude.{is_none, IfSome}
 use Rattle.std.specs.Int.{w8}
 use Rattle.std.proofs.lemmas.List.{append-nil}
-use Rattle.rsct_packet.specs.Format.{IsFormat, IsKeyed, IsVariant, IsBytes, EachFits}
-use Rattle.rsct_packet.specs.Fields.{u8_text, IsNode, IsProvider}
+use Rattle.rsct_packet.specs.Format.{IsFormat, IsVariant, IsBytes, EachFits}
+use Rattle.rsct_packet.specs.Fields.{u8_text, IsNode}
 use Rattle.rsct_packet.proofs.FormatLaws.{both_format, made_format, decoded_format, guarded_format, fits_format, counted_format, optional_format, keyed_of, choice_format, or_variant, no_variant, made_variant, wide8, u8_format, u16_format}
 use Rattle.rsct_packet.proofs.FieldLaws.{bytes_format, proto_format, provider_format, some_providers_format}
 use Rattle.group_attr.proofs.CodecLaws.{chosen, not_chosen}
 use Rattle.group_attr.specs.declared.attrs.DefaultVote.TheVariants as default_vote
-use Rattle.proposal_core.specs.declared.entry.Vote.TheVariants as vote
-use Rattle.proposal_core.specs.declared.entry.RowVote.{RowVote}
-use Rattle.proposal_core.specs.declared.entry.RowVote.TheVariants as row_vote
-use Rattle.proposal_core.specs.declared.entry.Row.{Row}
-use Rattle.proposal_core.specs.declared.entry.Closed.{Closed}
-use Rattle.proposal_core.specs.declared.entry.Entry.{Entry}
-use Rattle.proposal_core.specs.declared.entry.Entry.TheVariants.{Once, Begin, Phase, Approve, Reject, Late}
-use Rattle.proposal_core.proofs.ProposalFormat.{proposal_format}
-use Rattle.proposal_core.specs.EntryCodec.{row_vote_number, row_vote_of, row_vote_at, row_of_parts, row_at, row_text, IsRow, closed_of_parts, closed_at, closed_text, IsClosed, once_at, begin_at, phase_at, approve_at, reject_at, late_at, entry_body_at, entry_front_at, entry_kind, entry_body, entry_text, IsEntry, whole}
+use Rattle.group_entry.specs.declared.entry.Vote.TheVariants as vote
+use Rattle.group_entry.specs.declared.entry.RowVote.{RowVote}
+use Rattle.group_entry.specs.declared.entry.RowVote.TheVariants as row_vote
+use Rattle.group_entry.specs.declared.entry.Row.{Row}
+use Rattle.group_entry.specs.declared.entry.Closed.{Closed}
+use Rattle.group_entry.specs.declared.entry.Entry.{Entry}
+use Rattle.group_entry.specs.declared.entry.Entry.TheVariants.{Once, Begin, Phase, Approve, Reject, Late}
+use Rattle.group_entry.proofs.ProposalFormat.{proposal_format}
+use Rattle.group_entry.specs.EntryCodec.{row_vote_number, row_vote_of, row_vote_at, row_of_parts, row_at, row_text, IsRow, closed_of_parts, closed_at, closed_text, IsClosed, once_at, begin_at, phase_at, approve_at, reject_at, late_at, entry_body_at, entry_front_at, entry_kind, entry_body, entry_text, IsEntry, whole}
 
 row_vote_back : (k : ℕ) (y : RowVote) → row_vote_of k ≡ Some y → row_vote_number y ≡ k
 row_vote_back k y =

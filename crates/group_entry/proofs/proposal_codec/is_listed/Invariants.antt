@@ -1,7 +1,7 @@
 use Rattle.std.proofs.Common.{◌≡◌, length}
 use Rattle.std.specs.List.{list_any}
-use Rattle.proposal_core.specs.ProposalCodec.{same_failure}
-use Rattle.proposal_core.proofs.proposal_codec.is_listed.Given as goal
+use Rattle.group_entry.specs.ProposalCodec.{same_failure}
+use Rattle.group_entry.proofs.proposal_codec.is_listed.Given as goal
 
 abbrev pub invariant-loop-g : goal.invariant-loop-g
 invariant-loop-g l = list_any (λ g. same_failure g l.f) l.fs ≡ list_any (λ g. same_failure g l.f) l.left

@@ -1,0 +1,3 @@
+pub mod EntryFormat
+pub mod ProposalFormat
+pub mod SizeLaws

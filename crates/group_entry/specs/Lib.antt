@@ -1,0 +1,3 @@
+pub mod EntryCodec
+pub mod ProposalCodec
+pub mod Sizes
