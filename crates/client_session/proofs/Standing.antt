@@ -3,24 +3,25 @@ use Rattle.std.proofs.Common.{◌≡◌, ℕ, zero, suc, ◌+◌, ◌<◌, List,
 use Rattle.std.proofs.Common.{append_assoc}
 use Rattle.std.proofs.lemmas.List.{take_more}
 use Rattle.std.proofs.lemmas.List.Sums.{fold_more}
-use Rattle.std.proofs.lemmas.Option.{slice_get-map, slice_get_within}
-use Rattle.std.proofs.Common.{IsTrue, Bool, ℕ, subst}
+use Rattle.std.proofs.Common.{IsTrue, Bool}
 use Rattle.std.specs.Prelude.{map, slice_get}
 use Rattle.rsct_packet.specs.declared.ids.ViewId.{ViewId}
 use Rattle.client_callbacks.specs.Ballots.{BallotView, new_ballot, may_hold}
 use Rattle.client_callbacks.specs.Handed.{Notified}
-use Rattle.client_session.specs.declared.casts.Cast.{Cast}
+use Rattle.session_state.specs.declared.casts.Cast.{Cast}
 use Rattle.group_entry.specs.declared.entry.Entry.{Entry}
 use Rattle.proposal_core.specs.declared.group_state.GroupState.{GroupState}
 use Rattle.rsct_packet.specs.declared.ids.ProviderId.{ProviderId}
 use Rattle.client_callbacks.specs.declared.ballot.Filled.{Filled}
 use Rattle.client_callbacks.specs.declared.votes.VoteItem.{VoteItem}
 use Rattle.client_callbacks.specs.Handed.{Handed}
-use Rattle.client_session.specs.declared.state.SessionState.{SessionState}
+use Rattle.session_state.specs.declared.state.SessionState.{SessionState}
 use Rattle.std.proofs.Common.{length-append, length-take, length-drop}
-use Rattle.client_session.specs.Calls.{removed_at}
-use Rattle.client_session.specs.Clients.{StandFor, add_at, add_for, place_of}
-use Rattle.client_session.specs.HandOn.{asks, notice_to, notified, cast_with, cast_of, casts_of, script_for, FillsAs, Filling, Fillings}
+use Rattle.session_state.specs.Calls.{removed_at}
+use Rattle.session_state.specs.State.{place_of}
+use Rattle.session_state.specs.HandOn.{asks, cast_with, cast_of, casts_of}
+use Rattle.client_session.specs.Clients.{StandFor, add_at, add_for}
+use Rattle.client_session.specs.Notices.{notice_to, notified, script_for, FillsAs, Filling, Fillings}
 
 pub stand_more : {C : Type 0} (R : C → List Handed → Type 0) (x : Handed) (cs : List C) (hs : List (List Handed)) (i : ℕ) (d y : C) → i < length cs
     → ((h : List Handed) → R (get_or cs i d) h → R y (h ++ x ∷ []))

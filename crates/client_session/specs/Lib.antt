@@ -1,4 +1,2 @@
-pub mod State
 pub mod Clients
-pub mod Calls
-pub mod HandOn
+pub mod Notices

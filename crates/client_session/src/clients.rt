@@ -4,16 +4,16 @@ ghost use Rattle.proposal_core.specs.declared.group_state.Running.{Running};
 ghost use Rattle.client_callbacks.specs.declared.ballot.Filled.{Filled};
 ghost use Rattle.client_callbacks.specs.Ballots.{new_ballot, is_level, may_hold};
 ghost use Rattle.client_callbacks.specs.Handed.{Handed, Notified, Informed, notice_of, Fills};
-ghost use Rattle.client_session.specs.Clients.{StandFor, add_at, add_for, place_of};
-ghost use Rattle.client_session.specs.Calls.{SameSessions};
-ghost use Rattle.client_session.specs.HandOn.{hearers, handed_on, casts_out, notice_to, notified, cast_with, cast_of, casts_of, FillsAs, Filling, Fillings};
+ghost use Rattle.session_state.specs.State.{place_of};
+ghost use Rattle.session_state.specs.Calls.{SameSessions};
+ghost use Rattle.session_state.specs.HandOn.{hearers, handed_on, casts_out, cast_with, cast_of, casts_of};
+ghost use Rattle.client_session.specs.Clients.{StandFor, add_at, add_for};
+ghost use Rattle.client_session.specs.Notices.{notice_to, notified, FillsAs, Filling, Fillings};
 
-use crate::casts::{Cast, Casts};
-use crate::new_entry::NewEntry;
-use crate::state::SessionState;
 use client_callbacks::{Ballot, Callbacks, Notice, Told};
 use proposal_core::{GroupState, Running};
 use rsct_packet::{List, NoMemory, ProviderId};
+use session_state::{Cast, Casts, NewEntry, SessionState};
 use std::alloc::Global;
 
 /// What a provider casts, where its client left the ballot like this.
@@ -141,7 +141,7 @@ pub fn tell_at<C: Callbacks>(
 }
 
 /// Hands an entry on: each local provider that takes part hears it.
-#[tactic(auto, unfolding(crate::specs::HandOn::handed_on, crate::specs::HandOn::casts_out))]
+#[tactic(auto, unfolding(session_state::specs::HandOn::handed_on, session_state::specs::HandOn::casts_out))]
 pub fn hand_entry_on<C: Callbacks>(
     state: &mut SessionState,
     clients: &mut Vec<C>,

@@ -2,14 +2,14 @@
 ghost use Rattle.std.specs.Prelude.{◌≡◌, IfOk, is_some, find, slice_get, option_copied};
 ghost use Rattle.rsct_packet.specs.Search.{place_where};
 ghost use Rattle.subscribe_core.specs.Subs.{is_of, notes_of};
-ghost use Rattle.client_session.specs.State.{is_session, is_named, is_in_group, provider_of, client_token, member_token, sub_token, client_name};
+ghost use Rattle.session_state.specs.State.{is_session, is_named, is_in_group, provider_of, client_token, member_token, sub_token, client_name};
 ghost use Rattle.client_session.specs.Clients.{client_named};
 
 use crate::sessions::Sessions;
-use crate::state::{KeptBallot, MemberToken, Provider, Request, Session};
 use client_callbacks::Callbacks;
 use proposal_core::GroupState;
 use rsct_packet::{NoMemory, ProviderId};
+use session_state::{KeptBallot, MemberToken, Provider, Request, Session};
 use std::alloc::Global;
 use subscribe_core::{ClientToken, SubToken, Subscription, Tokens};
 
@@ -114,7 +114,7 @@ impl<C: Callbacks> Sessions<C> {
     }
 
     /// The token of the live session of this name; 0 where there is none.
-    #[tactic(auto, unfolding(crate::specs::State::client_token))]
+    #[tactic(auto, unfolding(session_state::specs::State::client_token))]
     pub fn client_token(&self, name: &[u8]) -> ClientToken
         ensures { result ≡ client_token self.now.state name.now }
     {
@@ -125,7 +125,7 @@ impl<C: Callbacks> Sessions<C> {
     }
 
     /// The token of the client's provider of the group; 0 where there is none.
-    #[tactic(auto, unfolding(crate::specs::State::member_token))]
+    #[tactic(auto, unfolding(session_state::specs::State::member_token))]
     pub fn member_token(&self, t: ClientToken, g: &[u8]) -> MemberToken
         ensures { result ≡ member_token self.now.state t g.now }
     {
@@ -136,7 +136,7 @@ impl<C: Callbacks> Sessions<C> {
     }
 
     /// The token of the client's subscription to the group; 0 where there is none.
-    #[tactic(auto, unfolding(crate::specs::State::sub_token))]
+    #[tactic(auto, unfolding(session_state::specs::State::sub_token))]
     pub fn sub_token(&self, t: ClientToken, g: &[u8]) -> SubToken
         ensures { result ≡ sub_token self.now.state t g.now }
     {
@@ -147,7 +147,7 @@ impl<C: Callbacks> Sessions<C> {
     }
 
     /// The name of a live client.
-    #[tactic(auto, unfolding(crate::specs::State::client_name))]
+    #[tactic(auto, unfolding(session_state::specs::State::client_name))]
     pub fn client_name(&self, t: ClientToken) -> Option<&[u8]>
         ensures { option_copied result ≡ client_name self.now.state t }
     {

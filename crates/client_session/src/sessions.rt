@@ -4,21 +4,18 @@ ghost use Rattle.proposal_core.specs.Fold.{joiners_fit};
 ghost use Rattle.subscribe_core.specs.Subs.{is_live};
 ghost use Rattle.client_callbacks.specs.declared.ballot.Filled.{Filled};
 ghost use Rattle.client_callbacks.specs.Handed.{Handed, Informed};
-ghost use Rattle.client_session.specs.State.{no_sessions};
-ghost use Rattle.client_session.specs.Clients.{StandFor, add_for, client_place};
-ghost use Rattle.client_session.specs.Calls.{Answers, AnswersAlways, inited, joined, left, expelled, state_changed, message_sent, attributes_changed, voted, subscribe_taken, unsubscribe_taken, goodbye_taken, removed_at};
-ghost use Rattle.client_session.specs.HandOn.{hearers, notified, casts_out, handed_on, Fillings, takes_telling, telling_taken, told_lists, subscriber_of};
+ghost use Rattle.session_state.specs.State.{no_sessions, client_place};
+ghost use Rattle.session_state.specs.Calls.{Answers, AnswersAlways, inited, joined, left, expelled, state_changed, message_sent, attributes_changed, voted, subscribe_taken, unsubscribe_taken, goodbye_taken, removed_at};
+ghost use Rattle.session_state.specs.HandOn.{hearers, casts_out, handed_on, takes_telling, telling_taken, subscriber_of};
+ghost use Rattle.client_session.specs.Clients.{StandFor, add_for};
+ghost use Rattle.client_session.specs.Notices.{notified, told_lists, Fillings};
 
-use crate::casts::Casts;
 use crate::clients::{hand_entry_on, tell_at};
-use crate::fault::GsFault;
-use crate::locals::Locals;
-use crate::new_entry::NewEntry;
-use crate::state::{MemberToken, SessionState};
 use client_callbacks::{Callbacks, Told, Why};
 use group_attr::{Attrs, Phases};
 use proposal_core::{Entry, GroupState, Vote};
 use rsct_packet::{List, Name, NoMemory, ProviderId, ViewId};
+use session_state::{Casts, GsFault, Locals, MemberToken, NewEntry, SessionState};
 use std::alloc::Global;
 use std::marker::Model;
 use subscribe_core::{ClientToken, SubToken, Subs};
@@ -43,7 +40,7 @@ impl<C: Callbacks> Model for Sessions<C> {
 }
 
 /// Adds a session with its client.
-#[tactic(auto, unfolding(crate::specs::Calls::inited, crate::specs::Calls::session_added))]
+#[tactic(auto, unfolding(session_state::specs::Calls::inited, session_state::specs::Calls::session_added))]
 fn open_session<C: Callbacks>(
     state: &mut SessionState,
     clients: &mut Vec<C>,
@@ -83,7 +80,7 @@ fn drop_at<C: Callbacks>(clients: &mut Vec<C>, place: Option<usize>)
 }
 
 /// Ends a session, and drops its client.
-#[tactic(auto, unfolding(crate::specs::Calls::goodbye_taken), using(crate::proofs::Standing::removed_alike))]
+#[tactic(auto, unfolding(session_state::specs::Calls::goodbye_taken), using(crate::proofs::Standing::removed_alike))]
 fn close_session<C: Callbacks>(
     state: &mut SessionState,
     clients: &mut Vec<C>,
@@ -319,7 +316,7 @@ impl<C: Callbacks> Sessions<C> {
     /// Tells a provider's client that its request was refused. It answers true exactly where the provider is live
     /// and the request is its outstanding one, or it is dissolved; otherwise it changes nothing. The request is
     /// ended, and the provider is dropped where that was its join, or where it is dissolved.
-    #[tactic(auto, unfolding(crate::specs::HandOn::telling_taken, crate::specs::HandOn::told_lists))]
+    #[tactic(auto, unfolding(session_state::specs::HandOn::telling_taken, crate::specs::Notices::told_lists))]
     pub fn tell(&mut self, p: ProviderId, r: u32, why: Why) -> Result<bool, NoMemory>
         ensures answer { IfOk result (λ b. b ≡ takes_telling self.old.state p r why) }
         ensures state { OnOk result (self.new.state ≡ telling_taken self.old.state p r why) }

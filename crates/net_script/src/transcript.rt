@@ -11,11 +11,11 @@ use crate::wording::{
     put_text, put_value, put_view, put_view_word, put_word,
 };
 use client_callbacks::{Told, Why};
-use client_session::{Field, GsFault};
 use group_attr::{AttrFault, Attrs, Batch, DefaultVote, Phases};
 use node_state::Happened;
 use proposal_core::{Cause, Closed, Entry, Failure, Proposal, Row, RowVote, Running, Vote};
 use rsct_packet::{Mask, Name, NoMemory, ProtoId, ProviderId, Text, ViewId};
+use session_state::{Field, GsFault};
 use std::alloc::Global;
 
 #[tactic(auto, unfolding(world_model::specs::Text::value_option_text))]

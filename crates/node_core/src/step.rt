@@ -7,11 +7,11 @@ ghost use Rattle.node_core.specs.Step.{started, emptied, init_row, refused, is_o
 
 use crate::groups::Groups;
 use crate::state::{Core, Local, Session};
-use client_session::GsFault;
 use group_attr::{Attrs, Phases};
 use node_state::{Body, Happened, Packet, Records};
 use proposal_core::{Entry, GroupState, Proposal};
 use rsct_packet::{List, Member, Members, Name, NoMemory, ProviderId, Providers, ViewId};
+use session_state::GsFault;
 use std::alloc::Global;
 
 /// The members of a view of one node.

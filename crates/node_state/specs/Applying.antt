@@ -18,11 +18,11 @@ use Rattle.name_server.specs.declared.names.Leader.{Leader}
 use Rattle.subscribe_core.specs.declared.subs.Subscription.{Subscription}
 use Rattle.client_callbacks.specs.declared.told.Told.TheVariants as told
 use Rattle.client_callbacks.specs.declared.told.Why.TheVariants.{Dissolved}
-use Rattle.client_session.specs.declared.state.Provider.{Provider}
-use Rattle.client_session.specs.declared.state.Request.{Request}
-use Rattle.client_session.specs.declared.state.SessionState.{SessionState}
-use Rattle.client_session.specs.State.{provider_of, outstanding}
-use Rattle.client_session.specs.HandOn.{telling_taken}
+use Rattle.session_state.specs.declared.state.Provider.{Provider}
+use Rattle.session_state.specs.declared.state.Request.{Request}
+use Rattle.session_state.specs.declared.state.SessionState.{SessionState}
+use Rattle.session_state.specs.State.{provider_of, outstanding}
+use Rattle.session_state.specs.HandOn.{telling_taken}
 use Rattle.view_exchange.specs.declared.install.Part.{Part}
 use Rattle.view_exchange.specs.declared.install.Install.{Install}
 use Rattle.view_exchange.specs.declared.install.Base.{Base}

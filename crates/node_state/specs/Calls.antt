@@ -8,15 +8,15 @@ use Rattle.subscribe_core.specs.declared.subs.SubToken.{SubToken}
 use Rattle.subscribe_core.specs.declared.subs.Subscription.{Subscription}
 use Rattle.subscribe_core.specs.Subs.{is_of_client, is_of_group}
 use Rattle.client_callbacks.specs.declared.ballot.Filled.{Filled}
-use Rattle.client_session.specs.declared.fault.GsFault.{GsFault}
-use Rattle.client_session.specs.declared.state.MemberToken.{MemberToken}
-use Rattle.client_session.specs.declared.state.Provider.{Provider}
-use Rattle.client_session.specs.declared.state.Session.{Session}
-use Rattle.client_session.specs.declared.state.Request.{Request}
-use Rattle.client_session.specs.declared.state.KeptBallot.{KeptBallot}
-use Rattle.client_session.specs.declared.state.SessionState.{SessionState}
-use Rattle.client_session.specs.State.{is_named, is_in_group, is_client_of}
-use Rattle.client_session.specs.Calls.{inited, joined, left, expelled, state_changed, message_sent, attributes_changed, voted, subscribe_taken, unsubscribe_taken, goodbye_taken}
+use Rattle.session_state.specs.declared.fault.GsFault.{GsFault}
+use Rattle.session_state.specs.declared.state.MemberToken.{MemberToken}
+use Rattle.session_state.specs.declared.state.Provider.{Provider}
+use Rattle.session_state.specs.declared.state.Session.{Session}
+use Rattle.session_state.specs.declared.state.Request.{Request}
+use Rattle.session_state.specs.declared.state.KeptBallot.{KeptBallot}
+use Rattle.session_state.specs.declared.state.SessionState.{SessionState}
+use Rattle.session_state.specs.State.{is_named, is_in_group, is_client_of}
+use Rattle.session_state.specs.Calls.{inited, joined, left, expelled, state_changed, message_sent, attributes_changed, voted, subscribe_taken, unsubscribe_taken, goodbye_taken}
 use Rattle.node_state.specs.declared.call.CallLine.{CallLine}
 use Rattle.node_state.specs.declared.call.CallLine.TheVariants as call
 use Rattle.node_state.specs.declared.happened.Happened.TheVariants as happened

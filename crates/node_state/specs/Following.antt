@@ -18,9 +18,9 @@ use Rattle.batch_rules.specs.Waiting.{waits_failure, join_dropped}
 use Rattle.name_server.specs.Names as names
 use Rattle.client_callbacks.specs.declared.told.Why.{Why}
 use Rattle.client_callbacks.specs.declared.told.Why.TheVariants.{GroupsFull}
-use Rattle.client_session.specs.declared.state.Request.{Request}
-use Rattle.client_session.specs.State.{outstanding}
-use Rattle.client_session.specs.HandOn.{is_numbered, telling_taken, takes_telling}
+use Rattle.session_state.specs.declared.state.Request.{Request}
+use Rattle.session_state.specs.State.{outstanding}
+use Rattle.session_state.specs.HandOn.{is_numbered, telling_taken, takes_telling}
 use Rattle.node_state.specs.declared.group.Decision.{Decision}
 use Rattle.node_state.specs.declared.group.Given.{Given}
 use Rattle.node_state.specs.declared.group.Led.{Led}

@@ -10,12 +10,12 @@ use Rattle.subscribe_core.specs.Subs.{is_of_group, differs}
 use Rattle.client_callbacks.specs.declared.ballot.Filled.{Filled}
 use Rattle.client_callbacks.specs.declared.told.Told.TheVariants as told
 use Rattle.client_callbacks.specs.Ballots.{BallotView}
-use Rattle.client_session.specs.declared.casts.Cast.{Cast}
-use Rattle.client_session.specs.declared.state.Session.{Session}
-use Rattle.client_session.specs.declared.state.SessionState.{SessionState}
-use Rattle.client_session.specs.State.{is_session}
-use Rattle.client_session.specs.HandOn.{asks, hearers, casts_out}
-use Rattle.client_session.specs.HandOn as session
+use Rattle.session_state.specs.declared.casts.Cast.{Cast}
+use Rattle.session_state.specs.declared.state.Session.{Session}
+use Rattle.session_state.specs.declared.state.SessionState.{SessionState}
+use Rattle.session_state.specs.State.{is_session}
+use Rattle.session_state.specs.HandOn.{asks, hearers, casts_out}
+use Rattle.session_state.specs.HandOn as session
 use Rattle.node_state.specs.declared.happened.Happened.{Happened}
 use Rattle.node_state.specs.declared.happened.Happened.TheVariants as happened
 use Rattle.node_state.specs.declared.state.Core.{Core}

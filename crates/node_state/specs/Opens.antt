@@ -14,10 +14,9 @@ use Rattle.node_reach.specs.Reach.{reach_opens}
 use Rattle.source_target.specs.Due.{due_opens}
 use Rattle.client_callbacks.specs.Ballots.{ballots_opens}
 use Rattle.client_callbacks.specs.Handed.{handed_opens}
-use Rattle.client_session.specs.State.{state_opens as sessions_open}
-use Rattle.client_session.specs.Clients.{clients_opens}
-use Rattle.client_session.specs.Calls.{calls_opens}
-use Rattle.client_session.specs.HandOn.{handon_opens}
+use Rattle.session_state.specs.State.{state_opens as sessions_open}
+use Rattle.session_state.specs.Calls.{calls_opens}
+use Rattle.session_state.specs.HandOn.{handon_opens}
 use Rattle.view_exchange.specs.Answers.{answers_open}
 use Rattle.view_exchange.specs.Bases.{bases_open}
 use Rattle.view_exchange.specs.Cut.{cut_opens}
@@ -38,5 +37,5 @@ use Rattle.node_state.specs.Calls.{node_calls_opens}
 use Rattle.node_state.specs.Step.{step_opens}
 
 unfoldable pub node_opens : Unit {0}
-unfolding digits risen mask_opens is_bad_source first_fault agree fold_opens sizes_opens lists_opens gather_opens addresses_opens rings_opens reach_opens due_opens ballots_opens handed_opens sessions_open clients_opens calls_opens handon_opens answers_open bases_open cut_opens views_open wording_opens settings_opens state_opens sending_opens handing_opens leading_opens deciding_opens ending_opens following_opens applying_opens ticks_opens status_opens node_calls_opens step_opens
+unfolding digits risen mask_opens is_bad_source first_fault agree fold_opens sizes_opens lists_opens gather_opens addresses_opens rings_opens reach_opens due_opens ballots_opens handed_opens sessions_open calls_opens handon_opens answers_open bases_open cut_opens views_open wording_opens settings_opens state_opens sending_opens handing_opens leading_opens deciding_opens ending_opens following_opens applying_opens ticks_opens status_opens node_calls_opens step_opens
 node_opens = tt

@@ -10,8 +10,8 @@ use Rattle.proposal_core.specs.Fold.{runs}
 use Rattle.adapter_ring.specs.declared.ring.Ring.{Ring}
 use Rattle.client_callbacks.specs.declared.ballot.Filled.{Filled}
 use Rattle.client_callbacks.specs.Ballots.{BallotView}
-use Rattle.client_session.specs.declared.state.Request.{Request}
-use Rattle.client_session.specs.declared.state.KeptBallot.{KeptBallot}
+use Rattle.session_state.specs.declared.state.Request.{Request}
+use Rattle.session_state.specs.declared.state.KeptBallot.{KeptBallot}
 use Rattle.node_state.specs.declared.packet.Body.{Body}
 use Rattle.node_state.specs.declared.packet.Body.TheVariants as body
 use Rattle.node_state.specs.declared.packet.Packet.{Packet}

@@ -12,7 +12,7 @@ use Rattle.proposal_core.specs.declared.group_state.GroupState.{GroupState}
 use Rattle.proposal_core.specs.GroupView.{GroupView}
 use Rattle.proposal_core.specs.Lists.{list_or_new, state_in, len_in, bytes_in, is_at_limit, entry_fits, forgotten}
 use Rattle.batch_rules.specs.Waiting.{nothing_waits}
-use Rattle.client_session.specs.declared.state.SessionState.{SessionState}
+use Rattle.session_state.specs.declared.state.SessionState.{SessionState}
 use Rattle.view_core.specs.Views.{is_frozen, is_coordinator, others_of}
 use Rattle.node_state.specs.declared.config.Mode.{Mode}
 use Rattle.node_state.specs.declared.config.Mode.TheVariants.{Fixed, Asked, Rings}

@@ -9,7 +9,7 @@ use Rattle.rsct_packet.specs.Mask.{has_node, nodes_of, node_numbers}
 use Rattle.adapter_ring.specs.declared.ring.Ring.{Ring}
 use Rattle.adapter_ring.specs.Rings.{ring_new, neighbour}
 use Rattle.node_reach.specs.Reach.{reach_new}
-use Rattle.client_session.specs.State.{no_sessions}
+use Rattle.session_state.specs.State.{no_sessions}
 use Rattle.view_core.specs.declared.packet.ViewPacket.{ViewPacket}
 use Rattle.view_core.specs.declared.packet.ViewPacket.TheVariants as packet
 use Rattle.view_core.specs.Views.{views_new, views_at_work, ask_row, prepare_row, answer_row, refuse_row, install_row, taken_row}

@@ -24,7 +24,7 @@ use Rattle.node_reach.specs.declared.reach.Reach.{Reach}
 use Rattle.node_reach.specs.declared.reach.ReachRow.{ReachRow}
 use Rattle.node_reach.specs.Reach as reach
 use Rattle.vote_phases.specs.Tally.{TallyView, expires, open_voters, tally_tick}
-use Rattle.client_session.specs.State.{provider_of}
+use Rattle.session_state.specs.State.{provider_of}
 use Rattle.view_core.specs.declared.views.RingAsk.{RingAsk}
 use Rattle.view_core.specs.Views.{views_at_work, gathering_ticks, install_again}
 use Rattle.node_state.specs.declared.group.GroupRow.{GroupRow}

@@ -1,6 +1,6 @@
 //! What a node has of each group.
 use batch_rules::Waiting;
-use client_session::Why;
+use client_callbacks::Why;
 use group_attr::Attrs;
 use proposal_core::GroupList;
 use rsct_packet::{List, Name, ProviderId, Text};

@@ -1,6 +1,6 @@
 //! The packets of daemons, as values.
 use adapter_ring::RingPacket;
-use client_session::Why;
+use client_callbacks::Why;
 use group_attr::Phases;
 use node_reach::ReachRow;
 use proposal_core::{Entry, Proposal, Vote};

@@ -4,10 +4,10 @@ use crate::group::Groups;
 use crate::happened::Records;
 use crate::packet::Packets;
 use adapter_ring::Ring;
-use client_session::SessionState;
 use name_server::Names;
 use node_reach::Reach;
 use rsct_packet::List;
+use session_state::SessionState;
 use view_core::Views;
 
 /// The rings of a node's adapters, ascending by network.

@@ -7,8 +7,8 @@ use Rattle.std.proofs.lemmas.List.{reverse-append}
 use Rattle.rsct_packet.specs.declared.ids.Member.{Member}
 use Rattle.rsct_packet.specs.Ids.{last_u32}
 use Rattle.group_attr.specs.Attrs.{empty_attrs}
-use Rattle.client_session.specs.declared.fault.GsFault.{GsFault}
-use Rattle.client_session.specs.declared.fault.GsFault.TheVariants as fault
+use Rattle.session_state.specs.declared.fault.GsFault.{GsFault}
+use Rattle.session_state.specs.declared.fault.GsFault.TheVariants as fault
 use Rattle.proposal_core.specs.Fold.{fold_opens}
 use Rattle.node_state.specs.declared.happened.Happened.{Happened}
 use Rattle.node_state.specs.declared.packet.Packet.{Packet}

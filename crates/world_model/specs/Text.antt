@@ -28,10 +28,10 @@ use Rattle.group_entry.specs.declared.entry.Entry.{Entry}
 use Rattle.group_entry.specs.declared.entry.Entry.TheVariants as entry
 use Rattle.proposal_core.specs.declared.group_state.GroupState.{GroupState}
 use Rattle.proposal_core.specs.declared.group_state.Running.{Running}
-use Rattle.client_session.specs.declared.fault.Field.{Field}
-use Rattle.client_session.specs.declared.fault.Field.TheVariants as field
-use Rattle.client_session.specs.declared.fault.GsFault.{GsFault}
-use Rattle.client_session.specs.declared.fault.GsFault.TheVariants as fault
+use Rattle.session_state.specs.declared.fault.Field.{Field}
+use Rattle.session_state.specs.declared.fault.Field.TheVariants as field
+use Rattle.session_state.specs.declared.fault.GsFault.{GsFault}
+use Rattle.session_state.specs.declared.fault.GsFault.TheVariants as fault
 use Rattle.client_callbacks.specs.declared.told.Why.{Why}
 use Rattle.client_callbacks.specs.declared.told.Why.TheVariants as why
 use Rattle.client_callbacks.specs.declared.told.Told.{Told}

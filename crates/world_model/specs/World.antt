@@ -14,10 +14,10 @@ use Rattle.client_callbacks.specs.declared.votes.VoteItem.{VoteItem}
 use Rattle.client_callbacks.specs.Ballots.{new_ballot}
 use Rattle.client_callbacks.specs.Handed.{voted_by}
 use Rattle.client_callbacks.specs.Votes.{votes_word}
-use Rattle.client_session.specs.declared.fault.GsFault.TheVariants.{NoInit}
-use Rattle.client_session.specs.declared.state.Provider.{Provider}
-use Rattle.client_session.specs.declared.state.SessionState.{SessionState}
-use Rattle.client_session.specs.State.{provider_of}
+use Rattle.session_state.specs.declared.fault.GsFault.TheVariants.{NoInit}
+use Rattle.session_state.specs.declared.state.Provider.{Provider}
+use Rattle.session_state.specs.declared.state.SessionState.{SessionState}
+use Rattle.session_state.specs.State.{provider_of}
 use Rattle.node_state.specs.declared.call.CallLine.{CallLine}
 use Rattle.node_state.specs.declared.call.CallLine.TheVariants.{Init}
 use Rattle.node_state.specs.declared.config.Config.{Config}

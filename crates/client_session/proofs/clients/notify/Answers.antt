@@ -1,7 +1,8 @@
 use Rattle.std.proofs.Common.{◌≡◌, [], refl, sym, ◌∙◌, get_or}
 use Rattle.std.proofs.lemmas.List.{append-nil}
 use Rattle.rsct_packet.specs.declared.ids.ProviderId.{ProviderId}
-use Rattle.client_session.specs.HandOn.{notified, Filling, cast_of}
+use Rattle.session_state.specs.HandOn.{cast_of}
+use Rattle.client_session.specs.Notices.{notified, Filling}
 use Rattle.client_session.proofs.Standing.{notified_more, casts_one_more}
 use Rattle.client_session.proofs.clients.notify.Goals as goal
 

@@ -3,7 +3,8 @@ use Rattle.std.specs.Prelude.{map}
 use Rattle.client_callbacks.specs.declared.ballot.Filled.{Filled}
 use Rattle.client_callbacks.specs.Handed.{Handed}
 use Rattle.client_session.specs.Clients.{StandFor}
-use Rattle.client_session.specs.HandOn.{notified, casts_of, Fillings}
+use Rattle.session_state.specs.HandOn.{casts_of}
+use Rattle.client_session.specs.Notices.{notified, Fillings}
 use Rattle.client_session.proofs.clients.notify.Given as goal
 
 abbrev pub invariant-loop-p : goal.invariant-loop-p

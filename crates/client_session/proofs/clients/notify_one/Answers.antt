@@ -1,8 +1,8 @@
 use Rattle.std.proofs.Common.{◌≡◌, Option, Some, None, sym, ap, ◌∙◌}
 use Rattle.std.specs.Prelude.{map}
 use Rattle.client_callbacks.specs.Ballots.{BallotView, new_ballot}
-use Rattle.client_session.specs.Clients.{place_of}
-use Rattle.client_session.specs.HandOn.{asks}
+use Rattle.session_state.specs.State.{place_of}
+use Rattle.session_state.specs.HandOn.{asks}
 use Rattle.client_session.proofs.Standing.{cast_one}
 use Rattle.client_session.proofs.clients.notify_one.Goals as goal
 

@@ -1,7 +1,7 @@
 use Rattle.std.proofs.Common.{◌≡◌}
 use Rattle.rsct_packet.specs.Search.{place_where}
 use Rattle.rsct_packet.proofs.SearchLaws.{place_from}
-use Rattle.client_session.specs.State.{is_named}
+use Rattle.session_state.specs.State.{is_named}
 use Rattle.client_session.proofs.reads.place.Given as goal
 
 abbrev pub invariant-loop-i : goal.invariant-loop-i

@@ -1,9 +1,0 @@
-use Rattle.std.proofs.Common.{◌≡◌, take}
-use Rattle.std.specs.List.{fold}
-use Rattle.client_session.specs.State.{with_provider}
-use Rattle.client_session.specs.HandOn.{taking_part}
-use Rattle.client_session.specs.Calls.{SameSessions}
-use Rattle.client_session.proofs.state.SessionState.take_part.Given as goal
-
-abbrev pub invariant-loop-p : goal.invariant-loop-p
-invariant-loop-p l = record { state : l.self ≡ fold (λ t p. with_provider t p taking_part) l.initial.self (take l.p-index l.ps); same : SameSessions l.initial.self l.self }

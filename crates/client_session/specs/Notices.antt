@@ -1,0 +1,61 @@
+-- What the clients of a node are handed and told, and what they fill.
+use Rattle.std.specs.Prelude.{◌≡◌, ℕ, List, [], ◌∷◌, map, Option, Some, None, IsTrue, slice_get, if◌then◌else◌}
+use Rattle.std.specs.List.{fold}
+use Rattle.rsct_packet.specs.declared.ids.ProviderId.{ProviderId}
+use Rattle.rsct_packet.specs.declared.ids.ViewId.{ViewId}
+use Rattle.group_entry.specs.declared.entry.Entry.{Entry}
+use Rattle.proposal_core.specs.declared.group_state.GroupState.{GroupState}
+use Rattle.client_callbacks.specs.declared.ballot.Filled.{Filled}
+use Rattle.client_callbacks.specs.declared.votes.VoteItem.{VoteItem}
+use Rattle.client_callbacks.specs.declared.told.Told.TheVariants as told
+use Rattle.client_callbacks.specs.declared.told.Why.{Why}
+use Rattle.client_callbacks.specs.Ballots.{BallotView, new_ballot, may_hold}
+use Rattle.client_callbacks.specs.Handed.{Handed, Notified, Informed, NoticeView, Fills, voted_by}
+use Rattle.session_state.specs.declared.state.SessionState.{SessionState}
+use Rattle.session_state.specs.State.{place_of}
+use Rattle.session_state.specs.HandOn.{asks, takes_telling}
+use Rattle.client_session.specs.Clients.{add_for}
+
+abbrev pub notice_to : ViewId → List ℕ → ℕ → Entry → GroupState → ProviderId → NoticeView
+notice_to v g i e after p = record { p = p; view = v; group = g; place = i; entry = e; after = after; votes = asks e after p }
+
+-- the lists of clients after those of ps were handed the notice
+unfoldable pub notified : SessionState → ViewId → List ℕ → ℕ → Entry → GroupState → List ProviderId → List (List Handed) → List (List Handed)
+notified s v g i e after ps hs = fold (λ t p. add_for (place_of s p) (Notified (notice_to v g i e after p)) t) hs ps
+
+-- what clients fill that vote by items
+
+abbrev pub script_for : List (Option (List (Option VoteItem))) → Option ℕ → Option (Option (List (Option VoteItem)))
+script_for scripts None = None
+script_for scripts (Some i) = slice_get scripts i
+
+abbrev pub filled_in : Option (Option (List (Option VoteItem))) → GroupState → BallotView → Option Filled
+filled_in None after b = None
+filled_in (Some None) after b = None
+filled_in (Some (Some items)) after b = (voted_by items after b).filled
+
+-- what the clients of ps fill, where each has the items of its place
+unfoldable pub scripted : List (Option (List (Option VoteItem))) → SessionState → Entry → GroupState → List ProviderId → List (Option Filled)
+scripted scripts s e after ps = map (λ p. filled_in (script_for scripts (place_of s p)) after (new_ballot (asks e after p) s.level)) ps
+
+abbrev pub FillsAs : Option (Option (List (Option VoteItem))) → GroupState → BallotView → BallotView → Type 0
+FillsAs None after b c = c ≡ b
+FillsAs (Some script) after b c = Fills script after b c
+
+-- what the client of a provider may fill: nothing where no vote is asked for, or over the limits, and what its
+-- items say where it votes by items
+pub record Filling (scripts : List (Option (List (Option VoteItem)))) (s : SessionState) (e : Entry) (after : GroupState) (p : ProviderId) (b : Option Filled) : Type 0 where
+  pub holds : IsTrue (may_hold (asks e after p) s.level b)
+  pub fills : FillsAs (script_for scripts (place_of s p)) after (new_ballot (asks e after p) s.level) (record { votes = asks e after p; level = s.level; filled = b })
+
+-- each of ps may fill its own
+abbrev pub Fillings : List (Option (List (Option VoteItem))) → SessionState → Entry → GroupState → List ProviderId → List (Option Filled) → Type 0
+Fillings scripts s e after [] [] = Unit {0}
+Fillings scripts s e after [] (b ∷ bs) = ⊥
+Fillings scripts s e after (p ∷ ps) [] = ⊥
+Fillings scripts s e after (p ∷ ps) (b ∷ bs) = Filling scripts s e after p b × Fillings scripts s e after ps bs
+
+-- the lists of clients after a telling
+unfoldable pub told_lists : SessionState → ProviderId → ℕ → Why → List (List Handed) → List (List Handed)
+told_lists s p r y hs = if takes_telling s p r y then add_for (place_of s p) (Informed (told.Refused p r y)) hs else hs
+

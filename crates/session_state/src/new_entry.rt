@@ -1,0 +1,102 @@
+//! A new entry of a group's list, as it is handed on.
+ghost use Rattle.std.specs.Prelude.{◌≡◌, [], List, Option, option_copied};
+ghost use Rattle.proposal_core.specs.Fold.{joiners_in, joins_of};
+ghost use Rattle.session_state.specs.HandOn.{is_late, opens_phase, asks, running_phase, brought_by, is_present};
+
+use crate::state::OpenPhase;
+use proposal_core::{Entry, GroupState, Proposal, Running};
+use rsct_packet::{Name, ProviderId, ViewId, is_among};
+
+/// A new entry of a group's list at its place in a view, with the state after it and that state's voters.
+#[derive(Clone, Copy)]
+pub struct NewEntry<'a> {
+    pub view: ViewId,
+    pub group: &'a Name,
+    pub place: u32,
+    pub entry: &'a Entry,
+    pub after: &'a GroupState,
+    pub voters: &'a [ProviderId],
+    ghost are_voters: { voters.now ≡ Rattle.proposal_core.specs.Fold.voters after.now },
+}
+
+pub fn is_late(e: &Entry) -> bool
+    ensures { result ≡ is_late e.now }
+{
+    match e {
+        Entry::Late { .. } => true,
+        _ => false,
+    }
+}
+
+/// Does the entry open a phase?
+fn opens_phase(e: &Entry) -> bool
+    ensures { result ≡ opens_phase e.now }
+{
+    match e {
+        Entry::Begin(_) => true,
+        Entry::Phase(_) => true,
+        _ => false,
+    }
+}
+
+/// The phase that runs.
+pub fn running_phase(running: &Option<Running>) -> Option<OpenPhase>
+    ensures { result ≡ running_phase running.now }
+{
+    match running {
+        None => None,
+        Some(run) => Some(OpenPhase {
+            proto: run.proto,
+            phase: run.phase,
+        }),
+    }
+}
+
+/// The providers of a join.
+fn joins_of(x: &Proposal) -> &[ProviderId]
+    ensures { result.now ≡ joins_of x.now }
+{
+    match x {
+        Proposal::Join { ps, .. } => ps.as_slice(),
+        _ => &[],
+    }
+}
+
+/// The running joiners.
+pub fn joiners_in(running: &Option<Running>) -> &[ProviderId]
+    ensures { result.now ≡ joiners_in running.now }
+{
+    match running {
+        None => &[],
+        Some(run) => joins_of(&run.proposal),
+    }
+}
+
+/// Those whom the entry's join brings.
+pub fn brought_by(e: &Entry) -> &[ProviderId]
+    ensures { result.now ≡ brought_by e.now }
+{
+    match e {
+        Entry::Once(x) => joins_of(x),
+        Entry::Begin(x) => joins_of(x),
+        _ => &[],
+    }
+}
+
+/// Is it a member or a running joiner?
+#[tactic(auto, unfolding(crate::specs::HandOn::is_present))]
+pub fn is_present(after: &GroupState, p: ProviderId) -> bool
+    ensures { result ≡ is_present after.now p }
+{
+    is_among(after.members.as_slice(), p) || is_among(joiners_in(&after.running), p)
+}
+
+impl NewEntry<'_> {
+    /// Does its notice ask the provider for a vote?
+    #[tactic(auto, unfolding(crate::specs::HandOn::asks))]
+    pub fn asks(&self, p: ProviderId) -> bool
+        ensures { result ≡ asks self.now.entry.now self.now.after.now p }
+    {
+        opens_phase(self.entry) && is_among(self.voters, p)
+    }
+}
