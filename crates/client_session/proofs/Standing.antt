@@ -1,12 +1,12 @@
 -- One client more was handed something.
-use Rattle.std.proofs.Common.{◌≡◌, ℕ, zero, suc, ◌+◌, ◌<◌, List, [], ◌∷◌, ◌++◌, Option, Some, None, length, get_or, set, take, refl, sym, ap, ◌∙◌, arith}
+use Rattle.std.proofs.Common.{◌≡◌, ℕ, zero, suc, ◌+◌, ◌<◌, List, [], ◌∷◌, ◌++◌, Option, Some, None, length, get_or, set, take, refl, ap, arith}
 use Rattle.std.proofs.Common.{append_assoc}
 use Rattle.std.proofs.lemmas.List.{take_more}
 use Rattle.std.proofs.lemmas.List.Sums.{fold_more}
 use Rattle.std.proofs.Common.{IsTrue, Bool}
 use Rattle.std.specs.Prelude.{map, slice_get}
 use Rattle.rsct_packet.specs.declared.ids.ViewId.{ViewId}
-use Rattle.client_callbacks.specs.Ballots.{BallotView, new_ballot, may_hold}
+use Rattle.client_callbacks.specs.Ballots.{new_ballot, may_hold}
 use Rattle.client_callbacks.specs.Handed.{Notified}
 use Rattle.session_state.specs.declared.casts.Cast.{Cast}
 use Rattle.group_entry.specs.declared.entry.Entry.{Entry}

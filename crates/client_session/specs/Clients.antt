@@ -1,5 +1,5 @@
 -- The sessions of a node with its clients, and what the clients stand for.
-use Rattle.std.specs.Prelude.{ℕ, zero, suc, List, [], ◌∷◌, ◌++◌, Option, Some, None, slice_get}
+use Rattle.std.specs.Prelude.{◌≡◌, ℕ, zero, suc, Bool, false, ◌==◌, List, [], ◌∷◌, ◌++◌, Option, Some, None, slice_get}
 use Rattle.rsct_packet.specs.Search.{place_where}
 use Rattle.client_callbacks.specs.Handed.{Handed}
 use Rattle.session_state.specs.declared.state.SessionState.{SessionState}
@@ -34,3 +34,12 @@ add_at (suc i) x (h ∷ hs) = h ∷ add_at i x hs
 abbrev pub add_for : Option ℕ → Handed → List (List Handed) → List (List Handed)
 add_for None x hs = hs
 add_for (Some i) x hs = add_at i x hs
+
+-- whether this is the place of a client
+abbrev pub is_at : ℕ → Option ℕ → Bool
+is_at i None = false
+is_at i (Some k) = k == i
+
+-- each client keeps its value, apart from those at the places that pass the test
+abbrev pub KeepsAllBut : {C : Type 0} → (ℕ → Bool) → List C → List C → Type 0
+KeepsAllBut test old new = (i : ℕ) → test i ≡ false → slice_get new i ≡ slice_get old i

@@ -1,20 +1,23 @@
 -- What the clients of a node are handed and told, and what they fill.
-use Rattle.std.specs.Prelude.{◌≡◌, ℕ, List, [], ◌∷◌, map, Option, Some, None, IsTrue, slice_get, if◌then◌else◌}
-use Rattle.std.specs.List.{fold}
+use Rattle.std.specs.Prelude.{◌≡◌, ℕ, Bool, List, [], ◌∷◌, All, map, Option, Some, None, IsTrue, IsSome, slice_get, if◌then◌else◌}
+use Rattle.std.specs.List.{fold, list_any}
 use Rattle.rsct_packet.specs.declared.ids.ProviderId.{ProviderId}
 use Rattle.rsct_packet.specs.declared.ids.ViewId.{ViewId}
 use Rattle.group_entry.specs.declared.entry.Entry.{Entry}
 use Rattle.proposal_core.specs.declared.group_state.GroupState.{GroupState}
+use Rattle.subscribe_core.specs.declared.subs.SubToken.{SubToken}
+use Rattle.subscribe_core.specs.Subs.{is_live}
 use Rattle.client_callbacks.specs.declared.ballot.Filled.{Filled}
 use Rattle.client_callbacks.specs.declared.votes.VoteItem.{VoteItem}
+use Rattle.client_callbacks.specs.declared.told.Told.{Told}
 use Rattle.client_callbacks.specs.declared.told.Told.TheVariants as told
 use Rattle.client_callbacks.specs.declared.told.Why.{Why}
 use Rattle.client_callbacks.specs.Ballots.{BallotView, new_ballot, may_hold}
 use Rattle.client_callbacks.specs.Handed.{Handed, Notified, Informed, NoticeView, Fills, voted_by}
 use Rattle.session_state.specs.declared.state.SessionState.{SessionState}
 use Rattle.session_state.specs.State.{place_of}
-use Rattle.session_state.specs.HandOn.{asks, takes_telling}
-use Rattle.client_session.specs.Clients.{add_for}
+use Rattle.session_state.specs.HandOn.{asks, takes_telling, subscriber_of}
+use Rattle.client_session.specs.Clients.{add_for, is_at}
 
 abbrev pub notice_to : ViewId → List ℕ → ℕ → Entry → GroupState → ProviderId → NoticeView
 notice_to v g i e after p = record { p = p; view = v; group = g; place = i; entry = e; after = after; votes = asks e after p }
@@ -22,6 +25,10 @@ notice_to v g i e after p = record { p = p; view = v; group = g; place = i; entr
 -- the lists of clients after those of ps were handed the notice
 unfoldable pub notified : SessionState → ViewId → List ℕ → ℕ → Entry → GroupState → List ProviderId → List (List Handed) → List (List Handed)
 notified s v g i e after ps hs = fold (λ t p. add_for (place_of s p) (Notified (notice_to v g i e after p)) t) hs ps
+
+-- whether the client at a place has one of ps
+unfoldable pub hears_at : SessionState → List ProviderId → ℕ → Bool
+hears_at s ps i = list_any (λ p. is_at i (place_of s p)) ps
 
 -- what clients fill that vote by items
 
@@ -33,6 +40,10 @@ abbrev pub filled_in : Option (Option (List (Option VoteItem))) → GroupState �
 filled_in None after b = None
 filled_in (Some None) after b = None
 filled_in (Some (Some items)) after b = (voted_by items after b).filled
+
+-- each client votes by items
+abbrev pub AreScripted : List (Option (List (Option VoteItem))) → Type 0
+AreScripted scripts = All IsSome scripts
 
 -- what the clients of ps fill, where each has the items of its place
 unfoldable pub scripted : List (Option (List (Option VoteItem))) → SessionState → Entry → GroupState → List ProviderId → List (Option Filled)
@@ -55,7 +66,16 @@ Fillings scripts s e after [] (b ∷ bs) = ⊥
 Fillings scripts s e after (p ∷ ps) [] = ⊥
 Fillings scripts s e after (p ∷ ps) (b ∷ bs) = Filling scripts s e after p b × Fillings scripts s e after ps bs
 
+-- clients that vote by items fill just what these say
+abbrev pub FillTheirScripts : Type 0
+FillTheirScripts =
+    (scripts : List (Option (List (Option VoteItem)))) (s : SessionState) (e : Entry) (after : GroupState) (ps : List ProviderId) (bs : List (Option Filled))
+    → AreScripted scripts → Fillings scripts s e after ps bs → bs ≡ scripted scripts s e after ps
+
 -- the lists of clients after a telling
 unfoldable pub told_lists : SessionState → ProviderId → ℕ → Why → List (List Handed) → List (List Handed)
 told_lists s p r y hs = if takes_telling s p r y then add_for (place_of s p) (Informed (told.Refused p r y)) hs else hs
 
+-- the lists of clients after a subscription was noted
+unfoldable pub noted_lists : SessionState → SubToken → Told → List (List Handed) → List (List Handed)
+noted_lists s t x hs = if is_live t s.subs then add_for (subscriber_of s t) (Informed x) hs else hs

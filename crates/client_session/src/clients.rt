@@ -1,5 +1,5 @@
 //! Handing to the clients of the sessions.
-ghost use Rattle.std.specs.Prelude.{◌≡◌, ◌++◌, ◌∷◌, [], ◌<◌, List, Option, IsTrue, IfOk, IfSome, OnOk, length, map, slice_get};
+ghost use Rattle.std.specs.Prelude.{◌≡◌, ◌++◌, ◌∷◌, [], ◌<◌, List, Option, Some, IsTrue, IfOk, IfSome, OnOk, length, map, slice_get};
 ghost use Rattle.proposal_core.specs.declared.group_state.Running.{Running};
 ghost use Rattle.client_callbacks.specs.declared.ballot.Filled.{Filled};
 ghost use Rattle.client_callbacks.specs.Ballots.{new_ballot, is_level, may_hold};
@@ -7,8 +7,8 @@ ghost use Rattle.client_callbacks.specs.Handed.{Handed, Notified, Informed, noti
 ghost use Rattle.session_state.specs.State.{place_of};
 ghost use Rattle.session_state.specs.Calls.{SameSessions};
 ghost use Rattle.session_state.specs.HandOn.{hearers, handed_on, casts_out, cast_with, cast_of, casts_of};
-ghost use Rattle.client_session.specs.Clients.{StandFor, add_at, add_for};
-ghost use Rattle.client_session.specs.Notices.{notice_to, notified, FillsAs, Filling, Fillings};
+ghost use Rattle.client_session.specs.Clients.{StandFor, add_at, add_for, is_at, KeepsAllBut};
+ghost use Rattle.client_session.specs.Notices.{notice_to, notified, hears_at, FillsAs, Filling, Fillings};
 
 use client_callbacks::{Ballot, Callbacks, Notice, Told};
 use proposal_core::{GroupState, Running};
@@ -58,6 +58,7 @@ fn notify_at<C: Callbacks>(
     ensures stand { (hs : List (List Handed)) → StandFor C.stands_for clients.old.items hs → OnOk result (StandFor C.stands_for clients.new.items (add_at i (Notified (notice_of n.now)) hs)) }
     ensures scripts { OnOk result (map C.script clients.new.items ≡ map C.script clients.old.items) }
     ensures length { length clients.new.items ≡ length clients.old.items }
+    ensures others { KeepsAllBut (λ k. is_at k (Some i)) clients.old.items clients.new.items }
     ensures fills { IfOk result (λ b. FillsAs (slice_get (map C.script clients.old.items) i) n.now.after.now (new_ballot n.now.votes level) b) }
     ensures ballot { IfOk result (λ b. (b.votes ≡ n.now.votes) × (b.level ≡ level)) }
 {
@@ -77,6 +78,7 @@ fn notify_one<C: Callbacks>(
     ensures stand { (hs : List (List Handed)) → StandFor C.stands_for clients.old.items hs → OnOk result (StandFor C.stands_for clients.new.items (add_for (place_of state.now p) (Notified (notice_to n.now.view n.now.group.now n.now.place n.now.entry.now n.now.after.now p)) hs)) }
     ensures scripts { OnOk result (map C.script clients.new.items ≡ map C.script clients.old.items) }
     ensures length { length clients.new.items ≡ length clients.old.items }
+    ensures others { KeepsAllBut (λ k. is_at k (place_of state.now p)) clients.old.items clients.new.items }
     ensures cast { IfOk result (λ c. (b : Option Filled) × Filling (map C.script clients.old.items) state.now n.now.entry.now n.now.after.now p b × (c ≡ cast_of n.now.entry.now n.now.after.now state.now.level p b)) }
 {
     let votes = n.asks(p);
@@ -114,6 +116,7 @@ pub fn notify<C: Callbacks>(
     ensures stand { (hs : List (List Handed)) → StandFor C.stands_for clients.old.items hs → OnOk result (StandFor C.stands_for clients.new.items (notified state.now n.now.view n.now.group.now n.now.place n.now.entry.now n.now.after.now ps.now hs)) }
     ensures scripts { OnOk result (map C.script clients.new.items ≡ map C.script clients.old.items) }
     ensures length { length clients.new.items ≡ length clients.old.items }
+    ensures others { KeepsAllBut (hears_at state.now ps.now) clients.old.items clients.new.items }
     ensures casts { OnOk result ((bs : List (Option Filled)) × Fillings (map C.script clients.old.items) state.now n.now.entry.now n.now.after.now ps.now bs × (casts.new ≡ casts.old ++ casts_of n.now.entry.now n.now.after.now state.now.level ps.now bs)) }
 {
     for p in ps {
@@ -133,6 +136,7 @@ pub fn tell_at<C: Callbacks>(
     ensures stand { (hs : List (List Handed)) → StandFor C.stands_for clients.old.items hs → OnOk result (StandFor C.stands_for clients.new.items (add_for place (Informed t.now) hs)) }
     ensures scripts { OnOk result (map C.script clients.new.items ≡ map C.script clients.old.items) }
     ensures length { length clients.new.items ≡ length clients.old.items }
+    ensures others { KeepsAllBut (λ k. is_at k place) clients.old.items clients.new.items }
 {
     if let Some(i) = place {
         clients[i].told(t)?;
@@ -155,6 +159,7 @@ pub fn hand_entry_on<C: Callbacks>(
     ensures stand { (hs : List (List Handed)) → StandFor C.stands_for clients.old.items hs → OnOk result (StandFor C.stands_for clients.new.items (notified state.old n.now.view n.now.group.now n.now.place n.now.entry.now n.now.after.now (hearers state.old n.now.group.now before.now n.now.entry.now) hs)) }
     ensures scripts { OnOk result (map C.script clients.new.items ≡ map C.script clients.old.items) }
     ensures length { length clients.new.items ≡ length clients.old.items }
+    ensures others { KeepsAllBut (hears_at state.old (hearers state.old n.now.group.now before.now n.now.entry.now)) clients.old.items clients.new.items }
     ensures same { SameSessions state.old state.new }
     ensures handed { OnOk result ((bs : List (Option Filled)) × Fillings (map C.script clients.old.items) state.old n.now.entry.now n.now.after.now (hearers state.old n.now.group.now before.now n.now.entry.now) bs × (state.new ≡ handed_on state.old n.now.group.now before.now n.now.after.now n.now.entry.now bs) × (out.new ≡ out.old ++ casts_out state.old n.now.group.now before.now n.now.after.now n.now.entry.now bs)) }
 {

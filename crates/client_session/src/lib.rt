@@ -2,7 +2,9 @@
 #![tactic(auto)]
 
 mod clients;
+mod laws;
 mod reads;
 mod sessions;
 
+pub use laws::scripted_clients_fill_their_scripts;
 pub use sessions::Sessions;

@@ -1,14 +1,14 @@
 //! The sessions of a node, with their clients.
-ghost use Rattle.std.specs.Prelude.{◌≡◌, ◌≤◌, ◌++◌, ◌∷◌, [], List, Option, ◌<◌, IsTrue, IfOk, IfSome, OnOk, OnErr, map, option_copied, length};
+ghost use Rattle.std.specs.Prelude.{◌≡◌, ◌≤◌, ◌++◌, ◌∷◌, [], List, Option, false, ◌<◌, IsTrue, IfOk, IfSome, OnOk, OnErr, map, option_copied, length};
 ghost use Rattle.proposal_core.specs.Fold.{joiners_fit};
 ghost use Rattle.subscribe_core.specs.Subs.{is_live};
 ghost use Rattle.client_callbacks.specs.declared.ballot.Filled.{Filled};
-ghost use Rattle.client_callbacks.specs.Handed.{Handed, Informed};
-ghost use Rattle.session_state.specs.State.{no_sessions, client_place};
+ghost use Rattle.client_callbacks.specs.Handed.{Handed};
+ghost use Rattle.session_state.specs.State.{no_sessions, client_place, place_of};
 ghost use Rattle.session_state.specs.Calls.{Answers, AnswersAlways, inited, joined, left, expelled, state_changed, message_sent, attributes_changed, voted, subscribe_taken, unsubscribe_taken, goodbye_taken, removed_at};
 ghost use Rattle.session_state.specs.HandOn.{hearers, casts_out, handed_on, takes_telling, telling_taken, subscriber_of};
-ghost use Rattle.client_session.specs.Clients.{StandFor, add_for};
-ghost use Rattle.client_session.specs.Notices.{notified, told_lists, Fillings};
+ghost use Rattle.client_session.specs.Clients.{StandFor, is_at, KeepsAllBut};
+ghost use Rattle.client_session.specs.Notices.{notified, hears_at, told_lists, noted_lists, Fillings};
 
 use crate::clients::{hand_entry_on, tell_at};
 use client_callbacks::{Callbacks, Told, Why};
@@ -284,7 +284,7 @@ impl<C: Callbacks> Sessions<C> {
     /// Hands an entry on: each local provider that takes part hears it, members before the entry first, then
     /// running joiners, then new ones. Its client may fill a ballot where the entry asks for votes. `before` and
     /// `after` are the group's states before and after the entry. What was handed and cast goes to the end of
-    /// `out`.
+    /// `out`. A client that is handed nothing keeps its value, also where memory runs out.
     pub fn hand_on(
         &mut self,
         alloc: Global,
@@ -299,6 +299,7 @@ impl<C: Callbacks> Sessions<C> {
         requires { IsTrue (joiners_fit after.now) }
         ensures stand { (hs : List (List Handed)) → StandFor C.stands_for self.old.clients hs → OnOk result (StandFor C.stands_for self.new.clients (notified self.old.state v g.now place e.now after.now (hearers self.old.state g.now before.now e.now) hs)) }
         ensures scripts { OnOk result (map C.script self.new.clients ≡ map C.script self.old.clients) }
+        ensures others { KeepsAllBut (hears_at self.old.state (hearers self.old.state g.now before.now e.now)) self.old.clients self.new.clients }
         ensures handed { OnOk result ((bs : List (Option Filled)) × Fillings (map C.script self.old.clients) self.old.state e.now after.now (hearers self.old.state g.now before.now e.now) bs × (self.new.state ≡ handed_on self.old.state g.now before.now after.now e.now bs) × (out.new ≡ out.old ++ casts_out self.old.state g.now before.now after.now e.now bs)) }
     {
         let voters = after.voters(alloc)?;
@@ -315,13 +316,16 @@ impl<C: Callbacks> Sessions<C> {
 
     /// Tells a provider's client that its request was refused. It answers true exactly where the provider is live
     /// and the request is its outstanding one, or it is dissolved; otherwise it changes nothing. The request is
-    /// ended, and the provider is dropped where that was its join, or where it is dissolved.
+    /// ended, and the provider is dropped where that was its join, or where it is dissolved. Every other client
+    /// keeps its value, also where memory runs out.
     #[tactic(auto, unfolding(session_state::specs::HandOn::telling_taken, crate::specs::Notices::told_lists))]
     pub fn tell(&mut self, p: ProviderId, r: u32, why: Why) -> Result<bool, NoMemory>
         ensures answer { IfOk result (λ b. b ≡ takes_telling self.old.state p r why) }
+        ensures untaken { IfOk result (λ b. b ≡ false → self.new ≡ self.old) }
         ensures state { OnOk result (self.new.state ≡ telling_taken self.old.state p r why) }
         ensures stand { (hs : List (List Handed)) → StandFor C.stands_for self.old.clients hs → OnOk result (StandFor C.stands_for self.new.clients (told_lists self.old.state p r why hs)) }
         ensures scripts { OnOk result (map C.script self.new.clients ≡ map C.script self.old.clients) }
+        ensures others { KeepsAllBut (λ i. is_at i (place_of self.old.state p)) self.old.clients self.new.clients }
     {
         if !self.state.takes_telling(p, r, why) {
             return Ok(false);
@@ -333,14 +337,20 @@ impl<C: Callbacks> Sessions<C> {
     }
 
     /// Tells the client of a subscription something. It answers true exactly where the subscription is live;
-    /// otherwise it changes nothing.
+    /// otherwise it changes nothing. Every other client keeps its value, also where memory runs out.
+    #[tactic(auto, unfolding(crate::specs::Notices::noted_lists))]
     pub fn note(&mut self, s: SubToken, t: &Told) -> Result<bool, NoMemory>
         ensures answer { IfOk result (λ b. b ≡ is_live s self.old.state.subs) }
+        ensures untaken { IfOk result (λ b. b ≡ false → self.new ≡ self.old) }
         ensures state { self.new.state ≡ self.old.state }
-        ensures stand { (hs : List (List Handed)) → StandFor C.stands_for self.old.clients hs → OnOk result (StandFor C.stands_for self.new.clients (add_for (subscriber_of self.old.state s) (Informed t.now) hs)) }
+        ensures stand { (hs : List (List Handed)) → StandFor C.stands_for self.old.clients hs → OnOk result (StandFor C.stands_for self.new.clients (noted_lists self.old.state s t.now hs)) }
         ensures scripts { OnOk result (map C.script self.new.clients ≡ map C.script self.old.clients) }
+        ensures others { KeepsAllBut (λ i. is_at i (subscriber_of self.old.state s)) self.old.clients self.new.clients }
     {
+        if !self.state.has_subscription(s) {
+            return Ok(false);
+        }
         tell_at(&mut self.clients, self.state.subscriber_of(s), t)?;
-        Ok(self.state.has_subscription(s))
+        Ok(true)
     }
 }

@@ -1,5 +1,5 @@
 -- The calls of clients: the checks in their order, and what a taken call makes of the state.
-use Rattle.std.specs.Prelude.{◌≡◌, ℕ, Bool, true, false, not, ◌==◌, ◌&&◌, ◌||◌, ◌+◌, ◌++◌, List, [], ◌∷◌, length, map, filter, find, Option, Some, None, Result, Ok, Err, nat_le, nat_lt, if◌then◌else◌, remove}
+use Rattle.std.specs.Prelude.{◌≡◌, ℕ, Bool, true, false, not, ◌==◌, ◌&&◌, ◌||◌, ◌+◌, ◌++◌, List, [], ◌∷◌, length, filter, find, Option, Some, None, Result, Ok, Err, nat_le, nat_lt, if◌then◌else◌, remove}
 use Rattle.std.specs.List.{list_any}
 use Rattle.std.specs.Str.{bytes_eq}
 use Rattle.rsct_packet.specs.declared.ids.ProviderId.{ProviderId}
@@ -21,12 +21,9 @@ use Rattle.subscribe_core.specs.declared.subs.SubToken.{SubToken}
 use Rattle.subscribe_core.specs.Subs.{is_unknown, is_subscribed, subscribed, unsubscribed, client_ended, has_token, is_of_client}
 use Rattle.session_state.specs.declared.state.MemberToken.{MemberToken}
 use Rattle.session_state.specs.declared.state.OpenPhase.{OpenPhase}
-use Rattle.session_state.specs.declared.state.Session.{Session}
 use Rattle.session_state.specs.declared.state.Provider.{Provider}
 use Rattle.session_state.specs.declared.state.Request.{Request}
-use Rattle.session_state.specs.declared.state.KeptBallot.{KeptBallot}
 use Rattle.session_state.specs.declared.state.SessionState.{SessionState}
-use Rattle.session_state.specs.declared.fault.Field.{Field}
 use Rattle.session_state.specs.declared.fault.Field.TheVariants as field
 use Rattle.session_state.specs.declared.fault.GsFault.{GsFault}
 use Rattle.session_state.specs.declared.fault.GsFault.TheVariants as fault

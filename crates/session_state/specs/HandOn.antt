@@ -1,9 +1,8 @@
 -- What is handed on to the clients of a node, and what they are told.
-use Rattle.std.specs.Prelude.{◌≡◌, ℕ, Bool, true, false, not, ◌==◌, ◌&&◌, ◌||◌, ◌++◌, List, [], ◌∷◌, length, map, filter, Option, Some, None, IsTrue, is_some, slice_get, find, if◌then◌else◌}
+use Rattle.std.specs.Prelude.{ℕ, Bool, true, false, not, ◌==◌, ◌&&◌, ◌||◌, ◌++◌, List, [], ◌∷◌, filter, Option, Some, None, is_some, find, if◌then◌else◌}
 use Rattle.std.specs.List.{fold, flat_map}
 use Rattle.std.specs.Str.{bytes_eq}
 use Rattle.rsct_packet.specs.declared.ids.ProviderId.{ProviderId}
-use Rattle.rsct_packet.specs.declared.ids.ViewId.{ViewId}
 use Rattle.rsct_packet.specs.declared.ids.ProtoId.{ProtoId}
 use Rattle.rsct_packet.specs.Providers.{among}
 use Rattle.group_entry.specs.declared.entry.Entry.{Entry}
@@ -17,13 +16,9 @@ use Rattle.subscribe_core.specs.declared.subs.SubToken.{SubToken}
 use Rattle.subscribe_core.specs.declared.subs.Subscription.{Subscription}
 use Rattle.subscribe_core.specs.Subs.{has_token}
 use Rattle.client_callbacks.specs.declared.ballot.Filled.{Filled}
-use Rattle.client_callbacks.specs.declared.votes.VoteItem.{VoteItem}
-use Rattle.client_callbacks.specs.declared.told.Told.{Told}
-use Rattle.client_callbacks.specs.declared.told.Told.TheVariants as told
 use Rattle.client_callbacks.specs.declared.told.Why.{Why}
 use Rattle.client_callbacks.specs.declared.told.Why.TheVariants as why
-use Rattle.client_callbacks.specs.Ballots.{BallotView, new_ballot, may_hold}
-use Rattle.client_callbacks.specs.Handed.{Handed, Notified, Informed, NoticeView, Fills, voted_by}
+use Rattle.client_callbacks.specs.Ballots.{BallotView}
 use Rattle.session_state.specs.declared.casts.Cast.{Cast}
 use Rattle.session_state.specs.declared.state.OpenPhase.{OpenPhase}
 use Rattle.session_state.specs.declared.state.Provider.{Provider}

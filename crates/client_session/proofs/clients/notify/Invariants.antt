@@ -2,9 +2,9 @@ use Rattle.std.proofs.Common.{◌≡◌, ◌++◌, List, Option, length, take}
 use Rattle.std.specs.Prelude.{map}
 use Rattle.client_callbacks.specs.declared.ballot.Filled.{Filled}
 use Rattle.client_callbacks.specs.Handed.{Handed}
-use Rattle.client_session.specs.Clients.{StandFor}
+use Rattle.client_session.specs.Clients.{StandFor, KeepsAllBut}
 use Rattle.session_state.specs.HandOn.{casts_of}
-use Rattle.client_session.specs.Notices.{notified, Fillings}
+use Rattle.client_session.specs.Notices.{notified, hears_at, Fillings}
 use Rattle.client_session.proofs.clients.notify.Given as goal
 
 abbrev pub invariant-loop-p : goal.invariant-loop-p
@@ -12,5 +12,6 @@ invariant-loop-p g l = record {
   stand : (hs : List (List Handed)) → StandFor g.C.Callbacks.stands_for l.fn.clients.items hs → StandFor g.C.Callbacks.stands_for l.clients.items (notified l.state l.n.view l.n.group.now l.n.place l.n.entry.now l.n.after.now (take l.p-index l.ps) hs);
   scripts : map g.C.Callbacks.script l.clients.items ≡ map g.C.Callbacks.script l.fn.clients.items;
   length : length l.clients.items ≡ length l.fn.clients.items;
+  others : KeepsAllBut (hears_at l.state l.ps) l.fn.clients.items l.clients.items;
   casts : (bs : List (Option Filled)) × Fillings (map g.C.Callbacks.script l.fn.clients.items) l.state l.n.entry.now l.n.after.now (take l.p-index l.ps) bs × (l.casts ≡ l.initial.casts ++ casts_of l.n.entry.now l.n.after.now l.state.level (take l.p-index l.ps) bs);
 }

@@ -1,5 +1,3 @@
-use Rattle.std.proofs.Common.{◌≡◌, ◌<◌, length, arith}
-use Rattle.std.specs.Prelude.{map}
 use Rattle.std.proofs.Math.Seq.{map-set_same}
 use Rattle.client_callbacks.specs.Handed.{Notified, notice_of}
 use Rattle.client_session.proofs.Standing.{stand_more, map_at}

@@ -1,4 +1,4 @@
-use Rattle.std.proofs.Common.{◌≡◌, Option, Some, None, sym, ap, ◌∙◌}
+use Rattle.std.proofs.Common.{◌≡◌, Some, None, sym, ap, ◌∙◌}
 use Rattle.std.specs.Prelude.{map}
 use Rattle.client_callbacks.specs.Ballots.{BallotView, new_ballot}
 use Rattle.session_state.specs.State.{place_of}

@@ -1,5 +1,4 @@
-use Rattle.std.proofs.Common.{◌≡◌, ◌<◌, length, arith}
-use Rattle.std.specs.Prelude.{map}
+use Rattle.std.proofs.Common.{◌<◌, length}
 use Rattle.std.proofs.Math.Seq.{map-set_same}
 use Rattle.client_callbacks.specs.Handed.{Informed}
 use Rattle.client_session.proofs.Standing.{stand_more}
