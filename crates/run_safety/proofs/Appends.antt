@@ -3,7 +3,7 @@ use Rattle.std.proofs.Common.{refl, Some, None, ◌≡◌, ◌≢◌, ℕ, ◌�
 use Rattle.std.specs.Prelude.{slice_get}
 use Rattle.rsct_packet.specs.declared.ids.ViewId.{ViewId}
 use Rattle.group_entry.specs.declared.entry.Entry.{Entry}
-use Rattle.run_safety.specs.Past.{Has}
+use Rattle.rsct_packet.specs.Search.{Has}
 use Rattle.run_safety.specs.Group.{member, Standing, Packet, Append, Record, Put}
 use Rattle.run_safety.specs.Moves.{Leads, Changes}
 use Rattle.run_safety.proofs.Order.{lt_refl, cases_view, lt_not_same}

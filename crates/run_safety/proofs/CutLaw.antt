@@ -3,7 +3,7 @@ use Rattle.std.proofs.Common.{◌≤◌, ◌≡◌, ℕ, ◌⊎◌, List, [], le
 use Rattle.rsct_packet.specs.declared.ids.ViewId.{ViewId}
 use Rattle.rsct_packet.specs.declared.ids.Member.{Member}
 use Rattle.group_entry.specs.declared.entry.Entry.{Entry}
-use Rattle.run_safety.specs.Past.{Has}
+use Rattle.rsct_packet.specs.Search.{Has}
 use Rattle.run_safety.specs.Group.{member, Standing, Reply, members_of, Packet, Answer, Install, Record, In}
 use Rattle.run_safety.specs.GroupLists.{held, From, SameLists, IsCut, CutHolds, SameMembers}
 use Rattle.run_safety.specs.Moves.{Opening, Born, Leads, Longest}

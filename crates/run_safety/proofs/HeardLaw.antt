@@ -5,7 +5,8 @@ use Rattle.rsct_packet.specs.declared.ids.ViewId.{ViewId}
 use Rattle.rsct_packet.specs.declared.ids.ProviderId.{ProviderId}
 use Rattle.group_entry.specs.declared.entry.Entry.{Entry}
 use Rattle.proposal_core.specs.declared.group_state.GroupState.{GroupState}
-use Rattle.run_safety.specs.Past.{Has, fold_from}
+use Rattle.rsct_packet.specs.Search.{Has}
+use Rattle.run_safety.specs.Past.{fold_from}
 use Rattle.run_safety.specs.ViewOrder.{is_same}
 use Rattle.run_safety.specs.Group.{Standing, Packet, Record, In, Put, Begins, Heard, Line, Noted, kept}
 use Rattle.run_safety.specs.GroupLists.{puts_of, InOrder}

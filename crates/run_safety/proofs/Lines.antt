@@ -4,7 +4,7 @@ use Rattle.std.specs.Prelude.{slice_get}
 use Rattle.rsct_packet.specs.declared.ids.ViewId.{ViewId}
 use Rattle.rsct_packet.specs.declared.ids.Member.{Member}
 use Rattle.group_entry.specs.declared.entry.Entry.{Entry}
-use Rattle.run_safety.specs.Past.{Has}
+use Rattle.rsct_packet.specs.Search.{Has}
 use Rattle.run_safety.specs.Group.{Standing, Origin, In, Put, Note, Based, Line, Kept, Noted, kept, lines_from, puts_from}
 use Rattle.run_safety.specs.Moves.{based, entered, Inserted}
 

@@ -5,7 +5,7 @@ use Rattle.rsct_packet.specs.declared.ids.ViewId.{ViewId}
 use Rattle.rsct_packet.specs.declared.ids.ProviderId.{ProviderId}
 use Rattle.group_entry.specs.declared.entry.Entry.{Entry}
 use Rattle.group_entry.specs.declared.proposal.Proposal.{Proposal}
-use Rattle.run_safety.specs.Past.{Has}
+use Rattle.rsct_packet.specs.Search.{Has}
 use Rattle.run_safety.specs.ViewOrder.{Lt, Le}
 use Rattle.run_safety.specs.Group.{member, Standing, members_of, Packet, Install, Append, Request, Refusal, In, Put, Told, Line, Kept, Noted, kept}
 use Rattle.run_safety.specs.GroupLists.{OneEntryOf}

@@ -5,7 +5,7 @@ use Rattle.rsct_packet.specs.declared.ids.ViewId.{ViewId}
 use Rattle.rsct_packet.specs.declared.ids.ProviderId.{ProviderId}
 use Rattle.group_entry.specs.declared.entry.Entry.{Entry}
 use Rattle.group_entry.specs.declared.proposal.Proposal.{Proposal}
-use Rattle.run_safety.specs.Past.{Has}
+use Rattle.rsct_packet.specs.Search.{Has}
 use Rattle.run_safety.specs.ViewOrder.{Le}
 use Rattle.run_safety.specs.Group.{Standing, Packet, Request, Refusal, Record, In, Put, Begins, Note, Asked, Told, Line, Kept, Noted, kept, lines_from}
 use Rattle.run_safety.specs.GroupLists.{WasIn}

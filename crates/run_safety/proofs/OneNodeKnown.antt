@@ -11,7 +11,7 @@ use Rattle.rsct_packet.specs.declared.ids.ViewId.{ViewId}
 use Rattle.rsct_packet.specs.declared.ids.ProviderId.{ProviderId}
 use Rattle.rsct_packet.specs.declared.ids.Member.{Member}
 use Rattle.rsct_packet.specs.Providers.{among, same_provider}
-use Rattle.rsct_packet.specs.Search.{place_where}
+use Rattle.rsct_packet.specs.Search.{Has, place_where}
 use Rattle.client_callbacks.specs.declared.told.Why.TheVariants.{Dissolved}
 use Rattle.group_entry.specs.declared.entry.Entry.{Entry}
 use Rattle.group_entry.specs.declared.entry.Entry.TheVariants.{Once}
@@ -24,7 +24,7 @@ use Rattle.node_core.specs.Groups.{named, row_of}
 use Rattle.node_core.specs.Step.{join_of}
 use Rattle.world_model.specs.declared.event.Event.{Event}
 use Rattle.world_model.specs.Run.{Happening}
-use Rattle.run_safety.specs.Past.{Has, History, Within, records_of, earlier, view_now, puts_of, base_of, state_now, state_at, fold_from}
+use Rattle.run_safety.specs.Past.{History, Within, records_of, earlier, view_now, puts_of, base_of, state_now, state_at, fold_from}
 use Rattle.run_safety.specs.Stays.{Stay, Part, stays, part, part_with, is_join_of, takes_part, last_from, was_let_go, goodbye_of, client_of}
 use Rattle.run_safety.specs.SafeLists.{OneList, NextPlace, InItsView, Fitting, Rising, AmongMembers}
 use Rattle.run_safety.specs.SafeHeard.{Gapless, heard_count, latest_put, AtItsPut, InOrder, NotLetGo, AllHear, Dissolves, LeftBehind, HeardState, enters, is_left_behind, is_after}

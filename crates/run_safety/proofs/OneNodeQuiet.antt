@@ -6,7 +6,8 @@ use Rattle.rsct_packet.specs.declared.ids.ProviderId.{ProviderId}
 use Rattle.group_entry.specs.declared.entry.Entry.{Entry}
 use Rattle.node_state.specs.declared.happened.Happened.{Happened}
 use Rattle.node_state.specs.declared.happened.Happened.TheVariants.{Up, Down, Ring, In, Base, Put, Heard, Cast, Asked, Told, Noted, Refused, Shown}
-use Rattle.run_safety.specs.Past.{Has, History, Within, view_now, puts_of, base_of}
+use Rattle.rsct_packet.specs.Search.{Has}
+use Rattle.run_safety.specs.Past.{History, Within, view_now, puts_of, base_of}
 use Rattle.run_safety.specs.Stays.{Stay, stays, ends}
 use Rattle.run_safety.specs.SafeLists.{NextPlace, InItsView, Fitting, Rising, AmongMembers}
 use Rattle.run_safety.specs.SafeHeard.{heard_count, AtItsPut, InOrder, NotLetGo, AllHear, HeardState, enters}

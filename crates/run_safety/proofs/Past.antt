@@ -3,7 +3,7 @@ use Rattle.std.proofs.Common.{refl, Some, ◌≡◌, ℕ, ◌+◌, ◌<◌, ◌�
 use Rattle.rsct_packet.specs.declared.ids.ViewId.{ViewId}
 use Rattle.rsct_packet.specs.declared.ids.Member.{Member}
 use Rattle.group_entry.specs.declared.entry.Entry.{Entry}
-use Rattle.run_safety.specs.Past.{Has}
+use Rattle.rsct_packet.specs.Search.{Has}
 use Rattle.run_safety.specs.ViewOrder.{Lt, Le}
 use Rattle.run_safety.specs.Group.{member, Standing, Reply, members_of, Packet, Answer, Install, Record, In, Put, Begins}
 use Rattle.run_safety.specs.GroupLists.{puts_of, held, InOrder, WasIn, From}

@@ -5,7 +5,7 @@ use Rattle.std.proofs.lemmas.Bool.{cases_eq}
 use Rattle.rsct_packet.specs.declared.ids.ViewId.{ViewId}
 use Rattle.rsct_packet.specs.declared.ids.Member.{Member}
 use Rattle.group_entry.specs.declared.entry.Entry.{Entry}
-use Rattle.run_safety.specs.Past.{Has}
+use Rattle.rsct_packet.specs.Search.{Has}
 use Rattle.run_safety.specs.ViewOrder.{Lt, Le}
 use Rattle.run_safety.specs.Group.{member, Standing, Reply, Packet, Answer, Install, Record, In, Put, puts_from}
 use Rattle.run_safety.specs.GroupLists.{OneInstall, puts_of, held_by, held, WasIn, From}

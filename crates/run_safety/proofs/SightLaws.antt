@@ -7,7 +7,8 @@ use Rattle.rsct_packet.specs.declared.ids.ViewId.{ViewId}
 use Rattle.group_entry.specs.declared.entry.Entry.{Entry}
 use Rattle.node_state.specs.declared.happened.Happened.{Happened}
 use Rattle.node_state.specs.declared.happened.Happened.TheVariants as happened
-use Rattle.run_safety.specs.Past.{Has, History, earlier, records_of}
+use Rattle.rsct_packet.specs.Search.{Has}
+use Rattle.run_safety.specs.Past.{History, earlier, records_of}
 use Rattle.run_safety.specs.Group.{Line, Kept, Noted, Record, Put, kept}
 use Rattle.run_safety.specs.SafeGroups.{GroupsGiveOneList}
 use Rattle.run_safety.specs.Sight.{lines_at, lines_with, lines_of}

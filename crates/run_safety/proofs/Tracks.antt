@@ -7,7 +7,7 @@ use Rattle.std.proofs.lemmas.List.{append-nil}
 use Rattle.rsct_packet.specs.declared.ids.ViewId.{ViewId}
 use Rattle.rsct_packet.specs.declared.ids.Member.{Member}
 use Rattle.group_entry.specs.declared.entry.Entry.{Entry}
-use Rattle.run_safety.specs.Past.{Has}
+use Rattle.rsct_packet.specs.Search.{Has}
 use Rattle.run_safety.specs.ViewOrder.{is_same}
 use Rattle.run_safety.specs.Group.{Record, In, Put, Begins, puts_from}
 use Rattle.run_safety.specs.GroupLists.{Rises, puts_of, held_by, held, InOrder, From}

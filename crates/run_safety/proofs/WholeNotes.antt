@@ -6,7 +6,7 @@ use Rattle.rsct_packet.specs.declared.ids.ProviderId.{ProviderId}
 use Rattle.group_entry.specs.declared.entry.Entry.{Entry}
 use Rattle.group_entry.specs.declared.proposal.Proposal.{Proposal}
 use Rattle.proposal_core.specs.declared.group_state.GroupState.{GroupState}
-use Rattle.run_safety.specs.Past.{Has}
+use Rattle.rsct_packet.specs.Search.{Has}
 use Rattle.run_safety.specs.ViewOrder.{Le}
 use Rattle.run_safety.specs.Group.{member, Standing, Origin, Packet, Request, Refusal, Record, In, Put, Note, Based, Heard, Asked, Told, Line, Noted, kept}
 use Rattle.run_safety.specs.GroupLists.{puts_of, WasIn}

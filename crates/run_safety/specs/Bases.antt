@@ -8,7 +8,8 @@ use Rattle.rsct_packet.specs.Providers.{among}
 use Rattle.group_entry.specs.declared.entry.Entry.{Entry}
 use Rattle.proposal_core.specs.declared.group_state.GroupState.{GroupState}
 use Rattle.proposal_core.specs.Fold.{empty_state, present}
-use Rattle.run_safety.specs.Past.{Has, fold_from}
+use Rattle.rsct_packet.specs.Search.{Has}
+use Rattle.run_safety.specs.Past.{fold_from}
 use Rattle.run_safety.specs.ViewOrder.{is_same, Le}
 use Rattle.run_safety.specs.Group.{member, Reply, Origin}
 

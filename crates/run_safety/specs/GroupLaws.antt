@@ -7,7 +7,7 @@ use Rattle.rsct_packet.specs.declared.ids.Member.{Member}
 use Rattle.group_entry.specs.declared.entry.Entry.{Entry}
 use Rattle.group_entry.specs.declared.proposal.Proposal.{Proposal}
 use Rattle.proposal_core.specs.declared.group_state.GroupState.{GroupState}
-use Rattle.run_safety.specs.Past.{Has}
+use Rattle.rsct_packet.specs.Search.{Has}
 use Rattle.run_safety.specs.Group.{member, Reply, members_of, Origin, Packet, Install, Stable, Record, In, Put, Begins, Based, Heard, Asked, Told, Line, Kept, Noted, kept}
 use Rattle.run_safety.specs.GroupLists.{puts_of, From, IsCut}
 use Rattle.run_safety.specs.Bases.{Bases, state_of_list, side_state, BaseIs, leader_of}

@@ -6,7 +6,7 @@ use Rattle.rsct_packet.specs.declared.ids.Member.{Member}
 use Rattle.group_entry.specs.declared.entry.Entry.{Entry}
 use Rattle.group_entry.specs.declared.proposal.Proposal.{Proposal}
 use Rattle.proposal_core.specs.declared.group_state.GroupState.{GroupState}
-use Rattle.run_safety.specs.Past.{Has}
+use Rattle.rsct_packet.specs.Search.{Has}
 use Rattle.run_safety.specs.ViewOrder.{Lt, Le}
 use Rattle.run_safety.specs.Group.{member, Standing, Reply, members_of, Origin, Packet, Answer, Install, Append, Request, Refusal, Ack, Stable, Record, In, Put, Begins, Note, Based, Heard, Asked, Told, Line, Kept, Noted, kept, lines_from}
 use Rattle.run_safety.specs.GroupLists.{held_by, WasIn, puts_of}

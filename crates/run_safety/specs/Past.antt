@@ -11,11 +11,6 @@ use Rattle.node_state.specs.declared.happened.Happened.{Happened}
 use Rattle.node_state.specs.declared.happened.Happened.TheVariants.{Up, Down, In, Base, Put}
 use Rattle.world_model.specs.Run.{Happening, Run}
 
--- x is in the list
-abbrev pub Has : {A : Type 0} → A → List A → Type 0
-Has x [] = ⊥
-Has x (y ∷ ys) = (x ≡ y) ⊎ Has x ys
-
 abbrev pub History : Type 0
 History = List Happening
 

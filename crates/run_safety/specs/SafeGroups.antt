@@ -3,7 +3,8 @@ use Rattle.std.specs.Prelude.{ℕ, List}
 use Rattle.rsct_packet.specs.declared.ids.ViewId.{ViewId}
 use Rattle.rsct_packet.specs.declared.ids.Member.{Member}
 use Rattle.group_entry.specs.declared.entry.Entry.{Entry}
-use Rattle.run_safety.specs.Past.{Has, History}
+use Rattle.rsct_packet.specs.Search.{Has}
+use Rattle.run_safety.specs.Past.{History}
 use Rattle.run_safety.specs.SafeLists.{OneEntry}
 use Rattle.run_safety.specs.Group.{Standing, Reply, Origin, Packet, Line, Noted, Based, kept}
 use Rattle.run_safety.specs.GroupLists.{OneEntryOf, Rises, InOrder, SameLists, CutHolds, SameMembers}

@@ -12,7 +12,8 @@ use Rattle.proposal_core.specs.declared.group_state.GroupState.{GroupState}
 use Rattle.node_state.specs.declared.happened.Happened.{Happened}
 use Rattle.node_state.specs.declared.happened.Happened.TheVariants.{In, Put, Heard, Told}
 use Rattle.world_model.specs.Run.{Happening}
-use Rattle.run_safety.specs.Past.{Has, History, EachRecord, EachEvent, Within, earlier, is_list, state_at}
+use Rattle.rsct_packet.specs.Search.{Has}
+use Rattle.run_safety.specs.Past.{History, EachRecord, EachEvent, Within, earlier, is_list, state_at}
 use Rattle.run_safety.specs.Stays.{Stay, stays, Part, part, passes, takes_part, was_let_go}
 use Rattle.run_safety.specs.SafeLists.{Each}
 

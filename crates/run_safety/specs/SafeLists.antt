@@ -6,7 +6,8 @@ use Rattle.group_entry.specs.declared.entry.Entry.{Entry}
 use Rattle.proposal_core.specs.Fold.{fits}
 use Rattle.node_state.specs.declared.happened.Happened.{Happened}
 use Rattle.node_state.specs.declared.happened.Happened.TheVariants.{In, Put}
-use Rattle.run_safety.specs.Past.{Has, History, records_of, EachRecord, earlier, view_now, inc_now, puts_of, state_now}
+use Rattle.rsct_packet.specs.Search.{Has}
+use Rattle.run_safety.specs.Past.{History, records_of, EachRecord, earlier, view_now, inc_now, puts_of, state_now}
 
 -- two entries at one place of one view's list of one group are the same
 abbrev pub OneEntry : History → Type 0

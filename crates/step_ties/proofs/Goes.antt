@@ -1,0 +1,243 @@
+-- What holds of a group goes on holding.
+use Rattle.std.proofs.Common.{◌≡◌, ◌≤◌, ◌⊎◌, ℕ, ◌+◌, List, [], ◌∷◌, Option, Some, None, refl, sym, ap, ◌∙◌, subst, inl, inr, ⊎_elim}
+use Rattle.std.specs.Prelude.{Bool, true, false, slice_get}
+use Rattle.rsct_packet.specs.declared.ids.ViewId.{ViewId}
+use Rattle.rsct_packet.specs.declared.ids.Member.{Member}
+use Rattle.rsct_packet.specs.declared.ids.ProviderId.{ProviderId}
+use Rattle.rsct_packet.specs.Search.{Has}
+use Rattle.group_entry.specs.declared.entry.Entry.{Entry}
+use Rattle.proposal_core.specs.GroupView.{GroupView}
+use Rattle.proposal_core.specs.Lists.{list_or_new}
+use Rattle.name_server.specs.declared.names.Leader.{Leader}
+use Rattle.name_server.specs.Names.{node_of}
+use Rattle.view_exchange.specs.declared.exchange.Answer.{Answer}
+use Rattle.view_exchange.specs.declared.exchange.Exchange.{Exchange}
+use Rattle.view_exchange.specs.declared.install.Part.{Part}
+use Rattle.view_exchange.specs.declared.install.Install.{Install}
+use Rattle.view_exchange.specs.declared.install.Base.{Base}
+use Rattle.view_exchange.specs.Bases.{bases_of, base_named}
+use Rattle.view_core.specs.declared.packet.ViewPacket.{ViewPacket}
+use Rattle.view_core.specs.declared.packet.ViewPacket.TheVariants as view
+use Rattle.view_core.specs.declared.views.Views.{Views}
+use Rattle.session_state.specs.declared.state.Request.{Request}
+use Rattle.session_state.specs.declared.state.SessionState.{SessionState}
+use Rattle.node_state.specs.declared.config.Config.{Config}
+use Rattle.node_state.specs.declared.group.GroupRow.{GroupRow}
+use Rattle.node_state.specs.declared.group.Led.{Led}
+use Rattle.node_state.specs.declared.packet.Body.{Body}
+use Rattle.node_state.specs.declared.packet.Body.TheVariants as body
+use Rattle.node_state.specs.declared.packet.Packet.{Packet}
+use Rattle.node_state.specs.declared.state.Core.{Core}
+use Rattle.node_state.specs.Settings.{is_fixed}
+use Rattle.node_state.specs.State.{row_of, acked_from}
+use Rattle.run_safety.specs.Group.{member, Standing, Reply, Line, Noted, Told, In, Put, kept}
+use Rattle.run_safety.specs.Group as group
+use Rattle.run_safety.specs.Requests.{carried}
+use Rattle.run_safety.specs.Bases.{state_of_list, base_state}
+use Rattle.run_safety.specs.Past.{fold_from}
+use Rattle.step_ties.specs.Ghost.{Ghost, Seen, Goes, Keeps, KeepsIf, Carries, CarriesIf, part_of, ReplyIs, RepliesAre, Gathers, GathersIf, BaseIsOf, Installs, InstallsIf, IsStable}
+use Rattle.step_ties.specs.Tied.{ShowsView, ShowsEntry, ShowsLeader, ShowsBody, Shows, Stands, KnowsLeader, RowIs, Owed, Owes, Decided, Waits, LeaderKeeps, Names, NodeOf, NodeIs, NodeIsIf, IsAcked}
+
+pub goes_same : (x : Ghost) → Goes x x
+goes_same x =
+    record { packets = λ p h. h; records = λ r h. h; lines = λ l h. h; leads = λ v l e. e; bases = λ v s. refl }
+
+module _ (x y : Ghost) (o : Goes x y) where
+  pub seen_on : (v : ViewId) → Seen x v → Seen y v
+  seen_on v h = (h.0, h.1, h.2, o.records (In h.0 h.1 v h.2) h.3)
+
+  pub state_on : (v : ViewId) (full : List Entry) → Seen x v → state_of_list x.bases v full ≡ state_of_list y.bases v full
+  state_on v full h = ap (λ b. fold_from v (base_state b) 0 full) (sym (o.bases v h))
+
+  pub keeps_on : (v : ViewId) (full : List Entry) (l : Option GroupView) → Seen x v → KeepsIf x v full l → KeepsIf y v full l
+  keeps_on v full None s h = (h.0, o.bases v s ∙ h.1)
+  keeps_on v full (Some l) s h =
+      record { starts = h.starts; len = h.len; entries = h.entries; state = h.state ∙ state_on v full s }
+
+  pub carries_on : (v : ViewId) (full : List Entry) (p : Option Part) → Seen x v → CarriesIf x v full p → CarriesIf y v full p
+  carries_on v full None s h = (h.0, o.bases v s ∙ h.1)
+  carries_on v full (Some p) s h = record { starts = h.starts; entries = h.entries; state = h.state ∙ state_on v full s }
+
+  pub stable_on : (v : ViewId) (k : ℕ) → IsStable x v k → IsStable y v k
+  stable_on v k (inl e) = inl e
+  stable_on v k (inr h) = inr (o.packets (group.Stable v k) h)
+
+  reply_on : (g : List ℕ) (v : ViewId) (a : Answer) (r : Reply) → ReplyIs x g v a r → ReplyIs y g v a r
+  reply_on g v a r h =
+      record {
+        node = h.node;
+        inc = h.inc;
+        view = h.view;
+        sent = o.packets (group.Answer v r) h.sent;
+        seen = seen_on a.view h.seen;
+        part = carries_on a.view r.list (part_of g a.parts) h.seen h.part;
+      }
+
+  pub replies_on : (g : List ℕ) (v : ViewId) (bs : List Answer) (rs : List Reply) → RepliesAre x g v bs rs → RepliesAre y g v bs rs
+  replies_on g v [] [] h = tt
+  replies_on g v [] (r ∷ rs) h = absurd h
+  replies_on g v (b ∷ bs) [] h = absurd h
+  replies_on g v (b ∷ bs) (r ∷ rs) h = (reply_on g v b r h.0, replies_on g v bs rs h.1)
+
+  pub gathers_on : (g : List ℕ) (n inc : ℕ) (v promise : ViewId) (e : Option Exchange) → GathersIf x g n inc v promise e → GathersIf y g n inc v promise e
+  gathers_on g n inc v promise None h = tt
+  gathers_on g n inc v promise (Some e) h =
+      record {
+        view = h.view;
+        coord = h.coord;
+        inc_of = h.inc_of;
+        later = h.later;
+        lt = h.lt;
+        replies = h.replies;
+        are = replies_on g promise e.answers h.replies h.are;
+        own = h.own;
+        single = h.single;
+      }
+
+  -- an install's view is one that its coordinator entered
+  base_on : (v : ViewId) (ms : List Member) (b : Option Base) → Seen x v → BaseIsOf x v ms b → BaseIsOf y v ms b
+  base_on v ms None s h = o.bases v s ∙ h
+  base_on v ms (Some b) s h = (o.bases v s ∙ h.0, (h.1.0, h.1.1, o.leads v (member b.leader h.1.0) h.1.2))
+
+  pub installs_on : (g : List ℕ) (i : Install) → Installs x g i → Installs y g i
+  installs_on g i h =
+      record {
+        whole = h.whole;
+        sent = o.packets (group.Install i.view i.members h.whole) h.sent;
+        entered = seen_on i.view h.entered;
+        seen = λ s k. seen_on s.view (h.seen s k);
+        parts = λ s k. carries_on s.view (h.whole s.view) (part_of g s.parts) (h.seen s k) (h.parts s k);
+        base = base_on i.view i.members (base_named (bases_of i) g) h.entered h.base;
+      }
+
+  pub install_on : (g : List ℕ) (i : Option Install) → InstallsIf x g i → InstallsIf y g i
+  install_on g None h = tt
+  install_on g (Some i) h = installs_on g i h
+
+  shows_view_on : (g : List ℕ) (from inc : ℕ) (p : ViewPacket) → ShowsView x g from inc p → ShowsView y g from inc p
+  shows_view_on g from inc (view.Prepare v mask) h = tt
+  shows_view_on g from inc (view.Answer v old parts) h = (h.0, o.packets _ h.1, seen_on old h.2, carries_on old h.0 (part_of g parts) h.2 h.3)
+  shows_view_on g from inc (view.Refuse v n) h = tt
+  shows_view_on g from inc (view.Install i) h = installs_on g i h
+  shows_view_on g from inc (view.Taken v) h = tt
+
+  shows_body_on : (g : List ℕ) (from inc : ℕ) (b : Body) → ShowsBody x g from inc b → ShowsBody y g from inc b
+  shows_body_on g from inc (body.Ring p) h = tt
+  shows_body_on g from inc (body.Report rows) h = tt
+  shows_body_on g from inc (body.View p) h = shows_view_on g from inc p h
+  shows_body_on g from inc (body.Lookup v k) h = tt
+  shows_body_on g from inc (body.Name v k n) h = λ e ne. let z = h e ne in record { inc = z.inc; leads = o.leads v (member n z.inc) z.leads }
+  shows_body_on g from inc (body.Request v k p r phases q) h = λ e. o.packets (group.Request v p r q) (h e)
+  shows_body_on g from inc (body.Tell v k p r why) h = λ e. o.packets (group.Refusal v p r) (h e)
+  shows_body_on g from inc (body.Entry v k i stable e) h = λ q. let z = h q in
+      record { sent = o.packets (group.Append v i e) z.sent; stable = stable_on v stable z.stable; leads = o.leads v (member from inc) z.leads }
+  shows_body_on g from inc (body.Ack v k n) h = λ e. o.packets (group.Ack v from inc n) (h e)
+  shows_body_on g from inc (body.Vote v k proto phase p vote value message) h = tt
+  shows_body_on g from inc (body.Gone v k p) h = tt
+  shows_body_on g from inc (body.Query question what) h = tt
+  shows_body_on g from inc (body.Reply question text) h = tt
+
+  pub shows_on : (g : List ℕ) (p : Packet) → Shows x g p → Shows y g p
+  shows_on g p h = shows_body_on g p.from p.inc p.body h
+
+  pub knows_on : (v : ViewId) (ms : List Member) (n : Option ℕ) → KnowsLeader x v ms n → KnowsLeader y v ms n
+  knows_on v ms None h = tt
+  knows_on v ms (Some n) h = (h.0, h.1, o.leads v (member n h.0) h.2)
+
+  pub acked_on : (v : ViewId) (m i k : ℕ) → IsAcked x v m i k → IsAcked y v m i k
+  acked_on v m i k (inl e) = inl e
+  acked_on v m i k (inr h) = inr (o.packets (group.Ack v m i k) h)
+
+-- what was of node m is as it was: no other leads, no refusal is new, and none of its records
+pub record Spares (x y : Ghost) (m : ℕ) : Type 0 where
+  pub goes : Goes x y
+  pub list : (y.nodes m).list ≡ (x.nodes m).list
+  pub leads : (v : ViewId) → y.leads v ≡ x.leads v
+  pub refusals : (v : ViewId) (p : ProviderId) (r : ℕ) → Has (group.Refusal v p r) y.ps → Has (group.Refusal v p r) x.ps
+  pub puts : (u : ViewId) (k : ℕ) (e : Entry) → Has (Put m u k e) (kept y.all) → Has (Put m u k e) (kept x.all)
+  pub told : (p : ProviderId) (r : ℕ) (u : ViewId) → p.node ≡ m → Has (Noted (Told p r u)) y.all → Has (Noted (Told p r u)) x.all
+
+pub spares_same : (x : Ghost) (m : ℕ) → Spares x x m
+spares_same x m =
+    record { goes = goes_same x; list = refl; leads = λ v. refl; refusals = λ v p r h. h; puts = λ u k e h. h; told = λ p r u e h. h }
+
+module _ (x y : Ghost) (m : ℕ) (o : Spares x y m) where
+  pub row_on : (v : ViewId) (ms : List Member) (row : GroupRow) → Seen x v → RowIs x m v ms row → RowIs y m v ms row
+  row_on v ms row seen h =
+      record {
+        list = subst (λ l. KeepsIf y v l row.list) (sym o.list) (keeps_on x y o.goes v (x.nodes m).list row.list seen h.list);
+        stable = stable_on x y o.goes v (list_or_new row.list).start h.stable;
+        leader = knows_on x y o.goes v ms row.leader h.leader;
+        acked = λ k i a. acked_on x y o.goes v k i (acked_from k row.led.acked) (h.acked k i a);
+      }
+
+  pub owed_on : (inc : ℕ) (q : Request) → Owed x m inc q → Owed y m inc q
+  owed_on inc q h =
+      record {
+        node = h.node;
+        inc_of = h.inc_of;
+        asked = o.goes.lines _ h.asked;
+        unput = λ u k e i. h.unput u k e (o.puts u k e i);
+        untold = λ u i. h.untold u (o.told q.p q.r u h.node i);
+      }
+
+  pub owes_on : (g : List ℕ) (inc : ℕ) (s : SessionState) → Owes x g m inc s → Owes y g m inc s
+  owes_on g inc s h =
+      record { me = h.me; inc_of = h.inc_of; providers = h.providers; requests = λ q i e. owed_on inc q (h.requests q i e) }
+
+  pub decides_on : (inc : ℕ) (v : ViewId) (l : Led) → LeaderKeeps x m inc v l → LeaderKeeps y m inc v l
+  decides_on inc v l h =
+      record {
+        refused = λ p r e i. h.refused p r (sym (o.leads v) ∙ e) (o.refusals v p r i);
+        begun = λ p r i e a b c. h.begun p r i e (sym (o.leads v) ∙ a) (subst (λ z. slice_get z i ≡ Some e) o.list b) c;
+        waiting = λ p e i. let z = h.waiting p (sym (o.leads v) ∙ e) i in
+            record {
+              proposal = z.proposal;
+              sent = o.goes.packets _ z.sent;
+              joins = z.joins;
+              open_still = λ k. z.open_still (o.refusals v p p.join k);
+              unbegun = λ i e b c. z.unbegun i e (subst (λ l. slice_get l i ≡ Some e) o.list b) c;
+              decided = z.decided;
+            };
+      }
+
+  pub names_on : (g : List ℕ) (fixed : Bool) (inc : ℕ) (v : ViewId) (ms : List Member) (table : List Leader) → Names x g fixed m inc v ms table → Names y g fixed m inc v ms table
+  names_on g fixed inc v ms table h =
+      record {
+        named = λ k a b c e. let z = h.named k a b c e in (z.0, z.1, o.leads v ∙ z.2);
+        unnamed = λ a b c e. o.leads v ∙ h.unnamed a b c e;
+      }
+
+  -- all but where it stands
+  pub rest_on : (g : List ℕ) (fixed : Bool) (s t : Views) (row : GroupRow) (rows : List GroupRow) (u : SessionState) (table : List Leader) → Stands y m t → t.view ≡ s.view → t.inc ≡ s.inc → t.members ≡ s.members → t.install ≡ s.install → GathersIf y g m t.inc t.view t.promise t.gathering → NodeOf x g m fixed s row rows u table → NodeOf y g m fixed t row rows u table
+  rest_on g fixed s t row rows u table stands a b c d gathering h =
+      record {
+        stands = stands;
+        row_is = subst (λ (k : ViewId × List Member). RowIs y m k.0 k.1 row) (λ z. (sym a z, sym c z)) (row_on s.view s.members row (m, s.inc, s.members, h.stands.seated) h.row_is);
+        order = h.order;
+        gathering = gathering;
+        install = subst (λ k. InstallsIf y g k) (sym d) (install_on x y o.goes g s.install h.install);
+        owes = subst (λ k. Owes y g m k u) (sym b) (owes_on g s.inc u h.owes);
+        decides = subst (λ (k : ℕ × ViewId). LeaderKeeps y m k.0 k.1 row.led) (λ z. (sym b z, sym a z)) (decides_on s.inc s.view row.led h.decides);
+        names = subst (λ (k : ℕ × ViewId × List Member). Names y g fixed m k.0 k.1 k.2 table) (λ z. (sym b z, sym a z, sym c z)) (names_on g fixed s.inc s.view s.members table h.names);
+      }
+
+  pub stands_on : y.nodes m ≡ x.nodes m → (s : Views) → Stands x m s → Stands y m s
+  stands_on e s h =
+      record {
+        me = h.me;
+        up = h.up;
+        inc = ap (λ (k : Standing). k.inc) e ∙ h.inc;
+        view = ap (λ (k : Standing). k.view) e ∙ h.view;
+        promise = ap (λ (k : Standing). k.promise) e ∙ h.promise;
+        seated = o.goes.records _ h.seated;
+      }
+
+  pub node_on : y.nodes m ≡ x.nodes m → (g : List ℕ) (fixed : Bool) (s : Views) (row : GroupRow) (rows : List GroupRow) (u : SessionState) (table : List Leader) → NodeOf x g m fixed s row rows u table → NodeOf y g m fixed s row rows u table
+  node_on e g fixed s row rows u table h =
+      rest_on g fixed s s row rows u table (stands_on e s h.stands) refl refl refl refl (gathers_on x y o.goes g m s.inc s.view s.promise s.gathering h.gathering) h
+
+  pub node_if_on : y.nodes m ≡ x.nodes m → (c : Config) (g : List ℕ) (inc : ℕ) (s : Option Core) → NodeIsIf c x g m inc s → NodeIsIf c y g m inc s
+  node_if_on e c g inc None h = ap (λ (k : Standing). k.inc) e ∙ h
+  node_if_on e c g inc (Some s) h =
+      (node_on e g (is_fixed s.config.mode) s.views (row_of s g) s.groups s.sessions s.names h.0, h.1, h.2)

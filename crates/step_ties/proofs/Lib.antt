@@ -1,0 +1,14 @@
+pub mod Goes
+pub mod Changed
+pub mod NameOrder
+pub mod Works
+pub mod Begins
+pub mod Parts
+pub mod Gone
+pub mod ViewRows
+pub mod RowWorks
+pub mod Acks
+pub mod SessionLaws
+pub mod Puts
+pub mod Handed
+pub mod Entries

@@ -1,0 +1,172 @@
+-- What changes of a row make of the tie.
+use Rattle.std.proofs.Common.{◌≡◌, ◌≢◌, ◌≤◌, ◌<◌, ◌⊎◌, ℕ, zero, suc, ◌+◌, ◌-◌, max, min, List, [], ◌∷◌, ◌++◌, length, drop, Option, Some, None, Bool, true, false, cond, refl, sym, ap, ◌∙◌, subst, inl, inr, ⊎_elim, arith}
+use Rattle.std.specs.Prelude.{◌==◌, nat_le, if◌then◌else◌, fold}
+use Rattle.std.proofs.lemmas.List.{drop-drop}
+use Rattle.std.proofs.lemmas.Grind.{common_steps}
+use Rattle.std.proofs.lemmas.Bool.{eqb-true, eqb-false}
+use Rattle.std.proofs.lemmas.Bool.Decides.{nat_tests}
+use Rattle.rsct_packet.specs.declared.ids.ViewId.{ViewId}
+use Rattle.rsct_packet.specs.declared.ids.Member.{Member}
+use Rattle.rsct_packet.specs.Search.{Has}
+use Rattle.rsct_packet.proofs.HasLaws.{append_has_right}
+use Rattle.group_entry.specs.declared.entry.Entry.{Entry}
+use Rattle.proposal_core.specs.GroupView.{GroupView}
+use Rattle.proposal_core.specs.Lists.{list_or_new, len_in, forgotten}
+use Rattle.view_core.specs.declared.views.Views.{Views}
+use Rattle.node_state.specs.declared.packet.Body.TheVariants as body
+use Rattle.node_state.specs.declared.packet.Packet.{Packet}
+use Rattle.node_state.specs.declared.group.Acked.{Acked}
+use Rattle.node_state.specs.declared.group.GroupRow.{GroupRow}
+use Rattle.node_state.specs.declared.state.Core.{Core}
+use Rattle.node_state.specs.Settings.{is_fixed}
+use Rattle.node_state.specs.State.{row_of, with_row, list_of, len_of, list_forgotten, forgets_below, led_by}
+use Rattle.node_state.specs.Sending.{sent, sent_on, packet_on, network_to}
+use Rattle.run_safety.specs.Group.{member, Standing, In, kept}
+use Rattle.run_safety.specs.Group as group
+use Rattle.run_safety.specs.Bases.{base_state, state_of_list}
+use Rattle.run_safety.specs.Moves.{Life, Acknowledges}
+use Rattle.step_ties.specs.Ghost.{Ghost, Lives, Goes, Keeps, KeepsIf, IsStable}
+use Rattle.step_ties.specs.Tied.{Shows, Stands, KnowsLeader, RowIs, IsAcked, LeaderKeeps, NodeOf, NodeIs, NodeIsIf, Scene, opening_of, lines_now, Tied}
+use Rattle.step_ties.proofs.Goes.{Spares, spares_same, shows_on, node_on}
+use Rattle.step_ties.proofs.Changed.{has_pushed}
+use Rattle.step_ties.proofs.Works.{tied_on}
+use Rattle.step_ties.proofs.NameOrder.{KeepsName, cases_text, row_here, row_there, rows_ordered}
+use Rattle.step_ties.proofs.Gone.{with_packet, packet_goes, packet_spares}
+
+-- a list that shows a whole one, whether it is held or not
+pub keeps_of : (x : Ghost) (v : ViewId) (full : List Entry) (l : Option GroupView) → KeepsIf x v full l → Keeps x v full (list_or_new l)
+keeps_of x v full None h =
+    record {
+      starts = omega arith;
+      len = sym (ap length h.0);
+      entries = sym (ap (drop 0) h.0);
+      state = λ i. state_of_list (λ u. sym h.1 i) v (sym h.0 i);
+    }
+keeps_of x v full (Some l) h = h
+
+-- forgetting a front leaves what it shows
+pub forgotten_keeps : (x : Ghost) (v : ViewId) (full : List Entry) (l : GroupView) (k : ℕ) → Keeps x v full l → Keeps x v full (forgotten l k)
+unfolding forgotten
+forgotten_keeps x v full l k h = by (nat_le k l.len) refl
+  where
+    by : (b : Bool) → nat_le k l.len ≡ b → Keeps x v full (if b then record l { start = max l.start k; entries = drop (k - l.start) l.entries } else l)
+    by false e = h
+    by true e =
+        let le : k ≤ l.len = grind (arith, nat_tests) in
+        record {
+          starts = let a = h.starts in let b = h.len in omega arith;
+          len = h.len;
+          entries = ap (drop (k - l.start)) h.entries ∙ dropped l.start k full;
+          state = h.state;
+        }
+      where
+        dropped : (a k : ℕ) (xs : List Entry) → drop (k - a) (drop a xs) ≡ drop (max a k) xs
+        dropped a k xs = let q : a + (k - a) ≡ max a k = omega arith in grind (arith, common_steps, drop-drop)
+
+pub max_one : (a k : ℕ) → (max a k ≡ a) ⊎ (max a k ≡ k)
+max_one a k = grind arith
+
+pub forgotten_stable : (x : Ghost) (v : ViewId) (l : GroupView) (k : ℕ) → IsStable x v k → IsStable x v l.start → IsStable x v (forgotten l k).start
+unfolding forgotten
+forgotten_stable x v l k new old = by (nat_le k l.len)
+  where
+    by : (b : Bool) → IsStable x v (if b then record l { start = max l.start k; entries = drop (k - l.start) l.entries } else l).start
+    by false = old
+    by true = ⊎_elim (λ (e : max l.start k ≡ l.start). subst (IsStable x v) (sym e) old) (λ (e : max l.start k ≡ k). subst (IsStable x v) (sym e) new) (max_one l.start k)
+
+module _ (g : List ℕ) (w : Scene) (n : ℕ) (s : Core) (t : Tied g w n s) where
+  -- a row changes
+  pub tied_row : (h : List ℕ) (f : GroupRow → GroupRow) → KeepsName f → (h ≡ g → RowIs t.ghost n s.views.view s.views.members (f (row_of s h)) × LeaderKeeps t.ghost n s.views.inc s.views.view (f (row_of s h)).led) → Tied g w n (with_row s h f)
+  unfolding with_row
+  tied_row h f keeps new =
+      record {
+        ghost = t.ghost;
+        life = t.life;
+        lines = t.lines;
+        own = (own (cases_text h g), t.own.1, t.own.2);
+        others = t.others;
+        packets = t.packets;
+      }
+    where
+      k : NodeIs t.ghost g n s
+      k = t.own.0
+
+      row : (h ≡ g) ⊎ (h ≡ g → ⊥) → RowIs t.ghost n s.views.view s.views.members (row_of (with_row s h f) g) × LeaderKeeps t.ghost n s.views.inc s.views.view (row_of (with_row s h f) g).led
+      row (inl e) =
+          let P : List ℕ → Type 0 = λ z. RowIs t.ghost n s.views.view s.views.members (row_of (with_row s h f) z) × LeaderKeeps t.ghost n s.views.inc s.views.view (row_of (with_row s h f) z).led in
+          let Q : GroupRow → Type 0 = λ z. RowIs t.ghost n s.views.view s.views.members z × LeaderKeeps t.ghost n s.views.inc s.views.view z.led in
+          subst P e (subst Q (sym (row_here h f keeps s k.order)) (new e))
+      row (inr ne) =
+          let Q : GroupRow → Type 0 = λ z. RowIs t.ghost n s.views.view s.views.members z × LeaderKeeps t.ghost n s.views.inc s.views.view z.led in
+          subst Q (sym (row_there h f keeps s g ne)) (k.row_is, k.decides)
+
+      own : (h ≡ g) ⊎ (h ≡ g → ⊥) → NodeIs t.ghost g n (with_row s h f)
+      own c =
+          record {
+            stands = k.stands;
+            row_is = (row c).0;
+            order = rows_ordered h f keeps s k.order;
+            gathering = k.gathering;
+            install = k.install;
+            owes = k.owes;
+            decides = (row c).1;
+            names = k.names;
+          }
+
+  -- what is stable is forgotten
+  pub tied_forgets : (h : List ℕ) (m : ℕ) → (h ≡ g → IsStable t.ghost s.views.view m) → Tied g w n (forgets_below s h m)
+  unfolding forgets_below
+  tied_forgets h m stable = tied_row h (λ row. record row { list = list_forgotten m row.list }) (λ x. refl) new
+    where
+      new : h ≡ g → RowIs t.ghost n s.views.view s.views.members (record (row_of s h) { list = list_forgotten m (row_of s h).list }) × LeaderKeeps t.ghost n s.views.inc s.views.view (row_of s h).led
+      new e =
+          let P : List ℕ → Type 0 = λ z. RowIs t.ghost n s.views.view s.views.members (record (row_of s z) { list = list_forgotten m (row_of s z).list }) × LeaderKeeps t.ghost n s.views.inc s.views.view (row_of s z).led in
+          subst P (sym e) (
+            record {
+              list = keeps (row_of s g).list t.own.0.row_is.list;
+              stable = start (row_of s g).list (stable e) t.own.0.row_is.stable;
+              leader = t.own.0.row_is.leader;
+              acked = t.own.0.row_is.acked;
+            },
+            t.own.0.decides,
+          )
+        where
+          keeps : (l : Option GroupView) → KeepsIf t.ghost s.views.view (t.ghost.nodes n).list l → KeepsIf t.ghost s.views.view (t.ghost.nodes n).list (list_forgotten m l)
+          keeps None k = k
+          keeps (Some l) k = forgotten_keeps t.ghost s.views.view (t.ghost.nodes n).list l m k
+
+          start : (l : Option GroupView) → IsStable t.ghost s.views.view m → IsStable t.ghost s.views.view (list_or_new l).start → IsStable t.ghost s.views.view (list_or_new (list_forgotten m l)).start
+          start None new old = old
+          start (Some l) new old = forgotten_stable t.ghost s.views.view l m new old
+
+  -- the leader is known
+  pub tied_led_by : (h : List ℕ) (m : ℕ) → (h ≡ g → KnowsLeader t.ghost s.views.view s.views.members (Some m)) → Tied g w n (led_by s h m)
+  unfolding led_by
+  tied_led_by h m knows = tied_row h (λ row. record row { leader = Some m }) (λ x. refl) new
+    where
+      new : h ≡ g → RowIs t.ghost n s.views.view s.views.members (record (row_of s h) { leader = Some m }) × LeaderKeeps t.ghost n s.views.inc s.views.view (row_of s h).led
+      new e =
+          let P : List ℕ → Type 0 = λ z. RowIs t.ghost n s.views.view s.views.members (record (row_of s z) { leader = Some m }) × LeaderKeeps t.ghost n s.views.inc s.views.view (row_of s z).led in
+          subst P (sym e) (
+            record { list = t.own.0.row_is.list; stable = t.own.0.row_is.stable; leader = knows e; acked = t.own.0.row_is.acked },
+            t.own.0.decides,
+          )
+
+  -- the length that the node's list has
+  pub len_is : len_of s g ≡ length (t.ghost.nodes n).list
+  unfolding len_of list_of
+  len_is = (keeps_of t.ghost s.views.view (t.ghost.nodes n).list (row_of s g).list t.own.0.row_is.list).len
+
+  -- an acknowledgement is sent
+  pub tied_acks : (to : ℕ) (h : List ℕ) → Tied g w n (sent s to (body.Ack s.views.view h (len_of s h)))
+  unfolding sent sent_on packet_on row_of
+  tied_acks to h =
+      let x : Ghost = t.ghost in
+      let k = t.own.0 in
+      let a : group.Packet = group.Ack (x.nodes n).view n (x.nodes n).inc (length (x.nodes n).list) in
+      let y : Ghost = with_packet x a in
+      let o : Goes x y = packet_goes x a in
+      let spares : (m : ℕ) → Spares x y m = λ m. packet_spares x a m (λ e. absurd (omega arith)) in
+      let p : Packet = packet_on s (network_to s to) to (body.Ack s.views.view h (len_of s h)) in
+      let new : Shows y g p = λ e. inl (λ i. group.Ack (sym k.stands.view i) (k.stands.me i) (sym k.stands.inc i) ((ap (len_of s) e ∙ len_is) i)) in
+      tied_on g w n s t (sent s to (body.Ack s.views.view h (len_of s h))) y (Acknowledges x.nodes x.ps x.all x.leads x.bases n (x.nodes n) (length (x.nodes n).list) t.life refl (omega arith)) t.lines (node_on x y n (spares n) refl g (is_fixed s.config.mode) s.views (row_of s g) s.groups s.sessions s.names k, t.own.1, t.own.2) (λ m ne. spares m) (λ m ne. refl) (λ q i. ⊎_elim (λ (e : q ≡ p). subst (Shows y g) (sym e) new) (λ (j : Has q (s.sends ++ w.sent)). shows_on x y o g q (t.packets q j)) (has_pushed q p s.sends w.sent i))

@@ -1,0 +1,97 @@
+-- What the pieces of a step make of the tie: what is sent and recorded, and the moves.
+use Rattle.std.proofs.Common.{◌≡◌, ◌≢◌, ◌≤◌, ◌<◌, ◌⊎◌, ℕ, ◌+◌, List, [], ◌∷◌, ◌++◌, Option, Some, None, refl, sym, ap, ◌∙◌, subst, inl, inr, ⊎_elim, append_assoc, arith}
+use Rattle.std.specs.Prelude.{Bool, true, false, reverse, slice_get}
+use Rattle.std.proofs.lemmas.List.{reverse-append, append-nil}
+use Rattle.rsct_packet.specs.declared.ids.ViewId.{ViewId}
+use Rattle.rsct_packet.specs.declared.ids.Member.{Member}
+use Rattle.rsct_packet.specs.declared.ids.ProviderId.{ProviderId}
+use Rattle.rsct_packet.specs.Search.{Has}
+use Rattle.group_entry.specs.declared.entry.Entry.{Entry}
+use Rattle.view_core.specs.declared.views.Views.{Views}
+use Rattle.node_state.specs.declared.happened.Happened.{Happened}
+use Rattle.node_state.specs.declared.packet.Body.{Body}
+use Rattle.node_state.specs.declared.packet.Packet.{Packet}
+use Rattle.node_state.specs.declared.state.Core.{Core}
+use Rattle.node_state.specs.Settings.{is_fixed}
+use Rattle.node_state.specs.State.{row_of, recorded}
+use Rattle.node_state.specs.Sending.{sent_on, packet_on, sent}
+use Rattle.run_safety.specs.Past.{History, earlier}
+use Rattle.run_safety.specs.Sight.{lines_at, lines_with, lines_of}
+use Rattle.run_safety.specs.Group.{member, Standing, Line, Kept, Noted, Told, In, Put, Begins, kept}
+use Rattle.run_safety.specs.Group as group
+use Rattle.step_ties.specs.Ghost.{Ghost, Lives, Goes}
+use Rattle.step_ties.specs.Tied.{ShowsBody, Shows, Stands, NodeOf, NodeIs, NodeIsIf, Scene, opening_of, lines_now, Tied}
+use Rattle.step_ties.proofs.Goes.{Spares, shows_on, node_if_on}
+use Rattle.step_ties.proofs.Changed.{has_pushed}
+
+-- no group sees such a record
+abbrev pub Unseen : List ℕ → Happened → Type 0
+Unseen g r = (rs : List Happened) → lines_at g rs r ≡ []
+
+pub lines_pushed : (g : List ℕ) (rs : List Happened) (r : Happened) (before : History) (all : List Line) → lines_with g (reverse (rs ++ r ∷ [])) before all ≡ lines_at g (earlier (reverse rs) before) r ++ lines_with g (reverse rs) before all
+lines_pushed g rs r before all = ap (λ z. lines_with g z before all) (reverse-append rs (r ∷ []))
+
+pub lines_unseen : (g : List ℕ) (rs ys : List Happened) (before : History) (all : List Line) → ((r : Happened) → Has r rs → Unseen g r) → lines_with g (reverse rs ++ ys) before all ≡ lines_with g ys before all
+lines_unseen g [] ys before all h = refl
+lines_unseen g (r ∷ rs) ys before all h =
+    let turned : reverse (r ∷ rs) ≡ reverse rs ++ (r ∷ []) = reverse-append (r ∷ []) rs in
+    ap (λ z. lines_with g (z ++ ys) before all) turned ∙ ap (λ z. lines_with g z before all) (append_assoc (reverse rs) (r ∷ []) ys) ∙ lines_unseen g rs (r ∷ ys) before all (λ q i. h q (inr i)) ∙ ap (λ z. z ++ lines_with g ys before all) (h r (inl refl) (earlier ys before))
+
+pub lines_none : (g : List ℕ) (rs : List Happened) (before : History) (all : List Line) → ((r : Happened) → Has r rs → Unseen g r) → lines_with g (reverse rs) before all ≡ Kept Begins ∷ all
+lines_none g rs before all h = ap (λ z. lines_with g z before all) (sym (append-nil (reverse rs))) ∙ lines_unseen g rs [] before all h
+
+module _ (g : List ℕ) (w : Scene) (n : ℕ) (s : Core) (t : Tied g w n s) where
+  -- the step goes on as moves do
+  abbrev pub tied_on : (s' : Core) (y : Ghost) → Lives (opening_of w.config) y → y.all ≡ lines_now g w s' → NodeIsIf w.config y g n (w.incs n) (Some s') → ((m : ℕ) → m ≢ n → Spares t.ghost y m) → ((m : ℕ) → m ≢ n → y.nodes m ≡ t.ghost.nodes m) → ((p : Packet) → Has p (s'.sends ++ w.sent) → Shows y g p) → Tied g w n s'
+  tied_on s' y life lines own spares same packets =
+      record {
+        ghost = y;
+        life = life;
+        lines = lines;
+        own = own;
+        others = λ m ne. node_if_on t.ghost y m (spares m ne) (same m ne) w.config g (w.incs m) (w.cores m) (t.others m ne);
+        packets = packets;
+      }
+
+  -- a packet is sent that shows nothing new
+  pub tied_sent_on : (network to : ℕ) (b : Body) → ShowsBody t.ghost g s.views.me s.views.inc b → Tied g w n (sent_on s network to b)
+  unfolding sent_on packet_on row_of
+  tied_sent_on network to b ok =
+      record {
+        ghost = t.ghost;
+        life = t.life;
+        lines = t.lines;
+        own = t.own;
+        others = t.others;
+        packets = λ p h. ⊎_elim (λ (e : p ≡ packet_on s network to b). subst (λ z. Shows t.ghost g z) (sym e) ok) (λ (k : Has p (s.sends ++ w.sent)). t.packets p k) (has_pushed p (packet_on s network to b) s.sends w.sent h);
+      }
+
+  pub tied_sent : (to : ℕ) (b : Body) → ShowsBody t.ghost g s.views.me s.views.inc b → Tied g w n (sent s to b)
+  unfolding sent
+  tied_sent to b ok = tied_sent_on _ to b ok
+
+  -- a record that no group sees
+  pub tied_recorded : (r : Happened) → Unseen g r → Tied g w n (recorded s r)
+  unfolding recorded row_of
+  tied_recorded r unseen =
+      record {
+        ghost = t.ghost;
+        life = t.life;
+        lines = t.lines ∙ sym (lines_pushed g s.records r w.before (lines_of g w.before) ∙ ap (λ z. z ++ lines_now g w s) (unseen (earlier (reverse s.records) w.before)));
+        own = t.own;
+        others = t.others;
+        packets = t.packets;
+      }
+
+  -- what a node keeps of views, where no group sees it
+  pub tied_views : (v : Views) → NodeOf t.ghost g n (is_fixed s.config.mode) v (row_of s g) s.groups s.sessions s.names → v.inc ≡ s.views.inc → Tied g w n (record s { views = v })
+  unfolding row_of
+  tied_views v k e =
+      record {
+        ghost = t.ghost;
+        life = t.life;
+        lines = t.lines;
+        own = (k, t.own.1, e ∙ t.own.2);
+        others = t.others;
+        packets = t.packets;
+      }

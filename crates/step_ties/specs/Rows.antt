@@ -1,0 +1,89 @@
+-- What is tied: the step begins and ends, a node starts and stops, and rows of the step.
+use Rattle.std.specs.Prelude.{ℕ, ◌+◌, ◌≡◌, ◌==◌, Bool, true, false, ◌∷◌, ◌++◌, [], List, reverse, Option, Some, None, if◌then◌else◌}
+use Rattle.rsct_packet.specs.declared.ids.ViewId.{ViewId}
+use Rattle.rsct_packet.specs.declared.mask.Mask.{Mask}
+use Rattle.rsct_packet.specs.Search.{Has}
+use Rattle.group_entry.specs.declared.entry.Entry.{Entry}
+use Rattle.view_exchange.specs.declared.install.Part.{Part}
+use Rattle.view_exchange.specs.declared.exchange.Answer.{Answer}
+use Rattle.view_exchange.specs.declared.exchange.Exchange.{Exchange}
+use Rattle.view_exchange.specs.Answers.{may_answer, with_answer, all_answered}
+use Rattle.view_core.specs.declared.packet.ViewPacket.{ViewPacket}
+use Rattle.view_core.specs.declared.packet.ViewPacket.TheVariants as view
+use Rattle.node_state.specs.declared.config.Config.{Config}
+use Rattle.node_state.specs.declared.happened.Happened.TheVariants as happened
+use Rattle.node_state.specs.declared.packet.Body.TheVariants as body
+use Rattle.node_state.specs.declared.packet.Body.{Body}
+use Rattle.node_state.specs.declared.packet.Packet.{Packet}
+use Rattle.node_state.specs.declared.state.Core.{Core}
+use Rattle.node_state.specs.Settings.{is_fixed}
+use Rattle.node_state.specs.HandOn.{Answering}
+use Rattle.node_state.specs.Following.{entry_row, ack_row}
+use Rattle.node_state.specs.Step.{at_work, started, view_row, body_row}
+use Rattle.world_model.specs.declared.event.Event.{Event}
+use Rattle.world_model.specs.Run.{Happening}
+use Rattle.step_ties.specs.Tied.{Scene, Rests, Tied}
+
+-- one value set
+unfoldable pub at_node : {A : Type 0} → (ℕ → A) → ℕ → A → ℕ → A
+at_node f n x m = if m == n then x else f m
+
+-- an event that is over
+abbrev pub over : Event → Core → Happening
+over e s = record { event = Some e; records = reverse s.records }
+
+-- a step is over: the node is as the step left it, what it sent is sent, and its records are those of the event
+abbrev pub ended : Scene → ℕ → Event → Core → Scene
+ended w n e s = record w { cores = at_node w.cores n (Some s); sent = s.sends ++ w.sent; before = over e s ∷ w.before }
+
+abbrev pub start_with : Scene → ℕ → Event → Core → Scene
+start_with w n e s = record (ended w n e s) { incs = at_node w.incs n (w.incs n + 1) }
+
+abbrev pub stopped : Scene → ℕ → Event → Scene
+stopped w n e =
+    record w { cores = at_node w.cores n None; before = record { event = Some e; records = happened.Down n ∷ [] } ∷ w.before }
+
+-- before anything happened
+abbrev pub nothing_yet : Config → Scene
+nothing_yet c = record { config = c; cores = λ m. None; incs = λ m. 0; sent = []; before = [] }
+
+abbrev pub NothingTied : Type 0
+NothingTied = (g : List ℕ) (c : Config) → Rests g (nothing_yet c)
+
+-- outside of mode fixed
+abbrev pub StartTied : Type 0
+StartTied =
+    (g : List ℕ) (w : Scene) (n : ℕ) (e : Event) → is_fixed w.config.mode ≡ false → w.cores n ≡ None → Rests g w → Rests g (start_with w n e (started w.config n (w.incs n + 1)))
+
+abbrev pub StopTied : Type 0
+StopTied = (g : List ℕ) (w : Scene) (n : ℕ) (e : Event) (s : Core) → w.cores n ≡ Some s → Rests g w → Rests g (stopped w n e)
+
+abbrev pub BeginTied : Type 0
+BeginTied = (g : List ℕ) (w : Scene) (n : ℕ) (s : Core) → w.cores n ≡ Some s → Rests g w → Tied g w n (at_work s)
+
+abbrev pub EndTied : Type 0
+EndTied = (g : List ℕ) (w : Scene) (n : ℕ) (s : Core) (e : Event) → Tied g w n s → Rests g (ended w n e s)
+
+-- a packet that was sent is given, and this is its row
+abbrev pub GivenTied : Body → Type 0
+GivenTied b =
+    (g : List ℕ) (w : Scene) (n : ℕ) (f : Answering) (s : Core) (p : Packet) → p.body ≡ b → Has p w.sent → Tied g w n s → Tied g w n (body_row f s p b)
+
+abbrev pub ViewTied : ViewPacket → Type 0
+ViewTied y =
+    (g : List ℕ) (w : Scene) (n : ℕ) (f : Answering) (s : Core) (from inc : ℕ) → Tied g w n s → Tied g w n (view_row f s from inc y)
+
+abbrev pub TakenTied : Type 0
+TakenTied = (v : ViewId) → ViewTied (view.Taken v)
+
+abbrev pub RefuseTied : Type 0
+RefuseTied = (v : ViewId) (k : ℕ) → ViewTied (view.Refuse v k)
+
+abbrev pub PrepareTied : Type 0
+PrepareTied = (v : ViewId) (mask : Mask) → ViewTied (view.Prepare v mask)
+
+abbrev pub AckTied : Type 0
+AckTied = (v : ViewId) (h : List ℕ) (k : ℕ) → GivenTied (body.Ack v h k)
+
+abbrev pub EntryTied : Type 0
+EntryTied = (v : ViewId) (h : List ℕ) (i stable : ℕ) (e : Entry) → GivenTied (body.Entry v h i stable e)

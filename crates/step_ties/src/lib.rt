@@ -1,0 +1,64 @@
+//! The step of a node, tied to the lives of groups.
+#![tactic(auto)]
+
+ghost use Rattle.step_ties.specs.Rows.{NothingTied, StartTied, StopTied, BeginTied, EndTied, TakenTied, RefuseTied, PrepareTied, AckTied, EntryTied};
+
+/// Before anything happened, nothing stands for the dawn of each group's life.
+#[tactic(auto, using(crate::proofs::Begins::nothing_tied))]
+pub fn nothing_is_tied()
+    ensures { NothingTied }
+{}
+
+/// A step begins.
+#[tactic(auto, using(crate::proofs::Begins::begin_tied))]
+pub fn begin_is_tied()
+    ensures { BeginTied }
+{}
+
+/// A step is over.
+#[tactic(auto, using(crate::proofs::Begins::end_tied))]
+pub fn end_is_tied()
+    ensures { EndTied }
+{}
+
+/// A node stops.
+#[tactic(auto, using(crate::proofs::Begins::stop_tied))]
+pub fn stop_is_tied()
+    ensures { StopTied }
+{}
+
+/// A node starts, outside of mode fixed.
+#[tactic(auto, using(crate::proofs::Begins::start_tied))]
+pub fn start_is_tied()
+    ensures { StartTied }
+{}
+
+/// TAKEN.
+#[tactic(auto, using(crate::proofs::ViewRows::taken_is_tied))]
+pub fn taken_is_tied()
+    ensures { TakenTied }
+{}
+
+/// REFUSE.
+#[tactic(auto, using(crate::proofs::ViewRows::refuse_is_tied))]
+pub fn refuse_is_tied()
+    ensures { RefuseTied }
+{}
+
+/// PREPARE.
+#[tactic(auto, using(crate::proofs::ViewRows::prepare_is_tied))]
+pub fn prepare_is_tied()
+    ensures { PrepareTied }
+{}
+
+/// ACK.
+#[tactic(auto, using(crate::proofs::Acks::ack_is_tied))]
+pub fn ack_is_tied()
+    ensures { AckTied }
+{}
+
+/// ENTRY.
+#[tactic(auto, using(crate::proofs::Entries::entry_is_tied))]
+pub fn entry_is_tied()
+    ensures { EntryTied }
+{}
