@@ -4,6 +4,8 @@
 mod ballot;
 mod kinds;
 mod notice;
+#[cfg(test)]
+mod tests;
 mod texts;
 mod told;
 mod votes;
