@@ -4,7 +4,7 @@ ghost use Rattle.std.specs.Option.{option_map};
 ghost use Rattle.rsct_packet.specs.Reading.{Gives};
 ghost use Rattle.rsct_packet.specs.Fields.{AreShort};
 ghost use Rattle.rsct_packet.specs.Format.{IsBytes, OptionFits};
-ghost use Rattle.group_entry.specs.EntryCodec.{row_vote_number, row_vote_at, closed_at, closed_text, IsClosed, closed_in, once_at, begin_at, phase_at, approve_at, reject_at, late_at, entry_front_at, entry_text, IsEntry, entry_in, whole};
+ghost use Rattle.group_entry.specs.EntryCodec.{row_vote_number, row_vote_at, row_at, closed_at, closed_text, IsClosed, closed_in, once_at, begin_at, phase_at, approve_at, reject_at, late_at, entry_front_at, entry_text, IsEntry, entry_in, whole};
 
 use crate::entry::{Closed, Entry, Row, RowVote, Vote};
 use crate::proposal_codec::{ProposalRef, read_proposal, text_of};
@@ -72,20 +72,29 @@ fn read_row_vote(b: &[u8]) -> Option<(RowVote, &[u8])>
     }
 }
 
+fn read_row(b: &[u8]) -> Option<(Row, &[u8])>
+    ensures { Gives result (row_at b.now) }
+{
+    let (p, b) = read_provider(b)?;
+    let (vote, b) = read_row_vote(b)?;
+    Some((Row { p, vote }, b))
+}
+
 impl Item for Row {
     ghost use Rattle.rsct_packet.specs.Fields.{IsNode};
-    ghost use Rattle.group_entry.specs.EntryCodec.{row_at, row_text};
+    ghost use Rattle.group_entry.specs.EntryCodec.{row_at, row_text, IsRow};
 
     ghost read_at = { row_at };
 
     ghost text = { row_text };
 
+    ghost fits = { IsRow };
+
     ghost can_put = { λ x. IsNode x.p.node };
 
+    #[tactic(auto, using(rsct_packet::proofs::FormatLaws::gives_found, rsct_packet::proofs::FormatLaws::gives_only, crate::proofs::EntryFormat::row_format))]
     fn read(b: &[u8]) -> Option<(Row, &[u8])> {
-        let (p, b) = read_provider(b)?;
-        let (vote, b) = read_row_vote(b)?;
-        Some((Row { p, vote }, b))
+        read_row(known(b))
     }
 
     fn put(&self, out: &mut Vec<u8>) -> Result<(), NoMemory> {
@@ -97,6 +106,9 @@ impl Item for Row {
         }
         Ok(())
     }
+
+    #[tactic(auto, using(crate::proofs::EntryFormat::row_format))]
+    fn format_law() {}
 }
 
 #[tactic(auto, unfolding(crate::specs::EntryCodec::closed_at))]

@@ -5,7 +5,7 @@ ghost use Rattle.rsct_packet.specs.Reading.{Gives, Reads};
 ghost use Rattle.std.specs.List.{list_any};
 ghost use Rattle.rsct_packet.specs.Fields.{AreShort};
 ghost use Rattle.rsct_packet.specs.Format.{IsBytes, IsFound, IsOnly};
-ghost use Rattle.group_entry.specs.ProposalCodec.{cause_number, cause_at, same_failure, failures_differ, are_failures, fallen_at, join_at, leave_at, fail_at, expel_at, state_change_at, message_at, attributes_at, reflect_at, proposal_at, proposal_text, IsProposal, proposal_in};
+ghost use Rattle.group_entry.specs.ProposalCodec.{cause_number, cause_at, failure_at, same_failure, failures_differ, are_failures, fallen_at, join_at, leave_at, fail_at, expel_at, state_change_at, message_at, attributes_at, reflect_at, proposal_at, proposal_text, IsProposal, proposal_in};
 
 use crate::proposal::{Cause, Failure, Proposal};
 use group_attr::{AttrsRef, read_attrs};
@@ -81,20 +81,29 @@ fn read_cause(b: &[u8]) -> Option<(Cause, &[u8])>
     }
 }
 
+fn read_failure(b: &[u8]) -> Option<(Failure, &[u8])>
+    ensures { Gives result (failure_at b.now) }
+{
+    let (p, b) = read_provider(b)?;
+    let (cause, b) = read_cause(b)?;
+    Some((Failure { p, cause }, b))
+}
+
 impl Item for Failure {
     ghost use Rattle.rsct_packet.specs.Fields.{IsNode};
-    ghost use Rattle.group_entry.specs.ProposalCodec.{failure_at, failure_text};
+    ghost use Rattle.group_entry.specs.ProposalCodec.{failure_at, failure_text, IsFailure};
 
     ghost read_at = { failure_at };
 
     ghost text = { failure_text };
 
+    ghost fits = { IsFailure };
+
     ghost can_put = { λ x. IsNode x.p.node };
 
+    #[tactic(auto, using(rsct_packet::proofs::FormatLaws::gives_found, rsct_packet::proofs::FormatLaws::gives_only, crate::proofs::ProposalFormat::failure_format))]
     fn read(b: &[u8]) -> Option<(Failure, &[u8])> {
-        let (p, b) = read_provider(b)?;
-        let (cause, b) = read_cause(b)?;
-        Some((Failure { p, cause }, b))
+        read_failure(known(b))
     }
 
     fn put(&self, out: &mut Vec<u8>) -> Result<(), NoMemory> {
@@ -106,6 +115,9 @@ impl Item for Failure {
         }
         Ok(())
     }
+
+    #[tactic(auto, using(crate::proofs::ProposalFormat::failure_format))]
+    fn format_law() {}
 }
 
 fn is_same_failure(a: &Failure, b: &Failure) -> bool

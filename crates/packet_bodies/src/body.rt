@@ -3,7 +3,7 @@
 ghost use Rattle.std.specs.Prelude.{◌≡◌, Option, option_map};
 ghost use Rattle.rsct_packet.specs.Reading.{Gives};
 ghost use Rattle.rsct_packet.specs.Fields.{IsNode, IsMask, IsRing, IsView, mask_at, mask_text, ring_at, ring_text, view_at, view_text};
-ghost use Rattle.packet_bodies.specs.Body.{whole_of, whole_at, IsWhole, IsOnlyWhole, IsRingMask, ring_mask_at, ring_mask_text, IsDeath, death_at, death_text, IsPrepare, prepare_at, prepare_text, IsRefuse, refuse_at, refuse_text, report_row_at, report_row_text, are_report_rows, IsReport, report_at, report_text, IsLeader, leader_at, leader_text, IsAck, ack_at, ack_text, IsGone, gone_at, gone_text, what_at, IsQuery, query_at, query_text};
+ghost use Rattle.packet_bodies.specs.Body.{whole_of, whole_at, IsWhole, IsOnlyWhole, IsRingMask, ring_mask_at, ring_mask_text, IsDeath, death_at, death_text, IsPrepare, prepare_at, prepare_text, IsRefuse, refuse_at, refuse_text, IsReportRow, report_row_at, report_row_text, are_report_rows, IsReport, report_at, report_text, IsLeader, leader_at, leader_text, IsAck, ack_at, ack_text, IsGone, gone_at, gone_text, what_at, IsQuery, query_at, query_text};
 ghost use Rattle.packet_bodies.specs.Group.{IsGroup, group_at, group_text};
 
 use crate::group::{GroupRef, read_group};
@@ -203,28 +203,37 @@ pub fn read_refuse(b: &[u8]) -> Option<Refuse>
     whole(read_refuse_parts(known(b)))
 }
 
+#[tactic(auto, unfolding(crate::specs::Body::report_row_at))]
+fn read_report_row_parts(b: &[u8]) -> Option<(ReportRow, &[u8])>
+    ensures { Gives result (report_row_at b.now) }
+{
+    let (node, b) = read_node(b)?;
+    let (inc, b) = read_u32(b)?;
+    let (seq, b) = read_u32(b)?;
+    let (mask, b) = read_mask(b)?;
+    Some((
+        ReportRow {
+            node,
+            inc,
+            seq,
+            mask,
+        },
+        b,
+    ))
+}
+
 impl Item for ReportRow {
     ghost read_at = { report_row_at };
 
     ghost text = { report_row_text };
 
+    ghost fits = { IsReportRow };
+
     ghost can_put = { λ r. IsNode r.node };
 
-    #[tactic(auto, unfolding(crate::specs::Body::report_row_at))]
+    #[tactic(auto, using(rsct_packet::proofs::FormatLaws::gives_found, rsct_packet::proofs::FormatLaws::gives_only, crate::proofs::BodyLaws::report_row_format))]
     fn read(b: &[u8]) -> Option<(ReportRow, &[u8])> {
-        let (node, b) = read_node(b)?;
-        let (inc, b) = read_u32(b)?;
-        let (seq, b) = read_u32(b)?;
-        let (mask, b) = read_mask(b)?;
-        Some((
-            ReportRow {
-                node,
-                inc,
-                seq,
-                mask,
-            },
-            b,
-        ))
+        read_report_row_parts(known(b))
     }
 
     #[tactic(auto, unfolding(crate::specs::Body::report_row_text, rsct_packet::specs::Fields::u32_text, rsct_packet::specs::Fields::mask_text))]
@@ -236,6 +245,9 @@ impl Item for ReportRow {
         out.extend_from_slice(&[row.node, a, b, c, d, e, f, g, h, i, j, k, l])?;
         Ok(())
     }
+
+    #[tactic(auto, using(crate::proofs::BodyLaws::report_row_format))]
+    fn format_law() {}
 }
 
 /// Do the nodes of the rows ascend?

@@ -3,9 +3,10 @@ ghost use Rattle.std.specs.Prelude.{◌≡◌, ◌++◌, OnOk, OnErr};
 ghost use Rattle.rsct_packet.specs.Text.{IsName};
 ghost use Rattle.rsct_packet.specs.Fields.{IsNode};
 ghost use Rattle.rsct_packet.specs.Reading.{Gives};
-ghost use Rattle.packet_bodies.specs.Group.{group_at, group_text};
+ghost use Rattle.rsct_packet.specs.Format.{IsFoundAt, IsOnlyAt};
+ghost use Rattle.packet_bodies.specs.Group.{IsGroup, group_at, group_text};
 
-use rsct_packet::{NoMemory, ViewId, put_name, put_view, read_name, read_view};
+use rsct_packet::{NoMemory, ViewId, known, put_name, put_view, read_name, read_view};
 use std::marker::Model;
 
 /// A group in a view. The name is a part of the datagram.
@@ -43,14 +44,23 @@ impl<'a> GroupRef<'a> {
     }
 }
 
-/// A view and a name.
 #[tactic(auto, unfolding(crate::specs::Group::group_at))]
-pub fn read_group(b: &[u8]) -> Option<(GroupRef, &[u8])>
+fn read_group_parts(b: &[u8]) -> Option<(GroupRef, &[u8])>
     ensures { Gives result (group_at b.now) }
 {
     let (view, b) = read_view(b)?;
     let (name, b) = read_name(b)?;
     Some((GroupRef::new(view, name), b))
+}
+
+/// A view and a name.
+#[tactic(auto, using(rsct_packet::proofs::FormatLaws::gives_found, rsct_packet::proofs::FormatLaws::gives_only, crate::proofs::BodyLaws::group_format))]
+pub fn read_group(b: &[u8]) -> Option<(GroupRef, &[u8])>
+    ensures value { Gives result (group_at b.now) }
+    ensures found { IsFoundAt group_text IsGroup result b.now }
+    ensures only { IsOnlyAt group_text IsGroup result b.now }
+{
+    read_group_parts(known(b))
 }
 
 /// A view and a name.

@@ -6,9 +6,9 @@ use Rattle.std.specs.Int.{Width, w8, w16, w32, w64, byte_len, from_be_bytes, to_
 use Rattle.std.proofs.lemmas.Bool.{cases_lt, ltb-false, le-ltb}
 use Rattle.std.proofs.lemmas.List.{take_at, drop_at, take-append-drop, length-append, length-take, get_or-drop, get_or-take, get_or_past}
 use Rattle.std.proofs.lemmas.Nat.{be_bytes_2, be_bytes_4, be_bytes_8, from_be_bytes-to_be_bytes_2, from_be_bytes-to_be_bytes_4, from_be_bytes-to_be_bytes_8}
-use Rattle.rsct_packet.specs.Reading.{◌>>=◌, number_at, part_at, both_at, then_at, made_at, decoded_at, guarded_at, keyed_at, many_at, counted_at, option_at, optional_at, Reads, Gives}
+use Rattle.rsct_packet.specs.Reading.{◌>>=◌, number_at, part_at, both_at, then_at, made_at, decoded_at, guarded_at, keyed_at, many_at, counted_at, option_at, optional_at, Reads, Gives, GivesPart, GivesOptionalPart}
 use Rattle.rsct_packet.specs.Fields.{IsU8, IsU16, IsU32, IsU64, u8_text, u16_text, u32_text, u64_text}
-use Rattle.rsct_packet.specs.Format.{IsBytes, Takes, IsFormat, IsKeyed, IsVariant, counted_text, option_key, option_text, optional_text, OptionFits, EachFits, IsFound, IsOnly, IsFoundAt}
+use Rattle.rsct_packet.specs.Format.{IsBytes, Takes, IsFormat, IsKeyed, IsVariant, counted_text, option_key, option_text, optional_text, OptionFits, EachFits, AreMany, AreFew, IsFound, IsOnly, IsFoundAt, IsOnlyAt, part_of, optional_part_of}
 
 IsBytes-drop : (n : ℕ) (bytes : List ℕ) → IsBytes bytes → IsBytes (drop n bytes)
 IsBytes-drop n bytes h i = rw get_or-drop (h (n + i))
@@ -190,6 +190,16 @@ part_keyed = record {
       rw (long, take_at x rest (length x) refl, drop_at x rest (length x) refl) refl;
 }
 
+-- one reader of a family
+keyed_one : {K A : Type 0} {key : A → K} {body : K → List ℕ → Option (A × List ℕ)} {text : A → List ℕ} {fits : A → Type 0} (k : K) → IsKeyed key body text fits → IsFormat (body k) text (λ x. fits x × (key x ≡ k))
+keyed_one {K = K} {body = body} {text = text} k keyed = record {
+  found = λ bytes x h e. let p = keyed.found k bytes x h e in (p.0, (p.1, p.2));
+  again = λ x rest h. ap (λ (j : K). body j (text x ++ rest)) (sym h.1) ∙ keyed.again x rest h.0;
+}
+
+pub part_format : (n : ℕ) → IsFormat (part_at n) (λ b. b) (λ b. length b ≡ n)
+part_format n = fits_format (λ b. length b ≡ n) (λ b h. h.1) (λ b h. (tt, h)) (keyed_one n part_keyed)
+
 -- so many of a kind
 many_found : {A : Type 0} {f : List ℕ → Option (A × List ℕ)} {tf : A → List ℕ} {ff : A → Type 0} → IsFormat f tf ff → (n : ℕ) (bytes : List ℕ) (x : List A × List ℕ) → IsBytes bytes → many_at f n bytes ≡ Some x → Takes bytes (flat_map tf x.0) x.1 × EachFits ff x.0 × (length x.0 ≡ n)
 unfolding many_at
@@ -215,9 +225,15 @@ many_again {f = f} {tf = tf} format (x ∷ xs) rest h =
 pub many_keyed : {A : Type 0} {f : List ℕ → Option (A × List ℕ)} {tf : A → List ℕ} {ff : A → Type 0} → IsFormat f tf ff → IsKeyed length (many_at f) (flat_map tf) (EachFits ff)
 many_keyed format = record { found = many_found format; again = many_again format }
 
+pub many_format : {A : Type 0} {f : List ℕ → Option (A × List ℕ)} {tf : A → List ℕ} {ff : A → Type 0} (n : ℕ) → IsFormat f tf ff → IsFormat (many_at f n) (flat_map tf) (AreMany n ff)
+many_format n format = keyed_one n (many_keyed format)
+
 -- a list behind its count
 pub counted_format : {A : Type 0} {f : List ℕ → Option (A × List ℕ)} {tf : A → List ℕ} {ff : A → Type 0} (w : Width) (limit : ℕ) → IsWide w limit → IsFormat f tf ff → IsFormat (counted_at w f) (counted_text w tf) (λ xs. (length xs < limit) × EachFits ff xs)
 counted_format w limit wide format = keyed_format (number_format w limit wide) (many_keyed format)
+
+pub few_format : {A : Type 0} {f : List ℕ → Option (A × List ℕ)} {tf : A → List ℕ} {ff : A → Type 0} → IsFormat f tf ff → IsFormat (counted_at w8 f) (counted_text w8 tf) (AreFew ff)
+few_format format = counted_format w8 256 wide8 format
 
 -- a variant of an enum, whose key is the byte before it
 pub made_variant : {A B : Type 0} {f : List ℕ → Option (B × List ℕ)} {tf : B → List ℕ} {ff : B → Type 0} {key : A → ℕ} {text : A → List ℕ} {fits : A → Type 0} {k : ℕ} (make : B → A) → ((b : B) → text (make b) ≡ tf b) → ((b : B) → ff b → fits (make b)) → ((b : B) → key (make b) ≡ k) → IsFormat f tf ff → IsVariant key text fits k (made_at make f)
@@ -294,3 +310,14 @@ gives_by {A = A} {f = f} format bytes (Some x) read is h e =
 
 pub gives_found : {A : Type 0} {f : List ℕ → Option (A × List ℕ)} {text : A → List ℕ} {fits : A → Type 0} → IsFormat f text fits → (bytes : List ℕ) (result : Option (A × Bor (List ℕ))) → IsBytes bytes → Gives result (f bytes) → IsFoundAt text fits result bytes
 gives_found {f = f} format bytes result h e = gives_by format bytes result (f bytes) refl h e
+
+pub gives_only : {A : Type 0} {f : List ℕ → Option (A × List ℕ)} {text : A → List ℕ} {fits : A → Type 0} → IsFormat f text fits → (bytes : List ℕ) (result : Option (A × Bor (List ℕ))) → Gives result (f bytes) → IsOnlyAt text fits result bytes
+gives_only {f = f} format bytes result e = record { only = λ x rest h is. e ∙ (ap f is ∙ format.again x rest h) }
+
+pub part_gives : (result : Option (Bor (List ℕ) × Bor (List ℕ))) (read : Option (List ℕ × List ℕ)) → GivesPart result read → Gives (part_of result) read
+part_gives None read e = e
+part_gives (Some x) read e = e
+
+pub optional_part_gives : (result : Option (Option (Bor (List ℕ)) × Bor (List ℕ))) (read : Option (Option (List ℕ) × List ℕ)) → GivesOptionalPart result read → Gives (optional_part_of result) read
+optional_part_gives None read e = e
+optional_part_gives (Some x) read e = e

@@ -1,7 +1,9 @@
 -- A format: what is read is spelled so and fits, and what is spelled so and fits is read again.
-use Rattle.std.specs.Prelude.{◌≡◌, ℕ, ◌<◌, List, [], ◌∷◌, ◌++◌, length, get_or, flat_map, Option, Some, None}
+use Rattle.std.specs.Prelude.{◌≡◌, ℕ, ◌<◌, List, [], ◌∷◌, ◌++◌, length, get_or, flat_map, Option, Some, None, option_copied}
+use Rattle.std.specs.Option.{option_map}
 use Rattle.std.specs.Borrow.{Bor}
 use Rattle.std.specs.Int.{Width, w8, to_be_bytes}
+use Rattle.rsct_packet.specs.Reading.{Gives}
 
 -- each is a byte
 abbrev pub IsBytes : List ℕ → Type 0
@@ -29,6 +31,14 @@ pub record IsVariant {A : Type 0} (key : A → ℕ) (text : A → List ℕ) (fit
 abbrev pub EachFits : {A : Type 0} → (A → Type 0) → List A → Type 0
 EachFits fits [] = Unit {0}
 EachFits fits (x ∷ xs) = fits x × EachFits fits xs
+
+-- so many that fit
+abbrev pub AreMany : {A : Type 0} → ℕ → (A → Type 0) → List A → Type 0
+AreMany n fits xs = EachFits fits xs × (length xs ≡ n)
+
+-- as many as a byte can count, each of which fits
+abbrev pub AreFew : {A : Type 0} → (A → Type 0) → List A → Type 0
+AreFew fits xs = (length xs < 256) × EachFits fits xs
 
 -- so many behind their count
 abbrev pub counted_text : {A : Type 0} → Width → (A → List ℕ) → List A → List ℕ
@@ -62,3 +72,13 @@ IsOnly text fits result old new = (x : _) (rest : List ℕ) → fits x → old �
 abbrev pub IsFoundAt : {A : Type 0} → (A → List ℕ) → (A → Type 0) → Option (A × Bor (List ℕ)) → List ℕ → Type 0
 IsFoundAt text fits None bytes = Unit {0}
 IsFoundAt text fits (Some x) bytes = fits x.0 × (bytes ≡ text x.0 ++ x.1.now)
+
+pub record IsOnlyAt {A : Type 0} (text : A → List ℕ) (fits : A → Type 0) (result : Option (A × Bor (List ℕ))) (bytes : List ℕ) : Type 0 where
+  pub only : (x : A) (rest : List ℕ) → fits x → bytes ≡ text x ++ rest → Gives result (Some (x, rest))
+
+-- an answer that hands out a part of the bytes, or none
+abbrev pub part_of : Option (Bor (List ℕ) × Bor (List ℕ)) → Option (List ℕ × Bor (List ℕ))
+part_of result = option_map (λ x. (x.0.now, x.1)) result
+
+abbrev pub optional_part_of : Option (Option (Bor (List ℕ)) × Bor (List ℕ)) → Option (Option (List ℕ) × Bor (List ℕ))
+optional_part_of result = option_map (λ x. (option_copied x.0, x.1)) result

@@ -1,5 +1,5 @@
 -- What the front of bytes spells: a value and what is left. A reader of a record is made of these.
-use Rattle.std.specs.Prelude.{◌≡◌, ℕ, zero, suc, Bool, ◌==◌, List, [], ◌∷◌, length, take, drop, Option, Some, None, nat_lt, if◌then◌else◌, MatchOption}
+use Rattle.std.specs.Prelude.{◌≡◌, ℕ, zero, suc, Bool, ◌==◌, List, [], ◌∷◌, length, take, drop, Option, Some, None, nat_lt, if◌then◌else◌, MatchOption, option_copied}
 use Rattle.std.specs.Int.{Width, w8, byte_len, from_be_bytes}
 use Rattle.std.specs.Borrow.{Bor}
 use Rattle.std.specs.Option.{option_map}
@@ -86,3 +86,7 @@ Gives result read = option_map (λ x. (x.0, x.1.now)) result ≡ read
 -- The same of bytes that are handed out as a part of what is read.
 abbrev pub GivesPart : Option (Bor (List ℕ) × Bor (List ℕ)) → Option (List ℕ × List ℕ) → Type 0
 GivesPart result read = option_map (λ x. (x.0.now, x.1.now)) result ≡ read
+
+-- The same of bytes that may be there.
+abbrev pub GivesOptionalPart : Option (Option (Bor (List ℕ)) × Bor (List ℕ)) → Option (Option (List ℕ) × List ℕ) → Type 0
+GivesOptionalPart result read = option_map (λ x. (option_copied x.0, x.1.now)) result ≡ read

@@ -7,11 +7,11 @@ ghost use Rattle.rsct_packet.specs.Format.{IsFound, IsOnly};
 ghost use Rattle.rsct_packet.specs.Text.{IsName};
 ghost use Rattle.rsct_packet.specs.Fields.{IsU8, IsU16, IsU32, IsU64, AreShort, IsView, IsRing, IsProvider, IsProto, u8_text, u16_text, u32_text, u64_text, bytes_at, bytes_text, name_at, name_text, view_at, view_text, ring_at, ring_text, provider_at, provider_text, proto_at, proto_text};
 
-use crate::ids::{ProtoId, ProviderId, RingId, ViewId};
-use crate::reading::{
-    known, read_bytes, read_name, read_proto, read_provider, read_ring, read_u8, read_u16,
-    read_u32, read_u64, read_view,
+use crate::fronts::{
+    bytes_at, name_at, proto_at, provider_at, ring_at, u8_at, u16_at, u32_at, u64_at, view_at,
 };
+use crate::ids::{ProtoId, ProviderId, RingId, ViewId};
+use crate::reading::known;
 use std::marker::Model;
 
 /// What is left of a body. Each `take` answers `None` exactly where the front of what is left is no
@@ -57,7 +57,7 @@ impl<'a> Fields<'a> {
         ensures found { IsFound u8_text IsU8 result self.old self.new }
         ensures only { IsOnly u8_text IsU8 result self.old self.new }
     {
-        let read = read_u8(known(self.left));
+        let read = u8_at(known(self.left));
         self.after(read)
     }
 
@@ -68,7 +68,7 @@ impl<'a> Fields<'a> {
         ensures found { IsFound u16_text IsU16 result self.old self.new }
         ensures only { IsOnly u16_text IsU16 result self.old self.new }
     {
-        let read = read_u16(known(self.left));
+        let read = u16_at(known(self.left));
         self.after(read)
     }
 
@@ -79,7 +79,7 @@ impl<'a> Fields<'a> {
         ensures found { IsFound u32_text IsU32 result self.old self.new }
         ensures only { IsOnly u32_text IsU32 result self.old self.new }
     {
-        let read = read_u32(known(self.left));
+        let read = u32_at(known(self.left));
         self.after(read)
     }
 
@@ -90,7 +90,7 @@ impl<'a> Fields<'a> {
         ensures found { IsFound u64_text IsU64 result self.old self.new }
         ensures only { IsOnly u64_text IsU64 result self.old self.new }
     {
-        let read = read_u64(known(self.left));
+        let read = u64_at(known(self.left));
         self.after(read)
     }
 
@@ -101,7 +101,7 @@ impl<'a> Fields<'a> {
         ensures found { IsFound bytes_text AreShort (option_copied result) self.old self.new }
         ensures only { IsOnly bytes_text AreShort (option_copied result) self.old self.new }
     {
-        let read = read_bytes(known(self.left));
+        let read = bytes_at(known(self.left));
         self.after(read)
     }
 
@@ -112,7 +112,7 @@ impl<'a> Fields<'a> {
         ensures found { IsFound name_text IsName (option_copied result) self.old self.new }
         ensures only { IsOnly name_text IsName (option_copied result) self.old self.new }
     {
-        let read = read_name(known(self.left));
+        let read = name_at(known(self.left));
         self.after(read)
     }
 
@@ -123,7 +123,7 @@ impl<'a> Fields<'a> {
         ensures found { IsFound view_text IsView result self.old self.new }
         ensures only { IsOnly view_text IsView result self.old self.new }
     {
-        let read = read_view(known(self.left));
+        let read = view_at(known(self.left));
         self.after(read)
     }
 
@@ -134,7 +134,7 @@ impl<'a> Fields<'a> {
         ensures found { IsFound ring_text IsRing result self.old self.new }
         ensures only { IsOnly ring_text IsRing result self.old self.new }
     {
-        let read = read_ring(known(self.left));
+        let read = ring_at(known(self.left));
         self.after(read)
     }
 
@@ -145,7 +145,7 @@ impl<'a> Fields<'a> {
         ensures found { IsFound provider_text IsProvider result self.old self.new }
         ensures only { IsOnly provider_text IsProvider result self.old self.new }
     {
-        let read = read_provider(known(self.left));
+        let read = provider_at(known(self.left));
         self.after(read)
     }
 
@@ -156,7 +156,7 @@ impl<'a> Fields<'a> {
         ensures found { IsFound proto_text IsProto result self.old self.new }
         ensures only { IsOnly proto_text IsProto result self.old self.new }
     {
-        let read = read_proto(known(self.left));
+        let read = proto_at(known(self.left));
         self.after(read)
     }
 }

@@ -2,6 +2,7 @@
 #![tactic(auto)]
 
 mod fields;
+mod fronts;
 mod ids;
 mod list;
 mod listed;

@@ -1,15 +1,16 @@
 //! Lists that stand in a datagram.
 ghost use Rattle.std.specs.Prelude.{◌≡◌, ◌∷◌, [], List as Listing, ℕ, Option, length, IfNone, IfSome, IfOk, OnOk, OnErr, ◌++◌, ◌<◌, take};
-ghost use Rattle.rsct_packet.specs.Fields.{IsNode, providers_at, some_providers_at, IsProviders, IsSomeProviders, providers_text, provider_at, provider_text, member_at, member_text};
-ghost use Rattle.rsct_packet.specs.Format.{EachFits, counted_text, IsFoundAt};
+ghost use Rattle.rsct_packet.specs.Fields.{IsNode, IsProvider, IsMember, providers_at, some_providers_at, IsProviders, IsSomeProviders, providers_text, provider_at, provider_text, member_at, member_text};
+ghost use Rattle.rsct_packet.specs.Format.{EachFits, AreMany, AreFew, counted_text, IsFormat, IsFoundAt, IsOnlyAt};
 ghost use Rattle.std.specs.Prelude.{flat_map};
 ghost use Rattle.std.specs.Int.{w8};
 ghost use Rattle.rsct_packet.specs.Reading.{Gives, many_at, counted_at};
 ghost use Rattle.rsct_packet.specs.Providers.{among, differ, are_providers};
 
+use crate::fronts::u8_at;
 use crate::ids::{Member, NoMemory, ProviderId};
 use crate::list::List;
-use crate::reading::{known, read_member, read_provider, read_u8};
+use crate::reading::{known, read_member, read_provider};
 use crate::writing::{put_member, put_provider, put_u8};
 use std::alloc::Global;
 use std::marker::{Model, PhantomData};
@@ -20,21 +21,31 @@ pub trait Item: Sized + Drop {
 
     ghost text: { Self → Listing ℕ };
 
+    ghost fits: { Self → Type 0 };
+
     ghost can_put: { Self → Type 0 };
 
     fn read(b: &[u8]) -> Option<(Self, &[u8])>
-        ensures { Gives result (read_at b.now) };
+        ensures value { Gives result (read_at b.now) }
+        ensures found { IsFoundAt text fits result b.now }
+        ensures only { IsOnlyAt text fits result b.now };
 
     fn put(&self, out: &mut Vec<u8>) -> Result<(), NoMemory>
         requires { can_put self.now }
         ensures ok { OnOk result (out.new.items ≡ out.old.items ++ text self.now) }
         ensures err { OnErr result (out.new.items ≡ out.old.items) };
+
+    /// What is read is spelled so, and what is spelled so is read: a law, which does nothing.
+    fn format_law()
+        ensures { IsFormat read_at text fits };
 }
 
 impl Item for ProviderId {
     ghost read_at = { provider_at };
 
     ghost text = { provider_text };
+
+    ghost fits = { IsProvider };
 
     ghost can_put = { λ x. IsNode x.node };
 
@@ -45,12 +56,17 @@ impl Item for ProviderId {
     fn put(&self, out: &mut Vec<u8>) -> Result<(), NoMemory> {
         put_provider(out, *self)
     }
+
+    #[tactic(auto, using(crate::proofs::FieldLaws::provider_format))]
+    fn format_law() {}
 }
 
 impl Item for Member {
     ghost read_at = { member_at };
 
     ghost text = { member_text };
+
+    ghost fits = { IsMember };
 
     ghost can_put = { λ x. IsNode x.node };
 
@@ -61,6 +77,9 @@ impl Item for Member {
     fn put(&self, out: &mut Vec<u8>) -> Result<(), NoMemory> {
         put_member(out, *self)
     }
+
+    #[tactic(auto, using(crate::proofs::FieldLaws::member_format))]
+    fn format_law() {}
 }
 
 /// A list in place: the datagram's part that spells its items.
@@ -83,10 +102,8 @@ impl<'a, T: Item> Model for Listed<'a, T> {
     ghost invariant = { λ s. IsSome (many_at T.read_at s.count s.bytes.now) };
 }
 
-/// So many items, left where they stand.
-
 #[tactic(auto, using(crate::proofs::ListedLaws::skips_none, crate::proofs::ListedLaws::skips_more, crate::proofs::ListedLaws::skips_stop, crate::proofs::ListedLaws::skips_all, crate::proofs::ListedLaws::skips_some))]
-pub fn read_listed<'a, T: Item>(count: usize, b: &'a [u8]) -> Option<(Listed<'a, T>, &'a [u8])>
+fn many_at<'a, T: Item>(count: usize, b: &'a [u8]) -> Option<(Listed<'a, T>, &'a [u8])>
     ensures { Gives result (many_at T.read_at count b.now) }
 {
     let mut rest = b;
@@ -104,6 +121,17 @@ pub fn read_listed<'a, T: Item>(count: usize, b: &'a [u8]) -> Option<(Listed<'a,
         },
         rest,
     ))
+}
+
+/// So many items, left where they stand.
+#[tactic(auto, using(crate::proofs::FormatLaws::gives_found, crate::proofs::FormatLaws::gives_only, crate::proofs::FormatLaws::many_format))]
+pub fn read_listed<'a, T: Item>(count: usize, b: &'a [u8]) -> Option<(Listed<'a, T>, &'a [u8])>
+    ensures value { Gives result (many_at T.read_at count b.now) }
+    ensures found { IsFoundAt (flat_map T.text) (AreMany count T.fits) result b.now }
+    ensures only { IsOnlyAt (flat_map T.text) (AreMany count T.fits) result b.now }
+{
+    T::format_law();
+    many_at(count, known(b))
 }
 
 impl<'a, T: Item> Listed<'a, T> {
@@ -125,7 +153,6 @@ impl<'a, T: Item> Listed<'a, T> {
     }
 
     /// Takes the first one off.
-
     pub fn take_first(&mut self) -> Option<T>
         ensures none { IfNone result ((self.old ≡ []) × (self.new ≡ [])) }
         ensures some { IfSome result (λ x. self.old ≡ x ∷ self.new) }
@@ -164,12 +191,22 @@ fn put_each<T: Item>(out: &mut Vec<u8>, xs: &[T]) -> Result<(), NoMemory>
     Ok(())
 }
 
-/// A count of one byte and so many items, left where they stand.
-pub fn read_list<'a, T: Item>(b: &'a [u8]) -> Option<(Listed<'a, T>, &'a [u8])>
+fn counted_at<'a, T: Item>(b: &'a [u8]) -> Option<(Listed<'a, T>, &'a [u8])>
     ensures { Gives result (counted_at w8 T.read_at b.now) }
 {
-    let (n, b) = read_u8(b)?;
-    read_listed(n as usize, b)
+    let (n, b) = u8_at(b)?;
+    many_at(n as usize, b)
+}
+
+/// A count of one byte and so many items, left where they stand.
+#[tactic(auto, using(crate::proofs::FormatLaws::gives_found, crate::proofs::FormatLaws::gives_only, crate::proofs::FormatLaws::few_format))]
+pub fn read_list<'a, T: Item>(b: &'a [u8]) -> Option<(Listed<'a, T>, &'a [u8])>
+    ensures value { Gives result (counted_at w8 T.read_at b.now) }
+    ensures found { IsFoundAt (counted_text w8 T.text) (AreFew T.fits) result b.now }
+    ensures only { IsOnlyAt (counted_text w8 T.text) (AreFew T.fits) result b.now }
+{
+    T::format_law();
+    counted_at(known(b))
 }
 
 /// A count of one byte and the items.
@@ -224,7 +261,7 @@ fn are_providers(ps: &Listed<ProviderId>) -> bool
 fn providers_alone(b: &[u8]) -> Option<(Listed<ProviderId>, &[u8])>
     ensures { Gives result (providers_at b.now) }
 {
-    let (ps, b) = read_list::<ProviderId>(b)?;
+    let (ps, b) = counted_at::<ProviderId>(b)?;
     if !are_providers(&ps) {
         return None;
     }
@@ -232,10 +269,11 @@ fn providers_alone(b: &[u8]) -> Option<(Listed<ProviderId>, &[u8])>
 }
 
 /// At most 64 providers that differ, left where they stand.
-#[tactic(auto, using(crate::proofs::FormatLaws::gives_found, crate::proofs::FieldLaws::providers_format))]
+#[tactic(auto, using(crate::proofs::FormatLaws::gives_found, crate::proofs::FormatLaws::gives_only, crate::proofs::FieldLaws::providers_format))]
 pub fn read_providers(b: &[u8]) -> Option<(Listed<ProviderId>, &[u8])>
     ensures value { Gives result (providers_at b.now) }
     ensures found { IsFoundAt providers_text IsProviders result b.now }
+    ensures only { IsOnlyAt providers_text IsProviders result b.now }
 {
     providers_alone(known(b))
 }
@@ -252,10 +290,11 @@ fn some_providers_alone(b: &[u8]) -> Option<(Listed<ProviderId>, &[u8])>
 }
 
 /// 1 to 64 providers that differ, left where they stand.
-#[tactic(auto, using(crate::proofs::FormatLaws::gives_found, crate::proofs::FieldLaws::some_providers_format))]
+#[tactic(auto, using(crate::proofs::FormatLaws::gives_found, crate::proofs::FormatLaws::gives_only, crate::proofs::FieldLaws::some_providers_format))]
 pub fn read_some_providers(b: &[u8]) -> Option<(Listed<ProviderId>, &[u8])>
     ensures value { Gives result (some_providers_at b.now) }
     ensures found { IsFoundAt providers_text IsSomeProviders result b.now }
+    ensures only { IsOnlyAt providers_text IsSomeProviders result b.now }
 {
     some_providers_alone(known(b))
 }

@@ -1,58 +1,85 @@
 //! Optional fields: the byte 0, or the byte 1 and the field.
 ghost use Rattle.std.specs.Prelude.{◌≡◌, ◌++◌, OnOk, OnErr, option_copied};
-ghost use Rattle.std.specs.Option.{option_map};
 ghost use Rattle.std.specs.Int.{w8, w32};
-ghost use Rattle.rsct_packet.specs.Reading.{Gives, number_at, optional_at};
-ghost use Rattle.rsct_packet.specs.Format.{OptionFits, optional_text};
-ghost use Rattle.rsct_packet.specs.Fields.{AreShort, IsNode, u32_text, bytes_at, bytes_text, proto_at, proto_text};
+ghost use Rattle.rsct_packet.specs.Reading.{Gives, GivesOptionalPart, number_at, optional_at};
+ghost use Rattle.rsct_packet.specs.Format.{OptionFits, optional_text, IsFoundAt, IsOnlyAt, optional_part_of};
+ghost use Rattle.rsct_packet.specs.Fields.{AreShort, IsNode, IsU32, IsProto, u32_text, bytes_at, bytes_text, proto_at, proto_text};
 
+use crate::fronts::{bytes_at, proto_at, u8_at, u32_at};
 use crate::ids::{NoMemory, ProtoId};
-use crate::reading::{read_bytes, read_proto, read_u8, read_u32};
+use crate::reading::known;
 use crate::writing::{put_bytes, put_proto, put_u8, put_u32};
 
-/// A number of 4 bytes, or none.
-pub fn read_optional_u32(b: &[u8]) -> Option<(Option<u32>, &[u8])>
+fn optional_u32_at(b: &[u8]) -> Option<(Option<u32>, &[u8])>
     ensures { Gives result (optional_at (number_at w32) b.now) }
 {
-    let (k, b) = read_u8(b)?;
+    let (k, b) = u8_at(b)?;
     match k {
         0 => Some((None, b)),
         1 => {
-            let (n, b) = read_u32(b)?;
+            let (n, b) = u32_at(b)?;
             Some((Some(n), b))
         }
         _ => None,
     }
 }
 
-/// Bytes behind their length, or none.
-pub fn read_optional_bytes(b: &[u8]) -> Option<(Option<&[u8]>, &[u8])>
-    ensures { option_map (λ x. (option_copied x.0, x.1.now)) result ≡ optional_at bytes_at b.now }
+fn optional_bytes_at(b: &[u8]) -> Option<(Option<&[u8]>, &[u8])>
+    ensures { GivesOptionalPart result (optional_at bytes_at b.now) }
 {
-    let (k, b) = read_u8(b)?;
+    let (k, b) = u8_at(b)?;
     match k {
         0 => Some((None, b)),
         1 => {
-            let (bytes, b) = read_bytes(b)?;
+            let (bytes, b) = bytes_at(b)?;
             Some((Some(bytes), b))
         }
         _ => None,
     }
 }
 
-/// A protocol, or none.
-pub fn read_optional_proto(b: &[u8]) -> Option<(Option<ProtoId>, &[u8])>
+fn optional_proto_at(b: &[u8]) -> Option<(Option<ProtoId>, &[u8])>
     ensures { Gives result (optional_at proto_at b.now) }
 {
-    let (k, b) = read_u8(b)?;
+    let (k, b) = u8_at(b)?;
     match k {
         0 => Some((None, b)),
         1 => {
-            let (proto, b) = read_proto(b)?;
+            let (proto, b) = proto_at(b)?;
             Some((Some(proto), b))
         }
         _ => None,
     }
+}
+
+/// A number of 4 bytes, or none.
+#[tactic(auto, using(crate::proofs::FormatLaws::gives_found, crate::proofs::FormatLaws::gives_only, crate::proofs::FormatLaws::optional_format, crate::proofs::FormatLaws::u32_format))]
+pub fn read_optional_u32(b: &[u8]) -> Option<(Option<u32>, &[u8])>
+    ensures value { Gives result (optional_at (number_at w32) b.now) }
+    ensures found { IsFoundAt (optional_text u32_text) (OptionFits IsU32) result b.now }
+    ensures only { IsOnlyAt (optional_text u32_text) (OptionFits IsU32) result b.now }
+{
+    optional_u32_at(known(b))
+}
+
+/// Bytes behind their length, or none.
+#[tactic(auto, using(crate::proofs::FormatLaws::gives_found, crate::proofs::FormatLaws::gives_only, crate::proofs::FormatLaws::optional_part_gives, crate::proofs::FormatLaws::optional_format, crate::proofs::FieldLaws::bytes_format))]
+pub fn read_optional_bytes(b: &[u8]) -> Option<(Option<&[u8]>, &[u8])>
+    ensures value { GivesOptionalPart result (optional_at bytes_at b.now) }
+    ensures found { IsFoundAt (optional_text bytes_text) (OptionFits AreShort) (optional_part_of result) b.now }
+    ensures only { IsOnlyAt (optional_text bytes_text) (OptionFits AreShort) (optional_part_of result) b.now }
+{
+    optional_bytes_at(known(b))
+}
+
+/// A protocol, or none.
+#[tactic(auto, using(crate::proofs::FormatLaws::gives_found, crate::proofs::FormatLaws::gives_only, crate::proofs::FormatLaws::optional_format, crate::proofs::FieldLaws::proto_format))]
+pub fn read_optional_proto(b: &[u8]) -> Option<(Option<ProtoId>, &[u8])>
+    ensures value { Gives result (optional_at proto_at b.now) }
+    ensures found { IsFoundAt (optional_text proto_text) (OptionFits IsProto) result b.now }
+    ensures only { IsOnlyAt (optional_text proto_text) (OptionFits IsProto) result b.now }
+{
+    optional_proto_at(known(b))
 }
 
 pub fn put_optional_u32(out: &mut Vec<u8>, x: Option<u32>) -> Result<(), NoMemory>

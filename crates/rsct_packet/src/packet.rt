@@ -3,8 +3,9 @@ ghost use Rattle.std.specs.Prelude.{◌≡◌, Some, ◌≤◌, ◌++◌, IsTrue
 ghost use Rattle.rsct_packet.specs.Reading.{Gives};
 ghost use Rattle.rsct_packet.specs.Packet.{is_group_kind, is_level, is_sender, is_head, is_front, front_at, front_text, domain_at, head_text, PacketView, packet_view, IsPacket, packet_text, packet_at};
 
+use crate::fronts::{u8_at, u16_at, u32_at};
 use crate::ids::NoMemory;
-use crate::reading::{known, read_u8, read_u16, read_u32};
+use crate::reading::known;
 
 /// What a packet's head says: its kind (1 to 23), the network (1 to 4) that it is sent on, its sender and
 /// its receiver (1 to 32, or 0 for a status client), and the sender's incarnation, which is 0 exactly where
@@ -84,15 +85,15 @@ fn is_front(f: Front) -> bool
 fn read_front(b: &[u8]) -> Option<(Front, &[u8])>
     ensures { Gives result (front_at b.now) }
 {
-    let (mark, b) = read_u16(b)?;
-    let (level, b) = read_u8(b)?;
-    let (kind, b) = read_u8(b)?;
-    let (network, b) = read_u8(b)?;
-    let (from, b) = read_u8(b)?;
-    let (to, b) = read_u8(b)?;
-    let (zero, b) = read_u8(b)?;
-    let (inc, b) = read_u32(b)?;
-    let (body_len, b) = read_u32(b)?;
+    let (mark, b) = u16_at(b)?;
+    let (level, b) = u8_at(b)?;
+    let (kind, b) = u8_at(b)?;
+    let (network, b) = u8_at(b)?;
+    let (from, b) = u8_at(b)?;
+    let (to, b) = u8_at(b)?;
+    let (zero, b) = u8_at(b)?;
+    let (inc, b) = u32_at(b)?;
+    let (body_len, b) = u32_at(b)?;
     if mark != 0x5247 || zero != 0 {
         return None;
     }
@@ -119,7 +120,7 @@ fn read_domain(level: u8, b: &[u8]) -> Option<(u32, &[u8])>
     if level == 1 {
         return Some((0, b));
     }
-    let (domain, b) = read_u32(b)?;
+    let (domain, b) = u32_at(b)?;
     if domain < 1 {
         return None;
     }

@@ -1,14 +1,19 @@
-//! Readers: each takes a value off the front of bytes, and gives it with the bytes after it. `None` says
-//! that the front spells no such value. They compose by `?` and take no memory.
-ghost use Rattle.std.specs.Prelude.{◌≡◌};
-ghost use Rattle.rsct_packet.specs.Format.{IsBytes};
+//! Readers: each takes a value off the front of bytes, and gives it with the bytes after it. What is read is
+//! spelled there (`found`), and what is spelled there is read, whatever follows (`only`): so `None` says that the
+//! front spells no such value. They compose by `?` and take no memory.
+ghost use Rattle.std.specs.Prelude.{◌≡◌, length};
 ghost use Rattle.std.specs.Int.{w8, w16, w32, w64};
 ghost use Rattle.rsct_packet.specs.Reading.{Gives, GivesPart, number_at, part_at};
-ghost use Rattle.rsct_packet.specs.Fields.{node_at, node_or_none_at, bytes_at, name_at, mask_at, view_at, ring_at, provider_at, proto_at, member_at};
+ghost use Rattle.rsct_packet.specs.Format.{IsBytes, IsFoundAt, IsOnlyAt, part_of};
+ghost use Rattle.rsct_packet.specs.Text.{IsName};
+ghost use Rattle.rsct_packet.specs.Fields.{IsU8, IsU16, IsU32, IsU64, IsNode, IsNodeOrNone, AreShort, IsMask, IsView, IsRing, IsProvider, IsProto, IsMember, u8_text, u16_text, u32_text, u64_text, node_at, node_or_none_at, bytes_at, bytes_text, name_at, name_text, mask_at, mask_text, view_at, view_text, ring_at, ring_text, provider_at, provider_text, proto_at, proto_text, member_at, member_text};
 
+use crate::fronts::{
+    bytes_at, mask_at, member_at, name_at, node_at, node_or_none_at, part_at, proto_at,
+    provider_at, ring_at, u8_at, u16_at, u32_at, u64_at, view_at,
+};
 use crate::ids::{Member, ProtoId, ProviderId, RingId, ViewId};
-use crate::mask::{Mask, is_node_number};
-use crate::text::is_name;
+use crate::mask::Mask;
 
 /// The same bytes. A caller knows of them what their type says.
 pub fn known(b: &[u8]) -> &[u8]
@@ -18,182 +23,152 @@ pub fn known(b: &[u8]) -> &[u8]
     b
 }
 
+/// A byte.
+#[tactic(auto, using(crate::proofs::FormatLaws::gives_found, crate::proofs::FormatLaws::gives_only, crate::proofs::FormatLaws::u8_format))]
 pub fn read_u8(b: &[u8]) -> Option<(u8, &[u8])>
-    ensures { Gives result (number_at w8 b.now) }
+    ensures value { Gives result (number_at w8 b.now) }
+    ensures found { IsFoundAt u8_text IsU8 result b.now }
+    ensures only { IsOnlyAt u8_text IsU8 result b.now }
 {
-    if b.len() < 1 {
-        return None;
-    }
-    let (front, back) = b.split_at(1);
-    Some((front[0], back))
+    u8_at(known(b))
 }
 
+/// A number of 2 bytes, the highest first.
+#[tactic(auto, using(crate::proofs::FormatLaws::gives_found, crate::proofs::FormatLaws::gives_only, crate::proofs::FormatLaws::u16_format))]
 pub fn read_u16(b: &[u8]) -> Option<(u16, &[u8])>
-    ensures { Gives result (number_at w16 b.now) }
+    ensures value { Gives result (number_at w16 b.now) }
+    ensures found { IsFoundAt u16_text IsU16 result b.now }
+    ensures only { IsOnlyAt u16_text IsU16 result b.now }
 {
-    if b.len() < 2 {
-        return None;
-    }
-    let (front, back) = b.split_at(2);
-    Some((u16::from_be_bytes([front[0], front[1]]), back))
+    u16_at(known(b))
 }
 
+/// A number of 4 bytes, the highest first.
+#[tactic(auto, using(crate::proofs::FormatLaws::gives_found, crate::proofs::FormatLaws::gives_only, crate::proofs::FormatLaws::u32_format))]
 pub fn read_u32(b: &[u8]) -> Option<(u32, &[u8])>
-    ensures { Gives result (number_at w32 b.now) }
+    ensures value { Gives result (number_at w32 b.now) }
+    ensures found { IsFoundAt u32_text IsU32 result b.now }
+    ensures only { IsOnlyAt u32_text IsU32 result b.now }
 {
-    if b.len() < 4 {
-        return None;
-    }
-    let (front, back) = b.split_at(4);
-    Some((
-        u32::from_be_bytes([front[0], front[1], front[2], front[3]]),
-        back,
-    ))
+    u32_at(known(b))
 }
 
+/// A number of 8 bytes, the highest first.
+#[tactic(auto, using(crate::proofs::FormatLaws::gives_found, crate::proofs::FormatLaws::gives_only, crate::proofs::FormatLaws::u64_format))]
 pub fn read_u64(b: &[u8]) -> Option<(u64, &[u8])>
-    ensures { Gives result (number_at w64 b.now) }
+    ensures value { Gives result (number_at w64 b.now) }
+    ensures found { IsFoundAt u64_text IsU64 result b.now }
+    ensures only { IsOnlyAt u64_text IsU64 result b.now }
 {
-    if b.len() < 8 {
-        return None;
-    }
-    let (front, back) = b.split_at(8);
-    Some((
-        u64::from_be_bytes([
-            front[0], front[1], front[2], front[3], front[4], front[5], front[6], front[7],
-        ]),
-        back,
-    ))
+    u64_at(known(b))
 }
 
 /// So many bytes.
+#[tactic(auto, using(crate::proofs::FormatLaws::gives_found, crate::proofs::FormatLaws::gives_only, crate::proofs::FormatLaws::part_gives, crate::proofs::FormatLaws::part_format))]
 pub fn read_part(n: usize, b: &[u8]) -> Option<(&[u8], &[u8])>
-    ensures { GivesPart result (part_at n b.now) }
+    ensures value { GivesPart result (part_at n b.now) }
+    ensures found { IsFoundAt (λ x. x) (λ x. length x ≡ n) (part_of result) b.now }
+    ensures only { IsOnlyAt (λ x. x) (λ x. length x ≡ n) (part_of result) b.now }
 {
-    if b.len() < n {
-        return None;
-    }
-    Some(b.split_at(n))
+    part_at(n, known(b))
 }
 
 /// A node, from 1 to 32.
+#[tactic(auto, using(crate::proofs::FormatLaws::gives_found, crate::proofs::FormatLaws::gives_only, crate::proofs::FieldLaws::node_format))]
 pub fn read_node(b: &[u8]) -> Option<(u8, &[u8])>
-    ensures { Gives result (node_at b.now) }
+    ensures value { Gives result (node_at b.now) }
+    ensures found { IsFoundAt u8_text IsNode result b.now }
+    ensures only { IsOnlyAt u8_text IsNode result b.now }
 {
-    let (n, rest) = read_u8(b)?;
-    if !is_node_number(n) {
-        return None;
-    }
-    Some((n, rest))
+    node_at(known(b))
 }
 
 /// A node, or 0 for none.
+#[tactic(auto, using(crate::proofs::FormatLaws::gives_found, crate::proofs::FormatLaws::gives_only, crate::proofs::FieldLaws::node_or_none_format))]
 pub fn read_node_or_none(b: &[u8]) -> Option<(u8, &[u8])>
-    ensures { Gives result (node_or_none_at b.now) }
+    ensures value { Gives result (node_or_none_at b.now) }
+    ensures found { IsFoundAt u8_text IsNodeOrNone result b.now }
+    ensures only { IsOnlyAt u8_text IsNodeOrNone result b.now }
 {
-    let (n, rest) = read_u8(b)?;
-    if n > 32 {
-        return None;
-    }
-    Some((n, rest))
+    node_or_none_at(known(b))
 }
 
 /// A length of two bytes and so many bytes.
-#[tactic(auto, unfolding(crate::specs::Fields::bytes_at))]
+#[tactic(auto, using(crate::proofs::FormatLaws::gives_found, crate::proofs::FormatLaws::gives_only, crate::proofs::FormatLaws::part_gives, crate::proofs::FieldLaws::bytes_format))]
 pub fn read_bytes(b: &[u8]) -> Option<(&[u8], &[u8])>
-    ensures { GivesPart result (bytes_at b.now) }
+    ensures value { GivesPart result (bytes_at b.now) }
+    ensures found { IsFoundAt bytes_text AreShort (part_of result) b.now }
+    ensures only { IsOnlyAt bytes_text AreShort (part_of result) b.now }
 {
-    let (n, b) = read_u16(b)?;
-    read_part(n as usize, b)
+    bytes_at(known(b))
 }
 
 /// A length of one byte and a group name of so many bytes.
-#[tactic(auto, unfolding(crate::specs::Fields::name_at))]
+#[tactic(auto, using(crate::proofs::FormatLaws::gives_found, crate::proofs::FormatLaws::gives_only, crate::proofs::FormatLaws::part_gives, crate::proofs::FieldLaws::name_format))]
 pub fn read_name(b: &[u8]) -> Option<(&[u8], &[u8])>
-    ensures { GivesPart result (name_at b.now) }
+    ensures value { GivesPart result (name_at b.now) }
+    ensures found { IsFoundAt name_text IsName (part_of result) b.now }
+    ensures only { IsOnlyAt name_text IsName (part_of result) b.now }
 {
-    let (n, b) = read_u8(b)?;
-    let (name, b) = read_part(n as usize, b)?;
-    if !is_name(name) {
-        return None;
-    }
-    Some((name, b))
+    name_at(known(b))
 }
 
 /// A set of nodes.
-#[tactic(auto, unfolding(crate::specs::Fields::mask_at))]
+#[tactic(auto, using(crate::proofs::FormatLaws::gives_found, crate::proofs::FormatLaws::gives_only, crate::proofs::FieldLaws::mask_format))]
 pub fn read_mask(b: &[u8]) -> Option<(Mask, &[u8])>
-    ensures { Gives result (mask_at b.now) }
+    ensures value { Gives result (mask_at b.now) }
+    ensures found { IsFoundAt mask_text IsMask result b.now }
+    ensures only { IsOnlyAt mask_text IsMask result b.now }
 {
-    let (bits, b) = read_u32(b)?;
-    Some((Mask { bits }, b))
+    mask_at(known(b))
 }
 
 /// A view, whose coordinator is from 1 to 32.
-#[tactic(auto, unfolding(crate::specs::Fields::view_at))]
+#[tactic(auto, using(crate::proofs::FormatLaws::gives_found, crate::proofs::FormatLaws::gives_only, crate::proofs::FieldLaws::view_format))]
 pub fn read_view(b: &[u8]) -> Option<(ViewId, &[u8])>
-    ensures { Gives result (view_at b.now) }
+    ensures value { Gives result (view_at b.now) }
+    ensures found { IsFoundAt view_text IsView result b.now }
+    ensures only { IsOnlyAt view_text IsView result b.now }
 {
-    let (number, b) = read_u32(b)?;
-    let (coord, b) = read_node(b)?;
-    let (inc, b) = read_u32(b)?;
-    Some((ViewId { number, coord, inc }, b))
+    view_at(known(b))
 }
 
 /// A ring, whose leader is from 1 to 32.
-#[tactic(auto, unfolding(crate::specs::Fields::ring_at))]
+#[tactic(auto, using(crate::proofs::FormatLaws::gives_found, crate::proofs::FormatLaws::gives_only, crate::proofs::FieldLaws::ring_format))]
 pub fn read_ring(b: &[u8]) -> Option<(RingId, &[u8])>
-    ensures { Gives result (ring_at b.now) }
+    ensures value { Gives result (ring_at b.now) }
+    ensures found { IsFoundAt ring_text IsRing result b.now }
+    ensures only { IsOnlyAt ring_text IsRing result b.now }
 {
-    let (number, b) = read_u32(b)?;
-    let (leader, b) = read_node(b)?;
-    let (inc, b) = read_u32(b)?;
-    Some((
-        RingId {
-            leader,
-            inc,
-            number,
-        },
-        b,
-    ))
+    ring_at(known(b))
 }
 
 /// A provider, whose node is from 1 to 32.
-#[tactic(auto, unfolding(crate::specs::Fields::provider_at))]
+#[tactic(auto, using(crate::proofs::FormatLaws::gives_found, crate::proofs::FormatLaws::gives_only, crate::proofs::FieldLaws::provider_format))]
 pub fn read_provider(b: &[u8]) -> Option<(ProviderId, &[u8])>
-    ensures { Gives result (provider_at b.now) }
+    ensures value { Gives result (provider_at b.now) }
+    ensures found { IsFoundAt provider_text IsProvider result b.now }
+    ensures only { IsOnlyAt provider_text IsProvider result b.now }
 {
-    let (node, b) = read_node(b)?;
-    let (inc, b) = read_u32(b)?;
-    let (instance, b) = read_u16(b)?;
-    let (join, b) = read_u32(b)?;
-    Some((
-        ProviderId {
-            node,
-            inc,
-            instance,
-            join,
-        },
-        b,
-    ))
+    provider_at(known(b))
 }
 
 /// A protocol.
-#[tactic(auto, unfolding(crate::specs::Fields::proto_at))]
+#[tactic(auto, using(crate::proofs::FormatLaws::gives_found, crate::proofs::FormatLaws::gives_only, crate::proofs::FieldLaws::proto_format))]
 pub fn read_proto(b: &[u8]) -> Option<(ProtoId, &[u8])>
-    ensures { Gives result (proto_at b.now) }
+    ensures value { Gives result (proto_at b.now) }
+    ensures found { IsFoundAt proto_text IsProto result b.now }
+    ensures only { IsOnlyAt proto_text IsProto result b.now }
 {
-    let (view, b) = read_view(b)?;
-    let (place, b) = read_u32(b)?;
-    Some((ProtoId { view, place }, b))
+    proto_at(known(b))
 }
 
 /// A node from 1 to 32 with its incarnation.
-#[tactic(auto, unfolding(crate::specs::Fields::member_at))]
+#[tactic(auto, using(crate::proofs::FormatLaws::gives_found, crate::proofs::FormatLaws::gives_only, crate::proofs::FieldLaws::member_format))]
 pub fn read_member(b: &[u8]) -> Option<(Member, &[u8])>
-    ensures { Gives result (member_at b.now) }
+    ensures value { Gives result (member_at b.now) }
+    ensures found { IsFoundAt member_text IsMember result b.now }
+    ensures only { IsOnlyAt member_text IsMember result b.now }
 {
-    let (node, b) = read_node(b)?;
-    let (inc, b) = read_u32(b)?;
-    Some((Member { node, inc }, b))
+    member_at(known(b))
 }

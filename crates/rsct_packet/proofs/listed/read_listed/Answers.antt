@@ -1,6 +1,5 @@
-use Rattle.std.proofs.Common.{arith}
-use Rattle.rsct_packet.proofs.ListedLaws.{skips_stop}
+use Rattle.rsct_packet.proofs.FormatLaws.{many_format, gives_found}
 use Rattle.rsct_packet.proofs.listed.read_listed.Goals as goal
 
-pub returns-in-None : goal.returns-in-None
-returns-in-None g c = skips_stop g.T.Item.read_at c.loop-i._i c.args.count c.args.b.now c.loop-i.rest.now c.loop-i.invariant c.in-None.ensures (omega arith)
+pub returns-clause-found : goal.returns-clause-found
+returns-clause-found g c = gives_found (many_format c.args.count c.format_law.ensures) _ _ c.known.ensures.bytes (rw c.known.ensures.same at c.many_at.ensures)
