@@ -9,7 +9,7 @@ use Rattle.world_model.specs.declared.event.Event.{Event}
 use Rattle.world_model.specs.declared.script.Script.{Script}
 use Rattle.world_model.specs.Reading.{ScriptRead, IsScript, IsNone, script_of}
 use Rattle.world_model.specs.World.{World, happens, world_new}
-use Rattle.world_model.specs.Play.{events_of}
+use Rattle.world_model.specs.Play.{events_of, lines_text, written, kinds_in}
 
 -- the bytes of packets, from so many on, and their sum at the first packet that passes the limit
 pub record Bytes : Type 0 where
@@ -64,11 +64,19 @@ kept_of limit bytes = kept_in limit (script_of bytes)
 unfoldable pub kept_records : ℕ → Script → List Happened
 kept_records limit s = elim s.begun [ true ↦ reverse_onto (ended limit s).world.trace [] | false ↦ [] ]
 
+unfoldable pub text_in : ℕ → List (List ℕ) → ScriptRead → List ℕ
+text_in limit kinds (IsScript s) = lines_text kinds (kept_records limit s)
+text_in limit kinds (IsNone n y) = written kinds (IsNone n y)
+
+-- what is written of the bytes of a script until its packets pass the limit
+unfoldable pub kept_text : ℕ → List ℕ → List ℕ → List ℕ
+kept_text limit kinds bytes = text_in limit (kinds_in kinds) (script_of bytes)
+
 -- how many bytes the packets of one run may have
 abbrev pub most_kept : ℕ
 most_kept = 536870912
 
 -- opens each word of this file, for a computation
 unfoldable pub kept_opens : Unit {0}
-unfolding passed_if with_packet sent_since runs_from runs_within ended kept_past kept_in kept_of kept_records
+unfolding passed_if with_packet sent_since runs_from runs_within ended kept_past kept_in kept_of kept_records text_in kept_text
 kept_opens = tt

@@ -167,6 +167,11 @@ plain_join = codes "mode fixed\nnode 1\nbegin\nclient 1 a A\njoin a db 7\nflow\n
 abbrev pub join_at_two : List ℕ
 join_at_two = codes "mode fixed\nnode 1\nlevel 1 1\nbegin\nclient 1 a A\njoin a db 1\nflow\n"
 
+-- rings that are cut and healed, packets that are lost, and one that is given by hand
+abbrev pub cut_rings : List ℕ
+cut_rings =
+    codes "node 1\nnode 2\nbegin\nstart 1\nstart 2\nrun 2\ncut 1 2\nclient 1 a A\njoin a db 1\nrun 2\nheal 1 2\ntick 2\ndrop 2 1\ndeliver 1 2 1\nrun 3\nstop 1\nrun 1\n"
+
 -- opens each word of this file, for a computation
 unfoldable pub samples_opens : Unit {0}
 unfolding one_settings after_packet sends_at records_at packets no_packets proper_prefixes

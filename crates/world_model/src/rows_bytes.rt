@@ -2,8 +2,8 @@
 ghost use Rattle.std.specs.Prelude.{◌≡◌, ◌∷◌, [], Some, None, true, false, codes};
 ghost use Rattle.node_state.specs.Bytes.{packet_of, bytes_of};
 ghost use Rattle.world_model.specs.Play.{transcript};
-ghost use Rattle.world_model.specs.Kept.{kept_of};
-ghost use Rattle.world_model.specs.Samples.{hex, heartbeat, all_packets, any_packet, any_prefix, packets, no_packets, plain_join, join_at_two};
+ghost use Rattle.world_model.specs.Kept.{kept_of, kept_text, most_kept};
+ghost use Rattle.world_model.specs.Samples.{hex, heartbeat, all_packets, any_packet, any_prefix, packets, no_packets, plain_join, join_at_two, cut_rings};
 
 /// A heartbeat is these bytes; without the last one, or with one more, they are no packet.
 #[tactic(auto, unfolding(crate::specs::Opens::all_opens))]
@@ -48,4 +48,16 @@ pub fn kept_bytes()
     ensures within { kept_of 68 plain_join ≡ None }
     ensures at_two { kept_of 71 join_at_two ≡ Some 72 }
     ensures within_at_two { kept_of 72 join_at_two ≡ None }
+{}
+
+/// The event that passes the limit leaves no record.
+#[tactic(auto, unfolding(crate::specs::Opens::all_opens))]
+pub fn records_within_kept_bytes()
+    ensures { kept_text 67 (codes "") plain_join ≡ codes "up 1 1\nin 1 1.1.1 1.1\n" }
+{}
+
+/// Within the limit the plain events of a script, one after another, make its transcript.
+#[tactic(auto, unfolding(crate::specs::Opens::all_opens))]
+pub fn events_of_a_script()
+    ensures { kept_text most_kept (codes "") cut_rings ≡ transcript (codes "") cut_rings }
 {}
