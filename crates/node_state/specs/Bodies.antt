@@ -2,6 +2,8 @@
 use Rattle.std.specs.Prelude.{ℕ, Bool, true, false, ◌==◌, List, [], ◌++◌, Option, Some, None, if◌then◌else◌}
 use Rattle.std.specs.Option.{option_map}
 use Rattle.std.specs.Int.{w8, w16, w32}
+use Rattle.rsct_packet.specs.declared.ids.ProtoId.{ProtoId}
+use Rattle.rsct_packet.specs.declared.ids.ProviderId.{ProviderId}
 use Rattle.rsct_packet.specs.declared.ids.RingId.{RingId}
 use Rattle.rsct_packet.specs.declared.ids.ViewId.{ViewId}
 use Rattle.rsct_packet.specs.declared.mask.Mask.{Mask}
@@ -23,6 +25,7 @@ use Rattle.group_attr.specs.declared.attrs.Phases.TheVariants.{One, Many}
 use Rattle.group_attr.specs.Codec.{phases_at, phases_number}
 use Rattle.group_entry.specs.declared.proposal.Proposal.{Proposal}
 use Rattle.group_entry.specs.declared.proposal.Proposal.TheVariants.{Join}
+use Rattle.group_entry.specs.declared.entry.Entry.{Entry}
 use Rattle.group_entry.specs.declared.entry.Vote.{Vote}
 use Rattle.group_entry.specs.declared.entry.Vote.TheVariants as vote
 use Rattle.group_entry.specs.ProposalCodec.{proposal_at, proposal_text}
@@ -48,11 +51,12 @@ unfoldable pub is_request : Body → Bool
 is_request (body.Request view name p r phases x) = has_phases phases x
 is_request _ = false
 
+abbrev pub request_of_parts : GroupIn × (ProviderId × (ℕ × (Phases × Proposal))) → Body
+request_of_parts x = body.Request x.0.view x.0.name x.1.0 x.1.1.0 x.1.1.1.0 x.1.1.1.1
+
 unfoldable pub request_at : List ℕ → Option (Body × List ℕ)
 request_at bytes =
-    guarded_at is_request
-    (made_at (λ x. body.Request x.0.view x.0.name x.1.0 x.1.1.0 x.1.1.1.0 x.1.1.1.1) (both_at group_at (both_at provider_at (both_at (number_at w32) (both_at phases_at proposal_at)))))
-    bytes
+    guarded_at is_request (made_at request_of_parts (both_at group_at (both_at provider_at (both_at (number_at w32) (both_at phases_at proposal_at))))) bytes
 
 -- ---- TELL: the code of the refusal, and what belongs to it
 
@@ -89,14 +93,19 @@ why_data_text (why.ListFull places bytes) = u32_text places ++ u32_text bytes
 why_data_text (why.GroupFull n) = u32_text n
 why_data_text _ = []
 
+abbrev pub tell_of_parts : GroupIn × (ProviderId × (ℕ × Why)) → Body
+tell_of_parts x = body.Tell x.0.view x.0.name x.1.0 x.1.1.0 x.1.1.1
+
 unfoldable pub tell_at : List ℕ → Option (Body × List ℕ)
-tell_at bytes = made_at (λ x. body.Tell x.0.view x.0.name x.1.0 x.1.1.0 x.1.1.1) (both_at group_at (both_at provider_at (both_at (number_at w32) why_at))) bytes
+tell_at bytes = made_at tell_of_parts (both_at group_at (both_at provider_at (both_at (number_at w32) why_at))) bytes
 
 -- ---- ENTRY
 
+abbrev pub entry_of_parts : GroupIn × (ℕ × (ℕ × Entry)) → Body
+entry_of_parts x = body.Entry x.0.view x.0.name x.1.0 x.1.1.0 x.1.1.1
+
 unfoldable pub entry_at : List ℕ → Option (Body × List ℕ)
-entry_at bytes =
-    made_at (λ x. body.Entry x.0.view x.0.name x.1.0 x.1.1.0 x.1.1.1) (both_at group_at (both_at (number_at w32) (both_at (number_at w32) entry_front_at))) bytes
+entry_at bytes = made_at entry_of_parts (both_at group_at (both_at (number_at w32) (both_at (number_at w32) entry_front_at))) bytes
 
 -- ---- VOTE
 
@@ -108,10 +117,13 @@ vote_number vote.Reject = 3
 abbrev pub vote_of : ℕ → Option Vote
 vote_of n = if n == 1 then Some vote.Approve else if n == 2 then Some vote.Continue else if n == 3 then Some vote.Reject else None
 
+abbrev pub vote_of_parts : GroupIn × (ProtoId × (ℕ × (ProviderId × (Vote × (Option (List ℕ) × Option (List ℕ)))))) → Body
+vote_of_parts x = body.Vote x.0.view x.0.name x.1.0 x.1.1.0 x.1.1.1.0 x.1.1.1.1.0 x.1.1.1.1.1.0 x.1.1.1.1.1.1
+
 unfoldable pub vote_at : List ℕ → Option (Body × List ℕ)
 vote_at bytes =
     made_at
-    (λ x. body.Vote x.0.view x.0.name x.1.0 x.1.1.0 x.1.1.1.0 x.1.1.1.1.0 x.1.1.1.1.1.0 x.1.1.1.1.1.1)
+    vote_of_parts
     (both_at group_at (both_at proto_at (both_at (number_at w16) (both_at provider_at (both_at (decoded_at vote_of (number_at w8)) (both_at (optional_at bytes_at) (optional_at bytes_at)))))))
     bytes
 
