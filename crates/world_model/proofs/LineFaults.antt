@@ -55,4 +55,3 @@ is_a_packet_lines = refl
 pub boxed_client_lines : faults (codes "mode fixed\nnode 1\nnode 2\nbegin\nclient 1 a boxed\n" ∷ []) ≡ at 5 (codes "boxed client") ∷ []
 unfolding all_opens
 boxed_client_lines = refl
-

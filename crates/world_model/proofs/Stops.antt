@@ -30,4 +30,3 @@ leader_stops = refl
 pub coordinator_stops : map (shown (codes "stop 1\nask 2 2 3\nflow\nshow 2 hagsgr\nshow 3 hagsgr\n")) none_to_five ≡ codes "show 2 hagsgr db leader=2 len=1 members=2.1.1.1,3.1.1.1 value=\nshow 3 hagsgr db leader=2 len=1 members=2.1.1.1,3.1.1.1 value=\n" ∷ codes "show 2 hagsgr db leader=2 len=0 members=2.1.1.1,3.1.1.1 value=\nshow 3 hagsgr db leader=2 len=0 members=2.1.1.1,3.1.1.1 value=\n" ∷ codes "show 2 hagsgr db leader=2 len=0 members=2.1.1.1,3.1.1.1 value=\nshow 3 hagsgr db leader=2 len=0 members=2.1.1.1,3.1.1.1 value=\n" ∷ codes "show 2 hagsgr db leader=2 len=0 members=2.1.1.1,3.1.1.1 value=\nshow 3 hagsgr db leader=2 len=0 members=2.1.1.1,3.1.1.1 value=\n" ∷ codes "show 2 hagsgr db leader=2 len=0 members=2.1.1.1,3.1.1.1 value=\nshow 3 hagsgr db leader=2 len=0 members=2.1.1.1,3.1.1.1 value=\n" ∷ codes "show 2 hagsgr db leader=2 len=0 members=2.1.1.1,3.1.1.1 value=\nshow 3 hagsgr db leader=2 len=0 members=2.1.1.1,3.1.1.1 value=\n" ∷ []
 unfolding all_opens
 coordinator_stops = refl
-
