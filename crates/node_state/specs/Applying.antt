@@ -1,5 +1,5 @@
 -- Entering a view.
-use Rattle.std.specs.Prelude.{ℕ, Bool, true, false, not, ◌==◌, ◌&&◌, ◌++◌, List, [], ◌∷◌, map, filter, fold, flat_map, Option, Some, None, is_some}
+use Rattle.std.specs.Prelude.{ℕ, Bool, true, false, not, ◌==◌, ◌&&◌, List, [], ◌∷◌, map, filter, fold, flat_map, Option, Some, None, is_some}
 use Rattle.std.specs.Str.{bytes_eq}
 use Rattle.rsct_packet.specs.declared.ids.ProviderId.{ProviderId}
 use Rattle.rsct_packet.specs.declared.ids.ViewId.{ViewId}
@@ -40,7 +40,7 @@ use Rattle.node_state.specs.declared.state.Core.{Core}
 use Rattle.node_state.specs.Settings.{view_level}
 use Rattle.node_state.specs.State.{nothing_led, list_of, state_of, held_rows, led_groups, recorded, recorded_all, with_sessions}
 use Rattle.node_state.specs.Sending.{sent, requests_sent, votes_sent_again}
-use Rattle.node_state.specs.HandOn.{Answering, client_name, note_of}
+use Rattle.node_state.specs.HandOn.{Answering, subscriber_name, note_of}
 use Rattle.node_state.specs.Leading.{put_and_handed, with_waiting, tally_opened, closes}
 
 unfoldable pub part_of_list : GroupRow → GroupView → Part
@@ -129,7 +129,7 @@ base_note s u (Some b) = note_of s b.name None b.state u ∷ []
 unfoldable pub entering_note : Core → List Base → Subscription → List Happened
 entering_note s bs u =
     elim (bytes_eq u.group host_membership) [
-      | true ↦ happened.Noted s.views.me (client_name s.sessions u.client) s.views.view None (told.Hosts s.views.view s.views.members) ∷ []
+      | true ↦ happened.Noted s.views.me (subscriber_name s.sessions u) s.views.view None (told.Hosts s.views.view s.views.members) ∷ []
       | false ↦ base_note s u (base_named bs u.group)
     ]
 

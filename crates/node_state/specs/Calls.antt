@@ -1,21 +1,15 @@
 -- The calls of clients, at their node.
-use Rattle.std.specs.Prelude.{ℕ, Bool, true, false, not, ◌==◌, List, [], ◌∷◌, map, filter, find, fold, Option, Some, None, Result, Ok, Err}
-use Rattle.std.specs.Option.{unwrap_or, option_map}
+use Rattle.std.specs.Prelude.{ℕ, Bool, true, false, List, filter, fold, Option, Some, None, Result, Ok, Err}
 use Rattle.std.specs.List.{last_or}
-use Rattle.rsct_packet.specs.declared.ids.ProviderId.{ProviderId}
-use Rattle.subscribe_core.specs.declared.subs.ClientToken.{ClientToken}
 use Rattle.subscribe_core.specs.declared.subs.SubToken.{SubToken}
-use Rattle.subscribe_core.specs.declared.subs.Subscription.{Subscription}
-use Rattle.subscribe_core.specs.Subs.{is_of_client, is_of_group}
 use Rattle.client_callbacks.specs.declared.ballot.Filled.{Filled}
 use Rattle.session_state.specs.declared.fault.GsFault.{GsFault}
 use Rattle.session_state.specs.declared.state.MemberToken.{MemberToken}
 use Rattle.session_state.specs.declared.state.Provider.{Provider}
-use Rattle.session_state.specs.declared.state.Session.{Session}
 use Rattle.session_state.specs.declared.state.Request.{Request}
 use Rattle.session_state.specs.declared.state.KeptBallot.{KeptBallot}
 use Rattle.session_state.specs.declared.state.SessionState.{SessionState}
-use Rattle.session_state.specs.State.{is_named, is_in_group, is_client_of}
+use Rattle.session_state.specs.State.{is_client_of, client_token, member_token, sub_token}
 use Rattle.session_state.specs.Calls.{inited, joined, left, expelled, state_changed, message_sent, attributes_changed, voted, subscribe_taken, unsubscribe_taken, goodbye_taken}
 use Rattle.node_state.specs.declared.call.CallLine.{CallLine}
 use Rattle.node_state.specs.declared.call.CallLine.TheVariants as call
@@ -25,21 +19,15 @@ use Rattle.node_state.specs.declared.state.Core.{Core}
 use Rattle.node_state.specs.State.{holds, frozen, leader_of, recorded, with_sessions}
 use Rattle.node_state.specs.Sending.{sent_if_known, request_sent, kept_sent}
 
--- ---- the tokens that a call means: those of live clients, providers and subscriptions, and else 0
+-- ---- who calls: the live client, provider or subscription of the names, whose token is 0 where there is none
 
-unfoldable pub client_token : SessionState → List ℕ → ClientToken
-client_token s client = record { n = unwrap_or (option_map (λ (x : Session). x.token.n) (find (is_named client) s.sessions)) 0 }
+unfoldable pub caller : SessionState → List ℕ → List ℕ → MemberToken
+caller s client g = member_token s (client_token s client) g
 
-unfoldable pub member_token : SessionState → List ℕ → List ℕ → MemberToken
-member_token s client g = record { n = unwrap_or (option_map (λ (x : Provider). x.p.join) (find (is_in_group (client_token s client) g) s.providers)) 0 }
+unfoldable pub subscriber : SessionState → List ℕ → List ℕ → SubToken
+subscriber s client g = sub_token s (client_token s client) g
 
-unfoldable pub is_sub_of : ClientToken → List ℕ → Subscription → Bool
-is_sub_of t g u = elim (is_of_client t u) [ true ↦ is_of_group g u | false ↦ false ]
-
-unfoldable pub sub_token : SessionState → List ℕ → List ℕ → SubToken
-sub_token s client g = record { n = unwrap_or (option_map (λ (u : Subscription). u.token.n) (find (is_sub_of (client_token s client) g) s.subs.live)) 0 }
-
--- who calls
+-- the name of the client
 unfoldable pub caller_of : CallLine → List ℕ
 caller_of (call.Init node name votes) = name
 caller_of (call.Join client g instance attrs) = client
@@ -104,18 +92,18 @@ goodbye_said s client ended (Err fault) = call_refused s client fault
 unfoldable pub call_row : Core → CallLine → Core
 call_row s (call.Init node name votes) = changed s name (inited s.sessions name)
 call_row s (call.Join client g instance attrs) = proposed s client (joined s.sessions (client_token s.sessions client) g instance attrs)
-call_row s (call.Leave client g phases) = proposed s client (left s.sessions (member_token s.sessions client g) phases)
-call_row s (call.Expel client g phases out) = proposed s client (expelled s.sessions (member_token s.sessions client g) phases out)
-call_row s (call.ChangeState client g phases value) = proposed s client (state_changed s.sessions (member_token s.sessions client g) phases value)
-call_row s (call.SendMessage client g phases bytes) = proposed s client (message_sent s.sessions (member_token s.sessions client g) phases bytes)
-call_row s (call.ChangeAttributes client g phases attrs) = proposed s client (attributes_changed s.sessions (member_token s.sessions client g) phases attrs)
-call_row s (call.Vote client g v value) = ballot_given s client (voted s.sessions (member_token s.sessions client g) v value)
+call_row s (call.Leave client g phases) = proposed s client (left s.sessions (caller s.sessions client g) phases)
+call_row s (call.Expel client g phases out) = proposed s client (expelled s.sessions (caller s.sessions client g) phases out)
+call_row s (call.ChangeState client g phases value) = proposed s client (state_changed s.sessions (caller s.sessions client g) phases value)
+call_row s (call.SendMessage client g phases bytes) = proposed s client (message_sent s.sessions (caller s.sessions client g) phases bytes)
+call_row s (call.ChangeAttributes client g phases attrs) = proposed s client (attributes_changed s.sessions (caller s.sessions client g) phases attrs)
+call_row s (call.Vote client g v value) = ballot_given s client (voted s.sessions (caller s.sessions client g) v value)
 call_row s (call.Subscribe client g) = changed s client (subscribe_taken s.sessions (client_token s.sessions client) g (holds s g))
-call_row s (call.Unsubscribe client g) = changed s client (unsubscribe_taken s.sessions (client_token s.sessions client) (sub_token s.sessions client g))
+call_row s (call.Unsubscribe client g) = changed s client (unsubscribe_taken s.sessions (client_token s.sessions client) (subscriber s.sessions client g))
 call_row s (call.Goodbye client) =
     goodbye_said s client (filter (is_client_of (client_token s.sessions client)) s.sessions.providers) (goodbye_taken s.sessions (client_token s.sessions client))
 
 -- opens each word of this file, for a computation
 unfoldable pub node_calls_opens : Unit {0}
-unfolding client_token member_token is_sub_of sub_token caller_of call_refused changed last_asked proposed ballot_recorded ballot_sent_if last_cast ballot_given gone_sent all_gone_sent goodbye_said call_row
+unfolding caller subscriber caller_of call_refused changed last_asked proposed ballot_recorded ballot_sent_if last_cast ballot_given gone_sent all_gone_sent goodbye_said call_row
 node_calls_opens = tt

@@ -1,5 +1,5 @@
 -- The end of every step: what waits begins.
-use Rattle.std.specs.Prelude.{ℕ, zero, suc, Bool, true, false, not, ◌&&◌, ◌*◌, List, [], ◌∷◌, filter, find, fold, take, length, Option, Some, None, is_none, if◌then◌else◌}
+use Rattle.std.specs.Prelude.{ℕ, zero, suc, Bool, true, false, not, ◌&&◌, ◌*◌, List, [], ◌∷◌, filter, find, fold, length, Option, Some, None, is_none}
 use Rattle.std.specs.Option.{option_map}
 use Rattle.rsct_packet.specs.declared.ids.ProviderId.{ProviderId}
 use Rattle.rsct_packet.specs.Lists.{is_empty}
@@ -10,7 +10,7 @@ use Rattle.group_entry.specs.declared.proposal.Proposal.TheVariants.{Join, Fail,
 use Rattle.proposal_core.specs.declared.group_state.GroupState.{GroupState}
 use Rattle.proposal_core.specs.Lists.{max_places, list_or_new, is_at_limit}
 use Rattle.proposal_core.specs.GroupView.{GroupView}
-use Rattle.batch_rules.specs.Waiting.{WaitingView, batches_failures, chosen_of, next_failures, failures_left, next_joins, joins_left}
+use Rattle.batch_rules.specs.Waiting.{batches_failures, chosen_of, next_failures, failures_left, next_joins, joins_left}
 use Rattle.source_target.specs.declared.Due.{Due}
 use Rattle.source_target.specs.declared.Due.TheVariants as due
 use Rattle.source_target.specs.Due as target

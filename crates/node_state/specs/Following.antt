@@ -20,7 +20,7 @@ use Rattle.client_callbacks.specs.declared.told.Why.{Why}
 use Rattle.client_callbacks.specs.declared.told.Why.TheVariants.{GroupsFull}
 use Rattle.session_state.specs.declared.state.Request.{Request}
 use Rattle.session_state.specs.State.{outstanding}
-use Rattle.session_state.specs.HandOn.{is_numbered, telling_taken, takes_telling}
+use Rattle.session_state.specs.HandOn.{is_numbered, telling_taken}
 use Rattle.node_state.specs.declared.group.Decision.{Decision}
 use Rattle.node_state.specs.declared.group.Given.{Given}
 use Rattle.node_state.specs.declared.group.Led.{Led}

@@ -1,19 +1,18 @@
 -- Handing an entry on to the clients of a node.
-use Rattle.std.specs.Prelude.{ℕ, Bool, true, false, ◌+◌, ◌++◌, List, [], ◌∷◌, map, filter, fold, length, Option, Some, None, flat_map, find}
+use Rattle.std.specs.Prelude.{ℕ, Bool, true, false, ◌+◌, List, [], ◌∷◌, map, filter, fold, length, Option, Some, None, flat_map}
+use Rattle.std.specs.Option.{unwrap_or}
 use Rattle.rsct_packet.specs.declared.ids.ProviderId.{ProviderId}
 use Rattle.rsct_packet.specs.declared.ids.ProtoId.{ProtoId}
 use Rattle.group_entry.specs.declared.entry.Entry.{Entry}
 use Rattle.proposal_core.specs.declared.group_state.GroupState.{GroupState}
-use Rattle.subscribe_core.specs.declared.subs.ClientToken.{ClientToken}
 use Rattle.subscribe_core.specs.declared.subs.Subscription.{Subscription}
 use Rattle.subscribe_core.specs.Subs.{is_of_group, differs}
 use Rattle.client_callbacks.specs.declared.ballot.Filled.{Filled}
 use Rattle.client_callbacks.specs.declared.told.Told.TheVariants as told
 use Rattle.client_callbacks.specs.Ballots.{BallotView}
 use Rattle.session_state.specs.declared.casts.Cast.{Cast}
-use Rattle.session_state.specs.declared.state.Session.{Session}
 use Rattle.session_state.specs.declared.state.SessionState.{SessionState}
-use Rattle.session_state.specs.State.{is_session}
+use Rattle.session_state.specs.State.{client_name}
 use Rattle.session_state.specs.HandOn.{asks, hearers, casts_out}
 use Rattle.session_state.specs.HandOn as session
 use Rattle.node_state.specs.declared.happened.Happened.{Happened}
@@ -54,16 +53,12 @@ cast_records p (Some c) = cast_record p c.0 c.1 (c.2).filled
 unfoldable pub heard : Core → List ℕ → ℕ → Entry → GroupState → Cast → List Happened
 heard s g i e after c = happened.Heard c.p s.views.view g i e after.members after.value ∷ cast_records c.p c.cast
 
-unfoldable pub name_of : Option Session → List ℕ
-name_of None = []
-name_of (Some x) = x.name
-
--- the name of a client
-unfoldable pub client_name : SessionState → ClientToken → List ℕ
-client_name s t = name_of (find (is_session t) s.sessions)
+-- the name of a subscription's client, which is live
+unfoldable pub subscriber_name : SessionState → Subscription → List ℕ
+subscriber_name s u = unwrap_or (client_name s u.client) []
 
 unfoldable pub note_of : Core → List ℕ → Option ℕ → GroupState → Subscription → Happened
-note_of s g place st u = happened.Noted s.views.me (client_name s.sessions u.client) s.views.view place (told.Note g st.members st.value)
+note_of s g place st u = happened.Noted s.views.me (subscriber_name s.sessions u) s.views.view place (told.Note g st.members st.value)
 
 unfoldable pub notes : Core → List ℕ → Option ℕ → GroupState → Core
 notes s g place st = recorded_all s (map (note_of s g place st) (filter (is_of_group g) s.sessions.subs.live))
@@ -94,5 +89,5 @@ handed_on f s to g i before after e =
 
 -- opens each word of this file, for a computation
 unfoldable pub handing_opens : Unit {0}
-unfolding answer_if records_of_notice fills cast_record cast_records heard name_of client_name note_of notes noted ballot_sent cast_sent_of casts_sent handed_on
+unfolding answer_if records_of_notice fills cast_record cast_records heard subscriber_name note_of notes noted ballot_sent cast_sent_of casts_sent handed_on
 handing_opens = tt

@@ -1,7 +1,6 @@
 -- What a node sends.
 use Rattle.std.specs.Prelude.{ℕ, Bool, true, false, ◌==◌, ◌&&◌, ◌++◌, List, [], ◌∷◌, fold, find, Option, Some, None}
 use Rattle.std.specs.Option.{unwrap_or, option_map}
-use Rattle.rsct_packet.specs.declared.mask.Mask.{Mask}
 use Rattle.rsct_packet.specs.declared.ids.ProtoId.{ProtoId}
 use Rattle.rsct_packet.specs.declared.ids.ProviderId.{ProviderId}
 use Rattle.rsct_packet.specs.Mask.{has_node}
@@ -9,7 +8,6 @@ use Rattle.group_entry.specs.declared.entry.Vote.{Vote}
 use Rattle.proposal_core.specs.Fold.{runs}
 use Rattle.adapter_ring.specs.declared.ring.Ring.{Ring}
 use Rattle.client_callbacks.specs.declared.ballot.Filled.{Filled}
-use Rattle.client_callbacks.specs.Ballots.{BallotView}
 use Rattle.session_state.specs.declared.state.Request.{Request}
 use Rattle.session_state.specs.declared.state.KeptBallot.{KeptBallot}
 use Rattle.node_state.specs.declared.packet.Body.{Body}

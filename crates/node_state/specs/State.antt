@@ -1,6 +1,5 @@
 -- A node at work: words on its state.
-use Rattle.std.specs.Prelude.{ℕ, Bool, true, false, not, ◌==◌, List, [], ◌∷◌, ◌++◌, map, filter, find, max, min, Option, Some, None, is_some}
-use Rattle.std.specs.Option.{unwrap_or, option_map}
+use Rattle.std.specs.Prelude.{ℕ, Bool, true, false, ◌==◌, List, [], ◌∷◌, ◌++◌, map, filter, find, max, min, Option, Some, None, is_some}
 use Rattle.std.specs.List.{fold}
 use Rattle.std.specs.Str.{bytes_eq}
 use Rattle.rsct_packet.specs.declared.ids.ProviderId.{ProviderId}
@@ -10,7 +9,7 @@ use Rattle.rsct_packet.specs.Text.{name_lt}
 use Rattle.group_entry.specs.declared.entry.Entry.{Entry}
 use Rattle.proposal_core.specs.declared.group_state.GroupState.{GroupState}
 use Rattle.proposal_core.specs.GroupView.{GroupView}
-use Rattle.proposal_core.specs.Lists.{list_or_new, state_in, len_in, bytes_in, is_at_limit, entry_fits, forgotten}
+use Rattle.proposal_core.specs.Lists.{list_or_new, len_in, entry_fits, forgotten}
 use Rattle.batch_rules.specs.Waiting.{nothing_waits}
 use Rattle.session_state.specs.declared.state.SessionState.{SessionState}
 use Rattle.view_core.specs.Views.{is_frozen, is_coordinator, others_of}

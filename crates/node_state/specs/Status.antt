@@ -8,8 +8,8 @@ use Rattle.adapter_ring.specs.declared.ring.Ring.{Ring}
 use Rattle.adapter_ring.specs.Rings.{neighbour}
 use Rattle.vote_phases.specs.Tally.{TallyView, open_voters}
 use Rattle.node_state.specs.declared.group.GroupRow.{GroupRow}
-use Rattle.node_state.specs.declared.packet.What.{What}
-use Rattle.node_state.specs.declared.packet.What.TheVariants.{Hats, Hagsns, Hagsgr, Hagsvote}
+use Rattle.packet_bodies.specs.declared.body.What.{What}
+use Rattle.packet_bodies.specs.declared.body.What.TheVariants.{Hats, Hagsns, Hagsgr, Hagsvote}
 use Rattle.node_state.specs.declared.state.Core.{Core}
 use Rattle.node_state.specs.State.{held_rows, frozen, leader_in, leads_in}
 use Rattle.node_state.specs.Wording.{word, view_text, ring_text, proto_text, nodes_text, members_text, providers_text, escaped, kind_text}

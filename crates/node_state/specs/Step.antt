@@ -1,11 +1,11 @@
 -- The step of a node.
-use Rattle.std.specs.Prelude.{ℕ, Bool, true, false, not, ◌==◌, ◌&&◌, ◌||◌, ◌++◌, List, [], ◌∷◌, map, find, Option, None}
+use Rattle.std.specs.Prelude.{ℕ, Bool, true, false, not, ◌==◌, ◌&&◌, ◌||◌, ◌++◌, List, [], ◌∷◌, map}
 use Rattle.std.specs.Option.{unwrap_or}
 use Rattle.rsct_packet.specs.declared.mask.Mask.{Mask}
 use Rattle.rsct_packet.specs.declared.ids.ViewId.{ViewId}
 use Rattle.rsct_packet.specs.declared.ids.Member.{Member}
 use Rattle.rsct_packet.specs.Ids.{same_view, is_member}
-use Rattle.rsct_packet.specs.Mask.{has_node, nodes_of, node_numbers}
+use Rattle.rsct_packet.specs.Mask.{nodes_of}
 use Rattle.adapter_ring.specs.declared.ring.Ring.{Ring}
 use Rattle.adapter_ring.specs.Rings.{ring_new, neighbour}
 use Rattle.node_reach.specs.Reach.{reach_new}
@@ -23,8 +23,8 @@ use Rattle.node_state.specs.declared.packet.Body.{Body}
 use Rattle.node_state.specs.declared.packet.Body.TheVariants as body
 use Rattle.node_state.specs.declared.packet.Packet.{Packet}
 use Rattle.node_state.specs.declared.state.Core.{Core}
-use Rattle.node_state.specs.Settings.{is_fixed, least_node, networks_of, addresses_on, view_level}
-use Rattle.node_state.specs.State.{frozen, with_sessions, recorded}
+use Rattle.node_state.specs.Settings.{is_fixed, least_node, networks_of, addresses_on}
+use Rattle.node_state.specs.State.{frozen, with_sessions}
 use Rattle.node_state.specs.Sending.{sent_on}
 use Rattle.node_state.specs.HandOn.{Answering}
 use Rattle.node_state.specs.Following.{lookup_row, name_row, request_row, tell_row, entry_row, ack_row, vote_row, gone_row}

@@ -6,7 +6,7 @@ use Rattle.rsct_packet.specs.declared.mask.Mask.{Mask}
 use Rattle.rsct_packet.specs.declared.ids.ProviderId.{ProviderId}
 use Rattle.rsct_packet.specs.declared.ids.Member.{Member}
 use Rattle.rsct_packet.specs.Ids.{same_member}
-use Rattle.rsct_packet.specs.Mask.{no_nodes, has_node, union_of, nodes_of, node_numbers}
+use Rattle.rsct_packet.specs.Mask.{no_nodes, union_of, nodes_of, node_numbers}
 use Rattle.group_entry.specs.declared.entry.Entry.{Entry}
 use Rattle.group_entry.specs.declared.entry.Entry.TheVariants.{Late}
 use Rattle.proposal_core.specs.declared.group_state.Running.{Running}
@@ -30,7 +30,7 @@ use Rattle.view_core.specs.Views.{views_at_work, gathering_ticks, install_again}
 use Rattle.node_state.specs.declared.group.GroupRow.{GroupRow}
 use Rattle.node_state.specs.declared.happened.Happened.{Happened}
 use Rattle.node_state.specs.declared.happened.Happened.TheVariants as happened
-use Rattle.node_state.specs.declared.packet.ReportRow.{ReportRow}
+use Rattle.packet_bodies.specs.declared.body.ReportRow.{ReportRow}
 use Rattle.node_state.specs.declared.packet.Body.TheVariants as body
 use Rattle.node_state.specs.declared.state.Core.{Core}
 use Rattle.node_state.specs.Settings.{is_rings, least_node}
@@ -66,16 +66,19 @@ ring_row_of s from inc p (Some r) = ring_taken s (ring_stepped r (ring_event.Pac
 unfoldable pub ring_row : Core → ℕ → ℕ → ℕ → RingPacket → Core
 ring_row s network from inc p = ring_row_of s from inc p (find (λ (r : Ring). r.net == network) s.rings)
 
+unfoldable pub row_reported : Reach → ReportRow → Reach
+row_reported r x = reach.reported r x.node (record { inc = x.inc; seq = x.seq; mask = x.mask })
+
 -- REPORT: each row is taken
 unfoldable pub report_row : Core → List ReportRow → Core
-report_row s rows = record s { reach = fold (λ r (x : ReportRow). reach.reported r x.node x.row) s.reach rows }
+report_row s rows = record s { reach = fold row_reported s.reach rows }
 
 unfoldable pub rings_union : List Ring → Mask
 rings_union rs = fold (λ m (r : Ring). union_of m r.members) no_nodes rs
 
 unfoldable pub row_listed : ℕ → Option ReachRow → List ReportRow
 row_listed n None = []
-row_listed n (Some row) = record { node = n; row = row } ∷ []
+row_listed n (Some row) = record { node = n; inc = row.inc; seq = row.seq; mask = row.mask } ∷ []
 
 -- all kept rows, nodes ascending
 unfoldable pub report_of : Reach → List ReportRow
@@ -187,5 +190,5 @@ tick_row f s = step_ended f (led_part f (owed_part (views_part f (rings_part s))
 
 -- opens each word of this file, for a computation
 unfoldable pub ticks_opens : Unit {0}
-unfolding ring_put set_records ring_taken ring_row_of ring_row report_row rings_union row_listed report_of report_sent rings_tick rings_part reached is_long is_due ring_ask_for ring_ask views_part is_lost lost_told owed_part late_appended announced tally_ticks entries_sent list_sent_again sent_again group_ticks led_part tick_row
+unfolding ring_put set_records ring_taken ring_row_of ring_row row_reported report_row rings_union row_listed report_of report_sent rings_tick rings_part reached is_long is_due ring_ask_for ring_ask views_part is_lost lost_told owed_part late_appended announced tally_ticks entries_sent list_sent_again sent_again group_ticks led_part tick_row
 ticks_opens = tt

@@ -13,5 +13,6 @@ pub use call::CallLine;
 pub use config::{Config, Mode};
 pub use group::{Acked, Decision, Given, GroupRow, Groups, JoinAttrs, Led};
 pub use happened::{Happened, Records};
-pub use packet::{Body, Packet, Packets, Report, ReportRow, What};
+pub use packet::{Body, Packet, Packets, Report};
+pub use packet_bodies::{ReportRow, What};
 pub use state::{Core, Rings};

@@ -2,26 +2,10 @@
 use adapter_ring::RingPacket;
 use client_callbacks::Why;
 use group_attr::Phases;
-use node_reach::ReachRow;
+use packet_bodies::{ReportRow, What};
 use proposal_core::{Entry, Proposal, Vote};
 use rsct_packet::{List, Name, ProtoId, ProviderId, Text, ViewId};
 use view_core::ViewPacket;
-
-/// What a status asks for: the rings, the view, the groups, or the votes.
-#[derive(Clone, Copy, Debug, PartialEq, Eq)]
-pub enum What {
-    Hats,
-    Hagsns,
-    Hagsgr,
-    Hagsvote,
-}
-
-/// A row of a report: what this node reported last, as the sender knows it.
-#[derive(Clone, Copy, Debug, PartialEq, Eq)]
-pub struct ReportRow {
-    pub node: u8,
-    pub row: ReachRow,
-}
 
 /// Rows with nodes ascending.
 pub type Report = List<ReportRow>;

@@ -19,7 +19,7 @@ use Rattle.proposal_core.specs.Fold.{fold_opens, empty_state}
 use Rattle.node_state.specs.declared.happened.Happened.{Happened}
 use Rattle.node_state.specs.declared.packet.Packet.{Packet}
 use Rattle.node_state.specs.declared.packet.Body.TheVariants as body
-use Rattle.node_state.specs.declared.packet.What.TheVariants.{Hagsgr}
+use Rattle.packet_bodies.specs.declared.body.What.TheVariants.{Hagsgr}
 use Rattle.node_core.specs.declared.groups.GroupRow.{GroupRow}
 use Rattle.node_core.specs.declared.state.Core.{Core}
 use Rattle.node_core.specs.declared.state.Local.{Local}

@@ -1,6 +1,8 @@
+mod LineFaults
 mod Nodes
 mod Queue
 mod RingsAndSources
+mod Stops
 mod Views
 mod Votes
 mod WalksAsked

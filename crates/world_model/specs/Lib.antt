@@ -7,6 +7,7 @@ pub mod Lines
 pub mod Reading
 pub mod World
 pub mod Play
+pub mod Kept
 pub mod Opens
 pub mod Load
 pub mod Samples

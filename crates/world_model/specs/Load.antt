@@ -1,5 +1,5 @@
 -- The generated script of a load, as its lines, and the summary of what comes of it.
-use Rattle.std.specs.Prelude.{ℕ, zero, suc, Bool, true, false, ◌==◌, ◌+◌, ◌*◌, ◌/◌, ◌%◌, ◌^◌, ◌++◌, List, [], ◌∷◌, map, fold, length, filter, None, nat_lt, codes, decimal, flat_map}
+use Rattle.std.specs.Prelude.{ℕ, zero, suc, Bool, true, false, ◌==◌, ◌+◌, ◌*◌, ◌/◌, ◌%◌, ◌^◌, ◌++◌, List, [], ◌∷◌, map, fold, length, filter, nat_lt, codes, decimal, flat_map}
 use Rattle.rsct_packet.specs.Mask.{no_nodes, with_node, without_node}
 use Rattle.rsct_packet.specs.declared.mask.Mask.{Mask}
 use Rattle.group_attr.specs.Attrs.{empty_attrs}
@@ -8,7 +8,7 @@ use Rattle.node_state.specs.declared.call.CallLine.{CallLine}
 use Rattle.node_state.specs.declared.call.CallLine.TheVariants as call
 use Rattle.node_state.specs.declared.config.Config.{Config}
 use Rattle.node_state.specs.declared.config.Mode.{Mode}
-use Rattle.node_state.specs.declared.config.Mode.TheVariants.{Fixed, Asked}
+use Rattle.node_state.specs.declared.config.Mode.TheVariants.{Asked}
 use Rattle.node_state.specs.declared.happened.Happened.{Happened}
 use Rattle.node_state.specs.declared.happened.Happened.TheVariants.{In, Put, Heard, Told}
 use Rattle.world_model.specs.declared.event.Event.TheVariants as event

@@ -1,10 +1,10 @@
 -- The world of one node, and the run of its script.
-use Rattle.std.specs.Prelude.{ℕ, zero, suc, Bool, true, false, ◌+◌, ◌++◌, List, [], ◌∷◌, length, map, flat_map, Option, Some, None, slice_get, codes, decimal}
+use Rattle.std.specs.Prelude.{ℕ, zero, suc, ◌+◌, ◌++◌, List, [], ◌∷◌, length, map, flat_map, Option, Some, None, slice_get, codes, decimal}
 use Rattle.group_attr.specs.Attrs.{empty_attrs}
 use Rattle.node_state.specs.declared.happened.Happened.{Happened}
 use Rattle.node_state.specs.declared.happened.Happened.TheVariants.{Shown}
 use Rattle.node_state.specs.declared.packet.Packet.{Packet}
-use Rattle.node_state.specs.declared.packet.What.TheVariants.{Hagsgr}
+use Rattle.packet_bodies.specs.declared.body.What.TheVariants.{Hagsgr}
 use Rattle.node_state.specs.Wording.{word, providers_text, escaped}
 use Rattle.node_core.specs.declared.groups.GroupRow.{GroupRow}
 use Rattle.node_core.specs.declared.state.Core.{Core}
@@ -19,7 +19,7 @@ use Rattle.world_model.specs.declared.one_node.OneNodeLine.{OneNodeLine}
 use Rattle.world_model.specs.declared.one_node.OneNodeLine.TheVariants as line
 use Rattle.world_model.specs.declared.one_node.OneNodeScript.{OneNodeScript}
 use Rattle.world_model.specs.declared.one_node.OneNodeWorld.{OneNodeWorld}
-use Rattle.world_model.specs.Run.{Run, Happening, trace_of}
+use Rattle.world_model.specs.Run.{Run, trace_of}
 use Rattle.world_model.specs.Text.{line_of}
 
 -- ---- what is written

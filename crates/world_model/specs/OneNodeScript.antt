@@ -1,6 +1,6 @@
 -- The grammar of a script of one node: nothing, or the lines `mode fixed`, `node 1` and `begin`, and then at most
 -- 4,000 lines of at most one `client 1 NAME A`, of `join NAME GROUP INSTANCE`, `flow` and `show 1 hagsgr`.
-use Rattle.std.specs.Prelude.{◌≡◌, ℕ, Bool, true, false, not, ◌==◌, ◌&&◌, ◌||◌, ◌++◌, nat_le, nat_lt, List, [], ◌∷◌, length, codes, slice_get, Option, Some, None, is_some, Result, Ok, Err, if◌then◌else◌}
+use Rattle.std.specs.Prelude.{ℕ, Bool, true, false, not, ◌==◌, ◌&&◌, ◌||◌, ◌++◌, nat_le, nat_lt, List, [], ◌∷◌, length, codes, slice_get, Option, Some, None, is_some, if◌then◌else◌}
 use Rattle.std.specs.List.{list_any, list_all}
 use Rattle.std.specs.Str.{bytes_eq}
 use Rattle.rsct_packet.specs.Text.{name_byte, is_name_of}

@@ -1,5 +1,5 @@
 -- What the lines of a script make of a world, and what is written of it.
-use Rattle.std.specs.Prelude.{ℕ, zero, suc, Bool, true, false, not, ◌==◌, ◌&&◌, ◌++◌, List, [], ◌∷◌, map, filter, fold, flat_map, max, min, Option, Some, None, codes, decimal}
+use Rattle.std.specs.Prelude.{ℕ, zero, suc, Bool, true, false, not, ◌==◌, ◌&&◌, ◌++◌, List, [], ◌∷◌, map, filter, fold, flat_map, max, min, Option, Some, None, is_some, codes, decimal}
 use Rattle.std.specs.List.{list_any}
 use Rattle.std.specs.Str.{bytes_eq}
 use Rattle.rsct_packet.specs.Lists.{is_empty, reverse_onto}
@@ -8,7 +8,8 @@ use Rattle.node_state.specs.declared.happened.Happened.{Happened}
 use Rattle.node_state.specs.declared.happened.Happened.TheVariants as happened
 use Rattle.node_state.specs.declared.packet.Packet.{Packet}
 use Rattle.node_state.specs.Settings.{networks}
-use Rattle.node_state.specs.Step.{Ticks, Given}
+use Rattle.world_model.specs.declared.event.Event.{Event}
+use Rattle.world_model.specs.declared.event.Event.TheVariants as event
 use Rattle.world_model.specs.declared.script.Line.{Line}
 use Rattle.world_model.specs.declared.script.Line.TheVariants as line
 use Rattle.world_model.specs.declared.script.LineWhy.{LineWhy}
@@ -17,7 +18,7 @@ use Rattle.world_model.specs.declared.script.Script.{Script}
 use Rattle.world_model.specs.Text.{line_of}
 use Rattle.world_model.specs.Words.{split_on}
 use Rattle.world_model.specs.Reading.{ScriptRead, IsScript, IsNone, script_of}
-use Rattle.world_model.specs.World.{Node, Sent, World, node_at, node_steps, steps, happens, world_new}
+use Rattle.world_model.specs.World.{Node, Sent, World, node_at, happens, world_new}
 
 -- two nodes that are cut off from each other on a network, the lesser one first
 pub record Cut : Type 0 where
@@ -25,10 +26,11 @@ pub record Cut : Type 0 where
   pub high : ℕ
   pub network : ℕ
 
--- a world that a script is played in, and its cuts
+-- a world that a script is played in, its cuts, and the plain events that its lines stand for so far, newest first
 pub record Played : Type 0 where
   pub world : World
   pub cuts : List Cut
+  pub events : List Event
 
 unfoldable pub is_cut_of : ℕ → ℕ → ℕ → Cut → Bool
 is_cut_of a b network c = c.low == min a b && c.high == max a b && c.network == network
@@ -51,46 +53,54 @@ with_cuts cuts a b ks = healed cuts a b ks ++ map (λ k. record { low = min a b;
 unfoldable pub drops : World → ℕ → ℕ → World
 drops w a b = record w { queue = filter (λ (x : Sent). not (x.packet.from == a && x.packet.to == b)) w.queue }
 
+unfoldable pub in_world : Played → World → Played
+in_world p w = record p { world = w }
+
+-- a plain event happens
+unfoldable pub with_event : Played → Event → Played
+with_event p e = record p { world = happens p.world e; events = e ∷ p.events }
+
 -- a packet that is taken is given, unless its receiver is down or it is cut off
-unfoldable pub flows_to : World → Packet → Option Node → Bool → World
-flows_to w p None cut = w
-flows_to w p (Some x) true = w
-flows_to w p (Some x) false = steps w (Given p) x
+unfoldable pub flows_to : Played → Sent → List Sent → Bool → Bool → Played
+flows_to p x rest false cut = in_world p (record (p.world) { queue = rest })
+flows_to p x rest true true = in_world p (record (p.world) { queue = rest })
+flows_to p x rest true false = with_event p (event.Deliver x.packet.from x.packet.to x.k)
 
 -- the earliest packet that is not handled, again and again, so often
-unfoldable pub flows : ℕ → List Cut → World → World
-flows zero cuts w = w
-flows (suc n) cuts w =
-    elim w.queue [
-      | [] ↦ w
-      | x ∷ xs ↦ flows n cuts (flows_to (record w { queue = xs }) x.packet (node_at w x.packet.to) (is_cut cuts x.packet))
+unfoldable pub flows : ℕ → Played → Played
+flows zero p = p
+flows (suc n) p =
+    elim p.world.queue [
+      | [] ↦ p
+      | x ∷ xs ↦ flows n (flows_to p x xs (is_some (node_at p.world x.packet.to)) (is_cut p.cuts x.packet))
     ]
 
 abbrev pub flow_limit : ℕ
 flow_limit = 100000
 
-unfoldable pub all_tick : World → World
-all_tick w = fold (λ v (x : Node). node_steps v x.core.views.me Ticks) w w.nodes
+unfoldable pub all_tick : Played → Played
+all_tick p = fold (λ q (x : Node). with_event q (event.Tick x.core.views.me)) p p.world.nodes
 
 -- a round: each node that is up ticks, ascending, and then all flows
-unfoldable pub rounds : ℕ → List Cut → World → World
-rounds zero cuts w = w
-rounds (suc n) cuts w = rounds n cuts (flows flow_limit cuts (all_tick w))
-
-unfoldable pub in_world : Played → World → Played
-in_world p w = record p { world = w }
+unfoldable pub rounds : ℕ → Played → Played
+rounds zero p = p
+rounds (suc n) p = rounds n (flows flow_limit (all_tick p))
 
 -- a line is played
 unfoldable pub plays : Played → Line → Played
-plays p (line.Plain e) = in_world p (happens p.world e)
+plays p (line.Plain e) = with_event p e
 plays p (line.Drop a b) = in_world p (drops p.world a b)
-plays p line.Flow = in_world p (flows flow_limit p.cuts p.world)
-plays p (line.Run k) = in_world p (rounds k p.cuts p.world)
+plays p line.Flow = flows flow_limit p
+plays p (line.Run k) = rounds k p
 plays p (line.Cut a b k) = record p { cuts = with_cuts p.cuts a b (networks_in k) }
 plays p (line.Heal a b k) = record p { cuts = healed p.cuts a b (networks_in k) }
 
 unfoldable pub played : Config → List Line → Played
-played c ls = fold plays (record { world = world_new c; cuts = [] }) ls
+played c ls = fold plays (record { world = world_new c; cuts = []; events = [] }) ls
+
+-- the plain events that a script's lines stand for, in order
+unfoldable pub events_of : Config → List Line → List Event
+events_of c ls = reverse_onto (played c ls).events []
 
 -- the records of a script's lines, in order
 unfoldable pub played_records : Config → List Line → List Happened
@@ -154,5 +164,5 @@ transcript kinds bytes = written (kinds_in kinds) (script_of bytes)
 
 -- opens each word of this file, for a computation
 unfoldable pub play_opens : Unit {0}
-unfolding is_cut_of is_cut networks_in healed with_cuts drops flows_to flows all_tick rounds in_world plays played played_records script_records kind_of is_shown lines_text why_text written kinds_in transcript
+unfolding is_cut_of is_cut networks_in healed with_cuts drops in_world with_event flows_to flows all_tick rounds plays played events_of played_records script_records kind_of is_shown lines_text why_text written kinds_in transcript
 play_opens = tt

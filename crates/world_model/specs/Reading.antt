@@ -7,13 +7,14 @@ use Rattle.rsct_packet.specs.Mask.{no_nodes, has_node, with_node, nodes_of, node
 use Rattle.node_state.specs.declared.config.Config.{Config}
 use Rattle.node_state.specs.declared.config.Mode.TheVariants.{Rings}
 use Rattle.node_state.specs.Settings.{is_fixed, is_rings, addresses_on, address_at, shared_network}
+use Rattle.node_state.specs.Bytes.{is_packet}
 use Rattle.world_model.specs.declared.event.Event.{Event}
-use Rattle.world_model.specs.declared.event.Event.TheVariants.{Start, Stop, Ask, Call}
+use Rattle.world_model.specs.declared.event.Event.TheVariants.{Start, Stop, Ask, Call, Garbage}
 use Rattle.node_state.specs.declared.call.CallLine.TheVariants.{Init}
 use Rattle.world_model.specs.declared.script.Line.{Line}
 use Rattle.world_model.specs.declared.script.Line.TheVariants.{Plain}
 use Rattle.world_model.specs.declared.script.LineWhy.{LineWhy}
-use Rattle.world_model.specs.declared.script.LineWhy.TheVariants.{Long, BadByte, UnknownWord, MissingWord, ExtraWord, BadWord, UnknownNode, UnknownClient, OutOfPlace, NoSharedNetwork, BoxedClient}
+use Rattle.world_model.specs.declared.script.LineWhy.TheVariants.{Long, BadByte, UnknownWord, MissingWord, ExtraWord, BadWord, UnknownNode, UnknownClient, OutOfPlace, NoSharedNetwork, IsAPacket, BoxedClient}
 use Rattle.world_model.specs.declared.script.Script.{Script}
 use Rattle.world_model.specs.Words.{split_on, chosen}
 use Rattle.world_model.specs.Lines.{Form, forms, Votes, Boxed, Scripted, Said, SaysMode, SaysNode, SaysAdapter, SaysHb, SaysPort, SaysLevel, SaysDomain, SaysBegin, SaysLine, SaysClient, SaysCall, said}
@@ -104,8 +105,14 @@ misplaced r (SaysCall client c) = not r.begun
 unfoldable pub all_share : Config → Bool
 all_share c = list_all (λ a. list_all (λ b. nat_lt 0 (shared_network c a b)) (nodes_of c.nodes)) (nodes_of c.nodes)
 
+-- garbage is no packet
+unfoldable pub packet_reason : Bool → Option LineWhy
+packet_reason true = Some IsAPacket
+packet_reason false = None
+
 unfoldable pub last_reason : Reading → Said → Option LineWhy
 last_reason r SaysBegin = elim (all_share (settled r)) [ true ↦ None | false ↦ Some NoSharedNetwork ]
+last_reason r (SaysLine ns (Plain (Garbage n bytes))) = packet_reason (is_packet bytes)
 last_reason r (SaysClient n name Boxed) = Some BoxedClient
 last_reason r _ = None
 
@@ -237,5 +244,5 @@ script_of bytes = read_from nothing_read 1 0 (split_on 10 bytes)
 
 -- opens each word of this file, for a computation
 unfoldable pub reading_opens : Unit {0}
-unfolding nothing_read plain_address settled_if settled nodes_said is_client is_known_client event_misplaced line_misplaced is_second_adapter misplaced all_share last_reason reason node_of_client with_line with_client with_config with_address taken taken_unless said_line is_extra counted_line formed_line skipped_line worded_line is_comment words_in is_bad_byte read_line finished read_from script_of
+unfolding nothing_read plain_address settled_if settled nodes_said is_client is_known_client event_misplaced line_misplaced is_second_adapter misplaced all_share packet_reason last_reason reason node_of_client with_line with_client with_config with_address taken taken_unless said_line is_extra counted_line formed_line skipped_line worded_line is_comment words_in is_bad_byte read_line finished read_from script_of
 reading_opens = tt

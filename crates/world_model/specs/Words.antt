@@ -17,8 +17,8 @@ use Rattle.group_attr.specs.Attrs.{empty_attrs}
 use Rattle.client_callbacks.specs.Votes.{hex_value}
 use Rattle.node_state.specs.declared.config.Mode.{Mode}
 use Rattle.node_state.specs.declared.config.Mode.TheVariants as mode
-use Rattle.node_state.specs.declared.packet.What.{What}
-use Rattle.node_state.specs.declared.packet.What.TheVariants as what
+use Rattle.packet_bodies.specs.declared.body.What.{What}
+use Rattle.packet_bodies.specs.declared.body.What.TheVariants as what
 
 infixl 10 ◌>>=◌
 unfoldable pub ◌>>=◌ : {X Y : Type 0} → Option X → (X → Option Y) → Option Y

@@ -1,5 +1,5 @@
 -- A world of nodes, and what plain events make of it.
-use Rattle.std.specs.Prelude.{ℕ, zero, suc, Bool, true, false, not, ◌==◌, ◌&&◌, ◌+◌, ◌-◌, ◌++◌, List, [], ◌∷◌, map, filter, find, fold, Option, Some, None, nat_lt, nat_le, slice_get}
+use Rattle.std.specs.Prelude.{ℕ, Bool, true, false, ◌==◌, ◌&&◌, ◌+◌, ◌-◌, ◌++◌, List, [], ◌∷◌, map, find, fold, Option, Some, None, nat_lt, nat_le, slice_get}
 use Rattle.std.specs.Option.{unwrap_or, option_map}
 use Rattle.rsct_packet.specs.Lists.{drop_where, reverse_onto}
 use Rattle.rsct_packet.specs.Ids.{last_u32}
@@ -26,7 +26,7 @@ use Rattle.node_state.specs.declared.config.Mode.TheVariants.{Fixed, Asked, Ring
 use Rattle.node_state.specs.declared.happened.Happened.{Happened}
 use Rattle.node_state.specs.declared.happened.Happened.TheVariants as happened
 use Rattle.node_state.specs.declared.packet.Packet.{Packet}
-use Rattle.node_state.specs.declared.packet.What.{What}
+use Rattle.packet_bodies.specs.declared.body.What.{What}
 use Rattle.node_state.specs.declared.state.Core.{Core}
 use Rattle.node_state.specs.Calls.{caller_of}
 use Rattle.node_state.specs.Status.{status_of}
@@ -74,13 +74,14 @@ pub record Started : Type 0 where
   pub node : ℕ
   pub inc : ℕ
 
--- nodes that are up, ascending; unhandled packets in the order of sending; records newest first
+-- nodes that are up, ascending; unhandled packets in the order of sending; all packets and records newest first
 pub record World : Type 0 where
   pub config : Config
   pub nodes : List Node
   pub starts : List Started
   pub pairs : List Pair
   pub queue : List Sent
+  pub sent : List Packet
   pub trace : List Happened
 
 unfoldable pub is_node : ℕ → Node → Bool
@@ -115,7 +116,11 @@ count_between w a b = count_in (find (is_pair a b) w.pairs)
 -- a packet is sent
 unfoldable pub posted : World → Packet → World
 posted w p =
-    record w { pairs = pairs_with p w.pairs; queue = w.queue ++ record { k = count_between w p.from p.to + 1; packet = p } ∷ [] }
+    record w {
+      pairs = pairs_with p w.pairs;
+      queue = w.queue ++ record { k = count_between w p.from p.to + 1; packet = p } ∷ [];
+      sent = p ∷ w.sent;
+    }
 
 unfoldable pub kth_in : ℕ → Option Pair → Option Packet
 kth_in k None = None
@@ -220,7 +225,7 @@ happens w (event.Deliver a b k) = delivers w a b k
 happens w (event.Garbage n bytes) = node_steps w n step.Garbage
 
 abbrev pub empty_world : Config → World
-empty_world c = record { config = c; nodes = []; starts = []; pairs = []; queue = []; trace = [] }
+empty_world c = record { config = c; nodes = []; starts = []; pairs = []; queue = []; sent = []; trace = [] }
 
 -- in mode fixed every node starts at the beginning
 unfoldable pub world_of : Config → Mode → World

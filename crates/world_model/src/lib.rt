@@ -5,6 +5,7 @@ mod event;
 mod one_node;
 pub mod one_node_rows;
 pub mod rows_basic;
+pub mod rows_bytes;
 pub mod rows_queue;
 pub mod rows_rings;
 pub mod rows_steps;
