@@ -60,7 +60,7 @@ once_is_applied s v i x e =
     ∙ ap (λ (t : GroupState). valued t v i (first_value x)) (effect_then_attrs s x (first_attrs s x) refl)
 
 -- Once nothing runs, or what runs stays as it began, the joiners fit.
-attrs_keep_beginning : (s : GroupState) (run : Option Running) (attrs : Option Attrs) (x : Proposal) → can_begin s x ≡ can_begin (record (with_attrs s attrs) { running = run }) x
+pub attrs_keep_beginning : (s : GroupState) (run : Option Running) (attrs : Option Attrs) (x : Proposal) → can_begin s x ≡ can_begin (record (with_attrs s attrs) { running = run }) x
 unfolding can_begin with_attrs
 attrs_keep_beginning s run None (Join ps a n) = refl
 attrs_keep_beginning s run (Some attrs) (Join ps a n) = refl
@@ -108,16 +108,16 @@ idle_rejection s (Message p r bytes) = refl
 idle_rejection s (Attributes p r attrs) = refl
 idle_rejection s (Reflect view place value) = refl
 
-joiners_where_idle : (s : GroupState) → s.running ≡ None → IsTrue (joiners_fit s)
+pub joiners_where_idle : (s : GroupState) → s.running ≡ None → IsTrue (joiners_fit s)
 unfolding joiners_fit joiners_fit_at
 joiners_where_idle s e = rw e refl
 
-idle_approved : (s : GroupState) (v : ViewId) (i : ℕ) (value : Option (List ℕ)) (run : Option Running) → s.running ≡ run → (approved s v i value run).running ≡ None
+pub idle_approved : (s : GroupState) (v : ViewId) (i : ℕ) (value : Option (List ℕ)) (run : Option Running) → s.running ≡ run → (approved s v i value run).running ≡ None
 unfolding approved
 idle_approved s v i value None e = e
 idle_approved s v i value (Some run) e = idle_after _ v i _ ∙ idle_effect _ run.proposal
 
-idle_rejected : (s : GroupState) (run : Option Running) → s.running ≡ run → (rejected s run).running ≡ None
+pub idle_rejected : (s : GroupState) (run : Option Running) → s.running ≡ run → (rejected s run).running ≡ None
 unfolding rejected
 idle_rejected s None e = e
 idle_rejected s (Some run) e = idle_rejection _ run.proposal
@@ -126,7 +126,7 @@ joiners_of_run : (s : GroupState) (run next : Running) → run.proposal ≡ next
 unfolding with_attrs can_begin
 joiners_of_run s run next e h = let k : can_begin s run.proposal ≡ can_begin (record s { running = Some next }) run.proposal = attrs_keep_beginning s (Some next) None run.proposal in rw (← e) (subst IsTrue k h)
 
-joiners_that_run : (s : GroupState) (running : Option Running) (run : Running) → running ≡ Some run → IsTrue (joiners_fit_at s running) → IsTrue (can_begin s run.proposal)
+pub joiners_that_run : (s : GroupState) (running : Option Running) (run : Running) → running ≡ Some run → IsTrue (joiners_fit_at s running) → IsTrue (can_begin s run.proposal)
 unfolding joiners_fit_at
 joiners_that_run s None run e h = absurd cc
 joiners_that_run s (Some r) run e h = let k : r ≡ run = cc in rw (← k) h

@@ -16,6 +16,6 @@ pub use group_entry::{
 };
 pub use group_list::GroupList;
 pub use group_state::{GroupState, Running};
-pub use laws::lists_are_folds;
+pub use laws::{lists_are_folds, states_stay_states};
 pub use samples::{what_else_is_kept, what_the_value_is, who_is_a_member, who_votes};
 pub use state_codec::{RunningRef, StateParts, StateRef, read_state};
