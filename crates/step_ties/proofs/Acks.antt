@@ -1,15 +1,13 @@
 -- ACK: what members acknowledged, and what is stable.
-use Rattle.std.proofs.Common.{◌≡◌, ◌≢◌, ◌≤◌, ◌<◌, ◌⊎◌, ℕ, zero, suc, ◌+◌, max, min, List, [], ◌∷◌, ◌++◌, length, Option, Some, None, Bool, true, false, refl, sym, ap, ◌∙◌, subst, inl, inr, ⊎_elim, arith}
+use Rattle.std.proofs.Common.{◌≡◌, ◌≢◌, ◌≤◌, ◌⊎◌, ℕ, zero, suc, max, min, List, [], ◌∷◌, length, Bool, true, false, refl, sym, ap, ◌∙◌, subst, inl, inr, ⊎_elim, arith}
 use Rattle.std.specs.Prelude.{◌==◌, ◌&&◌, ◌||◌, not, nat_le, fold, map, find}
-use Rattle.std.proofs.lemmas.Bool.{eqb-true, eqb-false, eq-eqb, cases_eq, and_parts}
-use Rattle.std.proofs.lemmas.Bool.Decides.{nat_tests}
+use Rattle.std.proofs.lemmas.Bool.{eqb-true, eq-eqb, cases_eq, and_parts}
 use Rattle.rsct_packet.specs.declared.ids.ViewId.{ViewId}
 use Rattle.rsct_packet.specs.declared.ids.Member.{Member}
 use Rattle.rsct_packet.specs.Ids.{same_view, is_member}
 use Rattle.rsct_packet.specs.Mask.{nodes_of}
 use Rattle.rsct_packet.specs.Search.{Has}
 use Rattle.rsct_packet.proofs.HasLaws.{has_map, append_has_right}
-use Rattle.group_entry.specs.declared.entry.Entry.{Entry}
 use Rattle.proposal_core.specs.Lists.{len_in, list_or_new}
 use Rattle.batch_rules.specs.Waiting.{WaitingView}
 use Rattle.rsct_packet.specs.declared.ids.ProviderId.{ProviderId}
@@ -21,7 +19,6 @@ use Rattle.node_state.specs.declared.config.Mode.TheVariants.{Fixed, Asked, Ring
 use Rattle.node_state.specs.declared.packet.Body.TheVariants as body
 use Rattle.node_state.specs.declared.packet.Packet.{Packet}
 use Rattle.node_state.specs.declared.group.Acked.{Acked}
-use Rattle.node_state.specs.declared.group.GroupRow.{GroupRow}
 use Rattle.node_state.specs.declared.group.Led.{Led}
 use Rattle.node_state.specs.declared.state.Core.{Core}
 use Rattle.node_state.specs.Settings.{is_fixed}
@@ -30,19 +27,19 @@ use Rattle.node_state.specs.HandOn.{Answering}
 use Rattle.node_state.specs.Leading.{forgets_least}
 use Rattle.node_state.specs.Following.{acked, ack_row}
 use Rattle.node_state.specs.Step.{first_members, is_used, used_if, body_row}
-use Rattle.run_safety.specs.Group.{member, Standing, In, kept}
+use Rattle.run_safety.specs.Group.{member, In, kept}
 use Rattle.run_safety.specs.Group as group
-use Rattle.run_safety.specs.Moves.{Opening, Life, Acknowledges, Settles}
+use Rattle.run_safety.specs.Moves.{Opening, Acknowledges, Settles}
 use Rattle.run_safety.proofs.Whole.{Whole}
 use Rattle.run_safety.proofs.Lives.{whole, always_same_members}
 use Rattle.run_safety.proofs.Past.{Origin}
 use Rattle.run_safety.proofs.Tests.{any_has}
-use Rattle.step_ties.specs.Ghost.{Ghost, Lives, Goes, Keeps, IsStable}
-use Rattle.step_ties.specs.Tied.{Shows, ShowsBody, Stands, RowIs, IsAcked, Decided, Waits, LeaderKeeps, NodeOf, NodeIs, NodeIsIf, Scene, opening_in, opening_of, lines_now, Tied}
+use Rattle.step_ties.specs.Ghost.{Ghost, Lives, Keeps, IsStable}
+use Rattle.step_ties.specs.Tied.{ShowsBody, RowIs, IsAcked, Decided, LeaderKeeps, NodeIs, Scene, opening_in, opening_of, Tied}
 use Rattle.step_ties.proofs.Goes.{Spares, shows_on, node_on}
 use Rattle.step_ties.proofs.Works.{tied_on}
 use Rattle.step_ties.proofs.NameOrder.{cases_text}
-use Rattle.step_ties.proofs.Gone.{with_packet, packet_goes, packet_spares, goes_then, spares_then}
+use Rattle.step_ties.proofs.Gone.{with_packet, packet_spares, spares_then}
 use Rattle.step_ties.proofs.ViewRows.{same_of}
 use Rattle.step_ties.proofs.RowWorks.{max_one, keeps_of, tied_row, tied_forgets}
 

@@ -1,9 +1,8 @@
 -- A step begins and ends; a node starts and stops.
-use Rattle.std.proofs.Common.{◌≡◌, ◌≢◌, ◌≤◌, ◌<◌, ◌⊎◌, ℕ, zero, suc, ◌+◌, List, [], ◌∷◌, ◌++◌, Option, Some, None, refl, sym, ap, ◌∙◌, subst, inl, inr, ⊎_elim, append-nil, arith}
-use Rattle.std.specs.Prelude.{Bool, true, false, ◌==◌, if◌then◌else◌, reverse, slice_get, map}
+use Rattle.std.proofs.Common.{◌≡◌, ◌≢◌, ◌<◌, ℕ, ◌+◌, List, [], ◌∷◌, ◌++◌, Option, Some, None, refl, sym, ap, ◌∙◌, subst, inl, inr, ⊎_elim, arith}
+use Rattle.std.specs.Prelude.{true, false, ◌==◌, if◌then◌else◌, reverse, map}
 use Rattle.std.proofs.lemmas.Bool.{cases_eq}
 use Rattle.std.proofs.lemmas.Bool.Decides.{Decides-eqb}
-use Rattle.std.proofs.lemmas.List.{reverse-append}
 use Rattle.rsct_packet.specs.declared.ids.ViewId.{ViewId}
 use Rattle.rsct_packet.specs.declared.ids.Member.{Member}
 use Rattle.rsct_packet.specs.declared.ids.ProviderId.{ProviderId}
@@ -18,23 +17,19 @@ use Rattle.node_state.specs.declared.happened.Happened.TheVariants as happened
 use Rattle.node_state.specs.declared.packet.Packet.{Packet}
 use Rattle.node_state.specs.declared.state.Core.{Core}
 use Rattle.node_state.specs.Settings.{is_fixed}
-use Rattle.node_state.specs.State.{row_of, new_row, with_sessions, acked_from}
+use Rattle.node_state.specs.State.{row_of, with_sessions, acked_from}
 use Rattle.node_state.specs.Applying.{level_set}
 use Rattle.node_state.specs.Step.{at_work, started, first_view, first_members, own_rings, ring_record}
 use Rattle.view_core.specs.Views.{views_new}
 use Rattle.world_model.specs.declared.event.Event.{Event}
-use Rattle.world_model.specs.Run.{Happening}
-use Rattle.run_safety.specs.Past.{History, earlier}
-use Rattle.run_safety.specs.Sight.{inc_in, lines_at, lines_with, lines_of}
-use Rattle.run_safety.specs.Group.{member, Standing, Origin, Line, Kept, Noted, Told, In, Put, Begins, kept}
-use Rattle.run_safety.specs.Group as group
-use Rattle.run_safety.specs.Moves.{Leads, Opening, Alone, Born, Life, Dawn, NextEvent, Starts, Quiet, first}
-use Rattle.run_safety.specs.Bases.{Bases}
+use Rattle.run_safety.specs.Sight.{inc_in, lines_with, lines_of}
+use Rattle.run_safety.specs.Group.{member, Standing, Origin, Kept, Noted, Told, In, Put, Begins, kept}
+use Rattle.run_safety.specs.Moves.{Opening, Alone, Born, Dawn, NextEvent, Starts, first}
 use Rattle.run_safety.proofs.Whole.{Whole}
 use Rattle.run_safety.proofs.Lives.{whole}
 use Rattle.run_safety.proofs.PastIn.{start_unled}
 use Rattle.step_ties.specs.Ghost.{Ghost, Lives, Goes}
-use Rattle.step_ties.specs.Tied.{Shows, Stands, NodeOf, NodeIs, NodeIsIf, Scene, opening_in, opening_of, lines_now, Rests, Tied}
+use Rattle.step_ties.specs.Tied.{Shows, NodeIsIf, Scene, opening_in, opening_of, Rests, Tied}
 use Rattle.step_ties.specs.Rows.{at_node, over, stopped, start_with, ended, nothing_yet}
 use Rattle.step_ties.proofs.Goes.{Spares, shows_on, node_if_on}
 use Rattle.step_ties.proofs.Changed.{set_here, set_there, each_set, changes}

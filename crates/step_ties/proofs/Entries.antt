@@ -1,10 +1,9 @@
 -- ENTRY.
-use Rattle.std.proofs.Common.{◌≡◌, ◌≢◌, ◌⊎◌, ℕ, ◌+◌, List, [], ◌∷◌, ◌++◌, length, Option, Some, None, Bool, true, false, refl, sym, ap, ◌∙◌, subst, inl, inr, ⊎_elim, arith}
+use Rattle.std.proofs.Common.{◌≡◌, ◌⊎◌, ℕ, List, length, Option, Some, Bool, true, false, refl, sym, ap, ◌∙◌, subst, inl, inr}
 use Rattle.std.specs.Prelude.{◌==◌, nat_lt}
 use Rattle.std.proofs.lemmas.Bool.{eqb-true}
 use Rattle.rsct_packet.specs.declared.ids.ViewId.{ViewId}
 use Rattle.rsct_packet.specs.declared.ids.ProviderId.{ProviderId}
-use Rattle.rsct_packet.specs.declared.ids.Member.{Member}
 use Rattle.rsct_packet.specs.Search.{Has}
 use Rattle.rsct_packet.proofs.HasLaws.{append_has_right}
 use Rattle.group_entry.specs.declared.entry.Entry.{Entry}
@@ -17,7 +16,7 @@ use Rattle.view_core.specs.declared.views.Views.{Views}
 use Rattle.node_state.specs.declared.packet.Body.TheVariants as body
 use Rattle.node_state.specs.declared.packet.Packet.{Packet}
 use Rattle.node_state.specs.declared.state.Core.{Core}
-use Rattle.node_state.specs.State.{row_of, with_row, list_of, state_of, len_of, holds, fits_at_end, led_by, forgets_below, recorded, with_sessions}
+use Rattle.node_state.specs.State.{with_row, state_of, len_of, holds, fits_at_end, led_by, forgets_below, recorded, with_sessions}
 use Rattle.node_state.specs.Sending.{sent, sent_on}
 use Rattle.node_state.specs.HandOn.{Answering, fills}
 use Rattle.node_state.specs.Leading.{put, put_and_handed}
@@ -25,14 +24,14 @@ use Rattle.node_state.specs.Following.{entry_next, entry_elsewhere, entry_row}
 use Rattle.node_state.specs.Step.{is_used, used_if, body_row}
 use Rattle.run_safety.specs.Group.{member}
 use Rattle.run_safety.specs.Group as group
-use Rattle.step_ties.specs.Ghost.{Ghost, IsStable}
+use Rattle.step_ties.specs.Ghost.{IsStable}
 use Rattle.step_ties.specs.Tied.{ShowsBody, ShowsEntry, KnowsLeader, Scene, Tied}
 use Rattle.step_ties.proofs.NameOrder.{cases_text}
 use Rattle.step_ties.proofs.RowWorks.{tied_forgets, tied_led_by, tied_acks}
 use Rattle.step_ties.proofs.Acks.{used_is}
 use Rattle.step_ties.proofs.SessionLaws.{handed_later, handed_gone, hearer_has}
-use Rattle.step_ties.proofs.Puts.{Leaves, After, put_other, put_own}
-use Rattle.step_ties.proofs.Handed.{Stepping, Going, handed_tied}
+use Rattle.step_ties.proofs.Puts.{Leaves, put_other, put_own}
+use Rattle.step_ties.proofs.Handed.{Stepping, handed_tied}
 
 module _ (v : ViewId) (h : List ℕ) (place stable : ℕ) (e : Entry) (g : List ℕ) (w : Scene) (n : ℕ) (f : Answering) (s : Core) (p : Packet) (is : p.body ≡ body.Entry v h place stable e) (delivered : Has p w.sent) (t : Tied g w n s) (view_is : v ≡ s.views.view) (thawed : s.views.promise ≡ s.views.view) (among : Has (member p.from p.inc) s.views.members) where
   -- what the packet shows, at any moment

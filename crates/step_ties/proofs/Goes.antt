@@ -1,6 +1,6 @@
 -- What holds of a group goes on holding.
-use Rattle.std.proofs.Common.{◌≡◌, ◌≤◌, ◌⊎◌, ℕ, ◌+◌, List, [], ◌∷◌, Option, Some, None, refl, sym, ap, ◌∙◌, subst, inl, inr, ⊎_elim}
-use Rattle.std.specs.Prelude.{Bool, true, false, slice_get}
+use Rattle.std.proofs.Common.{◌≡◌, ℕ, List, [], ◌∷◌, Option, Some, None, refl, sym, ap, ◌∙◌, subst, inl, inr}
+use Rattle.std.specs.Prelude.{Bool, slice_get}
 use Rattle.rsct_packet.specs.declared.ids.ViewId.{ViewId}
 use Rattle.rsct_packet.specs.declared.ids.Member.{Member}
 use Rattle.rsct_packet.specs.declared.ids.ProviderId.{ProviderId}
@@ -9,7 +9,6 @@ use Rattle.group_entry.specs.declared.entry.Entry.{Entry}
 use Rattle.proposal_core.specs.GroupView.{GroupView}
 use Rattle.proposal_core.specs.Lists.{list_or_new}
 use Rattle.name_server.specs.declared.names.Leader.{Leader}
-use Rattle.name_server.specs.Names.{node_of}
 use Rattle.view_exchange.specs.declared.exchange.Answer.{Answer}
 use Rattle.view_exchange.specs.declared.exchange.Exchange.{Exchange}
 use Rattle.view_exchange.specs.declared.install.Part.{Part}
@@ -30,13 +29,12 @@ use Rattle.node_state.specs.declared.packet.Packet.{Packet}
 use Rattle.node_state.specs.declared.state.Core.{Core}
 use Rattle.node_state.specs.Settings.{is_fixed}
 use Rattle.node_state.specs.State.{row_of, acked_from}
-use Rattle.run_safety.specs.Group.{member, Standing, Reply, Line, Noted, Told, In, Put, kept}
+use Rattle.run_safety.specs.Group.{member, Standing, Reply, Noted, Told, In, Put, kept}
 use Rattle.run_safety.specs.Group as group
-use Rattle.run_safety.specs.Requests.{carried}
 use Rattle.run_safety.specs.Bases.{state_of_list, base_state}
 use Rattle.run_safety.specs.Past.{fold_from}
-use Rattle.step_ties.specs.Ghost.{Ghost, Seen, Goes, Keeps, KeepsIf, Carries, CarriesIf, part_of, ReplyIs, RepliesAre, Gathers, GathersIf, BaseIsOf, Installs, InstallsIf, IsStable}
-use Rattle.step_ties.specs.Tied.{ShowsView, ShowsEntry, ShowsLeader, ShowsBody, Shows, Stands, KnowsLeader, RowIs, Owed, Owes, Decided, Waits, LeaderKeeps, Names, NodeOf, NodeIs, NodeIsIf, IsAcked}
+use Rattle.step_ties.specs.Ghost.{Ghost, Seen, Goes, KeepsIf, CarriesIf, part_of, ReplyIs, RepliesAre, GathersIf, BaseIsOf, Installs, InstallsIf, IsStable}
+use Rattle.step_ties.specs.Tied.{ShowsView, ShowsBody, Shows, Stands, KnowsLeader, RowIs, Owed, Owes, LeaderKeeps, Names, NodeOf, NodeIsIf, IsAcked}
 
 pub goes_same : (x : Ghost) → Goes x x
 goes_same x =

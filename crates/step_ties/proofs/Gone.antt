@@ -1,10 +1,6 @@
 -- Moves of one node, and what they leave of the others.
-use Rattle.std.proofs.Common.{◌≡◌, ◌≢◌, ◌<◌, ℕ, List, [], ◌∷◌, refl, sym, ap, ◌∙◌, subst, inl, inr, arith}
-use Rattle.rsct_packet.specs.declared.ids.ViewId.{ViewId}
-use Rattle.rsct_packet.specs.declared.ids.ProviderId.{ProviderId}
-use Rattle.rsct_packet.specs.Search.{Has}
-use Rattle.group_entry.specs.declared.entry.Entry.{Entry}
-use Rattle.run_safety.specs.Group.{member, Standing, Packet, Line, Noted, Told, In, Put, kept}
+use Rattle.std.proofs.Common.{◌≡◌, ℕ, ◌∷◌, refl, ◌∙◌, inr}
+use Rattle.run_safety.specs.Group.{Standing, Packet, In}
 use Rattle.run_safety.specs.Group as group
 use Rattle.run_safety.proofs.Whole.{kind, was_sent}
 use Rattle.step_ties.specs.Ghost.{Ghost, Goes}

@@ -1,13 +1,12 @@
 -- What is handed on: each provider hears the entry at its place, and ballots go to the leader.
-use Rattle.std.proofs.Common.{◌≡◌, ◌≢◌, ◌⊎◌, ℕ, ◌+◌, List, [], ◌∷◌, ◌++◌, length, take, Option, Some, None, Bool, true, false, refl, sym, ap, ◌∙◌, subst, inl, inr, ⊎_elim, append_assoc, arith}
-use Rattle.std.specs.Prelude.{◌==◌, ◌&&◌, nat_lt, reverse, map, filter, fold, flat_map, if◌then◌else◌}
+use Rattle.std.proofs.Common.{◌≡◌, ◌⊎◌, ℕ, ◌+◌, List, [], ◌∷◌, ◌++◌, length, take, Option, Some, None, Bool, true, false, refl, sym, ap, ◌∙◌, subst, inl, inr, ⊎_elim, append_assoc}
+use Rattle.std.specs.Prelude.{reverse, map, filter, fold, flat_map, if◌then◌else◌}
 use Rattle.std.proofs.lemmas.List.{append-nil}
 use Rattle.rsct_packet.specs.declared.ids.ViewId.{ViewId}
 use Rattle.rsct_packet.specs.declared.ids.ProviderId.{ProviderId}
 use Rattle.rsct_packet.specs.declared.ids.ProtoId.{ProtoId}
-use Rattle.rsct_packet.specs.declared.ids.Member.{Member}
 use Rattle.rsct_packet.specs.Search.{Has}
-use Rattle.rsct_packet.proofs.HasLaws.{has_append, has_map, append_has_right}
+use Rattle.rsct_packet.proofs.HasLaws.{has_append, has_map}
 use Rattle.group_entry.specs.declared.entry.Entry.{Entry}
 use Rattle.proposal_core.specs.declared.group_state.GroupState.{GroupState}
 use Rattle.client_callbacks.specs.declared.ballot.Filled.{Filled}
@@ -16,38 +15,30 @@ use Rattle.session_state.specs.declared.casts.Cast.{Cast}
 use Rattle.session_state.specs.declared.state.SessionState.{SessionState}
 use Rattle.session_state.specs.HandOn.{hearers, casts_out}
 use Rattle.session_state.specs.HandOn as session
-use Rattle.subscribe_core.specs.declared.subs.Subscription.{Subscription}
 use Rattle.subscribe_core.specs.Subs.{is_of_group, differs}
 use Rattle.view_core.specs.declared.views.Views.{Views}
 use Rattle.node_state.specs.declared.happened.Happened.{Happened}
 use Rattle.node_state.specs.declared.happened.Happened.TheVariants as happened
 use Rattle.node_state.specs.declared.packet.Body.TheVariants as body
-use Rattle.node_state.specs.declared.packet.Packet.{Packet}
 use Rattle.node_state.specs.declared.state.Core.{Core}
-use Rattle.node_state.specs.Settings.{is_fixed}
-use Rattle.node_state.specs.State.{row_of, state_of, len_of, holds, fits_at_end, frozen, led_by, forgets_below, recorded, recorded_all, with_sessions}
+use Rattle.node_state.specs.State.{row_of, frozen, recorded, recorded_all, with_sessions}
 use Rattle.node_state.specs.Sending.{sent, sent_on, sent_if_known, vote_of}
 use Rattle.node_state.specs.HandOn.{Answering, fills, cast_record, cast_records, heard, note_of, notes, noted, ballot_sent, cast_sent_of, casts_sent, handed_on}
-use Rattle.node_state.specs.Leading.{put, put_and_handed}
-use Rattle.node_state.specs.Following.{entry_next, entry_elsewhere, entry_row}
-use Rattle.node_state.specs.Step.{is_used, used_if, body_row}
 use Rattle.run_safety.specs.Past.{earlier}
-use Rattle.run_safety.specs.Sight.{lines_at, lines_with, lines_of}
-use Rattle.run_safety.specs.Group.{member, Line, Kept, Noted, Heard, Told, In, Put, kept}
+use Rattle.run_safety.specs.Sight.{lines_of}
+use Rattle.run_safety.specs.Group.{Noted, Heard, Told, Put, kept}
 use Rattle.run_safety.specs.Group as group
 use Rattle.run_safety.specs.GroupLists.{puts_of}
 use Rattle.run_safety.specs.Bases.{state_of_list}
-use Rattle.run_safety.specs.Moves.{Life, Hears}
-use Rattle.step_ties.specs.Ghost.{Ghost, Lives, Goes, IsStable}
-use Rattle.step_ties.specs.Tied.{ShowsBody, ShowsEntry, Shows, KnowsLeader, NodeOf, NodeIs, NodeIsIf, Scene, opening_of, lines_now, Tied}
-use Rattle.step_ties.proofs.Goes.{Spares, node_on, node_if_on, shows_on}
+use Rattle.run_safety.specs.Moves.{Hears}
+use Rattle.step_ties.specs.Ghost.{Ghost, Goes}
+use Rattle.step_ties.specs.Tied.{Scene, lines_now, Tied}
+use Rattle.step_ties.proofs.Goes.{Spares, node_if_on, shows_on}
 use Rattle.step_ties.proofs.Works.{Unseen, lines_pushed, tied_sent}
 use Rattle.std.specs.Str.{bytes_eq}
 use Rattle.step_ties.proofs.NameOrder.{cases_text, text_self, text_other}
-use Rattle.step_ties.proofs.RowWorks.{tied_forgets, tied_led_by, tied_acks}
-use Rattle.step_ties.proofs.Acks.{used_is}
-use Rattle.step_ties.proofs.SessionLaws.{handed_later, handed_gone, hearer_has, cast_has}
-use Rattle.step_ties.proofs.Puts.{Leaves, After, put_other, put_own}
+use Rattle.step_ties.proofs.SessionLaws.{cast_has}
+use Rattle.step_ties.proofs.Puts.{After}
 
 -- what is heard of an entry at its place, or no group sees it
 abbrev Fine : List ℕ → List ℕ → ℕ → ViewId → ℕ → Entry → GroupState → Happened → Type 0

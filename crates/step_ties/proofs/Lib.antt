@@ -12,3 +12,4 @@ pub mod SessionLaws
 pub mod Puts
 pub mod Handed
 pub mod Entries
+pub mod Gatherings

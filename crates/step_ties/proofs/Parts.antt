@@ -11,7 +11,7 @@ use Rattle.node_state.specs.declared.group.GroupRow.{GroupRow}
 use Rattle.node_state.specs.declared.state.Core.{Core}
 use Rattle.node_state.specs.State.{row_found, row_of, held_rows}
 use Rattle.node_state.specs.Applying.{part_of_list, own_parts}
-use Rattle.step_ties.specs.Ghost.{Ghost, Keeps, KeepsIf, Carries, CarriesIf, part_of}
+use Rattle.step_ties.specs.Ghost.{Ghost, KeepsIf, CarriesIf, part_of}
 use Rattle.step_ties.specs.Tied.{AllAfter, InNameOrder}
 use Rattle.step_ties.proofs.NameOrder.{text_same, is_of, none_after}
 

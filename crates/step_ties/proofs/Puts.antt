@@ -1,63 +1,41 @@
 -- ENTRY: an entry is put at the end of the list, and handed on.
-use Rattle.std.proofs.Common.{◌≡◌, ◌≢◌, ◌≤◌, ◌<◌, ◌⊎◌, ℕ, zero, suc, ◌+◌, List, [], ◌∷◌, ◌++◌, length, drop, take, Option, Some, None, Bool, true, false, refl, sym, ap, ◌∙◌, subst, inl, inr, ⊎_elim, append_assoc, length-append, arith}
-use Rattle.std.specs.Prelude.{◌==◌, ◌&&◌, nat_lt, reverse, slice_get, map, filter, fold, flat_map, if◌then◌else◌}
-use Rattle.std.specs.Str.{bytes_eq}
-use Rattle.std.proofs.lemmas.List.{append-nil}
-use Rattle.std.proofs.lemmas.Bool.{eqb-true}
+use Rattle.std.proofs.Common.{◌≡◌, ◌≢◌, ◌≤◌, ◌<◌, ℕ, zero, suc, ◌+◌, List, [], ◌∷◌, ◌++◌, length, drop, take, Some, refl, sym, ap, ◌∙◌, subst, inl, inr, length-append, arith}
+use Rattle.std.specs.Prelude.{reverse, slice_get, if◌then◌else◌}
 use Rattle.rsct_packet.specs.declared.ids.ViewId.{ViewId}
 use Rattle.rsct_packet.specs.declared.ids.ProviderId.{ProviderId}
-use Rattle.rsct_packet.specs.declared.ids.ProtoId.{ProtoId}
-use Rattle.rsct_packet.specs.declared.ids.Member.{Member}
 use Rattle.rsct_packet.specs.Search.{Has}
-use Rattle.rsct_packet.proofs.HasLaws.{has_append, has_map, append_has_right}
 use Rattle.group_entry.specs.declared.entry.Entry.{Entry}
 use Rattle.proposal_core.specs.declared.group_state.GroupState.{GroupState}
 use Rattle.proposal_core.specs.Fold.{after}
 use Rattle.proposal_core.specs.GroupView.{GroupView}
 use Rattle.proposal_core.specs.Lists.{list_or_new, with_entry}
-use Rattle.client_callbacks.specs.declared.ballot.Filled.{Filled}
-use Rattle.client_callbacks.specs.Ballots.{BallotView}
-use Rattle.session_state.specs.declared.casts.Cast.{Cast}
-use Rattle.session_state.specs.declared.state.Provider.{Provider}
 use Rattle.session_state.specs.declared.state.Request.{Request}
 use Rattle.session_state.specs.declared.state.SessionState.{SessionState}
-use Rattle.session_state.specs.HandOn.{hearers, casts_out}
-use Rattle.session_state.specs.HandOn as session
-use Rattle.subscribe_core.specs.declared.subs.Subscription.{Subscription}
-use Rattle.subscribe_core.specs.Subs.{is_of_group, differs}
-use Rattle.node_state.specs.declared.happened.Happened.{Happened}
 use Rattle.node_state.specs.declared.happened.Happened.TheVariants as happened
-use Rattle.node_state.specs.declared.packet.Body.TheVariants as body
-use Rattle.node_state.specs.declared.packet.Packet.{Packet}
 use Rattle.node_state.specs.declared.group.GroupRow.{GroupRow}
 use Rattle.node_state.specs.declared.state.Core.{Core}
 use Rattle.node_state.specs.Settings.{is_fixed}
-use Rattle.node_state.specs.State.{row_of, with_row, list_of, state_of, len_of, holds, fits_at_end, frozen, led_by, forgets_below, recorded, recorded_all, with_sessions}
-use Rattle.node_state.specs.Sending.{sent, sent_if_known, vote_of}
-use Rattle.node_state.specs.HandOn.{Answering, fills, cast_record, cast_records, heard, note_of, notes, noted, ballot_sent, cast_sent_of, casts_sent, handed_on}
-use Rattle.node_state.specs.Leading.{put, put_and_handed}
-use Rattle.node_state.specs.Following.{entry_next, entry_elsewhere, entry_row}
-use Rattle.node_state.specs.Step.{is_used, used_if, body_row}
-use Rattle.run_safety.specs.Past.{earlier, fold_from}
-use Rattle.run_safety.specs.Sight.{lines_at, lines_with, lines_of}
-use Rattle.run_safety.specs.Group.{member, Standing, Line, Kept, Noted, Heard, Told, In, Put, kept}
+use Rattle.node_state.specs.State.{row_of, with_row, list_of, state_of, len_of, recorded, with_sessions}
+use Rattle.node_state.specs.Leading.{put}
+use Rattle.run_safety.specs.Past.{fold_from}
+use Rattle.run_safety.specs.Sight.{lines_with, lines_of}
+use Rattle.run_safety.specs.Group.{member, Standing, Kept, Noted, Told, Put, kept}
 use Rattle.run_safety.specs.Group as group
 use Rattle.run_safety.specs.GroupLists.{puts_of}
 use Rattle.run_safety.specs.Bases.{base_state, state_of_list}
 use Rattle.run_safety.specs.Requests.{carried}
-use Rattle.run_safety.specs.Moves.{Life, Follows, Hears, grown}
+use Rattle.run_safety.specs.Moves.{Follows, grown}
 use Rattle.run_safety.proofs.Whole.{Whole}
 use Rattle.run_safety.proofs.Lives.{whole}
-use Rattle.step_ties.specs.Ghost.{Ghost, Lives, Goes, Keeps, KeepsIf, IsStable}
-use Rattle.step_ties.specs.Tied.{ShowsBody, ShowsEntry, Shows, Stands, KnowsLeader, RowIs, Owed, Owes, LeaderKeeps, Names, NodeOf, NodeIs, NodeIsIf, Scene, opening_of, lines_now, Tied}
+use Rattle.step_ties.specs.Ghost.{Ghost, Lives, Goes, Keeps}
+use Rattle.step_ties.specs.Tied.{RowIs, Owed, Owes, LeaderKeeps, NodeOf, Scene, opening_of, lines_now, Tied}
 use Rattle.step_ties.specs.Rows.{at_node}
-use Rattle.step_ties.proofs.Goes.{Spares, node_if_on, keeps_on, stable_on, knows_on, acked_on, gathers_on, install_on, shows_on, node_on}
+use Rattle.step_ties.proofs.Goes.{Spares, node_if_on, stable_on, knows_on, gathers_on, install_on, shows_on}
 use Rattle.step_ties.proofs.Changed.{set_here, set_there, changes}
-use Rattle.step_ties.proofs.Works.{Unseen, lines_pushed, tied_on, tied_sent}
-use Rattle.step_ties.proofs.NameOrder.{cases_text, text_self, text_other, row_here, row_there, rows_ordered}
-use Rattle.step_ties.proofs.RowWorks.{keeps_of, tied_forgets, tied_led_by, tied_acks}
-use Rattle.step_ties.proofs.Acks.{used_is}
-use Rattle.step_ties.proofs.SessionLaws.{Later, handed_later, handed_gone, hearer_has, cast_has}
+use Rattle.step_ties.proofs.Works.{lines_pushed}
+use Rattle.step_ties.proofs.NameOrder.{text_self, text_other, row_here, row_there, rows_ordered}
+use Rattle.step_ties.proofs.RowWorks.{keeps_of}
+use Rattle.step_ties.proofs.SessionLaws.{Later}
 
 -- ---- lists with one more entry
 

@@ -1,33 +1,27 @@
 -- What changes of a row make of the tie.
-use Rattle.std.proofs.Common.{◌≡◌, ◌≢◌, ◌≤◌, ◌<◌, ◌⊎◌, ℕ, zero, suc, ◌+◌, ◌-◌, max, min, List, [], ◌∷◌, ◌++◌, length, drop, Option, Some, None, Bool, true, false, cond, refl, sym, ap, ◌∙◌, subst, inl, inr, ⊎_elim, arith}
-use Rattle.std.specs.Prelude.{◌==◌, nat_le, if◌then◌else◌, fold}
+use Rattle.std.proofs.Common.{◌≡◌, ◌≤◌, ◌⊎◌, ℕ, ◌+◌, ◌-◌, max, List, ◌++◌, length, drop, Option, Some, None, Bool, true, false, refl, sym, ap, ◌∙◌, subst, inl, inr, ⊎_elim, arith}
+use Rattle.std.specs.Prelude.{nat_le, if◌then◌else◌}
 use Rattle.std.proofs.lemmas.List.{drop-drop}
 use Rattle.std.proofs.lemmas.Grind.{common_steps}
-use Rattle.std.proofs.lemmas.Bool.{eqb-true, eqb-false}
 use Rattle.std.proofs.lemmas.Bool.Decides.{nat_tests}
 use Rattle.rsct_packet.specs.declared.ids.ViewId.{ViewId}
-use Rattle.rsct_packet.specs.declared.ids.Member.{Member}
 use Rattle.rsct_packet.specs.Search.{Has}
-use Rattle.rsct_packet.proofs.HasLaws.{append_has_right}
 use Rattle.group_entry.specs.declared.entry.Entry.{Entry}
 use Rattle.proposal_core.specs.GroupView.{GroupView}
-use Rattle.proposal_core.specs.Lists.{list_or_new, len_in, forgotten}
-use Rattle.view_core.specs.declared.views.Views.{Views}
+use Rattle.proposal_core.specs.Lists.{list_or_new, forgotten}
 use Rattle.node_state.specs.declared.packet.Body.TheVariants as body
 use Rattle.node_state.specs.declared.packet.Packet.{Packet}
-use Rattle.node_state.specs.declared.group.Acked.{Acked}
 use Rattle.node_state.specs.declared.group.GroupRow.{GroupRow}
 use Rattle.node_state.specs.declared.state.Core.{Core}
 use Rattle.node_state.specs.Settings.{is_fixed}
 use Rattle.node_state.specs.State.{row_of, with_row, list_of, len_of, list_forgotten, forgets_below, led_by}
 use Rattle.node_state.specs.Sending.{sent, sent_on, packet_on, network_to}
-use Rattle.run_safety.specs.Group.{member, Standing, In, kept}
 use Rattle.run_safety.specs.Group as group
-use Rattle.run_safety.specs.Bases.{base_state, state_of_list}
-use Rattle.run_safety.specs.Moves.{Life, Acknowledges}
-use Rattle.step_ties.specs.Ghost.{Ghost, Lives, Goes, Keeps, KeepsIf, IsStable}
-use Rattle.step_ties.specs.Tied.{Shows, Stands, KnowsLeader, RowIs, IsAcked, LeaderKeeps, NodeOf, NodeIs, NodeIsIf, Scene, opening_of, lines_now, Tied}
-use Rattle.step_ties.proofs.Goes.{Spares, spares_same, shows_on, node_on}
+use Rattle.run_safety.specs.Bases.{state_of_list}
+use Rattle.run_safety.specs.Moves.{Acknowledges}
+use Rattle.step_ties.specs.Ghost.{Ghost, Goes, Keeps, KeepsIf, IsStable}
+use Rattle.step_ties.specs.Tied.{Shows, KnowsLeader, RowIs, LeaderKeeps, NodeIs, Scene, Tied}
+use Rattle.step_ties.proofs.Goes.{Spares, shows_on, node_on}
 use Rattle.step_ties.proofs.Changed.{has_pushed}
 use Rattle.step_ties.proofs.Works.{tied_on}
 use Rattle.step_ties.proofs.NameOrder.{KeepsName, cases_text, row_here, row_there, rows_ordered}

@@ -1,20 +1,19 @@
 -- The rows of views, but for an install.
-use Rattle.std.proofs.Common.{◌≡◌, ◌≢◌, ◌≤◌, ◌<◌, ◌⊎◌, ℕ, ◌+◌, List, [], ◌∷◌, ◌++◌, length, Option, Some, None, Bool, true, false, refl, sym, ap, ◌∙◌, subst, inl, inr, ⊎_elim, arith}
+use Rattle.std.proofs.Common.{◌≡◌, ◌⊎◌, ◌<◌, ℕ, List, ◌++◌, length, Option, Some, None, Bool, true, false, refl, sym, ap, ◌∙◌, subst, inl, inr, ⊎_elim, arith}
 use Rattle.std.specs.Prelude.{◌==◌, ◌&&◌, not, nat_le, max}
 use Rattle.std.proofs.lemmas.Bool.Decides.{nat_tests}
 use Rattle.std.proofs.lemmas.Bool.{and_parts}
 use Rattle.rsct_packet.specs.declared.ids.ViewId.{ViewId}
 use Rattle.rsct_packet.specs.declared.mask.Mask.{Mask}
-use Rattle.rsct_packet.specs.Ids.{same_view, view_lt}
+use Rattle.rsct_packet.specs.Ids.{same_view, view_lt, is_member}
 use Rattle.rsct_packet.specs.Mask.{has_node, with_node}
 use Rattle.rsct_packet.specs.Search.{Has}
-use Rattle.group_entry.specs.declared.entry.Entry.{Entry}
 use Rattle.view_exchange.specs.declared.exchange.Exchange.{Exchange}
-use Rattle.view_exchange.specs.declared.install.Part.{Part}
+use Rattle.view_exchange.specs.declared.install.Install.{Install}
 use Rattle.view_exchange.specs.Answers.{max_parts}
 use Rattle.view_core.specs.declared.packet.ViewPacket.TheVariants as view
 use Rattle.view_core.specs.declared.views.Views.{Views}
-use Rattle.view_core.specs.Views.{view_sent, promised, answered, prepared, prepare_row, refused_by, refuse_to, refuse_row, taken_row, views_at_work}
+use Rattle.view_core.specs.Views.{view_sent, promised, answered, prepared, prepare_row, refused_by, refuse_to, refuse_row, installed, install_row, taken_row, views_at_work}
 use Rattle.node_state.specs.declared.packet.Body.TheVariants as body
 use Rattle.node_state.specs.declared.packet.Packet.{Packet}
 use Rattle.node_state.specs.declared.state.Core.{Core}
@@ -22,19 +21,19 @@ use Rattle.node_state.specs.Settings.{is_fixed}
 use Rattle.node_state.specs.State.{row_of, held_rows}
 use Rattle.node_state.specs.Sending.{sent, sent_on, packet_on, network_to}
 use Rattle.node_state.specs.HandOn.{Answering}
-use Rattle.node_state.specs.Applying.{part_of_list, own_parts, install_applied, views_taken}
+use Rattle.node_state.specs.Applying.{own_parts, install_applied, views_taken}
 use Rattle.node_state.specs.Step.{view_row}
 use Rattle.run_safety.specs.ViewOrder.{is_before, Lt, Le}
-use Rattle.run_safety.specs.Group.{member, Standing, Reply, In, kept}
+use Rattle.run_safety.specs.Group.{Standing, Reply}
 use Rattle.run_safety.specs.Group as group
-use Rattle.run_safety.specs.Moves.{Life, Promises, Answers}
+use Rattle.run_safety.specs.Moves.{Promises, Answers}
 use Rattle.run_safety.proofs.Order.{lt_refl, lt_le, le_lt_trans, le_antisym}
 use Rattle.run_safety.proofs.Whole.{Whole}
 use Rattle.run_safety.proofs.Lives.{whole}
-use Rattle.step_ties.specs.Ghost.{Ghost, Lives, Goes, CarriesIf, part_of}
+use Rattle.step_ties.specs.Ghost.{Ghost, Goes, part_of}
 use Rattle.step_ties.specs.Rows.{at_node}
-use Rattle.step_ties.specs.Tied.{ShowsBody, Shows, Stands, NodeOf, NodeIs, NodeIsIf, Scene, opening_of, lines_now, Tied}
-use Rattle.step_ties.proofs.Goes.{Spares, spares_same, seen_on, carries_on, shows_on, rest_on, node_on}
+use Rattle.step_ties.specs.Tied.{Shows, Stands, NodeOf, Scene, opening_of, Tied}
+use Rattle.step_ties.proofs.Goes.{Spares, spares_same, carries_on, shows_on, rest_on, node_on}
 use Rattle.step_ties.proofs.Changed.{set_here, set_there, changes, has_pushed}
 use Rattle.step_ties.proofs.Works.{tied_on, tied_sent, tied_views}
 use Rattle.step_ties.proofs.Gone.{with_nodes, with_packet, nodes_goes, nodes_spares, packet_goes, packet_spares}
@@ -177,3 +176,14 @@ refuse_is_tied v k g w n f s from inc t = refuse_tied g w n f s t from inc v k
 
 pub prepare_is_tied : (v : ViewId) (mask : Mask) (g : List ℕ) (w : Scene) (n : ℕ) (f : Answering) (s : Core) (from inc : ℕ) → Tied g w n s → Tied g w n (view_row f s from inc (view.Prepare v mask))
 prepare_is_tied v mask g w n f s from inc t = prepare_tied g w n f s t from inc v mask
+
+-- an install of the node's view, or of one that it did not promise or is no member of
+pub install_is_tied : (i : Install) (g : List ℕ) (w : Scene) (n : ℕ) (f : Answering) (s : Core) (from inc : ℕ) → (same_view s.views.view i.view ≡ true) ⊎ ((same_view s.views.promise i.view && is_member i.members s.views.me s.views.inc) ≡ false) → Tied g w n s → Tied g w n (view_row f s from inc (view.Install i))
+unfolding view_row views_taken install_applied install_row installed view_sent
+install_is_tied i g w n f s from inc why t = by (same_view s.views.view i.view) (same_view s.views.promise i.view && is_member i.members s.views.me s.views.inc) why
+  where
+    by : (b c : Bool) → (b ≡ true) ⊎ (c ≡ false) → Tied g w n (views_taken f s (installed (views_at_work s.views) i b c))
+    by true c h = tied_sent g w n s t i.view.coord (body.View (view.Taken i.view)) tt
+    by false false h = t
+    by false true (inl e) = absurd (cc)
+    by false true (inr e) = absurd (cc)

@@ -1,27 +1,22 @@
 -- What the pieces of a step make of the tie: what is sent and recorded, and the moves.
-use Rattle.std.proofs.Common.{◌≡◌, ◌≢◌, ◌≤◌, ◌<◌, ◌⊎◌, ℕ, ◌+◌, List, [], ◌∷◌, ◌++◌, Option, Some, None, refl, sym, ap, ◌∙◌, subst, inl, inr, ⊎_elim, append_assoc, arith}
-use Rattle.std.specs.Prelude.{Bool, true, false, reverse, slice_get}
+use Rattle.std.proofs.Common.{◌≡◌, ◌≢◌, ℕ, List, [], ◌∷◌, ◌++◌, Some, refl, sym, ap, ◌∙◌, subst, inl, inr, ⊎_elim, append_assoc}
+use Rattle.std.specs.Prelude.{reverse}
 use Rattle.std.proofs.lemmas.List.{reverse-append, append-nil}
-use Rattle.rsct_packet.specs.declared.ids.ViewId.{ViewId}
-use Rattle.rsct_packet.specs.declared.ids.Member.{Member}
-use Rattle.rsct_packet.specs.declared.ids.ProviderId.{ProviderId}
 use Rattle.rsct_packet.specs.Search.{Has}
-use Rattle.group_entry.specs.declared.entry.Entry.{Entry}
 use Rattle.view_core.specs.declared.views.Views.{Views}
 use Rattle.node_state.specs.declared.happened.Happened.{Happened}
 use Rattle.node_state.specs.declared.packet.Body.{Body}
 use Rattle.node_state.specs.declared.packet.Packet.{Packet}
 use Rattle.node_state.specs.declared.state.Core.{Core}
 use Rattle.node_state.specs.Settings.{is_fixed}
-use Rattle.node_state.specs.State.{row_of, recorded}
+use Rattle.node_state.specs.State.{row_of}
 use Rattle.node_state.specs.Sending.{sent_on, packet_on, sent}
 use Rattle.run_safety.specs.Past.{History, earlier}
-use Rattle.run_safety.specs.Sight.{lines_at, lines_with, lines_of}
-use Rattle.run_safety.specs.Group.{member, Standing, Line, Kept, Noted, Told, In, Put, Begins, kept}
-use Rattle.run_safety.specs.Group as group
-use Rattle.step_ties.specs.Ghost.{Ghost, Lives, Goes}
-use Rattle.step_ties.specs.Tied.{ShowsBody, Shows, Stands, NodeOf, NodeIs, NodeIsIf, Scene, opening_of, lines_now, Tied}
-use Rattle.step_ties.proofs.Goes.{Spares, shows_on, node_if_on}
+use Rattle.run_safety.specs.Sight.{lines_at, lines_with}
+use Rattle.run_safety.specs.Group.{Line, Kept, Begins}
+use Rattle.step_ties.specs.Ghost.{Ghost, Lives}
+use Rattle.step_ties.specs.Tied.{ShowsBody, Shows, NodeOf, NodeIsIf, Scene, opening_of, lines_now, Tied}
+use Rattle.step_ties.proofs.Goes.{Spares, node_if_on}
 use Rattle.step_ties.proofs.Changed.{has_pushed}
 
 -- no group sees such a record
@@ -69,19 +64,6 @@ module _ (g : List ℕ) (w : Scene) (n : ℕ) (s : Core) (t : Tied g w n s) wher
   pub tied_sent : (to : ℕ) (b : Body) → ShowsBody t.ghost g s.views.me s.views.inc b → Tied g w n (sent s to b)
   unfolding sent
   tied_sent to b ok = tied_sent_on _ to b ok
-
-  -- a record that no group sees
-  pub tied_recorded : (r : Happened) → Unseen g r → Tied g w n (recorded s r)
-  unfolding recorded row_of
-  tied_recorded r unseen =
-      record {
-        ghost = t.ghost;
-        life = t.life;
-        lines = t.lines ∙ sym (lines_pushed g s.records r w.before (lines_of g w.before) ∙ ap (λ z. z ++ lines_now g w s) (unseen (earlier (reverse s.records) w.before)));
-        own = t.own;
-        others = t.others;
-        packets = t.packets;
-      }
 
   -- what a node keeps of views, where no group sees it
   pub tied_views : (v : Views) → NodeOf t.ghost g n (is_fixed s.config.mode) v (row_of s g) s.groups s.sessions s.names → v.inc ≡ s.views.inc → Tied g w n (record s { views = v })

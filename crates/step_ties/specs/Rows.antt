@@ -1,13 +1,9 @@
 -- What is tied: the step begins and ends, a node starts and stops, and rows of the step.
-use Rattle.std.specs.Prelude.{ℕ, ◌+◌, ◌≡◌, ◌==◌, Bool, true, false, ◌∷◌, ◌++◌, [], List, reverse, Option, Some, None, if◌then◌else◌}
+use Rattle.std.specs.Prelude.{◌⊎◌, ◌&&◌, ℕ, ◌+◌, ◌≡◌, ◌==◌, true, false, ◌∷◌, ◌++◌, [], List, reverse, Some, None, if◌then◌else◌}
 use Rattle.rsct_packet.specs.declared.ids.ViewId.{ViewId}
 use Rattle.rsct_packet.specs.declared.mask.Mask.{Mask}
 use Rattle.rsct_packet.specs.Search.{Has}
 use Rattle.group_entry.specs.declared.entry.Entry.{Entry}
-use Rattle.view_exchange.specs.declared.install.Part.{Part}
-use Rattle.view_exchange.specs.declared.exchange.Answer.{Answer}
-use Rattle.view_exchange.specs.declared.exchange.Exchange.{Exchange}
-use Rattle.view_exchange.specs.Answers.{may_answer, with_answer, all_answered}
 use Rattle.view_core.specs.declared.packet.ViewPacket.{ViewPacket}
 use Rattle.view_core.specs.declared.packet.ViewPacket.TheVariants as view
 use Rattle.node_state.specs.declared.config.Config.{Config}
@@ -18,8 +14,14 @@ use Rattle.node_state.specs.declared.packet.Packet.{Packet}
 use Rattle.node_state.specs.declared.state.Core.{Core}
 use Rattle.node_state.specs.Settings.{is_fixed}
 use Rattle.node_state.specs.HandOn.{Answering}
-use Rattle.node_state.specs.Following.{entry_row, ack_row}
-use Rattle.node_state.specs.Step.{at_work, started, view_row, body_row}
+use Rattle.rsct_packet.specs.Ids.{same_view, is_member}
+use Rattle.view_exchange.specs.declared.install.Part.{Part}
+use Rattle.view_exchange.specs.declared.install.Install.{Install}
+use Rattle.view_exchange.specs.declared.exchange.Exchange.{Exchange}
+use Rattle.view_exchange.specs.Answers.{opened, with_answer, all_answered}
+use Rattle.view_core.specs.Views.{own_answer, next_view}
+use Rattle.node_state.specs.Applying.{own_parts}
+use Rattle.node_state.specs.Step.{order_row, at_work, started, view_row, body_row}
 use Rattle.world_model.specs.declared.event.Event.{Event}
 use Rattle.world_model.specs.Run.{Happening}
 use Rattle.step_ties.specs.Tied.{Scene, Rests, Tied}
@@ -87,3 +89,18 @@ AckTied = (v : ViewId) (h : List ℕ) (k : ℕ) → GivenTied (body.Ack v h k)
 
 abbrev pub EntryTied : Type 0
 EntryTied = (v : ViewId) (h : List ℕ) (i stable : ℕ) (e : Entry) → GivenTied (body.Entry v h i stable e)
+
+-- an install that is not applied: of the node's view, or of one that it did not promise or is no member of
+abbrev pub InstallLeftTied : Type 0
+InstallLeftTied =
+    (i : Install) (g : List ℕ) (w : Scene) (n : ℕ) (f : Answering) (s : Core) (from inc : ℕ) → (same_view s.views.view i.view ≡ true) ⊎ ((same_view s.views.promise i.view && is_member i.members s.views.me s.views.inc) ≡ false) → Tied g w n s → Tied g w n (view_row f s from inc (view.Install i))
+
+-- an answer that is not the last one
+abbrev pub AnswerTied : Type 0
+AnswerTied =
+    (v old : ViewId) (parts : List Part) (g : List ℕ) (w : Scene) (n : ℕ) (f : Answering) (s : Core) (p : Packet) → p.body ≡ body.View (view.Answer v old parts) → Has p w.sent → ((e : Exchange) → s.views.gathering ≡ Some e → all_answered (with_answer e (record { node = p.from; inc = p.inc; view = old; parts = parts })) ≡ false) → Tied g w n s → Tied g w n (body_row f s p (body.View (view.Answer v old parts)))
+
+-- an order to ask others too
+abbrev pub AskTied : Type 0
+AskTied =
+    (mask : Mask) (g : List ℕ) (w : Scene) (n : ℕ) (f : Answering) (s : Core) → all_answered (with_answer (opened (next_view s.views) mask) (own_answer s.views (own_parts s))) ≡ false → Tied g w n s → Tied g w n (order_row f s mask)

@@ -1,6 +1,5 @@
 -- The tie: a node in the middle of a step, and the world around it, stand for the life of a group.
 use Rattle.std.specs.Prelude.{ℕ, ◌≤◌, ◌<◌, ◌≡◌, ◌≢◌, ◌⊎◌, Bool, true, false, List, [], ◌∷◌, ◌++◌, reverse, Option, Some, None, slice_get}
-use Rattle.std.specs.Str.{bytes_eq}
 use Rattle.rsct_packet.specs.declared.ids.ViewId.{ViewId}
 use Rattle.rsct_packet.specs.declared.ids.ProviderId.{ProviderId}
 use Rattle.rsct_packet.specs.declared.ids.Member.{Member}
@@ -21,11 +20,9 @@ use Rattle.view_core.specs.declared.views.Views.{Views}
 use Rattle.node_state.specs.declared.config.Mode.{Mode}
 use Rattle.node_state.specs.declared.config.Config.{Config}
 use Rattle.node_state.specs.declared.config.Mode.TheVariants.{Fixed, Asked, Rings}
-use Rattle.node_state.specs.declared.group.Acked.{Acked}
 use Rattle.node_state.specs.declared.group.Decision.{Decision}
 use Rattle.node_state.specs.declared.group.GroupRow.{GroupRow}
 use Rattle.node_state.specs.declared.group.Led.{Led}
-use Rattle.node_state.specs.declared.happened.Happened.{Happened}
 use Rattle.node_state.specs.declared.packet.Body.{Body}
 use Rattle.node_state.specs.declared.packet.Body.TheVariants as body
 use Rattle.node_state.specs.declared.packet.Packet.{Packet}
@@ -35,9 +32,9 @@ use Rattle.node_state.specs.State.{row_of, acked_from, decision_of}
 use Rattle.node_state.specs.Step.{first_view, first_members}
 use Rattle.run_safety.specs.Past.{History}
 use Rattle.run_safety.specs.Sight.{lines_with, lines_of}
-use Rattle.run_safety.specs.Group.{member, Standing, Reply, Line, Noted, Asked, Told, In, Put, kept}
+use Rattle.run_safety.specs.Group.{member, Line, Noted, Asked, Told, In, Put, kept}
 use Rattle.run_safety.specs.Group as group
-use Rattle.run_safety.specs.Requests.{carried, Meets, IsJoin}
+use Rattle.run_safety.specs.Requests.{carried, IsJoin}
 use Rattle.run_safety.specs.Moves.{Opening, Alone, Together}
 use Rattle.step_ties.specs.Ghost.{Ghost, Lives, Seen, KeepsIf, CarriesIf, part_of, GathersIf, Installs, InstallsIf, IsStable}
 

@@ -1,7 +1,7 @@
 //! The step of a node, tied to the lives of groups.
 #![tactic(auto)]
 
-ghost use Rattle.step_ties.specs.Rows.{NothingTied, StartTied, StopTied, BeginTied, EndTied, TakenTied, RefuseTied, PrepareTied, AckTied, EntryTied};
+ghost use Rattle.step_ties.specs.Rows.{NothingTied, StartTied, StopTied, BeginTied, EndTied, TakenTied, RefuseTied, PrepareTied, AckTied, EntryTied, InstallLeftTied, AnswerTied, AskTied};
 
 /// Before anything happened, nothing stands for the dawn of each group's life.
 #[tactic(auto, using(crate::proofs::Begins::nothing_tied))]
@@ -61,4 +61,22 @@ pub fn ack_is_tied()
 #[tactic(auto, using(crate::proofs::Entries::entry_is_tied))]
 pub fn entry_is_tied()
     ensures { EntryTied }
+{}
+
+/// INSTALL of the node's view, or of one that it does not enter.
+#[tactic(auto, using(crate::proofs::ViewRows::install_is_tied))]
+pub fn left_install_is_tied()
+    ensures { InstallLeftTied }
+{}
+
+/// ANSWER, up to the last one.
+#[tactic(auto, using(crate::proofs::Gatherings::answer_is_tied))]
+pub fn answer_is_tied()
+    ensures { AnswerTied }
+{}
+
+/// An order to ask, where others are asked too.
+#[tactic(auto, using(crate::proofs::Gatherings::ask_is_tied))]
+pub fn ask_is_tied()
+    ensures { AskTied }
 {}
