@@ -4,8 +4,6 @@
 mod ballot;
 mod kinds;
 mod notice;
-#[cfg(test)]
-mod tests;
 mod texts;
 mod told;
 mod votes;

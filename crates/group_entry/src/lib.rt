@@ -7,8 +7,6 @@ mod laws;
 mod proposal;
 mod proposal_codec;
 mod sizes;
-#[cfg(test)]
-mod tests;
 
 pub use entry::{Closed, Entry, Row, RowVote, Rows, Vote, copy_text};
 pub use entry_codec::{ClosedRef, EntryRef, optional_bytes, optional_text_of};

@@ -1,4 +1,5 @@
 mod one_node;
+mod records;
 
 use crate::status::hags;
 use hags_io::{MemSink, MemSource};

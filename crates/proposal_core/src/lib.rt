@@ -7,8 +7,6 @@ mod group_state;
 mod laws;
 mod samples;
 mod state_codec;
-#[cfg(test)]
-mod tests;
 
 pub use group_entry::{
     Cause, Closed, ClosedRef, Entry, EntryRef, Failure, Fallen, Proposal, ProposalRef, Row,

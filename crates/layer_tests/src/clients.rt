@@ -1,7 +1,7 @@
 //! What no clause says: that the calls succeed where there is memory, and what each kind of client does.
 ghost use Rattle.std.specs.Prelude.{None};
 
-use crate::{
+use client_callbacks::{
     Ballot, BoxedClient, Callbacks, DaemonClient, Made, Notice, ScriptClient, SteadyClient, Told,
     text_word, vote_word, votes_word,
 };

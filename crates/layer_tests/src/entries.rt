@@ -1,5 +1,5 @@
 //! The spelling of a proposal and of an entry of each kind, and the calls that take memory.
-use crate::{Entry, Proposal, copy_text, optional_bytes, optional_text_of};
+use group_entry::{Entry, Proposal, copy_text, optional_bytes, optional_text_of};
 use rsct_packet::Fields;
 use std::alloc::Global;
 use std::process::Abort;
