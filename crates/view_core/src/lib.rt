@@ -1,6 +1,7 @@
 //! Views: promises, preparing and installing.
 #![tactic(auto)]
 
+mod laws;
 mod lists;
 mod packet;
 mod rows;
@@ -9,7 +10,11 @@ mod tick;
 mod views;
 mod work;
 
+pub use laws::{promises_never_fall, views_rise};
 pub use lists::OwnLists;
 pub use packet::{ViewPacket, ViewSend, ViewSends};
 pub use step::{ViewEvent, ViewOut};
 pub use views::{RingAsk, ViewWork, Views};
+
+#[cfg(test)]
+mod tests;

@@ -156,12 +156,7 @@ impl ViewWork {
     }
 
     #[tactic(auto, unfolding(crate::specs::Views::view_sent_all))]
-    fn send_install(
-        &mut self,
-        alloc: Global,
-        to: &[u8],
-        install: &Install,
-    ) -> Result<(), NoMemory>
+    fn send_install(&mut self, alloc: Global, to: &[u8], install: &Install) -> Result<(), NoMemory>
         ensures { OnOk result (self.new ≡ view_sent_all self.old to.now (ViewPacket.Install install.now)) }
     {
         send_install_each(alloc, &mut self.sends, to, install)

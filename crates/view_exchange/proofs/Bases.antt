@@ -62,29 +62,24 @@ lost_failed f p (x ∷ xs) e (inr h) =
 -- one that is live has not
 live_not_failed : (f : ProviderId → Bool) (p : ProviderId) (xs : List ProviderId) → f p ≡ true → among (filter (λ q. not (f q)) xs) p ≡ false
 live_not_failed f p [] e = refl
-live_not_failed f p (x ∷ xs) e = by (f x) refl
+live_not_failed f p (x ∷ xs) e = by (f x) refl (live_not_failed f p xs e)
   where
-    rest : Bool
-    rest = among (filter (λ q. not (f q)) xs) p
     apart : (t : Bool) → same_provider x p ≡ t → f x ≡ false → same_provider x p ≡ false
     apart true s h = absurd (let is = same_provider_is x p s in let g : f x ≡ true = ap f is ∙ e in cc)
     apart false s h = s
-    by : (t : Bool) → f x ≡ t → among (cond (not t) (x ∷ filter (λ q. not (f q)) xs) (filter (λ q. not (f q)) xs)) p ≡ false
-    by true h = live_not_failed f p xs e
-    by false h = or_none (same_provider x p) rest (apart (same_provider x p) refl h) (live_not_failed f p xs e)
+
+    by : (t : Bool) → f x ≡ t → among (filter (λ q. not (f q)) xs) p ≡ false → among (cond (not t) (x ∷ filter (λ q. not (f q)) xs) (filter (λ q. not (f q)) xs)) p ≡ false
+    by true h more = more
+    by false h more = or_none (same_provider x p) (among (filter (λ q. not (f q)) xs) p) (apart (same_provider x p) refl h) more
 
 leader_by : (i : Install) (f : ProviderId → Bool) (xs ms : List ProviderId) → ((m : ProviderId) → Has m ms → Has m xs) → leader_from i.view.coord (filter (λ q. not (f q)) xs) ms ≡ leader_of i (find f ms)
 unfolding leader_from
 leader_by i f xs [] all = refl
-leader_by i f xs (m ∷ ms) all = by (f m) refl
+leader_by i f xs (m ∷ ms) all = by (f m) refl (leader_by i f xs ms (λ p h. all p (inr h)))
   where
-    failed : List ProviderId
-    failed = filter (λ q. not (f q)) xs
-    rest : leader_from i.view.coord failed ms ≡ leader_of i (find f ms)
-    rest = leader_by i f xs ms (λ p h. all p (inr h))
-    by : (t : Bool) → f m ≡ t → (elim (among failed m) [ true ↦ leader_from i.view.coord failed ms | false ↦ m.node ]) ≡ leader_of i (cond t (Some m) (find f ms))
-    by true h = rw (live_not_failed f m xs h) refl
-    by false h = rw (lost_failed f m xs h (all m (inl refl))) rest
+    by : (t : Bool) → f m ≡ t → leader_from i.view.coord (filter (λ q. not (f q)) xs) ms ≡ leader_of i (find f ms) → (elim (among (filter (λ q. not (f q)) xs) m) [ true ↦ leader_from i.view.coord (filter (λ q. not (f q)) xs) ms | false ↦ m.node ]) ≡ leader_of i (cond t (Some m) (find f ms))
+    by true h rest = rw (live_not_failed f m xs h) refl
+    by false h rest = rw (lost_failed f m xs h (all m (inl refl))) rest
 
 -- ---- the base
 
@@ -132,12 +127,12 @@ winner_is_named i g w e =
 
 leader_of_find : (other : ℕ) (failed ms : List ProviderId) (o : Option ProviderId) → find (λ p. not (among failed p)) ms ≡ o → leader_from other failed ms ≡ leader_or other o
 unfolding leader_from
-leader_of_find other failed [] o e = let none : None ≡ o = cc in subst (λ (z : Option ProviderId). other ≡ leader_or other z) none refl
-leader_of_find other failed (m ∷ ms) o e = by (among failed m) e
+leader_of_find other failed [] o e = subst (λ (z : Option ProviderId). other ≡ leader_or other z) e refl
+leader_of_find other failed (m ∷ ms) o e = by (among failed m) e (λ g. leader_of_find other failed ms o g)
   where
-    by : (t : Bool) → cond (not t) (Some m) (find (λ p. not (among failed p)) ms) ≡ o → (elim t [ true ↦ leader_from other failed ms | false ↦ m.node ]) ≡ leader_or other o
-    by true e = leader_of_find other failed ms o e
-    by false e = let some : Some m ≡ o = cc in subst (λ (z : Option ProviderId). m.node ≡ leader_or other z) some refl
+    by : (t : Bool) → cond (not t) (Some m) (find (λ p. not (among failed p)) ms) ≡ o → (find (λ p. not (among failed p)) ms ≡ o → leader_from other failed ms ≡ leader_or other o) → (elim t [ true ↦ leader_from other failed ms | false ↦ m.node ]) ≡ leader_or other o
+    by true e rec = rec e
+    by false e rec = subst (λ (z : Option ProviderId). m.node ≡ leader_or other z) e refl
 
 pub leader_found : (other : ℕ) (failed ms : List ProviderId) (p : ProviderId) → Some p ≡ find (λ p. not (among failed p)) ms → p.node ≡ leader_from other failed ms
 leader_found other failed ms p e = sym (leader_of_find other failed ms (Some p) (sym e))

@@ -42,7 +42,7 @@ differ-filter f (x ∷ xs) h =
       | false ↦ differ-filter f xs parts.1
     ]
 
-filter_no_more : (f : ProviderId → Bool) (xs : List ProviderId) → length (filter f xs) ≤ length xs
+pub filter_no_more : (f : ProviderId → Bool) (xs : List ProviderId) → length (filter f xs) ≤ length xs
 filter_no_more f [] = omega arith
 filter_no_more f (x ∷ xs) =
     let h = filter_no_more f xs in

@@ -1,6 +1,6 @@
 -- What is read as a part, an answer or an install is spelled so, and what is spelled so is read.
 use Rattle.std.proofs.Common.{◌≡◌, ℕ, ◌+◌, ◌^◌, ◌<◌, ◌≤◌, Bool, List, [], ◌∷◌, ◌++◌, length, get_or, Option, Some, None, refl, sym, ap, subst, ◌∙◌, append_assoc, append-nil, arith, length-append, inl, inr}
-use Rattle.std.specs.Prelude.{IsTrue, IfSome, ◌&&◌, nat_le}
+use Rattle.std.specs.Prelude.{IsTrue, IfSome, IfOk, Result, Ok, Err, ◌&&◌, nat_le}
 use Rattle.std.specs.Int.{w8, w32}
 use Rattle.std.proofs.lemmas.Bool.{cases_lt, leb-true, le-leb}
 use Rattle.std.proofs.lemmas.List.{get_or_append_left, get_or_past}
@@ -18,6 +18,7 @@ use Rattle.std.specs.Option.{option_map}
 use Rattle.view_exchange.specs.declared.install.Part.{Part}
 use Rattle.view_exchange.specs.declared.in_place.PartRef.{PartRef}
 use Rattle.view_exchange.specs.InPlace.{part_in}
+use Rattle.view_exchange.specs.Tails.{IsTail, AreTails, HasTails}
 use Rattle.view_exchange.specs.declared.install.Source.{Source}
 use Rattle.view_exchange.specs.declared.install.Install.{Install}
 use Rattle.view_exchange.specs.Codec.{sized_at, sized_text, sized_entry_at, sized_entry_text, IsSizedEntry, part_of_parts, ends_in_u32, group_part_at, group_part_text, IsPart, names_ascend, parts_at, parts_text, IsParts, Brought, brought_of_parts, answer_at, answer_text, IsAnswer, source_of_parts, source_at_front, source_text, IsSource, members_ascend, views_ascend, each_comes_once, is_in_order, install_of_parts, install_at, install_text, IsInstall}
@@ -52,7 +53,7 @@ sized_format {A = A} {f = f} {text = text} {fits = fits} format = record {
       p.0.parts ∙ (ap (λ (b : List ℕ). u32_text n.0.0 ++ b) rest ∙ (ap (λ (k : ℕ). u32_text k ++ (text y.0 ++ t.0.1)) len ∙ sym (append_assoc (u32_text (length (text y.0))) (text y.0) t.0.1)))
       in
       let short : IsU32 (length (text y.0)) = subst (λ (k : ℕ). IsU32 k) len p.1 in
-      let is : ◌≡◌ {A = A × List ℕ} (y.0, t.0.1) x = y.2 in
+      let is : ◌≡◌ {A = A × List ℕ} (y.0, t.0.1) x = let q = y.2 in cc in
       subst (λ (z : A × List ℕ). Takes bytes (sized_text text z.0) z.1 × (fits z.0 × IsU32 (length (text z.0)))) is
       (record { parts = parts; rest_fits = q.0.rest_fits }, (r.1, short));
   again = λ x rest h.
@@ -153,3 +154,33 @@ member_nodes_in (m ∷ ms) h = (h.0.node, member_nodes_in ms h.1)
 
 pub member_nodes : (i : Install) → IsInstall i → EachFits (λ m. IsNode m.node) i.members
 member_nodes i h = member_nodes_in i.members h.members
+
+-- what is spelled is of lists
+
+parts_are_tails : (ps : List Part) → EachFits IsPart ps → EachFits IsTail ps
+parts_are_tails [] h = tt
+parts_are_tails (p ∷ ps) h = let ends = h.0.ends in (record { ends = omega arith; joiners = h.0.state.joiners }, parts_are_tails ps h.1)
+
+sources_are_tails : (ss : List Source) → EachFits IsSource ss → EachFits AreTails ss
+sources_are_tails [] h = tt
+sources_are_tails (s ∷ ss) h = (parts_are_tails s.parts h.0.parts.each, sources_are_tails ss h.1)
+
+pub installs_have_tails : (i : Install) → IsInstall i → HasTails i
+installs_have_tails i h = record { each = sources_are_tails i.sources h.sources }
+
+-- the same of a result that may have found no memory
+pub result_found : {A E : Type 0} {f : List ℕ → Option (A × List ℕ)} {text : A → List ℕ} {fits : A → Type 0} → IsFormat f text fits → (bytes : List ℕ) (r : Result (Option A) E) → IsBytes bytes → IfOk r (λ o. o ≡ whole (f bytes)) → IfOk r (λ o. IfSome o (λ x. fits x × (bytes ≡ text x)))
+result_found format bytes (Ok o) h e = whole_found format bytes o h e
+result_found format bytes (Err x) h e = tt
+
+pub result_only : {A E : Type 0} {f : List ℕ → Option (A × List ℕ)} {text : A → List ℕ} {fits : A → Type 0} → IsFormat f text fits → (bytes : List ℕ) (r : Result (Option A) E) (x : A) → IfOk r (λ o. o ≡ whole (f bytes)) → fits x → bytes ≡ text x → IfOk r (λ o. o ≡ Some x)
+result_only format bytes (Ok o) x e h is = whole_only format bytes o x e h is
+result_only format bytes (Err y) x e h is = tt
+
+found_has_tails : (bytes : List ℕ) (o : Option Install) → IfSome o (λ i. IsInstall i × (bytes ≡ install_text i)) → IfSome o HasTails
+found_has_tails bytes None h = tt
+found_has_tails bytes (Some i) h = installs_have_tails i h.0
+
+pub result_has_tails : {E : Type 0} (bytes : List ℕ) (r : Result (Option Install) E) → IsBytes bytes → IfOk r (λ o. o ≡ whole (install_at bytes)) → IfOk r (λ o. IfSome o HasTails)
+result_has_tails bytes (Ok o) h e = found_has_tails bytes o (whole_found install_format bytes o h e)
+result_has_tails bytes (Err x) h e = tt

@@ -75,37 +75,36 @@ best_leads : (seen : Candidate → Type 0) (cs : List Candidate) (b w : Candidat
 best_leads seen [] b w sb leads above asc e =
     let same : b ≡ w = cc in
     subst (λ (x : Candidate). Best x seen []) same (record { over_seen = leads; over_rest = λ d h. absurd h; there = inl sb })
-best_leads seen (c ∷ cs) b w sb leads above asc e = by (beats c b) refl e
+best_leads seen (c ∷ cs) b w sb leads above asc e =
+    by (beats c b) refl e
+    (λ x nx lead g.
+    best_leads (λ d. seen d ⊎ (d ≡ c)) cs x w nx lead
+    (λ d s k h. ⊎_elim (λ (a : seen d). above d a k (inr h)) (λ (a : d ≡ c). subst (λ (z : Candidate). NoLess k z) (sym a) (asc.0 k h)) s)
+    asc.1
+    g)
   where
-    -- what was seen so far, with this one
-    now : Candidate → Type 0
-    now d = seen d ⊎ (d ≡ c)
-    from : Best w now cs → Best w seen (c ∷ cs)
+    from : Best w (λ d. seen d ⊎ (d ≡ c)) cs → Best w seen (c ∷ cs)
     from r = record {
       over_seen = λ d s. r.over_seen d (inl s);
       over_rest = λ d h. ⊎_elim (λ (s : d ≡ c). r.over_seen d (inr s)) (λ (t : Has d cs). r.over_rest d t) h;
-      there = ⊎_elim (λ (s : now w). ⊎_elim (λ (a : seen w). inl a) (λ (a : w ≡ c). inr (inl a)) s) (λ (t : Has w cs). inr (inr t)) r.there;
+      there = ⊎_elim (λ (s : seen w ⊎ (w ≡ c)). ⊎_elim (λ (a : seen w). inl a) (λ (a : w ≡ c). inr (inl a)) s) (λ (t : Has w cs). inr (inr t)) r.there;
     }
-    going : (x : Candidate) → now x → ((d : Candidate) → now d → Leads x d) → best_after (Some x) cs ≡ Some w → Best w seen (c ∷ cs)
-    going x nx lead e =
+
+    by : (t : Bool) → beats c b ≡ t → best_after (elim t [ true ↦ Some c | false ↦ Some b ]) cs ≡ Some w → ((x : Candidate) → seen x ⊎ (x ≡ c) → ((d : Candidate) → seen d ⊎ (d ≡ c) → Leads x d) → best_after (Some x) cs ≡ Some w → Best w (λ d. seen d ⊎ (d ≡ c)) cs) → Best w seen (c ∷ cs)
+    by true f e rec =
         from
-        (best_leads now cs x w nx lead
-        (λ d s k h. ⊎_elim (λ (a : seen d). above d a k (inr h)) (λ (a : d ≡ c). subst (λ (z : Candidate). NoLess k z) (sym a) (asc.0 k h)) s)
-        asc.1
-        e)
-    by : (t : Bool) → beats c b ≡ t → best_after (elim t [ true ↦ Some c | false ↦ Some b ]) cs ≡ Some w → Best w seen (c ∷ cs)
-    by true f e =
-        going c (inr refl)
+        (rec c (inr refl)
         (λ d s.
         ⊎_elim (λ (a : seen d). leads_more c b d (leb-true b.live c.live f) (leads d a) (above d a c (inl refl)))
         (λ (a : d ≡ c). subst (λ (z : Candidate). Leads c z) (sym a) (leads_itself c)) s)
-        e
-    by false f e =
-        going b (inl sb)
+        e)
+    by false f e rec =
+        from
+        (rec b (inl sb)
         (λ d s.
         ⊎_elim (λ (a : seen d). leads d a)
         (λ (a : d ≡ c). subst (λ (z : Candidate). Leads b z) (sym a) (led_less b c (leb-false b.live c.live f))) s)
-        e
+        e)
 
 -- ---- who is a candidate
 
@@ -173,10 +172,11 @@ all_after v (s ∷ ss) t asc h =
 
 ascend_append : (xs ys : List Candidate) → Ascend xs → Ascend ys → ((x : Candidate) → Has x xs → (y : Candidate) → Has y ys → NoLess y x) → Ascend (xs ++ ys)
 ascend_append [] ys a b over = b
-ascend_append (x ∷ xs) ys a b over =
-    (λ d h.
-    ⊎_elim (λ (k : Has d xs). a.0 d k) (λ (k : Has d ys). over x (inl refl) d k) (has_append d xs ys h),
-    ascend_append xs ys a.1 b (λ z k y m. over z (inr k) y m))
+ascend_append (x ∷ xs) ys a b over = (
+  λ d h.
+      ⊎_elim (λ (k : Has d xs). a.0 d k) (λ (k : Has d ys). over x (inl refl) d k) (has_append d xs ys h),
+  ascend_append xs ys a.1 b (λ z k y m. over z (inr k) y m),
+)
 
 ascend_same : (v : ViewId) (xs : List Candidate) → ((x : Candidate) → Has x xs → x.source.view ≡ v) → Ascend xs
 ascend_same v [] all = tt
@@ -210,9 +210,10 @@ best_of_all [] w asc e = absurd cc
 best_of_all (c ∷ cs) w asc e =
     let seen : Candidate → Type 0 = λ d. d ≡ c in
     let r = best_leads seen cs c w refl (λ d s. subst (λ (z : Candidate). Leads c z) (sym s) (leads_itself c))
-    (λ d s k h. subst (λ (z : Candidate). NoLess k z) (sym s) (asc.0 k h)) asc.1 (sym (best_is (c ∷ cs)) ∙ e) in
-    (λ d h. ⊎_elim (λ (s : d ≡ c). r.over_seen d s) (λ (t : Has d cs). r.over_rest d t) h,
-    ⊎_elim (λ (s : w ≡ c). inl s) (λ (t : Has w cs). inr t) r.there)
+    (λ d s k h. subst (λ (z : Candidate). NoLess k z) (sym s) (asc.0 k h)) asc.1 (sym (best_is (c ∷ cs)) ∙ e) in (
+      λ d h. ⊎_elim (λ (s : d ≡ c). r.over_seen d s) (λ (t : Has d cs). r.over_rest d t) h,
+      ⊎_elim (λ (s : w ≡ c). inl s) (λ (t : Has w cs). inr t) r.there,
+    )
 
 pub winner_wins : (i : Install) (g : List ℕ) (w : Candidate) → IsTrue (views_ascend i.sources) → best_of beats (candidates i g i.sources) ≡ Some w → Wins i g w.source w.part
 winner_wins i g w asc e =
@@ -244,13 +245,11 @@ winner_wins i g w asc e =
 best_among : (b w : Candidate) (cs : List Candidate) → best_after (Some b) cs ≡ Some w → (w ≡ b) ⊎ Has w cs
 best_among b w [] e = let same : w ≡ b = cc in inl same
 best_among b w (c ∷ cs) e =
-    by (beats c b) e
+    by (beats c b) e (λ x g. best_among x w cs g)
   where
-    more : (x : Candidate) → (w ≡ x) ⊎ Has w cs → (w ≡ x → (w ≡ b) ⊎ Has w (c ∷ cs)) → (w ≡ b) ⊎ Has w (c ∷ cs)
-    more x r f = ⊎_elim (λ (s : w ≡ x). f s) (λ (t : Has w cs). inr (inr t)) r
-    by : (t : Bool) → best_after (elim t [ true ↦ Some c | false ↦ Some b ]) cs ≡ Some w → (w ≡ b) ⊎ Has w (c ∷ cs)
-    by true e = more c (best_among c w cs e) (λ s. inr (inl s))
-    by false e = more b (best_among b w cs e) (λ s. inl s)
+    by : (t : Bool) → best_after (elim t [ true ↦ Some c | false ↦ Some b ]) cs ≡ Some w → ((x : Candidate) → best_after (Some x) cs ≡ Some w → (w ≡ x) ⊎ Has w cs) → (w ≡ b) ⊎ Has w (c ∷ cs)
+    by true e rec = ⊎_elim (λ (s : w ≡ c). inr (inl s)) (λ (t : Has w cs). inr (inr t)) (rec c e)
+    by false e rec = ⊎_elim (λ (s : w ≡ b). inl s) (λ (t : Has w cs). inr (inr t)) (rec b e)
 
 best_has : (cs : List Candidate) (w : Candidate) → best_of beats cs ≡ Some w → Has w cs
 best_has [] w e = absurd cc

@@ -1,5 +1,5 @@
 -- How parts, answers and installs are spelled.
-use Rattle.std.specs.Prelude.{◌≡◌, ℕ, ◌+◌, ◌<◌, ◌≤◌, ◌^◌, Bool, true, false, ◌==◌, ◌&&◌, IsTrue, nat_le, List, [], ◌∷◌, ◌++◌, length, map, count_by, Option, Some, None, if◌then◌else◌}
+use Rattle.std.specs.Prelude.{◌≡◌, ℕ, ◌+◌, ◌<◌, ◌≤◌, ◌^◌, Bool, true, false, ◌==◌, ◌&&◌, IsTrue, nat_le, List, [], ◌∷◌, ◌++◌, length, map, not, Option, Some, None}
 use Rattle.std.specs.Int.{w8, w32}
 use Rattle.std.specs.List.{list_any, list_all}
 use Rattle.rsct_packet.specs.declared.ids.ViewId.{ViewId}
@@ -138,15 +138,16 @@ views_ascend_from last (s ∷ ss) = is_after_view last s.view && views_ascend_fr
 abbrev pub views_ascend : List Source → Bool
 views_ascend ss = views_ascend_from None ss
 
--- how many of the sources a node comes from, and should
-abbrev pub origins : List Source → ℕ → ℕ
-origins ss n = count_by (λ (s : Source). has_node s.nodes n) ss
-
 abbrev pub has_member : List Member → ℕ → Bool
 has_member ms n = list_any (λ (m : Member). m.node == n) ms
 
+-- a node comes from just one of these, or where it is not wanted from none
+abbrev pub comes_from : Bool → List Source → ℕ → Bool
+comes_from wanted [] n = not wanted
+comes_from wanted (s ∷ ss) n = elim (has_node s.nodes n) [ true ↦ wanted && comes_from false ss n | false ↦ comes_from wanted ss n ]
+
 abbrev pub comes_once : List Member → List Source → ℕ → Bool
-comes_once ms ss n = origins ss n == (if has_member ms n then 1 else 0)
+comes_once ms ss n = comes_from (has_member ms n) ss n
 
 -- members ascend, sources ascend, each member comes from just one source, and nobody else from any
 unfoldable pub each_comes_once : List Member → List Source → Bool

@@ -4,6 +4,8 @@ pub mod InPlace
 pub mod SourcesInPlace
 pub mod Tails
 pub mod Answers
+pub mod Gathered
+pub mod Longest
 pub mod Bases
 pub mod Best
 pub mod Carried

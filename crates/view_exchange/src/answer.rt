@@ -44,7 +44,6 @@ fn whole_answer(b: &[u8]) -> Option<AnswerRef<'_>>
 
 impl<'a> AnswerRef<'a> {
     /// Takes an answer that spans all of the bytes, and copies nothing. None exactly where they spell none.
-    #[tactic(auto, using(crate::proofs::Formats::whole_found, crate::proofs::Formats::whole_only, crate::proofs::Formats::answer_format))]
     pub fn read(b: &'a [u8]) -> Option<AnswerRef<'a>>
         ensures value { option_map (λ a. brought_in a) result ≡ whole (answer_at b.now) }
         ensures found { IfSome (option_map (λ a. brought_in a) result) (λ a. IsAnswer a × (b.now ≡ answer_text a)) }

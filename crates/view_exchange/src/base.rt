@@ -1,5 +1,5 @@
 //! What a group begins with in the view of an install.
-ghost use Rattle.std.specs.Prelude.{◌≡◌, not, filter, find, length, IfOk, IfSome, IsTrue};
+ghost use Rattle.std.specs.Prelude.{◌≡◌, ◌≤◌, not, filter, find, length, IfOk, IfSome, IsTrue};
 ghost use Rattle.std.specs.Option.{option_map};
 ghost use Rattle.rsct_packet.specs.Providers.{among, AreProviders};
 ghost use Rattle.proposal_core.specs.Fold.{joiners_fit, joiners_in, present};
@@ -75,9 +75,10 @@ impl Install {
         self.has_member(p.node, p.inc) && source.nodes.has(p.node)
     }
 
-    #[tactic(auto, using(crate::proofs::Winning::count_is_length))]
+    #[tactic(auto, using(crate::proofs::Winning::count_is_length, crate::proofs::Failing::filter_no_more))]
     fn count_live(&self, source: &Source, ps: &[ProviderId]) -> usize
-        ensures { result ≡ length (filter (is_live_from self.now source.now) ps.now) }
+        ensures value { result ≡ length (filter (is_live_from self.now source.now) ps.now) }
+        ensures few { result ≤ length ps.now }
     {
         ps.iter().filter(|p| self.is_live_from(source, **p)).count()
     }
@@ -201,7 +202,9 @@ impl Install {
 fn find_not_in(failed: &Providers, ps: &[ProviderId]) -> Option<ProviderId>
     ensures { result ≡ find (λ p. not (among failed.now p)) ps.now }
 {
-    ps.iter().copied().find(|p| !is_among(failed.as_slice(), *p))
+    ps.iter()
+        .copied()
+        .find(|p| !is_among(failed.as_slice(), *p))
 }
 
 /// The node of the first of these that is not in the list, or else the other node.

@@ -1,9 +1,9 @@
 //! What an install tells of itself.
-ghost use Rattle.std.specs.Prelude.{◌≡◌, IfSome, option_copied, IsSome, ◌↔◌, IsTrue};
+ghost use Rattle.std.specs.Prelude.{◌≡◌, find, option_copied};
+ghost use Rattle.rsct_packet.specs.Mask.{has_node};
 ghost use Rattle.rsct_packet.specs.Ids.{is_member};
 ghost use Rattle.view_exchange.specs.Answers.{is_spelled, is_source_spelled};
 ghost use Rattle.view_exchange.specs.InPlace.{entry_of};
-ghost use Rattle.view_exchange.specs.Tails.{HasTails};
 ghost use Rattle.view_exchange.specs.Carried.{carried_at, carried_len, carried_entry, came_from};
 ghost use Rattle.view_exchange.specs.Codec.{has_member};
 ghost use Rattle.view_exchange.specs.Bases.{parts_in, parts_from, source_at};
@@ -106,6 +106,12 @@ impl Install {
         self.members.as_slice().iter().any(|m| m.node == node)
     }
 
+    fn source_of(&self, node: u8) -> Option<&Source>
+        ensures { option_copied result ≡ find (λ s. has_node s.nodes node) self.now.sources }
+    {
+        self.sources.as_slice().iter().find(|s| s.nodes.has(node))
+    }
+
     /// The old view of a member; none of a node that is no member.
     #[tactic(auto, unfolding(crate::specs::Carried::came_from))]
     pub fn came_from(&self, node: u8) -> Option<ViewId>
@@ -114,7 +120,9 @@ impl Install {
         if !self.is_node(node) {
             return None;
         }
-        let source = self.sources.as_slice().iter().find(|s| s.nodes.has(node))?;
-        Some(source.view)
+        match self.source_of(node) {
+            None => None,
+            Some(source) => Some(source.view),
+        }
     }
 }

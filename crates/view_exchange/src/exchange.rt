@@ -3,6 +3,8 @@ ghost use Rattle.std.specs.Prelude.{◌≡◌, ◌≤◌, length, filter, not, I
 ghost use Rattle.rsct_packet.specs.Mask.{nodes_of};
 ghost use Rattle.rsct_packet.specs.Search.{front_len};
 ghost use Rattle.view_exchange.specs.Answers.{opened, has_answered, may_answer, is_member_above, with_member, with_answer, answer_added, all_answered, install_of};
+ghost use Rattle.rsct_packet.specs.Format.{EachFits};
+ghost use Rattle.view_exchange.specs.Tails.{IsTail, HasTails, KeepsTails};
 ghost use Rattle.view_exchange.specs.InPlace.{answer_in};
 
 use crate::answer::{Answer, AnswerRef};
@@ -55,9 +57,10 @@ fn with_member(alloc: Global, members: &Members, m: Member) -> Result<Members, N
 
 impl Exchange {
     /// A gathering for a view, of which nobody has answered yet.
-    #[tactic(auto, unfolding(crate::specs::Answers::opened))]
+    #[tactic(auto, unfolding(crate::specs::Answers::opened), using(crate::proofs::TailLaws::opened_keeps))]
     pub fn open(alloc: Global, view: ViewId, asked: Mask) -> Exchange
-        ensures { result ≡ opened view asked }
+        ensures value { result ≡ opened view asked }
+        ensures tails { KeepsTails result }
     {
         Exchange {
             view,
@@ -69,14 +72,15 @@ impl Exchange {
     }
 
     /// A gathering that begins with the own answer. Of its lists nothing is copied.
-    #[tactic(auto, unfolding(crate::specs::Answers::opened, crate::specs::Answers::with_answer, crate::specs::Answers::with_side))]
+    #[tactic(auto, unfolding(crate::specs::Answers::opened, crate::specs::Answers::with_answer, crate::specs::Answers::with_side), using(crate::proofs::TailLaws::begun_keeps))]
     pub fn open_with(
         alloc: Global,
         view: ViewId,
         asked: Mask,
         own: Answer,
     ) -> Result<Exchange, NoMemory>
-        ensures { IfOk result (λ x. x ≡ with_answer (opened view asked) own) }
+        ensures value { IfOk result (λ x. x ≡ with_answer (opened view asked) own) }
+        ensures tails { EachFits IsTail own.parts → IfOk result KeepsTails }
     {
         let member = Member {
             node: own.node,
@@ -132,7 +136,7 @@ impl Exchange {
     /// Adds the answer of a node in an incarnation. False exactly where the node was not asked or has answered; then
     /// nothing changes. A list is copied only where it is longer than the one that is kept of its view and group, or
     /// as long and of a lesser node. Where memory has run out nothing is said of the gathering.
-    #[tactic(auto, unfolding(crate::specs::Answers::answer_added))]
+    #[tactic(auto, unfolding(crate::specs::Answers::answer_added), using(crate::proofs::TailLaws::answer_keeps))]
     pub fn add(
         &mut self,
         alloc: Global,
@@ -142,6 +146,7 @@ impl Exchange {
     ) -> Result<bool, NoMemory>
         ensures counts { IfOk result (λ b. b ≡ may_answer self.old node) }
         ensures added { IfOk result (λ b. self.new ≡ answer_added self.old (answer_in node inc a.now) b) }
+        ensures tails { KeepsTails self.old → EachFits IsTail a.now.parts → IfOk result (λ _. KeepsTails self.new) }
     {
         if !self.may_answer(node) {
             return Ok(false);
@@ -164,9 +169,10 @@ impl Exchange {
 
     /// The install of the view: its members are those who answered, and for each old view and group it carries the
     /// longest list of the answers, of equal ones that of the least node.
-    #[tactic(auto, unfolding(crate::specs::Answers::install_of))]
+    #[tactic(auto, unfolding(crate::specs::Answers::install_of), using(crate::proofs::TailLaws::install_has_tails))]
     pub fn install(self, alloc: Global) -> Result<Install, NoMemory>
-        ensures { IfOk result (λ i. i ≡ install_of self) }
+        ensures value { IfOk result (λ i. i ≡ install_of self) }
+        ensures tails { KeepsTails self → IfOk result HasTails }
     {
         Ok(Install {
             view: self.view,

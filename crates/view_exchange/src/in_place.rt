@@ -126,13 +126,15 @@ impl<'a> EntriesRef<'a> {
     }
 
     /// The entry at this place, of which nothing is copied.
+    #[tactic(auto, using(crate::proofs::Drops::dropped_one, crate::proofs::Drops::dropped_all, crate::proofs::Drops::got_one, crate::proofs::Drops::got_none))]
     pub fn get(&self, i: usize) -> Option<EntryRef<'a>>
         ensures { option_map (λ e. entry_in e) result ≡ slice_get self.now i }
     {
         let mut left = self.copy();
         for _k in 0..i {
-            if left.take_first().is_none() {
-                return None;
+            match left.take_first() {
+                None => return None,
+                Some(_entry) => {}
             }
         }
         left.take_first()

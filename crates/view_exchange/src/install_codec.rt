@@ -4,6 +4,7 @@ ghost use Rattle.std.specs.Option.{option_map};
 ghost use Rattle.rsct_packet.specs.Format.{IsBytes, EachFits};
 ghost use Rattle.group_entry.specs.EntryCodec.{whole};
 ghost use Rattle.view_exchange.specs.Codec.{source_text, IsSource, has_member, comes_once, each_comes_once, members_ascend, is_in_order, install_at, install_text, IsInstall};
+ghost use Rattle.view_exchange.specs.Tails.{HasTails};
 ghost use Rattle.view_exchange.specs.SourcesInPlace.{install_in};
 
 use crate::install::{Install, Source};
@@ -54,7 +55,7 @@ fn do_members_ascend(members: &Listed<Member>) -> bool
 fn comes_once(members: &Listed<Member>, sources: &SourcesRef, node: u8) -> bool
     ensures { result ≡ comes_once members.now sources.now node }
 {
-    sources.origins(node) == if has_member(members, node) { 1 } else { 0 }
+    sources.does_come(has_member(members, node), node)
 }
 
 #[tactic(auto, unfolding(crate::specs::Codec::each_comes_once))]
@@ -127,17 +128,24 @@ fn put_each_source(alloc: Global, out: &mut Vec<u8>, sources: &[Source]) -> Resu
 }
 
 impl Install {
-    /// Takes an install that spans all of the bytes. `Ok(None)` exactly where they spell none.
-    #[tactic(auto, using(crate::proofs::Formats::whole_found, crate::proofs::Formats::whole_only, crate::proofs::Formats::install_format))]
-    pub fn read(alloc: Global, b: &[u8]) -> Result<Option<Install>, NoMemory>
+    fn read_alone(alloc: Global, b: &[u8]) -> Result<Option<Install>, NoMemory>
         ensures value { IfOk result (λ o. o ≡ whole (install_at b.now)) }
-        ensures found { IfOk result (λ o. IfSome o (λ i. IsInstall i × (b.now ≡ install_text i))) }
-        ensures only { (i : Install) → IsInstall i → b.now ≡ install_text i → IfOk result (λ o. o ≡ Some i) }
+        ensures bytes { IsBytes b.now }
     {
         match whole_install(b) {
             None => Ok(None),
             Some(i) => Ok(Some(i.own(alloc)?)),
         }
+    }
+
+    /// Takes an install that spans all of the bytes. `Ok(None)` exactly where they spell none.
+    pub fn read(alloc: Global, b: &[u8]) -> Result<Option<Install>, NoMemory>
+        ensures value { IfOk result (λ o. o ≡ whole (install_at b.now)) }
+        ensures found { IfOk result (λ o. IfSome o (λ i. IsInstall i × (b.now ≡ install_text i))) }
+        ensures only { (i : Install) → IsInstall i → b.now ≡ install_text i → IfOk result (λ o. o ≡ Some i) }
+        ensures tails { IfOk result (λ o. IfSome o HasTails) }
+    {
+        Install::read_alone(alloc, b)
     }
 
     /// The spelling, in memory of its own.

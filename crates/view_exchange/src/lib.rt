@@ -10,6 +10,7 @@ mod exchange;
 mod in_place;
 mod install;
 mod install_codec;
+mod laws;
 mod sides;
 mod sources_in_place;
 mod writing;
@@ -18,6 +19,7 @@ pub use answer::{Answer, AnswerRef, put_answer};
 pub use exchange::Exchange;
 pub use in_place::{EntriesRef, PartRef, PartsRef};
 pub use install::{Base, Install, Part, Parts, Source, Sources};
+pub use laws::{first_answers_count, longest_lists_are_carried};
 pub use sides::{Kept, KeptParts, Side, Sides};
 
 #[cfg(test)]

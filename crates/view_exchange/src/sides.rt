@@ -144,6 +144,7 @@ impl KeptParts {
         }
     }
 
+    #[tactic(auto, unfolding(crate::specs::Answers::with_parts))]
     fn keep_all(&mut self, alloc: Global, node: u8, parts: &PartsRef) -> Result<(), NoMemory>
         ensures { OnOk result (self.new ≡ with_parts node self.old parts.now) }
     {

@@ -4,7 +4,7 @@ ghost use Rattle.std.specs.Option.{option_map};
 ghost use Rattle.std.specs.Int.{w8};
 ghost use Rattle.rsct_packet.specs.Reading.{Gives, many_at, counted_at};
 ghost use Rattle.rsct_packet.specs.Ids.{view_lt};
-ghost use Rattle.view_exchange.specs.Codec.{source_at_front, is_after_view, views_ascend, origins};
+ghost use Rattle.view_exchange.specs.Codec.{source_at_front, is_after_view, views_ascend, comes_from};
 ghost use Rattle.view_exchange.specs.SourcesInPlace.{source_in};
 
 use crate::in_place::{PartsRef, read_parts};
@@ -137,18 +137,21 @@ impl<'a> SourcesRef<'a> {
         true
     }
 
-    /// How many of them name the node?
-    pub fn origins(&self, node: u8) -> usize
-        ensures { result ≡ origins self.now node }
+    /// Does the node come from just one of them, or where it is not wanted from none?
+    pub fn does_come(&self, wanted: bool, node: u8) -> bool
+        ensures { result ≡ comes_from wanted self.now node }
     {
-        let mut n: usize = 0;
+        let mut wanted = wanted;
         let mut left = self.copy();
         while let Some(source) = left.take_first() {
             if source.nodes.has(node) {
-                n += 1;
+                if !wanted {
+                    return false;
+                }
+                wanted = false;
             }
         }
-        n
+        !wanted
     }
 }
 
