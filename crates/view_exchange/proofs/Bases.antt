@@ -1,6 +1,9 @@
 -- What the base of a group is.
 use Rattle.std.proofs.Common.{◌≡◌, ℕ, ◌<◌, Bool, true, false, cond, List, [], ◌∷◌, ◌++◌, Option, Some, None, refl, sym, ap, subst, ◌∙◌, arith, inl, inr, ⊎_elim}
-use Rattle.std.specs.Prelude.{IsTrue, not, ◌&&◌, ◌||◌, filter, find, is_some}
+use Rattle.std.specs.Option.{option_map}
+use Rattle.view_exchange.specs.Best.{winner_in}
+use Rattle.view_exchange.specs.declared.base.Winner.{Winner}
+use Rattle.std.specs.Prelude.{IsTrue, IfSome, IfOk, Result, Ok, Err, not, ◌&&◌, ◌||◌, filter, find, is_some}
 use Rattle.std.specs.Str.{bytes_eq}
 use Rattle.std.proofs.lemmas.Slice.Eq.{bytes_eq-Decides}
 use Rattle.std.proofs.lemmas.Bool.Decides.{nat_tests}
@@ -139,3 +142,13 @@ leader_found other failed ms p e = sym (leader_of_find other failed ms (Some p) 
 
 pub leader_none : (other : ℕ) (failed ms : List ProviderId) → None ≡ find (λ p. not (among failed p)) ms → other ≡ leader_from other failed ms
 leader_none other failed ms e = sym (leader_of_find other failed ms None (sym e))
+
+-- ---- for the code
+
+pub tail_is_found : (i : Install) (g : List ℕ) (r : Option Winner) → HasTails i → option_map winner_in r ≡ best_of beats (candidates i g i.sources) → IfSome r (λ w. IsTail w.part.now)
+tail_is_found i g None h e = tt
+tail_is_found i g (Some w) h e = winner_is_tail i g (winner_in w) h e
+
+pub result_is_base : {E : Type 0} (i : Install) (g : List ℕ) (r : Result (Option Base) E) → IsTrue (views_ascend i.sources) → IfOk r (λ o. o ≡ base_of i g) → IfOk r (BaseIs i g)
+result_is_base i g (Ok o) asc e = base_is i g o asc e
+result_is_base i g (Err x) asc e = tt

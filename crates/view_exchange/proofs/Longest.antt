@@ -121,7 +121,7 @@ edit_differ new (k ∷ ks) d = by (is_kept_of new.part.name k) refl (edit_differ
           let same : i_name r.0 ≡ i_name j = sym (ap i_name r.3 ∙ (better_name new r.0 (named_is new.part.name r.0 r.2) ∙ sym (named_is new.part.name r.0 r.2))) in
           d.0 r.0 r.1 (same ∙ s))
           (edited_has (is_kept_of new.part.name) (better_of new) j ks (once_named new.part.name ks d.1) h),
-      edit_differ new ks d.1,
+      more,
     )
 
 insert_differ : (test : Kept → Bool) (new : Kept) (ks : List Kept) → Differ ks → ((k : Kept) → Has k ks → k.part.name ≡ new.part.name → ⊥) → Differ (insert_before test new ks)
@@ -135,7 +135,7 @@ insert_differ test new (k ∷ ks) d none = by (test k) (insert_differ test new k
           ⊎_elim (λ (e : j ≡ new). none k (inl refl) (sym (sym (ap i_name e) ∙ s)))
           (λ (r : Has j ks). d.0 j r s)
           (inserted_has test new j ks h),
-      insert_differ test new ks d.1 (λ j h. none j (inr h)),
+      more,
     )
 
 kept_holds_at : (offers : Kept → Type 0) (ks : List Kept) (new : Kept) (o : Option ℕ) → place_where (is_kept_of new.part.name) ks ≡ o → Holds offers ks → Holds (λ k. offers k ⊎ (k ≡ new)) (with_kept_at ks new o)
@@ -354,7 +354,7 @@ views_edited a (s ∷ ss) d = by (is_side_of a.view s) refl (views_edited a ss d
           ⊎_elim (λ (r : Has t ss × (is_side_of a.view t ≡ false)). d.0 t r.0 f)
           (λ (r : (u : Side) × Has u ss × (is_side_of a.view u ≡ true) × (t ≡ side_with a u)). d.0 r.0 r.1 (sym (with_view a r.0) ∙ (sym (ap s_view r.3) ∙ f)))
           (edited_has (is_side_of a.view) (side_with a) t ss (once_view a.view ss d.1) h),
-      views_edited a ss d.1,
+      more,
     )
 
 views_inserted : (test : Side → Bool) (new : Side) (ss : List Side) → ViewsDiffer ss → ((s : Side) → Has s ss → s.view ≡ new.view → ⊥) → ViewsDiffer (insert_before test new ss)
@@ -366,7 +366,7 @@ views_inserted test new (s ∷ ss) d none = by (test s) (views_inserted test new
     by false more = (
       λ t h e.
           ⊎_elim (λ (r : t ≡ new). none s (inl refl) (sym (sym (ap s_view r) ∙ e))) (λ (r : Has t ss). d.0 t r e) (inserted_has test new t ss h),
-      views_inserted test new ss d.1 (λ t h. none t (inr h)),
+      more,
     )
 
 side_holds_at : (given : List Answer) (ss : List Side) (a : Answer) (o : Option ℕ) → place_where (is_side_of a.view) ss ≡ o → NamesDiffer a.parts → SidesHold given ss → SidesHold (given ++ a ∷ []) (with_side_at ss a o)

@@ -1,6 +1,6 @@
 -- A gathering of parts of lists keeps parts of lists, and so does its install.
 use Rattle.std.proofs.Common.{◌≡◌, ℕ, Bool, true, false, cond, List, [], ◌∷◌, Option, Some, None, refl, sym, subst}
-use Rattle.std.specs.Prelude.{map}
+use Rattle.std.specs.Prelude.{map, IfOk, Result, Ok, Err}
 use Rattle.rsct_packet.specs.declared.ids.ViewId.{ViewId}
 use Rattle.rsct_packet.specs.declared.mask.Mask.{Mask}
 use Rattle.rsct_packet.specs.Format.{EachFits}
@@ -77,8 +77,9 @@ pub opened_keeps : (v : ViewId) (asked : Mask) → KeepsTails (opened v asked)
 unfolding opened
 opened_keeps v asked = record { each = tt }
 
-pub begun_keeps : (v : ViewId) (asked : Mask) (a : Answer) (x : Exchange) → x ≡ with_answer (opened v asked) a → EachFits IsTail a.parts → KeepsTails x
-begun_keeps v asked a x e h = subst (λ (y : Exchange). KeepsTails y) (sym e) (answer_keeps (opened v asked) a (opened_keeps v asked) h)
+pub begun_keeps : {E : Type 0} (v : ViewId) (asked : Mask) (a : Answer) (r : Result Exchange E) → IfOk r (λ x. x ≡ with_answer (opened v asked) a) → EachFits IsTail a.parts → IfOk r KeepsTails
+begun_keeps v asked a (Ok x) e h = subst (λ (y : Exchange). KeepsTails y) (sym e) (answer_keeps (opened v asked) a (opened_keeps v asked) h)
+begun_keeps v asked a (Err x) e h = tt
 
 kept_are_tails : (ks : List Kept) → EachFits IsKeptTail ks → EachFits IsTail (map (λ (k : Kept). k.part) ks)
 kept_are_tails [] h = tt

@@ -124,7 +124,7 @@ impl Install {
     }
 
     /// The list of the group with the most live providers, of equal ones that of the greatest view.
-    #[tactic(auto, using(crate::proofs::Bases::winner_is_tail, crate::proofs::Bases::winner_is_named))]
+    #[tactic(auto, using(crate::proofs::Bases::winner_is_named))]
     fn best(&self, g: &[u8]) -> Option<Winner<'_>>
         ensures value { option_map winner_in result ≡ best_of beats (candidates self.now g.now self.now.sources) }
         ensures tail { HasTails self.now → IfSome result (λ w. IsTail w.part.now) }
@@ -183,18 +183,25 @@ impl Install {
         })
     }
 
-    /// What a group begins with in the view of this install, which carries parts of lists. `Ok(None)` exactly where
-    /// nobody brings anything of it.
-    #[tactic(auto, unfolding(crate::specs::Bases::base_of), using(crate::proofs::Bases::base_is, std::proofs::lemmas::Grind::common_steps))]
-    pub fn base(&self, alloc: Global, g: &[u8]) -> Result<Option<Base>, NoMemory>
+    #[tactic(auto, unfolding(crate::specs::Bases::base_of))]
+    fn base_alone(&self, alloc: Global, g: &[u8]) -> Result<Option<Base>, NoMemory>
         requires { HasTails self.now }
-        ensures value { IfOk result (λ o. o ≡ base_of self.now g.now) }
-        ensures wins { IsTrue (views_ascend self.now.sources) → IfOk result (λ o. BaseIs self.now g.now o) }
+        ensures { IfOk result (λ o. o ≡ base_of self.now g.now) }
     {
         match self.best(g) {
             None => Ok(None),
             Some(w) => Ok(Some(self.base_from(alloc, &w)?)),
         }
+    }
+
+    /// What a group begins with in the view of this install, which carries parts of lists. `Ok(None)` exactly where
+    /// nobody brings anything of it.
+    pub fn base(&self, alloc: Global, g: &[u8]) -> Result<Option<Base>, NoMemory>
+        requires { HasTails self.now }
+        ensures value { IfOk result (λ o. o ≡ base_of self.now g.now) }
+        ensures wins { IsTrue (views_ascend self.now.sources) → IfOk result (BaseIs self.now g.now) }
+    {
+        self.base_alone(alloc, g)
     }
 }
 

@@ -71,16 +71,14 @@ impl Exchange {
         }
     }
 
-    /// A gathering that begins with the own answer. Of its lists nothing is copied.
-    #[tactic(auto, unfolding(crate::specs::Answers::opened, crate::specs::Answers::with_answer, crate::specs::Answers::with_side), using(crate::proofs::TailLaws::begun_keeps))]
-    pub fn open_with(
+    #[tactic(auto, unfolding(crate::specs::Answers::opened, crate::specs::Answers::with_answer, crate::specs::Answers::with_side))]
+    fn open_alone(
         alloc: Global,
         view: ViewId,
         asked: Mask,
         own: Answer,
     ) -> Result<Exchange, NoMemory>
-        ensures value { IfOk result (λ x. x ≡ with_answer (opened view asked) own) }
-        ensures tails { EachFits IsTail own.parts → IfOk result KeepsTails }
+        ensures { IfOk result (λ x. x ≡ with_answer (opened view asked) own) }
     {
         let member = Member {
             node: own.node,
@@ -93,6 +91,19 @@ impl Exchange {
             sides: Sides::one(alloc, own)?,
             age: 0,
         })
+    }
+
+    /// A gathering that begins with the own answer. Of its lists nothing is copied.
+    pub fn open_with(
+        alloc: Global,
+        view: ViewId,
+        asked: Mask,
+        own: Answer,
+    ) -> Result<Exchange, NoMemory>
+        ensures value { IfOk result (λ x. x ≡ with_answer (opened view asked) own) }
+        ensures tails { EachFits IsTail own.parts → IfOk result KeepsTails }
+    {
+        Exchange::open_alone(alloc, view, asked, own)
     }
 
     #[tactic(auto, unfolding(crate::specs::Answers::has_answered))]
