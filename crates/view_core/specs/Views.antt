@@ -6,7 +6,7 @@ use Rattle.rsct_packet.specs.declared.ids.Member.{Member}
 use Rattle.rsct_packet.specs.declared.mask.Mask.{Mask}
 use Rattle.rsct_packet.specs.Ids.{last_u32, same_view, view_lt, is_member, risen}
 use Rattle.rsct_packet.specs.Mask.{no_nodes, has_node, with_node, same_mask, nodes_of}
-use Rattle.view_exchange.specs.declared.exchange.Answer.{Answer}
+use Rattle.view_exchange.specs.declared.answer.Answer.{Answer}
 use Rattle.view_exchange.specs.declared.exchange.Exchange.{Exchange}
 use Rattle.view_exchange.specs.declared.install.Part.{Part}
 use Rattle.view_exchange.specs.declared.install.Install.{Install}

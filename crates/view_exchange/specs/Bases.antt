@@ -1,9 +1,10 @@
 -- What each group begins with in a new view.
-use Rattle.std.specs.Prelude.{ℕ, Bool, true, false, not, ◌&&◌, ◌||◌, ◌++◌, List, [], ◌∷◌, map, filter, find, fold, length, Option, Some, None, nat_le, is_some}
+use Rattle.std.specs.Prelude.{◌≡◌, ℕ, ◌≤◌, IsTrue, Bool, true, false, not, ◌&&◌, ◌||◌, ◌++◌, List, [], ◌∷◌, map, filter, find, fold, length, Option, Some, None, nat_le, is_some}
 use Rattle.std.specs.Str.{bytes_eq}
 use Rattle.rsct_packet.specs.declared.ids.ProviderId.{ProviderId}
 use Rattle.rsct_packet.specs.declared.ids.ViewId.{ViewId}
-use Rattle.rsct_packet.specs.Ids.{same_view, is_member}
+use Rattle.rsct_packet.specs.Ids.{same_view, view_lt, is_member}
+use Rattle.rsct_packet.specs.Search.{Has}
 use Rattle.rsct_packet.specs.Lists.{is_empty, best_of}
 use Rattle.rsct_packet.specs.Mask.{has_node}
 use Rattle.rsct_packet.specs.Providers.{among}
@@ -13,7 +14,7 @@ use Rattle.view_exchange.specs.declared.install.Part.{Part}
 use Rattle.view_exchange.specs.declared.install.Source.{Source}
 use Rattle.view_exchange.specs.declared.install.Install.{Install}
 use Rattle.view_exchange.specs.declared.install.Base.{Base}
-use Rattle.view_exchange.specs.Answers.{part_len}
+use Rattle.view_exchange.specs.Parts.{part_len}
 
 -- the source of an old view
 unfoldable pub source_at : List Source → ViewId → Option Source
@@ -76,6 +77,41 @@ base_of_best i g (Some c) = Some (base_from i g c)
 -- the base of a group; none where nobody has anything of it
 unfoldable pub base_of : Install → List ℕ → Option Base
 base_of i g = base_of_best i g (best_of beats (candidates i g i.sources))
+
+-- What the base of a group is, said of its candidates alone: none where nobody has anything of it; else it is made
+-- of one that no candidate beats by live providers, or with as many by a greater view.
+abbrev pub IsCandidate : Install → List ℕ → Source → Part → Type 0
+IsCandidate i g s p = Has s i.sources × (Has p s.parts × IsTrue (is_candidate g p))
+
+abbrev pub live_count : Install → Source → Part → ℕ
+live_count i s p = length (filter (is_live_from i s) (present p.state))
+
+pub record Wins (i : Install) (g : List ℕ) (s : Source) (p : Part) : Type 0 where
+  pub candidate : IsCandidate i g s p
+  pub most : (t : Source) (q : Part) → IsCandidate i g t q → live_count i t q ≤ live_count i s p
+  pub greatest : (t : Source) (q : Part) → IsCandidate i g t q → live_count i t q ≡ live_count i s p → view_lt s.view t.view ≡ false
+
+-- who leads: the node of the first member that is live, else the coordinator
+abbrev pub first_live : Install → Source → List ProviderId → Option ProviderId
+first_live i s ps = find (is_live_from i s) ps
+
+abbrev pub leader_of : Install → Option ProviderId → ℕ
+leader_of i None = i.view.coord
+leader_of i (Some p) = p.node
+
+pub record IsBaseOf (i : Install) (g : List ℕ) (b : Base) : Type 0 where
+  pub source : Source
+  pub part : Part
+  pub wins : Wins i g source part
+  pub name : b.name ≡ g
+  pub state : b.state ≡ record (part.state) { failed = filter (λ p. not (is_live_from i source p)) (present part.state) }
+  pub from : b.from ≡ source.view
+  pub len : b.len ≡ part_len part
+  pub leader : b.leader ≡ leader_of i (first_live i source part.state.members)
+
+abbrev pub BaseIs : Install → List ℕ → Option Base → Type 0
+BaseIs i g None = (s : Source) (p : Part) → IsCandidate i g s p → ⊥
+BaseIs i g (Some b) = IsBaseOf i g b
 
 -- the different names carried, ascending
 unfoldable pub with_name : List (List ℕ) → Part → List (List ℕ)

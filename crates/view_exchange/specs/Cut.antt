@@ -5,7 +5,7 @@ use Rattle.group_entry.specs.declared.entry.Entry.{Entry}
 use Rattle.proposal_core.specs.GroupView.{GroupView}
 use Rattle.proposal_core.specs.Lists.{entry_fits, with_entry}
 use Rattle.view_exchange.specs.declared.install.Part.{Part}
-use Rattle.view_exchange.specs.Answers.{part_len}
+use Rattle.view_exchange.specs.Parts.{part_len}
 
 -- do these fit at the end of the list, one after another?
 unfoldable pub all_fit : ViewId → GroupView → List Entry → Bool

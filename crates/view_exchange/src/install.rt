@@ -1,4 +1,7 @@
 //! What a coordinator installs.
+ghost use Rattle.std.specs.Prelude.{◌≡◌};
+ghost use Rattle.view_exchange.specs.Parts.{part_len};
+
 use proposal_core::{Entry, GroupState};
 use rsct_packet::{List, Mask, Members, Name, ViewId};
 
@@ -9,6 +12,15 @@ pub struct Part {
     pub start: u32,
     pub state: GroupState,
     pub entries: List<Entry>,
+}
+
+impl Part {
+    /// The length of the list that it is of.
+    pub fn len(&self) -> u128
+        ensures { result ≡ part_len self.now }
+    {
+        self.start as u128 + self.entries.len() as u128
+    }
 }
 
 /// Parts in name order, whose names differ.

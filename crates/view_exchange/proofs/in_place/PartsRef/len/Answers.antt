@@ -1,0 +1,6 @@
+use Rattle.rsct_packet.proofs.ListedLaws.{listed_length}
+use Rattle.view_exchange.specs.Codec.{group_part_at}
+use Rattle.view_exchange.proofs.in_place.PartsRef.len.Goals as goal
+
+pub returns : goal.returns
+returns c = listed_length group_part_at _ _ _ c.self.invariant c.self.view_is

@@ -1,0 +1,175 @@
+//! How installs are spelled.
+ghost use Rattle.std.specs.Prelude.{◌≡◌, ◌++◌, IfOk, IfSome, OnOk, OnErr, flat_map};
+ghost use Rattle.std.specs.Option.{option_map};
+ghost use Rattle.rsct_packet.specs.Format.{IsBytes, EachFits};
+ghost use Rattle.group_entry.specs.EntryCodec.{whole};
+ghost use Rattle.view_exchange.specs.Codec.{source_text, IsSource, has_member, comes_once, each_comes_once, members_ascend, is_in_order, install_at, install_text, IsInstall};
+ghost use Rattle.view_exchange.specs.Tails.{HasTails};
+ghost use Rattle.view_exchange.specs.SourcesInPlace.{install_in};
+
+use crate::install::{Install, Source};
+use crate::sources_in_place::{SourcesRef, read_sources};
+use crate::writing::put_parts;
+use rsct_packet::{
+    Listed, Member, NODES, NoMemory, ViewId, known, put_list, put_mask, put_u8, put_view,
+    read_list, read_view,
+};
+use std::alloc::Global;
+
+/// An install in place.
+#[derive(Drop)]
+pub struct InstallRef<'a> {
+    pub view: ViewId,
+    pub members: Listed<'a, Member>,
+    pub sources: SourcesRef<'a>,
+}
+
+fn has_member(members: &Listed<Member>, node: u8) -> bool
+    ensures { result ≡ has_member members.now node }
+{
+    let mut left = members.copy();
+    while let Some(member) = left.take_first() {
+        if member.node == node {
+            return true;
+        }
+    }
+    false
+}
+
+/// Do the members' nodes ascend?
+fn do_members_ascend(members: &Listed<Member>) -> bool
+    ensures { result ≡ members_ascend members.now }
+{
+    let mut last: u8 = 0;
+    let mut left = members.copy();
+    while let Some(member) = left.take_first() {
+        if member.node <= last {
+            return false;
+        }
+        last = member.node;
+    }
+    true
+}
+
+/// Does a member come from one source, and another node from none?
+fn comes_once(members: &Listed<Member>, sources: &SourcesRef, node: u8) -> bool
+    ensures { result ≡ comes_once members.now sources.now node }
+{
+    sources.does_come(has_member(members, node), node)
+}
+
+#[tactic(auto, unfolding(crate::specs::Codec::each_comes_once))]
+fn does_each_come_once(members: &Listed<Member>, sources: &SourcesRef) -> bool
+    ensures { result ≡ each_comes_once members.now sources.now }
+{
+    NODES.iter().all(|n| comes_once(members, sources, *n))
+}
+
+fn is_in_order(i: &InstallRef) -> bool
+    ensures { result ≡ is_in_order (install_in i.now) }
+{
+    do_members_ascend(&i.members)
+        && i.sources.do_views_ascend()
+        && does_each_come_once(&i.members, &i.sources)
+}
+
+#[tactic(auto, unfolding(crate::specs::Codec::install_at))]
+fn whole_install(b: &[u8]) -> Option<InstallRef<'_>>
+    ensures value { option_map (λ i. install_in i) result ≡ whole (install_at b.now) }
+    ensures bytes { IsBytes b.now }
+{
+    let (view, b) = read_view(known(b))?;
+    let (members, b) = read_list::<Member>(b)?;
+    let (sources, b) = read_sources(b)?;
+    let install = InstallRef {
+        view,
+        members,
+        sources,
+    };
+    if !is_in_order(&install) {
+        return None;
+    }
+    if b.len() != 0 {
+        return None;
+    }
+    Some(install)
+}
+
+impl<'a> InstallRef<'a> {
+    fn own(&self, alloc: Global) -> Result<Install, NoMemory>
+        ensures { IfOk result (λ i. i ≡ install_in self.now) }
+    {
+        Ok(Install {
+            view: self.view,
+            members: self.members.own(alloc)?,
+            sources: self.sources.own(alloc)?,
+        })
+    }
+}
+
+#[tactic(auto, unfolding(crate::specs::Codec::source_text))]
+fn put_source(alloc: Global, out: &mut Vec<u8>, source: &Source) -> Result<(), NoMemory>
+    requires { IsSource source.now }
+    ensures { OnOk result (out.new.items ≡ out.old.items ++ source_text source.now) }
+{
+    put_view(out, source.view)?;
+    put_mask(out, source.nodes)?;
+    put_parts(alloc, out, source.parts.as_slice())
+}
+
+fn put_each_source(alloc: Global, out: &mut Vec<u8>, sources: &[Source]) -> Result<(), NoMemory>
+    requires { EachFits IsSource sources.now }
+    ensures { OnOk result (out.new.items ≡ out.old.items ++ flat_map source_text sources.now) }
+{
+    for source in sources {
+        put_source(alloc, out, source)?;
+    }
+    Ok(())
+}
+
+impl Install {
+    fn read_alone(alloc: Global, b: &[u8]) -> Result<Option<Install>, NoMemory>
+        ensures value { IfOk result (λ o. o ≡ whole (install_at b.now)) }
+        ensures bytes { IsBytes b.now }
+    {
+        match whole_install(b) {
+            None => Ok(None),
+            Some(i) => Ok(Some(i.own(alloc)?)),
+        }
+    }
+
+    /// Takes an install that spans all of the bytes. `Ok(None)` exactly where they spell none.
+    pub fn read(alloc: Global, b: &[u8]) -> Result<Option<Install>, NoMemory>
+        ensures value { IfOk result (λ o. o ≡ whole (install_at b.now)) }
+        ensures found { IfOk result (λ o. IfSome o (λ i. IsInstall i × (b.now ≡ install_text i))) }
+        ensures only { (i : Install) → IsInstall i → b.now ≡ install_text i → IfOk result (λ o. o ≡ Some i) }
+        ensures tails { IfOk result (λ o. IfSome o HasTails) }
+    {
+        Install::read_alone(alloc, b)
+    }
+
+    /// The spelling, in memory of its own.
+    #[tactic(auto, unfolding(crate::specs::Codec::install_text), using(crate::proofs::Formats::member_nodes, std::proofs::lemmas::Grind::common_steps))]
+    fn spelled(&self, alloc: Global) -> Result<Vec<u8>, NoMemory>
+        requires { IsInstall self.now }
+        ensures { IfOk result (λ v. v.items ≡ install_text self.now) }
+    {
+        let mut out = Vec::new(alloc);
+        put_view(&mut out, self.view)?;
+        put_list(&mut out, self.members.as_slice())?;
+        put_u8(&mut out, self.sources.len() as u8)?;
+        put_each_source(alloc, &mut out, self.sources.as_slice())?;
+        Ok(out)
+    }
+
+    /// Takes the spelling to the end of `out`, and leaves `out` as before where memory has run out.
+    pub fn write(&self, alloc: Global, out: &mut Vec<u8>) -> Result<(), NoMemory>
+        requires { IsInstall self.now }
+        ensures ok { OnOk result (out.new.items ≡ out.old.items ++ install_text self.now) }
+        ensures err { OnErr result (out.new.items ≡ out.old.items) }
+    {
+        let text = self.spelled(alloc)?;
+        out.extend_from_slice(text.as_slice())?;
+        Ok(())
+    }
+}

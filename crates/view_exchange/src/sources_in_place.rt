@@ -1,0 +1,173 @@
+//! The sources of an install as they stand in a datagram.
+ghost use Rattle.std.specs.Prelude.{◌≡◌, ◌++◌, ◌∷◌, [], IfOk, IfNone, IfSome, option_copied};
+ghost use Rattle.std.specs.Option.{option_map};
+ghost use Rattle.std.specs.Int.{w8};
+ghost use Rattle.rsct_packet.specs.Reading.{Gives, many_at, counted_at};
+ghost use Rattle.rsct_packet.specs.Ids.{view_lt};
+ghost use Rattle.view_exchange.specs.Codec.{source_at_front, is_after_view, views_ascend, comes_from};
+ghost use Rattle.view_exchange.specs.SourcesInPlace.{source_in};
+
+use crate::in_place::{PartsRef, read_parts};
+use crate::install::{Source, Sources};
+use rsct_packet::{List, Mask, NoMemory, ViewId, read_mask, read_u8, read_view};
+use std::alloc::Global;
+use std::marker::Model;
+
+/// A source in place.
+#[derive(Drop)]
+pub struct SourceRef<'a> {
+    pub view: ViewId,
+    pub nodes: Mask,
+    pub parts: PartsRef<'a>,
+}
+
+/// Sources in place.
+#[derive(Drop)]
+pub struct SourcesRef<'a> {
+    count: usize,
+    bytes: &'a [u8],
+}
+
+impl<'a> Model for SourcesRef<'a> {
+    ghost use Rattle.std.specs.Prelude.{List, IsSome};
+    ghost use Rattle.rsct_packet.specs.Reading.{many_at};
+    ghost use Rattle.rsct_packet.specs.Listed.{items_in};
+    ghost use Rattle.view_exchange.specs.declared.install.Source.{Source};
+    ghost use Rattle.view_exchange.specs.Codec.{source_at_front};
+
+    ghost Value = { List Source };
+
+    ghost view = { λ s. items_in (many_at source_at_front s.count s.bytes.now) };
+
+    ghost invariant = { λ s. IsSome (many_at source_at_front s.count s.bytes.now) };
+}
+
+#[tactic(auto, unfolding(crate::specs::Codec::source_at_front))]
+fn read_source(b: &[u8]) -> Option<(SourceRef<'_>, &[u8])>
+    ensures { option_map (λ x. (source_in x.0, x.1.now)) result ≡ source_at_front b.now }
+{
+    let (view, b) = read_view(b)?;
+    let (nodes, b) = read_mask(b)?;
+    let (parts, b) = read_parts(b)?;
+    Some((SourceRef { view, nodes, parts }, b))
+}
+
+/// So many sources, left where they stand.
+#[tactic(auto, using(rsct_packet::proofs::ListedLaws::skips_none, rsct_packet::proofs::ListedLaws::skips_more, rsct_packet::proofs::ListedLaws::skips_stop, rsct_packet::proofs::ListedLaws::skips_all, rsct_packet::proofs::ListedLaws::skips_some))]
+fn read_so_many(count: usize, b: &[u8]) -> Option<(SourcesRef<'_>, &[u8])>
+    ensures { Gives result (many_at source_at_front count b.now) }
+{
+    let mut rest = b;
+    for _i in 0..count {
+        match read_source(rest) {
+            None => return None,
+            Some((_source, after)) => rest = after,
+        }
+    }
+    Some((SourcesRef { count, bytes: b }, rest))
+}
+
+/// A count of one byte and the sources, left where they stand.
+pub fn read_sources(b: &[u8]) -> Option<(SourcesRef<'_>, &[u8])>
+    ensures { Gives result (counted_at w8 source_at_front b.now) }
+{
+    let (n, b) = read_u8(b)?;
+    read_so_many(n as usize, b)
+}
+
+impl<'a> SourceRef<'a> {
+    fn own(&self, alloc: Global) -> Result<Source, NoMemory>
+        ensures { IfOk result (λ s. s ≡ source_in self.now) }
+    {
+        Ok(Source {
+            view: self.view,
+            nodes: self.nodes,
+            parts: self.parts.own(alloc)?,
+        })
+    }
+}
+
+impl<'a> SourcesRef<'a> {
+    fn copy(&self) -> SourcesRef<'a>
+        ensures { result ≡ self.now }
+    {
+        SourcesRef {
+            count: self.count,
+            bytes: self.bytes,
+        }
+    }
+
+    fn take_first(&mut self) -> Option<SourceRef<'a>>
+        ensures none { IfNone result ((self.old ≡ []) × (self.new ≡ [])) }
+        ensures some { IfSome result (λ s. self.old ≡ source_in s ∷ self.new) }
+    {
+        if self.count == 0 {
+            return None;
+        }
+        let (source, rest) = read_source(self.bytes)?;
+        self.count -= 1;
+        self.bytes = rest;
+        Some(source)
+    }
+
+    /// Sources of their own.
+    pub fn own(&self, alloc: Global) -> Result<Sources, NoMemory>
+        ensures { IfOk result (λ l. l ≡ self.now) }
+    {
+        let mut out = List::new(alloc);
+        let mut left = self.copy();
+        while let Some(x) = left.take_first() {
+            out.push(x.own(alloc)?)?;
+        }
+        Ok(out)
+    }
+
+    /// Do their views ascend?
+    pub fn do_views_ascend(&self) -> bool
+        ensures { result ≡ views_ascend self.now }
+    {
+        let mut left = self.copy();
+        let mut last = None;
+        while let Some(source) = left.take_first() {
+            if !is_after_view(last, source.view) {
+                return false;
+            }
+            last = Some(source.view);
+        }
+        true
+    }
+
+    /// Does the node come from just one of them, or where it is not wanted from none?
+    pub fn does_come(&self, wanted: bool, node: u8) -> bool
+        ensures { result ≡ comes_from wanted self.now node }
+    {
+        let mut wanted = wanted;
+        let mut left = self.copy();
+        while let Some(source) = left.take_first() {
+            if source.nodes.has(node) {
+                if !wanted {
+                    return false;
+                }
+                wanted = false;
+            }
+        }
+        !wanted
+    }
+}
+
+/// Does the view come after the last one, if there was one?
+fn is_after_view(last: Option<ViewId>, view: ViewId) -> bool
+    ensures { result ≡ is_after_view last view }
+{
+    match last {
+        None => true,
+        Some(last) => is_earlier(last, view),
+    }
+}
+
+/// Is the first view less?
+pub fn is_earlier(a: ViewId, b: ViewId) -> bool
+    ensures { result ≡ view_lt a b }
+{
+    a < b
+}
