@@ -19,7 +19,7 @@ use Rattle.proposal_core.specs.StateCodec.{state_at, state_text}
 use Rattle.view_exchange.specs.declared.install.Part.{Part}
 use Rattle.view_exchange.specs.declared.install.Source.{Source}
 use Rattle.view_exchange.specs.declared.install.Install.{Install}
-use Rattle.view_exchange.specs.Answers.{part_len}
+use Rattle.view_exchange.specs.Parts.{part_len}
 
 -- ---- a group's list: its name, where it starts, the state at its end, and its entries, each behind its length
 

@@ -11,7 +11,7 @@ use Rattle.rsct_packet.specs.Mask.{has_node, nodes_of}
 use Rattle.rsct_packet.specs.Search.{Has, insert_before}
 use Rattle.rsct_packet.proofs.HasLaws.{append_has_right}
 use Rattle.group_entry.specs.declared.entry.Entry.{Entry}
-use Rattle.view_exchange.specs.declared.exchange.Answer.{Answer}
+use Rattle.view_exchange.specs.declared.answer.Answer.{Answer}
 use Rattle.view_exchange.specs.declared.exchange.Exchange.{Exchange}
 use Rattle.view_exchange.specs.declared.install.Part.{Part}
 use Rattle.view_exchange.specs.Answers.{max_parts, opened, has_answered, may_answer, with_answer, all_answered}

@@ -9,7 +9,7 @@ use Rattle.group_entry.specs.declared.entry.Entry.{Entry}
 use Rattle.proposal_core.specs.GroupView.{GroupView}
 use Rattle.proposal_core.specs.Lists.{list_or_new}
 use Rattle.name_server.specs.declared.names.Leader.{Leader}
-use Rattle.view_exchange.specs.declared.exchange.Answer.{Answer}
+use Rattle.view_exchange.specs.declared.answer.Answer.{Answer}
 use Rattle.view_exchange.specs.declared.exchange.Exchange.{Exchange}
 use Rattle.view_exchange.specs.declared.install.Part.{Part}
 use Rattle.view_exchange.specs.declared.install.Install.{Install}
