@@ -48,6 +48,15 @@ status_of ending.NoMemory = 3
 status_of ending.ReadFault = 4
 status_of ending.WriteFault = 5
 
+-- what is said on err, by status
+abbrev pub said_of : ℕ → List ℕ
+said_of 0 = []
+said_of 1 = codes "hags: usage: hags run [--kinds LIST] / load N / daemon --node N [--inc I] [--turns T] / status WHAT --node N [--turns T]\n"
+said_of 2 = codes "hags: script not taken\n"
+said_of 3 = codes "hags: no memory\n"
+said_of 4 = codes "hags: read fault\n"
+said_of _ = codes "hags: write fault\n"
+
 abbrev pub equals : List ℕ → Option (List ℕ) → Bool
 equals w None = false
 equals w (Some x) = bytes_eq x w

@@ -1,8 +1,8 @@
 //! The call at the top, and its status.
 ghost use Rattle.std.specs.Prelude.{◌≡◌, ◌⊎◌, ◌≤◌, ◌==◌, map, IfSome, IsTrue, false, true, ◌↔◌, string_bytes, slice_get};
 ghost use Rattle.std.specs.Io.KnownBytes.{IsAtEnd, Keeps};
-ghost use Rattle.hags_io.specs.Edges.{Rose};
-ghost use Rattle.hags_cli.specs.Run.{PlaysAll, PlaysFront, IsOutside, IsScript, MayHavePlayed, status_of, is_run};
+ghost use Rattle.hags_io.specs.Edges.{Rose, GrowsByFront};
+ghost use Rattle.hags_cli.specs.Run.{PlaysAll, PlaysFront, IsOutside, IsScript, MayHavePlayed, status_of, said_of, is_run};
 
 use crate::input::LIMIT;
 use crate::running::{Ending, run};
@@ -27,7 +27,9 @@ fn status_of(ending: Ending) -> u8
 }
 
 /// What is said of an ending on err.
-fn text_of(ending: Ending) -> &'static [u8] {
+fn text_of(ending: Ending) -> &'static [u8]
+    ensures { result.now ≡ said_of (status_of ending) }
+{
     match ending {
         Ending::Done => b"",
         Ending::Usage => USAGE,
@@ -64,6 +66,7 @@ fn carry_out<S: Source, K: Sink, E: Sink>(
     ensures read { result ≡ 4 → Rose (S.faults input.old) (S.faults input.new) × Keeps (K.held out.old) (K.held out.new) }
     ensures write { result ≡ 5 → Rose (K.faults out.old) (K.faults out.new) × IfSome (S.left input.old) (PlaysFront LIMIT (K.held out.old) (K.held out.new)) }
     ensures no_other { result ≤ 5 }
+    ensures said { GrowsByFront (E.held err.old) (E.held err.new) (said_of result) }
 {
     let ending = if is_run(words) {
         run(alloc, input, out)
@@ -99,6 +102,7 @@ pub fn hags<S: Source, K: Sink, E: Sink>(
     ensures read { result ≡ 4 → Rose (S.faults input.old) (S.faults input.new) × Keeps (K.held out.old) (K.held out.new) }
     ensures write { result ≡ 5 → Rose (K.faults out.old) (K.faults out.new) × IfSome (S.left input.old) (PlaysFront LIMIT (K.held out.old) (K.held out.new)) }
     ensures no_other { result ≤ 5 }
+    ensures said { GrowsByFront (E.held err.old) (E.held err.new) (said_of result) }
     ensures complete { is_run (map string_bytes words.now) ≡ true → IsScript LIMIT (S.left input.old) → (Rose (S.faults input.old) (S.faults input.new) → ⊥) → (Rose (K.faults out.old) (K.faults out.new) → ⊥) → (result ≡ 0) ⊎ (result ≡ 3) }
 {
     carry_out(alloc, words, input, out, err)
