@@ -1,20 +1,23 @@
 -- A coordinator gathers answers: an order to ask, and ANSWER, up to the last one.
-use Rattle.std.proofs.Common.{◌≡◌, ◌≤◌, ◌<◌, ◌⊎◌, ℕ, List, [], ◌∷◌, length, Option, Some, None, Bool, true, false, refl, sym, ap, ◌∙◌, subst, inl, inr, ⊎_elim, arith}
+use Rattle.std.proofs.Common.{◌≡◌, ◌≤◌, ◌<◌, ◌⊎◌, ℕ, List, [], ◌∷◌, ◌++◌, length, Option, Some, None, Bool, true, false, refl, sym, ap, ◌∙◌, subst, inl, inr, arith}
 use Rattle.std.specs.Prelude.{◌==◌, ◌&&◌, ◌||◌, not, nat_le, nat_lt, map, filter, fold, if◌then◌else◌}
 use Rattle.std.specs.List.{list_any}
 use Rattle.std.proofs.lemmas.Bool.{and_parts, eq-eqb}
 use Rattle.std.proofs.lemmas.Bool.Decides.{nat_tests}
 use Rattle.rsct_packet.specs.declared.ids.ViewId.{ViewId}
+use Rattle.rsct_packet.specs.declared.ids.Member.{Member}
 use Rattle.rsct_packet.specs.declared.mask.Mask.{Mask}
 use Rattle.rsct_packet.specs.Ids.{same_view}
 use Rattle.rsct_packet.specs.Mask.{has_node, nodes_of}
 use Rattle.rsct_packet.specs.Search.{Has, insert_before}
-use Rattle.rsct_packet.proofs.HasLaws.{append_has_right}
+use Rattle.rsct_packet.proofs.HasLaws.{has_append, append_has_left, append_has_right}
 use Rattle.group_entry.specs.declared.entry.Entry.{Entry}
 use Rattle.view_exchange.specs.declared.answer.Answer.{Answer}
 use Rattle.view_exchange.specs.declared.exchange.Exchange.{Exchange}
 use Rattle.view_exchange.specs.declared.install.Part.{Part}
-use Rattle.view_exchange.specs.Answers.{max_parts, opened, has_answered, may_answer, with_answer, all_answered}
+use Rattle.view_exchange.specs.Answers.{max_parts, opened, has_answered, may_answer, member_of, with_member, with_answer, all_answered}
+use Rattle.view_exchange.specs.Longest.{all_counted}
+use Rattle.view_exchange.proofs.Edits.{inserted_has, has_inserted}
 use Rattle.view_core.specs.declared.packet.ViewPacket.TheVariants as view
 use Rattle.view_core.specs.declared.packet.ViewSend.{ViewSend}
 use Rattle.view_core.specs.declared.views.Views.{Views}
@@ -29,13 +32,13 @@ use Rattle.node_state.specs.HandOn.{Answering}
 use Rattle.node_state.specs.Applying.{own_parts, install_applied, views_taken}
 use Rattle.node_state.specs.Step.{order_row, view_row, body_row}
 use Rattle.run_safety.specs.ViewOrder.{is_before, Lt, Le}
-use Rattle.run_safety.specs.Group.{Reply}
+use Rattle.run_safety.specs.Group.{member, members_of, Reply}
 use Rattle.run_safety.specs.Group as group
 use Rattle.run_safety.specs.Moves.{Answers}
 use Rattle.run_safety.proofs.Order.{lt_refl, le_lt_trans}
 use Rattle.run_safety.proofs.Whole.{Whole}
 use Rattle.run_safety.proofs.Lives.{whole}
-use Rattle.step_ties.specs.Ghost.{Ghost, Goes, Seen, CarriesIf, part_of, ReplyIs, RepliesAre, Gathers, GathersIf}
+use Rattle.step_ties.specs.Ghost.{Ghost, Goes, Seen, CarriesIf, part_of, ReplyIs, Gathers, GathersIf}
 use Rattle.step_ties.specs.Tied.{ShowsBody, Stands, Scene, opening_of, Tied}
 use Rattle.step_ties.proofs.Goes.{Spares, spares_same, carries_on, shows_on, rest_on}
 use Rattle.step_ties.proofs.Works.{tied_on, tied_sent, tied_views}
@@ -45,78 +48,77 @@ use Rattle.step_ties.proofs.ViewRows.{same_of, tied_promised}
 
 -- ---- one more answer
 
-inserted_new : {A : Type 0} (test : A → Bool) (y : A) (xs : List A) → Has y (insert_before test y xs)
-inserted_new test y [] = inl refl
-inserted_new test y (x ∷ xs) = by (test x) (inserted_new test y xs)
-  where
-    by : (b : Bool) → Has y (insert_before test y xs) → Has y (if b then y ∷ x ∷ xs else x ∷ insert_before test y xs)
-    by true k = inl refl
-    by false k = inr k
+counted_last : (x : Exchange) (given : List Answer) (a : Answer) → all_counted x (given ++ a ∷ []) ≡ with_answer (all_counted x given) a
+counted_last x [] a = refl
+counted_last x (b ∷ given) a = counted_last (with_answer x b) given a
 
-inserted_old : {A : Type 0} (test : A → Bool) (y z : A) (xs : List A) → Has z xs → Has z (insert_before test y xs)
-inserted_old test y z [] h = absurd h
-inserted_old test y z (x ∷ xs) h = by (test x) h (inserted_old test y z xs)
-  where
-    by : (b : Bool) → Has z (x ∷ xs) → (Has z xs → Has z (insert_before test y xs)) → Has z (if b then y ∷ x ∷ xs else x ∷ insert_before test y xs)
-    by true h k = inr h
-    by false (inl e) k = inl e
-    by false (inr i) k = inr (k i)
+-- by node
+abbrev with_reply : List Reply → Reply → List Reply
+with_reply rs r = insert_before (λ (q : Reply). nat_lt r.node q.node) r rs
 
-inserted_has : {A : Type 0} (test : A → Bool) (y z : A) (xs : List A) → Has z (insert_before test y xs) → (z ≡ y) ⊎ Has z xs
-inserted_has test y z [] h = h
-inserted_has test y z (x ∷ xs) h = by (test x) h (inserted_has test y z xs)
+members_with : (r : Reply) (rs : List Reply) → members_of (with_reply rs r) ≡ with_member (members_of rs) (member r.node r.inc)
+members_with r [] = refl
+members_with r (q ∷ rs) = by (nat_lt r.node q.node) (members_with r rs)
   where
-    by : (b : Bool) → Has z (if b then y ∷ x ∷ xs else x ∷ insert_before test y xs) → (Has z (insert_before test y xs) → (z ≡ y) ⊎ Has z xs) → (z ≡ y) ⊎ Has z (x ∷ xs)
-    by true h k = h
-    by false (inl e) k = inr (inl e)
-    by false (inr i) k = ⊎_elim (λ (a : z ≡ y). inl a) (λ (b : Has z xs). inr (inr b)) (k i)
+    by : (b : Bool) → members_of (with_reply rs r) ≡ with_member (members_of rs) (member r.node r.inc) → members_of (if b then r ∷ q ∷ rs else q ∷ with_reply rs r) ≡ (if b then member r.node r.inc ∷ members_of (q ∷ rs) else member q.node q.inc ∷ with_member (members_of rs) (member r.node r.inc))
+    by true k = refl
+    by false k = ap (λ (ms : List Member). member q.node q.inc ∷ ms) k
 
-replies_inserted : (x : Ghost) (g : List ℕ) (v : ViewId) (test : Answer → Bool) (a : Answer) (r : Reply) → ReplyIs x g v a r → (bs : List Answer) (rs : List Reply) → RepliesAre x g v bs rs → (qs : List Reply) × RepliesAre x g v (insert_before test a bs) qs
-replies_inserted x g v test a r new [] [] h = (r ∷ [], (new, tt))
-replies_inserted x g v test a r new [] (q ∷ rs) h = absurd h
-replies_inserted x g v test a r new (b ∷ bs) [] h = absurd h
-replies_inserted x g v test a r new (b ∷ bs) (q ∷ rs) h = by (test b) (replies_inserted x g v test a r new bs rs h.1)
+not_any : (rs : List Reply) (n : ℕ) (r : Reply) → not (list_any (λ (m : Member). m.node == n) (members_of rs)) ≡ true → Has r rs → r.node ≡ n → ⊥
+not_any [] n r e h q = h
+not_any (p ∷ rs) n r e (inl s) q =
+    let k : (p.node == n) ≡ true = eq-eqb p.node n (ap (λ (z : Reply). z.node) (sym s) ∙ q) in
+    let f : not (true || list_any (λ (m : Member). m.node == n) (members_of rs)) ≡ true = subst (λ c. not (c || list_any (λ (m : Member). m.node == n) (members_of rs)) ≡ true) k e in cc
+not_any (p ∷ rs) n r e (inr h) q = by (p.node == n) e (λ f. not_any rs n r f h q)
   where
-    by : (t : Bool) → (qs : List Reply) × RepliesAre x g v (insert_before test a bs) qs → (qs : List Reply) × RepliesAre x g v (if t then a ∷ b ∷ bs else b ∷ insert_before test a bs) qs
-    by true k = (r ∷ q ∷ rs, (new, h))
-    by false k = (q ∷ k.0, (h.0, k.1))
-
-not_any : (bs : List Answer) (n : ℕ) (b : Answer) → not (list_any (λ (a : Answer). a.node == n) bs) ≡ true → Has b bs → b.node ≡ n → ⊥
-not_any [] n b e h q = h
-not_any (a ∷ bs) n b e (inl s) q =
-    let k : (a.node == n) ≡ true = eq-eqb a.node n (ap (λ (z : Answer). z.node) (sym s) ∙ q) in
-    let f : not (true || list_any (λ (a : Answer). a.node == n) bs) ≡ true = subst (λ c. not (c || list_any (λ (a : Answer). a.node == n) bs) ≡ true) k e in cc
-not_any (a ∷ bs) n b e (inr h) q = by (a.node == n) e (λ f. not_any bs n b f h q)
-  where
-    by : (c : Bool) → not (c || list_any (λ (a : Answer). a.node == n) bs) ≡ true → (not (list_any (λ (a : Answer). a.node == n) bs) ≡ true → ⊥) → ⊥
+    by : (c : Bool) → not (c || list_any (λ (m : Member). m.node == n) (members_of rs)) ≡ true → (not (list_any (λ (m : Member). m.node == n) (members_of rs)) ≡ true → ⊥) → ⊥
     by true f rest = cc
     by false f rest = rest f
+
+only_one : {A : Type 0} (a b : A) → Has b (a ∷ []) → b ≡ a
+only_one a b (inl e) = e
+only_one a b (inr z) = absurd z
 
 gathers_more : (x : Ghost) (g : List ℕ) (n inc : ℕ) (v promise : ViewId) (e : Exchange) (a : Answer) (r : Reply) → may_answer e a.node ≡ true → ReplyIs x g promise a r → Gathers x g n inc v promise e → Gathers x g n inc v promise (with_answer e a)
 unfolding may_answer has_answered with_answer
 gathers_more x g n inc v promise e a r may new h =
-    let k = replies_inserted x g promise (λ b. nat_lt a.node b.node) a r new e.answers h.replies h.are in
-    let fresh = (and_parts (has_node e.asked a.node) (not (list_any (λ (b : Answer). b.node == a.node) e.answers)) may).1 in
     record {
       view = h.view;
       coord = h.coord;
       inc_of = h.inc_of;
       later = h.later;
       lt = h.lt;
-      replies = k.0;
-      are = k.1;
-      own = (h.own.0, inserted_old (λ b. nat_lt a.node b.node) a h.own.0 e.answers h.own.1, h.own.2, h.own.3);
-      single = λ b c i j q. both b c (inserted_has (λ b. nat_lt a.node b.node) a b e.answers i) (inserted_has (λ b. nat_lt a.node b.node) a c e.answers j) q;
+      answers = h.answers ++ a ∷ [];
+      made = ap (λ (z : Exchange). with_answer z a) h.made ∙ ap (λ (z : Exchange). record z { age = e.age }) (sym (counted_last (opened promise e.asked) h.answers a));
+      replies = with_reply h.replies r;
+      members = ap (λ (ms : List Member). with_member ms (member_of a)) h.members ∙ (ap (with_member (members_of h.replies)) (λ i. member (sym new.node i) (sym new.inc i)) ∙ sym (members_with r h.replies));
+      shown = λ b i. shows b (has_append b h.answers (a ∷ []) i);
+      came = λ q i. comes q (inserted_has (λ (q : Reply). nat_lt r.node q.node) r q h.replies i);
+      own = (h.own.0, append_has_left h.own.0 h.answers (a ∷ []) h.own.1, h.own.2, h.own.3);
+      single = λ b c i j q. both b c (has_append b h.answers (a ∷ []) i) (has_append c h.answers (a ∷ []) j) q;
     }
   where
-    absent : (b : Answer) → Has b e.answers → b.node ≡ a.node → ⊥
-    absent b i q = not_any e.answers a.node b (and_parts (has_node e.asked a.node) (not (list_any (λ (b : Answer). b.node == a.node) e.answers)) may).1 i q
+    absent : (b : Answer) → Has b h.answers → b.node ≡ a.node → ⊥
+    absent b i q =
+        let z = h.shown b i in
+        let fresh : not (list_any (λ (m : Member). m.node == a.node) e.members) ≡ true = (and_parts (has_node e.asked a.node) (not (list_any (λ (m : Member). m.node == a.node) e.members)) may).1 in
+        not_any h.replies a.node z.0 (subst (λ ms. not (list_any (λ (m : Member). m.node == a.node) ms) ≡ true) h.members fresh) z.1 (z.2.node ∙ q)
 
-    both : (b c : Answer) → (b ≡ a) ⊎ Has b e.answers → (c ≡ a) ⊎ Has c e.answers → b.node ≡ c.node → b ≡ c
-    both b c (inl p) (inl q) s = p ∙ sym q
-    both b c (inl p) (inr j) s = absurd (absent c j (sym s ∙ ap (λ (z : Answer). z.node) p))
-    both b c (inr i) (inl q) s = absurd (absent b i (s ∙ ap (λ (z : Answer). z.node) q))
-    both b c (inr i) (inr j) s = h.single b c i j s
+    shows : (b : Answer) → Has b h.answers ⊎ Has b (a ∷ []) → (q : Reply) × Has q (with_reply h.replies r) × ReplyIs x g promise b q
+    shows b (inl i) =
+        let z = h.shown b i in (z.0, has_inserted (λ (q : Reply). nat_lt r.node q.node) r z.0 h.replies (inr z.1), z.2)
+    shows b (inr i) =
+        (r, has_inserted (λ (q : Reply). nat_lt r.node q.node) r r h.replies (inl refl), subst (λ c. ReplyIs x g promise c r) (sym (only_one a b i)) new)
+
+    comes : (q : Reply) → (q ≡ r) ⊎ Has q h.replies → (b : Answer) × Has b (h.answers ++ a ∷ []) × ReplyIs x g promise b q
+    comes q (inl i) = (a, append_has_right a h.answers (a ∷ []) (inl refl), subst (λ c. ReplyIs x g promise a c) (sym i) new)
+    comes q (inr i) = let z = h.came q i in (z.0, append_has_left z.0 h.answers (a ∷ []) z.1, z.2)
+
+    both : (b c : Answer) → Has b h.answers ⊎ Has b (a ∷ []) → Has c h.answers ⊎ Has c (a ∷ []) → b.node ≡ c.node → b ≡ c
+    both b c (inl i) (inl j) s = h.single b c i j s
+    both b c (inl i) (inr j) s = absurd (absent b i (s ∙ ap (λ (z : Answer). z.node) (only_one a c j)))
+    both b c (inr i) (inl j) s = absurd (absent c j (sym s ∙ ap (λ (z : Answer). z.node) (only_one a b i)))
+    both b c (inr i) (inr j) s = only_one a b i ∙ sym (only_one a c j)
 
 pub answer_is_tied : (v old : ViewId) (parts : List Part) (g : List ℕ) (w : Scene) (n : ℕ) (f : Answering) (s : Core) (p : Packet) → p.body ≡ body.View (view.Answer v old parts) → Has p w.sent → ((e : Exchange) → s.views.gathering ≡ Some e → all_answered (with_answer e (record { node = p.from; inc = p.inc; view = old; parts = parts })) ≡ false) → Tied g w n s → Tied g w n (body_row f s p (body.View (view.Answer v old parts)))
 unfolding body_row view_row views_taken install_applied answer_row answer_to gathers gathered gathering_set
@@ -190,18 +192,18 @@ module _ (g : List ℕ) (w : Scene) (n : ℕ) (s : Core) (t : Tied g w n s) wher
         inc_of = inc;
         later = later;
         lt = lt;
+        answers = a ∷ [];
+        made = refl;
         replies = r ∷ [];
-        are = (reply, tt);
+        members = λ i. member (h.stands.me i) (sym h.stands.inc i) ∷ [];
+        shown = λ b i. (r, inl refl, subst (λ c. ReplyIs y g v c r) (sym (only_one a b i)) reply);
+        came = λ q i. (a, inl refl, subst (λ c. ReplyIs y g v a c) (sym (only_one r q i)) reply);
         own = (a, inl refl, h.stands.me, refl);
-        single = λ b c i j q. one a b i ∙ sym (one a c j);
+        single = λ b c i j q. only_one a b i ∙ sym (only_one a c j);
       } in
       let views : Views = record (s.views) { gathering = Some e } in
       let stands : Stands y n views = record { me = h.stands.me; up = h.stands.up; inc = h.stands.inc; view = h.stands.view; promise = h.stands.promise; seated = h.stands.seated } in
       tied_on g w n s t (record s { views = views }) y (Answers x.nodes x.ps x.all x.leads x.bases n (x.nodes n) v t.life refl up le lt') t.lines (rest_on x y n (spares n) g (is_fixed s.config.mode) s.views views (row_of s g) s.groups s.sessions s.names stands refl refl refl refl gathering h, t.own.1, t.own.2) (λ m ne. spares m) (λ m ne. refl) (λ p i. shows_on x y o g p (t.packets p i))
-    where
-      one : (a b : Answer) → Has b (a ∷ []) → b ≡ a
-      one a b (inl e) = e
-      one a b (inr z) = absurd z
 
 prepares_tied : (g : List ℕ) (w : Scene) (n : ℕ) (v : ViewId) (mask : Mask) (ns : List ℕ) (s : Core) → Tied g w n s → Tied g w n (fold (λ c (x : ViewSend). sent c x.to (body.View x.packet)) s (map (λ m. record { to = m; packet = view.Prepare v mask }) ns))
 prepares_tied g w n v mask [] s t = t

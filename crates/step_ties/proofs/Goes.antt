@@ -1,5 +1,5 @@
 -- What holds of a group goes on holding.
-use Rattle.std.proofs.Common.{◌≡◌, ℕ, List, [], ◌∷◌, Option, Some, None, refl, sym, ap, ◌∙◌, subst, inl, inr}
+use Rattle.std.proofs.Common.{◌≡◌, ℕ, List, Option, Some, None, refl, sym, ap, ◌∙◌, subst, inl, inr}
 use Rattle.std.specs.Prelude.{Bool, slice_get}
 use Rattle.rsct_packet.specs.declared.ids.ViewId.{ViewId}
 use Rattle.rsct_packet.specs.declared.ids.Member.{Member}
@@ -33,7 +33,7 @@ use Rattle.run_safety.specs.Group.{member, Standing, Reply, Noted, Told, In, Put
 use Rattle.run_safety.specs.Group as group
 use Rattle.run_safety.specs.Bases.{state_of_list, base_state}
 use Rattle.run_safety.specs.Past.{fold_from}
-use Rattle.step_ties.specs.Ghost.{Ghost, Seen, Goes, KeepsIf, CarriesIf, part_of, ReplyIs, RepliesAre, GathersIf, BaseIsOf, Installs, InstallsIf, IsStable}
+use Rattle.step_ties.specs.Ghost.{Ghost, Seen, Goes, KeepsIf, CarriesIf, part_of, ReplyIs, GathersIf, BaseIsOf, Installs, InstallsIf, IsStable}
 use Rattle.step_ties.specs.Tied.{ShowsView, ShowsBody, Shows, Stands, KnowsLeader, RowIs, Owed, Owes, LeaderKeeps, Names, NodeOf, NodeIsIf, IsAcked}
 
 pub goes_same : (x : Ghost) → Goes x x
@@ -71,12 +71,6 @@ module _ (x y : Ghost) (o : Goes x y) where
         part = carries_on a.view r.list (part_of g a.parts) h.seen h.part;
       }
 
-  pub replies_on : (g : List ℕ) (v : ViewId) (bs : List Answer) (rs : List Reply) → RepliesAre x g v bs rs → RepliesAre y g v bs rs
-  replies_on g v [] [] h = tt
-  replies_on g v [] (r ∷ rs) h = absurd h
-  replies_on g v (b ∷ bs) [] h = absurd h
-  replies_on g v (b ∷ bs) (r ∷ rs) h = (reply_on g v b r h.0, replies_on g v bs rs h.1)
-
   pub gathers_on : (g : List ℕ) (n inc : ℕ) (v promise : ViewId) (e : Option Exchange) → GathersIf x g n inc v promise e → GathersIf y g n inc v promise e
   gathers_on g n inc v promise None h = tt
   gathers_on g n inc v promise (Some e) h =
@@ -86,8 +80,12 @@ module _ (x y : Ghost) (o : Goes x y) where
         inc_of = h.inc_of;
         later = h.later;
         lt = h.lt;
+        answers = h.answers;
+        made = h.made;
         replies = h.replies;
-        are = replies_on g promise e.answers h.replies h.are;
+        members = h.members;
+        shown = λ a i. let z = h.shown a i in (z.0, z.1, reply_on g promise a z.0 z.2);
+        came = λ r i. let z = h.came r i in (z.0, z.1, reply_on g promise z.0 r z.2);
         own = h.own;
         single = h.single;
       }

@@ -1,6 +1,6 @@
 -- What stands for one group: how nodes stand to it, its packets, its lines, its leaders and its bases; and what a node
 -- keeps or a packet carries of it, which shows the whole lists that stand here.
-use Rattle.std.specs.Prelude.{ℕ, ◌≤◌, ◌<◌, ◌≡◌, ◌⊎◌, List, [], ◌∷◌, length, drop, find, Option, Some, None}
+use Rattle.std.specs.Prelude.{ℕ, ◌≤◌, ◌<◌, ◌≡◌, ◌⊎◌, List, [], length, drop, find, Option, Some, None}
 use Rattle.std.specs.Str.{bytes_eq}
 use Rattle.rsct_packet.specs.declared.ids.ViewId.{ViewId}
 use Rattle.rsct_packet.specs.declared.ids.Member.{Member}
@@ -13,9 +13,11 @@ use Rattle.view_exchange.specs.declared.install.Part.{Part}
 use Rattle.view_exchange.specs.declared.install.Source.{Source}
 use Rattle.view_exchange.specs.declared.install.Install.{Install}
 use Rattle.view_exchange.specs.declared.install.Base.{Base}
+use Rattle.view_exchange.specs.Answers.{opened}
+use Rattle.view_exchange.specs.Longest.{all_counted}
 use Rattle.view_exchange.specs.Bases.{bases_of, base_named}
 use Rattle.run_safety.specs.ViewOrder.{Lt}
-use Rattle.run_safety.specs.Group.{member, Standing, Reply, Origin, Packet, Line, In, kept}
+use Rattle.run_safety.specs.Group.{member, members_of, Standing, Reply, Origin, Packet, Line, In, kept}
 use Rattle.run_safety.specs.Group as group
 use Rattle.run_safety.specs.Bases.{Bases, state_of_list}
 use Rattle.run_safety.specs.Moves.{Leads, Opening, Life}
@@ -81,23 +83,22 @@ pub record ReplyIs (x : Ghost) (g : List ℕ) (v : ViewId) (a : Answer) (r : Rep
   pub seen : Seen x a.view
   pub part : CarriesIf x a.view r.list (part_of g a.parts)
 
-abbrev pub RepliesAre : Ghost → List ℕ → ViewId → List Answer → List Reply → Type 0
-RepliesAre x g v [] [] = Unit {0}
-RepliesAre x g v [] (r ∷ rs) = ⊥
-RepliesAre x g v (a ∷ rest) [] = ⊥
-RepliesAre x g v (a ∷ rest) (r ∷ rs) = ReplyIs x g v a r × RepliesAre x g v rest rs
-
--- what a node gathers for the view that it promised
+-- what a node gathers for the view that it promised: the answers that counted, in the order in which they came, and the
+-- replies that they show, in the order of the members
 pub record Gathers (x : Ghost) (g : List ℕ) (n inc : ℕ) (v promise : ViewId) (e : Exchange) : Type 0 where
   pub view : e.view ≡ promise
   pub coord : promise.coord ≡ n
   pub inc_of : promise.inc ≡ inc
   pub later : 1 < promise.number
   pub lt : Lt v promise
+  pub answers : List Answer
+  pub made : e ≡ record (all_counted (opened promise e.asked) answers) { age = e.age }
   pub replies : List Reply
-  pub are : RepliesAre x g promise e.answers replies
-  pub own : (a : Answer) × Has a e.answers × (a.node ≡ n) × (a.inc ≡ inc)
-  pub single : (a b : Answer) → Has a e.answers → Has b e.answers → a.node ≡ b.node → a ≡ b
+  pub members : e.members ≡ members_of replies
+  pub shown : (a : Answer) → Has a answers → (r : Reply) × Has r replies × ReplyIs x g promise a r
+  pub came : (r : Reply) → Has r replies → (a : Answer) × Has a answers × ReplyIs x g promise a r
+  pub own : (a : Answer) × Has a answers × (a.node ≡ n) × (a.inc ≡ inc)
+  pub single : (a b : Answer) → Has a answers → Has b answers → a.node ≡ b.node → a ≡ b
 
 abbrev pub GathersIf : Ghost → List ℕ → ℕ → ℕ → ViewId → ViewId → Option Exchange → Type 0
 GathersIf x g n inc v promise None = Unit {0}
