@@ -1,5 +1,4 @@
 //! The spellings of states, and the calls that take memory.
-use crate::groups::new_list;
 use proposal_core::{Entry, GroupList, GroupState};
 use rsct_packet::{Fields, ProviderId, ViewId};
 use std::alloc::Global;
@@ -65,6 +64,12 @@ fn approve() -> &'static [u8] {
     &[
         4, 0, 0, 0, 1, 1, 0, 0, 0, 1, 0, 0, 0, 1, 0, 2, 1, 1, 0, 0, 0, 1, 0, 1, 0, 0, 0, 1, 1, 0, 0,
     ]
+}
+
+/// The list of a group that nobody has joined.
+#[tactic(auto, unfolding(proposal_core::specs::Fold::joiners_fit, proposal_core::specs::Fold::joiners_fit_at))]
+fn new_list(alloc: Global) -> GroupList {
+    GroupList::new(alloc, GroupState::empty(alloc))
 }
 
 fn state_again(rt: &impl Abort, alloc: Global, spelled: &[u8]) -> Result<(), Fail> {

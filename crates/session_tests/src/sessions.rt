@@ -2,7 +2,6 @@
 //! taken, and how an object of someone else's is handed an entry.
 ghost use Rattle.std.specs.Prelude.{None};
 
-use crate::groups::new_list;
 use client_callbacks::{
     Ballot, BoxedClient, Callbacks, DaemonClient, Made, Notice, ScriptClient, SteadyClient, Told,
     Why,
@@ -43,6 +42,12 @@ const VIEW: ViewId = ViewId {
     coord: 1,
     inc: 1,
 };
+
+/// The list of a group that nobody has joined.
+#[tactic(auto, unfolding(proposal_core::specs::Fold::joiners_fit, proposal_core::specs::Fold::joiners_fit_at))]
+fn new_list(alloc: Global) -> GroupList {
+    GroupList::new(alloc, GroupState::empty(alloc))
+}
 
 /// Puts an equal entry at the end of the list, and answers its place.
 fn put(rt: &impl Abort, alloc: Global, list: &mut GroupList, e: &Entry) -> Result<u32, Fail> {
