@@ -1,5 +1,5 @@
 -- What the bytes of an input are, and what a run leaves.
-use Rattle.std.specs.Prelude.{◌≡◌, ℕ, Bool, true, false, ◌==◌, ◌&&◌, nat_lt, List, [], ◌∷◌, length, take, map, codes, Option, Some, None, ◌⊎◌, string_bytes, slice_get, is_some}
+use Rattle.std.specs.Prelude.{◌≡◌, ℕ, Bool, true, false, ◌==◌, ◌&&◌, nat_lt, List, [], ◌∷◌, length, take, map, codes, Option, Some, None, ◌⊎◌, string_bytes, slice_get, is_some, ◌++◌, if◌then◌else◌}
 use Rattle.std.specs.Str.{bytes_eq}
 use Rattle.std.specs.Io.KnownBytes.{Appends, Keeps}
 use Rattle.hags_io.specs.Edges.{GrowsByFront}
@@ -48,14 +48,19 @@ status_of ending.NoMemory = 3
 status_of ending.ReadFault = 4
 status_of ending.WriteFault = 5
 
+abbrev pub line_of : List ℕ → List ℕ
+line_of text = text ++ 10 ∷ []
+
 -- what is said on err, by status
 abbrev pub said_of : ℕ → List ℕ
-said_of 0 = []
-said_of 1 = codes "hags: usage: hags run [--kinds LIST] / load N / daemon --node N [--inc I] [--turns T] / status WHAT --node N [--turns T]\n"
-said_of 2 = codes "hags: script not taken\n"
-said_of 3 = codes "hags: no memory\n"
-said_of 4 = codes "hags: read fault\n"
-said_of _ = codes "hags: write fault\n"
+said_of status =
+    if status == 1
+    then line_of (codes "hags: usage: hags run [--kinds LIST] / load N / daemon --node N [--inc I] [--turns T] / status WHAT --node N [--turns T]")
+    else if status == 2 then line_of (codes "hags: script not taken")
+    else if status == 3 then line_of (codes "hags: no memory")
+    else if status == 4 then line_of (codes "hags: read fault")
+    else if status == 5 then line_of (codes "hags: write fault")
+    else []
 
 abbrev pub equals : List ℕ → Option (List ℕ) → Bool
 equals w None = false
