@@ -38,10 +38,9 @@ fn is_line(alloc: Global, record: &Happened, line: &[u8]) -> Result<bool, NoMemo
     Ok(text.as_slice() == line)
 }
 
-#[test]
-fn a_ring_and_a_stop(rt: HostRuntime) -> Result<(), Fail> {
-    let alloc = rt.alloc();
-    let ring = Happened::Ring {
+/// The ring of node 2 on network 1 is set.
+fn ring() -> Happened {
+    Happened::Ring {
         node: 2,
         network: 1,
         ring: RingId {
@@ -51,33 +50,53 @@ fn a_ring_and_a_stop(rt: HostRuntime) -> Result<(), Fail> {
         },
         members: Mask { bits: 0x8000_0006 },
         neighbour: 32,
-    };
-    assert!(rt; is_line(alloc, &ring, b"ring 2 1 3.1.5 2,3,32 32\n")?);
-    assert!(rt; is_line(alloc, &Happened::Down { node: 2 }, b"down 2\n")?);
+    }
+}
+
+#[test]
+fn a_ring(rt: HostRuntime) -> Result<(), Fail> {
+    let is_said = is_line(rt.alloc(), &ring(), b"ring 2 1 3.1.5 2,3,32 32\n")?;
+    assert!(rt; is_said);
     Ok(())
 }
 
 #[test]
-fn a_base(rt: HostRuntime) -> Result<(), Fail> {
-    let alloc = rt.alloc();
+fn a_stop(rt: HostRuntime) -> Result<(), Fail> {
+    let is_said = is_line(rt.alloc(), &Happened::Down { node: 2 }, b"down 2\n")?;
+    assert!(rt; is_said);
+    Ok(())
+}
+
+/// A state of one member with a value.
+fn base_state(alloc: Global) -> Result<GroupState, Fail> {
     let mut state = GroupState::empty(alloc);
     state.members = Providers::one(alloc, PROVIDER)?;
     state.value = Text::of(alloc, b"a %")?.ok_or("short")?;
-    let base = Happened::Base {
+    Ok(state)
+}
+
+/// A base of `db`, cut at 9.
+fn base(alloc: Global, state: GroupState) -> Result<Happened, Fail> {
+    Ok(Happened::Base {
         node: 2,
         view: VIEW,
         group: Name::of(alloc, b"db")?.ok_or("a name")?,
         old: VIEW,
         len: 9,
         state,
-    };
-    assert!(rt;
-        is_line(
-            alloc,
-            &base,
-            b"base 2 2.1.1 db 2.1.1 9 2.1.7.4 =a%20%25 - -\n"
-        )?
-    );
+    })
+}
+
+#[test]
+fn a_base(rt: HostRuntime) -> Result<(), Fail> {
+    let alloc = rt.alloc();
+    let base = base(alloc, base_state(alloc)?)?;
+    let is_said = is_line(
+        alloc,
+        &base,
+        b"base 2 2.1.1 db 2.1.1 9 2.1.7.4 =a%20%25 - -\n",
+    )?;
+    assert!(rt; is_said);
     Ok(())
 }
 
