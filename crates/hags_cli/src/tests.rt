@@ -1,5 +1,4 @@
 mod one_node;
-mod records;
 
 use crate::status::hags;
 use hags_io::{MemSink, MemSource};
@@ -86,56 +85,5 @@ fn a_failing_put_is_a_write_fault(rt: HostRuntime) -> Result<(), Fail> {
     let (status, out) = ran(rt.alloc(), ONE_JOIN, &[], &[1])?;
     assert_eq!(rt; status, 5);
     assert!(rt; out.held().is_empty());
-    Ok(())
-}
-
-/// Whether a run over these objects ends with this status, and says this on err.
-fn says(
-    alloc: Global,
-    words: &[String],
-    script: &[u8],
-    takes: &[u32],
-    puts: &[u32],
-    status: u8,
-    text: &[u8],
-) -> Result<bool, AllocError> {
-    let mut input = source(alloc, script, takes)?;
-    let mut out = sink(alloc, puts)?;
-    let mut err = sink(alloc, &[])?;
-    let ended = hags(alloc, words, &mut input, &mut out, &mut err);
-    Ok(ended == status && err.held() == text)
-}
-
-#[test]
-fn failures_are_said(rt: HostRuntime) -> Result<(), Fail> {
-    let alloc = rt.alloc();
-    let words = run_words(alloc)?;
-    let usage =
-        b"hags: usage: hags run [--kinds LIST] / load N / daemon --node N [--inc I] [--turns T] / status WHAT --node N [--turns T]\n";
-    assert!(rt; says(alloc, &[], ONE_JOIN, &[], &[], 1, usage)?);
-    let outside = b"hags: script not taken\n";
-    assert!(rt; says(alloc, words.as_slice(), b"node 1\n", &[], &[], 2, outside)?);
-    assert!(rt;
-        says(
-            alloc,
-            words.as_slice(),
-            ONE_JOIN,
-            &[1],
-            &[],
-            4,
-            b"hags: read fault\n"
-        )?
-    );
-    assert!(rt;
-        says(
-            alloc,
-            words.as_slice(),
-            ONE_JOIN,
-            &[],
-            &[1],
-            5,
-            b"hags: write fault\n"
-        )?
-    );
     Ok(())
 }
