@@ -12,7 +12,7 @@ fn join() -> &'static [u8] {
     ]
 }
 
-// 1.1.1.1 leaves by its request 2
+// 1.1.1.1 leaves by its second request
 fn leave() -> &'static [u8] {
     &[2, 1, 0, 0, 0, 1, 0, 1, 0, 0, 0, 1, 0, 0, 0, 2]
 }
@@ -22,28 +22,28 @@ fn fail() -> &'static [u8] {
     &[3, 1, 2, 0, 0, 0, 1, 0, 1, 0, 0, 0, 1, 1]
 }
 
-// 1.1.1.1 expels 2.1.1.1 by its request 3
+// 1.1.1.1 expels 2.1.1.1 by its third request
 fn expel() -> &'static [u8] {
     &[
         4, 1, 0, 0, 0, 1, 0, 1, 0, 0, 0, 1, 0, 0, 0, 3, 1, 2, 0, 0, 0, 1, 0, 1, 0, 0, 0, 1,
     ]
 }
 
-// 1.1.1.1 sets the value `red` by its request 2
+// 1.1.1.1 sets the value `red` by its second request
 fn state() -> &'static [u8] {
     &[
         5, 1, 0, 0, 0, 1, 0, 1, 0, 0, 0, 1, 0, 0, 0, 2, 0, 3, 114, 101, 100,
     ]
 }
 
-// 1.1.1.1 says `hi` by its request 2
+// 1.1.1.1 says `hi` by its second request
 fn message() -> &'static [u8] {
     &[
         6, 1, 0, 0, 0, 1, 0, 1, 0, 0, 0, 1, 0, 0, 0, 2, 0, 2, 104, 105,
     ]
 }
 
-// 1.1.1.1 sets the time limit 300 by its request 2
+// 1.1.1.1 sets the time limit 300 by its second request
 fn attributes() -> &'static [u8] {
     &[
         7, 1, 0, 0, 0, 1, 0, 1, 0, 0, 0, 1, 0, 0, 0, 2, 1, 0, 1, 1, 44, 1, 0, 0, 0, 0,
@@ -55,12 +55,12 @@ fn reflect() -> &'static [u8] {
     &[8, 0, 0, 0, 1, 1, 0, 0, 0, 1, 0, 0, 0, 7, 0, 1, 120]
 }
 
-// 1.1.1.1 leaves at once, by its request 2
+// 1.1.1.1 leaves at once, by its second request
 fn once() -> &'static [u8] {
     &[1, 2, 1, 0, 0, 0, 1, 0, 1, 0, 0, 0, 1, 0, 0, 0, 2]
 }
 
-// 1.1.1.1 begins to set the value `red` by its request 2
+// 1.1.1.1 begins to set the value `red` by its second request
 fn begin() -> &'static [u8] {
     &[
         2, 5, 1, 0, 0, 0, 1, 0, 1, 0, 0, 0, 1, 0, 0, 0, 2, 0, 3, 114, 101, 100,

@@ -44,7 +44,7 @@ fn join() -> &'static [u8] {
     ]
 }
 
-// 1.1.1.1 begins to set the value `red` by its request 2
+// 1.1.1.1 begins to set the value `red` by its second request
 fn begin() -> &'static [u8] {
     &[
         2, 5, 1, 0, 0, 0, 1, 0, 1, 0, 0, 0, 1, 0, 0, 0, 2, 0, 3, 114, 101, 100,
