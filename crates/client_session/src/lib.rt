@@ -6,5 +6,6 @@ mod laws;
 mod reads;
 mod sessions;
 
+pub use clients::{hand_entry_on, tell_at};
 pub use laws::scripted_clients_fill_their_scripts;
 pub use sessions::Sessions;

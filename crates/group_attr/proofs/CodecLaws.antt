@@ -2,8 +2,10 @@
 use Rattle.std.proofs.Common.{◌≡◌, ℕ, ◌<◌, ◌≤◌, Bool, true, false, cond, List, ◌++◌, length, Option, Some, None, refl, sym, ap, subst, ◌∙◌, arith, eqb-true}
 use Rattle.std.specs.Prelude.{◌==◌, if◌then◌else◌, ◌&&◌, nat_le}
 use Rattle.std.specs.List.{list_all}
+use Rattle.std.specs.Option.{option_map}
+use Rattle.std.specs.Borrow.{Bor}
 use Rattle.std.proofs.lemmas.Bool.{leb-true}
-use Rattle.rsct_packet.specs.Reading.{part_at, made_at, guarded_at}
+use Rattle.rsct_packet.specs.Reading.{Gives, part_at, made_at, guarded_at}
 use Rattle.rsct_packet.specs.Format.{IsFormat, IsVariant, Takes, OptionFits}
 use Rattle.rsct_packet.specs.Text.{IsName, is_name_of, name_byte}
 use Rattle.rsct_packet.specs.Fields.{u8_text}
@@ -15,8 +17,10 @@ use Rattle.group_attr.specs.declared.attrs.Batch.{Batch}
 use Rattle.group_attr.specs.declared.attrs.Batch.TheVariants.{Neither, Joins, Failures, Both}
 use Rattle.group_attr.specs.declared.attrs.DefaultVote.{DefaultVote}
 use Rattle.group_attr.specs.declared.attrs.DefaultVote.TheVariants.{Approve, Reject}
+use Rattle.group_attr.specs.declared.attrs.Attrs.{Attrs}
+use Rattle.group_attr.specs.declared.codec.AttrsRef.{AttrsRef}
 use Rattle.group_attr.specs.Agree.{batch_number}
-use Rattle.group_attr.specs.Codec.{phases_number, phases_of, phases_at, batch_of, batch_at, default_number, default_of, default_at, dissolve_of, dissolve_at, source_key, source_body, source_part_at, source_at, source_text, attrs_of_parts, attrs_at, attrs_text, IsAttrs}
+use Rattle.group_attr.specs.Codec.{phases_number, phases_of, phases_at, batch_of, batch_at, default_number, default_of, default_at, dissolve_of, dissolve_at, source_key, source_body, source_part_at, source_at, source_text, attrs_of_parts, attrs_at, attrs_text, IsAttrs, attrs_in, attrs_of}
 
 -- a choice by numbers: the value that is found has the number
 pub chosen : {A : Type 0} (number : A → ℕ) (n k : ℕ) (x y : A) (b : Bool) (rest : Option A) → (b ≡ true → k ≡ n) → number x ≡ n → (rest ≡ Some y → number y ≡ k) → cond b (Some x) rest ≡ Some y → number y ≡ k
@@ -132,3 +136,11 @@ attrs_format =
     (λ a. refl)
     (λ b. refl)
     (both_format phases_format (both_format batch_format (both_format default_format (both_format u16_format (both_format phases_format (both_format u16_format (both_format dissolve_format source_format))))))))
+
+-- an answer that stands for a value gives that value
+pub stands_gives : {A : Type 0} {B : Type 0} (made : A → B) (result : Option (A × Bor (List ℕ))) (read : Option (B × List ℕ)) → option_map (λ x. (made x.0, x.1.now)) result ≡ read → Gives (option_map (λ x. (made x.0, x.1)) result) read
+stands_gives made None read e = e
+stands_gives made (Some x) read e = e
+
+pub attrs_gives : (result : Option (AttrsRef × Bor (List ℕ))) (read : Option (Attrs × List ℕ)) → option_map (λ x. (attrs_in x.0, x.1.now)) result ≡ read → Gives (attrs_of result) read
+attrs_gives result read e = stands_gives attrs_in result read e

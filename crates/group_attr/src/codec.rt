@@ -3,10 +3,10 @@
 ghost use Rattle.std.specs.Prelude.{◌≡◌, ◌++◌, IfOk, OnOk, OnErr, option_copied};
 ghost use Rattle.std.specs.Option.{option_map};
 ghost use Rattle.rsct_packet.specs.Reading.{Gives, Reads};
-ghost use Rattle.rsct_packet.specs.Format.{IsBytes, IsFound, IsOnly, OptionFits};
+ghost use Rattle.rsct_packet.specs.Format.{IsBytes, IsFound, IsOnly, IsFoundAt, IsOnlyAt, OptionFits};
 ghost use Rattle.rsct_packet.specs.Text.{IsName};
 ghost use Rattle.group_attr.specs.Agree.{batch_number};
-ghost use Rattle.group_attr.specs.Codec.{phases_number, default_number, source_text, phases_at, batch_at, default_at, dissolve_at, source_at, attrs_at, attrs_text, IsAttrs, attrs_in};
+ghost use Rattle.group_attr.specs.Codec.{phases_number, default_number, source_text, phases_at, batch_at, default_at, dissolve_at, source_at, attrs_at, attrs_text, IsAttrs, attrs_in, attrs_of};
 
 use crate::attrs::{Attrs, Batch, DefaultVote, Phases};
 use rsct_packet::{
@@ -92,9 +92,8 @@ fn read_source(b: &[u8]) -> Option<(Option<&[u8]>, &[u8])>
     Some((Some(name), b))
 }
 
-/// Attributes off the front of bytes, with the bytes after them.
 #[tactic(auto, unfolding(crate::specs::Codec::attrs_at))]
-pub fn read_attrs(b: &[u8]) -> Option<(AttrsRef<'_>, &[u8])>
+fn attrs_front(b: &[u8]) -> Option<(AttrsRef<'_>, &[u8])>
     ensures { option_map (λ x. (attrs_in x.0, x.1.now)) result ≡ attrs_at b.now }
 {
     let (phases, b) = read_phases(b)?;
@@ -115,6 +114,17 @@ pub fn read_attrs(b: &[u8]) -> Option<(AttrsRef<'_>, &[u8])>
         source_limit,
     };
     Some((attrs, b))
+}
+
+/// Attributes off the front of bytes, with the bytes after them. None exactly where the front is no spelling of
+/// attributes.
+#[tactic(auto, using(rsct_packet::proofs::FormatLaws::gives_found, rsct_packet::proofs::FormatLaws::gives_only, crate::proofs::CodecLaws::attrs_gives, crate::proofs::CodecLaws::attrs_format))]
+pub fn read_attrs(b: &[u8]) -> Option<(AttrsRef<'_>, &[u8])>
+    ensures value { option_map (λ x. (attrs_in x.0, x.1.now)) result ≡ attrs_at b.now }
+    ensures found { IsFoundAt attrs_text IsAttrs (attrs_of result) b.now }
+    ensures only { IsOnlyAt attrs_text IsAttrs (attrs_of result) b.now }
+{
+    attrs_front(known(b))
 }
 
 fn phases_number(phases: Phases) -> u8

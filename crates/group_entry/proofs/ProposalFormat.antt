@@ -1,20 +1,24 @@
 -- What is read as a proposal is spelled so, and what is spelled so is read.
-use Rattle.std.proofs.Common.{◌≡◌, ℕ, ◌<◌, ◌≤◌, List, [], ◌∷◌, ◌++◌, length, Some, refl, arith, eqb-true}
+use Rattle.std.proofs.Common.{◌≡◌, ℕ, ◌<◌, ◌≤◌, List, [], ◌∷◌, ◌++◌, length, Option, Some, refl, arith, eqb-true}
 use Rattle.std.specs.Prelude.{IsTrue, ◌&&◌, nat_le}
 use Rattle.std.specs.Int.{w8}
+use Rattle.std.specs.Option.{option_map}
+use Rattle.std.specs.Borrow.{Bor}
 use Rattle.std.proofs.lemmas.Bool.{leb-true}
 use Rattle.rsct_packet.specs.Format.{IsFormat, IsVariant, EachFits}
+use Rattle.rsct_packet.specs.Reading.{Gives}
 use Rattle.rsct_packet.specs.declared.ids.ProviderId.{ProviderId}
 use Rattle.rsct_packet.specs.Fields.{u8_text, IsNode, IsProvider, IsProviders, IsSomeProviders}
 use Rattle.rsct_packet.proofs.FormatLaws.{both_format, made_format, decoded_format, guarded_format, fits_format, counted_format, optional_format, keyed_of, choice_format, or_variant, no_variant, made_variant, wide8, u8_format, u32_format}
 use Rattle.rsct_packet.proofs.FieldLaws.{and_true, bytes_format, view_format, provider_format, some_providers_format}
-use Rattle.group_attr.proofs.CodecLaws.{attrs_format, chosen, not_chosen}
+use Rattle.group_attr.proofs.CodecLaws.{attrs_format, chosen, not_chosen, stands_gives}
 use Rattle.group_entry.specs.declared.proposal.Cause.{Cause}
 use Rattle.group_entry.specs.declared.proposal.Cause.TheVariants.{Died, Gone, Cast}
 use Rattle.group_entry.specs.declared.proposal.Failure.{Failure}
 use Rattle.group_entry.specs.declared.proposal.Proposal.{Proposal}
 use Rattle.group_entry.specs.declared.proposal.Proposal.TheVariants.{Join, Leave, Fail, Expel, State, Message, Attributes, Reflect}
-use Rattle.group_entry.specs.ProposalCodec.{cause_number, cause_of, cause_at, failure_of_parts, failure_at, failure_text, IsFailure, are_failures, failures_differ, fallen_at, fallen_text, IsFallen, join_at, leave_at, fail_at, expel_at, state_change_at, message_at, attributes_at, reflect_at, proposal_body_at, proposal_at, proposal_kind, proposal_body, proposal_text, IsProposal}
+use Rattle.group_entry.specs.declared.proposal_codec.ProposalRef.{ProposalRef}
+use Rattle.group_entry.specs.ProposalCodec.{cause_number, cause_of, cause_at, failure_of_parts, failure_at, failure_text, IsFailure, are_failures, failures_differ, fallen_at, fallen_text, IsFallen, join_at, leave_at, fail_at, expel_at, state_change_at, message_at, attributes_at, reflect_at, proposal_body_at, proposal_at, proposal_kind, proposal_body, proposal_text, IsProposal, proposal_in, proposal_of}
 
 cause_back : (k : ℕ) (y : Cause) → cause_of k ≡ Some y → cause_number y ≡ k
 cause_back k y =
@@ -129,3 +133,6 @@ fallen_nodes_in (f ∷ fs) h = (h.0.node, fallen_nodes_in fs h.1)
 
 pub fallen_nodes : (fs : List Failure) → IsFallen fs → EachFits (λ f. IsNode f.p.node) fs
 fallen_nodes fs h = fallen_nodes_in fs h.each
+
+pub proposal_gives : (result : Option (ProposalRef × Bor (List ℕ))) (read : Option (Proposal × List ℕ)) → option_map (λ x. (proposal_in x.0, x.1.now)) result ≡ read → Gives (proposal_of result) read
+proposal_gives result read e = stands_gives proposal_in result read e

@@ -2,6 +2,8 @@
 use Rattle.std.specs.Prelude.{ℕ, ◌≤◌, Bool, true, not, ◌==◌, ◌&&◌, nat_le, IsTrue, List, [], ◌∷◌, ◌++◌, length, Option, Some, None, if◌then◌else◌}
 use Rattle.std.specs.Int.{w8, w32}
 use Rattle.std.specs.List.{list_any}
+use Rattle.std.specs.Option.{option_map}
+use Rattle.std.specs.Borrow.{Bor}
 use Rattle.rsct_packet.specs.declared.ids.ProviderId.{ProviderId}
 use Rattle.rsct_packet.specs.Providers.{same_provider}
 use Rattle.rsct_packet.specs.Reading.{number_at, both_at, made_at, decoded_at, guarded_at, keyed_at, counted_at, optional_at}
@@ -149,3 +151,7 @@ proposal_in (ref.State p r value) = State p r value.now
 proposal_in (ref.Message p r bytes) = Message p r bytes.now
 proposal_in (ref.Attributes p r attrs) = Attributes p r (attrs_in attrs)
 proposal_in (ref.Reflect view place value) = Reflect view place value.now
+
+-- what a reader of a proposal answers, as the proposal that it stands for
+abbrev pub proposal_of : Option (ProposalRef × Bor (List ℕ)) → Option (Proposal × Bor (List ℕ))
+proposal_of result = option_map (λ x. (proposal_in x.0, x.1)) result

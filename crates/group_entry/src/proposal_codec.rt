@@ -4,8 +4,8 @@ ghost use Rattle.std.specs.Option.{option_map};
 ghost use Rattle.rsct_packet.specs.Reading.{Gives, Reads};
 ghost use Rattle.std.specs.List.{list_any};
 ghost use Rattle.rsct_packet.specs.Fields.{AreShort};
-ghost use Rattle.rsct_packet.specs.Format.{IsBytes, IsFound, IsOnly};
-ghost use Rattle.group_entry.specs.ProposalCodec.{cause_number, cause_at, failure_at, same_failure, failures_differ, are_failures, fallen_at, join_at, leave_at, fail_at, expel_at, state_change_at, message_at, attributes_at, reflect_at, proposal_at, proposal_text, IsProposal, proposal_in};
+ghost use Rattle.rsct_packet.specs.Format.{IsBytes, IsFound, IsOnly, IsFoundAt, IsOnlyAt};
+ghost use Rattle.group_entry.specs.ProposalCodec.{cause_number, cause_at, failure_at, same_failure, failures_differ, are_failures, fallen_at, join_at, leave_at, fail_at, expel_at, state_change_at, message_at, attributes_at, reflect_at, proposal_at, proposal_text, IsProposal, proposal_in, proposal_of};
 
 use crate::proposal::{Cause, Failure, Proposal};
 use group_attr::{AttrsRef, read_attrs};
@@ -254,9 +254,8 @@ fn read_reflect(b: &[u8]) -> Option<(ProposalRef<'_>, &[u8])>
     Some((ProposalRef::Reflect { view, place, value }, b))
 }
 
-/// A proposal off the front of bytes, with the bytes after it.
 #[tactic(auto, unfolding(crate::specs::ProposalCodec::proposal_at))]
-pub fn read_proposal(b: &[u8]) -> Option<(ProposalRef<'_>, &[u8])>
+fn proposal_front(b: &[u8]) -> Option<(ProposalRef<'_>, &[u8])>
     ensures { option_map (λ x. (proposal_in x.0, x.1.now)) result ≡ proposal_at b.now }
 {
     let (kind, b) = read_u8(b)?;
@@ -271,6 +270,17 @@ pub fn read_proposal(b: &[u8]) -> Option<(ProposalRef<'_>, &[u8])>
         8 => read_reflect(b),
         _ => None,
     }
+}
+
+/// A proposal off the front of bytes, with the bytes after it. None exactly where the front is no spelling of a
+/// proposal.
+#[tactic(auto, using(rsct_packet::proofs::FormatLaws::gives_found, rsct_packet::proofs::FormatLaws::gives_only, crate::proofs::ProposalFormat::proposal_gives, crate::proofs::ProposalFormat::proposal_format))]
+pub fn read_proposal(b: &[u8]) -> Option<(ProposalRef<'_>, &[u8])>
+    ensures value { option_map (λ x. (proposal_in x.0, x.1.now)) result ≡ proposal_at b.now }
+    ensures found { IsFoundAt proposal_text IsProposal (proposal_of result) b.now }
+    ensures only { IsOnlyAt proposal_text IsProposal (proposal_of result) b.now }
+{
+    proposal_front(known(b))
 }
 
 fn take_proposal<'a>(f: &mut Fields<'a>) -> Option<ProposalRef<'a>>

@@ -3,7 +3,7 @@ ghost use Rattle.std.specs.Prelude.{◌≡◌, ◌++◌, ◌-◌, IfOk, OnOk, On
 ghost use Rattle.std.specs.Option.{option_map};
 ghost use Rattle.std.specs.List.{list_all};
 ghost use Rattle.rsct_packet.specs.Reading.{Gives, Reads, optional_at};
-ghost use Rattle.rsct_packet.specs.Format.{IsBytes, IsFound, IsOnly, OptionFits, optional_text};
+ghost use Rattle.rsct_packet.specs.Format.{IsBytes, IsFound, IsOnly, IsFoundAt, IsOnlyAt, OptionFits, optional_text};
 ghost use Rattle.rsct_packet.specs.Providers.{among, none_among};
 ghost use Rattle.proposal_core.specs.Fold.{joiners_fit, joiners_in, present};
 ghost use Rattle.proposal_core.specs.StateCodec.{running_at, running_text, IsRunning, running_in, optional_running_in, is_sound, parts_at, parts_in, state_at, state_text, IsState};
@@ -265,9 +265,8 @@ fn front<'a>(b: &'a [u8], rest: &[u8]) -> &'a [u8]
     &b[..n]
 }
 
-/// A group state off the front of bytes, with the bytes after it.
 #[tactic(auto, unfolding(crate::specs::StateCodec::state_at))]
-pub fn read_state(b: &[u8]) -> Option<(StateRef<'_>, &[u8])>
+fn state_front(b: &[u8]) -> Option<(StateRef<'_>, &[u8])>
     ensures { Gives result (state_at b.now) }
 {
     let (parts, rest) = read_parts(b)?;
@@ -281,6 +280,17 @@ pub fn read_state(b: &[u8]) -> Option<(StateRef<'_>, &[u8])>
         },
         rest,
     ))
+}
+
+/// A group state off the front of bytes, with the bytes after it. None exactly where the front is no spelling of a
+/// state.
+#[tactic(auto, using(rsct_packet::proofs::FormatLaws::gives_found, rsct_packet::proofs::FormatLaws::gives_only, crate::proofs::StateFormat::state_format))]
+pub fn read_state(b: &[u8]) -> Option<(StateRef<'_>, &[u8])>
+    ensures value { Gives result (state_at b.now) }
+    ensures found { IsFoundAt state_text IsState result b.now }
+    ensures only { IsOnlyAt state_text IsState result b.now }
+{
+    state_front(known(b))
 }
 
 fn take_state<'a>(f: &mut Fields<'a>) -> Option<StateRef<'a>>

@@ -1,4 +1,4 @@
--- What is handed on to the clients of a node, and what they are told.
+-- What an entry makes of a node's sessions: who is handed it, what each is told, and what then ends.
 use Rattle.std.specs.Prelude.{ℕ, Bool, true, false, not, ◌==◌, ◌&&◌, ◌||◌, ◌++◌, List, [], ◌∷◌, filter, Option, Some, None, is_some, find, if◌then◌else◌}
 use Rattle.std.specs.List.{fold, flat_map}
 use Rattle.std.specs.Str.{bytes_eq}

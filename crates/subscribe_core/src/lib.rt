@@ -3,4 +3,4 @@
 
 mod subs;
 
-pub use subs::{ClientToken, SubFault, SubToken, Subs, Subscription, Tokens};
+pub use subs::{ClientToken, SubFault, SubToken, Subs, Subscription, Tokens, differ};

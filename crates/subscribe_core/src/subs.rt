@@ -102,7 +102,7 @@ fn retain_other_clients(live: &mut List<Subscription>, client: ClientToken)
 }
 
 /// Do members or value differ?
-fn differ(before: &GroupState, after: &GroupState) -> bool
+pub fn differ(before: &GroupState, after: &GroupState) -> bool
     ensures { result ≡ differs before.now after.now }
 {
     !(before.members.as_slice() == after.members.as_slice()
