@@ -21,9 +21,9 @@ use Rattle.view_core.specs.declared.views.RingAsk.{RingAsk}
 use Rattle.view_core.specs.declared.views.ViewWork.{ViewWork}
 use Rattle.view_core.specs.declared.step.ViewEvent.{ViewEvent}
 use Rattle.view_core.specs.declared.step.ViewEvent.TheVariants as event
-use Rattle.view_core.specs.Views.{view_sent, view_sent_all, gathering_set, promised, installs, gathered, gathers, own_answer, asks_view, next_view, may_ask, ask_if, ask_row, answered, prepared, prepare_row, answer_to, answer_row, refused_by, refuse_to, refuse_row, installed, install_row, taken_row, aged, prepared_again, stuck_noted, tick_asks, asks_or_ages, gathering_ticks, install_again_of, install_again, is_coordinator, is_frozen, is_stuck, others_of, views_at_work, views_entered}
+use Rattle.view_core.specs.Views.{view_sent, view_sent_all, gathering_set, promised, installs, gathered, gathers, own_answer, asks_view, next_view, may_ask, ask_if, ask_row, answered, prepared, prepare_row, answer_to, answer_row, refused_by, refuse_to, refuse_row, installed, install_row, taken_row, aged, prepared_again, stuck_noted, tick_asks, asks_or_ages, gathering_ticks, install_again_of, install_again, is_coordinator, is_frozen, is_stuck, others_of, views_at_work, views_new, views_entered}
 use Rattle.view_core.specs.Steps.{view_row, view_stepped}
-use Rattle.view_core.specs.Laws.{NotBefore, IsNext, GathersNext, AppliesNext, AreViews, Goes, PromisesStand, Enters, ViewsRise}
+use Rattle.view_core.specs.Laws.{NotBefore, IsNext, GathersNext, AppliesNext, AreViews, ViewsBegin, Goes, PromisesStand, Enters, ViewsRise}
 
 or_left : (a b : Bool) → a ≡ true → (a || b) ≡ true
 or_left true b e = refl
@@ -45,9 +45,6 @@ record Since (s : Views) (w : ViewWork) : Type 0 where
   promise : NotBefore w.views.promise s.promise
   covers : NotBefore w.views.promise w.views.view
   nothing : w.install ≡ None
-
-at_first : (w : ViewWork) → AreViews w.views → w.install ≡ None → Since w.views w
-at_first w h none = record { view = refl; promise = not_before_itself w.views.promise; covers = h.covers; nothing = none }
 
 goes : (s : Views) (w : ViewWork) → Since s w → GathersNext w.views w.views.gathering → Goes s w
 goes s w h g = record {
@@ -323,6 +320,10 @@ row_goes s w (event.Answer from inc view answer) parts h g = answer_goes s w vie
 row_goes s w (event.Refuse view number) parts h g = refuse_goes s w view number h g
 row_goes s w (event.Install install) parts h g = install_goes s w install h g
 row_goes s w (event.Taken from view) parts h g = taken_goes s w from view h g
+
+pub views_begin : ViewsBegin
+unfolding views_new
+views_begin me inc v ms = record { covers = not_before_itself v; gathers = tt }
 
 pub promises_stand : PromisesStand
 unfolding view_stepped

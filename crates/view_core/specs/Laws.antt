@@ -1,6 +1,7 @@
 -- What holds of a node's views after every event.
-use Rattle.std.specs.Prelude.{◌≡◌, Bool, true, false, List, Option, Some, None}
+use Rattle.std.specs.Prelude.{◌≡◌, ℕ, Bool, true, false, List, Option, Some, None}
 use Rattle.rsct_packet.specs.declared.ids.ViewId.{ViewId}
+use Rattle.rsct_packet.specs.declared.ids.Member.{Member}
 use Rattle.rsct_packet.specs.Ids.{view_lt}
 use Rattle.view_exchange.specs.declared.exchange.Exchange.{Exchange}
 use Rattle.view_exchange.specs.declared.install.Part.{Part}
@@ -8,7 +9,7 @@ use Rattle.view_exchange.specs.declared.install.Install.{Install}
 use Rattle.view_core.specs.declared.step.ViewEvent.{ViewEvent}
 use Rattle.view_core.specs.declared.views.Views.{Views}
 use Rattle.view_core.specs.declared.views.ViewWork.{ViewWork}
-use Rattle.view_core.specs.Views.{views_entered}
+use Rattle.view_core.specs.Views.{views_new, views_entered}
 use Rattle.view_core.specs.Steps.{view_stepped}
 
 -- a is b or later
@@ -32,6 +33,9 @@ AppliesNext s (Some i) = IsNext s i.view
 pub record AreViews (s : Views) : Type 0 where
   pub covers : NotBefore s.promise s.view
   pub gathers : GathersNext s s.gathering
+
+abbrev pub ViewsBegin : Type 0
+ViewsBegin = (me inc : ℕ) (v : ViewId) (ms : List Member) → AreViews (views_new me inc v ms)
 
 -- what one event leaves: the view stays, the promise does not fall, and what is to be applied comes next
 pub record Goes (s : Views) (w : ViewWork) : Type 0 where

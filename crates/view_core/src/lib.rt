@@ -10,7 +10,7 @@ mod tick;
 mod views;
 mod work;
 
-pub use laws::{promises_never_fall, views_rise};
+pub use laws::{promises_never_fall, views_begin_promised, views_rise};
 pub use lists::OwnLists;
 pub use packet::{ViewPacket, ViewSend, ViewSends};
 pub use step::{ViewEvent, ViewOut};
