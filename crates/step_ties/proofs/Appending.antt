@@ -285,10 +285,10 @@ module _ (g : List ℕ) (w : Scene) (n : ℕ) (s : Core) where
   waits_if_goes c h p false true t = waits_goes c h p Gone t
   waits_if_goes c h p false false t = t
 
-  new_wait : (h : List ℕ) (after : GroupState) (ps : List ProviderId) (c : Core) → Leading g w n s c → Leading g w n s (fold (λ d p. waits_if d h p (among after.failed p) (among (led_of d h).gone p)) c ps)
-  new_wait h after [] c t = t
-  new_wait h after (p ∷ ps) c t =
-      new_wait h after ps (waits_if c h p (among after.failed p) (among (led_of c h).gone p)) (waits_if_goes c h p (among after.failed p) (among (led_of c h).gone p) t)
+  new_wait : (h : List ℕ) (after : GroupState) (gone ps : List ProviderId) (c : Core) → Leading g w n s c → Leading g w n s (fold (λ d p. waits_if d h p (among after.failed p) (among gone p)) c ps)
+  new_wait h after gone [] c t = t
+  new_wait h after gone (p ∷ ps) c t =
+      new_wait h after gone ps (waits_if c h p (among after.failed p) (among gone p)) (waits_if_goes c h p (among after.failed p) (among gone p) t)
 
 module _ (g : List ℕ) (w : Scene) (n : ℕ) (s : Core) (f : Answering) (thawed : s.views.promise ≡ s.views.view) (free : is_fixed w.config.mode ≡ false) where
   module _ (c : Core) (h : List ℕ) (e : Entry) (none : carried e ≡ []) (led : leads s h ≡ true) (t : Leading g w n s c) where
@@ -374,7 +374,7 @@ module _ (g : List ℕ) (w : Scene) (n : ℕ) (s : Core) (f : Answering) (thawed
     waits_after : Leading g w n s (new_members_wait (forgets_least handed h) h before after)
     unfolding new_members_wait forgets_least forgets_below
     waits_after =
-        new_wait g w n s h after (filter (λ p. not (among before.members p)) after.members) (forgets_least handed h) (row_goes g w n s handed h (λ row. record row { list = list_forgotten (least_acked handed h) row.list }) (λ x. refl) (λ x. refl) handed_goes (tied_least g w n handed handed_goes.tied h))
+        new_wait g w n s h after (led_of (forgets_least handed h) h).gone (filter (λ p. not (among before.members p)) after.members) (forgets_least handed h) (row_goes g w n s handed h (λ row. record row { list = list_forgotten (least_acked handed h) row.list }) (λ x. refl) (λ x. refl) handed_goes (tied_least g w n handed handed_goes.tied h))
 
     pub appended_goes : Leading g w n s (appended f c h e)
     unfolding appended

@@ -24,3 +24,4 @@ pub mod Owed
 pub mod Appending
 pub mod LedGroups
 pub mod Votes
+pub mod Rings

@@ -16,7 +16,7 @@ use Rattle.node_state.specs.declared.packet.Body.TheVariants as body
 use Rattle.node_state.specs.declared.packet.Packet.{Packet}
 use Rattle.node_state.specs.declared.state.Core.{Core}
 use Rattle.node_state.specs.Settings.{is_fixed}
-use Rattle.node_state.specs.State.{row_of, with_led, led_of, state_of, leads}
+use Rattle.node_state.specs.State.{row_of, with_led, led_of, state_of, leads, decision_of}
 use Rattle.node_state.specs.HandOn.{Answering}
 use Rattle.node_state.specs.Leading.{with_waiting, with_tally, closes}
 use Rattle.node_state.specs.Following.{vote_cast, vote_row, tally_failed, gone_waits, marked, gone_present, gone_of, gone_row}
@@ -56,16 +56,16 @@ vote_is_tied v h proto phase q ballot value message g w n f s p free t =
 
 among_fewer : (xs : List ProviderId) (p q : ProviderId) → among (without xs p) q ≡ true → among xs q ≡ true
 among_fewer [] p q e = e
-among_fewer (x ∷ xs) p q e = by (same_provider x p) (same_provider x q) e (among_fewer xs p q)
+among_fewer (x ∷ xs) p q e = by (same_provider x p) (same_provider x q) refl e (among_fewer xs p q)
   where
-    by : (a b : Bool) → among (if not a then x ∷ without xs p else without xs p) q ≡ true → (among (without xs p) q ≡ true → among xs q ≡ true) → (b || among xs q) ≡ true
-    by a true e rest = refl
-    by true false e rest = rest e
-    by false false e rest = absurd (cc)
+    by : (a b : Bool) → same_provider x q ≡ b → among (if not a then x ∷ without xs p else without xs p) q ≡ true → (among (without xs p) q ≡ true → among xs q ≡ true) → (b || among xs q) ≡ true
+    by a true d e rest = refl
+    by true false d e rest = rest e
+    by false false d e rest = rest (subst (λ z. (z || among (without xs p) q) ≡ true) d e)
 
 -- a join waits no longer
 drops_tied : (g : List ℕ) (w : Scene) (n : ℕ) (s : Core) (h : List ℕ) (p : ProviderId) → Tied g w n s → Tied g w n (with_waiting s h (join_dropped p))
-unfolding with_waiting with_led
+unfolding with_waiting with_led decision_of
 drops_tied g w n s h p t =
     tied_row g w n s t h (λ row. record row { led = record (row.led) { waiting = join_dropped p row.led.waiting } }) (λ x. refl) new
   where

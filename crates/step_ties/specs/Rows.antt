@@ -6,6 +6,9 @@ use Rattle.rsct_packet.specs.declared.ids.ProviderId.{ProviderId}
 use Rattle.rsct_packet.specs.declared.mask.Mask.{Mask}
 use Rattle.rsct_packet.specs.Mask.{nodes_of}
 use Rattle.rsct_packet.specs.Search.{Has}
+use Rattle.packet_bodies.specs.declared.body.ReportRow.{ReportRow}
+use Rattle.packet_bodies.specs.declared.body.What.{What}
+use Rattle.adapter_ring.specs.declared.packet.RingPacket.{RingPacket}
 use Rattle.group_entry.specs.declared.entry.Entry.{Entry}
 use Rattle.group_entry.specs.declared.entry.Vote.{Vote}
 use Rattle.view_core.specs.declared.packet.ViewPacket.{ViewPacket}
@@ -26,7 +29,7 @@ use Rattle.view_exchange.specs.Answers.{opened, with_answer, all_answered}
 use Rattle.view_core.specs.declared.views.RingAsk.{RingAsk}
 use Rattle.view_core.specs.Views.{own_answer, next_view}
 use Rattle.node_state.specs.Applying.{own_parts}
-use Rattle.node_state.specs.Ticks.{ring_ask, views_part, owed_part}
+use Rattle.node_state.specs.Ticks.{ring_ask, rings_part, views_part, owed_part}
 use Rattle.node_state.specs.Step.{order_row, at_work, started, view_row, body_row}
 use Rattle.world_model.specs.declared.event.Event.{Event}
 use Rattle.world_model.specs.Run.{Happening}
@@ -149,3 +152,23 @@ VoteTied =
 abbrev pub GoneTied : Type 0
 GoneTied =
     (v : ViewId) (h : List ℕ) (q : ProviderId) (g : List ℕ) (w : Scene) (n : ℕ) (f : Answering) (s : Core) (p : Packet) → is_fixed w.config.mode ≡ false → Tied g w n s → Tied g w n (body_row f s p (body.Gone v h q))
+
+-- what no group sees: the tick, part (1), packets of rings, reports, questions and answers
+abbrev pub RingsPartTied : Type 0
+RingsPartTied = (g : List ℕ) (w : Scene) (n : ℕ) (s : Core) → Tied g w n s → Tied g w n (rings_part s)
+
+abbrev pub AnyTied : Body → Type 0
+AnyTied b =
+    (g : List ℕ) (w : Scene) (n : ℕ) (f : Answering) (s : Core) (p : Packet) → Tied g w n s → Tied g w n (body_row f s p b)
+
+abbrev pub RingTied : Type 0
+RingTied = (x : RingPacket) → AnyTied (body.Ring x)
+
+abbrev pub ReportTied : Type 0
+ReportTied = (rows : List ReportRow) → AnyTied (body.Report rows)
+
+abbrev pub QueryTied : Type 0
+QueryTied = (question : ℕ) (what : What) → AnyTied (body.Query question what)
+
+abbrev pub ReplyTied : Type 0
+ReplyTied = (question : ℕ) (text : List ℕ) → AnyTied (body.Reply question text)

@@ -1,7 +1,7 @@
 //! The step of a node, tied to the lives of groups.
 #![tactic(auto)]
 
-ghost use Rattle.step_ties.specs.Rows.{NothingTied, StartTied, StopTied, BeginTied, EndTied, TakenTied, RefuseTied, PrepareTied, AckTied, EntryTied, AnswerTied, AskTied, ViewsPartTied, InstallTied, FixedStartTied, OwedPartTied, VoteTied, GoneTied};
+ghost use Rattle.step_ties.specs.Rows.{NothingTied, StartTied, StopTied, BeginTied, EndTied, TakenTied, RefuseTied, PrepareTied, AckTied, EntryTied, AnswerTied, AskTied, ViewsPartTied, InstallTied, FixedStartTied, OwedPartTied, VoteTied, GoneTied, RingsPartTied, RingTied, ReportTied, QueryTied, ReplyTied};
 
 /// Before anything happened, nothing stands for the dawn of each group's life.
 #[tactic(auto, using(crate::proofs::Begins::nothing_tied))]
@@ -109,4 +109,34 @@ pub fn vote_is_tied()
 #[tactic(auto, using(crate::proofs::Votes::gone_is_tied))]
 pub fn gone_is_tied()
     ensures { GoneTied }
+{}
+
+/// The tick, part (1): rings, and reports of reach.
+#[tactic(auto, using(crate::proofs::Rings::rings_part_tied))]
+pub fn rings_part_is_tied()
+    ensures { RingsPartTied }
+{}
+
+/// A packet of a ring.
+#[tactic(auto, using(crate::proofs::Rings::ring_is_tied))]
+pub fn ring_is_tied()
+    ensures { RingTied }
+{}
+
+/// REPORT.
+#[tactic(auto, using(crate::proofs::Rings::report_is_tied))]
+pub fn report_is_tied()
+    ensures { ReportTied }
+{}
+
+/// QUERY.
+#[tactic(auto, using(crate::proofs::Rings::query_is_tied))]
+pub fn query_is_tied()
+    ensures { QueryTied }
+{}
+
+/// REPLY.
+#[tactic(auto, using(crate::proofs::Rings::reply_is_tied))]
+pub fn reply_is_tied()
+    ensures { ReplyTied }
 {}
