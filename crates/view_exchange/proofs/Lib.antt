@@ -8,3 +8,5 @@ pub mod Edits
 pub mod Longest
 pub mod TailLaws
 pub mod Drops
+pub mod NameLaws
+pub mod CutLaws

@@ -9,4 +9,6 @@ pub mod Longest
 pub mod Bases
 pub mod Best
 pub mod Carried
+pub mod Names
 pub mod Cut
+pub mod Fitting
