@@ -24,7 +24,9 @@ use Rattle.view_core.specs.Views.{views_new}
 use Rattle.world_model.specs.declared.event.Event.{Event}
 use Rattle.run_safety.specs.Sight.{inc_in, lines_with, lines_of}
 use Rattle.run_safety.specs.Group.{member, Standing, Origin, Kept, Noted, Told, In, Put, Begins, kept}
-use Rattle.run_safety.specs.Moves.{Opening, Alone, Born, Dawn, NextEvent, Starts, first}
+use Rattle.run_safety.specs.Group as group
+use Rattle.run_safety.specs.Moves.{Opening, Alone, Born, Led, Dawn, NextEvent, Starts, first}
+use Rattle.run_safety.proofs.Parts.{Entered, Gave}
 use Rattle.run_safety.proofs.Whole.{Whole}
 use Rattle.run_safety.proofs.Lives.{whole}
 use Rattle.run_safety.proofs.PastIn.{start_unled}
@@ -145,7 +147,7 @@ unseen_ring : (g : List ℕ) (n : ℕ) (x : Ring) → Unseen g (ring_record n x)
 unfolding ring_record
 unseen_ring g n x rs = refl
 
-unseen_rings : (g : List ℕ) (n : ℕ) (rings : List Ring) (r : Happened) → Has r (map (ring_record n) rings) → Unseen g r
+pub unseen_rings : (g : List ℕ) (n : ℕ) (rings : List Ring) (r : Happened) → Has r (map (ring_record n) rings) → Unseen g r
 unseen_rings g n [] r h = absurd h
 unseen_rings g n (x ∷ rings) r (inl q) = subst (Unseen g) (sym q) (unseen_ring g n x)
 unseen_rings g n (x ∷ rings) r (inr h) = unseen_rings g n rings r h
@@ -160,6 +162,25 @@ unbased {o = o} {x = x} life v one = by (x.bases v) refl
         let w : Whole o x.nodes x.ps x.all x.leads x.bases = whole life in
         let k = w.based_ok.installed v b e in
         let l : 1 < v.number = (w.good.past.made v k.0 k.1 k.2).later in absurd (omega arith)
+
+-- an incarnation that did not start leads nothing
+not_led : {o : Opening} {x : Ghost} → Lives o x → (n : ℕ) (u : ViewId) (j : ℕ) → (x.nodes n).inc < j → x.leads u ≡ Some (member n j) → ⊥
+not_led {o = o} {x = x} life n u j l e = at (k.good.past.led u n j e)
+  where
+    k : Whole o x.nodes x.ps x.all x.leads x.bases
+    k = whole life
+
+    entered : Entered (x.nodes n) j u → ⊥
+    entered (inl z) = omega arith
+    entered (inr z) = let q = z.0 in omega arith
+
+    gave : (ss : ViewId → List Entry) → Gave (x.nodes n) u j ss → ⊥
+    gave ss (inl z) = omega arith
+    gave ss (inr z) = let q = z.0 in omega arith
+
+    at : Led x.ps (kept x.all) u n j → ⊥
+    at (inl a) = entered (k.good.inv.records (In n j u a.0) a.1)
+    at (inr b) = gave b.1 ((k.good.inv.packet (group.Install u b.0 b.1) b.2).gave n j b.3)
 
 module _ (g : List ℕ) (w : Scene) (n : ℕ) (e : Event) (free : is_fixed w.config.mode ≡ false) (down : w.cores n ≡ None) (t : Rests g w) where
   abbrev j : ℕ
@@ -266,6 +287,7 @@ module _ (g : List ℕ) (w : Scene) (n : ℕ) (e : Event) (free : is_fixed w.con
             refused = λ p r q h. absurd (let f = unled in cc);
             begun = λ p r i f q h. absurd (let f = unled in cc);
             waiting = λ p q h. absurd (let f = unled in cc);
+            later = λ u l q p r h. not_led t.life n u (w.incs n + 1) (omega (arith, inc_is)) q;
           };
           names = record { named = λ m a b c f. absurd (cc); unnamed = λ a b c f. unled };
         },

@@ -10,7 +10,7 @@ use Rattle.node_state.specs.declared.packet.Packet.{Packet}
 use Rattle.node_state.specs.declared.state.Core.{Core}
 use Rattle.node_state.specs.Settings.{is_fixed}
 use Rattle.node_state.specs.State.{row_of}
-use Rattle.node_state.specs.Sending.{sent_on, packet_on, sent}
+use Rattle.node_state.specs.Sending.{sent_on, packet_on, network_to, sent}
 use Rattle.run_safety.specs.Past.{History, earlier}
 use Rattle.run_safety.specs.Sight.{lines_at, lines_with}
 use Rattle.run_safety.specs.Group.{Line, Kept, Begins}
@@ -64,6 +64,21 @@ module _ (g : List ℕ) (w : Scene) (n : ℕ) (s : Core) (t : Tied g w n s) wher
   pub tied_sent : (to : ℕ) (b : Body) → ShowsBody t.ghost g s.views.me s.views.inc b → Tied g w n (sent s to b)
   unfolding sent
   tied_sent to b ok = tied_sent_on _ to b ok
+
+  -- and nothing else of the group changes
+  pub sent_kept : (to : ℕ) (b : Body) → ShowsBody t.ghost g s.views.me s.views.inc b → (u : Tied g w n (sent s to b)) × (u.ghost ≡ t.ghost)
+  unfolding sent sent_on packet_on row_of
+  sent_kept to b ok = (
+    record {
+      ghost = t.ghost;
+      life = t.life;
+      lines = t.lines;
+      own = t.own;
+      others = t.others;
+      packets = λ p h. ⊎_elim (λ (e : p ≡ packet_on s (network_to s to) to b). subst (λ z. Shows t.ghost g z) (sym e) ok) (λ (k : Has p (s.sends ++ w.sent)). t.packets p k) (has_pushed p (packet_on s (network_to s to) to b) s.sends w.sent h);
+    },
+    refl,
+  )
 
   -- what a node keeps of views, where no group sees it
   pub tied_views : (v : Views) → NodeOf t.ghost g n (is_fixed s.config.mode) v (row_of s g) s.groups s.sessions s.names → v.inc ≡ s.views.inc → Tied g w n (record s { views = v })
