@@ -80,6 +80,7 @@ sends_kept g w n c t ps ok = (
     own = t.own;
     others = t.others;
     packets = λ p h. ⊎_elim (λ (a : Has p (c.sends ++ ps)). ⊎_elim (λ (b : Has p c.sends). t.packets p (append_has_left p c.sends w.sent b)) (λ (b : Has p ps). ok p b) (has_append p c.sends ps a)) (λ (b : Has p w.sent). t.packets p (append_has_right p c.sends w.sent b)) (has_append p (c.sends ++ ps) w.sent h);
+    refused = t.refused;
   },
   refl,
 )

@@ -107,6 +107,7 @@ module _ (g : List ℕ) (w : Scene) (n : ℕ) where
           own = t.tied.own;
           others = t.tied.others;
           packets = t.tied.packets;
+          refused = t.tied.refused;
         };
         unasked = t.unasked;
         thawed = t.thawed;
@@ -202,6 +203,7 @@ module _ (g : List ℕ) (w : Scene) (n : ℕ) where
             own = (node_left, t.tied.own.1, t.tied.own.2);
             others = λ m ne. node_if_on x y m (spares m ne) refl w.config g (w.incs m) (w.cores m) (t.tied.others m ne);
             packets = λ q k. shows_on x y goes g q (t.tied.packets q k);
+            refused = t.tied.refused;
           };
           unasked = t.unasked;
           thawed = t.thawed;

@@ -33,7 +33,7 @@ use Rattle.run_safety.proofs.PastIn.{start_unled}
 use Rattle.step_ties.specs.Ghost.{Ghost, Lives, Goes}
 use Rattle.step_ties.specs.Tied.{Shows, NodeIsIf, Scene, opening_in, opening_of, Rests, Tied}
 use Rattle.step_ties.specs.Rows.{at_node, over, stopped, start_with, ended, nothing_yet}
-use Rattle.step_ties.proofs.Goes.{Spares, shows_on, node_if_on}
+use Rattle.step_ties.proofs.Goes.{Spares, seen_on, shows_on, node_if_on}
 use Rattle.step_ties.proofs.Changed.{set_here, set_there, each_set, changes}
 use Rattle.step_ties.proofs.Works.{Unseen, lines_pushed, lines_none}
 
@@ -77,6 +77,7 @@ begin_tied g w n s is t =
       own = node n (Some s) (subst (λ k. NodeIsIf w.config x g n (w.incs n) k) is (t.nodes n));
       others = λ m ne. node m (w.cores m) (t.nodes m);
       packets = λ p h. shows_on x (turned x) (turned_goes x) g p (t.packets p h);
+      refused = λ v p r h. seen_on x (turned x) (turned_goes x) v (t.refused v p r h);
     }
   where
     x : Ghost
@@ -93,6 +94,7 @@ end_tied g w n s e t =
       lines = t.lines;
       nodes = each_set (λ m k. NodeIsIf w.config t.ghost g m (w.incs m) k) w.cores n (Some s) t.own t.others;
       packets = t.packets;
+      refused = t.refused;
     }
 
 pub stop_tied : (g : List ℕ) (w : Scene) (n : ℕ) (e : Event) (s : Core) → w.cores n ≡ Some s → Rests g w → Rests g (stopped w n e)
@@ -103,6 +105,7 @@ stop_tied g w n e s is t =
       lines = ap (λ l. Kept Begins ∷ l) t.lines;
       nodes = each_set (λ m k. NodeIsIf w.config (turned x) g m (w.incs m) k) w.cores n None down (λ m ne. node_if_on x (turned x) m (turned_spares x m) refl w.config g (w.incs m) (w.cores m) (t.nodes m));
       packets = λ p h. shows_on x (turned x) (turned_goes x) g p (t.packets p h);
+      refused = λ v p r h. seen_on x (turned x) (turned_goes x) v (t.refused v p r h);
     }
   where
     x : Ghost
@@ -119,6 +122,7 @@ nothing_tied g c =
       lines = refl;
       nodes = λ m. refl;
       packets = λ p h. absurd h;
+      refused = λ v p r h. absurd h;
     }
 
 -- ---- a start
@@ -307,6 +311,7 @@ module _ (g : List ℕ) (w : Scene) (n : ℕ) (e : Event) (free : is_fixed w.con
         lines = line;
         nodes = λ m. ⊎_elim (λ (q : m ≡ n). subst (λ k. NodeIsIf w.config y g k (at_node w.incs n j k) (at_node w.cores n (Some s) k)) (sym q) here) (λ (ne : m ≢ n). there m ne) (cases_eq m n);
         packets = packets;
+        refused = λ u p r h. seen_on t.ghost y goes u (t.refused u p r h);
       }
     where
       here : NodeIsIf w.config y g n (at_node w.incs n j n) (at_node w.cores n (Some s) n)

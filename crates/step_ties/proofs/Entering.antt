@@ -54,7 +54,7 @@ use Rattle.run_safety.proofs.Lives.{whole}
 use Rattle.step_ties.specs.Ghost.{Ghost, Lives, Goes, Keeps, CarriesIf, part_of, origin_of, BaseIsOf, Installs, InstallsIf}
 use Rattle.step_ties.specs.Tied.{ShowsBody, RowIs, Owed, Owes, LeaderKeeps, NodeOf, NodeIsIf, Scene, opening_of, lines_now, Tied}
 use Rattle.step_ties.specs.Rows.{at_node}
-use Rattle.step_ties.proofs.Goes.{Spares, node_if_on, shows_on, installs_on}
+use Rattle.step_ties.proofs.Goes.{Spares, seen_on, node_if_on, shows_on, installs_on}
 use Rattle.step_ties.proofs.Changed.{set_here, set_there, changes}
 use Rattle.step_ties.proofs.Works.{lines_pushed, tied_sent}
 use Rattle.step_ties.proofs.NameOrder.{is_of}
@@ -438,6 +438,7 @@ module _ (g : List ℕ) (w : Scene) (n : ℕ) (f : Answering) (s : Core) (t : Ti
           own = own;
           others = λ m ne. node_if_on x y m (spares m ne) (set_there x.nodes n now m ne) w.config g (w.incs m) (w.cores m) (t.others m ne);
           packets = λ p h. shows_on x y goes g p (t.packets p (subst (λ z. Has p (z ++ w.sent)) fills.sends h));
+          refused = λ u q r h. seen_on x y goes u (t.refused u q r h);
         };
         unasked = λ p r a m e h. unasked p r a m (e ∙ ap (λ (z : Views). z.inc) fills.views) h;
         seen = seen;

@@ -242,7 +242,7 @@ module _ (g : List ℕ) (c : Config) (fixed : is_fixed c.mode ≡ true) (cores :
 
 opens_rest : (g : List ℕ) (c : Config) → is_fixed c.mode ≡ true → (ns : List ℕ) → ((m : ℕ) → Has m ns → Has m (nodes_of c.nodes)) → (cores : ℕ → Option Core) (incs : ℕ → ℕ) (rs : List Happened) → Opens g c cores incs rs → Rests g (fold (λ (w : Scene) n. starts_too w n (w.cores n)) (scene c cores incs rs) ns)
 opens_rest g c fixed [] there cores incs rs t =
-    record { ghost = bare t.nodes t.all; life = t.life; lines = t.lines; nodes = t.stand; packets = λ p h. absurd h }
+    record { ghost = bare t.nodes t.all; life = t.life; lines = t.lines; nodes = t.stand; packets = λ p h. absurd h; refused = λ v p r h. absurd h }
 opens_rest g c fixed (n ∷ ns) there cores incs rs t =
     by (cores n) refl (λ cores' incs' rs' u. opens_rest g c fixed ns (λ m h. there m (inr h)) cores' incs' rs' u)
   where

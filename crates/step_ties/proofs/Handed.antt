@@ -121,6 +121,7 @@ module _ (g : List ℕ) (w : Scene) (n : ℕ) (h : List ℕ) (v : ViewId) (i : �
             own = t.tied.own;
             others = t.tied.others;
             packets = t.tied.packets;
+            refused = t.tied.refused;
           };
           same = t.same;
           after = t.after;
@@ -148,6 +149,7 @@ module _ (g : List ℕ) (w : Scene) (n : ℕ) (h : List ℕ) (v : ViewId) (i : �
             own = node_if_on x y n (heard_spares x p st.members st.value n) refl w.config g (w.incs n) (Some c) t.tied.own;
             others = λ m ne. node_if_on x y m (heard_spares x p st.members st.value m) refl w.config g (w.incs m) (w.cores m) (t.tied.others m ne);
             packets = λ q k. shows_on x y (heard_goes x (Heard p v i e st.members st.value)) g q (t.tied.packets q k);
+            refused = t.tied.refused;
           };
           same = t.same;
           after = t.after;

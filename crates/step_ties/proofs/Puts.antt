@@ -30,7 +30,7 @@ use Rattle.run_safety.proofs.Lives.{whole}
 use Rattle.step_ties.specs.Ghost.{Ghost, Lives, Goes, Keeps}
 use Rattle.step_ties.specs.Tied.{RowIs, Owed, Owes, LeaderKeeps, NodeOf, Scene, opening_of, lines_now, Tied}
 use Rattle.step_ties.specs.Rows.{at_node}
-use Rattle.step_ties.proofs.Goes.{Spares, node_if_on, stable_on, knows_on, acked_on, gathers_on, install_on, shows_on}
+use Rattle.step_ties.proofs.Goes.{Spares, seen_on, node_if_on, stable_on, knows_on, acked_on, gathers_on, install_on, shows_on}
 use Rattle.step_ties.proofs.Changed.{set_here, set_there, changes}
 use Rattle.step_ties.proofs.Works.{lines_pushed}
 use Rattle.step_ties.proofs.NameOrder.{text_self, text_other, row_here, row_there, rows_ordered}
@@ -115,6 +115,7 @@ module _ (g : List ℕ) (w : Scene) (n : ℕ) (s : Core) (t : Tied g w n s) (h :
         );
         others = t.others;
         packets = t.packets;
+        refused = t.refused;
       }
 
 module _ (g : List ℕ) (w : Scene) (n : ℕ) (s : Core) (t : Tied g w n s) (e : Entry) (u : SessionState) (l : Leaves s.sessions u e) where
@@ -254,6 +255,7 @@ module _ (g : List ℕ) (w : Scene) (n : ℕ) (s : Core) (t : Tied g w n s) (e :
         own = (subst (λ row. NodeOf y g n (is_fixed s.config.mode) s.views row (with_row s g put_row).groups u s.names) (sym (row_here g put_row (λ x. refl) s t.own.0.order)) own_after, t.own.1, t.own.2);
         others = λ m ne. node_if_on t.ghost y m (spares m ne) (set_there t.ghost.nodes n (grown (t.ghost.nodes n) e) m ne) w.config g (w.incs m) (w.cores m) (t.others m ne);
         packets = λ p i. shows_on t.ghost y goes g p (t.packets p i);
+        refused = λ v p r h. seen_on t.ghost y goes v (t.refused v p r (refusals v p r h));
       },
       (inl (λ i. Put n (sym t.own.0.stands.view i) (len_now i) e), state_after),
       (λ p h. h),

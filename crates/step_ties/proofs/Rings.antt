@@ -1,6 +1,6 @@
 -- What no group sees: rings, reports, and questions.
-use Rattle.std.proofs.Common.{ℕ, List, [], ◌∷◌, ◌++◌, Option, Some, None, Bool, true, false, refl, sym, ap, ◌∙◌, subst}
-use Rattle.std.specs.Prelude.{◌==◌, not, reverse, filter, find, fold}
+use Rattle.std.proofs.Common.{ℕ, List, [], ◌∷◌, Option, Some, None, Bool, true, false, refl, sym, subst}
+use Rattle.std.specs.Prelude.{◌==◌, not, filter, find, fold}
 use Rattle.std.proofs.lemmas.List.{append-nil}
 use Rattle.rsct_packet.specs.declared.mask.Mask.{Mask}
 use Rattle.rsct_packet.specs.Mask.{nodes_of}
@@ -15,7 +15,6 @@ use Rattle.adapter_ring.specs.declared.work.RingWork.{RingWork}
 use Rattle.adapter_ring.specs.Rings.{ring_stepped}
 use Rattle.node_reach.specs.declared.reach.Reach.{Reach}
 use Rattle.node_reach.specs.Reach as reach
-use Rattle.node_state.specs.declared.happened.Happened.{Happened}
 use Rattle.node_state.specs.declared.happened.Happened.TheVariants as happened
 use Rattle.node_state.specs.declared.packet.Body.{Body}
 use Rattle.node_state.specs.declared.packet.Body.TheVariants as body
@@ -28,33 +27,19 @@ use Rattle.node_state.specs.HandOn.{Answering}
 use Rattle.node_state.specs.Ticks.{ring_put, set_records, ring_taken, ring_row_of, ring_row, report_row, rings_union, report_of, report_sent, rings_tick, rings_part}
 use Rattle.node_state.specs.Status.{status_text}
 use Rattle.node_state.specs.Step.{body_row}
-use Rattle.run_safety.specs.Past.{earlier}
-use Rattle.run_safety.specs.Sight.{lines_of}
 use Rattle.step_ties.specs.Ghost.{Ghost}
-use Rattle.step_ties.specs.Tied.{ShowsBody, Scene, lines_now, Tied}
-use Rattle.step_ties.proofs.Works.{Unseen, lines_pushed, tied_sent_on, tied_sent}
+use Rattle.step_ties.specs.Tied.{ShowsBody, Scene, Tied}
+use Rattle.step_ties.proofs.Works.{tied_sent_on, tied_sent, tied_unseen}
 
 module _ (g : List ℕ) (w : Scene) (n : ℕ) where
   -- rings and reach are no group's
   rings_set : (s : Core) (rings : List Ring) → Tied g w n s → Tied g w n (record s { rings = rings })
   unfolding row_of
-  rings_set s rings t = record { ghost = t.ghost; life = t.life; lines = t.lines; own = t.own; others = t.others; packets = t.packets }
+  rings_set s rings t = record { ghost = t.ghost; life = t.life; lines = t.lines; own = t.own; others = t.others; packets = t.packets; refused = t.refused }
 
   reach_set : (s : Core) (r : Reach) → Tied g w n s → Tied g w n (record s { reach = r })
   unfolding row_of
-  reach_set s r t = record { ghost = t.ghost; life = t.life; lines = t.lines; own = t.own; others = t.others; packets = t.packets }
-
-  unseen_tied : (s : Core) (r : Happened) → Unseen g r → Tied g w n s → Tied g w n (recorded s r)
-  unfolding recorded row_of
-  unseen_tied s r unseen t =
-      record {
-        ghost = t.ghost;
-        life = t.life;
-        lines = t.lines ∙ sym (lines_pushed g s.records r w.before (lines_of g w.before) ∙ ap (λ z. z ++ lines_now g w s) (unseen (earlier (reverse s.records) w.before)));
-        own = t.own;
-        others = t.others;
-        packets = t.packets;
-      }
+  reach_set s r t = record { ghost = t.ghost; life = t.life; lines = t.lines; own = t.own; others = t.others; packets = t.packets; refused = t.refused }
 
   sends_tied : (xs : List RingSend) (s : Core) → Tied g w n s → Tied g w n (fold (λ u (x : RingSend). sent_on u x.network x.to (body.Ring x.packet)) s xs)
   sends_tied [] s t = t
@@ -73,7 +58,7 @@ module _ (g : List ℕ) (w : Scene) (n : ℕ) where
 
       by : (o : Option RingSet) → Tied g w n (recorded_all sent_now (set_records s.views.me x.ring.net o))
       by None = subst (λ z. Tied g w n (record sent_now { records = z })) (sym (append-nil sent_now.records)) now
-      by (Some r) = unseen_tied sent_now (happened.Ring s.views.me x.ring.net r.id r.members r.neighbour) (λ rs. refl) now
+      by (Some r) = tied_unseen g w n sent_now now (happened.Ring s.views.me x.ring.net r.id r.members r.neighbour) (λ rs. refl)
 
   rings_fold : (rs : List Ring) (s : Core) → Tied g w n s → Tied g w n (fold (λ u (r : Ring). ring_taken u (ring_stepped r ring_event.Tick)) s rs)
   rings_fold [] s t = t

@@ -181,6 +181,10 @@ abbrev pub NodeIsIf : Config → Ghost → List ℕ → ℕ → ℕ → Option C
 NodeIsIf c x g n inc None = (x.nodes n).inc ≡ inc
 NodeIsIf c x g n inc (Some s) = NodeIs x g n s × (s.config ≡ c) × (s.views.inc ≡ inc)
 
+-- what was refused was refused in a view that was entered
+abbrev pub Refused : Ghost → Type 0
+Refused x = (v : ViewId) (p : ProviderId) (r : ℕ) → Has (group.Refusal v p r) x.ps → Seen x v
+
 -- how nodes start
 abbrev pub opening_in : Config → Mode → Opening
 opening_in c Fixed = Together (first_view c Fixed 0 1) (first_members c Fixed 0 1)
@@ -197,6 +201,7 @@ pub record Rests (g : List ℕ) (w : Scene) : Type 0 where
   pub lines : ghost.all ≡ lines_of g w.before
   pub nodes : (m : ℕ) → NodeIsIf w.config ghost g m (w.incs m) (w.cores m)
   pub packets : (p : Packet) → Has p w.sent → Shows ghost g p
+  pub refused : Refused ghost
 
 -- the lines with those of a step that has come so far
 abbrev pub lines_now : List ℕ → Scene → Core → List Line
@@ -210,3 +215,4 @@ pub record Tied (g : List ℕ) (w : Scene) (n : ℕ) (s : Core) : Type 0 where
   pub own : NodeIsIf w.config ghost g n (w.incs n) (Some s)
   pub others : (m : ℕ) → m ≢ n → NodeIsIf w.config ghost g m (w.incs m) (w.cores m)
   pub packets : (p : Packet) → Has p (s.sends ++ w.sent) → Shows ghost g p
+  pub refused : Refused ghost
