@@ -1,0 +1,4 @@
+pub mod Answers
+pub mod Four
+pub mod Heads
+pub mod Counted
