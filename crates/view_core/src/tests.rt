@@ -143,9 +143,15 @@ fn an_install_goes_out_until_it_is_taken(rt: HostRuntime) -> Result<(), Fail> {
     Ok(())
 }
 
+/// The list of a group that nobody has joined.
+#[tactic(auto, unfolding(proposal_core::specs::Fold::joiners_fit, proposal_core::specs::Fold::joiners_fit_at))]
+fn new_list(alloc: Global) -> GroupList {
+    GroupList::new(alloc, GroupState::empty(alloc))
+}
+
 /// How many entries a new list lacks of the one of `db` that comes from 1.1.1.
 fn lacking(alloc: Global, i: &Install) -> Result<Option<usize>, NoMemory> {
-    let list = GroupList::new(alloc, GroupState::empty(alloc));
+    let list = new_list(alloc);
     let Some(part) = i.part(view(1, 1), b"db") else {
         return Ok(None);
     };
