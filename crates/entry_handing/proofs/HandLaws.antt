@@ -1,0 +1,286 @@
+-- What handing an entry on does: the row of its definition, for all answers that agree with what clients filled.
+use Rattle.std.proofs.Common.{◌≡◌, ℕ, ◌+◌, ◌≤◌, Bool, true, false, ◌&&◌, ◌++◌, List, [], ◌∷◌, length, map, filter, Option, Some, None, is_some, refl, sym, ap, ◌∙◌, arith, length-append}
+use Rattle.std.specs.List.{fold, flat_map}
+use Rattle.std.specs.Option.{unwrap_or}
+use Rattle.std.specs.Prelude.{find}
+use Rattle.rsct_packet.specs.declared.ids.ProviderId.{ProviderId}
+use Rattle.rsct_packet.specs.declared.ids.ProtoId.{ProtoId}
+use Rattle.rsct_packet.specs.declared.ids.ViewId.{ViewId}
+use Rattle.rsct_packet.specs.Providers.{among}
+use Rattle.group_entry.specs.declared.entry.Entry.{Entry}
+use Rattle.proposal_core.specs.declared.group_state.GroupState.{GroupState}
+use Rattle.proposal_core.specs.declared.group_state.Running.{Running}
+use Rattle.proposal_core.specs.Fold.{voters, voters_at}
+use Rattle.subscribe_core.specs.declared.subs.Subscription.{Subscription}
+use Rattle.subscribe_core.specs.Subs.{SubsView, is_of_group, differs}
+use Rattle.client_callbacks.specs.declared.ballot.Filled.{Filled}
+use Rattle.client_callbacks.specs.declared.votes.VoteItem.{VoteItem}
+use Rattle.client_callbacks.specs.declared.told.Told.TheVariants as told
+use Rattle.client_callbacks.specs.Ballots.{BallotView}
+use Rattle.session_state.specs.declared.casts.Cast.{Cast}
+use Rattle.session_state.specs.declared.state.Session.{Session}
+use Rattle.session_state.specs.declared.state.SessionState.{SessionState}
+use Rattle.session_state.specs.State.{is_session, name_in, client_name}
+use Rattle.session_state.specs.Calls.{SameSessions}
+use Rattle.session_state.specs.HandOn.{opens_phase, asks, cast_with, cast_of, casts_of, casts_out, hearers, beginners}
+use Rattle.session_state.specs.HandOn as session
+use Rattle.client_session.specs.Notices.{Fillings}
+use Rattle.node_state.specs.declared.happened.Happened.{Happened}
+use Rattle.node_state.specs.declared.happened.Happened.TheVariants as happened
+use Rattle.node_state.specs.declared.packet.Body.{Body}
+use Rattle.node_state.specs.declared.state.Core.{Core}
+use Rattle.node_state.specs.State.{frozen, recorded_all, with_sessions}
+use Rattle.node_state.specs.Sending.{sent_on, sent, sent_if_known}
+use Rattle.node_state.specs.HandOn.{Answering, answer_if, records_of_notice, fills, cast_record, cast_records, heard, subscriber_name, note_of, notes, noted, ballot_sent, cast_sent_of, casts_sent, handed_on}
+use Rattle.entry_handing.specs.Telling.{heard_in, note_in}
+use Rattle.entry_handing.specs.Doing.{Question, AnswersAs, Agrees, Rise, AreFilled, Does, Ready}
+use Rattle.entry_handing.proofs.DoingLaws.{rise_lower, rise_upper, Beside, beside_itself, beside_then, beside_as, beside_grows, ready_same, ready_beside}
+use Rattle.entry_handing.proofs.KeepLaws.{SameNames, heard_same}
+
+-- ---- who is asked
+
+asks_head : (b : Bool) → b && false ≡ true → ⊥
+asks_head true h = absurd (cc)
+asks_head false h = absurd (cc)
+
+runs_where : (b : Bool) (s : GroupState) (run : Option Running) (p : ProviderId) → b && among (voters_at s run) p ≡ true → is_some run ≡ true
+unfolding voters_at
+runs_where b s None p h = absurd (asks_head b h)
+runs_where b s (Some run) p h = refl
+
+-- a vote is asked for where a protocol runs
+asks_runs : (e : Entry) (after : GroupState) (p : ProviderId) → asks e after p ≡ true → is_some after.running ≡ true
+unfolding asks voters
+asks_runs e after p h = runs_where (opens_phase e) after after.running p h
+
+-- ---- the questions
+
+-- of an entry that is handed to ps, whose clients fill bs
+questions : ℕ → SessionState → Entry → GroupState → List ProviderId → List (Option Filled) → List Question
+questions n s e after [] bs = []
+questions n s e after (p ∷ ps) [] = []
+questions n s e after (p ∷ ps) (b ∷ bs) =
+    record { place = n; sessions = s; entry = e; after = after; p = p; filled = b } ∷ questions (n + records_of_notice (answer_if (asks e after p) b)) s e after ps bs
+
+questions_filled : (scripts : List (Option (List (Option VoteItem)))) (n : ℕ) (s : SessionState) (e : Entry) (after : GroupState) (ps : List ProviderId) (bs : List (Option Filled)) → Fillings scripts s e after ps bs → AreFilled scripts (questions n s e after ps bs)
+unfolding questions
+questions_filled scripts n s e after [] bs h = tt
+questions_filled scripts n s e after (p ∷ ps) [] h = tt
+questions_filled scripts n s e after (p ∷ ps) (b ∷ bs) h = (h.0, questions_filled scripts (n + records_of_notice (answer_if (asks e after p) b)) s e after ps bs h.1)
+
+-- a notice has as many records as are counted for it
+count_head : (votes : Bool) (run : Option Running) (level : ℕ) (v : ViewId) (g : List ℕ) (i : ℕ) (e : Entry) (after : GroupState) (p : ProviderId) (b : Option Filled) → (votes ≡ true → is_some run ≡ true)
+    → length (heard_in v g i e after (cast_with votes run level p b)) ≡ records_of_notice (answer_if votes b)
+unfolding records_of_notice answer_if cast_records cast_record
+count_head false run level v g i e after p b runs = refl
+count_head true None level v g i e after p b runs = let h : false ≡ true = runs refl in absurd (cc)
+count_head true (Some run) level v g i e after p None runs = refl
+count_head true (Some run) level v g i e after p (Some x) runs = refl
+
+heard_count : (level : ℕ) (v : ViewId) (g : List ℕ) (i : ℕ) (e : Entry) (after : GroupState) (p : ProviderId) (b : Option Filled) → length (heard_in v g i e after (cast_of e after level p b)) ≡ records_of_notice (answer_if (asks e after p) b)
+unfolding cast_of
+heard_count level v g i e after p b = count_head (asks e after p) after.running level v g i e after p b (asks_runs e after p)
+
+one_record : (b : Option Filled) → 1 ≤ records_of_notice b
+unfolding records_of_notice
+one_record None = omega arith
+one_record (Some x) = omega arith
+
+questions_placed : (scripts : List (Option (List (Option VoteItem)))) (n high level : ℕ) (v : ViewId) (g : List ℕ) (i : ℕ) (s : SessionState) (e : Entry) (after : GroupState) (ps : List ProviderId) (bs : List (Option Filled))
+    → Fillings scripts s e after ps bs → high ≡ n + length (flat_map (heard_in v g i e after) (casts_of e after level ps bs)) → Rise n high (questions n s e after ps bs)
+unfolding questions
+questions_placed scripts n high level v g i s e after [] bs h to = omega arith
+questions_placed scripts n high level v g i s e after (p ∷ ps) [] h to = absurd h
+questions_placed scripts n high level v g i s e after (p ∷ ps) (b ∷ bs) h to =
+    let rest : List Happened = flat_map (heard_in v g i e after) (casts_of e after level ps bs) in
+    let one : List Happened = heard_in v g i e after (cast_of e after level p b) in
+    let count : length one ≡ records_of_notice (answer_if (asks e after p) b) = heard_count level v g i e after p b in
+    let some : 1 ≤ records_of_notice (answer_if (asks e after p) b) = one_record (answer_if (asks e after p) b) in
+    let both : length (one ++ rest) ≡ length one + length rest = length-append one rest in
+    let there : high ≡ n + length (one ++ rest) = to in
+    (omega arith,
+     rise_lower (n + 1) (n + records_of_notice (answer_if (asks e after p) b)) high _ (omega arith)
+     (questions_placed scripts (n + records_of_notice (answer_if (asks e after p) b)) high level v g i s e after ps bs h.1 (omega (arith, there, both, count))))
+
+-- ---- what is cast
+
+asked_head : (votes : Bool) (run : Option Running) (level : ℕ) (p : ProviderId) (b : Option Filled) → cast_with votes run level p (answer_if votes b) ≡ cast_with votes run level p b
+unfolding answer_if
+asked_head true run level p b = refl
+asked_head false run level p b = refl
+
+-- what is filled without being asked for is not cast
+cast_asked : (e : Entry) (after : GroupState) (level : ℕ) (p : ProviderId) (b : Option Filled) → cast_of e after level p (answer_if (asks e after p) b) ≡ cast_of e after level p b
+unfolding cast_of
+cast_asked e after level p b = asked_head (asks e after p) after.running level p b
+
+-- answers that agree with what is filled are cast as it is
+casts_agree : (scripts : List (Option (List (Option VoteItem)))) (f : Answering) (n : ℕ) (s : SessionState) (level : ℕ) (e : Entry) (after : GroupState) (ps : List ProviderId) (bs : List (Option Filled))
+    → Fillings scripts s e after ps bs → Agrees f (questions n s e after ps bs) → casts_of e after level ps (fills f n s e after ps) ≡ casts_of e after level ps bs
+unfolding questions fills
+casts_agree scripts f n s level e after [] bs h a = refl
+casts_agree scripts f n s level e after (p ∷ ps) [] h a = absurd h
+casts_agree scripts f n s level e after (p ∷ ps) (b ∷ bs) h a =
+    ap (λ (x : Option Filled). cast_of e after level p x ∷ casts_of e after level ps (fills f (n + records_of_notice x) s e after ps)) a.0
+    ∙ (ap (λ (c : Cast). c ∷ casts_of e after level ps (fills f (n + records_of_notice (answer_if (asks e after p) b)) s e after ps)) (cast_asked e after level p b)
+    ∙ ap (λ (cs : List Cast). cast_of e after level p b ∷ cs) (casts_agree scripts f (n + records_of_notice (answer_if (asks e after p) b)) s level e after ps bs h.1 a.1))
+
+-- ---- what subscribers are told
+
+note_by : ℕ → ViewId → List Session → List ℕ → Option ℕ → GroupState → Subscription → Happened
+note_by me v ss g place st u = happened.Noted me (unwrap_or (name_in (find (is_session u.client) ss)) []) v place (told.Note g st.members st.value)
+
+notes_same : (me : ℕ) (v : ViewId) (s t : SessionState) (g : List ℕ) (place : Option ℕ) (st : GroupState) → SameNames s t
+    → map (note_in me v t g place st) (filter (is_of_group g) t.subs.live) ≡ map (note_in me v s g place st) (filter (is_of_group g) s.subs.live)
+unfolding note_by subscriber_name client_name
+notes_same me v s t g place st same =
+    ap (λ (subs : SubsView). map (note_by me v t.sessions g place st) (filter (is_of_group g) subs.live)) same.subs
+    ∙ ap (λ (ss : List Session). map (note_by me v ss g place st) (filter (is_of_group g) s.subs.live)) same.sessions
+
+aside_head : (b : Bool) (s : Core) (t : SessionState) (g : List ℕ) (place : Option ℕ) (st : GroupState) → SameNames s.sessions t
+    → with_sessions (elim b [ true ↦ notes s g place st | false ↦ s ]) t ≡ elim b [ true ↦ notes (with_sessions s t) g place st | false ↦ with_sessions s t ]
+unfolding notes note_of with_sessions recorded_all
+aside_head true s t g place st same =
+    sym (ap (λ (rs : List Happened). record s { sessions = t; records = s.records ++ rs }) (notes_same s.views.me s.views.view s.sessions t g place st same))
+aside_head false s t g place st same = refl
+
+-- subscribers are told the same behind the sessions' change as before it
+noted_aside : (s : Core) (t : SessionState) (g : List ℕ) (i : ℕ) (before after : GroupState) → SameNames s.sessions t → noted (with_sessions s t) g i before after ≡ with_sessions (noted s g i before after) t
+unfolding noted
+noted_aside s t g i before after same = sym (aside_head (differs before after) s t g (Some i) after same)
+
+grows_head : (b : Bool) (s : Core) (g : List ℕ) (place : Option ℕ) (st : GroupState) → let t : Core = elim b [ true ↦ notes s g place st | false ↦ s ] in length s.records ≤ length t.records
+unfolding notes recorded_all
+grows_head true s g place st = omega (arith, length-append s.records (map (note_of s g place st) (filter (is_of_group g) s.sessions.subs.live)))
+grows_head false s g place st = omega arith
+
+noted_grows : (s : Core) (g : List ℕ) (i : ℕ) (before after : GroupState) → length s.records ≤ length (noted s g i before after).records
+unfolding noted
+noted_grows s g i before after = grows_head (differs before after) s g (Some i) after
+
+keeps_head : (b : Bool) (s : Core) (g : List ℕ) (place : Option ℕ) (st : GroupState) → let t : Core = elim b [ true ↦ notes s g place st | false ↦ s ] in t.sessions ≡ s.sessions
+unfolding notes recorded_all
+keeps_head true s g place st = refl
+keeps_head false s g place st = refl
+
+noted_keeps : (s : Core) (g : List ℕ) (i : ℕ) (before after : GroupState) → (noted s g i before after).sessions ≡ s.sessions
+unfolding noted
+noted_keeps s g i before after = keeps_head (differs before after) s g (Some i) after
+
+-- ---- what is sent
+
+pub sent_beside : (s : Core) (to : ℕ) (b : Body) → Beside s (sent s to b)
+unfolding sent sent_on
+sent_beside s to b = record { records = refl; sessions = refl; views = refl }
+
+pub sent_if_known_beside : (s : Core) (to : Option ℕ) (b : Body) → Beside s (sent_if_known s to b)
+unfolding sent_if_known
+sent_if_known_beside s None b = beside_itself s
+sent_if_known_beside s (Some n) b = sent_beside s n b
+
+ballot_beside : (s : Core) (g : List ℕ) (to : Option ℕ) (p : ProviderId) (proto : ProtoId) (phase : ℕ) (b : Option Filled) → Beside s (ballot_sent s g to p proto phase b)
+unfolding ballot_sent
+ballot_beside s g to p proto phase None = beside_itself s
+ballot_beside s g to p proto phase (Some b) = sent_if_known_beside s to _
+
+cast_beside : (s : Core) (g : List ℕ) (to : Option ℕ) (p : ProviderId) (c : Option (ProtoId × ℕ × BallotView)) → Beside s (cast_sent_of s g to p c)
+unfolding cast_sent_of
+cast_beside s g to p None = beside_itself s
+cast_beside s g to p (Some c) = ballot_beside s g to p c.0 c.1 (c.2).filled
+
+each_beside : (s : Core) (g : List ℕ) (to : Option ℕ) (cs : List Cast) → Beside s (fold (λ t c. cast_sent_of t g to c.p c.cast) s cs)
+each_beside s g to [] = beside_itself s
+each_beside s g to (c ∷ cs) = beside_then s (cast_sent_of s g to c.p c.cast) _ (cast_beside s g to c.p c.cast) (each_beside (cast_sent_of s g to c.p c.cast) g to cs)
+
+casts_if : (b : Bool) (s : Core) (g : List ℕ) (to : Option ℕ) (cs : List Cast) → Beside s (elim b [ true ↦ s | false ↦ fold (λ t c. cast_sent_of t g to c.p c.cast) s cs ])
+casts_if true s g to cs = beside_itself s
+casts_if false s g to cs = each_beside s g to cs
+
+casts_sent_beside : (s : Core) (g : List ℕ) (to : Option ℕ) (cs : List Cast) → Beside s (casts_sent s g to cs)
+unfolding casts_sent
+casts_sent_beside s g to cs = casts_if (frozen s) s g to cs
+
+-- ---- handing on
+
+-- the sessions where these are cast
+sessions_with : SessionState → List ℕ → GroupState → GroupState → Entry → List Cast → SessionState
+sessions_with s g before after e cs = session.heard s g after e (hearers s g before e) (beginners s g e) cs
+
+-- what handing on comes to where these are cast
+handed_with : Core → Option ℕ → List ℕ → ℕ → GroupState → GroupState → Entry → List Cast → Core
+handed_with s to g i before after e cs =
+    casts_sent (with_sessions (noted (recorded_all s (flat_map (heard_in s.views.view g i e after) cs)) g i before after) (sessions_with s.sessions g before after e cs)) g to cs
+
+handed_as : (f : Answering) (s : Core) (to : Option ℕ) (g : List ℕ) (i : ℕ) (before after : GroupState) (e : Entry)
+    → handed_with s to g i before after e (casts_of e after s.sessions.level (hearers s.sessions g before e) (fills f (length s.records) s.sessions e after (hearers s.sessions g before e))) ≡ handed_on f s to g i before after e
+unfolding handed_with sessions_with handed_on casts_out session.handed_on heard
+handed_as f s to g i before after e = refl
+
+sessions_as : (s : SessionState) (g : List ℕ) (before after : GroupState) (e : Entry) (bs : List (Option Filled)) → session.handed_on s g before after e bs ≡ sessions_with s g before after e (casts_out s g before after e bs)
+unfolding sessions_with session.handed_on
+sessions_as s g before after e bs = refl
+
+out_as : (s : SessionState) (g : List ℕ) (before after : GroupState) (e : Entry) (bs : List (Option Filled)) → casts_out s g before after e bs ≡ casts_of e after s.level (hearers s g before e) bs
+unfolding casts_out
+out_as s g before after e bs = refl
+
+swapped : (s : Core) (x : SessionState) (rs : List Happened) → recorded_all (with_sessions s x) rs ≡ with_sessions (recorded_all s rs) x
+unfolding recorded_all with_sessions
+swapped s x rs = refl
+
+told_records : (s : Core) (x : SessionState) (rs : List Happened) → (recorded_all (with_sessions s x) rs).records ≡ s.records ++ rs
+unfolding recorded_all with_sessions
+told_records s x rs = refl
+
+sessions_of : (s : Core) (rs : List Happened) → (recorded_all s rs).sessions ≡ s.sessions
+unfolding recorded_all
+sessions_of s rs = refl
+
+-- the core where these are cast
+comes_to : (s t u w : Core) (v : ViewId) (to : Option ℕ) (g : List ℕ) (i : ℕ) (before after : GroupState) (e : Entry) (x : SessionState) (cs : List Cast)
+    → v ≡ s.views.view → x ≡ sessions_with s.sessions g before after e cs → t ≡ recorded_all (with_sessions s x) (flat_map (heard_in v g i e after) cs) → u ≡ noted t g i before after → w ≡ casts_sent u g to cs → w ≡ handed_with s to g i before after e cs
+unfolding handed_with sessions_with
+comes_to s t u w v to g i before after e x cs view sessions handing noting sending =
+    let rs : List Happened = flat_map (heard_in s.views.view g i e after) cs in
+    let y : SessionState = sessions_with s.sessions g before after e cs in
+    let same : SameNames (recorded_all s rs).sessions y = rw (sessions_of s rs) (heard_same s.sessions g after e (hearers s.sessions g before e) (beginners s.sessions g e) cs) in
+    let first : t ≡ with_sessions (recorded_all s rs) y =
+    handing
+    ∙ (ap (λ (z : ViewId). recorded_all (with_sessions s x) (flat_map (heard_in z g i e after) cs)) view
+    ∙ (ap (λ (z : SessionState). recorded_all (with_sessions s z) rs) sessions ∙ swapped s y rs)) in
+    sending
+    ∙ ap (λ (z : Core). casts_sent z g to cs) (noting ∙ (ap (λ (z : Core). noted z g i before after) first ∙ noted_aside (recorded_all s rs) y g i before after same))
+
+pub handed_does : (scripts : List (Option (List (Option VoteItem)))) (s t u w : Core) (v : ViewId) (to : Option ℕ) (g : List ℕ) (i : ℕ) (before after : GroupState) (e : Entry) (bs : List (Option Filled)) (cs : List Cast)
+    → v ≡ s.views.view → Fillings scripts s.sessions e after (hearers s.sessions g before e) bs → cs ≡ casts_out s.sessions g before after e bs
+    → t ≡ recorded_all (with_sessions s (session.handed_on s.sessions g before after e bs)) (flat_map (heard_in v g i e after) cs)
+    → u ≡ noted t g i before after → w ≡ casts_sent u g to cs → Does scripts s w (λ f. handed_on f s to g i before after e)
+handed_does scripts s t u w v to g i before after e bs cs view fillings casting handing noting sending =
+    let casts : cs ≡ casts_of e after s.sessions.level (hearers s.sessions g before e) bs = casting ∙ out_as s.sessions g before after e bs in
+    let sessions : session.handed_on s.sessions g before after e bs ≡ sessions_with s.sessions g before after e cs = sessions_as s.sessions g before after e bs ∙ ap (sessions_with s.sessions g before after e) (sym casting) in
+    let made : w ≡ handed_with s to g i before after e cs = comes_to s t u w v to g i before after e _ cs view sessions handing noting sending in
+    let told : length t.records ≡ length s.records + length (flat_map (heard_in v g i e after) cs) =
+    ap (λ (x : Core). length x.records) handing ∙ (ap length (told_records s _ _) ∙ length-append s.records (flat_map (heard_in v g i e after) cs)) in
+    let next : length t.records ≤ length u.records = rw noting (noted_grows t g i before after) in
+    let last : length u.records ≤ length w.records = beside_grows u w (beside_as u (casts_sent u g to cs) w sending (casts_sent_beside u g to cs)) in
+    let upto : length t.records ≡ length s.records + length (flat_map (heard_in v g i e after) (casts_of e after s.sessions.level (hearers s.sessions g before e) bs)) =
+    told ∙ ap (λ (xs : List Cast). length s.records + length (flat_map (heard_in v g i e after) xs)) casts in
+    record {
+      asked = questions (length s.records) s.sessions e after (hearers s.sessions g before e) bs;
+      filled = questions_filled scripts (length s.records) s.sessions e after (hearers s.sessions g before e) bs fillings;
+      placed = rise_upper (length s.records) (length t.records) (length w.records) _ (omega arith)
+      (questions_placed scripts (length s.records) (length t.records) s.sessions.level v g i s.sessions e after (hearers s.sessions g before e) bs fillings upto);
+      does = λ f h.
+      made
+      ∙ (ap (handed_with s to g i before after e) (casts ∙ sym (casts_agree scripts f (length s.records) s.sessions s.sessions.level e after (hearers s.sessions g before e) bs fillings h))
+      ∙ handed_as f s to g i before after e);
+    }
+
+-- as many clients as sessions
+pub handed_ready : {C : Type 0} (s t u w : Core) (to : Option ℕ) (g : List ℕ) (i : ℕ) (before after : GroupState) (casts : List Cast) (cs ds : List C)
+    → SameSessions s.sessions t.sessions → u ≡ noted t g i before after → w ≡ casts_sent u g to casts → length ds ≡ length cs → Ready s cs → Ready w ds
+handed_ready s t u w to g i before after casts cs ds same noting sending many r =
+    let kept : u.sessions ≡ t.sessions = ap (λ (x : Core). x.sessions) noting ∙ noted_keeps t g i before after in
+    let there : Ready u ds =
+    ready_same s u cs ds (ap (λ (x : SessionState). x.sessions) kept ∙ same.0) (ap (λ (x : SessionState). x.level) kept ∙ same.1) many r in
+    ready_beside u w ds ds (beside_as u (casts_sent u g to casts) w sending (casts_sent_beside u g to casts)) refl there

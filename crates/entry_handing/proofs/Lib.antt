@@ -1,0 +1,3 @@
+pub mod DoingLaws
+pub mod HandLaws
+pub mod KeepLaws

@@ -1,0 +1,53 @@
+-- What a row does where clients answer. Each question that the row asks a client is listed with its answer, so
+-- that a row is what its definition gives for any answers that agree with these.
+use Rattle.std.specs.Prelude.{◌≡◌, ℕ, suc, ◌≤◌, ◌+◌, List, [], ◌∷◌, length, Option, IsTrue}
+use Rattle.rsct_packet.specs.declared.ids.ProviderId.{ProviderId}
+use Rattle.group_entry.specs.declared.entry.Entry.{Entry}
+use Rattle.proposal_core.specs.declared.group_state.GroupState.{GroupState}
+use Rattle.client_callbacks.specs.declared.ballot.Filled.{Filled}
+use Rattle.client_callbacks.specs.declared.votes.VoteItem.{VoteItem}
+use Rattle.client_callbacks.specs.Ballots.{is_level}
+use Rattle.session_state.specs.declared.state.SessionState.{SessionState}
+use Rattle.session_state.specs.HandOn.{asks}
+use Rattle.client_session.specs.Notices.{Filling}
+use Rattle.node_state.specs.declared.state.Core.{Core}
+use Rattle.node_state.specs.HandOn.{Answering, answer_if}
+
+-- the client of p is handed a notice, before which so many records stand, and leaves its ballot like this
+pub record Question : Type 0 where
+  pub place : ℕ
+  pub sessions : SessionState
+  pub entry : Entry
+  pub after : GroupState
+  pub p : ProviderId
+  pub filled : Option Filled
+
+-- f answers as the client did, where a vote is asked for
+abbrev pub AnswersAs : Answering → Question → Type 0
+AnswersAs f q = answer_if (asks q.entry q.after q.p) (f q.place q.sessions q.entry q.after q.p) ≡ answer_if (asks q.entry q.after q.p) q.filled
+
+abbrev pub Agrees : Answering → List Question → Type 0
+Agrees f [] = Unit {0}
+Agrees f (q ∷ qs) = AnswersAs f q × Agrees f qs
+
+-- the questions' places rise, from low up to below high
+abbrev pub Rise : ℕ → ℕ → List Question → Type 0
+Rise low high [] = low ≤ high
+Rise low high (q ∷ qs) = (low ≤ q.place) × Rise (q.place + 1) high qs
+
+-- each client fills what it may: what its items say, where it votes by items
+abbrev pub AreFilled : List (Option (List (Option VoteItem))) → List Question → Type 0
+AreFilled scripts [] = Unit {0}
+AreFilled scripts (q ∷ qs) = Filling scripts q.sessions q.entry q.after q.p q.filled × AreFilled scripts qs
+
+-- t is what the row makes of s, for all answers that agree with those of the clients, which vote by these scripts
+pub record Does (scripts : List (Option (List (Option VoteItem)))) (s t : Core) (row : Answering → Core) : Type 0 where
+  pub asked : List Question
+  pub filled : AreFilled scripts asked
+  pub placed : Rise (length s.records) (length t.records) asked
+  pub does : (f : Answering) → Agrees f asked → t ≡ row f
+
+-- as many clients as sessions, at a level that there is
+pub record Ready {C : Type 0} (s : Core) (clients : List C) : Type 0 where
+  pub level : IsTrue (is_level s.sessions.level)
+  pub aligned : length clients ≡ length s.sessions.sessions

@@ -1,0 +1,168 @@
+//! Handing an entry on.
+ghost use Rattle.std.specs.Prelude.{◌≡◌, [], OnOk, map, length, List, Option, option_copied};
+ghost use Rattle.std.specs.List.{fold, flat_map};
+ghost use Rattle.client_callbacks.specs.declared.ballot.Filled.{Filled};
+ghost use Rattle.client_session.specs.Notices.{Fillings};
+ghost use Rattle.session_state.specs.HandOn.{casts_out, hearers};
+ghost use Rattle.session_state.specs.Calls.{SameSessions};
+ghost use Rattle.session_state.specs.HandOn as session;
+ghost use Rattle.node_state.specs.State.{recorded_all, with_sessions};
+ghost use Rattle.node_state.specs.HandOn.{noted, ballot_sent, cast_sent_of, casts_sent, handed_on};
+ghost use Rattle.entry_handing.specs.Telling.{heard_in};
+ghost use Rattle.entry_handing.specs.Doing.{Ready, Does};
+
+use crate::noting::{News, note_all, record_all_heard};
+use client_callbacks::{Callbacks, Filled};
+use client_session::hand_entry_on;
+use node_sending::{is_frozen, send_vote};
+use node_state::Core;
+use proposal_core::GroupState;
+use rsct_packet::{List, Name, NoMemory, ProtoId, ProviderId};
+use session_state::{Cast, Casts, NewEntry};
+use std::alloc::Global;
+use subscribe_core::differ;
+
+/// Sends a ballot, where it is filled, to a leader that may be unknown.
+#[tactic(auto, unfolding(node_state::specs::HandOn::ballot_sent))]
+fn send_ballot(
+    core: &mut Core,
+    alloc: Global,
+    g: &Name,
+    to: Option<u8>,
+    p: ProviderId,
+    proto: ProtoId,
+    phase: u16,
+    filled: Option<&Filled>,
+) -> Result<(), NoMemory>
+    ensures { OnOk result (core.new ≡ ballot_sent core.old g.now to p proto phase (option_copied filled.entry)) }
+{
+    match filled {
+        None => Ok(()),
+        Some(filled) => send_vote(core, alloc, to, g, proto, phase, p, filled),
+    }
+}
+
+/// Sends what a provider casts to a leader that may be unknown.
+#[tactic(auto, unfolding(node_state::specs::HandOn::cast_sent_of))]
+fn send_cast(
+    core: &mut Core,
+    alloc: Global,
+    g: &Name,
+    to: Option<u8>,
+    c: &Cast,
+) -> Result<(), NoMemory>
+    ensures { OnOk result (core.new ≡ cast_sent_of core.old g.now to c.now.p c.now.cast) }
+{
+    match &c.cast {
+        None => Ok(()),
+        Some((proto, phase, ballot)) => {
+            send_ballot(core, alloc, g, to, c.p, *proto, *phase, ballot.filled())
+        }
+    }
+}
+
+/// Sends what providers cast to a leader that may be unknown.
+#[tactic(auto, using(std::proofs::lemmas::List::Sums::fold_more))]
+fn send_each_cast(
+    core: &mut Core,
+    alloc: Global,
+    g: &Name,
+    to: Option<u8>,
+    casts: &[Cast],
+) -> Result<(), NoMemory>
+    ensures { OnOk result (core.new ≡ fold (λ t c. cast_sent_of t g.now to c.p c.cast) core.old casts.now) }
+{
+    for c in casts {
+        send_cast(core, alloc, g, to, c)?;
+    }
+    Ok(())
+}
+
+/// Sends what providers cast to a leader that may be unknown, where the node is not frozen.
+#[tactic(auto, unfolding(node_state::specs::HandOn::casts_sent))]
+fn send_casts(
+    core: &mut Core,
+    alloc: Global,
+    g: &Name,
+    to: Option<u8>,
+    casts: &[Cast],
+) -> Result<(), NoMemory>
+    ensures { OnOk result (core.new ≡ casts_sent core.old g.now to casts.now) }
+{
+    if is_frozen(core) {
+        return Ok(());
+    }
+    send_each_cast(core, alloc, g, to, casts)
+}
+
+/// Tells the subscribers of a group what it has become, where its members or its value differ.
+#[tactic(auto, unfolding(node_state::specs::HandOn::noted, node_state::specs::HandOn::notes, node_state::specs::HandOn::note_of, node_state::specs::State::recorded_all))]
+fn note<C: Callbacks>(
+    core: &mut Core,
+    clients: &mut Vec<C>,
+    alloc: Global,
+    g: &Name,
+    i: u32,
+    before: &GroupState,
+    after: &GroupState,
+) -> Result<(), NoMemory>
+    requires aligned { length clients.old.items ≡ length core.old.sessions.sessions }
+    ensures length { length clients.new.items ≡ length clients.old.items }
+    ensures scripts { OnOk result (map C.script clients.new.items ≡ map C.script clients.old.items) }
+    ensures core { OnOk result (core.new ≡ noted core.old g.now i before.now after.now) }
+{
+    if !differ(before, after) {
+        return Ok(());
+    }
+    let news = News {
+        node: core.views.me,
+        view: core.views.view,
+        group: g,
+        place: Some(i),
+        state: after,
+    };
+    note_all(&core.sessions, clients, &mut core.records, alloc, &news)
+}
+
+/// Hands an entry on to the clients of the providers that hear it, and records what they hear and cast.
+#[tactic(auto, unfolding(node_state::specs::State::recorded_all, node_state::specs::State::with_sessions))]
+fn hand<C: Callbacks>(
+    core: &mut Core,
+    clients: &mut Vec<C>,
+    alloc: Global,
+    n: &NewEntry<'_>,
+    before: &GroupState,
+    casts: &mut Casts,
+) -> Result<(), NoMemory>
+    requires ready { Ready core.old clients.old.items }
+    requires empty { casts.old ≡ [] }
+    ensures length { length clients.new.items ≡ length clients.old.items }
+    ensures scripts { OnOk result (map C.script clients.new.items ≡ map C.script clients.old.items) }
+    ensures same { SameSessions core.old.sessions core.new.sessions }
+    ensures handed { OnOk result ((bs : List (Option Filled)) × Fillings (map C.script clients.old.items) core.old.sessions n.now.entry.now n.now.after.now (hearers core.old.sessions n.now.group.now before.now n.now.entry.now) bs × (casts.new ≡ casts_out core.old.sessions n.now.group.now before.now n.now.after.now n.now.entry.now bs) × (core.new ≡ recorded_all (with_sessions core.old (session.handed_on core.old.sessions n.now.group.now before.now n.now.after.now n.now.entry.now bs)) (flat_map (heard_in n.now.view n.now.group.now n.now.place n.now.entry.now n.now.after.now) casts.new))) }
+{
+    hand_entry_on(&mut core.sessions, clients, alloc, n, before, casts)?;
+    record_all_heard(alloc, &mut core.records, n, casts.as_slice())
+}
+
+/// Hands an entry of the view on: clients hear it and cast, subscribers are told, and the ballots go to `to`, which
+/// may be unknown, where the node is not frozen. `before` is the group's state before the entry.
+pub fn hand_on<C: Callbacks>(
+    core: &mut Core,
+    clients: &mut Vec<C>,
+    alloc: Global,
+    to: Option<u8>,
+    before: &GroupState,
+    n: &NewEntry<'_>,
+) -> Result<(), NoMemory>
+    requires ready { Ready core.old clients.old.items }
+    requires view { n.now.view ≡ core.old.views.view }
+    ensures ready { OnOk result (Ready core.new clients.new.items) }
+    ensures scripts { OnOk result (map C.script clients.new.items ≡ map C.script clients.old.items) }
+    ensures does { OnOk result (Does (map C.script clients.old.items) core.old core.new (λ f. handed_on f core.old to n.now.group.now n.now.place before.now n.now.after.now n.now.entry.now)) }
+{
+    let mut casts = List::new(alloc);
+    hand(core, clients, alloc, n, before, &mut casts)?;
+    note(core, clients, alloc, n.group, n.place, before, n.after)?;
+    send_casts(core, alloc, n.group, to, casts.as_slice())
+}
