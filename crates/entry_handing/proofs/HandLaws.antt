@@ -97,10 +97,11 @@ questions_placed scripts n high level v g i s e after (p ∷ ps) (b ∷ bs) h to
     let count : length one ≡ records_of_notice (answer_if (asks e after p) b) = heard_count level v g i e after p b in
     let some : 1 ≤ records_of_notice (answer_if (asks e after p) b) = one_record (answer_if (asks e after p) b) in
     let both : length (one ++ rest) ≡ length one + length rest = length-append one rest in
-    let there : high ≡ n + length (one ++ rest) = to in
-    (omega arith,
-     rise_lower (n + 1) (n + records_of_notice (answer_if (asks e after p) b)) high _ (omega arith)
-     (questions_placed scripts (n + records_of_notice (answer_if (asks e after p) b)) high level v g i s e after ps bs h.1 (omega (arith, there, both, count))))
+    let there : high ≡ n + length (one ++ rest) = to in (
+      omega arith,
+      rise_lower (n + 1) (n + records_of_notice (answer_if (asks e after p) b)) high _ (omega arith)
+          (questions_placed scripts (n + records_of_notice (answer_if (asks e after p) b)) high level v g i s e after ps bs h.1 (omega (arith, there, both, count))),
+    )
 
 -- ---- what is cast
 
@@ -269,11 +270,11 @@ handed_does scripts s t u w v to g i before after e bs cs view fillings casting 
       asked = questions (length s.records) s.sessions e after (hearers s.sessions g before e) bs;
       filled = questions_filled scripts (length s.records) s.sessions e after (hearers s.sessions g before e) bs fillings;
       placed = rise_upper (length s.records) (length t.records) (length w.records) _ (omega arith)
-      (questions_placed scripts (length s.records) (length t.records) s.sessions.level v g i s.sessions e after (hearers s.sessions g before e) bs fillings upto);
+          (questions_placed scripts (length s.records) (length t.records) s.sessions.level v g i s.sessions e after (hearers s.sessions g before e) bs fillings upto);
       does = λ f h.
-      made
-      ∙ (ap (handed_with s to g i before after e) (casts ∙ sym (casts_agree scripts f (length s.records) s.sessions s.sessions.level e after (hearers s.sessions g before e) bs fillings h))
-      ∙ handed_as f s to g i before after e);
+          made
+          ∙ (ap (handed_with s to g i before after e) (casts ∙ sym (casts_agree scripts f (length s.records) s.sessions s.sessions.level e after (hearers s.sessions g before e) bs fillings h))
+          ∙ handed_as f s to g i before after e);
     }
 
 -- as many clients as sessions

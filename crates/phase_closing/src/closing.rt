@@ -150,13 +150,7 @@ fn closing(
             if run.phase >= LAST_PHASE {
                 Ok(Entry::Reject(closed_by(alloc, led, tally, run, None)?))
             } else {
-                Ok(Entry::Phase(closed_by(
-                    alloc,
-                    led,
-                    tally,
-                    run,
-                    value_of(led, tally),
-                )?))
+                Ok(Entry::Phase(closed_by(alloc, led, tally, run, value_of(led, tally))?))
             }
         }
     }
