@@ -33,7 +33,7 @@ use Rattle.node_state.specs.State.{frozen, recorded_all, with_sessions}
 use Rattle.node_state.specs.Sending.{sent_on, sent, sent_if_known}
 use Rattle.node_state.specs.HandOn.{Answering, answer_if, records_of_notice, fills, cast_record, cast_records, heard, subscriber_name, note_of, notes, noted, ballot_sent, cast_sent_of, casts_sent, handed_on}
 use Rattle.entry_handing.specs.Telling.{heard_in, note_in}
-use Rattle.entry_handing.specs.Doing.{Question, AnswersAs, Agrees, Rise, AreFilled, Does, Ready}
+use Rattle.entry_handing.specs.Doing.{Question, Agrees, Rise, AreFilled, Does, Ready}
 use Rattle.entry_handing.proofs.DoingLaws.{rise_lower, rise_upper, Beside, beside_itself, beside_then, beside_as, beside_grows, ready_same, ready_beside}
 use Rattle.entry_handing.proofs.KeepLaws.{SameNames, heard_same}
 

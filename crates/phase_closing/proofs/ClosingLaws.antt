@@ -4,7 +4,6 @@ use Rattle.std.specs.Prelude.{find}
 use Rattle.std.specs.Option.{option_or}
 use Rattle.std.proofs.Math.Seq.{take-suc}
 use Rattle.std.proofs.lemmas.List.{append-nil, at_drop_all}
-use Rattle.rsct_packet.specs.declared.ids.ProviderId.{ProviderId}
 use Rattle.rsct_packet.specs.Providers.{same_provider}
 use Rattle.group_entry.specs.declared.entry.Row.{Row}
 use Rattle.vote_phases.specs.declared.voter.Voter.{Voter}
