@@ -30,6 +30,7 @@ use Rattle.group_entry.specs.declared.entry.Vote.{Vote}
 use Rattle.group_entry.specs.declared.entry.Vote.TheVariants as vote
 use Rattle.group_entry.specs.ProposalCodec.{proposal_at, proposal_text}
 use Rattle.group_entry.specs.EntryCodec.{entry_front_at, entry_text}
+use Rattle.view_exchange.specs.Codec.{answer_at, answer_text, install_at, install_text}
 use Rattle.adapter_ring.specs.declared.packet.RingPacket.{RingPacket}
 use Rattle.adapter_ring.specs.declared.packet.RingPacket.TheVariants as ring
 use Rattle.client_callbacks.specs.declared.told.Why.{Why}
@@ -38,7 +39,6 @@ use Rattle.view_core.specs.declared.packet.ViewPacket.{ViewPacket}
 use Rattle.view_core.specs.declared.packet.ViewPacket.TheVariants as packet
 use Rattle.node_state.specs.declared.packet.Body.{Body}
 use Rattle.node_state.specs.declared.packet.Body.TheVariants as body
-use Rattle.node_state.specs.Lists.{lists_at, lists_text, install_at, install_text}
 
 -- ---- REQUEST: a join's phases are 1, since the group's attributes say how it is decided
 
@@ -147,7 +147,7 @@ body_front_at k bytes =
     else if k == 7 then made_at (λ (x : Death). body.Ring (ring.Death x.ring x.node)) death_at bytes
     else if k == 8 then made_at body.Report report_at bytes
     else if k == 9 then made_at (λ (x : Prepare). body.View (packet.Prepare x.view x.mask)) prepare_at bytes
-    else if k == 10 then made_at (λ x. body.View (packet.Answer x.0 x.1.0 x.1.1)) (both_at view_at (both_at view_at lists_at)) bytes
+    else if k == 10 then made_at (λ x. body.View (packet.Answer x.0 x.1.view x.1.parts)) (both_at view_at answer_at) bytes
     else if k == 11 then made_at (λ (x : Refuse). body.View (packet.Refuse x.view x.number)) refuse_at bytes
     else if k == 12 then made_at (λ i. body.View (packet.Install i)) install_at bytes
     else if k == 13 then made_at (λ v. body.View (packet.Taken v)) view_at bytes
@@ -210,7 +210,7 @@ ring_body_text (ring.Death id node) = ring_text id ++ u8_text node
 
 abbrev pub view_body_text : ViewPacket → List ℕ
 view_body_text (packet.Prepare v mask) = view_text v ++ mask_text mask
-view_body_text (packet.Answer v old parts) = view_text v ++ (view_text old ++ lists_text parts)
+view_body_text (packet.Answer v old parts) = view_text v ++ answer_text (record { view = old; parts = parts })
 view_body_text (packet.Refuse v n) = view_text v ++ u32_text n
 view_body_text (packet.Install i) = install_text i
 view_body_text (packet.Taken v) = view_text v

@@ -12,7 +12,6 @@ pub mod Ticks
 pub mod Status
 pub mod Calls
 pub mod Step
-pub mod Lists
 pub mod Bodies
 pub mod Bytes
 pub mod Opens

@@ -19,6 +19,7 @@ use Rattle.session_state.specs.Calls.{calls_opens}
 use Rattle.session_state.specs.HandOn.{handon_opens}
 use Rattle.view_exchange.specs.Answers.{answers_open}
 use Rattle.view_exchange.specs.Bases.{bases_open}
+use Rattle.view_exchange.specs.Codec.{sized_entry_at, sized_entry_text, group_part_at, group_part_text, parts_at as lists_at, parts_text as lists_text, answer_at, answer_text, source_at_front, source_text as brought_source_text, each_comes_once, install_at, install_text}
 use Rattle.view_exchange.specs.Cut.{cut_opens}
 use Rattle.view_core.specs.Views.{views_open}
 use Rattle.node_state.specs.Wording.{wording_opens}
@@ -35,7 +36,6 @@ use Rattle.node_state.specs.Ticks.{ticks_opens}
 use Rattle.node_state.specs.Status.{status_opens}
 use Rattle.node_state.specs.Calls.{node_calls_opens}
 use Rattle.node_state.specs.Step.{step_opens}
-use Rattle.node_state.specs.Lists.{brought_opens}
 use Rattle.node_state.specs.Bodies.{bodies_opens}
 use Rattle.node_state.specs.Bytes.{bytes_opens}
 use Rattle.rsct_packet.specs.Reading.{many_at}
@@ -52,6 +52,10 @@ use Rattle.proposal_core.specs.StateCodec.{running_at, running_text, failed_are_
 unfoldable pub spelling_opens : Unit {0}
 unfolding many_at u16_text u32_text bytes_text bytes_at name_text name_at mask_text mask_at view_text view_at ring_text ring_at provider_text provider_at proto_text proto_at member_text member_at providers_text providers_at some_providers_at is_head is_front front_at front_text head_text packet_at group_text group_at reply_at ring_mask_at death_at report_row_text report_row_at report_text report_at prepare_at refuse_at leader_at ack_at gone_at what_at query_at phases_at batch_at default_at dissolve_at source_at source_text attrs_at attrs_text cause_at fallen_at fallen_text join_at leave_at fail_at expel_at state_change_at message_at attributes_at reflect_at proposal_at proposal_text row_vote_at closed_at closed_text once_at begin_at phase_at approve_at reject_at late_at entry_front_at entry_text running_at running_text failed_are_present parts_at state_at state_text
 spelling_opens = tt
+
+unfoldable pub brought_opens : Unit {0}
+unfolding sized_entry_at sized_entry_text group_part_at group_part_text lists_at lists_text answer_at answer_text source_at_front brought_source_text each_comes_once install_at install_text
+brought_opens = tt
 
 unfoldable pub node_opens : Unit {0}
 unfolding digits risen mask_opens is_bad_source first_fault agree fold_opens sizes_opens lists_opens gather_opens addresses_opens rings_opens reach_opens due_opens ballots_opens handed_opens sessions_open calls_opens handon_opens answers_open bases_open cut_opens views_open wording_opens settings_opens state_opens sending_opens handing_opens leading_opens deciding_opens ending_opens following_opens applying_opens ticks_opens status_opens node_calls_opens step_opens spelling_opens brought_opens bodies_opens bytes_opens
