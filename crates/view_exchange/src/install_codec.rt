@@ -19,9 +19,9 @@ use std::alloc::Global;
 /// An install in place.
 #[derive(Drop)]
 pub struct InstallRef<'a> {
-    pub view: ViewId,
-    pub members: Listed<'a, Member>,
-    pub sources: SourcesRef<'a>,
+    view: ViewId,
+    members: Listed<'a, Member>,
+    sources: SourcesRef<'a>,
 }
 
 fn has_member(members: &Listed<Member>, node: u8) -> bool
@@ -96,7 +96,17 @@ fn whole_install(b: &[u8]) -> Option<InstallRef<'_>>
 }
 
 impl<'a> InstallRef<'a> {
-    fn own(&self, alloc: Global) -> Result<Install, NoMemory>
+    /// Takes an install that spans all of the bytes, and copies nothing. None exactly where they spell none.
+    pub fn read(b: &'a [u8]) -> Option<InstallRef<'a>>
+        ensures value { option_map (λ i. install_in i) result ≡ whole (install_at b.now) }
+        ensures found { IfSome (option_map (λ i. install_in i) result) (λ i. IsInstall i × (b.now ≡ install_text i)) }
+        ensures only { (i : Install) → IsInstall i → b.now ≡ install_text i → option_map (λ x. install_in x) result ≡ Some i }
+    {
+        whole_install(b)
+    }
+
+    /// An install of its own.
+    pub fn own(&self, alloc: Global) -> Result<Install, NoMemory>
         ensures { IfOk result (λ i. i ≡ install_in self.now) }
     {
         Ok(Install {

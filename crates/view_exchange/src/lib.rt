@@ -19,6 +19,7 @@ pub use answer::{Answer, AnswerRef, put_answer};
 pub use exchange::Exchange;
 pub use in_place::{EntriesRef, PartRef, PartsRef};
 pub use install::{Base, Install, Part, Parts, Source, Sources};
+pub use install_codec::InstallRef;
 pub use laws::{first_answers_count, longest_lists_are_carried};
 pub use sides::{Kept, KeptParts, Side, Sides};
 

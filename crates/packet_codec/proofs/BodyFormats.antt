@@ -1,0 +1,1 @@
+-- Each body that has a spelling is read again.

@@ -1,0 +1,1 @@
+-- Which packets have a spelling.
