@@ -8,3 +8,4 @@ pub mod Edits
 pub mod Longest
 pub mod TailLaws
 pub mod Drops
+pub mod NameLaws

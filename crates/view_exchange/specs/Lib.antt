@@ -9,4 +9,5 @@ pub mod Longest
 pub mod Bases
 pub mod Best
 pub mod Carried
+pub mod Names
 pub mod Cut

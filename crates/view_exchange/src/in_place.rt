@@ -287,7 +287,7 @@ pub fn is_less(a: &[u8], b: &[u8]) -> bool
 }
 
 /// Does the name come after the last one, if there was one?
-fn is_after(last: Option<&[u8]>, name: &[u8]) -> bool
+pub fn is_after(last: Option<&[u8]>, name: &[u8]) -> bool
     ensures { result ≡ is_after (option_copied last.entry) name.now }
 {
     match last {

@@ -11,6 +11,7 @@ mod in_place;
 mod install;
 mod install_codec;
 mod laws;
+mod names;
 mod sides;
 mod sources_in_place;
 mod writing;
