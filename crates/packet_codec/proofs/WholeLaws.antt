@@ -1,7 +1,7 @@
 -- What is read up to its end, and made into another type.
 use Rattle.std.proofs.Common.{◌≡◌, ℕ, List, [], ◌∷◌, ◌++◌, Option, Some, None, refl, sym, ap, ◌∙◌, append-nil}
 use Rattle.std.specs.Option.{option_map}
-use Rattle.rsct_packet.specs.Reading.{◌>>=◌, both_at, made_at}
+use Rattle.rsct_packet.specs.Reading.{◌>>=◌, made_at}
 use Rattle.rsct_packet.specs.Format.{IsFormat}
 use Rattle.group_entry.specs.EntryCodec.{whole}
 use Rattle.packet_bodies.specs.Body.{whole_of, whole_at}
@@ -19,12 +19,6 @@ pub whole_same : {A : Type 0} (r : Option (A × List ℕ)) → whole_of r ≡ wh
 whole_same None = refl
 whole_same (Some (x, [])) = refl
 whole_same (Some (x, b ∷ bs)) = refl
-
--- the last of several fields is read up to its end
-pub whole_last : {A B C : Type 0} (make : A × B → C) (x : A) (r : Option (B × List ℕ)) → whole_of ((r >>= (λ b. Some ((x, b.0), b.1))) >>= (λ a. Some (make a.0, a.1))) ≡ option_map (λ b. make (x, b)) (whole r)
-whole_last make x None = refl
-whole_last make x (Some (y, [])) = refl
-whole_last make x (Some (y, b ∷ bs)) = refl
 
 -- what is spelled alone is read up to its end
 pub whole_again : {A : Type 0} {f : List ℕ → Option (A × List ℕ)} {text : A → List ℕ} {fits : A → Type 0} → IsFormat f text fits → (x : A) → fits x → whole_of (f (text x)) ≡ Some x

@@ -125,7 +125,7 @@ pub fn tell_body(b: &[u8]) -> Option<BodyRef<'_>>
     Some(BodyRef::Tell { group, p, r, why })
 }
 
-#[tactic(auto, unfolding(node_state::specs::Bodies::body_at, node_state::specs::Bodies::entry_at), using(crate::proofs::WholeLaws::whole_made, crate::proofs::WholeLaws::whole_both))]
+#[tactic(auto, unfolding(node_state::specs::Bodies::body_at, node_state::specs::Bodies::entry_at), using(crate::proofs::WholeLaws::whole_made))]
 pub fn entry_body(b: &[u8]) -> Option<BodyRef<'_>>
     ensures { option_map body_in result ≡ body_at 18 b.now }
 {

@@ -9,5 +9,5 @@ mod views;
 mod writing;
 
 
+pub use laws::packets_are_read_again;
 pub use packet::{BodyRef, PacketRef};
-

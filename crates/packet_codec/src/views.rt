@@ -19,7 +19,7 @@ pub fn prepare_body(b: &[u8]) -> Option<BodyRef<'_>>
     })
 }
 
-#[tactic(auto, unfolding(node_state::specs::Bodies::body_at), using(crate::proofs::WholeLaws::whole_made, crate::proofs::WholeLaws::whole_both))]
+#[tactic(auto, unfolding(node_state::specs::Bodies::body_at), using(crate::proofs::WholeLaws::whole_made))]
 pub fn answer_body(b: &[u8]) -> Option<BodyRef<'_>>
     ensures { option_map body_in result ≡ body_at 10 b.now }
 {
