@@ -9,7 +9,6 @@ use Rattle.rsct_packet.specs.Mask.{nodes_of}
 use Rattle.rsct_packet.specs.Search.{Has}
 use Rattle.rsct_packet.proofs.HasLaws.{has_map, append_has_right}
 use Rattle.proposal_core.specs.Lists.{len_in, list_or_new}
-use Rattle.batch_rules.specs.Waiting.{WaitingView}
 use Rattle.rsct_packet.specs.declared.ids.ProviderId.{ProviderId}
 use Rattle.rsct_packet.specs.Providers.{among, same_provider}
 use Rattle.view_core.specs.Views.{is_frozen}
@@ -84,7 +83,7 @@ fold_below : (f : Member → ℕ) (ms : List Member) (a : ℕ) → fold (λ leas
 fold_below f [] a = omega arith
 fold_below f (m ∷ ms) a = let r = fold_below f ms (min a (f m)) in omega arith
 
-fold_least : (f : Member → ℕ) (ms : List Member) (a : ℕ) (k : Member) → Has k ms → fold (λ least (m : Member). min least (f m)) a ms ≤ f k
+pub fold_least : (f : Member → ℕ) (ms : List Member) (a : ℕ) (k : Member) → Has k ms → fold (λ least (m : Member). min least (f m)) a ms ≤ f k
 fold_least f [] a k h = absurd h
 fold_least f (m ∷ ms) a k (inl e) =
     let r = fold_below f ms (min a (f m)) in
@@ -120,15 +119,23 @@ has_member ms n j e = let k = any_has (λ (m : Member). m.node == n && m.inc == 
 pub member_self : {o : Opening} {x : Ghost} → Lives o x → (n j : ℕ) (v : ViewId) (ms : List Member) → Has (In n j v ms) (kept x.all) → Has (member n j) ms
 member_self {o = o} {x = x} life n j v ms h = (always_same_members o x.nodes x.ps x.all x.leads x.bases life n n j j v ms ms h h).1
 
+-- only packets were sent
+pub record Settled (x y : Ghost) : Type 0 where
+  pub all : y.all ≡ x.all
+  pub bases : y.bases ≡ x.bases
+  pub leads : y.leads ≡ x.leads
+  pub packets : (p : group.Packet) → Has p x.ps → Has p y.ps
+
 -- what concerns requests alone
-pub led_keeps : (x : Ghost) (n inc : ℕ) (v : ViewId) (l m : Led) → m.decided ≡ l.decided → m.waiting ≡ l.waiting → LeaderKeeps x n inc v l → LeaderKeeps x n inc v m
+pub led_keeps : (x : Ghost) (n inc : ℕ) (v : ViewId) (l m : Led) → m.decided ≡ l.decided → m.waiting.joins ≡ l.waiting.joins → LeaderKeeps x n inc v l → LeaderKeeps x n inc v m
 unfolding decision_of
 led_keeps x n inc v l m d u h =
     record {
       refused = λ p r e i. decided p r (h.refused p r e i);
       begun = λ p r i e a b c. decided p r (h.begun p r i e a b c);
-      waiting = λ p e i. let z = h.waiting p e (subst (λ (q : WaitingView). among q.joins p ≡ true) u i) in
+      waiting = λ p e i. let z = h.waiting p e (subst (λ js. among js p ≡ true) u i) in
           record { proposal = z.proposal; sent = z.sent; joins = z.joins; open_still = z.open_still; unbegun = z.unbegun; decided = decided p p.join z.decided };
+      later = h.later;
     }
   where
     decided : (p : ProviderId) (r : ℕ) → Decided l p r → Decided m p r
@@ -155,12 +162,13 @@ module _ (g : List ℕ) (w : Scene) (n : ℕ) (s : Core) (t : Tied g w n s) wher
       spares_then t.ghost acking (settles m) i (packet_spares t.ghost own_ack i (λ e. absurd (omega arith))) (packet_spares acking (settling m) i (λ e. absurd (omega arith)))
 
   -- what each member has is stable
-  settled : (m : ℕ) → ((k : Member) → Has k s.views.members → m ≤ acked_by s (row_of s g) k.node) → (t' : Tied g w n s) × IsStable t'.ghost s.views.view m
+  pub settled : (m : ℕ) → ((k : Member) → Has k s.views.members → m ≤ acked_by s (row_of s g) k.node) → (t' : Tied g w n s) × IsStable t'.ghost s.views.view m × Settled t.ghost t'.ghost
   unfolding acked_by
-  settled zero le = (t, inl refl)
+  settled zero le = (t, inl refl, record { all = refl; bases = refl; leads = refl; packets = λ p h. h })
   settled (suc m) le = (
     tied_on g w n s t s (settles (suc m)) life t.lines (node_on t.ghost (settles (suc m)) n (settle_spares (suc m) n) refl g (is_fixed s.config.mode) s.views (row_of s g) s.groups s.sessions s.names t.own.0, t.own.1, t.own.2) (λ i ne. settle_spares (suc m) i) (λ i ne. refl) (λ p h. shows_on t.ghost (settles (suc m)) (settle_spares (suc m) n).goes g p (t.packets p h)),
     inr (inl (ap (λ v. group.Stable v (suc m)) (sym t.own.0.stands.view))),
+    record { all = refl; bases = refl; leads = refl; packets = λ p h. inr (inr h) },
   )
     where
       h : NodeIs t.ghost g n s

@@ -24,14 +24,16 @@ use Rattle.view_core.specs.Views.{views_new}
 use Rattle.world_model.specs.declared.event.Event.{Event}
 use Rattle.run_safety.specs.Sight.{inc_in, lines_with, lines_of}
 use Rattle.run_safety.specs.Group.{member, Standing, Origin, Kept, Noted, Told, In, Put, Begins, kept}
-use Rattle.run_safety.specs.Moves.{Opening, Alone, Born, Dawn, NextEvent, Starts, first}
+use Rattle.run_safety.specs.Group as group
+use Rattle.run_safety.specs.Moves.{Opening, Alone, Born, Led, Dawn, NextEvent, Starts, first}
+use Rattle.run_safety.proofs.Parts.{Entered, Gave}
 use Rattle.run_safety.proofs.Whole.{Whole}
 use Rattle.run_safety.proofs.Lives.{whole}
 use Rattle.run_safety.proofs.PastIn.{start_unled}
 use Rattle.step_ties.specs.Ghost.{Ghost, Lives, Goes}
 use Rattle.step_ties.specs.Tied.{Shows, NodeIsIf, Scene, opening_in, opening_of, Rests, Tied}
 use Rattle.step_ties.specs.Rows.{at_node, over, stopped, start_with, ended, nothing_yet}
-use Rattle.step_ties.proofs.Goes.{Spares, shows_on, node_if_on}
+use Rattle.step_ties.proofs.Goes.{Spares, seen_on, shows_on, node_if_on}
 use Rattle.step_ties.proofs.Changed.{set_here, set_there, each_set, changes}
 use Rattle.step_ties.proofs.Works.{Unseen, lines_pushed, lines_none}
 
@@ -75,6 +77,7 @@ begin_tied g w n s is t =
       own = node n (Some s) (subst (λ k. NodeIsIf w.config x g n (w.incs n) k) is (t.nodes n));
       others = λ m ne. node m (w.cores m) (t.nodes m);
       packets = λ p h. shows_on x (turned x) (turned_goes x) g p (t.packets p h);
+      refused = λ v p r h. seen_on x (turned x) (turned_goes x) v (t.refused v p r h);
     }
   where
     x : Ghost
@@ -91,6 +94,7 @@ end_tied g w n s e t =
       lines = t.lines;
       nodes = each_set (λ m k. NodeIsIf w.config t.ghost g m (w.incs m) k) w.cores n (Some s) t.own t.others;
       packets = t.packets;
+      refused = t.refused;
     }
 
 pub stop_tied : (g : List ℕ) (w : Scene) (n : ℕ) (e : Event) (s : Core) → w.cores n ≡ Some s → Rests g w → Rests g (stopped w n e)
@@ -101,6 +105,7 @@ stop_tied g w n e s is t =
       lines = ap (λ l. Kept Begins ∷ l) t.lines;
       nodes = each_set (λ m k. NodeIsIf w.config (turned x) g m (w.incs m) k) w.cores n None down (λ m ne. node_if_on x (turned x) m (turned_spares x m) refl w.config g (w.incs m) (w.cores m) (t.nodes m));
       packets = λ p h. shows_on x (turned x) (turned_goes x) g p (t.packets p h);
+      refused = λ v p r h. seen_on x (turned x) (turned_goes x) v (t.refused v p r h);
     }
   where
     x : Ghost
@@ -117,6 +122,7 @@ nothing_tied g c =
       lines = refl;
       nodes = λ m. refl;
       packets = λ p h. absurd h;
+      refused = λ v p r h. absurd h;
     }
 
 -- ---- a start
@@ -145,7 +151,7 @@ unseen_ring : (g : List ℕ) (n : ℕ) (x : Ring) → Unseen g (ring_record n x)
 unfolding ring_record
 unseen_ring g n x rs = refl
 
-unseen_rings : (g : List ℕ) (n : ℕ) (rings : List Ring) (r : Happened) → Has r (map (ring_record n) rings) → Unseen g r
+pub unseen_rings : (g : List ℕ) (n : ℕ) (rings : List Ring) (r : Happened) → Has r (map (ring_record n) rings) → Unseen g r
 unseen_rings g n [] r h = absurd h
 unseen_rings g n (x ∷ rings) r (inl q) = subst (Unseen g) (sym q) (unseen_ring g n x)
 unseen_rings g n (x ∷ rings) r (inr h) = unseen_rings g n rings r h
@@ -160,6 +166,25 @@ unbased {o = o} {x = x} life v one = by (x.bases v) refl
         let w : Whole o x.nodes x.ps x.all x.leads x.bases = whole life in
         let k = w.based_ok.installed v b e in
         let l : 1 < v.number = (w.good.past.made v k.0 k.1 k.2).later in absurd (omega arith)
+
+-- an incarnation that did not start leads nothing
+not_led : {o : Opening} {x : Ghost} → Lives o x → (n : ℕ) (u : ViewId) (j : ℕ) → (x.nodes n).inc < j → x.leads u ≡ Some (member n j) → ⊥
+not_led {o = o} {x = x} life n u j l e = at (k.good.past.led u n j e)
+  where
+    k : Whole o x.nodes x.ps x.all x.leads x.bases
+    k = whole life
+
+    entered : Entered (x.nodes n) j u → ⊥
+    entered (inl z) = omega arith
+    entered (inr z) = let q = z.0 in omega arith
+
+    gave : (ss : ViewId → List Entry) → Gave (x.nodes n) u j ss → ⊥
+    gave ss (inl z) = omega arith
+    gave ss (inr z) = let q = z.0 in omega arith
+
+    at : Led x.ps (kept x.all) u n j → ⊥
+    at (inl a) = entered (k.good.inv.records (In n j u a.0) a.1)
+    at (inr b) = gave b.1 ((k.good.inv.packet (group.Install u b.0 b.1) b.2).gave n j b.3)
 
 module _ (g : List ℕ) (w : Scene) (n : ℕ) (e : Event) (free : is_fixed w.config.mode ≡ false) (down : w.cores n ≡ None) (t : Rests g w) where
   abbrev j : ℕ
@@ -266,6 +291,7 @@ module _ (g : List ℕ) (w : Scene) (n : ℕ) (e : Event) (free : is_fixed w.con
             refused = λ p r q h. absurd (let f = unled in cc);
             begun = λ p r i f q h. absurd (let f = unled in cc);
             waiting = λ p q h. absurd (let f = unled in cc);
+            later = λ u l q p r h. not_led t.life n u (w.incs n + 1) (omega (arith, inc_is)) q;
           };
           names = record { named = λ m a b c f. absurd (cc); unnamed = λ a b c f. unled };
         },
@@ -285,6 +311,7 @@ module _ (g : List ℕ) (w : Scene) (n : ℕ) (e : Event) (free : is_fixed w.con
         lines = line;
         nodes = λ m. ⊎_elim (λ (q : m ≡ n). subst (λ k. NodeIsIf w.config y g k (at_node w.incs n j k) (at_node w.cores n (Some s) k)) (sym q) here) (λ (ne : m ≢ n). there m ne) (cases_eq m n);
         packets = packets;
+        refused = λ u p r h. seen_on t.ghost y goes u (t.refused u p r h);
       }
     where
       here : NodeIsIf w.config y g n (at_node w.incs n j n) (at_node w.cores n (Some s) n)

@@ -16,7 +16,7 @@ use Rattle.view_exchange.specs.declared.answer.Answer.{Answer}
 use Rattle.view_exchange.specs.declared.exchange.Exchange.{Exchange}
 use Rattle.view_exchange.specs.declared.install.Part.{Part}
 use Rattle.view_exchange.specs.Answers.{max_parts, opened, has_answered, may_answer, member_of, with_member, with_answer, all_answered}
-use Rattle.view_exchange.specs.Longest.{all_counted}
+use Rattle.view_exchange.specs.Longest.{all_counted, NamesDiffer}
 use Rattle.view_exchange.proofs.Edits.{inserted_has, has_inserted}
 use Rattle.view_core.specs.declared.packet.ViewPacket.TheVariants as view
 use Rattle.view_core.specs.declared.packet.ViewSend.{ViewSend}
@@ -43,7 +43,7 @@ use Rattle.step_ties.specs.Tied.{ShowsBody, Stands, Scene, opening_of, Tied}
 use Rattle.step_ties.proofs.Goes.{Spares, spares_same, carries_on, shows_on, rest_on}
 use Rattle.step_ties.proofs.Works.{tied_on, tied_sent, tied_views}
 use Rattle.step_ties.proofs.Gone.{with_packet, packet_goes, packet_spares}
-use Rattle.step_ties.proofs.Parts.{own_carries}
+use Rattle.step_ties.proofs.Parts.{own_carries, own_differ}
 use Rattle.step_ties.proofs.ViewRows.{same_of, tied_promised}
 
 -- ---- one more answer
@@ -127,7 +127,7 @@ answer_is_tied v old parts g w n f s p is delivered more t = at s.views.gatherin
     a : Answer
     a = record { node = p.from; inc = p.inc; view = old; parts = parts }
 
-    shown : (full : List Entry) × Has (group.Answer v (record { node = p.from; inc = p.inc; view = old; list = full })) t.ghost.ps × Seen t.ghost old × CarriesIf t.ghost old full (part_of g parts)
+    shown : (full : List Entry) × Has (group.Answer v (record { node = p.from; inc = p.inc; view = old; list = full })) t.ghost.ps × Seen t.ghost old × CarriesIf t.ghost old full (part_of g parts) × NamesDiffer parts
     shown = subst (ShowsBody t.ghost g p.from p.inc) is (t.packets p (append_has_right p s.sends w.sent delivered))
 
     set : (e : Exchange) → GathersIf t.ghost g n s.views.inc s.views.view s.views.promise (Some e) → Tied g w n (record s { views = record (s.views) { gathering = Some e } })
@@ -143,7 +143,7 @@ answer_is_tied v old parts g w n f s p is delivered more t = at s.views.gatherin
         let h : Gathers t.ghost g n s.views.inc s.views.view s.views.promise e = subst (λ z. GathersIf t.ghost g n s.views.inc s.views.view s.views.promise z) q t.own.0.gathering in
         let asked : v ≡ s.views.promise = sym (same_of e.view v k.0) ∙ h.view in
         let reply : Reply = record { node = p.from; inc = p.inc; view = old; list = shown.0 } in
-        let new : ReplyIs t.ghost g s.views.promise a reply = record { node = refl; inc = refl; view = refl; sent = subst (λ z. Has (group.Answer z reply) t.ghost.ps) asked shown.1; seen = shown.2; part = shown.3 } in
+        let new : ReplyIs t.ghost g s.views.promise a reply = record { node = refl; inc = refl; view = refl; sent = subst (λ z. Has (group.Answer z reply) t.ghost.ps) asked shown.1; seen = shown.2; part = shown.3; names = shown.4 } in
         subst (λ b. Tied g w n (views_taken f s (gathered (views_at_work s.views) (with_answer e a) b))) (sym (more e q)) (set (with_answer e a) (gathers_more t.ghost g n s.views.inc s.views.view s.views.promise e a reply k.1 new h))
 
     at : (o : Option Exchange) → s.views.gathering ≡ o → Tied g w n (views_taken f s (answer_to (views_at_work s.views) v (record { node = p.from; inc = p.inc; view = old; parts = parts }) o))
@@ -184,6 +184,7 @@ module _ (g : List ℕ) (w : Scene) (n : ℕ) (s : Core) (t : Tied g w n s) wher
         sent = inl refl;
         seen = seen;
         part = carries_on x y o s.views.view (x.nodes n).list (part_of g (own_parts s)) seen (own_carries x g s.views.view (x.nodes n).list s h.order h.row_is.list);
+        names = own_differ s h.order;
       } in
       let e : Exchange = with_answer (opened v mask) a in
       let gathering : Gathers y g n s.views.inc s.views.view v e = record {
@@ -205,14 +206,15 @@ module _ (g : List ℕ) (w : Scene) (n : ℕ) (s : Core) (t : Tied g w n s) wher
       let stands : Stands y n views = record { me = h.stands.me; up = h.stands.up; inc = h.stands.inc; view = h.stands.view; promise = h.stands.promise; seated = h.stands.seated } in
       tied_on g w n s t (record s { views = views }) y (Answers x.nodes x.ps x.all x.leads x.bases n (x.nodes n) v t.life refl up le lt') t.lines (rest_on x y n (spares n) g (is_fixed s.config.mode) s.views views (row_of s g) s.groups s.sessions s.names stands refl refl refl refl gathering h, t.own.1, t.own.2) (λ m ne. spares m) (λ m ne. refl) (λ p i. shows_on x y o g p (t.packets p i))
 
-prepares_tied : (g : List ℕ) (w : Scene) (n : ℕ) (v : ViewId) (mask : Mask) (ns : List ℕ) (s : Core) → Tied g w n s → Tied g w n (fold (λ c (x : ViewSend). sent c x.to (body.View x.packet)) s (map (λ m. record { to = m; packet = view.Prepare v mask }) ns))
+pub prepares_tied : (g : List ℕ) (w : Scene) (n : ℕ) (v : ViewId) (mask : Mask) (ns : List ℕ) (s : Core) → Tied g w n s → Tied g w n (fold (λ c (x : ViewSend). sent c x.to (body.View x.packet)) s (map (λ m. record { to = m; packet = view.Prepare v mask }) ns))
 prepares_tied g w n v mask [] s t = t
 prepares_tied g w n v mask (m ∷ ns) s t =
     prepares_tied g w n v mask ns (sent s m (body.View (view.Prepare v mask))) (tied_sent g w n s t m (body.View (view.Prepare v mask)) tt)
 
-pub ask_is_tied : (mask : Mask) (g : List ℕ) (w : Scene) (n : ℕ) (f : Answering) (s : Core) → all_answered (with_answer (opened (next_view s.views) mask) (own_answer s.views (own_parts s))) ≡ false → Tied g w n s → Tied g w n (order_row f s mask)
-unfolding order_row ask_row ask_if asks_view gathers gathered gathering_set view_sent_all promised views_taken install_applied own_parts held_rows next_view
-ask_is_tied mask g w n f s more t = by (is_fixed s.config.mode) (may_ask s.views mask) (nat_le (length (own_parts s)) max_parts)
+-- asking for the next view, where others are asked too
+pub asks_tied : (mask : Mask) (g : List ℕ) (w : Scene) (n : ℕ) (f : Answering) (s : Core) → all_answered (with_answer (opened (next_view s.views) mask) (own_answer s.views (own_parts s))) ≡ false → Tied g w n s → Tied g w n (views_taken f s (ask_row (views_at_work s.views) mask (own_parts s)))
+unfolding ask_row ask_if asks_view gathers gathered gathering_set view_sent_all promised views_taken install_applied own_parts held_rows next_view
+asks_tied mask g w n f s more t = by (may_ask s.views mask) (nat_le (length (own_parts s)) max_parts)
   where
     k : Whole (opening_of w.config) t.ghost.nodes t.ghost.ps t.ghost.all t.ghost.leads t.ghost.bases
     k = whole t.life
@@ -238,7 +240,14 @@ ask_is_tied mask g w n f s more t = by (is_fixed s.config.mode) (may_ask s.views
         let done = prepares_tied g w n (next_view s.views) mask ns (record s { views = record (s.views) { promise = next_view s.views; gathering = Some (with_answer (opened (next_view s.views) mask) (own_answer s.views (own_parts s))) } }) o in
         subst (λ b. Tied g w n (views_taken f s (gathered (view_sent_all (promised (views_at_work s.views) (next_view s.views)) ns (view.Prepare (next_view s.views) mask)) (with_answer (opened (next_view s.views) mask) (own_answer s.views (own_parts s))) b))) (sym more) done
 
-    by : (a b c : Bool) → Tied g w n (elim a [ true ↦ s | false ↦ views_taken f s (ask_if (views_at_work s.views) mask (own_parts s) b) ])
-    by true b c = t
-    by false false c = t
-    by false true c = asks (nat_le (length (own_parts s)) max_parts)
+    by : (b c : Bool) → Tied g w n (views_taken f s (ask_if (views_at_work s.views) mask (own_parts s) b))
+    by false c = t
+    by true c = asks (nat_le (length (own_parts s)) max_parts)
+
+pub ask_is_tied : (mask : Mask) (g : List ℕ) (w : Scene) (n : ℕ) (f : Answering) (s : Core) → all_answered (with_answer (opened (next_view s.views) mask) (own_answer s.views (own_parts s))) ≡ false → Tied g w n s → Tied g w n (order_row f s mask)
+unfolding order_row
+ask_is_tied mask g w n f s more t = by (is_fixed s.config.mode)
+  where
+    by : (a : Bool) → Tied g w n (elim a [ true ↦ s | false ↦ views_taken f s (ask_row (views_at_work s.views) mask (own_parts s)) ])
+    by true = t
+    by false = asks_tied mask g w n f s more t

@@ -69,6 +69,7 @@ module _ (x y : Ghost) (o : Goes x y) where
         sent = o.packets (group.Answer v r) h.sent;
         seen = seen_on a.view h.seen;
         part = carries_on a.view r.list (part_of g a.parts) h.seen h.part;
+        names = h.names;
       }
 
   pub gathers_on : (g : List ℕ) (n inc : ℕ) (v promise : ViewId) (e : Option Exchange) → GathersIf x g n inc v promise e → GathersIf y g n inc v promise e
@@ -103,6 +104,8 @@ module _ (x y : Ghost) (o : Goes x y) where
         entered = seen_on i.view h.entered;
         seen = λ s k. seen_on s.view (h.seen s k);
         parts = λ s k. carries_on s.view (h.whole s.view) (part_of g s.parts) (h.seen s k) (h.parts s k);
+        names = h.names;
+        rest = h.rest;
         base = base_on i.view i.members (base_named (bases_of i) g) h.entered h.base;
       }
 
@@ -112,7 +115,7 @@ module _ (x y : Ghost) (o : Goes x y) where
 
   shows_view_on : (g : List ℕ) (from inc : ℕ) (p : ViewPacket) → ShowsView x g from inc p → ShowsView y g from inc p
   shows_view_on g from inc (view.Prepare v mask) h = tt
-  shows_view_on g from inc (view.Answer v old parts) h = (h.0, o.packets _ h.1, seen_on old h.2, carries_on old h.0 (part_of g parts) h.2 h.3)
+  shows_view_on g from inc (view.Answer v old parts) h = (h.0, o.packets _ h.1, seen_on old h.2, carries_on old h.0 (part_of g parts) h.2 h.3, h.4)
   shows_view_on g from inc (view.Refuse v n) h = tt
   shows_view_on g from inc (view.Install i) h = installs_on g i h
   shows_view_on g from inc (view.Taken v) h = tt
@@ -195,6 +198,7 @@ module _ (x y : Ghost) (m : ℕ) (o : Spares x y m) where
               unbegun = λ i e b c. z.unbegun i e (subst (λ l. slice_get l i ≡ Some e) o.list b) c;
               decided = z.decided;
             };
+        later = λ u l e p r i. h.later u l (sym (o.leads u) ∙ e) p r (o.refusals u p r i);
       }
 
   pub names_on : (g : List ℕ) (fixed : Bool) (inc : ℕ) (v : ViewId) (ms : List Member) (table : List Leader) → Names x g fixed m inc v ms table → Names y g fixed m inc v ms table

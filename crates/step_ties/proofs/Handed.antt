@@ -44,6 +44,64 @@ use Rattle.step_ties.proofs.Puts.{After}
 abbrev Fine : List ℕ → List ℕ → ℕ → ViewId → ℕ → Entry → GroupState → Happened → Type 0
 Fine g h n v i e st r = Unseen g r ⊎ ((p : ProviderId) × (p.node ≡ n) × (r ≡ happened.Heard p v h i e st.members st.value))
 
+module _ (g : List ℕ) (n : ℕ) (h : List ℕ) (v : ViewId) (i : ℕ) (e : Entry) (st : GroupState) (P : Core → Type 0) (unseen : (c : Core) (r : Happened) → Unseen g r → P c → P (recorded c r)) (hear : (c : Core) (p : ProviderId) → p.node ≡ n → P c → P (recorded c (happened.Heard p v h i e st.members st.value))) where
+  one_too : (c : Core) (r : Happened) → Fine g h n v i e st r → P c → P (recorded c r)
+  one_too c r (inl u) t = unseen c r u t
+  one_too c r (inr k) t = subst (λ z. P (recorded c z)) (sym k.2) (hear c k.0 k.1 t)
+
+  -- records, one after another
+  all_too : (rs : List Happened) (c : Core) → ((r : Happened) → Has r rs → Fine g h n v i e st r) → P c → P (recorded_all c rs)
+  unfolding recorded recorded_all
+  all_too [] c fine t = subst (λ z. P (record c { records = z })) (sym (append-nil c.records)) t
+  all_too (r ∷ rs) c fine t =
+      subst (λ z. P (record c { records = z })) (append_assoc c.records (r ∷ []) rs) (all_too rs (recorded c r) (λ q k. fine q (inr k)) (one_too c r (fine r (inl refl)) t))
+
+  unseen_casts : (p : ProviderId) (o : Option (ProtoId × ℕ × BallotView)) (r : Happened) → Has r (cast_records p o) → Unseen g r
+  unfolding cast_records cast_record
+  unseen_casts p None r k = absurd k
+  unseen_casts p (Some x) r k = at (x.2).filled k
+    where
+      at : (b : Option Filled) → Has r (cast_record p x.0 x.1 b) → Unseen g r
+      at None k = absurd k
+      at (Some b) (inl q) = subst (Unseen g) (sym q) (λ rs. refl)
+      at (Some b) (inr z) = absurd z
+
+  fine_heard : (c : Core) → c.views.view ≡ v → (cs : List Cast) → ((x : Cast) → Has x cs → x.p.node ≡ n) → (r : Happened) → Has r (flat_map (heard c h i e st) cs) → Fine g h n v i e st r
+  unfolding heard
+  fine_heard c at [] own r k = absurd k
+  fine_heard c at (x ∷ cs) own r k =
+      ⊎_elim (λ (a : Has r (heard c h i e st x)). one a) (λ (b : Has r (flat_map (heard c h i e st) cs)). fine_heard c at cs (λ y j. own y (inr j)) r b) (has_append r (heard c h i e st x) (flat_map (heard c h i e st) cs) k)
+    where
+      one : Has r (happened.Heard x.p c.views.view h i e st.members st.value ∷ cast_records x.p x.cast) → Fine g h n v i e st r
+      one (inl q) = inr (x.p, own x (inl refl), q ∙ ap (λ z. happened.Heard x.p z h i e st.members st.value) at)
+      one (inr j) = inl (unseen_casts x.p x.cast r j)
+
+  -- what is recorded as the entry is handed on
+  pub handed_records : (f : Answering) (c : Core) (before : GroupState) → c.views.view ≡ v → ((p : ProviderId) → Has p (hearers c.sessions h before e) → p.node ≡ n) → P (with_sessions c (session.handed_on c.sessions h before st e (fills f (length c.records) c.sessions e st (hearers c.sessions h before e)))) → P (with_sessions (noted (recorded_all c (flat_map (heard c h i e st) (casts_out c.sessions h before st e (fills f (length c.records) c.sessions e st (hearers c.sessions h before e))))) h i before st) (session.handed_on c.sessions h before st e (fills f (length c.records) c.sessions e st (hearers c.sessions h before e))))
+  unfolding noted notes note_of recorded_all with_sessions casts_out
+  handed_records f c before at own t = by (differs before st)
+    where
+      bs : List (Option Filled)
+      bs = fills f (length c.records) c.sessions e st (hearers c.sessions h before e)
+
+      cs : List Cast
+      cs = casts_out c.sessions h before st e bs
+
+      rs : List Happened
+      rs = flat_map (heard c h i e st) cs
+
+      u : SessionState
+      u = session.handed_on c.sessions h before st e bs
+
+      told : P (recorded_all (with_sessions c u) rs)
+      told = all_too rs (with_sessions c u) (fine_heard c at cs (λ x j. own x.p (cast_has e st c.sessions.level (hearers c.sessions h before e) bs x j))) t
+
+      by : (b : Bool) → P (with_sessions (elim b [ true ↦ notes (recorded_all c rs) h (Some i) st | false ↦ recorded_all c rs ]) u)
+      by false = told
+      by true =
+          let ns : List Happened = map (note_of (recorded_all c rs) h (Some i) st) (filter (is_of_group h) c.sessions.subs.live) in
+          all_too ns (recorded_all (with_sessions c u) rs) (λ r j. let q = has_map (note_of (recorded_all c rs) h (Some i) st) r (filter (is_of_group h) c.sessions.subs.live) j in inl (subst (Unseen g) (sym q.2) (λ ts. refl))) told
+
 module _ (g : List ℕ) (w : Scene) (n : ℕ) (h : List ℕ) (v : ViewId) (i : ℕ) (e : Entry) (st : GroupState) where
   -- a step that has put the entry
   pub record Stepping (views : Views) (c : Core) : Type 0 where
@@ -63,6 +121,7 @@ module _ (g : List ℕ) (w : Scene) (n : ℕ) (h : List ℕ) (v : ViewId) (i : �
             own = t.tied.own;
             others = t.tied.others;
             packets = t.tied.packets;
+            refused = t.tied.refused;
           };
           same = t.same;
           after = t.after;
@@ -90,6 +149,7 @@ module _ (g : List ℕ) (w : Scene) (n : ℕ) (h : List ℕ) (v : ViewId) (i : �
             own = node_if_on x y n (heard_spares x p st.members st.value n) refl w.config g (w.incs n) (Some c) t.tied.own;
             others = λ m ne. node_if_on x y m (heard_spares x p st.members st.value m) refl w.config g (w.incs m) (w.cores m) (t.tied.others m ne);
             packets = λ q k. shows_on x y (heard_goes x (Heard p v i e st.members st.value)) g q (t.tied.packets q k);
+            refused = t.tied.refused;
           };
           same = t.same;
           after = t.after;
@@ -104,17 +164,9 @@ module _ (g : List ℕ) (w : Scene) (n : ℕ) (h : List ℕ) (v : ViewId) (i : �
         facts : Has (Put n v i e) (kept t.tied.ghost.all) × (st ≡ state_of_list t.tied.ghost.bases v (take (i + 1) (puts_of n v (kept t.tied.ghost.all))))
         facts = t.after same
 
-    one_too : (c : Core) (r : Happened) → Fine g h n v i e st r → Stepping views c → Stepping views (recorded c r)
-    one_too c r (inl u) t = unseen_too c r u t
-    one_too c r (inr k) t =
-        subst (λ z. Stepping views (recorded c z)) (sym k.2) (⊎_elim (λ (q : h ≡ g). heard_too c k.0 k.1 q t) (λ (ne : h ≡ g → ⊥). unseen_too c (happened.Heard k.0 v h i e st.members st.value) (λ rs. ap (λ b. if b then Noted (Heard k.0 v i e st.members st.value) ∷ [] else []) (text_other h g ne)) t) (cases_text h g))
-
-    -- records, one after another
-    pub all_too : (rs : List Happened) (c : Core) → ((r : Happened) → Has r rs → Fine g h n v i e st r) → Stepping views c → Stepping views (recorded_all c rs)
-    unfolding recorded recorded_all
-    all_too [] c fine t = subst (λ z. Stepping views (record c { records = z })) (sym (append-nil c.records)) t
-    all_too (r ∷ rs) c fine t =
-        subst (λ z. Stepping views (record c { records = z })) (append_assoc c.records (r ∷ []) rs) (all_too rs (recorded c r) (λ q k. fine q (inr k)) (one_too c r (fine r (inl refl)) t))
+    hears_too : (c : Core) (p : ProviderId) → p.node ≡ n → Stepping views c → Stepping views (recorded c (happened.Heard p v h i e st.members st.value))
+    hears_too c p at t =
+        ⊎_elim (λ (q : h ≡ g). heard_too c p at q t) (λ (ne : h ≡ g → ⊥). unseen_too c (happened.Heard p v h i e st.members st.value) (λ rs. ap (λ b. if b then Noted (Heard p v i e st.members st.value) ∷ [] else []) (text_other h g ne)) t) (cases_text h g)
 
   -- a step from there on
   pub record Going (views : Views) (c : Core) : Type 0 where
@@ -145,49 +197,12 @@ module _ (g : List ℕ) (w : Scene) (n : ℕ) (h : List ℕ) (v : ViewId) (i : �
       by true = t
       by false = casts_fold views k to cs c t
 
-  unseen_casts : (p : ProviderId) (o : Option (ProtoId × ℕ × BallotView)) (r : Happened) → Has r (cast_records p o) → Unseen g r
-  unfolding cast_records cast_record
-  unseen_casts p None r k = absurd k
-  unseen_casts p (Some x) r k = at (x.2).filled k
-    where
-      at : (b : Option Filled) → Has r (cast_record p x.0 x.1 b) → Unseen g r
-      at None k = absurd k
-      at (Some b) (inl q) = subst (Unseen g) (sym q) (λ rs. refl)
-      at (Some b) (inr z) = absurd z
-
-  fine_heard : (c : Core) → c.views.view ≡ v → (cs : List Cast) → ((x : Cast) → Has x cs → x.p.node ≡ n) → (r : Happened) → Has r (flat_map (heard c h i e st) cs) → Fine g h n v i e st r
-  unfolding heard
-  fine_heard c at [] own r k = absurd k
-  fine_heard c at (x ∷ cs) own r k =
-      ⊎_elim (λ (a : Has r (heard c h i e st x)). one a) (λ (b : Has r (flat_map (heard c h i e st) cs)). fine_heard c at cs (λ y j. own y (inr j)) r b) (has_append r (heard c h i e st x) (flat_map (heard c h i e st) cs) k)
-    where
-      one : Has r (happened.Heard x.p c.views.view h i e st.members st.value ∷ cast_records x.p x.cast) → Fine g h n v i e st r
-      one (inl q) = inr (x.p, own x (inl refl), q ∙ ap (λ z. happened.Heard x.p z h i e st.members st.value) at)
-      one (inr j) = inl (unseen_casts x.p x.cast r j)
-
   -- handed on
   pub handed_tied : (views : Views) (f : Answering) (to : Option ℕ) (c : Core) (before : GroupState) → c.views.view ≡ v → ((p : ProviderId) → Has p (hearers c.sessions h before e) → p.node ≡ n) → Stepping views (with_sessions c (session.handed_on c.sessions h before st e (fills f (length c.records) c.sessions e st (hearers c.sessions h before e)))) → Going views (handed_on f c to h i before st e)
-  unfolding handed_on noted notes note_of recorded_all with_sessions casts_out
-  handed_tied views f to c before at own t = casts_too views h to cs (with_sessions (noted (recorded_all c rs) h i before st) u) (by (differs before st))
-    where
-      bs : List (Option Filled)
-      bs = fills f (length c.records) c.sessions e st (hearers c.sessions h before e)
-
-      cs : List Cast
-      cs = casts_out c.sessions h before st e bs
-
-      rs : List Happened
-      rs = flat_map (heard c h i e st) cs
-
-      u : SessionState
-      u = session.handed_on c.sessions h before st e bs
-
-      told : Stepping views (recorded_all (with_sessions c u) rs)
-      told = all_too views rs (with_sessions c u) (fine_heard c at cs (λ x j. own x.p (cast_has e st c.sessions.level (hearers c.sessions h before e) bs x j))) t
-
-      by : (b : Bool) → Going views (with_sessions (elim b [ true ↦ notes (recorded_all c rs) h (Some i) st | false ↦ recorded_all c rs ]) u)
-      by false = record { tied = told.tied; same = told.same }
-      by true =
-          let ns : List Happened = map (note_of (recorded_all c rs) h (Some i) st) (filter (is_of_group h) c.sessions.subs.live) in
-          let k : Stepping views (recorded_all (recorded_all (with_sessions c u) rs) ns) = all_too views ns (recorded_all (with_sessions c u) rs) (λ r j. let q = has_map (note_of (recorded_all c rs) h (Some i) st) r (filter (is_of_group h) c.sessions.subs.live) j in inl (subst (Unseen g) (sym q.2) (λ ts. refl))) told in
-          record { tied = k.tied; same = k.same }
+  unfolding handed_on
+  handed_tied views f to c before at own t =
+      let bs : List (Option Filled) = fills f (length c.records) c.sessions e st (hearers c.sessions h before e) in
+      let cs : List Cast = casts_out c.sessions h before st e bs in
+      let k : Stepping views (with_sessions (noted (recorded_all c (flat_map (heard c h i e st) cs)) h i before st) (session.handed_on c.sessions h before st e bs)) =
+      handed_records g n h v i e st (Stepping views) (unseen_too views) (hears_too views) f c before at own t in
+      casts_too views h to cs (with_sessions (noted (recorded_all c (flat_map (heard c h i e st) cs)) h i before st) (session.handed_on c.sessions h before st e bs)) (record { tied = k.tied; same = k.same })

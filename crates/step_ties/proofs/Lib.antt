@@ -13,3 +13,15 @@ pub mod Puts
 pub mod Handed
 pub mod Entries
 pub mod Gatherings
+pub mod ViewTicks
+pub mod Sprinkled
+pub mod Fills
+pub mod BaseOrder
+pub mod Arrived
+pub mod Entering
+pub mod FixedStart
+pub mod Owed
+pub mod Appending
+pub mod LedGroups
+pub mod Votes
+pub mod Rings

@@ -76,7 +76,7 @@ lt_differ a b e = by (bytes_eq b a) refl
 abbrev pub is_of : List ℕ → GroupRow → Bool
 is_of g row = bytes_eq row.name g
 
-after_less : (g h : List ℕ) (rows : List GroupRow) → name_lt g h ≡ true → AllAfter h rows → AllAfter g rows
+pub after_less : (g h : List ℕ) (rows : List GroupRow) → name_lt g h ≡ true → AllAfter h rows → AllAfter g rows
 after_less g h [] e a = tt
 after_less g h (row ∷ rows) e a = (name_lt_trans g h row.name e a.0, after_less g h rows e a.1)
 

@@ -1,19 +1,22 @@
 -- The node's own lists, as an answer carries them.
-use Rattle.std.proofs.Common.{◌≡◌, ◌≤◌, ℕ, List, [], ◌∷◌, Option, Some, None, Bool, true, false, cond, length, drop, refl, sym, ap, ◌∙◌, subst}
+use Rattle.std.proofs.Common.{◌≡◌, ◌≤◌, ℕ, List, [], ◌∷◌, Option, Some, None, Bool, true, false, cond, length, drop, refl, sym, ap, ◌∙◌, subst, inl, inr}
 use Rattle.std.specs.Prelude.{find, filter, map, is_some}
 use Rattle.std.specs.Str.{bytes_eq}
 use Rattle.rsct_packet.specs.declared.ids.ViewId.{ViewId}
 use Rattle.group_entry.specs.declared.entry.Entry.{Entry}
 use Rattle.proposal_core.specs.GroupView.{GroupView}
 use Rattle.proposal_core.specs.Lists.{list_or_new}
+use Rattle.rsct_packet.specs.Search.{Has}
+use Rattle.rsct_packet.specs.Text.{name_lt}
 use Rattle.view_exchange.specs.declared.install.Part.{Part}
+use Rattle.view_exchange.specs.Longest.{NamesDiffer}
 use Rattle.node_state.specs.declared.group.GroupRow.{GroupRow}
 use Rattle.node_state.specs.declared.state.Core.{Core}
 use Rattle.node_state.specs.State.{row_found, row_of, held_rows}
 use Rattle.node_state.specs.Applying.{part_of_list, own_parts}
 use Rattle.step_ties.specs.Ghost.{Ghost, KeepsIf, CarriesIf, part_of}
 use Rattle.step_ties.specs.Tied.{AllAfter, InNameOrder}
-use Rattle.step_ties.proofs.NameOrder.{text_same, is_of, none_after}
+use Rattle.step_ties.proofs.NameOrder.{text_same, lt_self, is_of, none_after}
 
 abbrev part_in : GroupRow → Part
 part_in row = record { name = row.name; start = (list_or_new row.list).start; state = (list_or_new row.list).state; entries = (list_or_new row.list).entries }
@@ -66,3 +69,25 @@ own_carries x g v full s o k = subst (CarriesIf x v full) (sym (part_found g s.g
     at : (r : Option GroupRow) → KeepsIf x v full (row_found g r).list → CarriesIf x v full (found_part r)
     at None k = k
     at (Some row) k = held row row.list refl k
+
+-- names in order differ
+after_differ : (g : List ℕ) (rows : List GroupRow) → AllAfter g rows → (q : Part) → Has q (map part_in (filter is_held rows)) → q.name ≡ g → ⊥
+after_differ g [] a q h e = h
+after_differ g (row ∷ rows) a q h e = by (is_some row.list) h (λ k. after_differ g rows a.1 q k e)
+  where
+    by : (b : Bool) → Has q (map part_in (cond b (row ∷ filter is_held rows) (filter is_held rows))) → (Has q (map part_in (filter is_held rows)) → ⊥) → ⊥
+    by true (inl z) more = let k : name_lt g g ≡ true = subst (λ m. name_lt g m ≡ true) (ap (λ (p : Part). p.name) (sym z) ∙ e) a.0 in let f = lt_self g in absurd (cc)
+    by true (inr k) more = more k
+    by false k more = more k
+
+rows_differ : (rows : List GroupRow) → InNameOrder rows → NamesDiffer (map part_in (filter is_held rows))
+rows_differ [] o = tt
+rows_differ (row ∷ rows) o = by (is_some row.list) (rows_differ rows o.1)
+  where
+    by : (b : Bool) → NamesDiffer (map part_in (filter is_held rows)) → NamesDiffer (map part_in (cond b (row ∷ filter is_held rows) (filter is_held rows)))
+    by true more = (after_differ row.name rows o.0, more)
+    by false more = more
+
+pub own_differ : (s : Core) → InNameOrder s.groups → NamesDiffer (own_parts s)
+unfolding own_parts held_rows part_of_list
+own_differ s o = rows_differ s.groups o

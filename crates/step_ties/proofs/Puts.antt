@@ -15,7 +15,7 @@ use Rattle.node_state.specs.declared.happened.Happened.TheVariants as happened
 use Rattle.node_state.specs.declared.group.GroupRow.{GroupRow}
 use Rattle.node_state.specs.declared.state.Core.{Core}
 use Rattle.node_state.specs.Settings.{is_fixed}
-use Rattle.node_state.specs.State.{row_of, with_row, list_of, state_of, len_of, recorded, with_sessions}
+use Rattle.node_state.specs.State.{row_of, acked_from, with_row, list_of, state_of, len_of, recorded, with_sessions}
 use Rattle.node_state.specs.Leading.{put}
 use Rattle.run_safety.specs.Past.{fold_from}
 use Rattle.run_safety.specs.Sight.{lines_with, lines_of}
@@ -30,7 +30,7 @@ use Rattle.run_safety.proofs.Lives.{whole}
 use Rattle.step_ties.specs.Ghost.{Ghost, Lives, Goes, Keeps}
 use Rattle.step_ties.specs.Tied.{RowIs, Owed, Owes, LeaderKeeps, NodeOf, Scene, opening_of, lines_now, Tied}
 use Rattle.step_ties.specs.Rows.{at_node}
-use Rattle.step_ties.proofs.Goes.{Spares, node_if_on, stable_on, knows_on, gathers_on, install_on, shows_on}
+use Rattle.step_ties.proofs.Goes.{Spares, seen_on, node_if_on, stable_on, knows_on, acked_on, gathers_on, install_on, shows_on}
 use Rattle.step_ties.proofs.Changed.{set_here, set_there, changes}
 use Rattle.step_ties.proofs.Works.{lines_pushed}
 use Rattle.step_ties.proofs.NameOrder.{text_self, text_other, row_here, row_there, rows_ordered}
@@ -58,7 +58,7 @@ take_pushed : (xs : List Entry) (e : Entry) → take (length xs + 1) (xs ++ e �
 take_pushed xs e =
     let q : length xs + 1 ≡ length (xs ++ e ∷ []) = sym (length-append xs (e ∷ [])) in ap (λ k. take k (xs ++ e ∷ [])) q ∙ take_all (xs ++ e ∷ [])
 
-pushed_keeps : (x y : Ghost) (v : ViewId) (full : List Entry) (l : GroupView) (e : Entry) → y.bases v ≡ x.bases v → Keeps x v full l → Keeps y v (full ++ e ∷ []) (with_entry l v e)
+pub pushed_keeps : (x y : Ghost) (v : ViewId) (full : List Entry) (l : GroupView) (e : Entry) → y.bases v ≡ x.bases v → Keeps x v full l → Keeps y v (full ++ e ∷ []) (with_entry l v e)
 unfolding with_entry
 pushed_keeps x y v full l e b h =
     let more : length (full ++ e ∷ []) ≡ length full + 1 = length-append full (e ∷ []) in
@@ -115,17 +115,19 @@ module _ (g : List ℕ) (w : Scene) (n : ℕ) (s : Core) (t : Tied g w n s) (h :
         );
         others = t.others;
         packets = t.packets;
+        refused = t.refused;
       }
 
-module _ (g : List ℕ) (w : Scene) (n : ℕ) (s : Core) (t : Tied g w n s) (e : Entry) (u : SessionState) (l : Leaves s.sessions u e) (thawed : s.views.promise ≡ s.views.view) (sent_it : Has (group.Append s.views.view (len_of s g) e) t.ghost.ps) where
+module _ (g : List ℕ) (w : Scene) (n : ℕ) (s : Core) (t : Tied g w n s) (e : Entry) (u : SessionState) (l : Leaves s.sessions u e) where
   abbrev z : Standing
   z = t.ghost.nodes n
 
   abbrev put_line : group.Record
   put_line = Put n (t.ghost.nodes n).view (length (t.ghost.nodes n).list) e
 
-  abbrev y : Ghost
-  y = record { nodes = at_node t.ghost.nodes n (grown (t.ghost.nodes n) e); ps = t.ghost.ps; all = Kept put_line ∷ t.ghost.all; leads = t.ghost.leads; bases = t.ghost.bases }
+  -- the entry is put
+  abbrev pub put_ghost : List group.Packet → Ghost
+  put_ghost ps = record { nodes = at_node t.ghost.nodes n (grown (t.ghost.nodes n) e); ps = ps; all = Kept put_line ∷ t.ghost.all; leads = t.ghost.leads; bases = t.ghost.bases }
 
   abbrev put_row : GroupRow → GroupRow
   put_row row = record row { list = Some (with_entry (list_or_new row.list) s.views.view e) }
@@ -134,40 +136,139 @@ module _ (g : List ℕ) (w : Scene) (n : ℕ) (s : Core) (t : Tied g w n s) (e :
   unfolding list_of
   keeps = keeps_of t.ghost s.views.view (t.ghost.nodes n).list (row_of s g).list t.own.0.row_is.list
 
-  len_now : len_of s g ≡ length (t.ghost.nodes n).list
+  pub len_now : len_of s g ≡ length (t.ghost.nodes n).list
   unfolding len_of
   len_now = keeps.len
 
-  goes : Goes t.ghost y
-  goes = record { packets = λ p h. h; records = λ r h. inr h; lines = λ r h. inr h; leads = λ v l e. e; bases = λ v s. refl }
+  module _ (ps : List group.Packet) (more : (p : group.Packet) → Has p t.ghost.ps → Has p ps) (refusals : (v : ViewId) (p : ProviderId) (r : ℕ) → Has (group.Refusal v p r) ps → Has (group.Refusal v p r) t.ghost.ps) (lives : Lives (opening_of w.config) (put_ghost ps)) (decides : LeaderKeeps (put_ghost ps) n s.views.inc s.views.view (row_of s g).led) where
+    abbrev y : Ghost
+    y = put_ghost ps
 
-  spares : (m : ℕ) → m ≢ n → Spares t.ghost y m
-  spares m ne =
+    goes : Goes t.ghost y
+    goes = record { packets = more; records = λ r h. inr h; lines = λ r h. inr h; leads = λ v l e. e; bases = λ v s. refl }
+
+    spares : (m : ℕ) → m ≢ n → Spares t.ghost y m
+    spares m ne =
+        record {
+          goes = goes;
+          list = ap (λ (k : Standing). k.list) (set_there t.ghost.nodes n (grown (t.ghost.nodes n) e) m ne);
+          leads = λ v. refl;
+          refusals = refusals;
+          puts = λ v k f h. not_put v k f h;
+          told = λ p r v q h. not_told p r v h;
+        }
+      where
+        not_put : (v : ViewId) (k : ℕ) (f : Entry) → Has (Put m v k f) (put_line ∷ kept t.ghost.all) → Has (Put m v k f) (kept t.ghost.all)
+        not_put v k f (inl q) = absurd (ne (at q))
+          where
+            at : Put m v k f ≡ put_line → m ≡ n
+            at q = cc
+        not_put v k f (inr h) = h
+
+        not_told : (p : ProviderId) (r : ℕ) (v : ViewId) → Has (Noted (Told p r v)) (Kept put_line ∷ t.ghost.all) → Has (Noted (Told p r v)) t.ghost.all
+        not_told p r v (inl q) = absurd (cc)
+        not_told p r v (inr h) = h
+
+    here : at_node t.ghost.nodes n (grown (t.ghost.nodes n) e) n ≡ grown (t.ghost.nodes n) e
+    here = set_here t.ghost.nodes n (grown (t.ghost.nodes n) e)
+
+    row_after : RowIs y n s.views.view s.views.members (put_row (row_of s g))
+    unfolding with_entry list_of
+    row_after =
+        record {
+          list = subst (λ full. Keeps y s.views.view full (with_entry (list_of s g) s.views.view e)) (sym (ap (λ (k : Standing). k.list) here)) (pushed_keeps t.ghost y s.views.view (t.ghost.nodes n).list (list_of s g) e refl keeps);
+          stable = stable_on t.ghost y goes s.views.view (list_or_new (row_of s g).list).start t.own.0.row_is.stable;
+          leader = knows_on t.ghost y goes s.views.view s.views.members (row_of s g).leader t.own.0.row_is.leader;
+          acked = λ m i a. acked_on t.ghost y goes s.views.view m i (acked_from m (row_of s g).led.acked) (t.own.0.row_is.acked m i a);
+        }
+
+    owed_after : (q : Request) → Has q u.requests → q.group ≡ g → Owed y n s.views.inc q
+    owed_after q i c =
+        let k = t.own.0.owes.requests q (l.later.requests q i) c in
+        record {
+          node = k.node;
+          inc_of = k.inc_of;
+          asked = inr k.asked;
+          unput = λ v j f h b. unput v j f h b;
+          untold = λ v h. untold v h;
+        }
+      where
+        unput : (v : ViewId) (j : ℕ) (f : Entry) → Has (Put n v j f) (put_line ∷ kept t.ghost.all) → Has (q.p, q.r) (carried f) → ⊥
+        unput v j f (inl a) b = let same : f ≡ e = at a in l.gone q i (subst (λ x. Has {A = ProviderId × ℕ} (q.p, q.r) (carried x)) same b)
+          where
+            at : Put n v j f ≡ put_line → f ≡ e
+            at a = cc
+        unput v j f (inr a) b = (t.own.0.owes.requests q (l.later.requests q i) c).unput v j f a b
+
+        untold : (v : ViewId) → Has (Noted (Told q.p q.r v)) (Kept put_line ∷ t.ghost.all) → ⊥
+        untold v (inl a) = cc
+        untold v (inr a) = (t.own.0.owes.requests q (l.later.requests q i) c).untold v a
+
+    own_after : NodeOf y g n (is_fixed s.config.mode) s.views (put_row (row_of s g)) (with_row s g put_row).groups u s.names
+    own_after =
+        let k = t.own.0 in
+        record {
+          stands = record {
+            me = k.stands.me;
+            up = k.stands.up;
+            inc = ap (λ (q : Standing). q.inc) here ∙ k.stands.inc;
+            view = ap (λ (q : Standing). q.view) here ∙ k.stands.view;
+            promise = ap (λ (q : Standing). q.promise) here ∙ k.stands.promise;
+            seated = inr k.stands.seated;
+          };
+          row_is = row_after;
+          order = rows_ordered g put_row (λ x. refl) s k.order;
+          gathering = gathers_on t.ghost y goes g n s.views.inc s.views.view s.views.promise s.views.gathering k.gathering;
+          install = install_on t.ghost y goes g s.views.install k.install;
+          owes = record {
+            me = l.later.me ∙ k.owes.me;
+            inc_of = l.later.inc ∙ k.owes.inc_of;
+            providers = λ q i. let a = l.later.providers q i in let j = k.owes.providers a.0 a.1 in (ap (λ (r : ProviderId). r.node) a.2 ∙ j.0, ap (λ (r : ProviderId). r.inc) a.2 ∙ j.1);
+            requests = owed_after;
+          };
+          decides = decides;
+          names = record { named = k.names.named; unnamed = k.names.unnamed };
+        }
+
+    lines_after : y.all ≡ lines_with g (reverse (s.records ++ happened.Put s.views.me s.views.view g (len_of s g) e ∷ [])) w.before (lines_of g w.before)
+    lines_after =
+        ap (λ k. Kept put_line ∷ k) t.lines ∙ (λ i. Kept (Put (sym t.own.0.stands.me i) (t.own.0.stands.view i) (sym len_now i) e) ∷ lines_now g w s) ∙ ap (λ b. (if b then Kept (Put s.views.me s.views.view (len_of s g) e) ∷ [] else []) ++ lines_now g w s) (sym (text_self g)) ∙ sym (lines_pushed g s.records (happened.Put s.views.me s.views.view g (len_of s g) e) w.before (lines_of g w.before))
+
+    state_after : state_of (put s g e) g ≡ state_of_list t.ghost.bases s.views.view (take (len_of s g + 1) (puts_of n s.views.view (kept y.all)))
+    unfolding state_of list_of put recorded row_of
+    state_after =
+        let k : Whole (opening_of w.config) y.nodes y.ps y.all y.leads y.bases = whole lives in
+        let a : state_of (put s g e) g ≡ (with_entry (list_of s g) s.views.view e).state = ap (λ (row : GroupRow). (list_or_new row.list).state) (row_here g put_row (λ x. refl) s t.own.0.order) in
+        let b : (with_entry (list_of s g) s.views.view e).state ≡ state_of_list t.ghost.bases s.views.view ((t.ghost.nodes n).list ++ e ∷ []) = (pushed_keeps t.ghost y s.views.view (t.ghost.nodes n).list (list_of s g) e refl keeps).state in
+        let c : puts_of n s.views.view (kept y.all) ≡ (t.ghost.nodes n).list ++ e ∷ [] = ap (λ v. puts_of n v (kept y.all)) (sym t.own.0.stands.view ∙ sym (ap (λ (q : Standing). q.view) here)) ∙ (k.good.past.seated n).list ∙ ap (λ (q : Standing). q.list) here in
+        let d : take (len_of s g + 1) (puts_of n s.views.view (kept y.all)) ≡ (t.ghost.nodes n).list ++ e ∷ [] = (λ i. take (len_now i + 1) (c i)) ∙ take_pushed (t.ghost.nodes n).list e in
+        a ∙ b ∙ ap (state_of_list t.ghost.bases s.views.view) (sym d)
+
+    -- the node and the world after it
+    pub put_tied : (t' : Tied g w n (with_sessions (put s g e) u)) × (Has (Put n s.views.view (len_of s g) e) (kept t'.ghost.all) × (state_of (put s g e) g ≡ state_of_list t'.ghost.bases s.views.view (take (len_of s g + 1) (puts_of n s.views.view (kept t'.ghost.all))))) × ((p : group.Packet) → Has p ps → Has p t'.ghost.ps) × ((v : ViewId) → t'.ghost.leads v ≡ t.ghost.leads v)
+    unfolding put recorded with_sessions row_of with_row
+    put_tied = (
       record {
-        goes = goes;
-        list = ap (λ (k : Standing). k.list) (set_there t.ghost.nodes n (grown (t.ghost.nodes n) e) m ne);
-        leads = λ v. refl;
-        refusals = λ v p r h. h;
-        puts = λ v k f h. not_put v k f h;
-        told = λ p r v q h. not_told p r v h;
-      }
-    where
-      not_put : (v : ViewId) (k : ℕ) (f : Entry) → Has (Put m v k f) (put_line ∷ kept t.ghost.all) → Has (Put m v k f) (kept t.ghost.all)
-      not_put v k f (inl q) = absurd (ne (at q))
-        where
-          at : Put m v k f ≡ put_line → m ≡ n
-          at q = cc
-      not_put v k f (inr h) = h
+        ghost = y;
+        life = lives;
+        lines = lines_after;
+        own = (subst (λ row. NodeOf y g n (is_fixed s.config.mode) s.views row (with_row s g put_row).groups u s.names) (sym (row_here g put_row (λ x. refl) s t.own.0.order)) own_after, t.own.1, t.own.2);
+        others = λ m ne. node_if_on t.ghost y m (spares m ne) (set_there t.ghost.nodes n (grown (t.ghost.nodes n) e) m ne) w.config g (w.incs m) (w.cores m) (t.others m ne);
+        packets = λ p i. shows_on t.ghost y goes g p (t.packets p i);
+        refused = λ v p r h. seen_on t.ghost y goes v (t.refused v p r (refusals v p r h));
+      },
+      (inl (λ i. Put n (sym t.own.0.stands.view i) (len_now i) e), state_after),
+      (λ p h. h),
+      (λ v. refl),
+    )
 
-      not_told : (p : ProviderId) (r : ℕ) (v : ViewId) → Has (Noted (Told p r v)) (Kept put_line ∷ t.ghost.all) → Has (Noted (Told p r v)) t.ghost.all
-      not_told p r v (inl q) = absurd (cc)
-      not_told p r v (inr h) = h
-
+-- the own group's entry, as it was sent
+module _ (g : List ℕ) (w : Scene) (n : ℕ) (s : Core) (t : Tied g w n s) (e : Entry) (u : SessionState) (l : Leaves s.sessions u e) (thawed : s.views.promise ≡ s.views.view) (sent_it : Has (group.Append s.views.view (len_of s g) e) t.ghost.ps) where
   sent_there : Has (group.Append (t.ghost.nodes n).view (length (t.ghost.nodes n).list) e) t.ghost.ps
-  sent_there = subst (λ (k : ViewId × ℕ). Has (group.Append k.0 k.1 e) t.ghost.ps) (λ i. (sym t.own.0.stands.view i, len_now i)) sent_it
+  sent_there = subst (λ (k : ViewId × ℕ). Has (group.Append k.0 k.1 e) t.ghost.ps) (λ i. (sym t.own.0.stands.view i, len_now g w n s t e u l i)) sent_it
 
-  lives : Lives (opening_of w.config) y
-  lives =
+  follows : Lives (opening_of w.config) (put_ghost g w n s t e u l t.ghost.ps)
+  follows =
       Follows t.ghost.nodes (at_node t.ghost.nodes n (grown (t.ghost.nodes n) e)) t.ghost.ps t.ghost.all t.ghost.leads t.ghost.bases n (t.ghost.nodes n) e t.life refl (subst (λ k. 0 < k) (sym t.own.0.stands.inc) t.own.0.stands.up) (t.own.0.stands.view ∙ sym thawed ∙ sym t.own.0.stands.promise) sent_there (changes t.ghost.nodes n (grown (t.ghost.nodes n) e))
 
   -- the leader has the whole list already
@@ -182,96 +283,14 @@ module _ (g : List ℕ) (w : Scene) (n : ℕ) (s : Core) (t : Tied g w n s) (e :
       past [] e q = cc
       past (x ∷ xs) e q = past xs e q
 
-  here : at_node t.ghost.nodes n (grown (t.ghost.nodes n) e) n ≡ grown (t.ghost.nodes n) e
-  here = set_here t.ghost.nodes n (grown (t.ghost.nodes n) e)
-
-  row_after : RowIs y n s.views.view s.views.members (put_row (row_of s g))
-  unfolding with_entry list_of
-  row_after =
+  decides : LeaderKeeps (put_ghost g w n s t e u l t.ghost.ps) n s.views.inc s.views.view (row_of s g).led
+  decides =
       record {
-        list = subst (λ full. Keeps y s.views.view full (with_entry (list_of s g) s.views.view e)) (sym (ap (λ (k : Standing). k.list) here)) (pushed_keeps t.ghost y s.views.view (t.ghost.nodes n).list (list_of s g) e refl keeps);
-        stable = stable_on t.ghost y goes s.views.view (list_or_new (row_of s g).list).start t.own.0.row_is.stable;
-        leader = knows_on t.ghost y goes s.views.view s.views.members (row_of s g).leader t.own.0.row_is.leader;
-        acked = t.own.0.row_is.acked;
+        refused = λ p r q. absurd (unled q);
+        begun = λ p r i f q. absurd (unled q);
+        waiting = λ p q. absurd (unled q);
+        later = t.own.0.decides.later;
       }
 
-  owed_after : (q : Request) → Has q u.requests → q.group ≡ g → Owed y n s.views.inc q
-  owed_after q i c =
-      let k = t.own.0.owes.requests q (l.later.requests q i) c in
-      record {
-        node = k.node;
-        inc_of = k.inc_of;
-        asked = inr k.asked;
-        unput = λ v j f h b. unput v j f h b;
-        untold = λ v h. untold v h;
-      }
-    where
-      unput : (v : ViewId) (j : ℕ) (f : Entry) → Has (Put n v j f) (put_line ∷ kept t.ghost.all) → Has (q.p, q.r) (carried f) → ⊥
-      unput v j f (inl a) b = let same : f ≡ e = at a in l.gone q i (subst (λ x. Has {A = ProviderId × ℕ} (q.p, q.r) (carried x)) same b)
-        where
-          at : Put n v j f ≡ put_line → f ≡ e
-          at a = cc
-      unput v j f (inr a) b = (t.own.0.owes.requests q (l.later.requests q i) c).unput v j f a b
-
-      untold : (v : ViewId) → Has (Noted (Told q.p q.r v)) (Kept put_line ∷ t.ghost.all) → ⊥
-      untold v (inl a) = cc
-      untold v (inr a) = (t.own.0.owes.requests q (l.later.requests q i) c).untold v a
-
-  own_after : NodeOf y g n (is_fixed s.config.mode) s.views (put_row (row_of s g)) (with_row s g put_row).groups u s.names
-  own_after =
-      let k = t.own.0 in
-      record {
-        stands = record {
-          me = k.stands.me;
-          up = k.stands.up;
-          inc = ap (λ (q : Standing). q.inc) here ∙ k.stands.inc;
-          view = ap (λ (q : Standing). q.view) here ∙ k.stands.view;
-          promise = ap (λ (q : Standing). q.promise) here ∙ k.stands.promise;
-          seated = inr k.stands.seated;
-        };
-        row_is = row_after;
-        order = rows_ordered g put_row (λ x. refl) s k.order;
-        gathering = gathers_on t.ghost y goes g n s.views.inc s.views.view s.views.promise s.views.gathering k.gathering;
-        install = install_on t.ghost y goes g s.views.install k.install;
-        owes = record {
-          me = l.later.me ∙ k.owes.me;
-          inc_of = l.later.inc ∙ k.owes.inc_of;
-          providers = λ q i. let a = l.later.providers q i in let j = k.owes.providers a.0 a.1 in (ap (λ (r : ProviderId). r.node) a.2 ∙ j.0, ap (λ (r : ProviderId). r.inc) a.2 ∙ j.1);
-          requests = owed_after;
-        };
-        decides = record {
-          refused = λ p r q. absurd (unled q);
-          begun = λ p r i f q. absurd (unled q);
-          waiting = λ p q. absurd (unled q);
-        };
-        names = record { named = k.names.named; unnamed = k.names.unnamed };
-      }
-
-  lines_after : y.all ≡ lines_with g (reverse (s.records ++ happened.Put s.views.me s.views.view g (len_of s g) e ∷ [])) w.before (lines_of g w.before)
-  lines_after =
-      ap (λ k. Kept put_line ∷ k) t.lines ∙ (λ i. Kept (Put (sym t.own.0.stands.me i) (t.own.0.stands.view i) (sym len_now i) e) ∷ lines_now g w s) ∙ ap (λ b. (if b then Kept (Put s.views.me s.views.view (len_of s g) e) ∷ [] else []) ++ lines_now g w s) (sym (text_self g)) ∙ sym (lines_pushed g s.records (happened.Put s.views.me s.views.view g (len_of s g) e) w.before (lines_of g w.before))
-
-  state_after : state_of (put s g e) g ≡ state_of_list t.ghost.bases s.views.view (take (len_of s g + 1) (puts_of n s.views.view (kept y.all)))
-  unfolding state_of list_of put recorded row_of
-  state_after =
-      let k : Whole (opening_of w.config) y.nodes y.ps y.all y.leads y.bases = whole lives in
-      let a : state_of (put s g e) g ≡ (with_entry (list_of s g) s.views.view e).state = ap (λ (row : GroupRow). (list_or_new row.list).state) (row_here g put_row (λ x. refl) s t.own.0.order) in
-      let b : (with_entry (list_of s g) s.views.view e).state ≡ state_of_list t.ghost.bases s.views.view ((t.ghost.nodes n).list ++ e ∷ []) = (pushed_keeps t.ghost y s.views.view (t.ghost.nodes n).list (list_of s g) e refl keeps).state in
-      let c : puts_of n s.views.view (kept y.all) ≡ (t.ghost.nodes n).list ++ e ∷ [] = ap (λ v. puts_of n v (kept y.all)) (sym t.own.0.stands.view ∙ sym (ap (λ (q : Standing). q.view) here)) ∙ (k.good.past.seated n).list ∙ ap (λ (q : Standing). q.list) here in
-      let d : take (len_of s g + 1) (puts_of n s.views.view (kept y.all)) ≡ (t.ghost.nodes n).list ++ e ∷ [] = (λ i. take (len_now i + 1) (c i)) ∙ take_pushed (t.ghost.nodes n).list e in
-      a ∙ b ∙ ap (state_of_list t.ghost.bases s.views.view) (sym d)
-
-  -- the own group's entry
   pub put_own : (t' : Tied g w n (with_sessions (put s g e) u)) × (Has (Put n s.views.view (len_of s g) e) (kept t'.ghost.all) × (state_of (put s g e) g ≡ state_of_list t'.ghost.bases s.views.view (take (len_of s g + 1) (puts_of n s.views.view (kept t'.ghost.all)))))
-  unfolding put recorded with_sessions row_of with_row
-  put_own = (
-    record {
-      ghost = y;
-      life = lives;
-      lines = lines_after;
-      own = (subst (λ row. NodeOf y g n (is_fixed s.config.mode) s.views row (with_row s g put_row).groups u s.names) (sym (row_here g put_row (λ x. refl) s t.own.0.order)) own_after, t.own.1, t.own.2);
-      others = λ m ne. node_if_on t.ghost y m (spares m ne) (set_there t.ghost.nodes n (grown (t.ghost.nodes n) e) m ne) w.config g (w.incs m) (w.cores m) (t.others m ne);
-      packets = λ p i. shows_on t.ghost y goes g p (t.packets p i);
-    },
-    (inl (λ i. Put n (sym t.own.0.stands.view i) (len_now i) e), state_after),
-  )
+  put_own = let k = put_tied g w n s t e u l t.ghost.ps (λ p h. h) (λ v p r h. h) follows decides in (k.0, k.1)

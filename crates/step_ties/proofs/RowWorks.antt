@@ -80,6 +80,7 @@ module _ (g : List ℕ) (w : Scene) (n : ℕ) (s : Core) (t : Tied g w n s) wher
         own = (own (cases_text h g), t.own.1, t.own.2);
         others = t.others;
         packets = t.packets;
+        refused = t.refused;
       }
     where
       k : NodeIs t.ghost g n s

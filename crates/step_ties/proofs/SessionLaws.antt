@@ -29,10 +29,10 @@ pub record Later (s t : SessionState) : Type 0 where
   pub providers : (y : Provider) → Has y t.providers → (z : Provider) × Has z s.providers × (y.p ≡ z.p)
   pub requests : (q : Request) → Has q t.requests → Has q s.requests
 
-later_same : (s : SessionState) → Later s s
+pub later_same : (s : SessionState) → Later s s
 later_same s = record { me = refl; inc = refl; level = refl; providers = λ y h. (y, h, refl); requests = λ q h. h }
 
-later_then : (s t u : SessionState) → Later s t → Later t u → Later s u
+pub later_then : (s t u : SessionState) → Later s t → Later t u → Later s u
 later_then s t u a b =
     record {
       me = b.me ∙ a.me;
@@ -97,7 +97,7 @@ unfolding request_ended
 later_ended s p r =
     record { me = refl; inc = refl; level = refl; providers = λ y h. (y, h, refl); requests = λ q h. (has_filter (λ q. not (is_request p r q)) q s.requests h).0 }
 
-later_without : (s : SessionState) (ps : List ProviderId) → Later s (without_providers s ps)
+pub later_without : (s : SessionState) (ps : List ProviderId) → Later s (without_providers s ps)
 unfolding without_providers
 later_without s ps =
     record {

@@ -1,19 +1,18 @@
 -- The rows of views, but for an install.
-use Rattle.std.proofs.Common.{◌≡◌, ◌⊎◌, ◌<◌, ℕ, List, ◌++◌, length, Option, Some, None, Bool, true, false, refl, sym, ap, ◌∙◌, subst, inl, inr, ⊎_elim, arith}
+use Rattle.std.proofs.Common.{◌≡◌, ◌⊎◌, ◌<◌, ℕ, List, ◌++◌, length, Option, Some, None, Bool, true, false, refl, sym, ap, ◌∙◌, subst, inl, ⊎_elim, arith}
 use Rattle.std.specs.Prelude.{◌==◌, ◌&&◌, not, nat_le, max}
 use Rattle.std.proofs.lemmas.Bool.Decides.{nat_tests}
 use Rattle.std.proofs.lemmas.Bool.{and_parts}
 use Rattle.rsct_packet.specs.declared.ids.ViewId.{ViewId}
 use Rattle.rsct_packet.specs.declared.mask.Mask.{Mask}
-use Rattle.rsct_packet.specs.Ids.{same_view, view_lt, is_member}
+use Rattle.rsct_packet.specs.Ids.{same_view, view_lt}
 use Rattle.rsct_packet.specs.Mask.{has_node, with_node}
 use Rattle.rsct_packet.specs.Search.{Has}
 use Rattle.view_exchange.specs.declared.exchange.Exchange.{Exchange}
-use Rattle.view_exchange.specs.declared.install.Install.{Install}
 use Rattle.view_exchange.specs.Answers.{max_parts}
 use Rattle.view_core.specs.declared.packet.ViewPacket.TheVariants as view
 use Rattle.view_core.specs.declared.views.Views.{Views}
-use Rattle.view_core.specs.Views.{view_sent, promised, answered, prepared, prepare_row, refused_by, refuse_to, refuse_row, installed, install_row, taken_row, views_at_work}
+use Rattle.view_core.specs.Views.{view_sent, promised, answered, prepared, prepare_row, refused_by, refuse_to, refuse_row, taken_row, views_at_work}
 use Rattle.node_state.specs.declared.packet.Body.TheVariants as body
 use Rattle.node_state.specs.declared.packet.Packet.{Packet}
 use Rattle.node_state.specs.declared.state.Core.{Core}
@@ -37,7 +36,7 @@ use Rattle.step_ties.proofs.Goes.{Spares, spares_same, carries_on, shows_on, res
 use Rattle.step_ties.proofs.Changed.{set_here, set_there, changes, has_pushed}
 use Rattle.step_ties.proofs.Works.{tied_on, tied_sent, tied_views}
 use Rattle.step_ties.proofs.Gone.{with_nodes, with_packet, nodes_goes, nodes_spares, packet_goes, packet_spares}
-use Rattle.step_ties.proofs.Parts.{own_carries}
+use Rattle.step_ties.proofs.Parts.{own_carries, own_differ}
 
 lt_of : (a b : ViewId) → view_lt a b ≡ true → Lt a b
 unfolding is_before
@@ -53,7 +52,7 @@ differs a b e q = let f : not (same_view b b) ≡ true = subst (λ z. not (same_
     at b f = grind (arith, nat_tests)
 
 -- a view that is no later than another, and not the same, is before it
-before_of : (a b : ViewId) → Le a b → (b ≡ a → ⊥) → Lt a b
+pub before_of : (a b : ViewId) → Le a b → (b ≡ a → ⊥) → Lt a b
 before_of a b l ne = by (is_before a b) refl
   where
     by : (t : Bool) → is_before a b ≡ t → t ≡ true
@@ -104,6 +103,7 @@ module _ (g : List ℕ) (w : Scene) (n : ℕ) (s : Core) (t : Tied g w n s) wher
         inl (λ i. group.Answer v (sym mine i)),
         (n, s.views.inc, s.views.members, h.stands.seated),
         carries_on x y o s.views.view (x.nodes n).list (part_of g (own_parts s)) (n, s.views.inc, s.views.members, h.stands.seated) (own_carries x g s.views.view (x.nodes n).list s h.order h.row_is.list),
+        own_differ s h.order,
       ) in
       tied_on g w n s t (sent s to (body.View (view.Answer v s.views.view (own_parts s)))) y (Answers x.nodes x.ps x.all x.leads x.bases n (x.nodes n) v t.life refl up le' lt') t.lines (node_on x y n (spares n) refl g (is_fixed s.config.mode) s.views (row_of s g) s.groups s.sessions s.names h, t.own.1, t.own.2) (λ m ne. spares m) (λ m ne. refl) (λ q i. ⊎_elim (λ (e : q ≡ p). subst (Shows y g) (sym e) new) (λ (k : Has q (s.sends ++ w.sent)). shows_on x y o g q (t.packets q k)) (has_pushed q p s.sends w.sent i))
 
@@ -176,14 +176,3 @@ refuse_is_tied v k g w n f s from inc t = refuse_tied g w n f s t from inc v k
 
 pub prepare_is_tied : (v : ViewId) (mask : Mask) (g : List ℕ) (w : Scene) (n : ℕ) (f : Answering) (s : Core) (from inc : ℕ) → Tied g w n s → Tied g w n (view_row f s from inc (view.Prepare v mask))
 prepare_is_tied v mask g w n f s from inc t = prepare_tied g w n f s t from inc v mask
-
--- an install of the node's view, or of one that it did not promise or is no member of
-pub install_is_tied : (i : Install) (g : List ℕ) (w : Scene) (n : ℕ) (f : Answering) (s : Core) (from inc : ℕ) → (same_view s.views.view i.view ≡ true) ⊎ ((same_view s.views.promise i.view && is_member i.members s.views.me s.views.inc) ≡ false) → Tied g w n s → Tied g w n (view_row f s from inc (view.Install i))
-unfolding view_row views_taken install_applied install_row installed view_sent
-install_is_tied i g w n f s from inc why t = by (same_view s.views.view i.view) (same_view s.views.promise i.view && is_member i.members s.views.me s.views.inc) why
-  where
-    by : (b c : Bool) → (b ≡ true) ⊎ (c ≡ false) → Tied g w n (views_taken f s (installed (views_at_work s.views) i b c))
-    by true c h = tied_sent g w n s t i.view.coord (body.View (view.Taken i.view)) tt
-    by false false h = t
-    by false true (inl e) = absurd (cc)
-    by false true (inr e) = absurd (cc)

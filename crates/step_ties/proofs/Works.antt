@@ -1,5 +1,5 @@
 -- What the pieces of a step make of the tie: what is sent and recorded, and the moves.
-use Rattle.std.proofs.Common.{◌≡◌, ◌≢◌, ℕ, List, [], ◌∷◌, ◌++◌, Some, refl, sym, ap, ◌∙◌, subst, inl, inr, ⊎_elim, append_assoc}
+use Rattle.std.proofs.Common.{◌≡◌, ◌≢◌, ℕ, List, [], ◌∷◌, ◌++◌, Some, refl, sym, ap, ◌∙◌, subst, inl, inr, ⊎_elim, append_assoc, ◌+◌, arith}
 use Rattle.std.specs.Prelude.{reverse}
 use Rattle.std.proofs.lemmas.List.{reverse-append, append-nil}
 use Rattle.rsct_packet.specs.Search.{Has}
@@ -9,14 +9,14 @@ use Rattle.node_state.specs.declared.packet.Body.{Body}
 use Rattle.node_state.specs.declared.packet.Packet.{Packet}
 use Rattle.node_state.specs.declared.state.Core.{Core}
 use Rattle.node_state.specs.Settings.{is_fixed}
-use Rattle.node_state.specs.State.{row_of}
+use Rattle.node_state.specs.State.{row_of, recorded}
 use Rattle.node_state.specs.Sending.{sent_on, packet_on, sent}
 use Rattle.run_safety.specs.Past.{History, earlier}
-use Rattle.run_safety.specs.Sight.{lines_at, lines_with}
+use Rattle.run_safety.specs.Sight.{lines_at, lines_with, lines_of}
 use Rattle.run_safety.specs.Group.{Line, Kept, Begins}
 use Rattle.step_ties.specs.Ghost.{Ghost, Lives}
 use Rattle.step_ties.specs.Tied.{ShowsBody, Shows, NodeOf, NodeIsIf, Scene, opening_of, lines_now, Tied}
-use Rattle.step_ties.proofs.Goes.{Spares, node_if_on}
+use Rattle.step_ties.proofs.Goes.{Spares, seen_on, node_if_on}
 use Rattle.step_ties.proofs.Changed.{has_pushed}
 
 -- no group sees such a record
@@ -46,24 +46,48 @@ module _ (g : List ℕ) (w : Scene) (n : ℕ) (s : Core) (t : Tied g w n s) wher
         own = own;
         others = λ m ne. node_if_on t.ghost y m (spares m ne) (same m ne) w.config g (w.incs m) (w.cores m) (t.others m ne);
         packets = packets;
+        refused = λ v p r h. let k = spares (n + 1) (λ q. omega arith) in seen_on t.ghost y k.goes v (t.refused v p r (k.refusals v p r h));
       }
 
-  -- a packet is sent that shows nothing new
-  pub tied_sent_on : (network to : ℕ) (b : Body) → ShowsBody t.ghost g s.views.me s.views.inc b → Tied g w n (sent_on s network to b)
+  -- a packet is sent that shows nothing new, and nothing else of the group changes
+  pub sent_on_kept : (network to : ℕ) (b : Body) → ShowsBody t.ghost g s.views.me s.views.inc b → (u : Tied g w n (sent_on s network to b)) × (u.ghost ≡ t.ghost)
   unfolding sent_on packet_on row_of
-  tied_sent_on network to b ok =
+  sent_on_kept network to b ok = (
+    record {
+      ghost = t.ghost;
+      life = t.life;
+      lines = t.lines;
+      own = t.own;
+      others = t.others;
+      packets = λ p h. ⊎_elim (λ (e : p ≡ packet_on s network to b). subst (λ z. Shows t.ghost g z) (sym e) ok) (λ (k : Has p (s.sends ++ w.sent)). t.packets p k) (has_pushed p (packet_on s network to b) s.sends w.sent h);
+      refused = t.refused;
+    },
+    refl,
+  )
+
+  pub tied_sent_on : (network to : ℕ) (b : Body) → ShowsBody t.ghost g s.views.me s.views.inc b → Tied g w n (sent_on s network to b)
+  tied_sent_on network to b ok = (sent_on_kept network to b ok).0
+
+  pub sent_kept : (to : ℕ) (b : Body) → ShowsBody t.ghost g s.views.me s.views.inc b → (u : Tied g w n (sent s to b)) × (u.ghost ≡ t.ghost)
+  unfolding sent
+  sent_kept to b ok = sent_on_kept _ to b ok
+
+  pub tied_sent : (to : ℕ) (b : Body) → ShowsBody t.ghost g s.views.me s.views.inc b → Tied g w n (sent s to b)
+  tied_sent to b ok = (sent_kept to b ok).0
+
+  -- a record that no group sees
+  pub tied_unseen : (r : Happened) → Unseen g r → Tied g w n (recorded s r)
+  unfolding recorded row_of
+  tied_unseen r unseen =
       record {
         ghost = t.ghost;
         life = t.life;
-        lines = t.lines;
+        lines = t.lines ∙ sym (lines_pushed g s.records r w.before (lines_of g w.before) ∙ ap (λ z. z ++ lines_now g w s) (unseen (earlier (reverse s.records) w.before)));
         own = t.own;
         others = t.others;
-        packets = λ p h. ⊎_elim (λ (e : p ≡ packet_on s network to b). subst (λ z. Shows t.ghost g z) (sym e) ok) (λ (k : Has p (s.sends ++ w.sent)). t.packets p k) (has_pushed p (packet_on s network to b) s.sends w.sent h);
+        packets = t.packets;
+        refused = t.refused;
       }
-
-  pub tied_sent : (to : ℕ) (b : Body) → ShowsBody t.ghost g s.views.me s.views.inc b → Tied g w n (sent s to b)
-  unfolding sent
-  tied_sent to b ok = tied_sent_on _ to b ok
 
   -- what a node keeps of views, where no group sees it
   pub tied_views : (v : Views) → NodeOf t.ghost g n (is_fixed s.config.mode) v (row_of s g) s.groups s.sessions s.names → v.inc ≡ s.views.inc → Tied g w n (record s { views = v })
@@ -76,4 +100,5 @@ module _ (g : List ℕ) (w : Scene) (n : ℕ) (s : Core) (t : Tied g w n s) wher
         own = (k, t.own.1, e ∙ t.own.2);
         others = t.others;
         packets = t.packets;
+        refused = t.refused;
       }

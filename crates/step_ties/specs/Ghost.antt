@@ -14,8 +14,8 @@ use Rattle.view_exchange.specs.declared.install.Source.{Source}
 use Rattle.view_exchange.specs.declared.install.Install.{Install}
 use Rattle.view_exchange.specs.declared.install.Base.{Base}
 use Rattle.view_exchange.specs.Answers.{opened}
-use Rattle.view_exchange.specs.Longest.{all_counted}
-use Rattle.view_exchange.specs.Bases.{bases_of, base_named}
+use Rattle.view_exchange.specs.Longest.{all_counted, NamesDiffer}
+use Rattle.view_exchange.specs.Bases.{source_at, bases_of, base_named}
 use Rattle.run_safety.specs.ViewOrder.{Lt}
 use Rattle.run_safety.specs.Group.{member, members_of, Standing, Reply, Origin, Packet, Line, In, kept}
 use Rattle.run_safety.specs.Group as group
@@ -82,6 +82,7 @@ pub record ReplyIs (x : Ghost) (g : List ℕ) (v : ViewId) (a : Answer) (r : Rep
   pub sent : Has (group.Answer v r) x.ps
   pub seen : Seen x a.view
   pub part : CarriesIf x a.view r.list (part_of g a.parts)
+  pub names : NamesDiffer a.parts
 
 -- what a node gathers for the view that it promised: the answers that counted, in the order in which they came, and the
 -- replies that they show, in the order of the members
@@ -119,6 +120,8 @@ pub record Installs (x : Ghost) (g : List ℕ) (i : Install) : Type 0 where
   pub entered : Seen x i.view
   pub seen : (s : Source) → Has s i.sources → Seen x s.view
   pub parts : (s : Source) → Has s i.sources → CarriesIf x s.view (whole s.view) (part_of g s.parts)
+  pub names : (s : Source) → Has s i.sources → NamesDiffer s.parts
+  pub rest : (v : ViewId) → source_at i.sources v ≡ None → whole v ≡ []
   pub base : BaseIsOf x i.view i.members (base_named (bases_of i) g)
 
 abbrev pub InstallsIf : Ghost → List ℕ → Option Install → Type 0

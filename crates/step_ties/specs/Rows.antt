@@ -1,12 +1,20 @@
 -- What is tied: the step begins and ends, a node starts and stops, and rows of the step.
-use Rattle.std.specs.Prelude.{◌⊎◌, ◌&&◌, ℕ, ◌+◌, ◌≡◌, ◌==◌, true, false, ◌∷◌, ◌++◌, [], List, reverse, Some, None, if◌then◌else◌}
+use Rattle.std.specs.Prelude.{ℕ, ◌+◌, ◌≡◌, ◌==◌, true, false, ◌∷◌, ◌++◌, [], List, reverse, fold, Option, Some, None, if◌then◌else◌}
 use Rattle.rsct_packet.specs.declared.ids.ViewId.{ViewId}
+use Rattle.rsct_packet.specs.declared.ids.ProtoId.{ProtoId}
+use Rattle.rsct_packet.specs.declared.ids.ProviderId.{ProviderId}
 use Rattle.rsct_packet.specs.declared.mask.Mask.{Mask}
+use Rattle.rsct_packet.specs.Mask.{nodes_of}
 use Rattle.rsct_packet.specs.Search.{Has}
+use Rattle.packet_bodies.specs.declared.body.ReportRow.{ReportRow}
+use Rattle.packet_bodies.specs.declared.body.What.{What}
+use Rattle.adapter_ring.specs.declared.packet.RingPacket.{RingPacket}
 use Rattle.group_entry.specs.declared.entry.Entry.{Entry}
+use Rattle.group_entry.specs.declared.entry.Vote.{Vote}
 use Rattle.view_core.specs.declared.packet.ViewPacket.{ViewPacket}
 use Rattle.view_core.specs.declared.packet.ViewPacket.TheVariants as view
 use Rattle.node_state.specs.declared.config.Config.{Config}
+use Rattle.node_state.specs.declared.happened.Happened.{Happened}
 use Rattle.node_state.specs.declared.happened.Happened.TheVariants as happened
 use Rattle.node_state.specs.declared.packet.Body.TheVariants as body
 use Rattle.node_state.specs.declared.packet.Body.{Body}
@@ -14,16 +22,18 @@ use Rattle.node_state.specs.declared.packet.Packet.{Packet}
 use Rattle.node_state.specs.declared.state.Core.{Core}
 use Rattle.node_state.specs.Settings.{is_fixed}
 use Rattle.node_state.specs.HandOn.{Answering}
-use Rattle.rsct_packet.specs.Ids.{same_view, is_member}
 use Rattle.view_exchange.specs.declared.install.Part.{Part}
 use Rattle.view_exchange.specs.declared.install.Install.{Install}
 use Rattle.view_exchange.specs.declared.exchange.Exchange.{Exchange}
 use Rattle.view_exchange.specs.Answers.{opened, with_answer, all_answered}
+use Rattle.view_core.specs.declared.views.RingAsk.{RingAsk}
 use Rattle.view_core.specs.Views.{own_answer, next_view}
 use Rattle.node_state.specs.Applying.{own_parts}
+use Rattle.node_state.specs.Ticks.{ring_ask, rings_part, views_part, owed_part}
 use Rattle.node_state.specs.Step.{order_row, at_work, started, view_row, body_row}
 use Rattle.world_model.specs.declared.event.Event.{Event}
 use Rattle.world_model.specs.Run.{Happening}
+use Rattle.run_safety.specs.Past.{History}
 use Rattle.step_ties.specs.Tied.{Scene, Rests, Tied}
 
 -- one value set
@@ -51,6 +61,25 @@ nothing_yet c = record { config = c; cores = λ m. None; incs = λ m. 0; sent = 
 
 abbrev pub NothingTied : Type 0
 NothingTied = (g : List ℕ) (c : Config) → Rests g (nothing_yet c)
+
+-- a node starts too, in the event that goes on
+abbrev pub with_records : History → List Happened → History
+with_records [] rs = record { event = None; records = reverse rs } ∷ []
+with_records (h ∷ before) rs = record h { records = reverse rs ++ h.records } ∷ before
+
+abbrev pub starts_too : Scene → ℕ → Option Core → Scene
+starts_too w n (Some s) = w
+starts_too w n None =
+    record w { cores = at_node w.cores n (Some (started w.config n (w.incs n + 1))); incs = at_node w.incs n (w.incs n + 1); before = with_records w.before (started w.config n (w.incs n + 1)).records }
+
+-- every node starts, in one event
+abbrev pub all_started : Config → Scene
+all_started c =
+    fold (λ (w : Scene) n. starts_too w n (w.cores n)) (record (nothing_yet c) { before = record { event = None; records = [] } ∷ [] }) (nodes_of c.nodes)
+
+-- in mode fixed
+abbrev pub FixedStartTied : Type 0
+FixedStartTied = (g : List ℕ) (c : Config) → is_fixed c.mode ≡ true → Rests g (all_started c)
 
 -- outside of mode fixed
 abbrev pub StartTied : Type 0
@@ -90,11 +119,6 @@ AckTied = (v : ViewId) (h : List ℕ) (k : ℕ) → GivenTied (body.Ack v h k)
 abbrev pub EntryTied : Type 0
 EntryTied = (v : ViewId) (h : List ℕ) (i stable : ℕ) (e : Entry) → GivenTied (body.Entry v h i stable e)
 
--- an install that is not applied: of the node's view, or of one that it did not promise or is no member of
-abbrev pub InstallLeftTied : Type 0
-InstallLeftTied =
-    (i : Install) (g : List ℕ) (w : Scene) (n : ℕ) (f : Answering) (s : Core) (from inc : ℕ) → (same_view s.views.view i.view ≡ true) ⊎ ((same_view s.views.promise i.view && is_member i.members s.views.me s.views.inc) ≡ false) → Tied g w n s → Tied g w n (view_row f s from inc (view.Install i))
-
 -- an answer that is not the last one
 abbrev pub AnswerTied : Type 0
 AnswerTied =
@@ -104,3 +128,47 @@ AnswerTied =
 abbrev pub AskTied : Type 0
 AskTied =
     (mask : Mask) (g : List ℕ) (w : Scene) (n : ℕ) (f : Answering) (s : Core) → all_answered (with_answer (opened (next_view s.views) mask) (own_answer s.views (own_parts s))) ≡ false → Tied g w n s → Tied g w n (order_row f s mask)
+
+-- the tick of views, parts (2) and (3), where others are asked too if it asks anew
+abbrev pub ViewsPartTied : Type 0
+ViewsPartTied =
+    (g : List ℕ) (w : Scene) (n : ℕ) (f : Answering) (s : Core) → ((a : RingAsk) → ring_ask s ≡ Some a → all_answered (with_answer (opened (next_view s.views) a.mask) (own_answer s.views (own_parts s))) ≡ false) → Tied g w n s → Tied g w n (views_part f s)
+
+-- INSTALL, outside of mode fixed, as the first row of a step
+abbrev pub InstallTied : Type 0
+InstallTied =
+    (i : Install) (g : List ℕ) (w : Scene) (n : ℕ) (f : Answering) (s : Core) (p : Packet) → p.body ≡ body.View (view.Install i) → Has p w.sent → s.records ≡ [] → is_fixed w.config.mode ≡ false → Tied g w n s → Tied g w n (body_row f s p (body.View (view.Install i)))
+
+-- the tick, part (4): what is owed is sent
+abbrev pub OwedPartTied : Type 0
+OwedPartTied = (g : List ℕ) (w : Scene) (n : ℕ) (s : Core) → Tied g w n s → Tied g w n (owed_part s)
+
+-- VOTE, outside of mode fixed
+abbrev pub VoteTied : Type 0
+VoteTied =
+    (v : ViewId) (h : List ℕ) (proto : ProtoId) (phase : ℕ) (q : ProviderId) (ballot : Vote) (value message : Option (List ℕ)) (g : List ℕ) (w : Scene) (n : ℕ) (f : Answering) (s : Core) (p : Packet) → is_fixed w.config.mode ≡ false → Tied g w n s → Tied g w n (body_row f s p (body.Vote v h proto phase q ballot value message))
+
+-- GONE, outside of mode fixed
+abbrev pub GoneTied : Type 0
+GoneTied =
+    (v : ViewId) (h : List ℕ) (q : ProviderId) (g : List ℕ) (w : Scene) (n : ℕ) (f : Answering) (s : Core) (p : Packet) → is_fixed w.config.mode ≡ false → Tied g w n s → Tied g w n (body_row f s p (body.Gone v h q))
+
+-- what no group sees: the tick, part (1), packets of rings, reports, questions and answers
+abbrev pub RingsPartTied : Type 0
+RingsPartTied = (g : List ℕ) (w : Scene) (n : ℕ) (s : Core) → Tied g w n s → Tied g w n (rings_part s)
+
+abbrev pub AnyTied : Body → Type 0
+AnyTied b =
+    (g : List ℕ) (w : Scene) (n : ℕ) (f : Answering) (s : Core) (p : Packet) → Tied g w n s → Tied g w n (body_row f s p b)
+
+abbrev pub RingTied : Type 0
+RingTied = (x : RingPacket) → AnyTied (body.Ring x)
+
+abbrev pub ReportTied : Type 0
+ReportTied = (rows : List ReportRow) → AnyTied (body.Report rows)
+
+abbrev pub QueryTied : Type 0
+QueryTied = (question : ℕ) (what : What) → AnyTied (body.Query question what)
+
+abbrev pub ReplyTied : Type 0
+ReplyTied = (question : ℕ) (text : List ℕ) → AnyTied (body.Reply question text)

@@ -14,6 +14,7 @@ use Rattle.name_server.specs.Names.{node_of}
 use Rattle.session_state.specs.declared.state.Provider.{Provider}
 use Rattle.session_state.specs.declared.state.Request.{Request}
 use Rattle.session_state.specs.declared.state.SessionState.{SessionState}
+use Rattle.view_exchange.specs.Longest.{NamesDiffer}
 use Rattle.view_core.specs.declared.packet.ViewPacket.{ViewPacket}
 use Rattle.view_core.specs.declared.packet.ViewPacket.TheVariants as view
 use Rattle.view_core.specs.declared.views.Views.{Views}
@@ -31,6 +32,7 @@ use Rattle.node_state.specs.Settings.{is_fixed}
 use Rattle.node_state.specs.State.{row_of, acked_from, decision_of}
 use Rattle.node_state.specs.Step.{first_view, first_members}
 use Rattle.run_safety.specs.Past.{History}
+use Rattle.run_safety.specs.ViewOrder.{Lt}
 use Rattle.run_safety.specs.Sight.{lines_with, lines_of}
 use Rattle.run_safety.specs.Group.{member, Line, Noted, Asked, Told, In, Put, kept}
 use Rattle.run_safety.specs.Group as group
@@ -43,7 +45,7 @@ use Rattle.step_ties.specs.Ghost.{Ghost, Lives, Seen, KeepsIf, CarriesIf, part_o
 abbrev pub ShowsView : Ghost → List ℕ → ℕ → ℕ → ViewPacket → Type 0
 ShowsView x g from inc (view.Prepare v mask) = Unit {0}
 ShowsView x g from inc (view.Answer v old parts) =
-    (full : List Entry) × Has (group.Answer v (record { node = from; inc = inc; view = old; list = full })) x.ps × Seen x old × CarriesIf x old full (part_of g parts)
+    (full : List Entry) × Has (group.Answer v (record { node = from; inc = inc; view = old; list = full })) x.ps × Seen x old × CarriesIf x old full (part_of g parts) × NamesDiffer parts
 ShowsView x g from inc (view.Refuse v n) = Unit {0}
 ShowsView x g from inc (view.Install i) = Installs x g i
 ShowsView x g from inc (view.Taken v) = Unit {0}
@@ -138,11 +140,12 @@ pub record Waits (x : Ghost) (v : ViewId) (list : List Entry) (l : Led) (p : Pro
   pub unbegun : (i : ℕ) (e : Entry) → slice_get list i ≡ Some e → Has (p, p.join) (carried e) → ⊥
   pub decided : Decided l p p.join
 
--- what the leader of the group keeps of requests
+-- what the leader of the group keeps of requests; in a view that it is to lead nothing was refused yet
 pub record LeaderKeeps (x : Ghost) (n inc : ℕ) (v : ViewId) (l : Led) : Type 0 where
   pub refused : (p : ProviderId) (r : ℕ) → x.leads v ≡ Some (member n inc) → Has (group.Refusal v p r) x.ps → Decided l p r
   pub begun : (p : ProviderId) (r i : ℕ) (e : Entry) → x.leads v ≡ Some (member n inc) → slice_get (x.nodes n).list i ≡ Some e → Has (p, r) (carried e) → Decided l p r
   pub waiting : (p : ProviderId) → x.leads v ≡ Some (member n inc) → among l.waiting.joins p ≡ true → Waits x v (x.nodes n).list l p
+  pub later : (u : ViewId) → Lt v u → x.leads u ≡ Some (member n inc) → (p : ProviderId) (r : ℕ) → Has (group.Refusal u p r) x.ps → ⊥
 
 -- the table of a coordinator says who leads, and of each leader; in mode fixed there is none
 pub record Names (x : Ghost) (g : List ℕ) (fixed : Bool) (n inc : ℕ) (v : ViewId) (ms : List Member) (table : List Leader) : Type 0 where
@@ -178,6 +181,10 @@ abbrev pub NodeIsIf : Config → Ghost → List ℕ → ℕ → ℕ → Option C
 NodeIsIf c x g n inc None = (x.nodes n).inc ≡ inc
 NodeIsIf c x g n inc (Some s) = NodeIs x g n s × (s.config ≡ c) × (s.views.inc ≡ inc)
 
+-- what was refused was refused in a view that was entered
+abbrev pub Refused : Ghost → Type 0
+Refused x = (v : ViewId) (p : ProviderId) (r : ℕ) → Has (group.Refusal v p r) x.ps → Seen x v
+
 -- how nodes start
 abbrev pub opening_in : Config → Mode → Opening
 opening_in c Fixed = Together (first_view c Fixed 0 1) (first_members c Fixed 0 1)
@@ -194,6 +201,7 @@ pub record Rests (g : List ℕ) (w : Scene) : Type 0 where
   pub lines : ghost.all ≡ lines_of g w.before
   pub nodes : (m : ℕ) → NodeIsIf w.config ghost g m (w.incs m) (w.cores m)
   pub packets : (p : Packet) → Has p w.sent → Shows ghost g p
+  pub refused : Refused ghost
 
 -- the lines with those of a step that has come so far
 abbrev pub lines_now : List ℕ → Scene → Core → List Line
@@ -207,3 +215,4 @@ pub record Tied (g : List ℕ) (w : Scene) (n : ℕ) (s : Core) : Type 0 where
   pub own : NodeIsIf w.config ghost g n (w.incs n) (Some s)
   pub others : (m : ℕ) → m ≢ n → NodeIsIf w.config ghost g m (w.incs m) (w.cores m)
   pub packets : (p : Packet) → Has p (s.sends ++ w.sent) → Shows ghost g p
+  pub refused : Refused ghost

@@ -1,7 +1,7 @@
 //! The step of a node, tied to the lives of groups.
 #![tactic(auto)]
 
-ghost use Rattle.step_ties.specs.Rows.{NothingTied, StartTied, StopTied, BeginTied, EndTied, TakenTied, RefuseTied, PrepareTied, AckTied, EntryTied, InstallLeftTied, AnswerTied, AskTied};
+ghost use Rattle.step_ties.specs.Rows.{NothingTied, StartTied, StopTied, BeginTied, EndTied, TakenTied, RefuseTied, PrepareTied, AckTied, EntryTied, AnswerTied, AskTied, ViewsPartTied, InstallTied, FixedStartTied, OwedPartTied, VoteTied, GoneTied, RingsPartTied, RingTied, ReportTied, QueryTied, ReplyTied};
 
 /// Before anything happened, nothing stands for the dawn of each group's life.
 #[tactic(auto, using(crate::proofs::Begins::nothing_tied))]
@@ -63,12 +63,6 @@ pub fn entry_is_tied()
     ensures { EntryTied }
 {}
 
-/// INSTALL of the node's view, or of one that it does not enter.
-#[tactic(auto, using(crate::proofs::ViewRows::install_is_tied))]
-pub fn left_install_is_tied()
-    ensures { InstallLeftTied }
-{}
-
 /// ANSWER, up to the last one.
 #[tactic(auto, using(crate::proofs::Gatherings::answer_is_tied))]
 pub fn answer_is_tied()
@@ -79,4 +73,70 @@ pub fn answer_is_tied()
 #[tactic(auto, using(crate::proofs::Gatherings::ask_is_tied))]
 pub fn ask_is_tied()
     ensures { AskTied }
+{}
+
+/// The tick of views, parts (2) and (3), where others are asked too if it asks anew.
+#[tactic(auto, using(crate::proofs::ViewTicks::views_part_tied))]
+pub fn views_part_is_tied()
+    ensures { ViewsPartTied }
+{}
+
+/// INSTALL, outside of mode fixed.
+#[tactic(auto, using(crate::proofs::Entering::install_row_tied))]
+pub fn install_is_tied()
+    ensures { InstallTied }
+{}
+
+/// Every node starts, in mode fixed.
+#[tactic(auto, using(crate::proofs::FixedStart::fixed_start_tied))]
+pub fn fixed_start_is_tied()
+    ensures { FixedStartTied }
+{}
+
+/// The tick, part (4): what is owed is sent.
+#[tactic(auto, using(crate::proofs::Owed::owed_part_tied))]
+pub fn owed_part_is_tied()
+    ensures { OwedPartTied }
+{}
+
+/// VOTE, outside of mode fixed.
+#[tactic(auto, using(crate::proofs::Votes::vote_is_tied))]
+pub fn vote_is_tied()
+    ensures { VoteTied }
+{}
+
+/// GONE, outside of mode fixed.
+#[tactic(auto, using(crate::proofs::Votes::gone_is_tied))]
+pub fn gone_is_tied()
+    ensures { GoneTied }
+{}
+
+/// The tick, part (1): rings, and reports of reach.
+#[tactic(auto, using(crate::proofs::Rings::rings_part_tied))]
+pub fn rings_part_is_tied()
+    ensures { RingsPartTied }
+{}
+
+/// A packet of a ring.
+#[tactic(auto, using(crate::proofs::Rings::ring_is_tied))]
+pub fn ring_is_tied()
+    ensures { RingTied }
+{}
+
+/// REPORT.
+#[tactic(auto, using(crate::proofs::Rings::report_is_tied))]
+pub fn report_is_tied()
+    ensures { ReportTied }
+{}
+
+/// QUERY.
+#[tactic(auto, using(crate::proofs::Rings::query_is_tied))]
+pub fn query_is_tied()
+    ensures { QueryTied }
+{}
+
+/// REPLY.
+#[tactic(auto, using(crate::proofs::Rings::reply_is_tied))]
+pub fn reply_is_tied()
+    ensures { ReplyTied }
 {}

@@ -9,3 +9,4 @@ pub mod Longest
 pub mod TailLaws
 pub mod Drops
 pub mod NameLaws
+pub mod CutLaws

@@ -11,3 +11,4 @@ pub mod Best
 pub mod Carried
 pub mod Names
 pub mod Cut
+pub mod Fitting

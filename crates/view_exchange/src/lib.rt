@@ -6,6 +6,7 @@ mod answer;
 mod base;
 mod carried;
 mod copies;
+mod cut;
 mod exchange;
 mod in_place;
 mod install;

@@ -31,11 +31,7 @@ fn nearer<'a>(last: Option<&[u8]>, best: Option<&'a [u8]>, name: &'a [u8]) -> Op
 impl Source {
     /// The least name after the last one: the nearest so far, or one of its parts.
     #[tactic(auto, using(crate::proofs::NameLaws::nearest_one_more, std::proofs::lemmas::Grind::common_steps))]
-    fn nearest_in<'a>(
-        &'a self,
-        last: Option<&[u8]>,
-        best: Option<&'a [u8]>,
-    ) -> Option<&'a [u8]>
+    fn nearest_in<'a>(&'a self, last: Option<&[u8]>, best: Option<&'a [u8]>) -> Option<&'a [u8]>
         ensures { option_copied result ≡ nearest_in (option_copied last.entry) (option_copied best.entry) self.now.parts }
     {
         let mut best = best;

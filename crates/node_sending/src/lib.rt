@@ -1,0 +1,14 @@
+//! What a node sends: the settings that say how, and the packets.
+#![tactic(auto)]
+
+mod sending;
+mod settings;
+mod views;
+mod voting;
+
+pub use sending::{send, send_entry, send_if_known, send_on};
+pub use settings::{
+    address, has_adapter, is_fixed, is_rings, shared_network, speaks_two, view_level,
+};
+pub use views::{coordinates, is_frozen, others};
+pub use voting::{send_kept_to, send_request_to, send_vote};

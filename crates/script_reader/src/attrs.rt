@@ -1,0 +1,167 @@
+//! Words that set a group's attributes.
+ghost use Rattle.std.specs.Prelude.{◌≡◌, ◌==◌};
+ghost use Rattle.std.specs.Option.{option_map};
+ghost use Rattle.std.specs.List.{list_any};
+ghost use Rattle.world_model.specs.Words.{key_number, key_word, attr_set, before_equals, after_equals, attr_words};
+ghost use Rattle.script_reader.specs.Answers.{GivesWord};
+ghost use Rattle.script_reader.specs.Attrs.{key_seen, new_key, attr_step};
+
+use crate::choices::{batch_word, default_word, phases_word};
+use crate::faults::WordFault;
+use crate::names::source_word;
+use crate::numbers::short_word;
+use crate::words::{Words, place_of};
+use group_attr::Attrs;
+use rsct_packet::List;
+use std::alloc::Global;
+
+/// An attribute that a word sets.
+#[derive(Clone, Copy)]
+enum AttrKey {
+    Phases,
+    Batch,
+    Default,
+    Limit,
+    Source,
+    SourcePhases,
+    SourceLimit,
+}
+
+#[tactic(auto, unfolding(world_model::specs::Words::key_number))]
+fn key_number(key: AttrKey) -> u8
+    ensures { result ≡ key_number (key_seen key) }
+{
+    match key {
+        AttrKey::Phases => 0,
+        AttrKey::Batch => 1,
+        AttrKey::Default => 2,
+        AttrKey::Limit => 3,
+        AttrKey::Source => 4,
+        AttrKey::SourcePhases => 5,
+        AttrKey::SourceLimit => 6,
+    }
+}
+
+#[tactic(auto, unfolding(world_model::specs::Words::key_word, world_model::specs::Words::chosen))]
+fn key_word(w: &[u8]) -> Option<AttrKey>
+    ensures { option_map key_seen result ≡ key_word w.now }
+{
+    if b"phases".as_slice() == w {
+        return Some(AttrKey::Phases);
+    }
+    if b"batch".as_slice() == w {
+        return Some(AttrKey::Batch);
+    }
+    if b"default".as_slice() == w {
+        return Some(AttrKey::Default);
+    }
+    if b"limit".as_slice() == w {
+        return Some(AttrKey::Limit);
+    }
+    if b"source".as_slice() == w {
+        return Some(AttrKey::Source);
+    }
+    if b"sphases".as_slice() == w {
+        return Some(AttrKey::SourcePhases);
+    }
+    if b"slimit".as_slice() == w {
+        return Some(AttrKey::SourceLimit);
+    }
+    None
+}
+
+/// What stands before the first `=`.
+#[tactic(auto, using(crate::proofs::EqualsLaws::before_found, crate::proofs::EqualsLaws::before_missing))]
+fn before_equals(w: &[u8]) -> &[u8]
+    ensures { result.now ≡ before_equals w.now }
+{
+    match place_of(b'=', w) {
+        None => w,
+        Some(i) => &w[..i],
+    }
+}
+
+/// What stands behind the first `=`.
+#[tactic(auto, using(crate::proofs::EqualsLaws::after_found, crate::proofs::EqualsLaws::after_missing))]
+fn after_equals(w: &[u8]) -> Option<&[u8]>
+    ensures { option_map (λ x. x.now) result ≡ after_equals w.now }
+{
+    let i = place_of(b'=', w)?;
+    Some(&w[i + 1..])
+}
+
+/// The attributes with one that the word sets.
+#[tactic(auto, unfolding(world_model::specs::Words::attr_set, crate::specs::Answers::bind_opens))]
+fn attr_set(alloc: Global, mut attrs: Attrs, key: AttrKey, w: &[u8]) -> Result<Attrs, WordFault>
+    ensures { GivesWord result (attr_set attrs (key_seen key) w.now) }
+{
+    match key {
+        AttrKey::Phases => attrs.phases = phases_word(w).ok_or(WordFault::BadWord)?,
+        AttrKey::Batch => attrs.batch = batch_word(w).ok_or(WordFault::BadWord)?,
+        AttrKey::Default => attrs.default_vote = default_word(w).ok_or(WordFault::BadWord)?,
+        AttrKey::Limit => attrs.limit = short_word(0, u16::MAX, w).ok_or(WordFault::BadWord)?,
+        AttrKey::Source => attrs.source = Some(source_word(alloc, w)?),
+        AttrKey::SourcePhases => attrs.source_phases = phases_word(w).ok_or(WordFault::BadWord)?,
+        AttrKey::SourceLimit => {
+            attrs.source_limit = short_word(0, u16::MAX, w).ok_or(WordFault::BadWord)?;
+        }
+    }
+    Ok(attrs)
+}
+
+/// The attributes that words set, and the numbers of those that are given.
+#[derive(Drop)]
+pub struct AttrsRead {
+    attrs: Attrs,
+    seen: List<u8>,
+}
+
+fn has_number(seen: &[u8], number: u8) -> bool
+    ensures { result ≡ list_any (λ n. n == number) seen.now }
+{
+    seen.iter().any(|n| *n == number)
+}
+
+fn is_seen(seen: &[u8], key: AttrKey) -> bool
+    ensures { result ≡ list_any (λ n. n == key_number (key_seen key)) seen.now }
+{
+    has_number(seen, key_number(key))
+}
+
+/// What the word sets, where it is not set yet.
+#[tactic(auto, unfolding(crate::specs::Attrs::new_key, crate::specs::Answers::bind_opens))]
+fn new_key(seen: &[u8], w: &[u8]) -> Option<AttrKey>
+    ensures { option_map key_seen result ≡ new_key seen.now w.now }
+{
+    let key = key_word(before_equals(w))?;
+    if is_seen(seen, key) { None } else { Some(key) }
+}
+
+/// With the attribute of one word more.
+#[tactic(auto, unfolding(crate::specs::Attrs::attr_step, crate::specs::Answers::bind_opens))]
+fn with_word(alloc: Global, read: AttrsRead, w: &[u8]) -> Result<AttrsRead, WordFault>
+    ensures { GivesWord result (attr_step read w.now) }
+{
+    let key = new_key(read.seen.as_slice(), w).ok_or(WordFault::BadWord)?;
+    let value = after_equals(w).ok_or(WordFault::BadWord)?;
+    let AttrsRead { attrs, mut seen } = read;
+    let attrs = attr_set(alloc, attrs, key, value)?;
+    seen.push(key_number(key))?;
+    Ok(AttrsRead { attrs, seen })
+}
+
+/// The attributes that the words set, each at most once; those that no word sets are as in a group that nobody
+/// has joined.
+#[tactic(auto, unfolding(world_model::specs::Words::attr_words), using(crate::proofs::AttrLaws::attr_more, crate::proofs::AttrLaws::attr_fails, crate::proofs::AttrLaws::attr_done))]
+pub fn attr_words(alloc: Global, words: &mut Words<'_>) -> Result<Attrs, WordFault>
+    ensures { GivesWord result (attr_words words.old) }
+{
+    let mut read = AttrsRead {
+        attrs: Attrs::empty(),
+        seen: List::new(alloc),
+    };
+    while let Some(w) = words.take() {
+        read = with_word(alloc, read, w)?;
+    }
+    Ok(read.attrs)
+}

@@ -1,0 +1,68 @@
+//! Names of a script.
+ghost use Rattle.std.specs.Prelude.{◌≡◌};
+ghost use Rattle.std.specs.List.{list_all};
+ghost use Rattle.rsct_packet.specs.Text.{name_byte};
+ghost use Rattle.world_model.specs.Words.{name_word, client_word, group_word};
+ghost use Rattle.script_reader.specs.Answers.{GivesWord};
+
+use crate::faults::WordFault;
+use rsct_packet::{List, Name};
+use std::alloc::Global;
+
+/// How many bytes the name of a client has at most.
+const MAX_CLIENT: usize = 16;
+
+/// How many bytes the name of a group has at most in a script; a session refuses those of more than 32.
+const MAX_GROUP: usize = 64;
+
+/// Is this a byte of a name?
+fn is_name_byte(b: u8) -> bool
+    ensures { result ≡ name_byte b }
+{
+    b.is_ascii_alphanumeric() || b == b'_' || b == b'-' || b == b'.'
+}
+
+/// Is each of these a byte of a name?
+fn are_name_bytes(b: &[u8]) -> bool
+    ensures { result ≡ list_all name_byte b.now }
+{
+    b.iter().all(|x| is_name_byte(*x))
+}
+
+/// The name of 1 to `most` bytes.
+#[tactic(auto, unfolding(world_model::specs::Words::name_word, world_model::specs::Words::when_true))]
+fn name_word(alloc: Global, most: usize, w: &[u8]) -> Result<List<u8>, WordFault>
+    ensures { GivesWord result (name_word most w.now) }
+{
+    if w.len() < 1 || w.len() > most || !are_name_bytes(w) {
+        return Err(WordFault::BadWord);
+    }
+    Ok(List::of(alloc, w)?)
+}
+
+/// The name of a client: 1 to 16 bytes.
+#[tactic(auto, unfolding(world_model::specs::Words::client_word))]
+pub fn client_word(alloc: Global, w: &[u8]) -> Result<List<u8>, WordFault>
+    ensures { GivesWord result (client_word w.now) }
+{
+    name_word(alloc, MAX_CLIENT, w)
+}
+
+/// The name of a group, which may be too long to be one: 1 to 64 bytes.
+#[tactic(auto, unfolding(world_model::specs::Words::group_word))]
+pub fn group_word(alloc: Global, w: &[u8]) -> Result<List<u8>, WordFault>
+    ensures { GivesWord result (group_word w.now) }
+{
+    name_word(alloc, MAX_GROUP, w)
+}
+
+/// The name of a source group: 1 to 32 bytes.
+#[tactic(auto, using(crate::proofs::NameLaws::name_is_word, crate::proofs::NameLaws::no_name_is_none))]
+pub fn source_word(alloc: Global, w: &[u8]) -> Result<Name, WordFault>
+    ensures { GivesWord result (name_word 32 w.now) }
+{
+    match Name::of(alloc, w)? {
+        None => Err(WordFault::BadWord),
+        Some(name) => Ok(name),
+    }
+}

@@ -1,0 +1,499 @@
+-- A member enters a view by its install: what its old list lacks is put, then it is in, and all rows start anew from the
+-- bases.
+use Rattle.std.proofs.Common.{◌≡◌, ◌≢◌, ◌⊎◌, ◌≤◌, ℕ, ◌+◌, suc, List, [], ◌∷◌, ◌++◌, length, take, drop, Option, Some, None, Bool, true, false, refl, sym, ap, ◌∙◌, subst, inl, inr, ⊎_elim, append_assoc, length-append, arith}
+use Rattle.std.specs.Prelude.{◌==◌, ◌&&◌, reverse, map, find, slice_get, if◌then◌else◌}
+use Rattle.std.specs.Option.{option_map}
+use Rattle.std.proofs.lemmas.Bool.{eqb-true, eq-eqb, and_parts}
+use Rattle.std.proofs.lemmas.Bool.Decides.{nat_tests}
+use Rattle.std.proofs.lemmas.List.{drop_all}
+use Rattle.rsct_packet.specs.declared.ids.ViewId.{ViewId}
+use Rattle.rsct_packet.specs.declared.ids.Member.{Member}
+use Rattle.rsct_packet.specs.declared.ids.ProviderId.{ProviderId}
+use Rattle.rsct_packet.specs.Ids.{same_view, is_member}
+use Rattle.rsct_packet.specs.Search.{Has}
+use Rattle.rsct_packet.proofs.HasLaws.{find_has, append_has_right}
+use Rattle.group_entry.specs.declared.entry.Entry.{Entry}
+use Rattle.group_entry.specs.declared.proposal.Proposal.{Proposal}
+use Rattle.proposal_core.specs.declared.group_state.GroupState.{GroupState}
+use Rattle.proposal_core.specs.GroupView.{new_list}
+use Rattle.session_state.specs.declared.state.Request.{Request}
+use Rattle.session_state.specs.declared.state.SessionState.{SessionState}
+use Rattle.session_state.specs.HandOn.{hearers}
+use Rattle.view_exchange.specs.declared.install.Source.{Source}
+use Rattle.view_exchange.specs.declared.install.Install.{Install}
+use Rattle.view_exchange.specs.declared.install.Base.{Base}
+use Rattle.view_exchange.specs.Bases.{source_at, parts_in, parts_from, bases_of, base_named}
+use Rattle.view_core.specs.declared.packet.ViewPacket.TheVariants as view
+use Rattle.view_core.specs.declared.views.Views.{Views}
+use Rattle.view_core.specs.Views.{own_install, views_entered, view_sent, installed, install_row, views_at_work}
+use Rattle.node_state.specs.declared.happened.Happened.{Happened}
+use Rattle.node_state.specs.declared.happened.Happened.TheVariants as happened
+use Rattle.node_state.specs.declared.packet.Body.TheVariants as body
+use Rattle.node_state.specs.declared.packet.Packet.{Packet}
+use Rattle.node_state.specs.declared.state.Core.{Core}
+use Rattle.node_state.specs.Settings.{is_fixed}
+use Rattle.node_state.specs.State.{nothing_led, row_found, row_of, list_of, held_rows, acked_from, recorded_all}
+use Rattle.node_state.specs.HandOn.{Answering}
+use Rattle.node_state.specs.Applying.{Lacking, lacking_in, lacking, lists_filled, level_set, base_row, base_leader, base_record, view_entered, sides_dissolved, entering_noted, taken_sent, owed_sent, entered, entered_if, install_applied, views_taken}
+use Rattle.node_state.specs.Step.{view_row, body_row}
+use Rattle.run_safety.specs.ViewOrder.{Lt, Le}
+use Rattle.run_safety.specs.Past.{earlier, view_now}
+use Rattle.run_safety.specs.Sight.{inc_in, lines_with, lines_of}
+use Rattle.run_safety.specs.Group.{member, Standing, Origin, Record, In, Put, Note, Based, Heard, Asked, Told, Line, Kept, Noted, kept, lines_from, puts_from}
+use Rattle.run_safety.specs.Group as group
+use Rattle.run_safety.specs.GroupLists.{puts_of}
+use Rattle.run_safety.specs.Bases.{base_state, state_of_list}
+use Rattle.run_safety.specs.Moves.{Quiet, based, Enters}
+use Rattle.run_safety.proofs.Order.{lt_trans}
+use Rattle.run_safety.proofs.Parts.{Entered}
+use Rattle.run_safety.proofs.Lines.{kept_lines, kept_based, has_lines, note_lines, note_based}
+use Rattle.run_safety.proofs.SightLaws.{kept_append}
+use Rattle.run_safety.proofs.Tracks.{puts_many_own, put_many, has_many}
+use Rattle.run_safety.proofs.Whole.{Whole}
+use Rattle.run_safety.proofs.Lives.{whole}
+use Rattle.step_ties.specs.Ghost.{Ghost, Lives, Goes, Keeps, CarriesIf, part_of, origin_of, BaseIsOf, Installs, InstallsIf}
+use Rattle.step_ties.specs.Tied.{ShowsBody, RowIs, Owed, Owes, LeaderKeeps, NodeOf, NodeIsIf, Scene, opening_of, lines_now, Tied}
+use Rattle.step_ties.specs.Rows.{at_node}
+use Rattle.step_ties.proofs.Goes.{Spares, seen_on, node_if_on, shows_on, installs_on}
+use Rattle.step_ties.proofs.Changed.{set_here, set_there, changes}
+use Rattle.step_ties.proofs.Works.{lines_pushed, tied_sent}
+use Rattle.step_ties.proofs.NameOrder.{is_of}
+use Rattle.step_ties.proofs.ViewRows.{same_of, before_of}
+use Rattle.step_ties.proofs.Acks.{has_member}
+use Rattle.step_ties.proofs.RowWorks.{keeps_of}
+use Rattle.step_ties.proofs.SessionLaws.{Later, later_same, hearer_has}
+use Rattle.step_ties.proofs.Arrived.{now_pushed, now_bases, Arrived, arrived_tied}
+use Rattle.step_ties.proofs.BaseOrder.{bases_ordered, row_of_base, lines_of_bases}
+use Rattle.step_ties.proofs.Sprinkled.{Sprinkled, Hearing, kept_sprinkled, has_sprinkled, had_sprinkled, sprinkled_on, sprinkled_lives}
+use Rattle.step_ties.proofs.LedGroups.{groups_led_tied}
+use Rattle.step_ties.proofs.Fills.{collected, HeardIn, Fills, fills_all, nothing_filled, lacking_is}
+
+-- ---- lists that are put
+
+put_there : (n : ℕ) (v : ViewId) (front rest : List Entry) (e : Entry) (i : ℕ) (tr : List Record) → Has (Put n v (i + length front) e) (puts_from n v i (front ++ e ∷ rest) tr)
+put_there n v [] rest e i tr =
+    let q : i + 0 ≡ i = omega arith in
+    subst (λ k. Has (Put n v k e) (puts_from n v (i + 1) rest (Put n v i e ∷ tr))) (sym q) (has_many (Put n v i e) n v (i + 1) rest (Put n v i e ∷ tr) (inl refl))
+put_there n v (x ∷ front) rest e i tr =
+    let q : (i + 1) + length front ≡ i + suc (length front) = omega arith in
+    subst (λ k. Has (Put n v k e) (puts_from n v (i + 1) (front ++ e ∷ rest) (Put n v i x ∷ tr))) q (put_there n v front rest e (i + 1) (Put n v i x ∷ tr))
+
+put_new : (n : ℕ) (u v : ViewId) (k : ℕ) (e : Entry) (i : ℕ) (es : List Entry) (tr : List Record) → Has (Put n u k e) (puts_from n v i es tr) → Has (Put n u k e) tr ⊎ Has e es
+put_new n u v k e i [] tr h = inl h
+put_new n u v k e i (x ∷ es) tr h = at (put_new n u v k e (i + 1) es (Put n v i x ∷ tr) h)
+  where
+    at : Has (Put n u k e) (Put n v i x ∷ tr) ⊎ Has e es → Has (Put n u k e) tr ⊎ Has e (x ∷ es)
+    at (inl (inl q)) = let same : e ≡ x = cc in inr (inl same)
+    at (inl (inr j)) = inl j
+    at (inr j) = inr (inr j)
+
+take_front : (xs rest : List Entry) (e : Entry) → take (length xs + 1) (xs ++ e ∷ rest) ≡ xs ++ e ∷ []
+take_front [] rest e = refl
+take_front (x ∷ xs) rest e =
+    let q : suc (length xs) + 1 ≡ suc (length xs + 1) = omega arith in
+    ap (λ k. take k (x ∷ xs ++ e ∷ rest)) q ∙ ap (λ l. x ∷ l) (take_front xs rest e)
+
+-- the incarnation in which a node is a member, where each is one in one incarnation
+inc_is : (n : ℕ) (ms : List Member) (j : ℕ) → Has (member n j) ms → Has (member n (inc_in n ms)) ms
+inc_is n [] j h = absurd h
+inc_is n (m ∷ ms) j h = by (m.node == n) refl h (inc_is n ms j)
+  where
+    by : (b : Bool) → (m.node == n) ≡ b → Has (member n j) (m ∷ ms) → (Has (member n j) ms → Has (member n (inc_in n ms)) ms) → Has (member n (if b then m.inc else inc_in n ms)) (m ∷ ms)
+    by true q h rest = let e : m.node ≡ n = eqb-true m.node n q in inl (λ i. member (sym e i) m.inc)
+    by false q (inl e) rest = absurd (let k : (m.node == n) ≡ true = eq-eqb m.node n (ap (λ (z : Member). z.node) (sym e)) in cc)
+    by false q (inr k) rest = inr (rest k)
+
+based_append : (n : ℕ) (v : ViewId) (b : Option Origin) (l : Line) (all : List Line) → based n v b (l ∷ all) ≡ based n v b (l ∷ []) ++ all
+based_append n v None l all = refl
+based_append n v (Some b) l all = refl
+
+module _ (g : List ℕ) (w : Scene) (n : ℕ) (f : Answering) (s : Core) (t : Tied g w n s) (i : Install) (xs : List Lacking) (shows : Installs t.ghost g i) (quiet : Quiet (kept t.ghost.all)) (promised : s.views.promise ≡ i.view) (lt : Lt s.views.view i.view) (among : Has (member n s.views.inc) i.members) (lacks : lacking s i ≡ Some xs) where
+  abbrev x : Ghost
+  x = t.ghost
+
+  abbrev c : Core
+  c = lists_filled f s xs
+
+  abbrev bs : List Base
+  bs = bases_of i
+
+  abbrev full : List Entry
+  full = (x.nodes n).list
+
+  abbrev es : List Entry
+  es = drop (length full) (shows.whole s.views.view)
+
+  k : Whole (opening_of w.config) x.nodes x.ps x.all x.leads x.bases
+  k = whole t.life
+
+  keeps : Keeps x s.views.view full (list_of s g)
+  unfolding list_of
+  keeps = keeps_of x s.views.view full (row_of s g).list t.own.0.row_is.list
+
+  hears : (q : ProviderId) → (y : SessionState) → Later s.sessions y → (b : GroupState) (h : List ℕ) (e : Entry) → Has q (hearers y h b e) → q.node ≡ n
+  hears q y l b h e j =
+      let a = hearer_has y h b e q j in
+      let d = l.providers a.0 a.1 in
+      ap (λ (z : ProviderId). z.node) (sym a.2 ∙ d.2) ∙ (t.own.0.owes.providers d.0 d.1).0
+
+  -- what the list lacks is the rest of the whole one
+  lacks_rest : collected g xs ≡ es
+  unfolding lacking lacking_in parts_from source_at
+  lacks_rest = by (source_at i.sources s.views.view) refl lacks
+    where
+      by : (o : Option Source) → source_at i.sources s.views.view ≡ o → lacking_in s (parts_in o) ≡ Some xs → collected g xs ≡ es
+      by None q e =
+          let bare : shows.whole s.views.view ≡ [] = shows.rest s.views.view q in
+          let z : xs ≡ [] = nothing e in
+          let short : length (shows.whole s.views.view) ≤ length full = let y = ap length bare in omega arith in
+          ap (collected g) z ∙ sym (drop_all (length full) (shows.whole s.views.view) short)
+        where
+          nothing : lacking_in s [] ≡ Some xs → xs ≡ []
+          nothing e = cc
+      by (Some src) q e =
+          let h = find_has (λ (y : Source). same_view y.view s.views.view) i.sources src q in
+          let v : src.view ≡ s.views.view = same_of src.view s.views.view h.1 in
+          lacking_is x g full (shows.whole s.views.view) s src.parts xs (shows.names src h.0) keeps (subst (λ z. CarriesIf x z (shows.whole z) (part_of g src.parts)) v (shows.parts src h.0)) e
+
+  fills : Fills g w n x s es c
+  fills =
+      subst (λ z. Fills g w n x s z c) lacks_rest (fills_all g w n x s t.own.0.stands.me hears f xs [] s (nothing_filled g w n x s t.own.0.order keeps (later_same s.sessions) (sym t.lines)))
+
+  -- the node as it stood, and as it stands
+  abbrev was : Standing
+  was = record { inc = s.views.inc; view = s.views.view; promise = s.views.promise; list = full }
+
+  abbrev now : Standing
+  now = record { inc = s.views.inc; view = i.view; promise = i.view; list = [] }
+
+  was_is : x.nodes n ≡ was
+  was_is = λ j. record { inc = t.own.0.stands.inc j; view = t.own.0.stands.view j; promise = t.own.0.stands.promise j; list = full }
+
+  abbrev nodes : ℕ → Standing
+  nodes = at_node x.nodes n now
+
+  abbrev front : List Line
+  front = based n i.view (x.bases i.view) (Kept (In n s.views.inc i.view i.members) ∷ [])
+
+  abbrev filled : List Line
+  filled = lines_from n s.views.view (length full) es x.all
+
+  abbrev tr : List Record
+  tr = kept (front ++ filled)
+
+  abbrev y : Ghost
+  y = record { nodes = nodes; ps = x.ps; all = front ++ fills.lines; leads = x.leads; bases = x.bases }
+
+  lives_bare : Lives (opening_of w.config) (record { nodes = nodes; ps = x.ps; all = front ++ filled; leads = x.leads; bases = x.bases })
+  lives_bare =
+      subst (λ z. Lives (opening_of w.config) (record { nodes = nodes; ps = x.ps; all = z; leads = x.leads; bases = x.bases })) (based_append n i.view (x.bases i.view) (Kept (In n s.views.inc i.view i.members)) filled) (Enters x.nodes nodes x.ps x.all x.leads x.bases n was i.view i.members shows.whole t.life was_is quiet t.own.0.stands.up promised lt among shows.sent (changes x.nodes n now))
+
+  kept_tr : tr ≡ In n s.views.inc i.view i.members ∷ puts_from n s.views.view (length full) es (kept x.all)
+  kept_tr =
+      ap kept (sym (based_append n i.view (x.bases i.view) (Kept (In n s.views.inc i.view i.members)) filled)) ∙ kept_based n i.view (x.bases i.view) (Kept (In n s.views.inc i.view i.members) ∷ filled) ∙ ap (λ z. In n s.views.inc i.view i.members ∷ z) (kept_lines n s.views.view (length full) es x.all)
+
+  puts_tr : puts_of n s.views.view tr ≡ full ++ es
+  puts_tr =
+      ap (puts_of n s.views.view) kept_tr ∙ puts_many_own n s.views.view (length full) es (kept x.all) ∙ ap (λ z. z ++ es) (ap (λ v. puts_of n v (kept x.all)) (sym t.own.0.stands.view) ∙ (k.good.past.seated n).list)
+
+  hearing : (a : Note) → HeardIn g w n x s es a → Hearing x.bases tr a
+  hearing a h =
+      record {
+        p = h.p;
+        v = s.views.view;
+        i = length full + length h.front;
+        e = h.e;
+        s = h.state;
+        is = h.is;
+        put = subst (λ z. Has (Put z s.views.view (length full + length h.front) h.e) tr) (sym h.own) (subst (Has (Put n s.views.view (length full + length h.front) h.e)) (sym kept_tr) (inr (subst (λ z. Has (Put n s.views.view (length full + length h.front) h.e) (puts_from n s.views.view (length full) z (kept x.all))) (sym h.split) (put_there n s.views.view h.front h.rest h.e (length full) (kept x.all)))));
+        state = h.state_is ∙ ap (state_of_list x.bases s.views.view) (sym taken);
+      }
+    where
+      taken : take (length full + length h.front + 1) (puts_of h.p.node s.views.view tr) ≡ full ++ (h.front ++ h.e ∷ [])
+      taken =
+          let a : puts_of h.p.node s.views.view tr ≡ full ++ es = ap (λ m. puts_of m s.views.view tr) h.own ∙ puts_tr in
+          let b : full ++ es ≡ (full ++ h.front) ++ h.e ∷ h.rest = ap (λ z. full ++ z) h.split ∙ sym (append_assoc full h.front (h.e ∷ h.rest)) in
+          let d : length full + length h.front ≡ length (full ++ h.front) = sym (length-append full h.front) in
+          (λ j. take (d j + 1) ((a ∙ b) j)) ∙ take_front (full ++ h.front) h.rest h.e ∙ append_assoc full h.front (h.e ∷ [])
+
+  among_lines : Sprinkled (Hearing x.bases tr) filled fills.lines
+  among_lines = sprinkled_on (HeardIn g w n x s es) (Hearing x.bases tr) hearing filled fills.lines fills.among
+
+  lives : Lives (opening_of w.config) y
+  lives =
+      sprinkled_lives (opening_of w.config) nodes x.ps x.leads x.bases tr front filled fills.lines among_lines refl lives_bare
+
+  -- ---- the lines
+
+  kept_y : kept y.all ≡ tr
+  kept_y =
+      kept_append front fills.lines ∙ ap (λ z. kept front ++ z) (kept_sprinkled (HeardIn g w n x s es) filled fills.lines fills.among) ∙ sym (kept_append front filled)
+
+  inc_there : inc_in n i.members ≡ s.views.inc
+  inc_there =
+      (k.good.past.made i.view i.members shows.whole shows.sent).single n (inc_in n i.members) s.views.inc (inc_is n i.members s.views.inc among) among
+
+  base_there : x.bases i.view ≡ option_map origin_of (base_named bs g)
+  base_there = by (base_named bs g) shows.base
+    where
+      by : (o : Option Base) → BaseIsOf x i.view i.members o → x.bases i.view ≡ option_map origin_of o
+      by None h = h
+      by (Some b) h = h.0
+
+  me_is : c.views.me ≡ n
+  me_is = ap (λ (z : Views). z.me) fills.views ∙ t.own.0.stands.me
+
+  lines : y.all ≡ lines_now g w (view_entered c i bs)
+  unfolding view_entered recorded_all base_record views_entered
+  lines =
+      let entering : Happened = happened.In c.views.me i.view i.members in
+      let a = lines_of_bases g c.views.me i.view bs (c.records ++ entering ∷ []) w.before (lines_of g w.before) (bases_ordered i) in
+      let b : lines_with g (reverse (c.records ++ entering ∷ [])) w.before (lines_of g w.before) ≡ Kept (In c.views.me (inc_in c.views.me i.members) i.view i.members) ∷ lines_now g w c = lines_pushed g c.records entering w.before (lines_of g w.before) in
+      let d : (c.records ++ entering ∷ []) ++ map (base_record (view_entered c i bs)) bs ≡ c.records ++ entering ∷ map (base_record (view_entered c i bs)) bs = append_assoc c.records (entering ∷ []) (map (base_record (view_entered c i bs)) bs) in
+      sym (based_append n i.view (x.bases i.view) (Kept (In n s.views.inc i.view i.members)) fills.lines) ∙ (λ j. based n i.view (base_there j) (Kept (In n (sym inc_there j) i.view i.members) ∷ sym fills.is j)) ∙ (λ j. based (sym me_is j) i.view (option_map origin_of (base_named bs g)) (Kept (In (sym me_is j) (inc_in (sym me_is j) i.members) i.view i.members) ∷ lines_now g w c)) ∙ ap (based c.views.me i.view (option_map origin_of (base_named bs g))) (sym b) ∙ sym a ∙ ap (λ z. lines_with g (reverse z) w.before (lines_of g w.before)) d
+
+  -- ---- what goes on
+
+  has_front : (l : Line) → Has l fills.lines → Has l y.all
+  has_front l h = append_has_right l front fills.lines h
+
+  goes : Goes x y
+  goes =
+      record {
+        packets = λ p h. h;
+        records = λ r h. subst (Has r) (sym (kept_y ∙ kept_tr)) (inr (has_many r n s.views.view (length full) es (kept x.all) h));
+        lines = λ l h. has_front l (has_sprinkled (HeardIn g w n x s es) l filled fills.lines fills.among (has_lines l n s.views.view (length full) es x.all h));
+        leads = λ v l e. e;
+        bases = λ v h. refl;
+      }
+
+  put_only : (m : ℕ) (u : ViewId) (j : ℕ) (e : Entry) → Has (Put m u j e) (kept y.all) → Has (Put m u j e) (puts_from n s.views.view (length full) es (kept x.all))
+  put_only m u j e h = at (subst (Has (Put m u j e)) (kept_y ∙ kept_tr) h)
+    where
+      at : Has (Put m u j e) (In n s.views.inc i.view i.members ∷ puts_from n s.views.view (length full) es (kept x.all)) → Has (Put m u j e) (puts_from n s.views.view (length full) es (kept x.all))
+      at (inl q) = absurd (cc)
+      at (inr z) = z
+
+  told_only : (p : ProviderId) (r : ℕ) (u : ViewId) → Has (Noted (Told p r u)) y.all → Has (Noted (Told p r u)) x.all
+  told_only p r u h = at (note_based (Told p r u) n i.view (x.bases i.view) (Kept (In n s.views.inc i.view i.members) ∷ fills.lines) (subst (Has (Noted (Told p r u))) (sym (based_append n i.view (x.bases i.view) (Kept (In n s.views.inc i.view i.members)) fills.lines)) h))
+    where
+      apart : (a : Note) → HeardIn g w n x s es a → Noted (Told p r u) ≡ Noted a → ⊥
+      apart a h q = let z : Noted (Told p r u) ≡ Noted (Heard h.p s.views.view (length full + length h.front) h.e h.state.members h.state.value) = q ∙ ap (λ k. Noted k) h.is in cc
+
+      at : ((b : Origin) × (x.bases i.view ≡ Some b) × (Told p r u ≡ Based n i.view b)) ⊎ Has (Noted (Told p r u)) (Kept (In n s.views.inc i.view i.members) ∷ fills.lines) → Has (Noted (Told p r u)) x.all
+      at (inl q) = absurd (let z = q.2 in cc)
+      at (inr (inl q)) = absurd (cc)
+      at (inr (inr h)) = note_lines (Told p r u) n s.views.view (length full) es x.all (had_sprinkled (HeardIn g w n x s es) (Noted (Told p r u)) apart filled fills.lines fills.among h)
+
+  spares : (m : ℕ) → m ≢ n → Spares x y m
+  spares m ne =
+      record {
+        goes = goes;
+        list = ap (λ (z : Standing). z.list) (set_there x.nodes n now m ne);
+        leads = λ v. refl;
+        refusals = λ v p r h. h;
+        puts = λ u j e h. ⊎_elim (λ (a : Has (Put m u j e) (kept x.all)). a) (λ (b : (n ≡ m) × (s.views.view ≡ u)). absurd (ne (sym b.0))) (put_many m n u s.views.view j e (length full) es (kept x.all) (put_only m u j e h));
+        told = λ p r u e h. told_only p r u h;
+      }
+
+  -- ---- the node
+
+  here : nodes n ≡ now
+  here = set_here x.nodes n now
+
+  -- it is not the coordinator, which has entered already
+  apart : i.view.coord ≡ n → i.view.inc ≡ s.views.inc → ⊥
+  apart a b = at (subst (λ m. Entered (x.nodes m) i.view.inc i.view) a (k.good.inv.packet (group.Install i.view i.members shows.whole) shows.sent).used)
+    where
+      inc : (x.nodes n).inc ≡ s.views.inc
+      inc = t.own.0.stands.inc
+
+      before : Lt (x.nodes n).view i.view
+      before = subst (λ z. Lt z i.view) (sym t.own.0.stands.view) lt
+
+      at : Entered (x.nodes n) i.view.inc i.view → ⊥
+      at (inl l) = omega arith
+      at (inr l) = let z : Le i.view (x.nodes n).view = l.1 in let d = before in absurd (cc)
+
+  row_new : (o : Option Base) → BaseIsOf x i.view i.members o → RowIs y n i.view i.members (row_found g (option_map base_row o))
+  unfolding base_row acked_from
+  row_new None h =
+      record { list = (ap (λ (z : Standing). z.list) here, h); stable = inl refl; leader = tt; acked = λ m j a. inl refl }
+  row_new (Some b) h =
+      record {
+        list = subst (λ z. Keeps y i.view z (new_list b.state)) (sym (ap (λ (z : Standing). z.list) here)) (record { starts = z_le; len = refl; entries = refl; state = ap base_state (sym h.0) });
+        stable = inl refl;
+        leader = (h.1.0, h.1.1, h.1.2);
+        acked = λ m j a. inl refl;
+      }
+    where
+      z_le : 0 ≤ 0
+      z_le = omega arith
+
+  led_new : (o : Option Base) → (row_found g (option_map base_row o)).led ≡ nothing_led
+  unfolding base_row
+  led_new None = refl
+  led_new (Some b) = refl
+
+  decides_new : LeaderKeeps y n s.views.inc i.view nothing_led
+  decides_new =
+      record {
+        refused = λ p r q h. absurd (t.own.0.decides.later i.view lt q p r h);
+        begun = λ p r j e q h. absurd (empty (y.nodes n).list (ap (λ (z : Standing). z.list) here) j e h);
+        waiting = λ p q h. absurd (cc);
+        later = λ u l q p r h. t.own.0.decides.later u (lt_trans s.views.view i.view u lt l) q p r h;
+      }
+    where
+      empty : (l : List Entry) → l ≡ [] → (j : ℕ) (e : Entry) → slice_get l j ≡ Some e → ⊥
+      empty [] q j e h = cc
+      empty (d ∷ l) q j e h = cc
+
+  owed_new : (q : Request) → Has q c.sessions.requests → q.group ≡ g → Owed y n s.views.inc q
+  owed_new q h same =
+      let o = t.own.0.owes.requests q (fills.later.requests q h) same in
+      record {
+        node = o.node;
+        inc_of = o.inc_of;
+        asked = goes.lines (Noted (Asked q.p q.r q.proposal)) o.asked;
+        unput = λ u j e a b. ⊎_elim (λ (d : Has (Put n u j e) (kept x.all)). o.unput u j e d b) (λ (d : Has e es). fills.gone q e h d b) (put_new n u s.views.view j e (length full) es (kept x.all) (put_only n u j e a));
+        untold = λ u a. o.untold u (told_only q.p q.r u a);
+      }
+
+  owes_new : Owes y g n s.views.inc (level_set c i.members)
+  unfolding level_set
+  owes_new =
+      let o = t.own.0.owes in
+      record {
+        me = fills.later.me ∙ o.me;
+        inc_of = fills.later.inc ∙ o.inc_of;
+        providers = λ q h. let a = fills.later.providers q h in let b = o.providers a.0 a.1 in (ap (λ (z : ProviderId). z.node) a.2 ∙ b.0, ap (λ (z : ProviderId). z.inc) a.2 ∙ b.1);
+        requests = owed_new;
+      }
+
+  node_new : (fixed : Bool) → NodeOf y g n fixed (views_entered s.views i) (row_found g (option_map base_row (base_named bs g))) (map base_row bs) (level_set c i.members) (map base_leader bs)
+  unfolding views_entered own_install
+  node_new fixed =
+      record {
+        stands = record {
+          me = t.own.0.stands.me;
+          up = t.own.0.stands.up;
+          inc = ap (λ (z : Standing). z.inc) here;
+          view = ap (λ (z : Standing). z.view) here;
+          promise = ap (λ (z : Standing). z.promise) here;
+          seated = subst (Has (In n s.views.inc i.view i.members)) (sym (kept_y ∙ kept_tr)) (inl refl);
+        };
+        row_is = row_new (base_named bs g) shows.base;
+        order = bases_ordered i;
+        gathering = tt;
+        install = kept_install (i.view.coord == s.views.me && i.view.inc == s.views.inc);
+        owes = owes_new;
+        decides = subst (LeaderKeeps y n s.views.inc i.view) (sym (led_new (base_named bs g))) decides_new;
+        names = record { named = λ m a b d e. absurd (apart a b); unnamed = λ a b d e. absurd (apart a b) };
+      }
+    where
+      kept_install : (b : Bool) → InstallsIf y g (elim b as (λ _. Option Install) [ true ↦ Some i | false ↦ None ])
+      kept_install true = installs_on x y goes g i shows
+      kept_install false = tt
+
+  own : NodeIsIf w.config y g n (w.incs n) (Some (view_entered c i bs))
+  unfolding view_entered recorded_all row_of views_entered
+  own =
+      let a : NodeOf y g n (is_fixed c.config.mode) (views_entered s.views i) (row_found g (find (is_of g) (map base_row bs))) (map base_row bs) (level_set c i.members) (map base_leader bs) = subst (λ z. NodeOf y g n (is_fixed c.config.mode) (views_entered s.views i) (row_found g z) (map base_row bs) (level_set c i.members) (map base_leader bs)) (sym (row_of_base g bs)) (node_new (is_fixed c.config.mode)) in
+      let b : NodeOf y g n (is_fixed c.config.mode) (views_entered c.views i) (row_found g (find (is_of g) (map base_row bs))) (map base_row bs) (level_set c i.members) (map base_leader bs) = subst (λ z. NodeOf y g n (is_fixed c.config.mode) (views_entered z i) (row_found g (find (is_of g) (map base_row bs))) (map base_row bs) (level_set c i.members) (map base_leader bs)) (sym fills.views) a in
+      (b, fills.config ∙ t.own.1, ap (λ (z : Views). z.inc) fills.views ∙ t.own.2)
+
+  -- nothing was asked in the view
+  unasked : (p : ProviderId) (r : ℕ) (a : Proposal) → p.node ≡ n → p.inc ≡ s.views.inc → Has (group.Request i.view p r a) x.ps → ⊥
+  unasked p r a mine same h = at (subst (λ m. Entered (x.nodes m) p.inc i.view) mine (k.good.inv.records (In p.node p.inc i.view entry.0) entry.1))
+    where
+      entry : (ms : List Member) × Has (In p.node p.inc i.view ms) (kept x.all)
+      entry = (k.once.sent i.view p r a h).0
+
+      inc : (x.nodes n).inc ≡ s.views.inc
+      inc = t.own.0.stands.inc
+
+      before : Lt (x.nodes n).view i.view
+      before = subst (λ z. Lt z i.view) (sym t.own.0.stands.view) lt
+
+      at : Entered (x.nodes n) p.inc i.view → ⊥
+      at (inl l) = omega arith
+      at (inr l) = let z : Le i.view (x.nodes n).view = l.1 in let d = before in absurd (cc)
+
+  seen : view_now n (earlier (reverse (view_entered c i bs).records) w.before) ≡ Some i.view
+  unfolding view_entered recorded_all base_record views_entered
+  seen =
+      let entering : Happened = happened.In c.views.me i.view i.members in
+      let d : (c.records ++ entering ∷ []) ++ map (base_record (view_entered c i bs)) bs ≡ c.records ++ entering ∷ map (base_record (view_entered c i bs)) bs = append_assoc c.records (entering ∷ []) (map (base_record (view_entered c i bs)) bs) in
+      ap (λ z. view_now n (earlier (reverse z) w.before)) (sym d) ∙ now_bases n c.views.me i.view bs (c.records ++ entering ∷ []) w.before ∙ now_pushed n c.records entering w.before ∙ ap (λ b. if b then Some i.view else view_now n (earlier (reverse c.records) w.before)) (eq-eqb c.views.me n me_is)
+
+  -- the view is entered, and its rows are those of the bases
+  pub enters_arrived : Arrived g w n (view_entered c i bs)
+  unfolding view_entered recorded_all views_entered
+  enters_arrived =
+      record {
+        tied = record {
+          ghost = y;
+          life = lives;
+          lines = lines;
+          own = own;
+          others = λ m ne. node_if_on x y m (spares m ne) (set_there x.nodes n now m ne) w.config g (w.incs m) (w.cores m) (t.others m ne);
+          packets = λ p h. shows_on x y goes g p (t.packets p (subst (λ z. Has p (z ++ w.sent)) fills.sends h));
+          refused = λ u q r h. seen_on x y goes u (t.refused u q r h);
+        };
+        unasked = λ p r a m e h. unasked p r a m (e ∙ ap (λ (z : Views). z.inc) fills.views) h;
+        seen = seen;
+        thawed = refl;
+      }
+
+-- no node put anything since the event began
+quiet_now : (g : List ℕ) (w : Scene) (s : Core) → s.records ≡ [] → Quiet (kept (lines_now g w s))
+quiet_now g w s none =
+    subst (λ rs. Quiet (kept (lines_with g (reverse rs) w.before (lines_of g w.before)))) (sym none) (record { at = λ m u. refl })
+
+-- an install that is applied
+enters_row : (i : Install) (xs : List Lacking) (g : List ℕ) (w : Scene) (n : ℕ) (f : Answering) (s : Core) (p : Packet) → p.body ≡ body.View (view.Install i) → Has p w.sent → s.records ≡ [] → is_fixed w.config.mode ≡ false → same_view s.views.view i.view ≡ false → (same_view s.views.promise i.view && is_member i.members s.views.me s.views.inc) ≡ true → lacking s i ≡ Some xs → Tied g w n s → Tied g w n (entered f s i xs)
+unfolding entered entered_if
+enters_row i xs g w n f s p is delivered none free other may lacks t =
+    let k = arrived_tied g w n (view_entered (lists_filled f s xs) i (bases_of i)) (held_rows (lists_filled f s xs)) (lists_filled f s xs).views.view (bases_of i) (enters_arrived g w n f s t i xs shown (subst (λ l. Quiet (kept l)) (sym t.lines) (quiet_now g w s none)) promised lt among lacks) in
+    groups_led_tied g w n (owed_sent (taken_sent (entering_noted (sides_dissolved (view_entered (lists_filled f s xs) i (bases_of i)) (held_rows (lists_filled f s xs)) (lists_filled f s xs).views.view (bases_of i)) (bases_of i)))) f k.1 free k.0
+  where
+    shown : Installs t.ghost g i
+    shown = subst (ShowsBody t.ghost g p.from p.inc) is (t.packets p (append_has_right p s.sends w.sent delivered))
+
+    parts : (same_view s.views.promise i.view ≡ true) × (is_member i.members s.views.me s.views.inc ≡ true)
+    parts = and_parts (same_view s.views.promise i.view) (is_member i.members s.views.me s.views.inc) may
+
+    promised : s.views.promise ≡ i.view
+    promised = same_of s.views.promise i.view parts.0
+
+    below : Le s.views.view s.views.promise
+    below =
+        let k : Whole (opening_of w.config) t.ghost.nodes t.ghost.ps t.ghost.all t.ghost.leads t.ghost.bases = whole t.life in
+        subst (λ (z : ViewId × ViewId). Le z.0 z.1) (λ j. (t.own.0.stands.view j, t.own.0.stands.promise j)) (k.good.inv.node n).below
+
+    lt : Lt s.views.view i.view
+    lt = before_of s.views.view i.view (subst (Le s.views.view) promised below) (λ (e : i.view ≡ s.views.view). not_same e)
+      where
+        same_self : (v : ViewId) → same_view v v ≡ false → ⊥
+        same_self v e = grind (arith, nat_tests)
+
+        not_same : i.view ≡ s.views.view → ⊥
+        not_same e = let z : same_view s.views.view s.views.view ≡ false = subst (λ v. same_view s.views.view v ≡ false) e other in same_self s.views.view z
+
+    among : Has (member n s.views.inc) i.members
+    among = subst (λ m. Has (member m s.views.inc) i.members) t.own.0.stands.me (has_member i.members s.views.me s.views.inc parts.1)
+
+-- INSTALL
+pub install_row_tied : (i : Install) (g : List ℕ) (w : Scene) (n : ℕ) (f : Answering) (s : Core) (p : Packet) → p.body ≡ body.View (view.Install i) → Has p w.sent → s.records ≡ [] → is_fixed w.config.mode ≡ false → Tied g w n s → Tied g w n (body_row f s p (body.View (view.Install i)))
+unfolding body_row view_row views_taken install_applied entered_if install_row installed view_sent
+install_row_tied i g w n f s p is delivered none free t =
+    by (same_view s.views.view i.view) (same_view s.views.promise i.view && is_member i.members s.views.me s.views.inc) refl refl
+  where
+    lists : (o : Option (List Lacking)) → same_view s.views.view i.view ≡ false → (same_view s.views.promise i.view && is_member i.members s.views.me s.views.inc) ≡ true → lacking s i ≡ o → Tied g w n (entered_if f s i o)
+    lists None b c q = t
+    lists (Some xs) b c q = enters_row i xs g w n f s p is delivered none free b c q t
+
+    by : (b c : Bool) → same_view s.views.view i.view ≡ b → (same_view s.views.promise i.view && is_member i.members s.views.me s.views.inc) ≡ c → Tied g w n (views_taken f s (installed (views_at_work s.views) i b c))
+    by true c a d = tied_sent g w n s t i.view.coord (body.View (view.Taken i.view)) tt
+    by false false a d = t
+    by false true a d = lists (lacking s i) a d refl

@@ -1,0 +1,161 @@
+-- What is owed is sent: outstanding requests, GONE, and votes.
+use Rattle.std.proofs.Common.{◌≡◌, ◌⊎◌, ◌<◌, ℕ, List, [], ◌∷◌, ◌++◌, Option, Some, None, Bool, true, false, refl, sym, ap, ◌∙◌, subst, inl, inr, ⊎_elim, arith}
+use Rattle.std.specs.Prelude.{filter, fold}
+use Rattle.rsct_packet.specs.declared.ids.ViewId.{ViewId}
+use Rattle.rsct_packet.specs.declared.ids.ProviderId.{ProviderId}
+use Rattle.rsct_packet.specs.Search.{Has}
+use Rattle.group_entry.specs.declared.entry.Entry.{Entry}
+use Rattle.proposal_core.specs.Fold.{runs, present}
+use Rattle.proposal_core.specs.Lists.{state_in}
+use Rattle.client_callbacks.specs.declared.ballot.Filled.{Filled}
+use Rattle.session_state.specs.declared.state.KeptBallot.{KeptBallot}
+use Rattle.session_state.specs.declared.state.Request.{Request}
+use Rattle.session_state.specs.declared.state.SessionState.{SessionState}
+use Rattle.node_state.specs.declared.group.GroupRow.{GroupRow}
+use Rattle.node_state.specs.declared.packet.Body.{Body}
+use Rattle.node_state.specs.declared.packet.Body.TheVariants as body
+use Rattle.node_state.specs.declared.packet.Packet.{Packet}
+use Rattle.node_state.specs.declared.state.Core.{Core}
+use Rattle.node_state.specs.Settings.{is_fixed}
+use Rattle.node_state.specs.State.{row_of, state_of, frozen, leader_of, held_rows}
+use Rattle.node_state.specs.Sending.{sent, sent_on, packet_on, network_to, sent_if_known, request_to, request_sent, requests_sent, vote_of, kept_sent_to, kept_sent, kept_sent_if, kept_sent_again, votes_sent_again}
+use Rattle.node_state.specs.Ticks.{is_lost, lost_told, owed_part}
+use Rattle.run_safety.specs.Group.{Put, kept}
+use Rattle.run_safety.specs.Group as group
+use Rattle.run_safety.specs.Requests.{carried}
+use Rattle.run_safety.specs.Moves.{Requests}
+use Rattle.step_ties.specs.Ghost.{Ghost, Goes}
+use Rattle.step_ties.specs.Tied.{Shows, ShowsBody, Owed, Scene, Tied}
+use Rattle.step_ties.proofs.Goes.{Spares, shows_on, node_on}
+use Rattle.step_ties.proofs.Changed.{has_pushed}
+use Rattle.step_ties.proofs.Works.{tied_on, tied_sent}
+use Rattle.step_ties.proofs.Gone.{with_packet, packet_goes, packet_spares}
+use Rattle.step_ties.proofs.NameOrder.{cases_text}
+
+module _ (g : List ℕ) (w : Scene) (n : ℕ) where
+  -- a request of the group, to its leader
+  request_own : (s : Core) (q : Request) (to : ℕ) (t : Tied g w n s) → Owed t.ghost n s.views.inc q → Tied g w n (sent s to (body.Request s.views.view q.group q.p q.r q.phases q.proposal))
+  unfolding row_of sent sent_on packet_on
+  request_own s q to t owed =
+      let x : Ghost = t.ghost in
+      let h = t.own.0 in
+      let r : group.Packet = group.Request (x.nodes n).view q.p q.r q.proposal in
+      let y : Ghost = with_packet x r in
+      let p : Packet = packet_on s (network_to s to) to (body.Request s.views.view q.group q.p q.r q.phases q.proposal) in
+      let up : 0 < (x.nodes n).inc = subst (λ k. 0 < k) (sym h.stands.inc) h.stands.up in
+      let o : Goes x y = packet_goes x r in
+      let spares : (m : ℕ) → Spares x y m = λ m. packet_spares x r m (λ e. absurd (omega arith)) in
+      let new : Shows y g p = λ e. inl (ap (λ v. group.Request v q.p q.r q.proposal) (sym h.stands.view)) in
+      let unput : (u : ViewId) (k : ℕ) (e : Entry) → Has (Put q.p.node u k e) (kept x.all) → Has (q.p, q.r) (carried e) → ⊥ = λ u k e i c. owed.unput u k e (subst (λ m. Has (Put m u k e) (kept x.all)) owed.node i) c in
+      tied_on g w n s t (sent s to (body.Request s.views.view q.group q.p q.r q.phases q.proposal)) y (Requests x.nodes x.ps x.all x.leads x.bases q.p q.r q.proposal (x.nodes n) t.life (ap x.nodes owed.node) up (h.stands.inc ∙ sym owed.inc_of) owed.asked unput owed.untold) t.lines (node_on x y n (spares n) refl g (is_fixed s.config.mode) s.views (row_of s g) s.groups s.sessions s.names h, t.own.1, t.own.2) (λ m ne. spares m) (λ m ne. refl) (λ q i. ⊎_elim (λ (e : q ≡ p). subst (Shows y g) (sym e) new) (λ (k : Has q (s.sends ++ w.sent)). shows_on x y o g q (t.packets q k)) (has_pushed q p s.sends w.sent i))
+
+  pub request_tied : (s : Core) (q : Request) → Has q s.sessions.requests → Tied g w n s → Tied g w n (request_sent s q)
+  unfolding request_sent request_to
+  request_tied s q h t = by (frozen s)
+    where
+      at : (o : Option ℕ) → Tied g w n (request_to s q o)
+      at None = tied_sent g w n s t s.views.view.coord (body.Lookup s.views.view q.group) tt
+      at (Some m) =
+          ⊎_elim (λ (e : q.group ≡ g). request_own s q m t (t.own.0.owes.requests q h e)) (λ (ne : q.group ≡ g → ⊥). tied_sent g w n s t m (body.Request s.views.view q.group q.p q.r q.phases q.proposal) (λ e. absurd (ne e))) (cases_text q.group g)
+
+      by : (b : Bool) → Tied g w n (elim b as (λ _. Core) [ true ↦ s | false ↦ request_to s q (leader_of s q.group) ])
+      by true = t
+      by false = at (leader_of s q.group)
+
+  request_stays : (s : Core) (q : Request) → ((request_sent s q).sessions ≡ s.sessions) × ((request_sent s q).views ≡ s.views)
+  unfolding request_sent request_to sent sent_on
+  request_stays s q = by (frozen s)
+    where
+      at : (o : Option ℕ) → ((request_to s q o).sessions ≡ s.sessions) × ((request_to s q o).views ≡ s.views)
+      at None = (refl, refl)
+      at (Some m) = (refl, refl)
+
+      by : (b : Bool) → ((elim b as (λ _. Core) [ true ↦ s | false ↦ request_to s q (leader_of s q.group) ]).sessions ≡ s.sessions) × ((elim b as (λ _. Core) [ true ↦ s | false ↦ request_to s q (leader_of s q.group) ]).views ≡ s.views)
+      by true = (refl, refl)
+      by false = at (leader_of s q.group)
+
+  requests_views : (qs : List Request) (s : Core) → (fold request_sent s qs).views ≡ s.views
+  requests_views [] s = refl
+  requests_views (q ∷ qs) s = requests_views qs (request_sent s q) ∙ (request_stays s q).1
+
+  requests_fold : (qs : List Request) (s : Core) → ((q : Request) → Has q qs → Has q s.sessions.requests) → Tied g w n s → Tied g w n (fold request_sent s qs)
+  requests_fold [] s all t = t
+  requests_fold (q ∷ qs) s all t =
+      requests_fold qs (request_sent s q) (λ r h. subst (λ (z : SessionState). Has r z.requests) (sym (request_stays s q).0) (all r (inr h))) (request_tied s q (all q (inl refl)) t)
+
+  pub requests_tied : (s : Core) → Tied g w n s → Tied g w n (requests_sent s)
+  unfolding requests_sent
+  requests_tied s t = requests_fold s.sessions.requests s (λ q h. h) t
+
+  -- what no group sees goes to a node, if it is known
+  known_tied : (s : Core) (o : Option ℕ) (b : Body) → ((x : Ghost) → ShowsBody x g s.views.me s.views.inc b) → Tied g w n s → Tied g w n (sent_if_known s o b)
+  unfolding sent_if_known
+  known_tied s None b ok t = t
+  known_tied s (Some m) b ok t = tied_sent g w n s t m b (ok t.ghost)
+
+  kept_tied : (s : Core) (k : KeptBallot) → Tied g w n s → Tied g w n (kept_sent_again s k)
+  unfolding kept_sent_again kept_sent_if kept_sent kept_sent_to vote_of
+  kept_tied s k t = by (runs k.proto k.phase (state_of s k.group).running) k.ballot.filled
+    where
+      filled : (b : Option Filled) → Tied g w n (kept_sent_to s k (leader_of s k.group) b)
+      filled None = t
+      filled (Some b) = known_tied s (leader_of s k.group) (vote_of s k.group k.proto k.phase k.p b) (λ x. tt) t
+
+      by : (c : Bool) (b : Option Filled) → Tied g w n (kept_sent_if s k c)
+      by false b = t
+      by true b = filled k.ballot.filled
+
+  kept_fold : (ks : List KeptBallot) (s : Core) → Tied g w n s → Tied g w n (fold kept_sent_again s ks)
+  kept_fold [] s t = t
+  kept_fold (k ∷ ks) s t = kept_fold ks (kept_sent_again s k) (kept_tied s k t)
+
+  kept_views : (s : Core) (k : KeptBallot) → (kept_sent_again s k).views ≡ s.views
+  unfolding kept_sent_again kept_sent_if kept_sent kept_sent_to vote_of sent_if_known sent sent_on
+  kept_views s k = by (runs k.proto k.phase (state_of s k.group).running)
+    where
+      known : (o : Option ℕ) (b : Filled) → (kept_sent_to s k o (Some b)).views ≡ s.views
+      known None b = refl
+      known (Some m) b = refl
+
+      filled : (b : Option Filled) → (kept_sent_to s k (leader_of s k.group) b).views ≡ s.views
+      filled None = refl
+      filled (Some b) = known (leader_of s k.group) b
+
+      by : (c : Bool) → (kept_sent_if s k c).views ≡ s.views
+      by false = refl
+      by true = filled k.ballot.filled
+
+  kept_views_all : (ks : List KeptBallot) (s : Core) → (fold kept_sent_again s ks).views ≡ s.views
+  kept_views_all [] s = refl
+  kept_views_all (k ∷ ks) s = kept_views_all ks (kept_sent_again s k) ∙ kept_views s k
+
+  -- the view stays
+  pub owed_views : (s : Core) → (votes_sent_again (requests_sent s)).views ≡ s.views
+  unfolding votes_sent_again requests_sent
+  owed_views s =
+      kept_views_all (fold request_sent s s.sessions.requests).sessions.kept (fold request_sent s s.sessions.requests) ∙ requests_views s.sessions.requests s
+
+  pub votes_tied : (s : Core) → Tied g w n s → Tied g w n (votes_sent_again s)
+  unfolding votes_sent_again
+  votes_tied s t = kept_fold s.sessions.kept s t
+
+  lost_fold : (h : List ℕ) (ps : List ProviderId) (s : Core) → Tied g w n s → Tied g w n (fold (λ (t : Core) p. sent_if_known t (leader_of t h) (body.Gone t.views.view h p)) s ps)
+  lost_fold h [] s t = t
+  lost_fold h (p ∷ ps) s t =
+      lost_fold h ps (sent_if_known s (leader_of s h) (body.Gone s.views.view h p)) (known_tied s (leader_of s h) (body.Gone s.views.view h p) (λ x. tt) t)
+
+  rows_fold : (rows : List GroupRow) (s : Core) → Tied g w n s → Tied g w n (fold lost_told s rows)
+  unfolding lost_told
+  rows_fold [] s t = t
+  rows_fold (row ∷ rows) s t =
+      rows_fold rows (lost_told s row) (lost_fold row.name (filter (is_lost s) (present (state_in row.list))) s t)
+
+-- the tick, part (4)
+pub owed_part_tied : (g : List ℕ) (w : Scene) (n : ℕ) (s : Core) → Tied g w n s → Tied g w n (owed_part s)
+unfolding owed_part
+owed_part_tied g w n s t = by (frozen s)
+  where
+    by : (b : Bool) → Tied g w n (elim b as (λ _. Core) [ true ↦ s | false ↦ votes_sent_again (fold lost_told (requests_sent s) (held_rows (requests_sent s))) ])
+    by true = t
+    by false =
+        votes_tied g w n (fold lost_told (requests_sent s) (held_rows (requests_sent s))) (rows_fold g w n (held_rows (requests_sent s)) (requests_sent s) (requests_tied g w n s t))

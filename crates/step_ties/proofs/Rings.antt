@@ -1,0 +1,112 @@
+-- What no group sees: rings, reports, and questions.
+use Rattle.std.proofs.Common.{ℕ, List, [], ◌∷◌, Option, Some, None, Bool, true, false, refl, sym, subst}
+use Rattle.std.specs.Prelude.{◌==◌, not, filter, find, fold}
+use Rattle.std.proofs.lemmas.List.{append-nil}
+use Rattle.rsct_packet.specs.declared.mask.Mask.{Mask}
+use Rattle.rsct_packet.specs.Mask.{nodes_of}
+use Rattle.packet_bodies.specs.declared.body.ReportRow.{ReportRow}
+use Rattle.packet_bodies.specs.declared.body.What.{What}
+use Rattle.adapter_ring.specs.declared.ring.Ring.{Ring}
+use Rattle.adapter_ring.specs.declared.ring.RingSet.{RingSet}
+use Rattle.adapter_ring.specs.declared.packet.RingSend.{RingSend}
+use Rattle.adapter_ring.specs.declared.packet.RingPacket.{RingPacket}
+use Rattle.adapter_ring.specs.declared.packet.RingEvent.TheVariants as ring_event
+use Rattle.adapter_ring.specs.declared.work.RingWork.{RingWork}
+use Rattle.adapter_ring.specs.Rings.{ring_stepped}
+use Rattle.node_reach.specs.declared.reach.Reach.{Reach}
+use Rattle.node_reach.specs.Reach as reach
+use Rattle.node_state.specs.declared.happened.Happened.TheVariants as happened
+use Rattle.node_state.specs.declared.packet.Body.{Body}
+use Rattle.node_state.specs.declared.packet.Body.TheVariants as body
+use Rattle.node_state.specs.declared.packet.Packet.{Packet}
+use Rattle.node_state.specs.declared.state.Core.{Core}
+use Rattle.node_state.specs.Settings.{is_rings}
+use Rattle.node_state.specs.State.{row_of, recorded, recorded_all}
+use Rattle.node_state.specs.Sending.{sent, sent_on, sent_all}
+use Rattle.node_state.specs.HandOn.{Answering}
+use Rattle.node_state.specs.Ticks.{ring_put, set_records, ring_taken, ring_row_of, ring_row, report_row, rings_union, report_of, report_sent, rings_tick, rings_part}
+use Rattle.node_state.specs.Status.{status_text}
+use Rattle.node_state.specs.Step.{body_row}
+use Rattle.step_ties.specs.Ghost.{Ghost}
+use Rattle.step_ties.specs.Tied.{ShowsBody, Scene, Tied}
+use Rattle.step_ties.proofs.Works.{tied_sent_on, tied_sent, tied_unseen}
+
+module _ (g : List ℕ) (w : Scene) (n : ℕ) where
+  -- rings and reach are no group's
+  rings_set : (s : Core) (rings : List Ring) → Tied g w n s → Tied g w n (record s { rings = rings })
+  unfolding row_of
+  rings_set s rings t = record { ghost = t.ghost; life = t.life; lines = t.lines; own = t.own; others = t.others; packets = t.packets; refused = t.refused }
+
+  reach_set : (s : Core) (r : Reach) → Tied g w n s → Tied g w n (record s { reach = r })
+  unfolding row_of
+  reach_set s r t = record { ghost = t.ghost; life = t.life; lines = t.lines; own = t.own; others = t.others; packets = t.packets; refused = t.refused }
+
+  sends_tied : (xs : List RingSend) (s : Core) → Tied g w n s → Tied g w n (fold (λ u (x : RingSend). sent_on u x.network x.to (body.Ring x.packet)) s xs)
+  sends_tied [] s t = t
+  sends_tied (x ∷ xs) s t =
+      sends_tied xs (sent_on s x.network x.to (body.Ring x.packet)) (tied_sent_on g w n s t x.network x.to (body.Ring x.packet) tt)
+
+  ring_tied : (s : Core) (x : RingWork) → Tied g w n s → Tied g w n (ring_taken s x)
+  unfolding ring_taken set_records recorded_all recorded
+  ring_tied s x t = by x.set
+    where
+      sent_now : Core
+      sent_now = fold (λ u (x : RingSend). sent_on u x.network x.to (body.Ring x.packet)) (record s { rings = ring_put s.rings x.ring }) x.sends
+
+      now : Tied g w n sent_now
+      now = sends_tied x.sends (record s { rings = ring_put s.rings x.ring }) (rings_set s (ring_put s.rings x.ring) t)
+
+      by : (o : Option RingSet) → Tied g w n (recorded_all sent_now (set_records s.views.me x.ring.net o))
+      by None = subst (λ z. Tied g w n (record sent_now { records = z })) (sym (append-nil sent_now.records)) now
+      by (Some r) = tied_unseen g w n sent_now now (happened.Ring s.views.me x.ring.net r.id r.members r.neighbour) (λ rs. refl)
+
+  rings_fold : (rs : List Ring) (s : Core) → Tied g w n s → Tied g w n (fold (λ u (r : Ring). ring_taken u (ring_stepped r ring_event.Tick)) s rs)
+  rings_fold [] s t = t
+  rings_fold (r ∷ rs) s t =
+      rings_fold rs (ring_taken s (ring_stepped r ring_event.Tick)) (ring_tied s (ring_stepped r ring_event.Tick) t)
+
+  -- what shows nothing is sent to many
+  all_sent : (ns : List ℕ) (s : Core) (b : Body) → ((x : Ghost) (me inc : ℕ) → ShowsBody x g me inc b) → Tied g w n s → Tied g w n (sent_all s ns b)
+  unfolding sent_all
+  all_sent [] s b ok t = t
+  all_sent (m ∷ ns) s b ok t = all_sent ns (sent s m b) b ok (tied_sent g w n s t m b (ok t.ghost s.views.me s.views.inc))
+
+  report_tied : (s : Core) (m : Mask) → Tied g w n s → Tied g w n (report_sent s m)
+  unfolding report_sent
+  report_tied s m t =
+      let d : Core = record s { reach = reach.own_set s.reach m } in
+      all_sent (filter (λ k. not (k == s.views.me)) (nodes_of m)) d (body.Report (report_of d.reach)) (λ x me inc. tt) (reach_set s (reach.own_set s.reach m) t)
+
+-- the tick, part (1)
+pub rings_part_tied : (g : List ℕ) (w : Scene) (n : ℕ) (s : Core) → Tied g w n s → Tied g w n (rings_part s)
+unfolding rings_part rings_tick
+rings_part_tied g w n s t = by (is_rings s.config.mode)
+  where
+    ticked : Core
+    ticked = fold (λ u (r : Ring). ring_taken u (ring_stepped r ring_event.Tick)) s s.rings
+
+    by : (b : Bool) → Tied g w n (elim b as (λ _. Core) [ true ↦ report_sent ticked (rings_union ticked.rings) | false ↦ s ])
+    by true = report_tied g w n ticked (rings_union ticked.rings) (rings_fold g w n s.rings s t)
+    by false = t
+
+pub ring_is_tied : (x : RingPacket) (g : List ℕ) (w : Scene) (n : ℕ) (f : Answering) (s : Core) (p : Packet) → Tied g w n s → Tied g w n (body_row f s p (body.Ring x))
+unfolding body_row ring_row ring_row_of
+ring_is_tied x g w n f s p t = by (find (λ (r : Ring). r.net == p.network) s.rings)
+  where
+    by : (o : Option Ring) → Tied g w n (ring_row_of s p.from p.inc x o)
+    by None = t
+    by (Some r) = ring_tied g w n s (ring_stepped r (ring_event.Packet p.from p.inc x)) t
+
+pub report_is_tied : (rows : List ReportRow) (g : List ℕ) (w : Scene) (n : ℕ) (f : Answering) (s : Core) (p : Packet) → Tied g w n s → Tied g w n (body_row f s p (body.Report rows))
+unfolding body_row report_row
+report_is_tied rows g w n f s p t = reach_set g w n s (report_row s rows).reach t
+
+-- questions and answers
+pub query_is_tied : (question : ℕ) (what : What) (g : List ℕ) (w : Scene) (n : ℕ) (f : Answering) (s : Core) (p : Packet) → Tied g w n s → Tied g w n (body_row f s p (body.Query question what))
+unfolding body_row
+query_is_tied question what g w n f s p t =
+    tied_sent_on g w n s t p.network p.from (body.Reply question (status_text s what)) tt
+
+pub reply_is_tied : (question : ℕ) (text : List ℕ) (g : List ℕ) (w : Scene) (n : ℕ) (f : Answering) (s : Core) (p : Packet) → Tied g w n s → Tied g w n (body_row f s p (body.Reply question text))
+unfolding body_row
+reply_is_tied question text g w n f s p t = t
