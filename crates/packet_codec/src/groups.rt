@@ -11,9 +11,7 @@ use client_callbacks::Why;
 use group_attr::Phases;
 use packet_bodies::{read_ack, read_gone, read_group, read_leader, read_lookup};
 use proposal_core::{Entry, ProposalRef, Vote, read_proposal};
-use rsct_packet::{
-    read_optional_bytes, read_proto, read_provider, read_u8, read_u16, read_u32,
-};
+use rsct_packet::{read_optional_bytes, read_proto, read_provider, read_u8, read_u16, read_u32};
 
 #[tactic(auto, unfolding(node_state::specs::Bodies::body_at), using(crate::proofs::WholeLaws::whole_made))]
 pub fn lookup_body(b: &[u8]) -> Option<BodyRef<'_>>

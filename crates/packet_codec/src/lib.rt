@@ -8,7 +8,6 @@ mod rings;
 mod views;
 mod writing;
 
-
 pub use laws::packets_are_read_again;
 pub use packet::{BodyRef, PacketRef};
 pub use writing::write_packet;

@@ -5,8 +5,7 @@ ghost use Rattle.node_state.specs.Bytes.{packet_of};
 ghost use Rattle.packet_codec.specs.InPlace.{body_in, packet_in};
 
 use crate::groups::{
-    ack_body, entry_body, gone_body, leader_body, lookup_body, request_body, tell_body,
-    vote_body,
+    ack_body, entry_body, gone_body, leader_body, lookup_body, request_body, tell_body, vote_body,
 };
 use crate::rings::{
     commit_body, death_body, heartbeat_body, join_body, proclaim_body, ptc_ack_body, ptc_body,

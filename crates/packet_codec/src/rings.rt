@@ -6,8 +6,7 @@ ghost use Rattle.packet_codec.specs.InPlace.{body_in};
 use crate::packet::BodyRef;
 use adapter_ring::RingPacket;
 use packet_bodies::{
-    read_death, read_mask_body, read_query, read_reply, read_report, read_ring_body,
-    read_ring_mask,
+    read_death, read_mask_body, read_query, read_reply, read_report, read_ring_body, read_ring_mask,
 };
 
 #[tactic(auto, unfolding(node_state::specs::Bodies::body_at), using(crate::proofs::WholeLaws::whole_made))]

@@ -8,12 +8,12 @@ ghost use Rattle.packet_codec.specs.Spelled.{IsRingBody, IsViewBody, IsWhy, IsBo
 use adapter_ring::RingPacket;
 use client_callbacks::Why;
 use group_attr::Phases;
+use group_entry::optional_bytes;
 use node_state::{Body, Packet};
 use packet_bodies::{
     Death, GroupRef, Leader, Prepare, Query, Refuse, RingMask, put_death, put_group, put_leader,
     put_prepare, put_query, put_refuse, put_reply, put_report, put_ring_mask,
 };
-use group_entry::optional_bytes;
 use proposal_core::Vote;
 use rsct_packet::{
     Head, NoMemory, put_mask, put_optional_bytes, put_proto, put_provider, put_ring, put_u8,
