@@ -2,7 +2,8 @@
 ghost use Rattle.std.specs.Prelude.{◌≡◌, Option, option_map, option_copied};
 ghost use Rattle.rsct_packet.specs.Reading.{Gives};
 ghost use Rattle.group_attr.specs.Codec.{phases_at};
-ghost use Rattle.node_state.specs.Bodies.{body_at, has_phases, why_at, why_data_at, vote_of};
+ghost use Rattle.node_state.specs.Bodies.{body_at, has_phases, request_at, why_at, why_data_at, tell_at, vote_of, vote_at};
+ghost use Rattle.packet_bodies.specs.Body.{whole_of};
 ghost use Rattle.packet_codec.specs.InPlace.{body_in};
 ghost use Rattle.group_entry.specs.ProposalCodec.{proposal_in};
 
@@ -12,6 +13,17 @@ use group_attr::Phases;
 use packet_bodies::{read_ack, read_gone, read_group, read_leader, read_lookup};
 use proposal_core::{Entry, ProposalRef, Vote, read_proposal};
 use rsct_packet::{read_optional_bytes, read_proto, read_provider, read_u8, read_u16, read_u32};
+
+/// What was read, where nothing is left after it.
+fn whole<'a>(read: Option<(BodyRef<'a>, &'a [u8])>) -> Option<BodyRef<'a>>
+    ensures { option_map body_in result ≡ whole_of (option_map (λ x. (body_in x.0, x.1.now)) read.entry) }
+{
+    let (x, rest) = read?;
+    if !rest.is_empty() {
+        return None;
+    }
+    Some(x)
+}
 
 #[tactic(auto, unfolding(node_state::specs::Bodies::body_at), using(crate::proofs::WholeLaws::whole_made))]
 pub fn lookup_body(b: &[u8]) -> Option<BodyRef<'_>>
@@ -51,25 +63,35 @@ fn has_phases(phases: Phases, x: &ProposalRef<'_>) -> bool
     }
 }
 
-#[tactic(auto, unfolding(node_state::specs::Bodies::body_at, node_state::specs::Bodies::request_at, node_state::specs::Bodies::is_request))]
-pub fn request_body(b: &[u8]) -> Option<BodyRef<'_>>
-    ensures { option_map body_in result ≡ body_at 16 b.now }
+#[tactic(auto, unfolding(node_state::specs::Bodies::request_at, node_state::specs::Bodies::is_request))]
+fn read_request(b: &[u8]) -> Option<(BodyRef<'_>, &[u8])>
+    ensures { option_map (λ x. (body_in x.0, x.1.now)) result ≡ request_at b.now }
 {
     let (group, b) = read_group(b)?;
     let (p, b) = read_provider(b)?;
     let (r, b) = read_u32(b)?;
     let (phases, b) = read_phases(b)?;
     let (proposal, b) = read_proposal(b)?;
-    if !has_phases(phases, &proposal) || !b.is_empty() {
+    if !has_phases(phases, &proposal) {
         return None;
     }
-    Some(BodyRef::Request {
-        group,
-        p,
-        r,
-        phases,
-        proposal,
-    })
+    Some((
+        BodyRef::Request {
+            group,
+            p,
+            r,
+            phases,
+            proposal,
+        },
+        b,
+    ))
+}
+
+#[tactic(auto, unfolding(node_state::specs::Bodies::body_at))]
+pub fn request_body(b: &[u8]) -> Option<BodyRef<'_>>
+    ensures { option_map body_in result ≡ body_at 16 b.now }
+{
+    whole(read_request(b))
 }
 
 /// What a refusal's code has behind it.
@@ -109,18 +131,22 @@ fn read_why(b: &[u8]) -> Option<(Why, &[u8])>
     read_why_data(code, b)
 }
 
-#[tactic(auto, unfolding(node_state::specs::Bodies::body_at, node_state::specs::Bodies::tell_at))]
-pub fn tell_body(b: &[u8]) -> Option<BodyRef<'_>>
-    ensures { option_map body_in result ≡ body_at 17 b.now }
+#[tactic(auto, unfolding(node_state::specs::Bodies::tell_at))]
+fn read_tell(b: &[u8]) -> Option<(BodyRef<'_>, &[u8])>
+    ensures { option_map (λ x. (body_in x.0, x.1.now)) result ≡ tell_at b.now }
 {
     let (group, b) = read_group(b)?;
     let (p, b) = read_provider(b)?;
     let (r, b) = read_u32(b)?;
     let (why, b) = read_why(b)?;
-    if !b.is_empty() {
-        return None;
-    }
-    Some(BodyRef::Tell { group, p, r, why })
+    Some((BodyRef::Tell { group, p, r, why }, b))
+}
+
+#[tactic(auto, unfolding(node_state::specs::Bodies::body_at))]
+pub fn tell_body(b: &[u8]) -> Option<BodyRef<'_>>
+    ensures { option_map body_in result ≡ body_at 17 b.now }
+{
+    whole(read_tell(b))
 }
 
 #[tactic(auto, unfolding(node_state::specs::Bodies::body_at, node_state::specs::Bodies::entry_at), using(crate::proofs::WholeLaws::whole_made))]
@@ -157,9 +183,9 @@ fn vote_of(n: u8) -> Option<Vote>
     }
 }
 
-#[tactic(auto, unfolding(node_state::specs::Bodies::body_at, node_state::specs::Bodies::vote_at))]
-pub fn vote_body(b: &[u8]) -> Option<BodyRef<'_>>
-    ensures { option_map body_in result ≡ body_at 20 b.now }
+#[tactic(auto, unfolding(node_state::specs::Bodies::vote_at))]
+fn read_vote(b: &[u8]) -> Option<(BodyRef<'_>, &[u8])>
+    ensures { option_map (λ x. (body_in x.0, x.1.now)) result ≡ vote_at b.now }
 {
     let (group, b) = read_group(b)?;
     let (proto, b) = read_proto(b)?;
@@ -169,18 +195,25 @@ pub fn vote_body(b: &[u8]) -> Option<BodyRef<'_>>
     let vote = vote_of(n)?;
     let (value, b) = read_optional_bytes(b)?;
     let (message, b) = read_optional_bytes(b)?;
-    if !b.is_empty() {
-        return None;
-    }
-    Some(BodyRef::Vote {
-        group,
-        proto,
-        phase,
-        p,
-        vote,
-        value,
-        message,
-    })
+    Some((
+        BodyRef::Vote {
+            group,
+            proto,
+            phase,
+            p,
+            vote,
+            value,
+            message,
+        },
+        b,
+    ))
+}
+
+#[tactic(auto, unfolding(node_state::specs::Bodies::body_at))]
+pub fn vote_body(b: &[u8]) -> Option<BodyRef<'_>>
+    ensures { option_map body_in result ≡ body_at 20 b.now }
+{
+    whole(read_vote(b))
 }
 
 #[tactic(auto, unfolding(node_state::specs::Bodies::body_at), using(crate::proofs::WholeLaws::whole_made))]

@@ -1,5 +1,7 @@
 //! Writing packets: each is taken to the end of `out` by its one spelling.
 ghost use Rattle.std.specs.Prelude.{◌≡◌, ◌++◌, OnOk, OnErr, IfOk};
+ghost use Rattle.rsct_packet.specs.Fields.{u8_text, bytes_text, AreShort};
+ghost use Rattle.rsct_packet.specs.Format.{OptionFits, optional_text};
 ghost use Rattle.group_attr.specs.Codec.{phases_number};
 ghost use Rattle.node_state.specs.Bodies.{why_code, why_data_text, vote_number, kind_of, ring_kind, view_kind, ring_body_text, view_body_text, named_text, body_text};
 ghost use Rattle.node_state.specs.Bytes.{head_of, bytes_of};
@@ -16,7 +18,7 @@ use packet_bodies::{
 };
 use proposal_core::Vote;
 use rsct_packet::{
-    Head, NoMemory, put_mask, put_optional_bytes, put_proto, put_provider, put_ring, put_u8,
+    Head, NoMemory, Text, put_mask, put_optional_bytes, put_proto, put_provider, put_ring, put_u8,
     put_u16, put_u32, put_view, write_head, write_head2,
 };
 use std::alloc::Global;
@@ -119,6 +121,22 @@ fn put_why_data(out: &mut Vec<u8>, why: &Why) -> Result<(), NoMemory>
     }
 }
 
+/// A vote with its value and its message.
+fn put_filled(
+    out: &mut Vec<u8>,
+    vote: Vote,
+    value: &Option<Text>,
+    message: &Option<Text>,
+) -> Result<(), NoMemory>
+    requires value { OptionFits AreShort value.now }
+    requires message { OptionFits AreShort message.now }
+    ensures { OnOk result (out.new.items ≡ out.old.items ++ (u8_text (vote_number vote) ++ (optional_text bytes_text value.now ++ optional_text bytes_text message.now))) }
+{
+    put_u8(out, vote_number(vote))?;
+    put_optional_bytes(out, optional_bytes(value))?;
+    put_optional_bytes(out, optional_bytes(message))
+}
+
 /// The body of a packet.
 #[tactic(auto, unfolding(node_state::specs::Bodies::body_text, packet_bodies::specs::Body::leader_text, packet_bodies::specs::Body::query_text, packet_bodies::specs::Group::reply_text))]
 fn put_body(alloc: Global, out: &mut Vec<u8>, body: &Body) -> Result<(), NoMemory>
@@ -194,9 +212,7 @@ fn put_body(alloc: Global, out: &mut Vec<u8>, body: &Body) -> Result<(), NoMemor
             put_proto(out, *proto)?;
             put_u16(out, *phase)?;
             put_provider(out, *p)?;
-            put_u8(out, vote_number(*vote))?;
-            put_optional_bytes(out, optional_bytes(value))?;
-            put_optional_bytes(out, optional_bytes(message))
+            put_filled(out, *vote, value, message)
         }
         Body::Gone { view, name, p } => {
             put_group(out, &GroupRef::new(*view, name.bytes()))?;
