@@ -1,15 +1,16 @@
 -- Each packet that has a spelling is read again.
-use Rattle.std.proofs.Common.{◌≡◌, ℕ, ◌<◌, Bool, true, false, cond, List, [], ◌++◌, length, Option, Some, None, refl, sym, ap, ◌∙◌, append-nil, arith, eqb-true}
-use Rattle.std.specs.Prelude.{IsTrue, ◌&&◌, ◌==◌}
+use Rattle.std.proofs.Common.{◌≡◌, ℕ, ◌<◌, ◌≤◌, Bool, true, false, cond, List, [], ◌++◌, length, Option, Some, None, refl, sym, ap, ◌∙◌, append-nil, arith, eqb-true}
+use Rattle.std.specs.Prelude.{IsTrue, ◌&&◌, ◌==◌, nat_le}
 use Rattle.std.specs.Option.{option_map}
 use Rattle.std.specs.Int.{w8, w32}
 use Rattle.rsct_packet.specs.declared.ids.ProviderId.{ProviderId}
 use Rattle.rsct_packet.specs.Reading.{both_at, made_at, decoded_at, number_at, optional_at}
 use Rattle.rsct_packet.specs.Format.{IsFormat, IsVariant}
 use Rattle.rsct_packet.specs.Fields.{u8_text, u32_text, IsU32, IsProvider, provider_at, provider_text}
-use Rattle.rsct_packet.specs.Packet.{is_front, PacketView, packet_text}
+use Rattle.rsct_packet.specs.Packet.{is_kind, is_network, is_sender, is_level, is_head, is_front, PacketView, IsPacket, packet_text}
 use Rattle.rsct_packet.proofs.FormatLaws.{both_format, decoded_format, fits_format, optional_format, choice_format, keyed_of, or_variant, no_variant, made_variant, plain_variant, u8_format, u16_format, u32_format}
-use Rattle.rsct_packet.proofs.FieldLaws.{bytes_format, mask_format, ring_format, view_format, provider_format, proto_format}
+use Rattle.std.proofs.lemmas.Bool.{leb-true}
+use Rattle.rsct_packet.proofs.FieldLaws.{and_true, bytes_format, mask_format, ring_format, view_format, provider_format, proto_format}
 use Rattle.rsct_packet.proofs.PacketLaws.{packet_again}
 use Rattle.packet_bodies.specs.declared.body.Query.{Query}
 use Rattle.packet_bodies.specs.Group.{GroupIn, IsGroup, group_at, group_text, reply_at}
@@ -171,3 +172,14 @@ packet_read_again p h =
     let passes : IsTrue (is_front (record { head = head_of p; level = p.level; body_len = length (body_text p.body) })) = rw (h.head, h.level) refl in
     ap packet_in (packet_again view (record { front = record { passes = passes; inc = h.inc; body_len = h.short }; domain = h.domain }))
     ∙ ap (option_map (with_body view)) (body_again p.body h.body)
+
+-- a packet's kind is one of 1 to 23
+pub has_kind : (p : PacketView) → IsPacket p → (1 ≤ p.head.kind) × (p.head.kind ≤ 23)
+unfolding is_front is_head
+has_kind p h =
+    let a = and_true (is_head p.head) (is_level p.level p.head.kind) h.front.passes in
+    let b = and_true (is_kind p.head.kind && is_network p.head.network && is_sender p.head.from p.head.inc) (nat_le p.head.to 32) a.0 in
+    let c = and_true (is_kind p.head.kind && is_network p.head.network) (is_sender p.head.from p.head.inc) b.0 in
+    let d = and_true (is_kind p.head.kind) (is_network p.head.network) c.0 in
+    let k = and_true (nat_le 1 p.head.kind) (nat_le p.head.kind 23) d.0 in
+    (leb-true 1 p.head.kind k.0, leb-true p.head.kind 23 k.1)

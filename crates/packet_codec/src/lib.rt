@@ -11,3 +11,6 @@ mod writing;
 pub use laws::packets_are_read_again;
 pub use packet::{BodyRef, PacketRef};
 pub use writing::write_packet;
+
+#[cfg(test)]
+mod tests;

@@ -1,5 +1,5 @@
 //! A packet in place: what a daemon reads off a datagram.
-ghost use Rattle.std.specs.Prelude.{◌≡◌, Option, option_map};
+ghost use Rattle.std.specs.Prelude.{◌≡◌, ◌≤◌, Option, option_map};
 ghost use Rattle.node_state.specs.Bodies.{body_at};
 ghost use Rattle.node_state.specs.Bytes.{packet_of};
 ghost use Rattle.packet_codec.specs.InPlace.{body_in, packet_in};
@@ -88,8 +88,10 @@ pub struct PacketRef<'a> {
     pub body: BodyRef<'a>,
 }
 
-/// The body of a packet of this kind.
+/// The body of a packet of this kind, which is one of 1 to 23.
 fn read_body(kind: u8, b: &[u8]) -> Option<BodyRef<'_>>
+    requires low { 1 ≤ kind }
+    requires high { kind ≤ 23 }
     ensures { option_map body_in result ≡ body_at kind b.now }
 {
     match kind {
@@ -116,7 +118,7 @@ fn read_body(kind: u8, b: &[u8]) -> Option<BodyRef<'_>>
         21 => gone_body(b),
         22 => query_body(b),
         23 => reply_body(b),
-        _ => None,
+        _ => unreachable!(),
     }
 }
 
