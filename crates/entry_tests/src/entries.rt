@@ -1,9 +1,14 @@
 //! The spelling of a proposal and of an entry of each kind, and the calls that take memory.
+ghost use Rattle.std.specs.Prelude.{IfOk};
+ghost use Rattle.rsct_packet.specs.Fields.{AreShort};
+ghost use Rattle.rsct_packet.specs.Format.{OptionFits};
+ghost use Rattle.group_entry.specs.ProposalCodec.{IsProposal};
+ghost use Rattle.group_entry.specs.EntryCodec.{IsEntry};
+
 use group_entry::{Entry, Proposal, copy_text, optional_bytes, optional_text_of};
-use rsct_packet::Fields;
+use rsct_packet::{Fields, NoMemory};
 use std::alloc::Global;
 use std::process::Abort;
-use std::test::Fail;
 
 // 1.1.1.1 joins with empty attributes, at length 7 of the source's list
 fn join() -> &'static [u8] {
@@ -97,63 +102,126 @@ fn late() -> &'static [u8] {
     ]
 }
 
-fn proposal_again(rt: &impl Abort, alloc: Global, spelled: &[u8]) -> Result<(), Fail> {
+/// The proposal of these bytes, to their end; none where they spell none.
+fn proposal_of(alloc: Global, spelled: &[u8]) -> Result<Option<Proposal>, NoMemory>
+    ensures { IfOk result (λ o. OptionFits IsProposal o) }
+{
     let mut f = Fields::new(spelled);
-    let Some(read) = Proposal::read(&mut f) else {
-        assert!(rt; false);
-        return Ok(());
-    };
-    assert_eq!(rt; f.rest().len(), 0);
-    let copy = read.own(alloc)?.copy(alloc)?;
+    match Proposal::read(&mut f) {
+        None => Ok(None),
+        Some(read) => Ok(Some(read.own(alloc)?)),
+    }
+}
+
+/// The spelling of an equal proposal.
+fn proposal_bytes(alloc: Global, x: &Proposal) -> Result<Vec<u8>, NoMemory>
+    requires { IsProposal x.now }
+{
+    let copy = x.copy(alloc)?;
     let mut out = Vec::new(alloc);
     copy.write(alloc, &mut out)?;
-    assert_eq!(rt; out.as_slice(), spelled);
-    assert_eq!(rt; copy.len(), u32::try_from(spelled.len()).ok());
-    Ok(())
+    Ok(out)
+}
+
+/// The length that is counted for a proposal.
+fn proposal_len(x: &Proposal) -> Option<u32> {
+    x.len()
+}
+
+/// Is what is read of a spelling spelled so again, and of its length?
+fn is_proposal_again(alloc: Global, spelled: &[u8]) -> Result<bool, NoMemory> {
+    match proposal_of(alloc, spelled)? {
+        None => Ok(false),
+        Some(x) => {
+            let bytes = proposal_bytes(alloc, &x)?;
+            Ok(bytes.as_slice() == spelled && proposal_len(&x) == u32::try_from(spelled.len()).ok())
+        }
+    }
+}
+
+/// What is read of a spelling is spelled so again, and has its length.
+fn proposal_again(rt: &impl Abort, alloc: Global, spelled: &[u8]) {
+    assert!(rt; is_proposal_again(alloc, spelled).expect(rt, "memory"));
 }
 
 #[test]
-fn proposals_are_spelled_and_read(rt: HostRuntime) -> Result<(), Fail> {
+fn proposals_are_spelled_and_read(rt: HostRuntime) {
     let alloc = rt.alloc();
-    proposal_again(&rt, alloc, join())?;
-    proposal_again(&rt, alloc, leave())?;
-    proposal_again(&rt, alloc, fail())?;
-    proposal_again(&rt, alloc, expel())?;
-    proposal_again(&rt, alloc, state())?;
-    proposal_again(&rt, alloc, message())?;
-    proposal_again(&rt, alloc, attributes())?;
-    proposal_again(&rt, alloc, reflect())
+    proposal_again(&rt, alloc, join());
+    proposal_again(&rt, alloc, leave());
+    proposal_again(&rt, alloc, fail());
+    proposal_again(&rt, alloc, expel());
+    proposal_again(&rt, alloc, state());
+    proposal_again(&rt, alloc, message());
+    proposal_again(&rt, alloc, attributes());
+    proposal_again(&rt, alloc, reflect());
 }
 
-fn entry_again(rt: &impl Abort, alloc: Global, spelled: &[u8]) -> Result<(), Fail> {
-    let Some(read) = Entry::read(spelled) else {
-        assert!(rt; false);
-        return Ok(());
-    };
-    let copy = read.own(alloc)?.copy(alloc)?;
+/// The entry of these bytes; none where they spell none.
+fn entry_of(alloc: Global, spelled: &[u8]) -> Result<Option<Entry>, NoMemory>
+    ensures { IfOk result (λ o. OptionFits IsEntry o) }
+{
+    match Entry::read(spelled) {
+        None => Ok(None),
+        Some(read) => Ok(Some(read.own(alloc)?)),
+    }
+}
+
+/// The spelling of an equal entry.
+fn entry_bytes(alloc: Global, e: &Entry) -> Result<Vec<u8>, NoMemory>
+    requires { IsEntry e.now }
+{
+    let copy = e.copy(alloc)?;
     let mut out = Vec::new(alloc);
     copy.write(alloc, &mut out)?;
-    assert_eq!(rt; out.as_slice(), spelled);
-    assert_eq!(rt; copy.len(), u32::try_from(spelled.len()).ok());
-    Ok(())
+    Ok(out)
+}
+
+/// The length that is counted for an entry.
+fn entry_len(e: &Entry) -> Option<u32> {
+    e.len()
+}
+
+/// Is what is read of a spelling spelled so again, and of its length?
+fn is_entry_again(alloc: Global, spelled: &[u8]) -> Result<bool, NoMemory> {
+    match entry_of(alloc, spelled)? {
+        None => Ok(false),
+        Some(e) => {
+            let bytes = entry_bytes(alloc, &e)?;
+            Ok(bytes.as_slice() == spelled && entry_len(&e) == u32::try_from(spelled.len()).ok())
+        }
+    }
+}
+
+/// What is read of a spelling is spelled so again, and has its length.
+fn entry_again(rt: &impl Abort, alloc: Global, spelled: &[u8]) {
+    assert!(rt; is_entry_again(alloc, spelled).expect(rt, "memory"));
 }
 
 #[test]
-fn entries_are_spelled_and_read(rt: HostRuntime) -> Result<(), Fail> {
+fn entries_are_spelled_and_read(rt: HostRuntime) {
     let alloc = rt.alloc();
-    entry_again(&rt, alloc, once())?;
-    entry_again(&rt, alloc, begin())?;
-    entry_again(&rt, alloc, phase())?;
-    entry_again(&rt, alloc, approve())?;
-    entry_again(&rt, alloc, reject())?;
-    entry_again(&rt, alloc, late())
+    entry_again(&rt, alloc, once());
+    entry_again(&rt, alloc, begin());
+    entry_again(&rt, alloc, phase());
+    entry_again(&rt, alloc, approve());
+    entry_again(&rt, alloc, reject());
+    entry_again(&rt, alloc, late());
 }
 
-#[test]
-fn texts_are_copied(rt: HostRuntime) -> Result<(), Fail> {
-    let alloc = rt.alloc();
-    let text = optional_text_of(alloc, Some(b"red".as_slice()))?;
+/// Is an equal text to this one, which is there, these bytes?
+fn is_copied(alloc: Global, bytes: &[u8]) -> Result<bool, NoMemory>
+    requires { AreShort bytes.now }
+{
+    let text = optional_text_of(alloc, Some(bytes))?;
     let copy = copy_text(alloc, &text)?;
-    assert_eq!(rt; optional_bytes(&copy), Some(b"red".as_slice()));
-    Ok(())
+    match optional_bytes(&copy) {
+        None => Ok(false),
+        Some(b) => Ok(b == bytes),
+    }
+}
+
+#[test]
+fn texts_are_copied(rt: HostRuntime) {
+    assert!(rt; is_copied(rt.alloc(), b"red").expect(&rt, "memory"));
 }

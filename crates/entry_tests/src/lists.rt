@@ -1,9 +1,12 @@
 //! The spellings of states, and the calls that take memory.
+ghost use Rattle.std.specs.Prelude.{IfOk};
+ghost use Rattle.rsct_packet.specs.Format.{OptionFits};
+ghost use Rattle.proposal_core.specs.StateCodec.{IsState};
+
 use proposal_core::{Entry, GroupList, GroupState};
-use rsct_packet::{Fields, ProviderId, ViewId};
+use rsct_packet::{Fields, NoMemory, ProviderId, ViewId};
 use std::alloc::Global;
 use std::process::Abort;
-use std::test::Fail;
 
 const VIEW: ViewId = ViewId {
     number: 1,
@@ -72,89 +75,131 @@ fn new_list(alloc: Global) -> GroupList {
     GroupList::new(alloc, GroupState::empty(alloc))
 }
 
-fn state_again(rt: &impl Abort, alloc: Global, spelled: &[u8]) -> Result<(), Fail> {
+/// The state at the front of these bytes; none where they spell none.
+fn state_of(alloc: Global, spelled: &[u8]) -> Result<Option<GroupState>, NoMemory>
+    ensures { IfOk result (λ o. OptionFits IsState o) }
+{
     let mut f = Fields::new(spelled);
-    let Some(read) = GroupState::read(&mut f) else {
-        assert!(rt; false);
-        return Ok(());
-    };
-    assert_eq!(rt; read.bytes(), spelled);
-    let copy = read.own(alloc)?.copy(alloc)?;
+    match GroupState::read(&mut f) {
+        None => Ok(None),
+        Some(read) => Ok(Some(read.own(alloc)?)),
+    }
+}
+
+/// Is this the whole spelling of the state at its front?
+fn is_whole(spelled: &[u8]) -> bool {
+    let mut f = Fields::new(spelled);
+    match GroupState::read(&mut f) {
+        None => false,
+        Some(read) => read.bytes() == spelled,
+    }
+}
+
+/// The spelling of an equal state.
+fn state_bytes(alloc: Global, s: &GroupState) -> Result<Vec<u8>, NoMemory>
+    requires { IsState s.now }
+{
+    let copy = s.copy(alloc)?;
     let mut out = Vec::new(alloc);
     copy.write(alloc, &mut out)?;
-    assert_eq!(rt; out.as_slice(), spelled);
-    Ok(())
+    Ok(out)
+}
+
+/// Is what is read of a spelling spelled so again?
+fn is_state_again(alloc: Global, spelled: &[u8]) -> Result<bool, NoMemory> {
+    match state_of(alloc, spelled)? {
+        None => Ok(false),
+        Some(s) => Ok(state_bytes(alloc, &s)?.as_slice() == spelled),
+    }
+}
+
+/// What is read of a spelling is spelled so again.
+fn state_again(rt: &impl Abort, alloc: Global, spelled: &[u8]) {
+    assert!(rt; is_whole(spelled));
+    assert!(rt; is_state_again(alloc, spelled).expect(rt, "memory"));
 }
 
 #[test]
-fn states_are_spelled_and_read(rt: HostRuntime) -> Result<(), Fail> {
+fn states_are_spelled_and_read(rt: HostRuntime) {
     let alloc = rt.alloc();
-    state_again(&rt, alloc, idle())?;
-    state_again(&rt, alloc, running())
+    state_again(&rt, alloc, idle());
+    state_again(&rt, alloc, running());
 }
 
-fn entry_of(rt: &impl Abort, alloc: Global, spelled: &[u8]) -> Result<Entry, Fail> {
-    let read = Entry::read(spelled);
-    assert!(rt; read.is_some());
-    Ok(read.unwrap().own(alloc)?)
+/// The entry of these bytes; none where they spell none.
+fn read_entry(alloc: Global, spelled: &[u8]) -> Result<Option<Entry>, NoMemory> {
+    match Entry::read(spelled) {
+        None => Ok(None),
+        Some(read) => Ok(Some(read.own(alloc)?)),
+    }
 }
 
-// puts an entry, and answers its place
-fn put(rt: &impl Abort, alloc: Global, list: &mut GroupList, e: Entry) -> Result<u32, Fail> {
+/// The entry of these bytes.
+fn entry_of(rt: &impl Abort, alloc: Global, spelled: &[u8]) -> Entry {
+    let e = read_entry(alloc, spelled).expect(rt, "memory");
+    e.expect(rt, "an entry")
+}
+
+/// The state of a group after its first entry.
+#[tactic(auto, unfolding(proposal_core::specs::Fold::joiners_fit, proposal_core::specs::Fold::joiners_fit_at))]
+fn first_state(rt: &impl Abort, alloc: Global, e: &Entry) -> GroupState {
+    let mut s = GroupState::empty(alloc);
+    assert!(rt; s.fits(e));
+    s.apply(alloc, VIEW, 0, e).expect(rt, "memory");
+    s
+}
+
+#[test]
+fn a_state_takes_an_entry(rt: HostRuntime) {
+    let alloc = rt.alloc();
+    let s = first_state(&rt, alloc, &entry_of(&rt, alloc, join()));
+    assert!(rt; s.members.as_slice() == [FIRST].as_slice());
+}
+
+/// Puts an entry, and answers its place.
+fn put(rt: &impl Abort, alloc: Global, list: &mut GroupList, e: Entry) -> u32 {
     assert!(rt; list.state().fits(&e));
     assert!(rt; list.has_room(&e));
-    Ok(list.put(alloc, VIEW, e)?)
+    list.put(alloc, VIEW, e).expect(rt, "memory")
 }
 
-// puts the entry with this spelling at a place
-fn put_at(
-    rt: &impl Abort,
-    alloc: Global,
-    list: &mut GroupList,
-    spelled: &[u8],
-    place: u32,
-) -> Result<(), Fail> {
-    let e = entry_of(rt, alloc, spelled)?;
-    assert_eq!(rt; put(rt, alloc, list, e)?, place);
-    Ok(())
+/// Puts the entry of these bytes at a place.
+fn put_at(rt: &impl Abort, alloc: Global, list: &mut GroupList, spelled: &[u8], place: u32) {
+    let e = entry_of(rt, alloc, spelled);
+    assert!(rt; put(rt, alloc, list, e) == place);
 }
 
-fn expect_voters(
-    rt: &impl Abort,
-    alloc: Global,
-    list: &GroupList,
-    ps: &[ProviderId],
-) -> Result<(), Fail> {
-    let voters = list.state().voters(alloc)?;
-    assert_eq!(rt; voters.as_slice(), ps);
-    Ok(())
+/// Are these the voters of what runs at the end of the list?
+fn are_voters(alloc: Global, list: &GroupList, ps: &[ProviderId]) -> Result<bool, NoMemory> {
+    Ok(list.state().voters(alloc)?.as_slice() == ps)
 }
 
-fn expect_value(rt: &impl Abort, list: &GroupList, value: &[u8]) {
-    assert_eq!(rt; list.state().value.bytes(), value);
+/// The value at the end of the list.
+fn value(list: &GroupList) -> &[u8] {
+    list.state().value.bytes()
 }
 
-fn expect_counts(rt: &impl Abort, list: &GroupList, len: u32, bytes: u32) {
-    assert_eq!(rt; list.len(), len);
-    assert_eq!(rt; list.bytes(), bytes);
+/// Has the list this length, and so many bytes?
+fn has_counts(list: &GroupList, len: u32, bytes: u32) -> bool {
+    list.len() == len && list.bytes() == bytes
 }
 
+/// Lets the entries below a place go.
 fn forget_below(rt: &impl Abort, list: &mut GroupList, place: u32) {
     assert!(rt; place <= list.len());
     list.forget_below(place);
 }
 
 #[test]
-fn lists_take_entries(rt: HostRuntime) -> Result<(), Fail> {
+fn lists_take_entries(rt: HostRuntime) {
     let alloc = rt.alloc();
     let mut list = new_list(alloc);
-    put_at(&rt, alloc, &mut list, join(), 0)?;
-    put_at(&rt, alloc, &mut list, begin(), 1)?;
-    expect_voters(&rt, alloc, &list, &[FIRST])?;
-    put_at(&rt, alloc, &mut list, phase(), 2)?;
-    put_at(&rt, alloc, &mut list, approve(), 3)?;
-    expect_value(&rt, &list, b"x");
+    put_at(&rt, alloc, &mut list, join(), 0);
+    put_at(&rt, alloc, &mut list, begin(), 1);
+    assert!(rt; are_voters(alloc, &list, &[FIRST]).expect(&rt, "memory"));
+    put_at(&rt, alloc, &mut list, phase(), 2);
+    put_at(&rt, alloc, &mut list, approve(), 3);
+    assert!(rt; value(&list) == b"x".as_slice());
     forget_below(&rt, &mut list, 2);
-    expect_counts(&rt, &list, 4, 112);
-    Ok(())
+    assert!(rt; has_counts(&list, 4, 112));
 }

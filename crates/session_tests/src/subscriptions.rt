@@ -1,0 +1,115 @@
+//! Subscriptions: each fault, beside the neighbour that is taken, and what is noted.
+use crate::calls::{Steady, answered, init, letters, refused, taken};
+use crate::hand::sessions;
+use client_callbacks::{Told, Why};
+use proposal_core::GroupState;
+use rsct_packet::{ProviderId, Text};
+use session_state::{Field, GsFault};
+use std::alloc::Global;
+use std::process::Abort;
+use subscribe_core::{ClientToken, SubToken};
+
+/// Subscribes the client to a group.
+fn ask(alloc: Global, s: &mut Steady, group: &[u8], known: bool) -> Result<SubToken, GsFault> {
+    s.subscribe(alloc, ClientToken { n: 1 }, group, known)
+}
+
+/// Subscribes the client to a group with a name of so many bytes, and answers the subscription's number.
+fn subscribe(alloc: Global, s: &mut Steady, n: usize, known: bool) -> Result<u32, GsFault> {
+    let group = letters(alloc, n)?;
+    let token = ask(alloc, s, group.as_slice(), known)?;
+    Ok(token.n)
+}
+
+/// Ends the subscription of this number.
+fn unsubscribe(s: &mut Steady, n: u32) -> Result<(), GsFault> {
+    s.unsubscribe(ClientToken { n: 1 }, SubToken { n })
+}
+
+#[test]
+fn names(rt: HostRuntime) {
+    let alloc = rt.alloc();
+    let mut s = sessions(alloc);
+    answered(&rt, init(alloc, &mut s, b"a"), 1);
+    let empty = subscribe(alloc, &mut s, 0, true);
+    refused(&rt, empty, GsFault::BadParameter(Field::Name));
+    refused(
+        &rt,
+        subscribe(alloc, &mut s, 33, true),
+        GsFault::NameTooLong,
+    );
+    refused(
+        &rt,
+        subscribe(alloc, &mut s, 32, false),
+        GsFault::UnknownGroup,
+    );
+    answered(&rt, subscribe(alloc, &mut s, 32, true), 1);
+    refused(&rt, subscribe(alloc, &mut s, 32, true), GsFault::Exists);
+}
+
+/// The value `x`.
+fn value(rt: &impl Abort, alloc: Global) -> Text {
+    let text = Text::of(alloc, b"x").expect(rt, "memory");
+    text.expect(rt, "a text")
+}
+
+/// The state of a group without members whose value is `x`.
+fn with_value(rt: &impl Abort, alloc: Global) -> GroupState {
+    let mut state = GroupState::empty(alloc);
+    state.value = value(rt, alloc);
+    state
+}
+
+/// How many subscriptions of the group `A` are noted between two states.
+fn noted_between(
+    rt: &impl Abort,
+    alloc: Global,
+    s: &Steady,
+    before: &GroupState,
+    after: &GroupState,
+) -> usize {
+    s.notes(alloc, b"A", before, after)
+        .expect(rt, "memory")
+        .len()
+}
+
+/// How many subscriptions of the group `A` are noted where its value becomes `x`.
+fn noted(rt: &impl Abort, alloc: Global, s: &Steady) -> usize {
+    let before = GroupState::empty(alloc);
+    let after = with_value(rt, alloc);
+    noted_between(rt, alloc, s, &before, &after)
+}
+
+/// Tells the client of the subscription of this number something, and answers whether it is live.
+fn note(rt: &impl Abort, s: &mut Steady, n: u32) -> bool {
+    let p = ProviderId {
+        node: 1,
+        inc: 1,
+        instance: 7,
+        join: 1,
+    };
+    let told = Told::Refused {
+        p,
+        r: 1,
+        why: Why::NotAMember,
+    };
+    s.note(SubToken { n }, &told).expect(rt, "memory")
+}
+
+#[test]
+fn live_subscriptions_are_noted(rt: HostRuntime) {
+    let alloc = rt.alloc();
+    let mut s = sessions(alloc);
+    answered(&rt, init(alloc, &mut s, b"a"), 1);
+    answered(&rt, subscribe(alloc, &mut s, 1, true), 1);
+    assert!(rt; noted(&rt, alloc, &s) == 1);
+    assert!(rt; note(&rt, &mut s, 1));
+    refused(
+        &rt,
+        unsubscribe(&mut s, 2),
+        GsFault::BadParameter(Field::Subscription),
+    );
+    taken(&rt, unsubscribe(&mut s, 1));
+    assert!(rt; !note(&rt, &mut s, 1));
+    assert!(rt; noted(&rt, alloc, &s) == 0);
+}
