@@ -1,5 +1,5 @@
 -- Which packets have a spelling.
-use Rattle.std.specs.Prelude.{ℕ, ◌==◌, length, IsTrue, Option}
+use Rattle.std.specs.Prelude.{◌==◌, length, IsTrue}
 use Rattle.rsct_packet.specs.Format.{OptionFits}
 use Rattle.rsct_packet.specs.Fields.{IsU16, IsU32, IsMask, IsRing, IsView, IsProvider, IsProto, AreShort}
 use Rattle.rsct_packet.specs.Packet.{is_head, is_level, DomainFits}

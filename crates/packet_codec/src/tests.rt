@@ -31,6 +31,7 @@ fn a_heartbeat_is_read(rt: HostRuntime) {
 }
 
 #[test]
+#[tactic(auto, using(crate::proofs::Samples::heartbeat_is_spelled))]
 fn a_heartbeat_is_written(rt: HostRuntime) -> Result<(), Fail> {
     let packet = Packet {
         network: 1,
