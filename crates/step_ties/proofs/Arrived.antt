@@ -1,6 +1,6 @@
 -- A node that has just entered a view: who took part and does not live in the base is told so, subscriptions are noted,
 -- the install is taken, and what is outstanding is sent.
-use Rattle.std.proofs.Common.{◌≡◌, ◌≢◌, ◌⊎◌, ◌<◌, ℕ, List, [], ◌∷◌, ◌++◌, Option, Some, None, Bool, true, false, refl, sym, ap, ◌∙◌, subst, inl, inr, ⊎_elim, append_assoc, arith}
+use Rattle.std.proofs.Common.{◌≡◌, ◌≢◌, ◌<◌, ℕ, List, [], ◌∷◌, ◌++◌, Option, Some, None, Bool, true, false, refl, sym, ap, ◌∙◌, subst, inl, inr, ⊎_elim, append_assoc, arith}
 use Rattle.std.specs.Prelude.{◌==◌, ◌&&◌, ◌||◌, not, reverse, map, filter, fold, find, flat_map, is_some, is_none, if◌then◌else◌}
 use Rattle.std.specs.Str.{bytes_eq}
 use Rattle.std.proofs.lemmas.List.{reverse-append, append-nil}
@@ -137,7 +137,7 @@ module _ (g : List ℕ) (w : Scene) (n : ℕ) where
 
     spares : (m : ℕ) → m ≢ n → Spares x y m
     spares m ne =
-        record { goes = goes; list = refl; leads = λ v. refl; refusals = λ v q k h. h; puts = λ u k e h. h; told = λ q k u e h. not_told q k u e h }
+        record { goes = goes; list = refl; leads = λ v s. refl; refusals = λ v q k h. h; puts = λ u k e h. h; told = λ q k u e h. not_told q k u e h }
       where
         not_told : (q : ProviderId) (k : ℕ) (u : ViewId) → q.node ≡ m → Has (Noted (Told q k u)) (Noted (Told p r (x.nodes n).view) ∷ x.all) → Has (Noted (Told q k u)) x.all
         not_told q k u e (inl z) = absurd (let same : q ≡ p = cc in ne (sym e ∙ ap (λ (a : ProviderId). a.node) same ∙ mine))

@@ -64,7 +64,7 @@ order_names : (ss : List Source) (ns : List (List ℕ)) → InNameOrder (rows_of
 order_names [] ns o = o
 order_names (s ∷ ss) ns o = order_names ss (fold with_name ns s.parts) (order_parts s.parts ns o)
 
-base_name : (i : Install) (g : List ℕ) (b : Base) → base_of i g ≡ Some b → b.name ≡ g
+pub base_name : (i : Install) (g : List ℕ) (b : Base) → base_of i g ≡ Some b → b.name ≡ g
 unfolding base_of base_from
 base_name i g b e = by (best_of beats (candidates i g i.sources)) e
   where

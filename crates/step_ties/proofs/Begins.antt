@@ -50,7 +50,7 @@ module _ (x : Ghost) where
       record {
         goes = turned_goes;
         list = refl;
-        leads = λ v. refl;
+        leads = λ v s. refl;
         refusals = λ v p r h. h;
         puts = λ u k e h. not_put u k e h;
         told = λ p r u e h. not_told p r u h;
@@ -252,7 +252,7 @@ module _ (g : List ℕ) (w : Scene) (n : ℕ) (e : Event) (free : is_fixed w.con
       record {
         goes = goes;
         list = ap (λ (k : Standing). k.list) (set_there t.ghost.nodes n z m ne);
-        leads = λ v. refl;
+        leads = λ v s. refl;
         refusals = λ v p r h. h;
         puts = λ u k e h. not_put u k e h;
         told = λ p r u e h. not_told p r u h;

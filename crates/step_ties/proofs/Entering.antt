@@ -22,6 +22,7 @@ use Rattle.session_state.specs.HandOn.{hearers}
 use Rattle.view_exchange.specs.declared.install.Source.{Source}
 use Rattle.view_exchange.specs.declared.install.Install.{Install}
 use Rattle.view_exchange.specs.declared.install.Base.{Base}
+use Rattle.view_exchange.specs.Longest.{NamesDiffer}
 use Rattle.view_exchange.specs.Bases.{source_at, parts_in, parts_from, bases_of, base_named}
 use Rattle.view_core.specs.declared.packet.ViewPacket.TheVariants as view
 use Rattle.view_core.specs.declared.views.Views.{Views}
@@ -37,13 +38,13 @@ use Rattle.node_state.specs.HandOn.{Answering}
 use Rattle.node_state.specs.Applying.{Lacking, lacking_in, lacking, lists_filled, level_set, base_row, base_leader, base_record, view_entered, sides_dissolved, entering_noted, taken_sent, owed_sent, entered, entered_if, install_applied, views_taken}
 use Rattle.node_state.specs.Step.{view_row, body_row}
 use Rattle.run_safety.specs.ViewOrder.{Lt, Le}
-use Rattle.run_safety.specs.Past.{earlier, view_now}
+use Rattle.run_safety.specs.Past.{earlier, view_now, fold_from}
 use Rattle.run_safety.specs.Sight.{inc_in, lines_with, lines_of}
 use Rattle.run_safety.specs.Group.{member, Standing, Origin, Record, In, Put, Note, Based, Heard, Asked, Told, Line, Kept, Noted, kept, lines_from, puts_from}
 use Rattle.run_safety.specs.Group as group
 use Rattle.run_safety.specs.GroupLists.{puts_of}
-use Rattle.run_safety.specs.Bases.{base_state, state_of_list}
-use Rattle.run_safety.specs.Moves.{Quiet, based, Enters}
+use Rattle.run_safety.specs.Bases.{Bases, base_state, state_of_list}
+use Rattle.run_safety.specs.Moves.{Leads, Opening, Life, Quiet, based, Enters}
 use Rattle.run_safety.proofs.Order.{lt_trans}
 use Rattle.run_safety.proofs.Parts.{Entered}
 use Rattle.run_safety.proofs.Lines.{kept_lines, kept_based, has_lines, note_lines, note_based}
@@ -51,10 +52,10 @@ use Rattle.run_safety.proofs.SightLaws.{kept_append}
 use Rattle.run_safety.proofs.Tracks.{puts_many_own, put_many, has_many}
 use Rattle.run_safety.proofs.Whole.{Whole}
 use Rattle.run_safety.proofs.Lives.{whole}
-use Rattle.step_ties.specs.Ghost.{Ghost, Lives, Goes, Keeps, CarriesIf, part_of, origin_of, BaseIsOf, Installs, InstallsIf}
-use Rattle.step_ties.specs.Tied.{ShowsBody, RowIs, Owed, Owes, LeaderKeeps, NodeOf, NodeIsIf, Scene, opening_of, lines_now, Tied}
+use Rattle.step_ties.specs.Ghost.{Ghost, Lives, Seen, Goes, Keeps, CarriesIf, part_of, origin_of, BaseIsOf, Installs, InstallsIf}
+use Rattle.step_ties.specs.Tied.{ShowsBody, Shows, RowIs, Owed, Owes, LeaderKeeps, Names, NodeOf, NodeIsIf, Scene, Refused, opening_of, lines_now, Tied}
 use Rattle.step_ties.specs.Rows.{at_node}
-use Rattle.step_ties.proofs.Goes.{Spares, seen_on, node_if_on, shows_on, installs_on}
+use Rattle.step_ties.proofs.Goes.{Spares, Settled, seen_on, node_if_on, shows_on, installs_on}
 use Rattle.step_ties.proofs.Changed.{set_here, set_there, changes}
 use Rattle.step_ties.proofs.Works.{lines_pushed, tied_sent}
 use Rattle.step_ties.proofs.NameOrder.{is_of}
@@ -107,7 +108,45 @@ based_append : (n : ℕ) (v : ViewId) (b : Option Origin) (l : Line) (all : List
 based_append n v None l all = refl
 based_append n v (Some b) l all = refl
 
-module _ (g : List ℕ) (w : Scene) (n : ℕ) (f : Answering) (s : Core) (t : Tied g w n s) (i : Install) (xs : List Lacking) (shows : Installs t.ghost g i) (quiet : Quiet (kept t.ghost.all)) (promised : s.views.promise ≡ i.view) (lt : Lt s.views.view i.view) (among : Has (member n s.views.inc) i.members) (lacks : lacking s i ≡ Some xs) where
+-- a node that is about to enter a view: all that is tied, but for what it sends
+pub record Leaving (g : List ℕ) (w : Scene) (n : ℕ) (s : Core) : Type 0 where
+  pub ghost : Ghost
+  pub life : Lives (opening_of w.config) ghost
+  pub lines : ghost.all ≡ lines_now g w s
+  pub own : NodeIsIf w.config ghost g n (w.incs n) (Some s)
+  pub others : (m : ℕ) → m ≢ n → NodeIsIf w.config ghost g m (w.incs m) (w.cores m)
+  pub refused : Refused ghost
+
+-- the move by which it enters, with the sources of the view
+pub record Move (x : Ghost) (o : Opening) (g : List ℕ) (n inc : ℕ) (old : ViewId) (i : Install) : Type 0 where
+  pub whole : ViewId → List Entry
+  pub ps : List group.Packet
+  pub leads : Leads
+  pub bases : Bases
+  pub life : Life o (at_node x.nodes n (record { inc = inc; view = i.view; promise = i.view; list = [] })) ps (based n i.view (bases i.view) (Kept (In n inc i.view i.members) ∷ lines_from n old (length (x.nodes n).list) (drop (length (x.nodes n).list) (whole old)) x.all)) leads bases
+  pub sent : Has (group.Install i.view i.members whole) ps
+  pub more : (p : group.Packet) → Has p x.ps → Has p ps
+  pub refusals : (v : ViewId) (p : ProviderId) (r : ℕ) → Has (group.Refusal v p r) ps → Has (group.Refusal v p r) x.ps
+  pub requests : (v : ViewId) (p : ProviderId) (r : ℕ) (a : Proposal) → Has (group.Request v p r a) ps → Has (group.Request v p r a) x.ps
+  pub leads_on : (v : ViewId) (l : Member) → x.leads v ≡ Some l → leads v ≡ Some l
+  pub leads_same : (v : ViewId) → Settled x v → leads v ≡ x.leads v
+  pub bases_same : (v : ViewId) → Seen x v → bases v ≡ x.bases v
+  pub rest : (v : ViewId) → source_at i.sources v ≡ None → whole v ≡ []
+  pub parts : (y : Source) → Has y i.sources → CarriesIf x y.view (whole y.view) (part_of g y.parts)
+  pub differ : (y : Source) → Has y i.sources → NamesDiffer y.parts
+  pub base : BaseIsOf (record x { leads = leads; bases = bases }) i.view i.members (base_named (bases_of i) g)
+  pub names : (fixed : Bool) → Names (record x { leads = leads; bases = bases }) g fixed n inc i.view i.members (map base_leader (bases_of i))
+  pub unrefused : leads i.view ≡ Some (member n inc) → (p : ProviderId) (r : ℕ) → Has (group.Refusal i.view p r) x.ps → ⊥
+
+-- what stands after it
+pub record After (x y : Ghost) (v : ViewId) (ps : List group.Packet) (leads : Leads) (bases : Bases) : Type 0 where
+  pub goes : Goes x y
+  pub packets : y.ps ≡ ps
+  pub leaders : y.leads ≡ leads
+  pub origins : y.bases ≡ bases
+  pub entered : Seen y v
+
+module _ (g : List ℕ) (w : Scene) (n : ℕ) (f : Answering) (s : Core) (t : Leaving g w n s) (i : Install) (xs : List Lacking) (move : Move t.ghost (opening_of w.config) g n s.views.inc s.views.view i) (installs : (y : Ghost) → After t.ghost y i.view move.ps move.leads move.bases → Installs y g i) (shown : (y : Ghost) → After t.ghost y i.view move.ps move.leads move.bases → (p : Packet) → Has p (s.sends ++ w.sent) → Shows y g p) (lt : Lt s.views.view i.view) (among : Has (member n s.views.inc) i.members) (lacks : lacking s i ≡ Some xs) where
   abbrev x : Ghost
   x = t.ghost
 
@@ -121,7 +160,7 @@ module _ (g : List ℕ) (w : Scene) (n : ℕ) (f : Answering) (s : Core) (t : Ti
   full = (x.nodes n).list
 
   abbrev es : List Entry
-  es = drop (length full) (shows.whole s.views.view)
+  es = drop (length full) (move.whole s.views.view)
 
   k : Whole (opening_of w.config) x.nodes x.ps x.all x.leads x.bases
   k = whole t.life
@@ -143,37 +182,31 @@ module _ (g : List ℕ) (w : Scene) (n : ℕ) (f : Answering) (s : Core) (t : Ti
     where
       by : (o : Option Source) → source_at i.sources s.views.view ≡ o → lacking_in s (parts_in o) ≡ Some xs → collected g xs ≡ es
       by None q e =
-          let bare : shows.whole s.views.view ≡ [] = shows.rest s.views.view q in
+          let bare : move.whole s.views.view ≡ [] = move.rest s.views.view q in
           let z : xs ≡ [] = nothing e in
-          let short : length (shows.whole s.views.view) ≤ length full = let y = ap length bare in omega arith in
-          ap (collected g) z ∙ sym (drop_all (length full) (shows.whole s.views.view) short)
+          let short : length (move.whole s.views.view) ≤ length full = let y = ap length bare in omega arith in
+          ap (collected g) z ∙ sym (drop_all (length full) (move.whole s.views.view) short)
         where
           nothing : lacking_in s [] ≡ Some xs → xs ≡ []
           nothing e = cc
       by (Some src) q e =
           let h = find_has (λ (y : Source). same_view y.view s.views.view) i.sources src q in
           let v : src.view ≡ s.views.view = same_of src.view s.views.view h.1 in
-          lacking_is x g full (shows.whole s.views.view) s src.parts xs (shows.names src h.0) keeps (subst (λ z. CarriesIf x z (shows.whole z) (part_of g src.parts)) v (shows.parts src h.0)) e
+          lacking_is x g full (move.whole s.views.view) s src.parts xs (move.differ src h.0) keeps (subst (λ z. CarriesIf x z (move.whole z) (part_of g src.parts)) v (move.parts src h.0)) e
 
   fills : Fills g w n x s es c
   fills =
       subst (λ z. Fills g w n x s z c) lacks_rest (fills_all g w n x s t.own.0.stands.me hears f xs [] s (nothing_filled g w n x s t.own.0.order keeps (later_same s.sessions) (sym t.lines)))
 
-  -- the node as it stood, and as it stands
-  abbrev was : Standing
-  was = record { inc = s.views.inc; view = s.views.view; promise = s.views.promise; list = full }
-
+  -- the node as it stands
   abbrev now : Standing
   now = record { inc = s.views.inc; view = i.view; promise = i.view; list = [] }
-
-  was_is : x.nodes n ≡ was
-  was_is = λ j. record { inc = t.own.0.stands.inc j; view = t.own.0.stands.view j; promise = t.own.0.stands.promise j; list = full }
 
   abbrev nodes : ℕ → Standing
   nodes = at_node x.nodes n now
 
   abbrev front : List Line
-  front = based n i.view (x.bases i.view) (Kept (In n s.views.inc i.view i.members) ∷ [])
+  front = based n i.view (move.bases i.view) (Kept (In n s.views.inc i.view i.members) ∷ [])
 
   abbrev filled : List Line
   filled = lines_from n s.views.view (length full) es x.all
@@ -182,21 +215,21 @@ module _ (g : List ℕ) (w : Scene) (n : ℕ) (f : Answering) (s : Core) (t : Ti
   tr = kept (front ++ filled)
 
   abbrev y : Ghost
-  y = record { nodes = nodes; ps = x.ps; all = front ++ fills.lines; leads = x.leads; bases = x.bases }
+  y = record { nodes = nodes; ps = move.ps; all = front ++ fills.lines; leads = move.leads; bases = move.bases }
 
-  lives_bare : Lives (opening_of w.config) (record { nodes = nodes; ps = x.ps; all = front ++ filled; leads = x.leads; bases = x.bases })
+  lives_bare : Lives (opening_of w.config) (record { nodes = nodes; ps = move.ps; all = front ++ filled; leads = move.leads; bases = move.bases })
   lives_bare =
-      subst (λ z. Lives (opening_of w.config) (record { nodes = nodes; ps = x.ps; all = z; leads = x.leads; bases = x.bases })) (based_append n i.view (x.bases i.view) (Kept (In n s.views.inc i.view i.members)) filled) (Enters x.nodes nodes x.ps x.all x.leads x.bases n was i.view i.members shows.whole t.life was_is quiet t.own.0.stands.up promised lt among shows.sent (changes x.nodes n now))
+      subst (λ z. Lives (opening_of w.config) (record { nodes = nodes; ps = move.ps; all = z; leads = move.leads; bases = move.bases })) (based_append n i.view (move.bases i.view) (Kept (In n s.views.inc i.view i.members)) filled) move.life
 
   kept_tr : tr ≡ In n s.views.inc i.view i.members ∷ puts_from n s.views.view (length full) es (kept x.all)
   kept_tr =
-      ap kept (sym (based_append n i.view (x.bases i.view) (Kept (In n s.views.inc i.view i.members)) filled)) ∙ kept_based n i.view (x.bases i.view) (Kept (In n s.views.inc i.view i.members) ∷ filled) ∙ ap (λ z. In n s.views.inc i.view i.members ∷ z) (kept_lines n s.views.view (length full) es x.all)
+      ap kept (sym (based_append n i.view (move.bases i.view) (Kept (In n s.views.inc i.view i.members)) filled)) ∙ kept_based n i.view (move.bases i.view) (Kept (In n s.views.inc i.view i.members) ∷ filled) ∙ ap (λ z. In n s.views.inc i.view i.members ∷ z) (kept_lines n s.views.view (length full) es x.all)
 
   puts_tr : puts_of n s.views.view tr ≡ full ++ es
   puts_tr =
       ap (puts_of n s.views.view) kept_tr ∙ puts_many_own n s.views.view (length full) es (kept x.all) ∙ ap (λ z. z ++ es) (ap (λ v. puts_of n v (kept x.all)) (sym t.own.0.stands.view) ∙ (k.good.past.seated n).list)
 
-  hearing : (a : Note) → HeardIn g w n x s es a → Hearing x.bases tr a
+  hearing : (a : Note) → HeardIn g w n x s es a → Hearing move.bases tr a
   hearing a h =
       record {
         p = h.p;
@@ -206,7 +239,7 @@ module _ (g : List ℕ) (w : Scene) (n : ℕ) (f : Answering) (s : Core) (t : Ti
         s = h.state;
         is = h.is;
         put = subst (λ z. Has (Put z s.views.view (length full + length h.front) h.e) tr) (sym h.own) (subst (Has (Put n s.views.view (length full + length h.front) h.e)) (sym kept_tr) (inr (subst (λ z. Has (Put n s.views.view (length full + length h.front) h.e) (puts_from n s.views.view (length full) z (kept x.all))) (sym h.split) (put_there n s.views.view h.front h.rest h.e (length full) (kept x.all)))));
-        state = h.state_is ∙ ap (state_of_list x.bases s.views.view) (sym taken);
+        state = h.state_is ∙ ap (state_of_list x.bases s.views.view) (sym taken) ∙ ap (λ b. fold_from s.views.view (base_state b) 0 (take (length full + length h.front + 1) (puts_of h.p.node s.views.view tr))) (sym (move.bases_same s.views.view (n, s.views.inc, s.views.members, t.own.0.stands.seated)));
       }
     where
       taken : take (length full + length h.front + 1) (puts_of h.p.node s.views.view tr) ≡ full ++ (h.front ++ h.e ∷ [])
@@ -216,12 +249,12 @@ module _ (g : List ℕ) (w : Scene) (n : ℕ) (f : Answering) (s : Core) (t : Ti
           let d : length full + length h.front ≡ length (full ++ h.front) = sym (length-append full h.front) in
           (λ j. take (d j + 1) ((a ∙ b) j)) ∙ take_front (full ++ h.front) h.rest h.e ∙ append_assoc full h.front (h.e ∷ [])
 
-  among_lines : Sprinkled (Hearing x.bases tr) filled fills.lines
-  among_lines = sprinkled_on (HeardIn g w n x s es) (Hearing x.bases tr) hearing filled fills.lines fills.among
+  among_lines : Sprinkled (Hearing move.bases tr) filled fills.lines
+  among_lines = sprinkled_on (HeardIn g w n x s es) (Hearing move.bases tr) hearing filled fills.lines fills.among
 
   lives : Lives (opening_of w.config) y
   lives =
-      sprinkled_lives (opening_of w.config) nodes x.ps x.leads x.bases tr front filled fills.lines among_lines refl lives_bare
+      sprinkled_lives (opening_of w.config) nodes move.ps move.leads move.bases tr front filled fills.lines among_lines refl lives_bare
 
   -- ---- the lines
 
@@ -231,12 +264,12 @@ module _ (g : List ℕ) (w : Scene) (n : ℕ) (f : Answering) (s : Core) (t : Ti
 
   inc_there : inc_in n i.members ≡ s.views.inc
   inc_there =
-      (k.good.past.made i.view i.members shows.whole shows.sent).single n (inc_in n i.members) s.views.inc (inc_is n i.members s.views.inc among) among
+      ((whole lives_bare).good.past.made i.view i.members move.whole move.sent).single n (inc_in n i.members) s.views.inc (inc_is n i.members s.views.inc among) among
 
-  base_there : x.bases i.view ≡ option_map origin_of (base_named bs g)
-  base_there = by (base_named bs g) shows.base
+  base_there : move.bases i.view ≡ option_map origin_of (base_named bs g)
+  base_there = by (base_named bs g) move.base
     where
-      by : (o : Option Base) → BaseIsOf x i.view i.members o → x.bases i.view ≡ option_map origin_of o
+      by : (o : Option Base) → BaseIsOf (record x { leads = move.leads; bases = move.bases }) i.view i.members o → move.bases i.view ≡ option_map origin_of o
       by None h = h
       by (Some b) h = h.0
 
@@ -250,7 +283,7 @@ module _ (g : List ℕ) (w : Scene) (n : ℕ) (f : Answering) (s : Core) (t : Ti
       let a = lines_of_bases g c.views.me i.view bs (c.records ++ entering ∷ []) w.before (lines_of g w.before) (bases_ordered i) in
       let b : lines_with g (reverse (c.records ++ entering ∷ [])) w.before (lines_of g w.before) ≡ Kept (In c.views.me (inc_in c.views.me i.members) i.view i.members) ∷ lines_now g w c = lines_pushed g c.records entering w.before (lines_of g w.before) in
       let d : (c.records ++ entering ∷ []) ++ map (base_record (view_entered c i bs)) bs ≡ c.records ++ entering ∷ map (base_record (view_entered c i bs)) bs = append_assoc c.records (entering ∷ []) (map (base_record (view_entered c i bs)) bs) in
-      sym (based_append n i.view (x.bases i.view) (Kept (In n s.views.inc i.view i.members)) fills.lines) ∙ (λ j. based n i.view (base_there j) (Kept (In n (sym inc_there j) i.view i.members) ∷ sym fills.is j)) ∙ (λ j. based (sym me_is j) i.view (option_map origin_of (base_named bs g)) (Kept (In (sym me_is j) (inc_in (sym me_is j) i.members) i.view i.members) ∷ lines_now g w c)) ∙ ap (based c.views.me i.view (option_map origin_of (base_named bs g))) (sym b) ∙ sym a ∙ ap (λ z. lines_with g (reverse z) w.before (lines_of g w.before)) d
+      sym (based_append n i.view (move.bases i.view) (Kept (In n s.views.inc i.view i.members)) fills.lines) ∙ (λ j. based n i.view (base_there j) (Kept (In n (sym inc_there j) i.view i.members) ∷ sym fills.is j)) ∙ (λ j. based (sym me_is j) i.view (option_map origin_of (base_named bs g)) (Kept (In (sym me_is j) (inc_in (sym me_is j) i.members) i.view i.members) ∷ lines_now g w c)) ∙ ap (based c.views.me i.view (option_map origin_of (base_named bs g))) (sym b) ∙ sym a ∙ ap (λ z. lines_with g (reverse z) w.before (lines_of g w.before)) d
 
   -- ---- what goes on
 
@@ -260,12 +293,19 @@ module _ (g : List ℕ) (w : Scene) (n : ℕ) (f : Answering) (s : Core) (t : Ti
   goes : Goes x y
   goes =
       record {
-        packets = λ p h. h;
+        packets = move.more;
         records = λ r h. subst (Has r) (sym (kept_y ∙ kept_tr)) (inr (has_many r n s.views.view (length full) es (kept x.all) h));
         lines = λ l h. has_front l (has_sprinkled (HeardIn g w n x s es) l filled fills.lines fills.among (has_lines l n s.views.view (length full) es x.all h));
-        leads = λ v l e. e;
-        bases = λ v h. refl;
+        leads = move.leads_on;
+        bases = move.bases_same;
       }
+
+  entry : Has (In n s.views.inc i.view i.members) (kept y.all)
+  entry = subst (Has (In n s.views.inc i.view i.members)) (sym (kept_y ∙ kept_tr)) (inl refl)
+
+  after : After x y i.view move.ps move.leads move.bases
+  after =
+      record { goes = goes; packets = refl; leaders = refl; origins = refl; entered = (n, s.views.inc, i.members, entry) }
 
   put_only : (m : ℕ) (u : ViewId) (j : ℕ) (e : Entry) → Has (Put m u j e) (kept y.all) → Has (Put m u j e) (puts_from n s.views.view (length full) es (kept x.all))
   put_only m u j e h = at (subst (Has (Put m u j e)) (kept_y ∙ kept_tr) h)
@@ -275,12 +315,12 @@ module _ (g : List ℕ) (w : Scene) (n : ℕ) (f : Answering) (s : Core) (t : Ti
       at (inr z) = z
 
   told_only : (p : ProviderId) (r : ℕ) (u : ViewId) → Has (Noted (Told p r u)) y.all → Has (Noted (Told p r u)) x.all
-  told_only p r u h = at (note_based (Told p r u) n i.view (x.bases i.view) (Kept (In n s.views.inc i.view i.members) ∷ fills.lines) (subst (Has (Noted (Told p r u))) (sym (based_append n i.view (x.bases i.view) (Kept (In n s.views.inc i.view i.members)) fills.lines)) h))
+  told_only p r u h = at (note_based (Told p r u) n i.view (move.bases i.view) (Kept (In n s.views.inc i.view i.members) ∷ fills.lines) (subst (Has (Noted (Told p r u))) (sym (based_append n i.view (move.bases i.view) (Kept (In n s.views.inc i.view i.members)) fills.lines)) h))
     where
       apart : (a : Note) → HeardIn g w n x s es a → Noted (Told p r u) ≡ Noted a → ⊥
       apart a h q = let z : Noted (Told p r u) ≡ Noted (Heard h.p s.views.view (length full + length h.front) h.e h.state.members h.state.value) = q ∙ ap (λ k. Noted k) h.is in cc
 
-      at : ((b : Origin) × (x.bases i.view ≡ Some b) × (Told p r u ≡ Based n i.view b)) ⊎ Has (Noted (Told p r u)) (Kept (In n s.views.inc i.view i.members) ∷ fills.lines) → Has (Noted (Told p r u)) x.all
+      at : ((b : Origin) × (move.bases i.view ≡ Some b) × (Told p r u ≡ Based n i.view b)) ⊎ Has (Noted (Told p r u)) (Kept (In n s.views.inc i.view i.members) ∷ fills.lines) → Has (Noted (Told p r u)) x.all
       at (inl q) = absurd (let z = q.2 in cc)
       at (inr (inl q)) = absurd (cc)
       at (inr (inr h)) = note_lines (Told p r u) n s.views.view (length full) es x.all (had_sprinkled (HeardIn g w n x s es) (Noted (Told p r u)) apart filled fills.lines fills.among h)
@@ -290,8 +330,8 @@ module _ (g : List ℕ) (w : Scene) (n : ℕ) (f : Answering) (s : Core) (t : Ti
       record {
         goes = goes;
         list = ap (λ (z : Standing). z.list) (set_there x.nodes n now m ne);
-        leads = λ v. refl;
-        refusals = λ v p r h. h;
+        leads = move.leads_same;
+        refusals = move.refusals;
         puts = λ u j e h. ⊎_elim (λ (a : Has (Put m u j e) (kept x.all)). a) (λ (b : (n ≡ m) × (s.views.view ≡ u)). absurd (ne (sym b.0))) (put_many m n u s.views.view j e (length full) es (kept x.all) (put_only m u j e h));
         told = λ p r u e h. told_only p r u h;
       }
@@ -301,21 +341,7 @@ module _ (g : List ℕ) (w : Scene) (n : ℕ) (f : Answering) (s : Core) (t : Ti
   here : nodes n ≡ now
   here = set_here x.nodes n now
 
-  -- it is not the coordinator, which has entered already
-  apart : i.view.coord ≡ n → i.view.inc ≡ s.views.inc → ⊥
-  apart a b = at (subst (λ m. Entered (x.nodes m) i.view.inc i.view) a (k.good.inv.packet (group.Install i.view i.members shows.whole) shows.sent).used)
-    where
-      inc : (x.nodes n).inc ≡ s.views.inc
-      inc = t.own.0.stands.inc
-
-      before : Lt (x.nodes n).view i.view
-      before = subst (λ z. Lt z i.view) (sym t.own.0.stands.view) lt
-
-      at : Entered (x.nodes n) i.view.inc i.view → ⊥
-      at (inl l) = omega arith
-      at (inr l) = let z : Le i.view (x.nodes n).view = l.1 in let d = before in absurd (cc)
-
-  row_new : (o : Option Base) → BaseIsOf x i.view i.members o → RowIs y n i.view i.members (row_found g (option_map base_row o))
+  row_new : (o : Option Base) → BaseIsOf (record x { leads = move.leads; bases = move.bases }) i.view i.members o → RowIs y n i.view i.members (row_found g (option_map base_row o))
   unfolding base_row acked_from
   row_new None h =
       record { list = (ap (λ (z : Standing). z.list) here, h); stable = inl refl; leader = tt; acked = λ m j a. inl refl }
@@ -338,10 +364,10 @@ module _ (g : List ℕ) (w : Scene) (n : ℕ) (f : Answering) (s : Core) (t : Ti
   decides_new : LeaderKeeps y n s.views.inc i.view nothing_led
   decides_new =
       record {
-        refused = λ p r q h. absurd (t.own.0.decides.later i.view lt q p r h);
+        refused = λ p r q h. absurd (move.unrefused q p r (move.refusals i.view p r h));
         begun = λ p r j e q h. absurd (empty (y.nodes n).list (ap (λ (z : Standing). z.list) here) j e h);
         waiting = λ p q h. absurd (cc);
-        later = λ u l q p r h. t.own.0.decides.later u (lt_trans s.views.view i.view u lt l) q p r h;
+        later = λ u l q p r h. let j = move.refusals u p r h in t.own.0.decides.later u (lt_trans s.views.view i.view u lt l) (sym (move.leads_same u (inr (p, r, j))) ∙ q) p r j;
       }
     where
       empty : (l : List Entry) → l ≡ [] → (j : ℕ) (e : Entry) → slice_get l j ≡ Some e → ⊥
@@ -380,19 +406,19 @@ module _ (g : List ℕ) (w : Scene) (n : ℕ) (f : Answering) (s : Core) (t : Ti
           inc = ap (λ (z : Standing). z.inc) here;
           view = ap (λ (z : Standing). z.view) here;
           promise = ap (λ (z : Standing). z.promise) here;
-          seated = subst (Has (In n s.views.inc i.view i.members)) (sym (kept_y ∙ kept_tr)) (inl refl);
+          seated = entry;
         };
-        row_is = row_new (base_named bs g) shows.base;
+        row_is = row_new (base_named bs g) move.base;
         order = bases_ordered i;
         gathering = tt;
         install = kept_install (i.view.coord == s.views.me && i.view.inc == s.views.inc);
         owes = owes_new;
         decides = subst (LeaderKeeps y n s.views.inc i.view) (sym (led_new (base_named bs g))) decides_new;
-        names = record { named = λ m a b d e. absurd (apart a b); unnamed = λ a b d e. absurd (apart a b) };
+        names = record { named = (move.names fixed).named; unnamed = (move.names fixed).unnamed };
       }
     where
       kept_install : (b : Bool) → InstallsIf y g (elim b as (λ _. Option Install) [ true ↦ Some i | false ↦ None ])
-      kept_install true = installs_on x y goes g i shows
+      kept_install true = installs y after
       kept_install false = tt
 
   own : NodeIsIf w.config y g n (w.incs n) (Some (view_entered c i bs))
@@ -437,12 +463,66 @@ module _ (g : List ℕ) (w : Scene) (n : ℕ) (f : Answering) (s : Core) (t : Ti
           lines = lines;
           own = own;
           others = λ m ne. node_if_on x y m (spares m ne) (set_there x.nodes n now m ne) w.config g (w.incs m) (w.cores m) (t.others m ne);
-          packets = λ p h. shows_on x y goes g p (t.packets p (subst (λ z. Has p (z ++ w.sent)) fills.sends h));
-          refused = λ u q r h. seen_on x y goes u (t.refused u q r h);
+          packets = λ p h. shown y after p (subst (λ z. Has p (z ++ w.sent)) fills.sends h);
+          refused = λ u q r h. seen_on x y goes u (t.refused u q r (move.refusals u q r h));
         };
-        unasked = λ p r a m e h. unasked p r a m (e ∙ ap (λ (z : Views). z.inc) fills.views) h;
+        unasked = λ p r a m e h. unasked p r a m (e ∙ ap (λ (z : Views). z.inc) fills.views) (move.requests i.view p r a h);
         seen = seen;
         thawed = refl;
+      }
+
+-- ---- a member enters by an install that was sent
+
+module _ (g : List ℕ) (w : Scene) (n : ℕ) (s : Core) (t : Tied g w n s) (i : Install) (shows : Installs t.ghost g i) (quiet : Quiet (kept t.ghost.all)) (promised : s.views.promise ≡ i.view) (lt : Lt s.views.view i.view) (among : Has (member n s.views.inc) i.members) where
+  whole_life : Whole (opening_of w.config) t.ghost.nodes t.ghost.ps t.ghost.all t.ghost.leads t.ghost.bases
+  whole_life = whole t.life
+
+  -- it is not the coordinator, which has entered already
+  apart : i.view.coord ≡ n → i.view.inc ≡ s.views.inc → ⊥
+  apart a b = at (subst (λ m. Entered (t.ghost.nodes m) i.view.inc i.view) a (whole_life.good.inv.packet (group.Install i.view i.members shows.whole) shows.sent).used)
+    where
+      inc : (t.ghost.nodes n).inc ≡ s.views.inc
+      inc = t.own.0.stands.inc
+
+      before : Lt (t.ghost.nodes n).view i.view
+      before = subst (λ z. Lt z i.view) (sym t.own.0.stands.view) lt
+
+      at : Entered (t.ghost.nodes n) i.view.inc i.view → ⊥
+      at (inl l) = omega arith
+      at (inr l) = let z : Le i.view (t.ghost.nodes n).view = l.1 in let d = before in absurd (cc)
+
+  same_base : (o : Option Base) → BaseIsOf t.ghost i.view i.members o → BaseIsOf (record (t.ghost) { leads = t.ghost.leads; bases = t.ghost.bases }) i.view i.members o
+  same_base None h = h
+  same_base (Some b) h = h
+
+  abbrev was : Standing
+  was =
+      record { inc = s.views.inc; view = s.views.view; promise = s.views.promise; list = (t.ghost.nodes n).list }
+
+  was_is : t.ghost.nodes n ≡ was
+  was_is = λ j. record { inc = t.own.0.stands.inc j; view = t.own.0.stands.view j; promise = t.own.0.stands.promise j; list = (t.ghost.nodes n).list }
+
+  pub member_moves : Move t.ghost (opening_of w.config) g n s.views.inc s.views.view i
+  member_moves =
+      record {
+        whole = shows.whole;
+        ps = t.ghost.ps;
+        leads = t.ghost.leads;
+        bases = t.ghost.bases;
+        life = Enters t.ghost.nodes (at_node t.ghost.nodes n (record { inc = s.views.inc; view = i.view; promise = i.view; list = [] })) t.ghost.ps t.ghost.all t.ghost.leads t.ghost.bases n was i.view i.members shows.whole t.life was_is quiet t.own.0.stands.up promised lt among shows.sent (changes t.ghost.nodes n (record { inc = s.views.inc; view = i.view; promise = i.view; list = [] }));
+        sent = shows.sent;
+        more = λ p h. h;
+        refusals = λ v p r h. h;
+        requests = λ v p r a h. h;
+        leads_on = λ v l e. e;
+        leads_same = λ v h. refl;
+        bases_same = λ v h. refl;
+        rest = shows.rest;
+        parts = shows.parts;
+        differ = shows.names;
+        base = same_base (base_named (bases_of i) g) shows.base;
+        names = λ fixed. record { named = λ m a b d e. absurd (apart a b); unnamed = λ a b d e. absurd (apart a b) };
+        unrefused = λ q p r h. t.own.0.decides.later i.view lt q p r h;
       }
 
 -- no node put anything since the event began
@@ -454,7 +534,7 @@ quiet_now g w s none =
 enters_row : (i : Install) (xs : List Lacking) (g : List ℕ) (w : Scene) (n : ℕ) (f : Answering) (s : Core) (p : Packet) → p.body ≡ body.View (view.Install i) → Has p w.sent → s.records ≡ [] → is_fixed w.config.mode ≡ false → same_view s.views.view i.view ≡ false → (same_view s.views.promise i.view && is_member i.members s.views.me s.views.inc) ≡ true → lacking s i ≡ Some xs → Tied g w n s → Tied g w n (entered f s i xs)
 unfolding entered entered_if
 enters_row i xs g w n f s p is delivered none free other may lacks t =
-    let k = arrived_tied g w n (view_entered (lists_filled f s xs) i (bases_of i)) (held_rows (lists_filled f s xs)) (lists_filled f s xs).views.view (bases_of i) (enters_arrived g w n f s t i xs shown (subst (λ l. Quiet (kept l)) (sym t.lines) (quiet_now g w s none)) promised lt among lacks) in
+    let k = arrived_tied g w n (view_entered (lists_filled f s xs) i (bases_of i)) (held_rows (lists_filled f s xs)) (lists_filled f s xs).views.view (bases_of i) (enters_arrived g w n f s (record { ghost = t.ghost; life = t.life; lines = t.lines; own = t.own; others = t.others; refused = t.refused }) i xs (member_moves g w n s t i shown (subst (λ l. Quiet (kept l)) (sym t.lines) (quiet_now g w s none)) promised lt among) (λ y a. installs_on t.ghost y a.goes g i shown) (λ y a q h. shows_on t.ghost y a.goes g q (t.packets q h)) lt among lacks) in
     groups_led_tied g w n (owed_sent (taken_sent (entering_noted (sides_dissolved (view_entered (lists_filled f s xs) i (bases_of i)) (held_rows (lists_filled f s xs)) (lists_filled f s xs).views.view (bases_of i)) (bases_of i)))) f k.1 free k.0
   where
     shown : Installs t.ghost g i

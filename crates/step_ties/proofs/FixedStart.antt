@@ -176,7 +176,7 @@ module _ (g : List ℕ) (c : Config) (fixed : is_fixed c.mode ≡ true) (cores :
       record {
         goes = goes;
         list = ap (λ (k : Standing). k.list) (set_there t.nodes n z m ne);
-        leads = λ v. refl;
+        leads = λ v s. refl;
         refusals = λ v p r h. h;
         puts = λ u k e h. not_put u k e h;
         told = λ p r u e h. not_told p r u h;

@@ -1,13 +1,13 @@
 -- A coordinator gathers answers: an order to ask, and ANSWER, up to the last one.
 use Rattle.std.proofs.Common.{◌≡◌, ◌≤◌, ◌<◌, ◌⊎◌, ℕ, List, [], ◌∷◌, ◌++◌, length, Option, Some, None, Bool, true, false, refl, sym, ap, ◌∙◌, subst, inl, inr, arith}
-use Rattle.std.specs.Prelude.{◌==◌, ◌&&◌, ◌||◌, not, nat_le, nat_lt, map, filter, fold, if◌then◌else◌}
+use Rattle.std.specs.Prelude.{◌==◌, ◌&&◌, ◌||◌, not, nat_le, nat_lt, max, map, filter, fold, if◌then◌else◌}
 use Rattle.std.specs.List.{list_any}
 use Rattle.std.proofs.lemmas.Bool.{and_parts, eq-eqb}
 use Rattle.std.proofs.lemmas.Bool.Decides.{nat_tests}
 use Rattle.rsct_packet.specs.declared.ids.ViewId.{ViewId}
 use Rattle.rsct_packet.specs.declared.ids.Member.{Member}
 use Rattle.rsct_packet.specs.declared.mask.Mask.{Mask}
-use Rattle.rsct_packet.specs.Ids.{same_view}
+use Rattle.rsct_packet.specs.Ids.{last_u32, same_view}
 use Rattle.rsct_packet.specs.Mask.{has_node, nodes_of}
 use Rattle.rsct_packet.specs.Search.{Has, insert_before}
 use Rattle.rsct_packet.proofs.HasLaws.{has_append, append_has_left, append_has_right}
@@ -96,6 +96,7 @@ gathers_more x g n inc v promise e a r may new h =
       came = λ q i. comes q (inserted_has (λ (q : Reply). nat_lt r.node q.node) r q h.replies i);
       own = (h.own.0, append_has_left h.own.0 h.answers (a ∷ []) h.own.1, h.own.2, h.own.3);
       single = λ b c i j q. both b c (has_append b h.answers (a ∷ []) i) (has_append c h.answers (a ∷ []) j) q;
+      asked = λ b i. in_mask b (has_append b h.answers (a ∷ []) i);
     }
   where
     absent : (b : Answer) → Has b h.answers → b.node ≡ a.node → ⊥
@@ -103,6 +104,10 @@ gathers_more x g n inc v promise e a r may new h =
         let z = h.shown b i in
         let fresh : not (list_any (λ (m : Member). m.node == a.node) e.members) ≡ true = (and_parts (has_node e.asked a.node) (not (list_any (λ (m : Member). m.node == a.node) e.members)) may).1 in
         not_any h.replies a.node z.0 (subst (λ ms. not (list_any (λ (m : Member). m.node == a.node) ms) ≡ true) h.members fresh) z.1 (z.2.node ∙ q)
+
+    in_mask : (b : Answer) → Has b h.answers ⊎ Has b (a ∷ []) → has_node e.asked b.node ≡ true
+    in_mask b (inl i) = h.asked b i
+    in_mask b (inr i) = subst (λ (z : Answer). has_node e.asked z.node ≡ true) (sym (only_one a b i)) (and_parts (has_node e.asked a.node) (not (list_any (λ (m : Member). m.node == a.node) e.members)) may).0
 
     shows : (b : Answer) → Has b h.answers ⊎ Has b (a ∷ []) → (q : Reply) × Has q (with_reply h.replies r) × ReplyIs x g promise b q
     shows b (inl i) =
@@ -120,31 +125,47 @@ gathers_more x g n inc v promise e a r may new h =
     both b c (inr i) (inl j) s = absurd (absent c j (sym s ∙ ap (λ (z : Answer). z.node) (only_one a b i)))
     both b c (inr i) (inr j) s = only_one a b i ∙ sym (only_one a c j)
 
-pub answer_is_tied : (v old : ViewId) (parts : List Part) (g : List ℕ) (w : Scene) (n : ℕ) (f : Answering) (s : Core) (p : Packet) → p.body ≡ body.View (view.Answer v old parts) → Has p w.sent → ((e : Exchange) → s.views.gathering ≡ Some e → all_answered (with_answer e (record { node = p.from; inc = p.inc; view = old; parts = parts })) ≡ false) → Tied g w n s → Tied g w n (body_row f s p (body.View (view.Answer v old parts)))
-unfolding body_row view_row views_taken install_applied answer_row answer_to gathers gathered gathering_set
-answer_is_tied v old parts g w n f s p is delivered more t = at s.views.gathering refl
+-- ANSWER: one more counts
+pub counted_tied : (v old : ViewId) (parts : List Part) (g : List ℕ) (w : Scene) (n : ℕ) (s : Core) (p : Packet) → p.body ≡ body.View (view.Answer v old parts) → Has p w.sent → (e : Exchange) → s.views.gathering ≡ Some e → (same_view e.view v && may_answer e p.from) ≡ true → Tied g w n s → Tied g w n (record s { views = record (s.views) { gathering = Some (with_answer e (record { node = p.from; inc = p.inc; view = old; parts = parts })) } })
+counted_tied v old parts g w n s p is delivered e q r t =
+    let h = t.own.0 in
+    tied_views g w n s t views (rest_on t.ghost t.ghost n (spares_same t.ghost n) g (is_fixed s.config.mode) s.views views (row_of s g) s.groups s.sessions s.names (record { me = h.stands.me; up = h.stands.up; inc = h.stands.inc; view = h.stands.view; promise = h.stands.promise; seated = h.stands.seated }) refl refl refl refl (gathers_more t.ghost g n s.views.inc s.views.view s.views.promise e a reply k.1 new gathered_so) h) refl
   where
     a : Answer
     a = record { node = p.from; inc = p.inc; view = old; parts = parts }
 
+    views : Views
+    views =
+        record (s.views) { gathering = Some (with_answer e (record { node = p.from; inc = p.inc; view = old; parts = parts })) }
+
     shown : (full : List Entry) × Has (group.Answer v (record { node = p.from; inc = p.inc; view = old; list = full })) t.ghost.ps × Seen t.ghost old × CarriesIf t.ghost old full (part_of g parts) × NamesDiffer parts
     shown = subst (ShowsBody t.ghost g p.from p.inc) is (t.packets p (append_has_right p s.sends w.sent delivered))
 
-    set : (e : Exchange) → GathersIf t.ghost g n s.views.inc s.views.view s.views.promise (Some e) → Tied g w n (record s { views = record (s.views) { gathering = Some e } })
-    set e k =
-        let h = t.own.0 in
-        let views : Views = record (s.views) { gathering = Some e } in
-        tied_views g w n s t views (rest_on t.ghost t.ghost n (spares_same t.ghost n) g (is_fixed s.config.mode) s.views views (row_of s g) s.groups s.sessions s.names (record { me = h.stands.me; up = h.stands.up; inc = h.stands.inc; view = h.stands.view; promise = h.stands.promise; seated = h.stands.seated }) refl refl refl refl k h) refl
+    k : (same_view e.view v ≡ true) × (may_answer e p.from ≡ true)
+    k = and_parts (same_view e.view v) (may_answer e p.from) r
 
+    gathered_so : Gathers t.ghost g n s.views.inc s.views.view s.views.promise e
+    gathered_so =
+        subst (λ z. GathersIf t.ghost g n s.views.inc s.views.view s.views.promise z) q t.own.0.gathering
+
+    asked : v ≡ s.views.promise
+    asked = sym (same_of e.view v k.0) ∙ gathered_so.view
+
+    reply : Reply
+    reply = record { node = p.from; inc = p.inc; view = old; list = shown.0 }
+
+    new : ReplyIs t.ghost g s.views.promise a reply
+    new =
+        record { node = refl; inc = refl; view = refl; sent = subst (λ z. Has (group.Answer z reply) t.ghost.ps) asked shown.1; seen = shown.2; part = shown.3; names = shown.4 }
+
+pub answer_is_tied : (v old : ViewId) (parts : List Part) (g : List ℕ) (w : Scene) (n : ℕ) (f : Answering) (s : Core) (p : Packet) → p.body ≡ body.View (view.Answer v old parts) → Has p w.sent → ((e : Exchange) → s.views.gathering ≡ Some e → all_answered (with_answer e (record { node = p.from; inc = p.inc; view = old; parts = parts })) ≡ false) → Tied g w n s → Tied g w n (body_row f s p (body.View (view.Answer v old parts)))
+unfolding body_row view_row views_taken install_applied answer_row answer_to gathers gathered gathering_set
+answer_is_tied v old parts g w n f s p is delivered more t = at s.views.gathering refl
+  where
     by : (e : Exchange) → s.views.gathering ≡ Some e → (b : Bool) → (same_view e.view v && may_answer e p.from) ≡ b → Tied g w n (views_taken f s (elim b [ true ↦ gathers (views_at_work s.views) (with_answer e (record { node = p.from; inc = p.inc; view = old; parts = parts })) | false ↦ views_at_work s.views ]))
     by e q false r = t
     by e q true r =
-        let k = and_parts (same_view e.view v) (may_answer e p.from) r in
-        let h : Gathers t.ghost g n s.views.inc s.views.view s.views.promise e = subst (λ z. GathersIf t.ghost g n s.views.inc s.views.view s.views.promise z) q t.own.0.gathering in
-        let asked : v ≡ s.views.promise = sym (same_of e.view v k.0) ∙ h.view in
-        let reply : Reply = record { node = p.from; inc = p.inc; view = old; list = shown.0 } in
-        let new : ReplyIs t.ghost g s.views.promise a reply = record { node = refl; inc = refl; view = refl; sent = subst (λ z. Has (group.Answer z reply) t.ghost.ps) asked shown.1; seen = shown.2; part = shown.3; names = shown.4 } in
-        subst (λ b. Tied g w n (views_taken f s (gathered (views_at_work s.views) (with_answer e a) b))) (sym (more e q)) (set (with_answer e a) (gathers_more t.ghost g n s.views.inc s.views.view s.views.promise e a reply k.1 new h))
+        subst (λ b. Tied g w n (views_taken f s (gathered (views_at_work s.views) (with_answer e (record { node = p.from; inc = p.inc; view = old; parts = parts })) b))) (sym (more e q)) (counted_tied v old parts g w n s p is delivered e q r t)
 
     at : (o : Option Exchange) → s.views.gathering ≡ o → Tied g w n (views_taken f s (answer_to (views_at_work s.views) v (record { node = p.from; inc = p.inc; view = old; parts = parts }) o))
     at None q = t
@@ -162,9 +183,9 @@ number_least a b l = grind (arith, nat_tests)
 
 module _ (g : List ℕ) (w : Scene) (n : ℕ) (s : Core) (t : Tied g w n s) where
   -- the own answer is there, and the gathering begins with it
-  opens_tied : (mask : Mask) → s.views.promise.coord ≡ n → s.views.promise.inc ≡ s.views.inc → 1 < s.views.promise.number → Lt s.views.view s.views.promise → Tied g w n (record s { views = record (s.views) { gathering = Some (with_answer (opened s.views.promise mask) (record { node = s.views.me; inc = s.views.inc; view = s.views.view; parts = own_parts s })) } })
+  pub opens_tied : (mask : Mask) → has_node mask s.views.me ≡ true → s.views.promise.coord ≡ n → s.views.promise.inc ≡ s.views.inc → 1 < s.views.promise.number → Lt s.views.view s.views.promise → Tied g w n (record s { views = record (s.views) { gathering = Some (with_answer (opened s.views.promise mask) (record { node = s.views.me; inc = s.views.inc; view = s.views.view; parts = own_parts s })) } })
   unfolding row_of opened with_answer
-  opens_tied mask coord inc later lt =
+  opens_tied mask there coord inc later lt =
       let x : Ghost = t.ghost in
       let h = t.own.0 in
       let r : Reply = record { node = n; inc = (x.nodes n).inc; view = (x.nodes n).view; list = (x.nodes n).list } in
@@ -201,6 +222,7 @@ module _ (g : List ℕ) (w : Scene) (n : ℕ) (s : Core) (t : Tied g w n s) wher
         came = λ q i. (a, inl refl, subst (λ c. ReplyIs y g v a c) (sym (only_one r q i)) reply);
         own = (a, inl refl, h.stands.me, refl);
         single = λ b c i j q. only_one a b i ∙ sym (only_one a c j);
+        asked = λ b i. subst (λ (z : Answer). has_node mask z.node ≡ true) (sym (only_one a b i)) there;
       } in
       let views : Views = record (s.views) { gathering = Some e } in
       let stands : Stands y n views = record { me = h.stands.me; up = h.stands.up; inc = h.stands.inc; view = h.stands.view; promise = h.stands.promise; seated = h.stands.seated } in
@@ -211,38 +233,53 @@ prepares_tied g w n v mask [] s t = t
 prepares_tied g w n v mask (m ∷ ns) s t =
     prepares_tied g w n v mask ns (sent s m (body.View (view.Prepare v mask))) (tied_sent g w n s t m (body.View (view.Prepare v mask)) tt)
 
+-- the next view is promised, and the own answer gathered for it
+module _ (mask : Mask) (g : List ℕ) (w : Scene) (n : ℕ) (s : Core) (t : Tied g w n s) where
+  k : Whole (opening_of w.config) t.ghost.nodes t.ghost.ps t.ghost.all t.ghost.leads t.ghost.bases
+  k = whole t.life
+
+  below : Le s.views.view s.views.promise
+  below = subst (λ (z : ViewId × ViewId). Le z.0 z.1) (λ i. (t.own.0.stands.view i, t.own.0.stands.promise i)) (k.good.inv.node n).below
+
+  begun : 0 < s.views.view.number
+  begun = subst (λ (z : ViewId). 0 < z.number) t.own.0.stands.view ((k.good.past.seated n).was (subst (λ j. 0 < j) (sym t.own.0.stands.inc) t.own.0.stands.up)).1
+
+  later : 1 < (next_view s.views).number
+  unfolding next_view
+  later = let a = number_least s.views.view s.views.promise below in let b = begun in omega arith
+
+  pub next_promised : Tied g w n (record s { views = record (s.views) { promise = next_view s.views; gathering = None } })
+  next_promised = tied_promised g w n s t (next_view s.views) (next_later s.views)
+
+  coord_is : (next_view s.views).coord ≡ s.views.me
+  unfolding next_view
+  coord_is = refl
+
+  inc_is : (next_view s.views).inc ≡ s.views.inc
+  unfolding next_view
+  inc_is = refl
+
+  pub opened_tied : has_node mask s.views.me ≡ true → Tied g w n (record s { views = record (s.views) { promise = next_view s.views; gathering = Some (with_answer (opened (next_view s.views) mask) (own_answer s.views (own_parts s))) } })
+  unfolding own_parts held_rows
+  opened_tied there =
+      opens_tied g w n (record s { views = record (s.views) { promise = next_view s.views; gathering = None } }) next_promised mask there (coord_is ∙ t.own.0.stands.me) inc_is later (le_lt_trans s.views.view s.views.promise (next_view s.views) below (next_later s.views))
+
 -- asking for the next view, where others are asked too
 pub asks_tied : (mask : Mask) (g : List ℕ) (w : Scene) (n : ℕ) (f : Answering) (s : Core) → all_answered (with_answer (opened (next_view s.views) mask) (own_answer s.views (own_parts s))) ≡ false → Tied g w n s → Tied g w n (views_taken f s (ask_row (views_at_work s.views) mask (own_parts s)))
-unfolding ask_row ask_if asks_view gathers gathered gathering_set view_sent_all promised views_taken install_applied own_parts held_rows next_view
-asks_tied mask g w n f s more t = by (may_ask s.views mask) (nat_le (length (own_parts s)) max_parts)
+unfolding ask_row ask_if may_ask asks_view gathers gathered gathering_set view_sent_all promised views_taken install_applied
+asks_tied mask g w n f s more t = by (may_ask s.views mask) refl
   where
-    k : Whole (opening_of w.config) t.ghost.nodes t.ghost.ps t.ghost.all t.ghost.leads t.ghost.bases
-    k = whole t.life
-
-    below : Le s.views.view s.views.promise
-    below = subst (λ (z : ViewId × ViewId). Le z.0 z.1) (λ i. (t.own.0.stands.view i, t.own.0.stands.promise i)) (k.good.inv.node n).below
-
-    begun : 0 < s.views.view.number
-    begun = subst (λ (z : ViewId). 0 < z.number) t.own.0.stands.view ((k.good.past.seated n).was (subst (λ j. 0 < j) (sym t.own.0.stands.inc) t.own.0.stands.up)).1
-
-    later : 1 < (next_view s.views).number
-    later = let a = number_least s.views.view s.views.promise below in let b = begun in omega arith
-
-    promises : Tied g w n (record s { views = record (s.views) { promise = next_view s.views; gathering = None } })
-    promises = tied_promised g w n s t (next_view s.views) (next_later s.views)
-
-    asks : (b : Bool) → Tied g w n (views_taken f s (asks_view (views_at_work s.views) (next_view s.views) mask (own_parts s) b))
-    asks false = promises
-    asks true =
-        let s2 : Core = record s { views = record (s.views) { promise = next_view s.views; gathering = None } } in
-        let o = opens_tied g w n s2 promises mask t.own.0.stands.me refl later (le_lt_trans s.views.view s.views.promise (next_view s.views) below (next_later s.views)) in
+    asks : (b : Bool) → has_node mask s.views.me ≡ true → Tied g w n (views_taken f s (asks_view (views_at_work s.views) (next_view s.views) mask (own_parts s) b))
+    asks false there = next_promised mask g w n s t
+    asks true there =
         let ns : List ℕ = filter (λ m. not (m == s.views.me)) (nodes_of mask) in
-        let done = prepares_tied g w n (next_view s.views) mask ns (record s { views = record (s.views) { promise = next_view s.views; gathering = Some (with_answer (opened (next_view s.views) mask) (own_answer s.views (own_parts s))) } }) o in
+        let done = prepares_tied g w n (next_view s.views) mask ns (record s { views = record (s.views) { promise = next_view s.views; gathering = Some (with_answer (opened (next_view s.views) mask) (own_answer s.views (own_parts s))) } }) (opened_tied mask g w n s t there) in
         subst (λ b. Tied g w n (views_taken f s (gathered (view_sent_all (promised (views_at_work s.views) (next_view s.views)) ns (view.Prepare (next_view s.views) mask)) (with_answer (opened (next_view s.views) mask) (own_answer s.views (own_parts s))) b))) (sym more) done
 
-    by : (b c : Bool) → Tied g w n (views_taken f s (ask_if (views_at_work s.views) mask (own_parts s) b))
-    by false c = t
-    by true c = asks (nat_le (length (own_parts s)) max_parts)
+    by : (b : Bool) → may_ask s.views mask ≡ b → Tied g w n (views_taken f s (ask_if (views_at_work s.views) mask (own_parts s) b))
+    by false e = t
+    by true e =
+        asks (nat_le (length (own_parts s)) max_parts) (and_parts (has_node mask s.views.me) (nat_lt (max s.views.promise.number s.views.floor) last_u32) e).0
 
 pub ask_is_tied : (mask : Mask) (g : List ℕ) (w : Scene) (n : ℕ) (f : Answering) (s : Core) → all_answered (with_answer (opened (next_view s.views) mask) (own_answer s.views (own_parts s))) ≡ false → Tied g w n s → Tied g w n (order_row f s mask)
 unfolding order_row

@@ -1,5 +1,5 @@
 -- What holds of a group goes on holding.
-use Rattle.std.proofs.Common.{◌≡◌, ℕ, List, Option, Some, None, refl, sym, ap, ◌∙◌, subst, inl, inr}
+use Rattle.std.proofs.Common.{◌≡◌, ◌⊎◌, ℕ, List, Option, Some, None, refl, sym, ap, ◌∙◌, subst, inl, inr}
 use Rattle.std.specs.Prelude.{Bool, slice_get}
 use Rattle.rsct_packet.specs.declared.ids.ViewId.{ViewId}
 use Rattle.rsct_packet.specs.declared.ids.Member.{Member}
@@ -89,6 +89,7 @@ module _ (x y : Ghost) (o : Goes x y) where
         came = λ r i. let z = h.came r i in (z.0, z.1, reply_on g promise z.0 r z.2);
         own = h.own;
         single = h.single;
+        asked = h.asked;
       }
 
   -- an install's view is one that its coordinator entered
@@ -147,18 +148,22 @@ module _ (x y : Ghost) (o : Goes x y) where
   acked_on v m i k (inl e) = inl e
   acked_on v m i k (inr h) = inr (o.packets (group.Ack v m i k) h)
 
--- what was of node m is as it was: no other leads, no refusal is new, and none of its records
+-- some node entered the view, or refused something in it
+abbrev pub Settled : Ghost → ViewId → Type 0
+Settled x v = Seen x v ⊎ ((p : ProviderId) × (r : ℕ) × Has (group.Refusal v p r) x.ps)
+
+-- what was of node m is as it was: no other leads where that is settled, no refusal is new, and none of its records
 pub record Spares (x y : Ghost) (m : ℕ) : Type 0 where
   pub goes : Goes x y
   pub list : (y.nodes m).list ≡ (x.nodes m).list
-  pub leads : (v : ViewId) → y.leads v ≡ x.leads v
+  pub leads : (v : ViewId) → Settled x v → y.leads v ≡ x.leads v
   pub refusals : (v : ViewId) (p : ProviderId) (r : ℕ) → Has (group.Refusal v p r) y.ps → Has (group.Refusal v p r) x.ps
   pub puts : (u : ViewId) (k : ℕ) (e : Entry) → Has (Put m u k e) (kept y.all) → Has (Put m u k e) (kept x.all)
   pub told : (p : ProviderId) (r : ℕ) (u : ViewId) → p.node ≡ m → Has (Noted (Told p r u)) y.all → Has (Noted (Told p r u)) x.all
 
 pub spares_same : (x : Ghost) (m : ℕ) → Spares x x m
 spares_same x m =
-    record { goes = goes_same x; list = refl; leads = λ v. refl; refusals = λ v p r h. h; puts = λ u k e h. h; told = λ p r u e h. h }
+    record { goes = goes_same x; list = refl; leads = λ v s. refl; refusals = λ v p r h. h; puts = λ u k e h. h; told = λ p r u e h. h }
 
 module _ (x y : Ghost) (m : ℕ) (o : Spares x y m) where
   pub row_on : (v : ViewId) (ms : List Member) (row : GroupRow) → Seen x v → RowIs x m v ms row → RowIs y m v ms row
@@ -184,12 +189,12 @@ module _ (x y : Ghost) (m : ℕ) (o : Spares x y m) where
   owes_on g inc s h =
       record { me = h.me; inc_of = h.inc_of; providers = h.providers; requests = λ q i e. owed_on inc q (h.requests q i e) }
 
-  pub decides_on : (inc : ℕ) (v : ViewId) (l : Led) → LeaderKeeps x m inc v l → LeaderKeeps y m inc v l
-  decides_on inc v l h =
+  pub decides_on : (inc : ℕ) (v : ViewId) (l : Led) → Seen x v → LeaderKeeps x m inc v l → LeaderKeeps y m inc v l
+  decides_on inc v l seen h =
       record {
-        refused = λ p r e i. h.refused p r (sym (o.leads v) ∙ e) (o.refusals v p r i);
-        begun = λ p r i e a b c. h.begun p r i e (sym (o.leads v) ∙ a) (subst (λ z. slice_get z i ≡ Some e) o.list b) c;
-        waiting = λ p e i. let z = h.waiting p (sym (o.leads v) ∙ e) i in
+        refused = λ p r e i. h.refused p r (sym (o.leads v (inl seen)) ∙ e) (o.refusals v p r i);
+        begun = λ p r i e a b c. h.begun p r i e (sym (o.leads v (inl seen)) ∙ a) (subst (λ z. slice_get z i ≡ Some e) o.list b) c;
+        waiting = λ p e i. let z = h.waiting p (sym (o.leads v (inl seen)) ∙ e) i in
             record {
               proposal = z.proposal;
               sent = o.goes.packets _ z.sent;
@@ -198,14 +203,14 @@ module _ (x y : Ghost) (m : ℕ) (o : Spares x y m) where
               unbegun = λ i e b c. z.unbegun i e (subst (λ l. slice_get l i ≡ Some e) o.list b) c;
               decided = z.decided;
             };
-        later = λ u l e p r i. h.later u l (sym (o.leads u) ∙ e) p r (o.refusals u p r i);
+        later = λ u l e p r i. let k = o.refusals u p r i in h.later u l (sym (o.leads u (inr (p, r, k))) ∙ e) p r k;
       }
 
-  pub names_on : (g : List ℕ) (fixed : Bool) (inc : ℕ) (v : ViewId) (ms : List Member) (table : List Leader) → Names x g fixed m inc v ms table → Names y g fixed m inc v ms table
-  names_on g fixed inc v ms table h =
+  pub names_on : (g : List ℕ) (fixed : Bool) (inc : ℕ) (v : ViewId) (ms : List Member) (table : List Leader) → Seen x v → Names x g fixed m inc v ms table → Names y g fixed m inc v ms table
+  names_on g fixed inc v ms table seen h =
       record {
-        named = λ k a b c e. let z = h.named k a b c e in (z.0, z.1, o.leads v ∙ z.2);
-        unnamed = λ a b c e. o.leads v ∙ h.unnamed a b c e;
+        named = λ k a b c e. let z = h.named k a b c e in (z.0, z.1, o.leads v (inl seen) ∙ z.2);
+        unnamed = λ a b c e. o.leads v (inl seen) ∙ h.unnamed a b c e;
       }
 
   -- all but where it stands
@@ -218,8 +223,8 @@ module _ (x y : Ghost) (m : ℕ) (o : Spares x y m) where
         gathering = gathering;
         install = subst (λ k. InstallsIf y g k) (sym d) (install_on x y o.goes g s.install h.install);
         owes = subst (λ k. Owes y g m k u) (sym b) (owes_on g s.inc u h.owes);
-        decides = subst (λ (k : ℕ × ViewId). LeaderKeeps y m k.0 k.1 row.led) (λ z. (sym b z, sym a z)) (decides_on s.inc s.view row.led h.decides);
-        names = subst (λ (k : ℕ × ViewId × List Member). Names y g fixed m k.0 k.1 k.2 table) (λ z. (sym b z, sym a z, sym c z)) (names_on g fixed s.inc s.view s.members table h.names);
+        decides = subst (λ (k : ℕ × ViewId). LeaderKeeps y m k.0 k.1 row.led) (λ z. (sym b z, sym a z)) (decides_on s.inc s.view row.led (m, s.inc, s.members, h.stands.seated) h.decides);
+        names = subst (λ (k : ℕ × ViewId × List Member). Names y g fixed m k.0 k.1 k.2 table) (λ z. (sym b z, sym a z, sym c z)) (names_on g fixed s.inc s.view s.members table (m, s.inc, s.members, h.stands.seated) h.names);
       }
 
   pub stands_on : y.nodes m ≡ x.nodes m → (s : Views) → Stands x m s → Stands y m s

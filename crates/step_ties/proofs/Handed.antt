@@ -132,7 +132,7 @@ module _ (g : List ℕ) (w : Scene) (n : ℕ) (h : List ℕ) (v : ViewId) (i : �
 
     heard_spares : (x : Ghost) (p : ProviderId) (ms : List ProviderId) (value : List ℕ) (m : ℕ) → Spares x (record x { all = Noted (Heard p v i e ms value) ∷ x.all }) m
     heard_spares x p ms value m =
-        record { goes = heard_goes x (Heard p v i e ms value); list = refl; leads = λ v. refl; refusals = λ v p r h. h; puts = λ u k e h. h; told = λ q r u e h. not_told q r u h }
+        record { goes = heard_goes x (Heard p v i e ms value); list = refl; leads = λ v s. refl; refusals = λ v p r h. h; puts = λ u k e h. h; told = λ q r u e h. not_told q r u h }
       where
         not_told : (q : ProviderId) (r : ℕ) (u : ViewId) → Has (Noted (Told q r u)) (Noted (Heard p v i e ms value) ∷ x.all) → Has (Noted (Told q r u)) x.all
         not_told q r u (inl z) = absurd (cc)

@@ -25,3 +25,7 @@ pub mod Appending
 pub mod LedGroups
 pub mod Votes
 pub mod Rings
+pub mod Sides
+pub mod Replies
+pub mod Founding
+pub mod FoundingRows

@@ -152,7 +152,7 @@ module _ (g : List ℕ) (w : Scene) (n : ℕ) (s : Core) (t : Tied g w n s) (e :
         record {
           goes = goes;
           list = ap (λ (k : Standing). k.list) (set_there t.ghost.nodes n (grown (t.ghost.nodes n) e) m ne);
-          leads = λ v. refl;
+          leads = λ v s. refl;
           refusals = refusals;
           puts = λ v k f h. not_put v k f h;
           told = λ p r v q h. not_told p r v h;

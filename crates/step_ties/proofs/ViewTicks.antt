@@ -33,7 +33,7 @@ installs_tied g w n i (m ∷ ns) s t h =
 
 module _ (g : List ℕ) (w : Scene) (n : ℕ) (f : Answering) (s : Core) (t : Tied g w n s) where
   -- what is gathered ages, and PREPARE is sent again
-  ages_tied : Tied g w n (views_taken f s (prepared_again (views_at_work s.views) s.views.gathering))
+  pub ages_tied : Tied g w n (views_taken f s (prepared_again (views_at_work s.views) s.views.gathering))
   unfolding prepared_again gathering_set view_sent_all aged views_taken install_applied row_of
   ages_tied = at s.views.gathering refl
     where
@@ -57,6 +57,7 @@ module _ (g : List ℕ) (w : Scene) (n : ℕ) (f : Answering) (s : Core) (t : Ti
             came = k.came;
             own = k.own;
             single = k.single;
+            asked = k.asked;
           } in
           let set : Tied g w n (record s { views = views }) = tied_views g w n s t views (rest_on t.ghost t.ghost n (spares_same t.ghost n) g (is_fixed s.config.mode) s.views views (row_of s g) s.groups s.sessions s.names (record { me = h.stands.me; up = h.stands.up; inc = h.stands.inc; view = h.stands.view; promise = h.stands.promise; seated = h.stands.seated }) refl refl refl refl older h) refl in
           prepares_tied g w n e.view e.asked (filter (λ m. not (has_answered e m)) (nodes_of e.asked)) (record s { views = views }) set
@@ -76,14 +77,14 @@ module _ (g : List ℕ) (w : Scene) (n : ℕ) (f : Answering) (s : Core) (t : Ti
 
 module _ (g : List ℕ) (w : Scene) (n : ℕ) (f : Answering) (s : Core) (t : Tied g w n s) where
   -- whether it is stuck is noted
-  noted_tied : (bs : List Bool) → Tied g w n (record s { views = record (s.views) { stuck = bs } })
+  pub noted_tied : (bs : List Bool) → Tied g w n (record s { views = record (s.views) { stuck = bs } })
   unfolding row_of
   noted_tied bs =
       let h = t.own.0 in
       let views : Views = record (s.views) { stuck = bs } in
       tied_views g w n s t views (rest_on t.ghost t.ghost n (spares_same t.ghost n) g (is_fixed s.config.mode) s.views views (row_of s g) s.groups s.sessions s.names (record { me = h.stands.me; up = h.stands.up; inc = h.stands.inc; view = h.stands.view; promise = h.stands.promise; seated = h.stands.seated }) refl refl refl refl h.gathering h) refl
 
-  abbrev noted : Core
+  abbrev pub noted : Core
   noted = record s { views = record (s.views) { stuck = drop 1 s.views.stuck ++ is_stuck s.views ∷ [] } }
 
   -- (2) asking, or PREPARE again

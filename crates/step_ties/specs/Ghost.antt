@@ -1,9 +1,10 @@
 -- What stands for one group: how nodes stand to it, its packets, its lines, its leaders and its bases; and what a node
 -- keeps or a packet carries of it, which shows the whole lists that stand here.
-use Rattle.std.specs.Prelude.{ℕ, ◌≤◌, ◌<◌, ◌≡◌, ◌⊎◌, List, [], length, drop, find, Option, Some, None}
+use Rattle.std.specs.Prelude.{ℕ, ◌≤◌, ◌<◌, ◌≡◌, ◌⊎◌, List, [], length, drop, find, Option, Some, None, true}
 use Rattle.std.specs.Str.{bytes_eq}
 use Rattle.rsct_packet.specs.declared.ids.ViewId.{ViewId}
 use Rattle.rsct_packet.specs.declared.ids.Member.{Member}
+use Rattle.rsct_packet.specs.Mask.{has_node}
 use Rattle.rsct_packet.specs.Search.{Has}
 use Rattle.group_entry.specs.declared.entry.Entry.{Entry}
 use Rattle.proposal_core.specs.GroupView.{GroupView}
@@ -100,6 +101,7 @@ pub record Gathers (x : Ghost) (g : List ℕ) (n inc : ℕ) (v promise : ViewId)
   pub came : (r : Reply) → Has r replies → (a : Answer) × Has a answers × ReplyIs x g promise a r
   pub own : (a : Answer) × Has a answers × (a.node ≡ n) × (a.inc ≡ inc)
   pub single : (a b : Answer) → Has a answers → Has b answers → a.node ≡ b.node → a ≡ b
+  pub asked : (a : Answer) → Has a answers → has_node e.asked a.node ≡ true
 
 abbrev pub GathersIf : Ghost → List ℕ → ℕ → ℕ → ViewId → ViewId → Option Exchange → Type 0
 GathersIf x g n inc v promise None = Unit {0}

@@ -1,7 +1,7 @@
 //! The step of a node, tied to the lives of groups.
 #![tactic(auto)]
 
-ghost use Rattle.step_ties.specs.Rows.{NothingTied, StartTied, StopTied, BeginTied, EndTied, TakenTied, RefuseTied, PrepareTied, AckTied, EntryTied, AnswerTied, AskTied, ViewsPartTied, InstallTied, FixedStartTied, OwedPartTied, VoteTied, GoneTied, RingsPartTied, RingTied, ReportTied, QueryTied, ReplyTied};
+ghost use Rattle.step_ties.specs.Rows.{NothingTied, StartTied, StopTied, BeginTied, EndTied, TakenTied, RefuseTied, PrepareTied, AckTied, EntryTied, AnswerTied, AskTied, ViewsPartTied, InstallTied, FixedStartTied, OwedPartTied, VoteTied, GoneTied, RingsPartTied, RingTied, ReportTied, QueryTied, ReplyTied, FoundingAnswerTied, FoundingAskTied, FoundingTickTied};
 
 /// Before anything happened, nothing stands for the dawn of each group's life.
 #[tactic(auto, using(crate::proofs::Begins::nothing_tied))]
@@ -139,4 +139,22 @@ pub fn query_is_tied()
 #[tactic(auto, using(crate::proofs::Rings::reply_is_tied))]
 pub fn reply_is_tied()
     ensures { ReplyTied }
+{}
+
+/// ANSWER, also the last one: the coordinator founds the view, where its own lists go on to the install.
+#[tactic(auto, using(crate::proofs::FoundingRows::founding_answer_tied))]
+pub fn founding_answer_is_tied()
+    ensures { FoundingAnswerTied }
+{}
+
+/// An order to ask, also oneself alone.
+#[tactic(auto, using(crate::proofs::FoundingRows::founding_ask_tied))]
+pub fn founding_ask_is_tied()
+    ensures { FoundingAskTied }
+{}
+
+/// The tick of views, parts (2) and (3), also where it asks oneself alone.
+#[tactic(auto, using(crate::proofs::FoundingRows::founding_tick_tied))]
+pub fn founding_tick_is_tied()
+    ensures { FoundingTickTied }
 {}
