@@ -1,0 +1,144 @@
+//! A packet in place: what a daemon reads off a datagram.
+ghost use Rattle.std.specs.Prelude.{◌≡◌, ◌≤◌, Option, option_map};
+ghost use Rattle.node_state.specs.Bodies.{body_at};
+ghost use Rattle.node_state.specs.Bytes.{packet_of};
+ghost use Rattle.packet_codec.specs.InPlace.{body_in, packet_in};
+
+use crate::groups::{
+    ack_body, entry_body, gone_body, leader_body, lookup_body, request_body, tell_body, vote_body,
+};
+use crate::rings::{
+    commit_body, death_body, heartbeat_body, join_body, proclaim_body, ptc_ack_body, ptc_body,
+    query_body, reply_body, report_body,
+};
+use crate::views::{answer_body, install_body, prepare_body, refuse_body, taken_body};
+use adapter_ring::RingPacket;
+use client_callbacks::Why;
+use group_attr::Phases;
+use packet_bodies::{Ack, Gone, GroupRef, Leader, Query, Reply, ReportRow};
+use proposal_core::{EntryRef, ProposalRef, Vote};
+use rsct_packet::{Listed, Mask, Packet, ProtoId, ProviderId, ViewId};
+use view_exchange::{AnswerRef, InstallRef};
+
+/// What a packet says, where it stands: lists, texts and entries are parts of the datagram.
+#[derive(Drop)]
+pub enum BodyRef<'a> {
+    Ring(RingPacket),
+    Report(Listed<'a, ReportRow>),
+    Prepare {
+        view: ViewId,
+        mask: Mask,
+    },
+    Answer {
+        view: ViewId,
+        answer: AnswerRef<'a>,
+    },
+    Refuse {
+        view: ViewId,
+        number: u32,
+    },
+    Install(InstallRef<'a>),
+    Taken(ViewId),
+    Lookup(GroupRef<'a>),
+    Name(Leader<'a>),
+    Request {
+        group: GroupRef<'a>,
+        p: ProviderId,
+        r: u32,
+        phases: Phases,
+        proposal: ProposalRef<'a>,
+    },
+    Tell {
+        group: GroupRef<'a>,
+        p: ProviderId,
+        r: u32,
+        why: Why,
+    },
+    Entry {
+        group: GroupRef<'a>,
+        place: u32,
+        stable: u32,
+        entry: EntryRef<'a>,
+    },
+    Ack(Ack<'a>),
+    Vote {
+        group: GroupRef<'a>,
+        proto: ProtoId,
+        phase: u16,
+        p: ProviderId,
+        vote: Vote,
+        value: Option<&'a [u8]>,
+        message: Option<&'a [u8]>,
+    },
+    Gone(Gone<'a>),
+    Query(Query),
+    Reply(Reply<'a>),
+}
+
+/// A packet where it stands: the network that it came on, its sender with its incarnation and its receiver (0 for a
+/// status client), its level (1 or 2) and at level 2 its domain, else 0.
+#[derive(Drop)]
+pub struct PacketRef<'a> {
+    pub network: u8,
+    pub from: u8,
+    pub to: u8,
+    pub inc: u32,
+    pub level: u8,
+    pub domain: u32,
+    pub body: BodyRef<'a>,
+}
+
+/// The body of a packet of this kind, which is one of 1 to 23.
+fn read_body(kind: u8, b: &[u8]) -> Option<BodyRef<'_>>
+    requires low { 1 ≤ kind }
+    requires high { kind ≤ 23 }
+    ensures { option_map body_in result ≡ body_at kind b.now }
+{
+    match kind {
+        1 => heartbeat_body(b),
+        2 => proclaim_body(b),
+        3 => join_body(b),
+        4 => ptc_body(b),
+        5 => ptc_ack_body(b),
+        6 => commit_body(b),
+        7 => death_body(b),
+        8 => report_body(b),
+        9 => prepare_body(b),
+        10 => answer_body(b),
+        11 => refuse_body(b),
+        12 => install_body(b),
+        13 => taken_body(b),
+        14 => lookup_body(b),
+        15 => leader_body(b),
+        16 => request_body(b),
+        17 => tell_body(b),
+        18 => entry_body(b),
+        19 => ack_body(b),
+        20 => vote_body(b),
+        21 => gone_body(b),
+        22 => query_body(b),
+        23 => reply_body(b),
+        _ => unreachable!(),
+    }
+}
+
+impl<'a> PacketRef<'a> {
+    /// The packet of a datagram, which copies nothing. None exactly where the bytes are no packet: a head, and a
+    /// body of its kind's grammar that takes all that the head names.
+    #[tactic(auto, unfolding(node_state::specs::Bytes::packet_of))]
+    pub fn read(b: &'a [u8]) -> Option<PacketRef<'a>>
+        ensures { option_map packet_in result ≡ packet_of b.now }
+    {
+        let packet = Packet::read(b)?;
+        let body = read_body(packet.head.kind, packet.body)?;
+        Some(PacketRef {
+            network: packet.head.network,
+            from: packet.head.from,
+            to: packet.head.to,
+            inc: packet.head.inc,
+            level: packet.level,
+            domain: packet.domain,
+            body,
+        })
+    }
+}

@@ -1,0 +1,319 @@
+//! Writing packets: each is taken to the end of `out` by its one spelling.
+ghost use Rattle.std.specs.Prelude.{◌≡◌, ◌++◌, OnOk, OnErr, IfOk};
+ghost use Rattle.rsct_packet.specs.Fields.{u8_text, bytes_text, AreShort};
+ghost use Rattle.rsct_packet.specs.Format.{OptionFits, optional_text};
+ghost use Rattle.group_attr.specs.Codec.{phases_number};
+ghost use Rattle.node_state.specs.Bodies.{why_code, why_data_text, vote_number, kind_of, ring_kind, view_kind, ring_body_text, view_body_text, named_text, body_text};
+ghost use Rattle.node_state.specs.Bytes.{head_of, bytes_of};
+ghost use Rattle.packet_codec.specs.Spelled.{IsRingBody, IsViewBody, IsWhy, IsBody, IsSpelled};
+
+use adapter_ring::RingPacket;
+use client_callbacks::Why;
+use group_attr::Phases;
+use group_entry::optional_bytes;
+use node_state::{Body, Packet};
+use packet_bodies::{
+    Death, GroupRef, Leader, Prepare, Query, Refuse, RingMask, put_death, put_group, put_leader,
+    put_prepare, put_query, put_refuse, put_reply, put_report, put_ring_mask,
+};
+use proposal_core::Vote;
+use rsct_packet::{
+    Head, NoMemory, Text, put_mask, put_optional_bytes, put_proto, put_provider, put_ring, put_u8,
+    put_u16, put_u32, put_view, write_head, write_head2,
+};
+use std::alloc::Global;
+use view_core::ViewPacket;
+use view_exchange::put_answer;
+
+#[tactic(auto, unfolding(packet_bodies::specs::Body::ring_mask_text, packet_bodies::specs::Body::death_text))]
+fn put_ring_packet(out: &mut Vec<u8>, x: RingPacket) -> Result<(), NoMemory>
+    requires { IsRingBody x }
+    ensures { OnOk result (out.new.items ≡ out.old.items ++ ring_body_text x) }
+{
+    match x {
+        RingPacket::Heartbeat { ring } => put_ring(out, ring),
+        RingPacket::Proclaim { ring } => put_ring(out, ring),
+        RingPacket::Join { mask } => put_mask(out, mask),
+        RingPacket::Ptc { ring, mask } => put_ring_mask(out, RingMask { ring, mask }),
+        RingPacket::PtcAck { ring } => put_ring(out, ring),
+        RingPacket::Commit { ring, mask } => put_ring_mask(out, RingMask { ring, mask }),
+        RingPacket::Death { ring, node } => put_death(out, Death { ring, node }),
+    }
+}
+
+#[tactic(auto, unfolding(packet_bodies::specs::Body::prepare_text, packet_bodies::specs::Body::refuse_text))]
+fn put_view_packet(alloc: Global, out: &mut Vec<u8>, x: &ViewPacket) -> Result<(), NoMemory>
+    requires { IsViewBody x.now }
+    ensures { OnOk result (out.new.items ≡ out.old.items ++ view_body_text x.now) }
+{
+    match x {
+        ViewPacket::Prepare { view, mask } => put_prepare(
+            out,
+            Prepare {
+                view: *view,
+                mask: *mask,
+            },
+        ),
+        ViewPacket::Answer { view, old, parts } => {
+            put_view(out, *view)?;
+            put_answer(alloc, out, *old, parts.as_slice())
+        }
+        ViewPacket::Refuse { view, number } => put_refuse(
+            out,
+            Refuse {
+                view: *view,
+                number: *number,
+            },
+        ),
+        ViewPacket::Install { install } => install.write(alloc, out),
+        ViewPacket::Taken { view } => put_view(out, *view),
+    }
+}
+
+fn phases_number(phases: Phases) -> u8
+    ensures { result ≡ phases_number phases }
+{
+    match phases {
+        Phases::One => 1,
+        Phases::Many => 2,
+    }
+}
+
+fn vote_number(vote: Vote) -> u8
+    ensures { result ≡ vote_number vote }
+{
+    match vote {
+        Vote::Approve => 1,
+        Vote::Continue => 2,
+        Vote::Reject => 3,
+    }
+}
+
+fn why_code(why: &Why) -> u8
+    ensures { result ≡ why_code why.now }
+{
+    match why {
+        Why::NotAMember => 7,
+        Why::BadAttributes => 9,
+        Why::DuplicateInstance => 10,
+        Why::Collide(_) => 12,
+        Why::NoSource(_) => 13,
+        Why::ListFull(_, _) => 15,
+        Why::GroupFull(_) => 16,
+        Why::GroupsFull(_) => 17,
+        Why::Dissolved => 19,
+    }
+}
+
+fn put_why_data(out: &mut Vec<u8>, why: &Why) -> Result<(), NoMemory>
+    requires { IsWhy why.now }
+    ensures { OnOk result (out.new.items ≡ out.old.items ++ why_data_text why.now) }
+{
+    match why {
+        Why::Collide(proto) => put_proto(out, *proto),
+        Why::NoSource(len) => put_u32(out, *len),
+        Why::ListFull(places, bytes) => {
+            put_u32(out, *places)?;
+            put_u32(out, *bytes)
+        }
+        Why::GroupFull(n) => put_u32(out, *n),
+        _ => Ok(()),
+    }
+}
+
+/// A vote with its value and its message.
+fn put_filled(
+    out: &mut Vec<u8>,
+    vote: Vote,
+    value: &Option<Text>,
+    message: &Option<Text>,
+) -> Result<(), NoMemory>
+    requires value { OptionFits AreShort value.now }
+    requires message { OptionFits AreShort message.now }
+    ensures { OnOk result (out.new.items ≡ out.old.items ++ (u8_text (vote_number vote) ++ (optional_text bytes_text value.now ++ optional_text bytes_text message.now))) }
+{
+    put_u8(out, vote_number(vote))?;
+    put_optional_bytes(out, optional_bytes(value))?;
+    put_optional_bytes(out, optional_bytes(message))
+}
+
+/// The body of a packet.
+#[tactic(auto, unfolding(node_state::specs::Bodies::body_text, packet_bodies::specs::Body::leader_text, packet_bodies::specs::Body::query_text, packet_bodies::specs::Group::reply_text))]
+fn put_body(alloc: Global, out: &mut Vec<u8>, body: &Body) -> Result<(), NoMemory>
+    requires { IsBody body.now }
+    ensures { OnOk result (out.new.items ≡ out.old.items ++ body_text body.now) }
+{
+    match body {
+        Body::Ring { packet } => put_ring_packet(out, *packet),
+        Body::Report { rows } => put_report(out, rows.as_slice()),
+        Body::View { packet } => put_view_packet(alloc, out, packet),
+        Body::Lookup { view, name } => put_group(out, &GroupRef::new(*view, name.bytes())),
+        Body::Name { view, name, leader } => put_leader(
+            out,
+            &Leader {
+                group: GroupRef::new(*view, name.bytes()),
+                leader: *leader,
+            },
+        ),
+        Body::Request {
+            view,
+            name,
+            p,
+            r,
+            phases,
+            proposal,
+        } => {
+            put_group(out, &GroupRef::new(*view, name.bytes()))?;
+            put_provider(out, *p)?;
+            put_u32(out, *r)?;
+            put_u8(out, phases_number(*phases))?;
+            proposal.write(alloc, out)
+        }
+        Body::Tell {
+            view,
+            name,
+            p,
+            r,
+            why,
+        } => {
+            put_group(out, &GroupRef::new(*view, name.bytes()))?;
+            put_provider(out, *p)?;
+            put_u32(out, *r)?;
+            put_u8(out, why_code(why))?;
+            put_why_data(out, why)
+        }
+        Body::Entry {
+            view,
+            name,
+            place,
+            stable,
+            entry,
+        } => {
+            put_group(out, &GroupRef::new(*view, name.bytes()))?;
+            put_u32(out, *place)?;
+            put_u32(out, *stable)?;
+            entry.write(alloc, out)
+        }
+        Body::Ack { view, name, len } => {
+            put_group(out, &GroupRef::new(*view, name.bytes()))?;
+            put_u32(out, *len)
+        }
+        Body::Vote {
+            view,
+            name,
+            proto,
+            phase,
+            p,
+            vote,
+            value,
+            message,
+        } => {
+            put_group(out, &GroupRef::new(*view, name.bytes()))?;
+            put_proto(out, *proto)?;
+            put_u16(out, *phase)?;
+            put_provider(out, *p)?;
+            put_filled(out, *vote, value, message)
+        }
+        Body::Gone { view, name, p } => {
+            put_group(out, &GroupRef::new(*view, name.bytes()))?;
+            put_provider(out, *p)
+        }
+        Body::Query { question, what } => put_query(
+            out,
+            Query {
+                question: *question,
+                what: *what,
+            },
+        ),
+        Body::Reply { question, text } => put_reply(out, *question, text.as_slice()),
+    }
+}
+
+fn ring_kind(x: &RingPacket) -> u8
+    ensures { result ≡ ring_kind x.now }
+{
+    match x {
+        RingPacket::Heartbeat { .. } => 1,
+        RingPacket::Proclaim { .. } => 2,
+        RingPacket::Join { .. } => 3,
+        RingPacket::Ptc { .. } => 4,
+        RingPacket::PtcAck { .. } => 5,
+        RingPacket::Commit { .. } => 6,
+        RingPacket::Death { .. } => 7,
+    }
+}
+
+fn view_kind(x: &ViewPacket) -> u8
+    ensures { result ≡ view_kind x.now }
+{
+    match x {
+        ViewPacket::Prepare { .. } => 9,
+        ViewPacket::Answer { .. } => 10,
+        ViewPacket::Refuse { .. } => 11,
+        ViewPacket::Install { .. } => 12,
+        ViewPacket::Taken { .. } => 13,
+    }
+}
+
+fn kind_of(body: &Body) -> u8
+    ensures { result ≡ kind_of body.now }
+{
+    match body {
+        Body::Ring { packet } => ring_kind(packet),
+        Body::Report { .. } => 8,
+        Body::View { packet } => view_kind(packet),
+        Body::Lookup { .. } => 14,
+        Body::Name { .. } => 15,
+        Body::Request { .. } => 16,
+        Body::Tell { .. } => 17,
+        Body::Entry { .. } => 18,
+        Body::Ack { .. } => 19,
+        Body::Vote { .. } => 20,
+        Body::Gone { .. } => 21,
+        Body::Query { .. } => 22,
+        Body::Reply { .. } => 23,
+    }
+}
+
+fn head_of(p: &Packet) -> Head
+    ensures { result ≡ head_of p.now }
+{
+    Head {
+        kind: kind_of(&p.body),
+        network: p.network,
+        from: p.from,
+        to: p.to,
+        inc: p.inc,
+    }
+}
+
+/// The spelling, in memory of its own.
+#[tactic(auto, unfolding(node_state::specs::Bytes::bytes_of))]
+fn spelled(alloc: Global, p: &Packet) -> Result<Vec<u8>, NoMemory>
+    requires { IsSpelled p.now }
+    ensures { IfOk result (λ v. v.items ≡ bytes_of p.now) }
+{
+    let mut body = Vec::new(alloc);
+    put_body(alloc, &mut body, &p.body)?;
+    let head = head_of(p);
+    let mut out = Vec::new(alloc);
+    if p.level == 1 {
+        write_head(&mut out, &head, body.len() as u32)?;
+    } else {
+        write_head2(&mut out, &head, p.domain, body.len() as u32)?;
+    }
+    out.extend_from_slice(body.as_slice())?;
+    Ok(out)
+}
+
+/// Takes a packet's one spelling to the end of `out`, and leaves `out` as before where memory has run out. The packet
+/// must have a spelling: a head within its limits, and a body by the grammar of its kind.
+pub fn write_packet(alloc: Global, out: &mut Vec<u8>, p: &Packet) -> Result<(), NoMemory>
+    requires { IsSpelled p.now }
+    ensures ok { OnOk result (out.new.items ≡ out.old.items ++ bytes_of p.now) }
+    ensures err { OnErr result (out.new.items ≡ out.old.items) }
+{
+    let text = spelled(alloc, p)?;
+    out.extend_from_slice(text.as_slice())?;
+    Ok(())
+}
