@@ -40,7 +40,7 @@ fn value(rt: &impl Abort, alloc: Global) -> Text {
     text.expect(rt, "a text")
 }
 
-/// Hands on that the provider begins to set the value `x` by the request 2.
+/// Hands on that the provider begins to set the value `x` by its second request.
 fn begin<C: Callbacks>(
     rt: &impl Abort,
     alloc: Global,
