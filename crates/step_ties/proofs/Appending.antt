@@ -184,12 +184,12 @@ get_pushed [] (suc i) e d q = absurd (cc)
 get_pushed (x ∷ xs) zero e d q = inl q
 get_pushed (x ∷ xs) (suc i) e d q = get_pushed xs i e d q
 
-module _ (g : List ℕ) (w : Scene) (n : ℕ) (s : Core) (t : Tied g w n s) (e : Entry) (u : SessionState) (l : Leaves s.sessions u e) (thawed : s.views.promise ≡ s.views.view) (led : t.ghost.leads s.views.view ≡ Some (member n s.views.inc)) (none : carried e ≡ []) where
+module _ (g : List ℕ) (w : Scene) (n : ℕ) (s : Core) (t : Tied g w n s) (e : Entry) (u : SessionState) (l : Leaves s.sessions u e) (room : fits_at_end s g e ≡ true) (thawed : s.views.promise ≡ s.views.view) (led : t.ghost.leads s.views.view ≡ Some (member n s.views.inc)) (none : carried e ≡ []) where
   abbrev append : group.Packet
   append = group.Append (t.ghost.nodes n).view (length (t.ghost.nodes n).list) e
 
   abbrev y : Ghost
-  y = put_ghost g w n s t e u l (append ∷ t.ghost.ps)
+  y = put_ghost g w n s t e u l room (append ∷ t.ghost.ps)
 
   nothing : (p : ProviderId) (r : ℕ) → Has (p, r) (carried e) → ⊥
   nothing p r h = subst (λ z. Has {A = ProviderId × ℕ} (p, r) z) none h
@@ -231,8 +231,8 @@ module _ (g : List ℕ) (w : Scene) (n : ℕ) (s : Core) (t : Tied g w n s) (e :
   -- the entry stands in flight, and the node leads
   lead_own : (t' : Tied g w n (with_sessions (put s g e) u)) × (Has (Put n s.views.view (len_of s g) e) (kept t'.ghost.all) × (state_of (put s g e) g ≡ state_of_list t'.ghost.bases s.views.view (take (len_of s g + 1) (puts_of n s.views.view (kept t'.ghost.all))))) × Has (group.Append s.views.view (len_of s g) e) t'.ghost.ps × (t'.ghost.leads s.views.view ≡ Some (member n s.views.inc))
   lead_own =
-      let k = put_tied g w n s t e u l (append ∷ t.ghost.ps) (λ p h. inr h) refusal lives decides in
-      (k.0, k.1, k.2 (group.Append s.views.view (len_of s g) e) (inl (λ i. group.Append (sym t.own.0.stands.view i) (len_now g w n s t e u l i) e)), k.3 s.views.view ∙ led)
+      let k = put_tied g w n s t e u l room (append ∷ t.ghost.ps) (λ p h. inr h) refusal lives decides in
+      (k.0, k.1, k.2 (group.Append s.views.view (len_of s g) e) (inl (λ i. group.Append (sym t.own.0.stands.view i) (len_now g w n s t e u l room i) e)), k.3 s.views.view ∙ led)
 
 -- ---- appending
 
@@ -292,7 +292,7 @@ module _ (g : List ℕ) (w : Scene) (n : ℕ) (s : Core) where
       new_wait h after gone ps (waits_if c h p (among after.failed p) (among gone p)) (waits_if_goes c h p (among after.failed p) (among gone p) t)
 
 module _ (g : List ℕ) (w : Scene) (n : ℕ) (s : Core) (f : Answering) (thawed : s.views.promise ≡ s.views.view) (free : is_fixed w.config.mode ≡ false) where
-  module _ (c : Core) (h : List ℕ) (e : Entry) (none : carried e ≡ []) (led : leads s h ≡ true) (t : Leading g w n s c) where
+  module _ (c : Core) (h : List ℕ) (e : Entry) (none : carried e ≡ []) (led : leads s h ≡ true) (room : fits_at_end c h e ≡ true) (t : Leading g w n s c) where
     -- what is sent of the entry, as if it were of another group
     abbrev entry_packets : List ℕ → List Packet
     entry_packets k =
@@ -331,7 +331,7 @@ module _ (g : List ℕ) (w : Scene) (n : ℕ) (s : Core) (f : Answering) (thawed
     unfolding put recorded with_sessions with_row packet_on least_acked session.handed_on session.heard row_of acked_by
     put_of_own q =
         let known : t.tied.ghost.leads c.views.view ≡ Some (member n c.views.inc) = leads_known g w n c t.tied free_now (subst (λ z. leads c z ≡ true) q (t.leads h ∙ led)) in
-        let k = lead_own g w n c t.tied e u leaves thawed_now known none in
+        let k = lead_own g w n c t.tied e u leaves (subst (λ z. fits_at_end c z e ≡ true) q room) thawed_now known none in
         let d : Core = with_sessions (put c g e) u in
         let z = settled g w n d k.0 (least_acked (put c g e) g) (λ m i. fold_least (λ (m : Member). acked_by d (row_of d g) m.node) d.views.members (len_in (row_of d g).list) m i) in
         let shown : (p : Packet) → Has p (entry_packets g) → Shows z.0.ghost g p = λ p i.
@@ -413,20 +413,20 @@ module _ (g : List ℕ) (w : Scene) (n : ℕ) (s : Core) (f : Answering) (thawed
   closes_goes zero c h led t = t
   closes_goes (suc k) c h led t = by (closing_entry (led_of c h) (led_of c h).tally (state_of c h).running) refl (closes_goes k)
     where
-      next : (e : Entry) → closing_entry (led_of c h) (led_of c h).tally (state_of c h).running ≡ Some e → Leading g w n s (appended f c h e)
-      next e q = appended_goes c h e (closing_carries (led_of c h) (led_of c h).tally (state_of c h).running e q) led t
+      next : (e : Entry) → closing_entry (led_of c h) (led_of c h).tally (state_of c h).running ≡ Some e → fits_at_end c h e ≡ true → Leading g w n s (appended f c h e)
+      next e q room = appended_goes c h e (closing_carries (led_of c h) (led_of c h).tally (state_of c h).running e q) led room t
 
-      phase : (e : Entry) → closing_entry (led_of c h) (led_of c h).tally (state_of c h).running ≡ Some e → ((d : Core) (j : List ℕ) → leads s j ≡ true → Leading g w n s d → Leading g w n s (closes_from k f d j)) → (b : Bool) → Leading g w n s (elim b as (λ _. Core) [ true ↦ closes_from k f (tally_opened (appended f c h e) h) h | false ↦ tally_set (appended f c h e) h None ])
-      phase e q rest true = rest (tally_opened (appended f c h e) h) h led (opened_goes (appended f c h e) h (next e q))
-      phase e q rest false = tally_goes (appended f c h e) h None (next e q)
+      phase : (e : Entry) → closing_entry (led_of c h) (led_of c h).tally (state_of c h).running ≡ Some e → fits_at_end c h e ≡ true → ((d : Core) (j : List ℕ) → leads s j ≡ true → Leading g w n s d → Leading g w n s (closes_from k f d j)) → (b : Bool) → Leading g w n s (elim b as (λ _. Core) [ true ↦ closes_from k f (tally_opened (appended f c h e) h) h | false ↦ tally_set (appended f c h e) h None ])
+      phase e q room rest true = rest (tally_opened (appended f c h e) h) h led (opened_goes (appended f c h e) h (next e q room))
+      phase e q room rest false = tally_goes (appended f c h e) h None (next e q room)
 
-      fits : (e : Entry) → closing_entry (led_of c h) (led_of c h).tally (state_of c h).running ≡ Some e → ((d : Core) (j : List ℕ) → leads s j ≡ true → Leading g w n s d → Leading g w n s (closes_from k f d j)) → (b : Bool) → Leading g w n s (elim b as (λ _. Core) [ false ↦ c | true ↦ elim (is_phase e) as (λ _. Core) [ true ↦ closes_from k f (tally_opened (appended f c h e) h) h | false ↦ tally_set (appended f c h e) h None ] ])
-      fits e q rest false = t
-      fits e q rest true = phase e q rest (is_phase e)
+      fits : (e : Entry) → closing_entry (led_of c h) (led_of c h).tally (state_of c h).running ≡ Some e → ((d : Core) (j : List ℕ) → leads s j ≡ true → Leading g w n s d → Leading g w n s (closes_from k f d j)) → (b : Bool) → fits_at_end c h e ≡ b → Leading g w n s (elim b as (λ _. Core) [ false ↦ c | true ↦ elim (is_phase e) as (λ _. Core) [ true ↦ closes_from k f (tally_opened (appended f c h e) h) h | false ↦ tally_set (appended f c h e) h None ] ])
+      fits e q rest false room = t
+      fits e q rest true room = phase e q room rest (is_phase e)
 
       by : (o : Option Entry) → closing_entry (led_of c h) (led_of c h).tally (state_of c h).running ≡ o → ((d : Core) (j : List ℕ) → leads s j ≡ true → Leading g w n s d → Leading g w n s (closes_from k f d j)) → Leading g w n s (elim o as (λ _. Core) [ None ↦ c | Some e ↦ elim (fits_at_end c h e) as (λ _. Core) [ false ↦ c | true ↦ elim (is_phase e) as (λ _. Core) [ true ↦ closes_from k f (tally_opened (appended f c h e) h) h | false ↦ tally_set (appended f c h e) h None ] ] ])
       by None q rest = t
-      by (Some e) q rest = fits e q rest (fits_at_end c h e)
+      by (Some e) q rest = fits e q rest (fits_at_end c h e) refl
 
   pub closed_goes : (c : Core) (h : List ℕ) → leads s h ≡ true → Leading g w n s c → Leading g w n s (closes f c h)
   unfolding closes

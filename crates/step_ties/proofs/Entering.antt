@@ -23,6 +23,7 @@ use Rattle.view_exchange.specs.declared.install.Source.{Source}
 use Rattle.view_exchange.specs.declared.install.Install.{Install}
 use Rattle.view_exchange.specs.declared.install.Base.{Base}
 use Rattle.view_exchange.specs.Longest.{NamesDiffer}
+use Rattle.view_exchange.proofs.CutLaws.{fit_ends}
 use Rattle.view_exchange.specs.Bases.{source_at, parts_in, parts_from, bases_of, base_named}
 use Rattle.view_core.specs.declared.packet.ViewPacket.TheVariants as view
 use Rattle.view_core.specs.declared.views.Views.{Views}
@@ -52,7 +53,7 @@ use Rattle.run_safety.proofs.SightLaws.{kept_append}
 use Rattle.run_safety.proofs.Tracks.{puts_many_own, put_many, has_many}
 use Rattle.run_safety.proofs.Whole.{Whole}
 use Rattle.run_safety.proofs.Lives.{whole}
-use Rattle.step_ties.specs.Ghost.{Ghost, Lives, Seen, Goes, Keeps, CarriesIf, part_of, origin_of, BaseIsOf, Installs, InstallsIf}
+use Rattle.step_ties.specs.Ghost.{Ghost, FitIn, Lives, Seen, Goes, Keeps, CarriesIf, part_of, origin_of, BaseIsOf, Installs, InstallsIf}
 use Rattle.step_ties.specs.Tied.{ShowsBody, Shows, RowIs, Owed, Owes, LeaderKeeps, Names, NodeOf, NodeIsIf, Scene, Refused, opening_of, lines_now, Tied}
 use Rattle.step_ties.specs.Rows.{at_node}
 use Rattle.step_ties.proofs.Goes.{Spares, Settled, seen_on, node_if_on, shows_on, installs_on}
@@ -67,7 +68,7 @@ use Rattle.step_ties.proofs.Arrived.{now_pushed, now_bases, Arrived, arrived_tie
 use Rattle.step_ties.proofs.BaseOrder.{bases_ordered, row_of_base, lines_of_bases}
 use Rattle.step_ties.proofs.Sprinkled.{Sprinkled, Hearing, kept_sprinkled, has_sprinkled, had_sprinkled, sprinkled_on, sprinkled_lives}
 use Rattle.step_ties.proofs.LedGroups.{groups_led_tied}
-use Rattle.step_ties.proofs.Fills.{collected, HeardIn, Fills, fills_all, nothing_filled, lacking_is}
+use Rattle.step_ties.proofs.Fills.{collected, HeardIn, Fills, fills_all, nothing_filled, lacking_is, lacking_fits}
 
 -- ---- lists that are put
 
@@ -194,9 +195,20 @@ module _ (g : List ℕ) (w : Scene) (n : ℕ) (f : Answering) (s : Core) (t : Le
           let v : src.view ≡ s.views.view = same_of src.view s.views.view h.1 in
           lacking_is x g full (move.whole s.views.view) s src.parts xs (move.differ src h.0) keeps (subst (λ z. CarriesIf x z (move.whole z) (part_of g src.parts)) v (move.parts src h.0)) e
 
+  -- what it lacks was tried at its end
+  fits : FitIn x s.views.view (full ++ collected g xs)
+  unfolding lacking lacking_in parts_from source_at
+  fits = by (source_at i.sources s.views.view) refl lacks
+    where
+      by : (o : Option Source) → source_at i.sources s.views.view ≡ o → lacking_in s (parts_in o) ≡ Some xs → FitIn x s.views.view (full ++ collected g xs)
+      by None q e = lacking_fits x g full s [] xs tt keeps e
+      by (Some src) q e =
+          let h = find_has (λ (y : Source). same_view y.view s.views.view) i.sources src q in
+          lacking_fits x g full s src.parts xs (move.differ src h.0) keeps e
+
   fills : Fills g w n x s es c
   fills =
-      subst (λ z. Fills g w n x s z c) lacks_rest (fills_all g w n x s t.own.0.stands.me hears f xs [] s (nothing_filled g w n x s t.own.0.order keeps (later_same s.sessions) (sym t.lines)))
+      subst (λ z. Fills g w n x s z c) lacks_rest (fills_all g w n x s t.own.0.stands.me hears f xs [] s fits (nothing_filled g w n x s t.own.0.order keeps (later_same s.sessions) (sym t.lines)))
 
   -- the node as it stands
   abbrev now : Standing
@@ -347,7 +359,7 @@ module _ (g : List ℕ) (w : Scene) (n : ℕ) (f : Answering) (s : Core) (t : Le
       record { list = (ap (λ (z : Standing). z.list) here, h); stable = inl refl; leader = tt; acked = λ m j a. inl refl }
   row_new (Some b) h =
       record {
-        list = subst (λ z. Keeps y i.view z (new_list b.state)) (sym (ap (λ (z : Standing). z.list) here)) (record { starts = z_le; len = refl; entries = refl; state = ap base_state (sym h.0) });
+        list = subst (λ z. Keeps y i.view z (new_list b.state)) (sym (ap (λ (z : Standing). z.list) here)) (record { starts = z_le; len = refl; entries = refl; state = ap base_state (sym h.0); bytes = refl; fits = fit_ends i.view (new_list (base_state (y.bases i.view))) });
         stable = inl refl;
         leader = (h.1.0, h.1.1, h.1.2);
         acked = λ m j a. inl refl;

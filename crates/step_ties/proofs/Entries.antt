@@ -62,9 +62,9 @@ module _ (v : ViewId) (h : List ℕ) (place stable : ℕ) (e : Entry) (g : List 
       tied_forgets g w n (led_by d h p.from) b h stable (stable_is (led_by d h p.from) b same)
 
   -- put and handed on
-  next : place ≡ len_of s h → Tied g w n (entry_next f s p.from h stable e true)
+  next : place ≡ len_of s h → fits_at_end s h e ≡ true → Tied g w n (entry_next f s p.from h stable e true)
   unfolding entry_next put_and_handed put recorded with_row with_sessions
-  next at = let k = handed_tied g w n h s.views.view (len_of s h) e (state_of (put s h e) h) s.views f (Some p.from) (put s h e) (state_of s h) refl hears (begun (cases_text h g)) in
+  next at room = let k = handed_tied g w n h s.views.view (len_of s h) e (state_of (put s h e) h) s.views f (Some p.from) (put s h e) (state_of s h) refl hears (begun (cases_text h g)) in
       after_next (put_and_handed f s (Some p.from) h e) k.tied k.same
     where
       after : GroupState
@@ -88,7 +88,7 @@ module _ (v : ViewId) (h : List ℕ) (place stable : ℕ) (e : Entry) (g : List 
       begun (inl q) =
           let P : List ℕ → Type 0 = λ k. Stepping g w n h s.views.view (len_of s k) e (state_of (put s k e) k) s.views (with_sessions (put s k e) u) in
           let sent_it : Has (group.Append s.views.view (len_of s g) e) t.ghost.ps = subst (λ (k : ViewId × ℕ). Has (group.Append k.0 k.1 e) t.ghost.ps) (λ i. (view_is i, (at ∙ ap (len_of s) q) i)) (shown s t q).sent in
-          let k = put_own g w n s t e u leaves thawed sent_it in
+          let k = put_own g w n s t e u leaves (subst (λ z. fits_at_end s z e ≡ true) q room) thawed sent_it in
           let own : P g = record { tied = k.0; same = refl; after = λ r. k.1 } in
           subst P (sym q) own
       begun (inr ne) = record { tied = put_other g w n s t h e u leaves thawed ne; same = refl; after = λ q. absurd (ne q) }
@@ -99,16 +99,16 @@ entry_is_tied v h place stable e g w n f s p is delivered t = by (is_used s p v)
   where
     by : (b : Bool) → is_used s p v ≡ b → Tied g w n (used_if s (entry_row f s p.from h place stable e) b)
     by false q = t
-    by true q = at (place == len_of s h) (fits_at_end s h e) (nat_lt place (len_of s h)) (holds s h) refl
+    by true q = at (place == len_of s h) (fits_at_end s h e) (nat_lt place (len_of s h)) (holds s h) refl refl
       where
         k : (v ≡ s.views.view) × (s.views.promise ≡ s.views.view) × Has (member p.from p.inc) s.views.members
         k = used_is s p v q
 
-        at : (a b c d : Bool) → (place == len_of s h) ≡ a → Tied g w n (elim a [ true ↦ entry_next f s p.from h stable e b | false ↦ entry_elsewhere s p.from h stable c ])
-        at true false c d r = t
-        at true true c d r = next v h place stable e g w n f s p is delivered t k.0 k.1 k.2 (eqb-true place (len_of s h) r)
-        at false b true d r = after_ack v h place stable e g w n f s p is delivered t k.0 k.1 k.2 s t refl
-        at false b false d r = last (holds s h)
+        at : (a b c d : Bool) → (place == len_of s h) ≡ a → fits_at_end s h e ≡ b → Tied g w n (elim a [ true ↦ entry_next f s p.from h stable e b | false ↦ entry_elsewhere s p.from h stable c ])
+        at true false c d r y = t
+        at true true c d r y = next v h place stable e g w n f s p is delivered t k.0 k.1 k.2 (eqb-true place (len_of s h) r) y
+        at false b true d r y = after_ack v h place stable e g w n f s p is delivered t k.0 k.1 k.2 s t refl
+        at false b false d r y = last (holds s h)
           where
             last : (d : Bool) → Tied g w n (elim d [ true ↦ forgets_below s h stable | false ↦ s ])
             last true = tied_forgets g w n s t h stable (stable_is v h place stable e g w n f s p is delivered t k.0 k.1 k.2 s t refl)

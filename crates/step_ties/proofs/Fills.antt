@@ -39,11 +39,13 @@ use Rattle.run_safety.specs.Sight.{lines_of}
 use Rattle.run_safety.specs.Group.{Put, Note, Heard, Line, Kept, Noted, lines_from}
 use Rattle.run_safety.specs.Bases.{state_of_list}
 use Rattle.run_safety.specs.Requests.{carried}
-use Rattle.step_ties.specs.Ghost.{Ghost, Keeps, Carries, CarriesIf, part_of}
+use Rattle.step_ties.specs.Ghost.{Ghost, FitIn, Keeps, Carries, CarriesIf, part_of}
 use Rattle.step_ties.specs.Tied.{InNameOrder, Scene, lines_now}
 use Rattle.step_ties.proofs.Works.{Unseen, lines_pushed}
 use Rattle.step_ties.proofs.NameOrder.{text_self, text_same, text_other, row_here, row_there, rows_ordered}
 use Rattle.step_ties.proofs.SessionLaws.{Later, later_then, handed_later, handed_gone}
+use Rattle.step_ties.proofs.Fits.{fits_more, fits_front}
+use Rattle.view_exchange.proofs.CutLaws.{fit_ends}
 use Rattle.step_ties.proofs.Puts.{pushed_keeps}
 use Rattle.step_ties.proofs.Handed.{handed_records}
 use Rattle.step_ties.proofs.Sprinkled.{Sprinkled, Bare, Same, With, sprinkled_on}
@@ -185,19 +187,19 @@ module _ (g : List ℕ) (w : Scene) (n : ℕ) (x : Ghost) (s : Core) where
     unfolding len_of
     len_now es c t = t.keeps.len ∙ length-append full es
 
-    keeps_more : (es : List Entry) (c : Core) (e : Entry) → Fills es c → Keeps x s.views.view (full ++ (es ++ e ∷ [])) (with_entry (list_of c g) c.views.view e)
-    keeps_more es c e t =
-        let a : Keeps x s.views.view ((full ++ es) ++ e ∷ []) (with_entry (list_of c g) s.views.view e) = pushed_keeps x x s.views.view (full ++ es) (list_of c g) e refl t.keeps in
+    keeps_more : (es : List Entry) (c : Core) (e : Entry) → FitIn x s.views.view (full ++ (es ++ e ∷ [])) → Fills es c → Keeps x s.views.view (full ++ (es ++ e ∷ [])) (with_entry (list_of c g) c.views.view e)
+    keeps_more es c e fit t =
+        let a : Keeps x s.views.view ((full ++ es) ++ e ∷ []) (with_entry (list_of c g) s.views.view e) = pushed_keeps x x s.views.view (full ++ es) (list_of c g) e refl t.keeps (subst (FitIn x s.views.view) (sym (append_assoc full es (e ∷ []))) fit) in
         let v : s.views.view ≡ c.views.view = ap (λ z. z.view) (sym t.views) in
         let b : Keeps x s.views.view ((full ++ es) ++ e ∷ []) (with_entry (list_of c g) c.views.view e) = subst (λ z. Keeps x s.views.view ((full ++ es) ++ e ∷ []) (with_entry (list_of c g) z e)) v a in
         subst (λ z. Keeps x s.views.view z (with_entry (list_of c g) c.views.view e)) (append_assoc full es (e ∷ [])) b
 
     -- the own group's entry
-    put_own : (es : List Entry) (c : Core) (e : Entry) (u : SessionState) → Later c.sessions u → ((q : Request) → Has q u.requests → Has (q.p, q.r) (carried e) → ⊥) → Fills es c → Fills (es ++ e ∷ []) (with_sessions (put c g e) u) × (state_of (put c g e) g ≡ state_of_list x.bases s.views.view (full ++ (es ++ e ∷ [])))
+    put_own : (es : List Entry) (c : Core) (e : Entry) (u : SessionState) → FitIn x s.views.view (full ++ (es ++ e ∷ [])) → Later c.sessions u → ((q : Request) → Has q u.requests → Has (q.p, q.r) (carried e) → ⊥) → Fills es c → Fills (es ++ e ∷ []) (with_sessions (put c g e) u) × (state_of (put c g e) g ≡ state_of_list x.bases s.views.view (full ++ (es ++ e ∷ [])))
     unfolding put recorded with_sessions with_row row_of list_of state_of
-    put_own es c e u l gone t =
+    put_own es c e u fit l gone t =
         let here : list_of (with_row c g (put_row e c)) g ≡ with_entry (list_of c g) c.views.view e = ap (λ (row : GroupRow). list_or_new row.list) (row_here g (put_row e c) (λ y. refl) c t.order) in
-        let keeps : Keeps x s.views.view (full ++ (es ++ e ∷ [])) (list_of (with_row c g (put_row e c)) g) = subst (Keeps x s.views.view (full ++ (es ++ e ∷ []))) (sym here) (keeps_more es c e t) in
+        let keeps : Keeps x s.views.view (full ++ (es ++ e ∷ [])) (list_of (with_row c g (put_row e c)) g) = subst (Keeps x s.views.view (full ++ (es ++ e ∷ []))) (sym here) (keeps_more es c e fit t) in
         let line : Line = Kept (Put n s.views.view (length full + length es) e) in (
           record {
             config = t.config;
@@ -226,16 +228,16 @@ module _ (g : List ℕ) (w : Scene) (n : ℕ) (x : Ghost) (s : Core) where
         last q i d (inr z) b = z
 
     -- an entry is put and handed on: the group's own, or another's
-    puts_own : (f : Answering) (es : List Entry) (c : Core) (e : Entry) → Fills es c → Fills (es ++ e ∷ []) (put_and_handed f c None g e)
+    puts_own : (f : Answering) (es : List Entry) (c : Core) (e : Entry) → FitIn x s.views.view (full ++ (es ++ e ∷ [])) → Fills es c → Fills (es ++ e ∷ []) (put_and_handed f c None g e)
     unfolding put_and_handed handed_on put recorded with_row with_sessions
-    puts_own f es c e t =
+    puts_own f es c e fit t =
         let before : GroupState = state_of c g in
         let st : GroupState = state_of (put c g e) g in
         let bs : List (Option Filled) = fills f (length (put c g e).records) c.sessions e st (hearers c.sessions g before e) in
         let u : SessionState = session.handed_on c.sessions g before st e bs in
         let cs : List Cast = casts_out c.sessions g before st e bs in
         let hears : (q : ProviderId) → Has q (hearers c.sessions g before e) → q.node ≡ n = λ q i. own q c.sessions t.later before g e i in
-        let k = put_own es c e u (handed_later c.sessions g before st e bs) (handed_gone c.sessions g before st e bs) t in
+        let k = put_own es c e u fit (handed_later c.sessions g before st e bs) (handed_gone c.sessions g before st e bs) t in
         let new : (p : ProviderId) → p.node ≡ n → HeardIn (es ++ e ∷ []) (Heard p c.views.view (len_of c g) e st.members st.value) = λ p at.
         record {
           p = p;
@@ -262,29 +264,35 @@ module _ (g : List ℕ) (w : Scene) (n : ℕ) (x : Ghost) (s : Core) where
         let k : Fills es (with_sessions (put c h e) u) = put_other es c h e u ne (handed_later c.sessions h before st e bs) t in
         subst (Fills es) (sym (unsent (with_sessions (noted (recorded_all (put c h e) (flat_map (heard (put c h e) h (len_of c h) e st) cs)) h (len_of c h) before st) u) h cs)) (handed_records g n h c.views.view (len_of c h) e st (Fills es) (λ d r un j. unseen_too es d r un j) (λ d p at j. unseen_too es d (happened.Heard p c.views.view h (len_of c h) e st.members st.value) (λ rs. ap (λ b. if b then Noted (Heard p c.views.view (len_of c h) e st.members st.value) ∷ [] else []) (text_other h g ne)) j) f (put c h e) before refl hears k)
 
-    fills_own : (f : Answering) (more es : List Entry) (c : Core) → Fills es c → Fills (es ++ more) (fold (λ u e. put_and_handed f u None g e) c more)
-    fills_own f [] es c t = subst (λ z. Fills z c) (sym (append-nil es)) t
-    fills_own f (e ∷ more) es c t =
-        subst (λ z. Fills z (fold (λ u d. put_and_handed f u None g d) (put_and_handed f c None g e) more)) (append_assoc es (e ∷ []) more) (fills_own f more (es ++ e ∷ []) (put_and_handed f c None g e) (puts_own f es c e t))
+    fits_so_far : (es more : List Entry) → FitIn x s.views.view (full ++ (es ++ more)) → FitIn x s.views.view (full ++ es)
+    fits_so_far es more fit =
+        fits_front x s.views.view (full ++ es) more (subst (FitIn x s.views.view) (sym (append_assoc full es more)) fit)
+
+    fills_own : (f : Answering) (more es : List Entry) (c : Core) → FitIn x s.views.view (full ++ (es ++ more)) → Fills es c → Fills (es ++ more) (fold (λ u e. put_and_handed f u None g e) c more)
+    fills_own f [] es c fit t = subst (λ z. Fills z c) (sym (append-nil es)) t
+    fills_own f (e ∷ more) es c fit t =
+        let now : FitIn x s.views.view (full ++ ((es ++ e ∷ []) ++ more)) = subst (λ z. FitIn x s.views.view (full ++ z)) (sym (append_assoc es (e ∷ []) more)) fit in
+        subst (λ z. Fills z (fold (λ u d. put_and_handed f u None g d) (put_and_handed f c None g e) more)) (append_assoc es (e ∷ []) more) (fills_own f more (es ++ e ∷ []) (put_and_handed f c None g e) now (puts_own f es c e (fits_so_far (es ++ e ∷ []) more now) t))
 
     fills_other : (f : Answering) (h : List ℕ) → (h ≡ g → ⊥) → (more es : List Entry) (c : Core) → Fills es c → Fills es (fold (λ u e. put_and_handed f u None h e) c more)
     fills_other f h ne [] es c t = t
     fills_other f h ne (e ∷ more) es c t = fills_other f h ne more es (put_and_handed f c None h e) (puts_other f h ne es c e t)
 
     -- all that the lists lack, of which this is the group's
-    pub fills_all : (f : Answering) (xs : List Lacking) (es : List Entry) (c : Core) → Fills es c → Fills (es ++ collected g xs) (lists_filled f c xs)
+    pub fills_all : (f : Answering) (xs : List Lacking) (es : List Entry) (c : Core) → FitIn x s.views.view (full ++ (es ++ collected g xs)) → Fills es c → Fills (es ++ collected g xs) (lists_filled f c xs)
     unfolding lists_filled
-    fills_all f [] es c t = subst (λ z. Fills z c) (sym (append-nil es)) t
-    fills_all f (y ∷ xs) es c t = by (bytes_eq y.name g) refl (λ more d u. fills_all f xs more d u)
+    fills_all f [] es c fit t = subst (λ z. Fills z c) (sym (append-nil es)) t
+    fills_all f (y ∷ xs) es c fit t = by (bytes_eq y.name g) refl fit (λ more d fit u. fills_all f xs more d fit u)
       where
         next : Core
         next = fold (λ u e. put_and_handed f u None y.name e) c y.entries
 
-        by : (b : Bool) → bytes_eq y.name g ≡ b → ((more : List Entry) (d : Core) → Fills more d → Fills (more ++ collected g xs) (lists_filled f d xs)) → Fills (es ++ (if b then y.entries ++ collected g xs else collected g xs)) (lists_filled f c (y ∷ xs))
-        by true q rest =
-            let own : Fills (es ++ y.entries) next = subst (λ z. Fills (es ++ y.entries) (fold (λ u e. put_and_handed f u None z e) c y.entries)) (sym (text_same y.name g q)) (fills_own f y.entries es c t) in
-            subst (λ z. Fills z (lists_filled f next xs)) (append_assoc es y.entries (collected g xs)) (rest (es ++ y.entries) next own)
-        by false q rest = rest es next (fills_other f y.name (λ (e : y.name ≡ g). absurd (let k = text_self g in let z = ap (λ m. bytes_eq m g) e in cc)) y.entries es c t)
+        by : (b : Bool) → bytes_eq y.name g ≡ b → FitIn x s.views.view (full ++ (es ++ (if b then y.entries ++ collected g xs else collected g xs))) → ((more : List Entry) (d : Core) → FitIn x s.views.view (full ++ (more ++ collected g xs)) → Fills more d → Fills (more ++ collected g xs) (lists_filled f d xs)) → Fills (es ++ (if b then y.entries ++ collected g xs else collected g xs)) (lists_filled f c (y ∷ xs))
+        by true q fit rest =
+            let now : FitIn x s.views.view (full ++ ((es ++ y.entries) ++ collected g xs)) = subst (λ z. FitIn x s.views.view (full ++ z)) (sym (append_assoc es y.entries (collected g xs))) fit in
+            let own : Fills (es ++ y.entries) next = subst (λ z. Fills (es ++ y.entries) (fold (λ u e. put_and_handed f u None z e) c y.entries)) (sym (text_same y.name g q)) (fills_own f y.entries es c (fits_so_far (es ++ y.entries) (collected g xs) now) t) in
+            subst (λ z. Fills z (lists_filled f next xs)) (append_assoc es y.entries (collected g xs)) (rest (es ++ y.entries) next now own)
+        by false q fit rest = rest es next fit (fills_other f y.name (λ (e : y.name ≡ g). absurd (let k = text_self g in let z = ap (λ m. bytes_eq m g) e in cc)) y.entries es c t)
 
 -- ---- what a list lacks
 
@@ -305,7 +313,7 @@ nothing_filled g w n x s order keeps later lines =
       is = lines;
     }
 
-dropped : (a k : ℕ) (xs : List Entry) → a ≤ k → drop (k - a) (drop a xs) ≡ drop k xs
+pub dropped : (a k : ℕ) (xs : List Entry) → a ≤ k → drop (k - a) (drop a xs) ≡ drop k xs
 dropped a k xs le = let q : a + (k - a) ≡ k = omega arith in drop-drop (k - a) a xs ∙ ap (λ z. drop z xs) q
 
 -- a part with the whole list's end has just the entries that the list lacks
@@ -366,3 +374,37 @@ lacking_is x g full whole s (p ∷ ps) xs d k c e =
     by false (Some es) (Some ys) r o q c e rest =
         let z : xs ≡ record { name = p.name; entries = es } ∷ ys = cc in
         ap (collected g) z ∙ ap (λ b. if b then es ++ collected g ys else collected g ys) r ∙ rest ys c q
+
+-- what a list lacks was tried at its end
+lacking_tried : (v : ViewId) (l : GroupView) (p : Part) (es : List Entry) → lacking_of v l p ≡ Some es → all_fit v l es ≡ true
+unfolding lacking_of lacking_if
+lacking_tried v l p es = by (nat_le (part_len p) l.len) (nat_lt l.len p.start) (all_fit v l (drop (l.len - p.start) p.entries)) refl
+  where
+    by : (a b d : Bool) → all_fit v l (drop (l.len - p.start) p.entries) ≡ d → elim a as (λ _. Option (List Entry)) [ true ↦ Some [] | false ↦ elim b as (λ _. Option (List Entry)) [ true ↦ None | false ↦ lacking_if d (drop (l.len - p.start) p.entries) ] ] ≡ Some es → all_fit v l es ≡ true
+    by true b d r e = let z : es ≡ [] = cc in ap (all_fit v l) z ∙ fit_ends v l
+    by false true d r e = absurd (cc)
+    by false false false r e = absurd (cc)
+    by false false true r e = let z : es ≡ drop (l.len - p.start) p.entries = cc in ap (all_fit v l) z ∙ r
+
+-- what is lacking of the group fits behind its list
+pub lacking_fits : (x : Ghost) (g : List ℕ) (full : List Entry) (s : Core) (ps : List Part) (xs : List Lacking) → NamesDiffer ps → Keeps x s.views.view full (list_of s g) → lacking_in s ps ≡ Some xs → FitIn x s.views.view (full ++ collected g xs)
+unfolding lacking_in
+lacking_fits x g full s [] xs d k e =
+    let q : xs ≡ [] = cc in subst (FitIn x s.views.view) (sym (ap (λ z. full ++ collected g z) q ∙ append-nil full)) k.fits
+lacking_fits x g full s (p ∷ ps) xs d k e =
+    by (bytes_eq p.name g) (lacking_of s.views.view (list_of s p.name) p) (lacking_in s ps) refl refl refl e (λ ys q. lacking_fits x g full s ps ys d.1 k q)
+  where
+    by : (t : Bool) (a : Option (List Entry)) (b : Option (List Lacking)) → bytes_eq p.name g ≡ t → lacking_of s.views.view (list_of s p.name) p ≡ a → lacking_in s ps ≡ b → elim a as (λ _. Option (List Lacking)) [ None ↦ None | Some es ↦ elim b as (λ _. Option (List Lacking)) [ None ↦ None | Some ys ↦ Some (record { name = p.name; entries = es } ∷ ys) ] ] ≡ Some xs → ((ys : List Lacking) → lacking_in s ps ≡ Some ys → FitIn x s.views.view (full ++ collected g ys)) → FitIn x s.views.view (full ++ collected g xs)
+    by t None b r o q e rest = absurd (cc)
+    by t (Some es) None r o q e rest = absurd (cc)
+    by true (Some es) (Some ys) r o q e rest =
+        let z : xs ≡ record { name = p.name; entries = es } ∷ ys = cc in
+        let same : p.name ≡ g = text_same p.name g r in
+        let mine : lacking_of s.views.view (list_of s g) p ≡ Some es = ap (λ k. lacking_of s.views.view (list_of s k) p) (sym same) ∙ o in
+        let none : collected g ys ≡ [] = none_collected g s ps ys (λ q i h. d.0 q i (h ∙ sym same)) q in
+        let is : collected g xs ≡ es = ap (collected g) z ∙ ap (λ b. if b then es ++ collected g ys else collected g ys) r ∙ ap (λ l. es ++ l) none ∙ append-nil es in
+        subst (λ c. FitIn x s.views.view (full ++ c)) (sym is) (fits_more x s.views.view full es (list_of s g) k (lacking_tried s.views.view (list_of s g) p es mine))
+    by false (Some es) (Some ys) r o q e rest =
+        let z : xs ≡ record { name = p.name; entries = es } ∷ ys = cc in
+        let is : collected g xs ≡ collected g ys = ap (collected g) z ∙ ap (λ b. if b then es ++ collected g ys else collected g ys) r in
+        subst (λ c. FitIn x s.views.view (full ++ c)) (sym is) (rest ys q)

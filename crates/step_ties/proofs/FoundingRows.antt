@@ -30,7 +30,8 @@ use Rattle.run_safety.specs.Group.{kept}
 use Rattle.run_safety.specs.Moves.{Quiet}
 use Rattle.step_ties.specs.Ghost.{Gathers, GathersIf}
 use Rattle.step_ties.specs.Tied.{Scene, Tied}
-use Rattle.step_ties.specs.Rows.{GoesOn, QuietNow, FoundsAlone}
+use Rattle.step_ties.specs.Rows.{QuietNow}
+use Rattle.step_ties.proofs.GoingOn.{GoesOn, goes_on}
 use Rattle.step_ties.proofs.Gatherings.{counted_tied, next_promised, opened_tied, prepares_tied, asks_tied}
 use Rattle.step_ties.proofs.ViewTicks.{ages_tied, again_tied, noted_tied}
 use Rattle.step_ties.proofs.Founding.{Sent, sends_out, sends_are, sends_more, ungathered, ungathered_sends, installs_to, lacking_same, dropped, founds_tied}
@@ -57,31 +58,55 @@ founded_tied g w n f s e is quiet free goes t = by
     by false = dropped g w n f s t e h q free
     by true = founds_tied g w n f s t e h q free goes.0 goes.1
 
--- ANSWER
-pub founding_answer_tied : (v old : ViewId) (parts : List Part) (g : List ℕ) (w : Scene) (n : ℕ) (f : Answering) (s : Core) (p : Packet) → p.body ≡ body.View (view.Answer v old parts) → Has p w.sent → s.records ≡ [] → is_fixed w.config.mode ≡ false → ((e : Exchange) → s.views.gathering ≡ Some e → all_answered (with_answer e (record { node = p.from; inc = p.inc; view = old; parts = parts })) ≡ true → GoesOn s (with_answer e (record { node = p.from; inc = p.inc; view = old; parts = parts }))) → Tied g w n s → Tied g w n (body_row f s p (body.View (view.Answer v old parts)))
+-- ANSWER, where the own lists go on to the install
+answer_founds : (v old : ViewId) (parts : List Part) (g : List ℕ) (w : Scene) (n : ℕ) (f : Answering) (s : Core) (p : Packet) → p.body ≡ body.View (view.Answer v old parts) → Has p w.sent → s.records ≡ [] → is_fixed w.config.mode ≡ false → ((e : Exchange) → s.views.gathering ≡ Some e → (same_view e.view v && may_answer e p.from) ≡ true → all_answered (with_answer e (record { node = p.from; inc = p.inc; view = old; parts = parts })) ≡ true → GoesOn s (with_answer e (record { node = p.from; inc = p.inc; view = old; parts = parts }))) → Tied g w n s → Tied g w n (body_row f s p (body.View (view.Answer v old parts)))
 unfolding body_row view_row views_taken install_applied answer_row answer_to gathers gathered gathering_set
-founding_answer_tied v old parts g w n f s p is delivered none free goes t = at s.views.gathering refl
+answer_founds v old parts g w n f s p is delivered none free goes t = at s.views.gathering refl
   where
     a : Answer
     a = record { node = p.from; inc = p.inc; view = old; parts = parts }
 
-    last : (e : Exchange) → s.views.gathering ≡ Some e → Tied g w n (record s { views = record (s.views) { gathering = Some (with_answer e a) } }) → (b : Bool) → all_answered (with_answer e a) ≡ b → Tied g w n (views_taken f s (gathered (views_at_work s.views) (with_answer e a) b))
-    last e q k false r = k
-    last e q k true r =
+    last : (e : Exchange) → s.views.gathering ≡ Some e → (same_view e.view v && may_answer e p.from) ≡ true → Tied g w n (record s { views = record (s.views) { gathering = Some (with_answer e a) } }) → (b : Bool) → all_answered (with_answer e a) ≡ b → Tied g w n (views_taken f s (gathered (views_at_work s.views) (with_answer e a) b))
+    last e q c k false r = k
+    last e q c k true r =
         let s2 : Core = record s { views = record (s.views) { gathering = Some (with_answer e a) } } in
-        let l : GoesOn s (with_answer e a) = goes e q r in
+        let l : GoesOn s (with_answer e a) = goes e q c r in
         founded_tied g w n f s2 (with_answer e a) refl (quiet_first g w s2 none) free (l.0, lacking_same s2 s (install_of (with_answer e a)) refl refl ∙ l.1) k (is_spelled (install_of (with_answer e a)))
 
     by : (e : Exchange) → s.views.gathering ≡ Some e → (b : Bool) → (same_view e.view v && may_answer e p.from) ≡ b → Tied g w n (views_taken f s (elim b [ true ↦ gathers (views_at_work s.views) (with_answer e (record { node = p.from; inc = p.inc; view = old; parts = parts })) | false ↦ views_at_work s.views ]))
     by e q false r = t
     by e q true r =
-        last e q (counted_tied v old parts g w n s p is delivered e q r t) (all_answered (with_answer e a)) refl
+        last e q r (counted_tied v old parts g w n s p is delivered e q r t) (all_answered (with_answer e a)) refl
 
     at : (o : Option Exchange) → s.views.gathering ≡ o → Tied g w n (views_taken f s (answer_to (views_at_work s.views) v (record { node = p.from; inc = p.inc; view = old; parts = parts }) o))
     at None q = t
     at (Some e) q = by e q (same_view e.view v && may_answer e p.from) refl
 
+-- ANSWER
+pub founding_answer_tied : (v old : ViewId) (parts : List Part) (w : Scene) (n : ℕ) (f : Answering) (s : Core) (p : Packet) → p.body ≡ body.View (view.Answer v old parts) → Has p w.sent → s.records ≡ [] → is_fixed w.config.mode ≡ false → ((h : List ℕ) → Tied h w n s) → (g : List ℕ) → Tied g w n (body_row f s p (body.View (view.Answer v old parts)))
+founding_answer_tied v old parts w n f s p is delivered none free all g =
+    answer_founds v old parts g w n f s p is delivered none free goes (all g)
+  where
+    goes : (e : Exchange) → s.views.gathering ≡ Some e → (same_view e.view v && may_answer e p.from) ≡ true → all_answered (with_answer e (record { node = p.from; inc = p.inc; view = old; parts = parts })) ≡ true → GoesOn s (with_answer e (record { node = p.from; inc = p.inc; view = old; parts = parts }))
+    goes e q c r =
+        let made : Exchange = with_answer e (record { node = p.from; inc = p.inc; view = old; parts = parts }) in
+        let s2 : Core = record s { views = record (s.views) { gathering = Some made } } in
+        let l : GoesOn s2 made = goes_on w n s2 made refl (λ h. counted_tied v old parts h w n s p is delivered e q c (all h)) in
+        (l.0, lacking_same s s2 (install_of made) refl refl ∙ l.1)
+
 -- ---- asking
+
+-- a node that asks for a view, itself alone too
+abbrev FoundsAlone : Core → Mask → Type 0
+FoundsAlone s mask =
+    all_answered (with_answer (opened (next_view s.views) mask) (own_answer s.views (own_parts s))) ≡ true → has_node mask s.views.me ≡ true → GoesOn s (with_answer (opened (next_view s.views) mask) (own_answer s.views (own_parts s)))
+
+founds_alone : (w : Scene) (n : ℕ) (s : Core) (mask : Mask) → ((h : List ℕ) → Tied h w n s) → FoundsAlone s mask
+founds_alone w n s mask all answered there =
+    let e : Exchange = with_answer (opened (next_view s.views) mask) (own_answer s.views (own_parts s)) in
+    let s2 : Core = record s { views = record (s.views) { promise = next_view s.views; gathering = Some e } } in
+    let l : GoesOn s2 e = goes_on w n s2 e refl (λ h. opened_tied mask h w n s (all h) there) in
+    (l.0, lacking_same s s2 (install_of e) refl refl ∙ l.1)
 
 module _ (mask : Mask) (g : List ℕ) (w : Scene) (n : ℕ) (f : Answering) (s : Core) (quiet : QuietNow g w s) (free : is_fixed w.config.mode ≡ false) (t : Tied g w n s) where
   abbrev v : ViewId
@@ -145,7 +170,7 @@ module _ (mask : Mask) (g : List ℕ) (w : Scene) (n : ℕ) (f : Answering) (s :
     where
       asks : all_answered e ≡ true → has_node mask s.views.me ≡ true → (b : Bool) → Tied g w n (views_taken f s (asks_view (views_at_work s.views) (next_view s.views) mask (own_parts s) b))
       asks all there false = promised_alone
-      asks all there true = all_asked all there (goes all)
+      asks all there true = all_asked all there (goes all there)
 
       by : all_answered e ≡ true → (b : Bool) → may_ask s.views mask ≡ b → Tied g w n (views_taken f s (ask_if (views_at_work s.views) mask (own_parts s) b))
       by all false q = nothing_taken
@@ -156,13 +181,13 @@ module _ (mask : Mask) (g : List ℕ) (w : Scene) (n : ℕ) (f : Answering) (s :
       at false q = asks_tied mask g w n f s q t
       at true q = by q (may_ask s.views mask) refl
 
-pub founding_ask_tied : (mask : Mask) (g : List ℕ) (w : Scene) (n : ℕ) (f : Answering) (s : Core) → s.records ≡ [] → is_fixed w.config.mode ≡ false → FoundsAlone s mask → Tied g w n s → Tied g w n (order_row f s mask)
+pub founding_ask_tied : (mask : Mask) (w : Scene) (n : ℕ) (f : Answering) (s : Core) → s.records ≡ [] → is_fixed w.config.mode ≡ false → ((h : List ℕ) → Tied h w n s) → (g : List ℕ) → Tied g w n (order_row f s mask)
 unfolding order_row
-founding_ask_tied mask g w n f s none free goes t = by (is_fixed s.config.mode)
+founding_ask_tied mask w n f s none free all g = by (is_fixed s.config.mode)
   where
     by : (a : Bool) → Tied g w n (elim a [ true ↦ s | false ↦ views_taken f s (ask_row (views_at_work s.views) mask (own_parts s)) ])
-    by true = t
-    by false = asks_founds mask g w n f s (quiet_first g w s none) free t goes
+    by true = all g
+    by false = asks_founds mask g w n f s (quiet_first g w s none) free (all g) (founds_alone w n s mask all)
 
 -- ---- the tick
 
@@ -180,14 +205,14 @@ module _ (g : List ℕ) (w : Scene) (n : ℕ) (f : Answering) (s : Core) (quiet 
   gathering_founds (Some a) goes = by (tick_asks s.views a)
     where
       on : FoundsAlone s a.mask → FoundsAlone stuck_now a.mask
-      on k all = let l = k all in (l.0, lacking_same stuck_now s (install_of (with_answer (opened (next_view s.views) a.mask) (own_answer s.views (own_parts s)))) refl refl ∙ l.1)
+      on k all there = let l = k all there in (l.0, lacking_same stuck_now s (install_of (with_answer (opened (next_view s.views) a.mask) (own_answer s.views (own_parts s)))) refl refl ∙ l.1)
 
       by : (b : Bool) → Tied g w n (views_taken f s (asks_or_ages (stuck_noted (views_at_work s.views)) a (own_parts s) b))
       by true = asks_founds a.mask g w n f stuck_now quiet free stuck_tied (on (goes a refl))
       by false = ages_tied g w n f stuck_now stuck_tied
 
 -- (2) and (3)
-pub founding_tick_tied : (g : List ℕ) (w : Scene) (n : ℕ) (f : Answering) (s : Core) → QuietNow g w s → is_fixed w.config.mode ≡ false → ((a : RingAsk) → ring_ask s ≡ Some a → FoundsAlone s a.mask) → Tied g w n s → Tied g w n (views_part f s)
+pub founding_tick_tied : (w : Scene) (n : ℕ) (f : Answering) (s : Core) → is_fixed w.config.mode ≡ false → ((h : List ℕ) → Tied h w n s) → (g : List ℕ) → QuietNow g w s → Tied g w n (views_part f s)
 unfolding views_part
-founding_tick_tied g w n f s quiet free goes t =
-    again_tied g w n f (views_taken f s (gathering_ticks (views_at_work s.views) (ring_ask s) (own_parts s))) (gathering_founds g w n f s quiet free t (ring_ask s) goes)
+founding_tick_tied w n f s free all g quiet =
+    again_tied g w n f (views_taken f s (gathering_ticks (views_at_work s.views) (ring_ask s) (own_parts s))) (gathering_founds g w n f s quiet free (all g) (ring_ask s) (λ a q. founds_alone w n s a.mask all))

@@ -204,7 +204,7 @@ module _ (g : List ℕ) (w : Scene) (n : ℕ) (s : Core) (t : Tied g w n s) wher
         view = h.stands.view;
         sent = inl refl;
         seen = seen;
-        part = carries_on x y o s.views.view (x.nodes n).list (part_of g (own_parts s)) seen (own_carries x g s.views.view (x.nodes n).list s h.order h.row_is.list);
+        part = carries_on x y o s.views.view (x.nodes n).list (part_of g (own_parts s)) seen (own_carries x g s.views.view (x.nodes n).list s h.order h.row_is.list h.row_is.stable);
         names = own_differ s h.order;
       } in
       let e : Exchange = with_answer (opened v mask) a in

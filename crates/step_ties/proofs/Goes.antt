@@ -1,12 +1,12 @@
 -- What holds of a group goes on holding.
-use Rattle.std.proofs.Common.{◌≡◌, ◌⊎◌, ℕ, List, Option, Some, None, refl, sym, ap, ◌∙◌, subst, inl, inr}
+use Rattle.std.proofs.Common.{◌≡◌, ◌⊎◌, ℕ, List, Option, Some, None, true, refl, sym, ap, ◌∙◌, subst, inl, inr}
 use Rattle.std.specs.Prelude.{Bool, slice_get}
 use Rattle.rsct_packet.specs.declared.ids.ViewId.{ViewId}
 use Rattle.rsct_packet.specs.declared.ids.Member.{Member}
 use Rattle.rsct_packet.specs.declared.ids.ProviderId.{ProviderId}
 use Rattle.rsct_packet.specs.Search.{Has}
 use Rattle.group_entry.specs.declared.entry.Entry.{Entry}
-use Rattle.proposal_core.specs.GroupView.{GroupView}
+use Rattle.proposal_core.specs.GroupView.{GroupView, new_list}
 use Rattle.proposal_core.specs.Lists.{list_or_new}
 use Rattle.name_server.specs.declared.names.Leader.{Leader}
 use Rattle.view_exchange.specs.declared.answer.Answer.{Answer}
@@ -14,6 +14,7 @@ use Rattle.view_exchange.specs.declared.exchange.Exchange.{Exchange}
 use Rattle.view_exchange.specs.declared.install.Part.{Part}
 use Rattle.view_exchange.specs.declared.install.Install.{Install}
 use Rattle.view_exchange.specs.declared.install.Base.{Base}
+use Rattle.view_exchange.specs.Cut.{all_fit}
 use Rattle.view_exchange.specs.Bases.{bases_of, base_named}
 use Rattle.view_core.specs.declared.packet.ViewPacket.{ViewPacket}
 use Rattle.view_core.specs.declared.packet.ViewPacket.TheVariants as view
@@ -33,7 +34,7 @@ use Rattle.run_safety.specs.Group.{member, Standing, Reply, Noted, Told, In, Put
 use Rattle.run_safety.specs.Group as group
 use Rattle.run_safety.specs.Bases.{state_of_list, base_state}
 use Rattle.run_safety.specs.Past.{fold_from}
-use Rattle.step_ties.specs.Ghost.{Ghost, Seen, Goes, KeepsIf, CarriesIf, part_of, ReplyIs, GathersIf, BaseIsOf, Installs, InstallsIf, IsStable}
+use Rattle.step_ties.specs.Ghost.{Ghost, Seen, Goes, FitIn, KeepsIf, CarriesIf, part_of, ReplyIs, GathersIf, BaseIsOf, Installs, InstallsIf, IsStable}
 use Rattle.step_ties.specs.Tied.{ShowsView, ShowsBody, Shows, Stands, KnowsLeader, RowIs, Owed, Owes, LeaderKeeps, Names, NodeOf, NodeIsIf, IsAcked}
 
 pub goes_same : (x : Ghost) → Goes x x
@@ -47,18 +48,22 @@ module _ (x y : Ghost) (o : Goes x y) where
   pub state_on : (v : ViewId) (full : List Entry) → Seen x v → state_of_list x.bases v full ≡ state_of_list y.bases v full
   state_on v full h = ap (λ b. fold_from v (base_state b) 0 full) (sym (o.bases v h))
 
-  pub keeps_on : (v : ViewId) (full : List Entry) (l : Option GroupView) → Seen x v → KeepsIf x v full l → KeepsIf y v full l
-  keeps_on v full None s h = (h.0, o.bases v s ∙ h.1)
-  keeps_on v full (Some l) s h =
-      record { starts = h.starts; len = h.len; entries = h.entries; state = h.state ∙ state_on v full s }
-
-  pub carries_on : (v : ViewId) (full : List Entry) (p : Option Part) → Seen x v → CarriesIf x v full p → CarriesIf y v full p
-  carries_on v full None s h = (h.0, o.bases v s ∙ h.1)
-  carries_on v full (Some p) s h = record { starts = h.starts; entries = h.entries; state = h.state ∙ state_on v full s }
+  fits_on : (v : ViewId) (full : List Entry) → Seen x v → FitIn x v full → FitIn y v full
+  fits_on v full s h = subst (λ b. all_fit v (new_list (base_state b)) full ≡ true) (sym (o.bases v s)) h
 
   pub stable_on : (v : ViewId) (k : ℕ) → IsStable x v k → IsStable y v k
   stable_on v k (inl e) = inl e
   stable_on v k (inr h) = inr (o.packets (group.Stable v k) h)
+
+  pub keeps_on : (v : ViewId) (full : List Entry) (l : Option GroupView) → Seen x v → KeepsIf x v full l → KeepsIf y v full l
+  keeps_on v full None s h = (h.0, o.bases v s ∙ h.1)
+  keeps_on v full (Some l) s h =
+      record { starts = h.starts; len = h.len; entries = h.entries; state = h.state ∙ state_on v full s; bytes = h.bytes; fits = fits_on v full s h.fits }
+
+  pub carries_on : (v : ViewId) (full : List Entry) (p : Option Part) → Seen x v → CarriesIf x v full p → CarriesIf y v full p
+  carries_on v full None s h = (h.0, o.bases v s ∙ h.1)
+  carries_on v full (Some p) s h =
+      record { starts = h.starts; entries = h.entries; state = h.state ∙ state_on v full s; fits = fits_on v full s h.fits; stable = stable_on v p.start h.stable }
 
   reply_on : (g : List ℕ) (v : ViewId) (a : Answer) (r : Reply) → ReplyIs x g v a r → ReplyIs y g v a r
   reply_on g v a r h =

@@ -9,6 +9,7 @@ pub mod ViewRows
 pub mod RowWorks
 pub mod Acks
 pub mod SessionLaws
+pub mod Fits
 pub mod Puts
 pub mod Handed
 pub mod Entries
@@ -28,4 +29,5 @@ pub mod Rings
 pub mod Sides
 pub mod Replies
 pub mod Founding
+pub mod GoingOn
 pub mod FoundingRows

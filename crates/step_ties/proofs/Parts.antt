@@ -14,7 +14,7 @@ use Rattle.node_state.specs.declared.group.GroupRow.{GroupRow}
 use Rattle.node_state.specs.declared.state.Core.{Core}
 use Rattle.node_state.specs.State.{row_found, row_of, held_rows}
 use Rattle.node_state.specs.Applying.{part_of_list, own_parts}
-use Rattle.step_ties.specs.Ghost.{Ghost, KeepsIf, CarriesIf, part_of}
+use Rattle.step_ties.specs.Ghost.{Ghost, KeepsIf, CarriesIf, part_of, IsStable}
 use Rattle.step_ties.specs.Tied.{AllAfter, InNameOrder}
 use Rattle.step_ties.proofs.NameOrder.{text_same, lt_self, is_of, none_after}
 
@@ -56,19 +56,20 @@ part_found g (row ∷ rows) o = by (bytes_eq row.name g) row.list refl refl (par
     by false (Some l) q e k = ap (λ b. cond b (Some (part_in row)) (find (named g) (map part_in (filter is_held rows)))) q ∙ k
 
 -- it shows what the row shows
-pub own_carries : (x : Ghost) (g : List ℕ) (v : ViewId) (full : List Entry) (s : Core) → InNameOrder s.groups → KeepsIf x v full (row_of s g).list → CarriesIf x v full (part_of g (own_parts s))
+pub own_carries : (x : Ghost) (g : List ℕ) (v : ViewId) (full : List Entry) (s : Core) → InNameOrder s.groups → KeepsIf x v full (row_of s g).list → IsStable x v (list_or_new (row_of s g).list).start → CarriesIf x v full (part_of g (own_parts s))
 unfolding row_of own_parts held_rows part_of_list
-own_carries x g v full s o k = subst (CarriesIf x v full) (sym (part_found g s.groups o)) (at (find (is_of g) s.groups) k)
+own_carries x g v full s o k stable =
+    subst (CarriesIf x v full) (sym (part_found g s.groups o)) (at (find (is_of g) s.groups) k stable)
   where
-    held : (row : GroupRow) (l : Option GroupView) → row.list ≡ l → KeepsIf x v full l → CarriesIf x v full (held_part row l)
-    held row None e k = k
-    held row (Some l) e k =
+    held : (row : GroupRow) (l : Option GroupView) → row.list ≡ l → KeepsIf x v full l → IsStable x v (list_or_new row.list).start → CarriesIf x v full (held_part row l)
+    held row None e k b = k
+    held row (Some l) e k b =
         let q : list_or_new row.list ≡ l = ap list_or_new e in
-        record { starts = subst (λ (z : GroupView). z.start ≤ length full) (sym q) k.starts; entries = subst (λ (z : GroupView). z.entries ≡ drop z.start full) (sym q) k.entries; state = ap (λ (z : GroupView). z.state) q ∙ k.state }
+        record { starts = subst (λ (z : GroupView). z.start ≤ length full) (sym q) k.starts; entries = subst (λ (z : GroupView). z.entries ≡ drop z.start full) (sym q) k.entries; state = ap (λ (z : GroupView). z.state) q ∙ k.state; fits = k.fits; stable = b }
 
-    at : (r : Option GroupRow) → KeepsIf x v full (row_found g r).list → CarriesIf x v full (found_part r)
-    at None k = k
-    at (Some row) k = held row row.list refl k
+    at : (r : Option GroupRow) → KeepsIf x v full (row_found g r).list → IsStable x v (list_or_new (row_found g r).list).start → CarriesIf x v full (found_part r)
+    at None k b = k
+    at (Some row) k b = held row row.list refl k b
 
 -- names in order differ
 after_differ : (g : List ℕ) (rows : List GroupRow) → AllAfter g rows → (q : Part) → Has q (map part_in (filter is_held rows)) → q.name ≡ g → ⊥

@@ -1,21 +1,23 @@
 -- ENTRY: an entry is put at the end of the list, and handed on.
-use Rattle.std.proofs.Common.{◌≡◌, ◌≢◌, ◌≤◌, ◌<◌, ℕ, zero, suc, ◌+◌, List, [], ◌∷◌, ◌++◌, length, drop, take, Some, refl, sym, ap, ◌∙◌, subst, inl, inr, length-append, arith}
+use Rattle.std.proofs.Common.{◌≡◌, ◌≢◌, ◌≤◌, ◌<◌, ℕ, zero, suc, ◌+◌, List, [], ◌∷◌, ◌++◌, length, drop, take, Some, true, refl, sym, ap, ◌∙◌, subst, inl, inr, length-append, arith}
 use Rattle.std.specs.Prelude.{reverse, slice_get, if◌then◌else◌}
 use Rattle.rsct_packet.specs.declared.ids.ViewId.{ViewId}
 use Rattle.rsct_packet.specs.declared.ids.ProviderId.{ProviderId}
 use Rattle.rsct_packet.specs.Search.{Has}
 use Rattle.group_entry.specs.declared.entry.Entry.{Entry}
+use Rattle.group_entry.specs.Sizes.{entry_len}
 use Rattle.proposal_core.specs.declared.group_state.GroupState.{GroupState}
 use Rattle.proposal_core.specs.Fold.{after}
-use Rattle.proposal_core.specs.GroupView.{GroupView}
+use Rattle.proposal_core.specs.GroupView.{GroupView, new_list}
 use Rattle.proposal_core.specs.Lists.{list_or_new, with_entry}
+use Rattle.view_exchange.specs.Cut.{all_fit}
 use Rattle.session_state.specs.declared.state.Request.{Request}
 use Rattle.session_state.specs.declared.state.SessionState.{SessionState}
 use Rattle.node_state.specs.declared.happened.Happened.TheVariants as happened
 use Rattle.node_state.specs.declared.group.GroupRow.{GroupRow}
 use Rattle.node_state.specs.declared.state.Core.{Core}
 use Rattle.node_state.specs.Settings.{is_fixed}
-use Rattle.node_state.specs.State.{row_of, acked_from, with_row, list_of, state_of, len_of, recorded, with_sessions}
+use Rattle.node_state.specs.State.{row_of, acked_from, with_row, list_of, state_of, len_of, fits_at_end, recorded, with_sessions}
 use Rattle.node_state.specs.Leading.{put}
 use Rattle.run_safety.specs.Past.{fold_from}
 use Rattle.run_safety.specs.Sight.{lines_with, lines_of}
@@ -27,7 +29,7 @@ use Rattle.run_safety.specs.Requests.{carried}
 use Rattle.run_safety.specs.Moves.{Follows, grown}
 use Rattle.run_safety.proofs.Whole.{Whole}
 use Rattle.run_safety.proofs.Lives.{whole}
-use Rattle.step_ties.specs.Ghost.{Ghost, Lives, Goes, Keeps}
+use Rattle.step_ties.specs.Ghost.{Ghost, Lives, Goes, Keeps, FitIn}
 use Rattle.step_ties.specs.Tied.{RowIs, Owed, Owes, LeaderKeeps, NodeOf, Scene, opening_of, lines_now, Tied}
 use Rattle.step_ties.specs.Rows.{at_node}
 use Rattle.step_ties.proofs.Goes.{Spares, seen_on, node_if_on, stable_on, knows_on, acked_on, gathers_on, install_on, shows_on}
@@ -36,6 +38,7 @@ use Rattle.step_ties.proofs.Works.{lines_pushed}
 use Rattle.step_ties.proofs.NameOrder.{text_self, text_other, row_here, row_there, rows_ordered}
 use Rattle.step_ties.proofs.RowWorks.{keeps_of}
 use Rattle.step_ties.proofs.SessionLaws.{Later}
+use Rattle.step_ties.proofs.Fits.{fits_one, bytes_pushed}
 
 -- ---- lists with one more entry
 
@@ -58,9 +61,9 @@ take_pushed : (xs : List Entry) (e : Entry) → take (length xs + 1) (xs ++ e �
 take_pushed xs e =
     let q : length xs + 1 ≡ length (xs ++ e ∷ []) = sym (length-append xs (e ∷ [])) in ap (λ k. take k (xs ++ e ∷ [])) q ∙ take_all (xs ++ e ∷ [])
 
-pub pushed_keeps : (x y : Ghost) (v : ViewId) (full : List Entry) (l : GroupView) (e : Entry) → y.bases v ≡ x.bases v → Keeps x v full l → Keeps y v (full ++ e ∷ []) (with_entry l v e)
+pub pushed_keeps : (x y : Ghost) (v : ViewId) (full : List Entry) (l : GroupView) (e : Entry) → y.bases v ≡ x.bases v → Keeps x v full l → FitIn x v (full ++ e ∷ []) → Keeps y v (full ++ e ∷ []) (with_entry l v e)
 unfolding with_entry
-pushed_keeps x y v full l e b h =
+pushed_keeps x y v full l e b h fit =
     let more : length (full ++ e ∷ []) ≡ length full + 1 = length-append full (e ∷ []) in
     let from : 0 + length full ≡ length full = omega arith in
     record {
@@ -68,6 +71,8 @@ pushed_keeps x y v full l e b h =
       len = ap (λ k. k + 1) h.len ∙ sym more;
       entries = ap (λ es. es ++ e ∷ []) h.entries ∙ sym (drop_pushed l.start full e h.starts);
       state = (λ i. after (h.state i) v ((h.len ∙ sym from) i) e) ∙ sym (fold_pushed v full (base_state (x.bases v)) 0 e) ∙ ap (λ z. fold_from v (base_state z) 0 (full ++ e ∷ [])) (sym b);
+      bytes = ap (λ k. k + entry_len e) h.bytes ∙ sym (bytes_pushed full e);
+      fits = subst (λ z. all_fit v (new_list (base_state z)) (full ++ e ∷ []) ≡ true) (sym b) fit;
     }
 
 -- ---- the sessions that are left
@@ -118,7 +123,7 @@ module _ (g : List ℕ) (w : Scene) (n : ℕ) (s : Core) (t : Tied g w n s) (h :
         refused = t.refused;
       }
 
-module _ (g : List ℕ) (w : Scene) (n : ℕ) (s : Core) (t : Tied g w n s) (e : Entry) (u : SessionState) (l : Leaves s.sessions u e) where
+module _ (g : List ℕ) (w : Scene) (n : ℕ) (s : Core) (t : Tied g w n s) (e : Entry) (u : SessionState) (l : Leaves s.sessions u e) (room : fits_at_end s g e ≡ true) where
   abbrev z : Standing
   z = t.ghost.nodes n
 
@@ -135,6 +140,10 @@ module _ (g : List ℕ) (w : Scene) (n : ℕ) (s : Core) (t : Tied g w n s) (e :
   keeps : Keeps t.ghost s.views.view (t.ghost.nodes n).list (list_of s g)
   unfolding list_of
   keeps = keeps_of t.ghost s.views.view (t.ghost.nodes n).list (row_of s g).list t.own.0.row_is.list
+
+  fit : FitIn t.ghost s.views.view ((t.ghost.nodes n).list ++ e ∷ [])
+  unfolding fits_at_end
+  fit = fits_one t.ghost s.views.view (t.ghost.nodes n).list e (list_of s g) keeps room
 
   pub len_now : len_of s g ≡ length (t.ghost.nodes n).list
   unfolding len_of
@@ -176,7 +185,7 @@ module _ (g : List ℕ) (w : Scene) (n : ℕ) (s : Core) (t : Tied g w n s) (e :
     unfolding with_entry list_of
     row_after =
         record {
-          list = subst (λ full. Keeps y s.views.view full (with_entry (list_of s g) s.views.view e)) (sym (ap (λ (k : Standing). k.list) here)) (pushed_keeps t.ghost y s.views.view (t.ghost.nodes n).list (list_of s g) e refl keeps);
+          list = subst (λ full. Keeps y s.views.view full (with_entry (list_of s g) s.views.view e)) (sym (ap (λ (k : Standing). k.list) here)) (pushed_keeps t.ghost y s.views.view (t.ghost.nodes n).list (list_of s g) e refl keeps fit);
           stable = stable_on t.ghost y goes s.views.view (list_or_new (row_of s g).list).start t.own.0.row_is.stable;
           leader = knows_on t.ghost y goes s.views.view s.views.members (row_of s g).leader t.own.0.row_is.leader;
           acked = λ m i a. acked_on t.ghost y goes s.views.view m i (acked_from m (row_of s g).led.acked) (t.own.0.row_is.acked m i a);
@@ -239,7 +248,7 @@ module _ (g : List ℕ) (w : Scene) (n : ℕ) (s : Core) (t : Tied g w n s) (e :
     state_after =
         let k : Whole (opening_of w.config) y.nodes y.ps y.all y.leads y.bases = whole lives in
         let a : state_of (put s g e) g ≡ (with_entry (list_of s g) s.views.view e).state = ap (λ (row : GroupRow). (list_or_new row.list).state) (row_here g put_row (λ x. refl) s t.own.0.order) in
-        let b : (with_entry (list_of s g) s.views.view e).state ≡ state_of_list t.ghost.bases s.views.view ((t.ghost.nodes n).list ++ e ∷ []) = (pushed_keeps t.ghost y s.views.view (t.ghost.nodes n).list (list_of s g) e refl keeps).state in
+        let b : (with_entry (list_of s g) s.views.view e).state ≡ state_of_list t.ghost.bases s.views.view ((t.ghost.nodes n).list ++ e ∷ []) = (pushed_keeps t.ghost y s.views.view (t.ghost.nodes n).list (list_of s g) e refl keeps fit).state in
         let c : puts_of n s.views.view (kept y.all) ≡ (t.ghost.nodes n).list ++ e ∷ [] = ap (λ v. puts_of n v (kept y.all)) (sym t.own.0.stands.view ∙ sym (ap (λ (q : Standing). q.view) here)) ∙ (k.good.past.seated n).list ∙ ap (λ (q : Standing). q.list) here in
         let d : take (len_of s g + 1) (puts_of n s.views.view (kept y.all)) ≡ (t.ghost.nodes n).list ++ e ∷ [] = (λ i. take (len_now i + 1) (c i)) ∙ take_pushed (t.ghost.nodes n).list e in
         a ∙ b ∙ ap (state_of_list t.ghost.bases s.views.view) (sym d)
@@ -263,11 +272,11 @@ module _ (g : List ℕ) (w : Scene) (n : ℕ) (s : Core) (t : Tied g w n s) (e :
     )
 
 -- the own group's entry, as it was sent
-module _ (g : List ℕ) (w : Scene) (n : ℕ) (s : Core) (t : Tied g w n s) (e : Entry) (u : SessionState) (l : Leaves s.sessions u e) (thawed : s.views.promise ≡ s.views.view) (sent_it : Has (group.Append s.views.view (len_of s g) e) t.ghost.ps) where
+module _ (g : List ℕ) (w : Scene) (n : ℕ) (s : Core) (t : Tied g w n s) (e : Entry) (u : SessionState) (l : Leaves s.sessions u e) (room : fits_at_end s g e ≡ true) (thawed : s.views.promise ≡ s.views.view) (sent_it : Has (group.Append s.views.view (len_of s g) e) t.ghost.ps) where
   sent_there : Has (group.Append (t.ghost.nodes n).view (length (t.ghost.nodes n).list) e) t.ghost.ps
-  sent_there = subst (λ (k : ViewId × ℕ). Has (group.Append k.0 k.1 e) t.ghost.ps) (λ i. (sym t.own.0.stands.view i, len_now g w n s t e u l i)) sent_it
+  sent_there = subst (λ (k : ViewId × ℕ). Has (group.Append k.0 k.1 e) t.ghost.ps) (λ i. (sym t.own.0.stands.view i, len_now g w n s t e u l room i)) sent_it
 
-  follows : Lives (opening_of w.config) (put_ghost g w n s t e u l t.ghost.ps)
+  follows : Lives (opening_of w.config) (put_ghost g w n s t e u l room t.ghost.ps)
   follows =
       Follows t.ghost.nodes (at_node t.ghost.nodes n (grown (t.ghost.nodes n) e)) t.ghost.ps t.ghost.all t.ghost.leads t.ghost.bases n (t.ghost.nodes n) e t.life refl (subst (λ k. 0 < k) (sym t.own.0.stands.inc) t.own.0.stands.up) (t.own.0.stands.view ∙ sym thawed ∙ sym t.own.0.stands.promise) sent_there (changes t.ghost.nodes n (grown (t.ghost.nodes n) e))
 
@@ -283,7 +292,7 @@ module _ (g : List ℕ) (w : Scene) (n : ℕ) (s : Core) (t : Tied g w n s) (e :
       past [] e q = cc
       past (x ∷ xs) e q = past xs e q
 
-  decides : LeaderKeeps (put_ghost g w n s t e u l t.ghost.ps) n s.views.inc s.views.view (row_of s g).led
+  decides : LeaderKeeps (put_ghost g w n s t e u l room t.ghost.ps) n s.views.inc s.views.view (row_of s g).led
   decides =
       record {
         refused = λ p r q. absurd (unled q);
@@ -293,4 +302,4 @@ module _ (g : List ℕ) (w : Scene) (n : ℕ) (s : Core) (t : Tied g w n s) (e :
       }
 
   pub put_own : (t' : Tied g w n (with_sessions (put s g e) u)) × (Has (Put n s.views.view (len_of s g) e) (kept t'.ghost.all) × (state_of (put s g e) g ≡ state_of_list t'.ghost.bases s.views.view (take (len_of s g + 1) (puts_of n s.views.view (kept t'.ghost.all)))))
-  put_own = let k = put_tied g w n s t e u l t.ghost.ps (λ p h. h) (λ v p r h. h) follows decides in (k.0, k.1)
+  put_own = let k = put_tied g w n s t e u l room t.ghost.ps (λ p h. h) (λ v p r h. h) follows decides in (k.0, k.1)

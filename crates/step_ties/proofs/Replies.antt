@@ -87,7 +87,7 @@ some_not : {A : Type 0} (a : A) → None ≡ Some a → ⊥
 some_not a e = cc
 
 -- the part of a name, where names differ
-part_is : (g : List ℕ) (ps : List Part) (p : Part) → NamesDiffer ps → Has p ps → p.name ≡ g → part_of g ps ≡ Some p
+pub part_is : (g : List ℕ) (ps : List Part) (p : Part) → NamesDiffer ps → Has p ps → p.name ≡ g → part_of g ps ≡ Some p
 part_is g [] p d h e = absurd h
 part_is g (q ∷ ps) p d (inl s) e =
     ap (λ b. cond b (Some q) (part_of g ps)) (ap (λ (z : Part). bytes_eq z.name g) (sym s) ∙ subst (λ z. bytes_eq z g ≡ true) (sym e) (text_self g)) ∙ ap (λ z. Some z) (sym s)
@@ -102,7 +102,7 @@ part_none g ps p e h s =
     find_none (λ (q : Part). bytes_eq q.name g) ps p (ap is_none e) h (subst (λ z. bytes_eq z g ≡ true) (sym s) (text_self g))
 
 -- a part that shows a list is as long as it
-carries_len : (x : Ghost) (v : ViewId) (full : List Entry) (p : Part) → Carries x v full p → part_len p ≡ length full
+pub carries_len : (x : Ghost) (v : ViewId) (full : List Entry) (p : Part) → Carries x v full p → part_len p ≡ length full
 carries_len x v full p h =
     let a : length p.entries ≡ length (drop p.start full) = ap length h.entries in
     let b = length-drop p.start full in

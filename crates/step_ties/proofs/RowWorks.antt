@@ -7,8 +7,10 @@ use Rattle.std.proofs.lemmas.Bool.Decides.{nat_tests}
 use Rattle.rsct_packet.specs.declared.ids.ViewId.{ViewId}
 use Rattle.rsct_packet.specs.Search.{Has}
 use Rattle.group_entry.specs.declared.entry.Entry.{Entry}
-use Rattle.proposal_core.specs.GroupView.{GroupView}
+use Rattle.proposal_core.specs.GroupView.{GroupView, new_list}
 use Rattle.proposal_core.specs.Lists.{list_or_new, forgotten}
+use Rattle.view_exchange.specs.Cut.{all_fit}
+use Rattle.view_exchange.proofs.CutLaws.{fit_ends}
 use Rattle.node_state.specs.declared.packet.Body.TheVariants as body
 use Rattle.node_state.specs.declared.packet.Packet.{Packet}
 use Rattle.node_state.specs.declared.group.GroupRow.{GroupRow}
@@ -17,9 +19,9 @@ use Rattle.node_state.specs.Settings.{is_fixed}
 use Rattle.node_state.specs.State.{row_of, with_row, list_of, len_of, list_forgotten, forgets_below, led_by}
 use Rattle.node_state.specs.Sending.{sent, sent_on, packet_on, network_to}
 use Rattle.run_safety.specs.Group as group
-use Rattle.run_safety.specs.Bases.{state_of_list}
+use Rattle.run_safety.specs.Bases.{base_state, state_of_list}
 use Rattle.run_safety.specs.Moves.{Acknowledges}
-use Rattle.step_ties.specs.Ghost.{Ghost, Goes, Keeps, KeepsIf, IsStable}
+use Rattle.step_ties.specs.Ghost.{Ghost, Goes, Keeps, KeepsIf, bytes_of, IsStable}
 use Rattle.step_ties.specs.Tied.{Shows, KnowsLeader, RowIs, LeaderKeeps, NodeIs, Scene, Tied}
 use Rattle.step_ties.proofs.Goes.{Spares, shows_on, node_on}
 use Rattle.step_ties.proofs.Changed.{has_pushed}
@@ -35,6 +37,8 @@ keeps_of x v full None h =
       len = sym (ap length h.0);
       entries = sym (ap (drop 0) h.0);
       state = λ i. state_of_list (λ u. sym h.1 i) v (sym h.0 i);
+      bytes = sym (ap bytes_of h.0);
+      fits = ap (all_fit v (new_list (base_state (x.bases v)))) h.0 ∙ fit_ends v (new_list (base_state (x.bases v)));
     }
 keeps_of x v full (Some l) h = h
 
@@ -52,6 +56,8 @@ forgotten_keeps x v full l k h = by (nat_le k l.len) refl
           len = h.len;
           entries = ap (drop (k - l.start)) h.entries ∙ dropped l.start k full;
           state = h.state;
+          bytes = h.bytes;
+          fits = h.fits;
         }
       where
         dropped : (a k : ℕ) (xs : List Entry) → drop (k - a) (drop a xs) ≡ drop (max a k) xs

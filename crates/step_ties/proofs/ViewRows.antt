@@ -102,7 +102,7 @@ module _ (g : List ℕ) (w : Scene) (n : ℕ) (s : Core) (t : Tied g w n s) wher
         (x.nodes n).list,
         inl (λ i. group.Answer v (sym mine i)),
         (n, s.views.inc, s.views.members, h.stands.seated),
-        carries_on x y o s.views.view (x.nodes n).list (part_of g (own_parts s)) (n, s.views.inc, s.views.members, h.stands.seated) (own_carries x g s.views.view (x.nodes n).list s h.order h.row_is.list),
+        carries_on x y o s.views.view (x.nodes n).list (part_of g (own_parts s)) (n, s.views.inc, s.views.members, h.stands.seated) (own_carries x g s.views.view (x.nodes n).list s h.order h.row_is.list h.row_is.stable),
         own_differ s h.order,
       ) in
       tied_on g w n s t (sent s to (body.View (view.Answer v s.views.view (own_parts s)))) y (Answers x.nodes x.ps x.all x.leads x.bases n (x.nodes n) v t.life refl up le' lt') t.lines (node_on x y n (spares n) refl g (is_fixed s.config.mode) s.views (row_of s g) s.groups s.sessions s.names h, t.own.1, t.own.2) (λ m ne. spares m) (λ m ne. refl) (λ q i. ⊎_elim (λ (e : q ≡ p). subst (Shows y g) (sym e) new) (λ (k : Has q (s.sends ++ w.sent)). shows_on x y o g q (t.packets q k)) (has_pushed q p s.sends w.sent i))

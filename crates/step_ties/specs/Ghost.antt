@@ -1,13 +1,14 @@
 -- What stands for one group: how nodes stand to it, its packets, its lines, its leaders and its bases; and what a node
 -- keeps or a packet carries of it, which shows the whole lists that stand here.
-use Rattle.std.specs.Prelude.{ℕ, ◌≤◌, ◌<◌, ◌≡◌, ◌⊎◌, List, [], length, drop, find, Option, Some, None, true}
+use Rattle.std.specs.Prelude.{ℕ, ◌+◌, ◌≤◌, ◌<◌, ◌≡◌, ◌⊎◌, List, [], ◌∷◌, length, drop, find, Option, Some, None, true}
 use Rattle.std.specs.Str.{bytes_eq}
 use Rattle.rsct_packet.specs.declared.ids.ViewId.{ViewId}
 use Rattle.rsct_packet.specs.declared.ids.Member.{Member}
 use Rattle.rsct_packet.specs.Mask.{has_node}
 use Rattle.rsct_packet.specs.Search.{Has}
 use Rattle.group_entry.specs.declared.entry.Entry.{Entry}
-use Rattle.proposal_core.specs.GroupView.{GroupView}
+use Rattle.group_entry.specs.Sizes.{entry_len}
+use Rattle.proposal_core.specs.GroupView.{GroupView, new_list}
 use Rattle.view_exchange.specs.declared.answer.Answer.{Answer}
 use Rattle.view_exchange.specs.declared.exchange.Exchange.{Exchange}
 use Rattle.view_exchange.specs.declared.install.Part.{Part}
@@ -15,12 +16,13 @@ use Rattle.view_exchange.specs.declared.install.Source.{Source}
 use Rattle.view_exchange.specs.declared.install.Install.{Install}
 use Rattle.view_exchange.specs.declared.install.Base.{Base}
 use Rattle.view_exchange.specs.Answers.{opened}
+use Rattle.view_exchange.specs.Cut.{all_fit}
 use Rattle.view_exchange.specs.Longest.{all_counted, NamesDiffer}
 use Rattle.view_exchange.specs.Bases.{source_at, bases_of, base_named}
 use Rattle.run_safety.specs.ViewOrder.{Lt}
 use Rattle.run_safety.specs.Group.{member, members_of, Standing, Reply, Origin, Packet, Line, In, kept}
 use Rattle.run_safety.specs.Group as group
-use Rattle.run_safety.specs.Bases.{Bases, state_of_list}
+use Rattle.run_safety.specs.Bases.{Bases, base_state, state_of_list}
 use Rattle.run_safety.specs.Moves.{Leads, Opening, Life}
 
 pub record Ghost : Type 0 where
@@ -46,25 +48,42 @@ pub record Goes (x y : Ghost) : Type 0 where
   pub leads : (v : ViewId) (l : Member) → x.leads v ≡ Some l → y.leads v ≡ Some l
   pub bases : (v : ViewId) → Seen x v → y.bases v ≡ x.bases v
 
+-- all members of the view hold so many entries
+abbrev pub IsStable : Ghost → ViewId → ℕ → Type 0
+IsStable x v k = (k ≡ 0) ⊎ Has (group.Stable v k) x.ps
+
+-- the bytes of entries
+abbrev pub bytes_of : List Entry → ℕ
+bytes_of [] = 0
+bytes_of (e ∷ es) = entry_len e + bytes_of es
+
+-- the entries fit one after another, from the view's base on
+abbrev pub FitIn : Ghost → ViewId → List Entry → Type 0
+FitIn x v full = all_fit v (new_list (base_state (x.bases v))) full ≡ true
+
 -- ---- lists without their front
 
--- a node's list of a view shows the whole one: from its start on, with the state at its end
+-- a node's list of a view shows the whole one, which fits: from its start on, with the state and the bytes at its end
 pub record Keeps (x : Ghost) (v : ViewId) (full : List Entry) (l : GroupView) : Type 0 where
   pub starts : l.start ≤ length full
   pub len : l.len ≡ length full
   pub entries : l.entries ≡ drop l.start full
   pub state : l.state ≡ state_of_list x.bases v full
+  pub bytes : l.bytes ≡ bytes_of full
+  pub fits : FitIn x v full
 
 -- a node without a list has no entries, and the view has no base
 abbrev pub KeepsIf : Ghost → ViewId → List Entry → Option GroupView → Type 0
 KeepsIf x v full None = (full ≡ []) × (x.bases v ≡ None)
 KeepsIf x v full (Some l) = Keeps x v full l
 
--- a part of an answer or an install shows the whole list
+-- a part of an answer or an install shows the whole list, which fits, and what is left out of it all members hold
 pub record Carries (x : Ghost) (v : ViewId) (full : List Entry) (p : Part) : Type 0 where
   pub starts : p.start ≤ length full
   pub entries : p.entries ≡ drop p.start full
   pub state : p.state ≡ state_of_list x.bases v full
+  pub fits : FitIn x v full
+  pub stable : IsStable x v p.start
 
 abbrev pub CarriesIf : Ghost → ViewId → List Entry → Option Part → Type 0
 CarriesIf x v full None = (full ≡ []) × (x.bases v ≡ None)
@@ -129,7 +148,3 @@ pub record Installs (x : Ghost) (g : List ℕ) (i : Install) : Type 0 where
 abbrev pub InstallsIf : Ghost → List ℕ → Option Install → Type 0
 InstallsIf x g None = Unit {0}
 InstallsIf x g (Some i) = Installs x g i
-
--- all members of the view hold so many entries
-abbrev pub IsStable : Ghost → ViewId → ℕ → Type 0
-IsStable x v k = (k ≡ 0) ⊎ Has (group.Stable v k) x.ps

@@ -25,10 +25,10 @@ use Rattle.node_state.specs.HandOn.{Answering}
 use Rattle.view_exchange.specs.declared.install.Part.{Part}
 use Rattle.view_exchange.specs.declared.install.Install.{Install}
 use Rattle.view_exchange.specs.declared.exchange.Exchange.{Exchange}
-use Rattle.view_exchange.specs.Answers.{opened, with_answer, all_answered, install_of}
+use Rattle.view_exchange.specs.Answers.{opened, with_answer, all_answered}
 use Rattle.view_core.specs.declared.views.RingAsk.{RingAsk}
 use Rattle.view_core.specs.Views.{own_answer, next_view}
-use Rattle.node_state.specs.Applying.{Lacking, own_parts, lacking}
+use Rattle.node_state.specs.Applying.{own_parts}
 use Rattle.node_state.specs.Ticks.{ring_ask, rings_part, views_part, owed_part}
 use Rattle.node_state.specs.Step.{order_row, at_work, started, view_row, body_row}
 use Rattle.world_model.specs.declared.event.Event.{Event}
@@ -136,33 +136,25 @@ abbrev pub ViewsPartTied : Type 0
 ViewsPartTied =
     (g : List ℕ) (w : Scene) (n : ℕ) (f : Answering) (s : Core) → ((a : RingAsk) → ring_ask s ≡ Some a → all_answered (with_answer (opened (next_view s.views) a.mask) (own_answer s.views (own_parts s))) ≡ false) → Tied g w n s → Tied g w n (views_part f s)
 
--- where a coordinator's own lists go on to the install that it makes
-abbrev pub GoesOn : Core → Exchange → Type 0
-GoesOn s e = (xs : List Lacking) × (lacking s (install_of e) ≡ Some xs)
-
 -- no node put anything since the event began
 abbrev pub QuietNow : List ℕ → Scene → Core → Type 0
 QuietNow g w s = Quiet (kept (lines_now g w s))
 
--- ANSWER, also the last one, with which the coordinator founds the view; outside of mode fixed, as the first row of a step
+-- ANSWER, also the last one, with which the coordinator founds the view; outside of mode fixed, as the first row of a step;
+-- the relation stands for every group, since the install carries the lists of all
 abbrev pub FoundingAnswerTied : Type 0
 FoundingAnswerTied =
-    (v old : ViewId) (parts : List Part) (g : List ℕ) (w : Scene) (n : ℕ) (f : Answering) (s : Core) (p : Packet) → p.body ≡ body.View (view.Answer v old parts) → Has p w.sent → s.records ≡ [] → is_fixed w.config.mode ≡ false → ((e : Exchange) → s.views.gathering ≡ Some e → all_answered (with_answer e (record { node = p.from; inc = p.inc; view = old; parts = parts })) ≡ true → GoesOn s (with_answer e (record { node = p.from; inc = p.inc; view = old; parts = parts }))) → Tied g w n s → Tied g w n (body_row f s p (body.View (view.Answer v old parts)))
-
--- a node that asks for a view, itself alone too
-abbrev pub FoundsAlone : Core → Mask → Type 0
-FoundsAlone s mask =
-    all_answered (with_answer (opened (next_view s.views) mask) (own_answer s.views (own_parts s))) ≡ true → GoesOn s (with_answer (opened (next_view s.views) mask) (own_answer s.views (own_parts s)))
+    (v old : ViewId) (parts : List Part) (w : Scene) (n : ℕ) (f : Answering) (s : Core) (p : Packet) → p.body ≡ body.View (view.Answer v old parts) → Has p w.sent → s.records ≡ [] → is_fixed w.config.mode ≡ false → ((h : List ℕ) → Tied h w n s) → (g : List ℕ) → Tied g w n (body_row f s p (body.View (view.Answer v old parts)))
 
 -- an order to ask, also oneself alone, as the first row of a step
 abbrev pub FoundingAskTied : Type 0
 FoundingAskTied =
-    (mask : Mask) (g : List ℕ) (w : Scene) (n : ℕ) (f : Answering) (s : Core) → s.records ≡ [] → is_fixed w.config.mode ≡ false → FoundsAlone s mask → Tied g w n s → Tied g w n (order_row f s mask)
+    (mask : Mask) (w : Scene) (n : ℕ) (f : Answering) (s : Core) → s.records ≡ [] → is_fixed w.config.mode ≡ false → ((h : List ℕ) → Tied h w n s) → (g : List ℕ) → Tied g w n (order_row f s mask)
 
 -- the tick of views, parts (2) and (3), also where it asks oneself alone
 abbrev pub FoundingTickTied : Type 0
 FoundingTickTied =
-    (g : List ℕ) (w : Scene) (n : ℕ) (f : Answering) (s : Core) → QuietNow g w s → is_fixed w.config.mode ≡ false → ((a : RingAsk) → ring_ask s ≡ Some a → FoundsAlone s a.mask) → Tied g w n s → Tied g w n (views_part f s)
+    (w : Scene) (n : ℕ) (f : Answering) (s : Core) → is_fixed w.config.mode ≡ false → ((h : List ℕ) → Tied h w n s) → (g : List ℕ) → QuietNow g w s → Tied g w n (views_part f s)
 
 -- INSTALL, outside of mode fixed, as the first row of a step
 abbrev pub InstallTied : Type 0

@@ -141,19 +141,19 @@ pub fn reply_is_tied()
     ensures { ReplyTied }
 {}
 
-/// ANSWER, also the last one: the coordinator founds the view, where its own lists go on to the install.
+/// ANSWER, also the last one: the coordinator founds the view. The relation is of all groups at once.
 #[tactic(auto, using(crate::proofs::FoundingRows::founding_answer_tied))]
 pub fn founding_answer_is_tied()
     ensures { FoundingAnswerTied }
 {}
 
-/// An order to ask, also oneself alone.
+/// An order to ask, also oneself alone. The relation is of all groups at once.
 #[tactic(auto, using(crate::proofs::FoundingRows::founding_ask_tied))]
 pub fn founding_ask_is_tied()
     ensures { FoundingAskTied }
 {}
 
-/// The tick of views, parts (2) and (3), also where it asks oneself alone.
+/// The tick of views, parts (2) and (3), also where it asks oneself alone. The relation is of all groups at once.
 #[tactic(auto, using(crate::proofs::FoundingRows::founding_tick_tied))]
 pub fn founding_tick_is_tied()
     ensures { FoundingTickTied }
