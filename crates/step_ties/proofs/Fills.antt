@@ -25,6 +25,7 @@ use Rattle.view_exchange.specs.declared.install.Part.{Part}
 use Rattle.view_exchange.specs.Parts.{part_len}
 use Rattle.view_exchange.specs.Cut.{all_fit, lacking_if, lacking_of}
 use Rattle.view_exchange.specs.Longest.{NamesDiffer}
+use Rattle.view_exchange.proofs.CutLaws.{fit_ends}
 use Rattle.node_state.specs.declared.happened.Happened.{Happened}
 use Rattle.node_state.specs.declared.happened.Happened.TheVariants as happened
 use Rattle.node_state.specs.declared.group.GroupRow.{GroupRow}
@@ -45,7 +46,6 @@ use Rattle.step_ties.proofs.Works.{Unseen, lines_pushed}
 use Rattle.step_ties.proofs.NameOrder.{text_self, text_same, text_other, row_here, row_there, rows_ordered}
 use Rattle.step_ties.proofs.SessionLaws.{Later, later_then, handed_later, handed_gone}
 use Rattle.step_ties.proofs.Fits.{fits_more, fits_front}
-use Rattle.view_exchange.proofs.CutLaws.{fit_ends}
 use Rattle.step_ties.proofs.Puts.{pushed_keeps}
 use Rattle.step_ties.proofs.Handed.{handed_records}
 use Rattle.step_ties.proofs.Sprinkled.{Sprinkled, Bare, Same, With, sprinkled_on}
