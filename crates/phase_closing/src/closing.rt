@@ -4,7 +4,7 @@ ghost use Rattle.rsct_packet.specs.Providers.{same_provider};
 ghost use Rattle.proposal_core.specs.Fold.{max_phases};
 ghost use Rattle.vote_phases.specs.Tally.{row_in, rows_of};
 ghost use Rattle.node_state.specs.declared.group.Given.{Given};
-ghost use Rattle.node_state.specs.Leading.{carried_in, first_carried, value_of, closed_by, closing, closing_of, closing_entry, is_phase};
+ghost use Rattle.node_state.specs.Leading.{carried_in, first_carried, value_of, closed_by, closing, closing_entry, is_phase};
 ghost use Rattle.phase_closing.specs.Parts.{part_of};
 
 use node_state::{Given, Led};
