@@ -91,9 +91,9 @@ fold_least f (m ∷ ms) a k (inl e) =
 fold_least f (m ∷ ms) a k (inr h) = fold_least f ms (min a (f m)) k h
 
 -- a node is a member of a view in one incarnation
-pub single_in : (c : Config) {x : Ghost} → Lives (opening_of c) x → (n j : ℕ) (v : ViewId) (ms : List Member) → Has (In n j v ms) (kept x.all) → (m i k : ℕ) → Has (member m i) ms → Has (member m k) ms → i ≡ k
+pub single_in : (c : Config) (x : Ghost) → Lives (opening_of c) x → (n j : ℕ) (v : ViewId) (ms : List Member) → Has (In n j v ms) (kept x.all) → (m i k : ℕ) → Has (member m i) ms → Has (member m k) ms → i ≡ k
 unfolding first_members
-single_in c {x = x} life n j v ms h m i k a b = by c.mode (w.good.past.origin n j v ms h)
+single_in c x life n j v ms h m i k a b = by c.mode (w.good.past.origin n j v ms h)
   where
     w : Whole (opening_of c) x.nodes x.ps x.all x.leads x.bases
     w = whole life
@@ -116,8 +116,8 @@ has_member ms n j e = let k = any_has (λ (m : Member). m.node == n && m.inc == 
     let p = and_parts ((k.0).node == n) ((k.0).inc == j) k.2 in
     subst (λ z. Has z ms) (λ i. record { node = eqb-true (k.0).node n p.0 i; inc = eqb-true (k.0).inc j p.1 i }) k.1
 
-pub member_self : {o : Opening} {x : Ghost} → Lives o x → (n j : ℕ) (v : ViewId) (ms : List Member) → Has (In n j v ms) (kept x.all) → Has (member n j) ms
-member_self {o = o} {x = x} life n j v ms h = (always_same_members o x.nodes x.ps x.all x.leads x.bases life n n j j v ms ms h h).1
+pub member_self : {o : Opening} (x : Ghost) → Lives o x → (n j : ℕ) (v : ViewId) (ms : List Member) → Has (In n j v ms) (kept x.all) → Has (member n j) ms
+member_self {o = o} x life n j v ms h = (always_same_members o x.nodes x.ps x.all x.leads x.bases life n n j j v ms ms h h).1
 
 -- only packets were sent
 pub record Settled (x y : Ghost) : Type 0 where
@@ -184,7 +184,7 @@ module _ (g : List ℕ) (w : Scene) (n : ℕ) (s : Core) (t : Tied g w n s) wher
       mine k i e q l =
           let me : (k == s.views.me) ≡ true = eq-eqb k s.views.me (e ∙ sym h.stands.me) in
           let l' : suc m ≤ len_in (row_of s g).list = subst (λ b. suc m ≤ elim b [ true ↦ len_in (row_of s g).list | false ↦ acked_from k (row_of s g).led.acked ]) me l in
-          let own : i ≡ s.views.inc = single_in w.config t.life n s.views.inc s.views.view s.views.members h.stands.seated n i s.views.inc (subst (λ z. Has (member z i) s.views.members) e q) (member_self t.life n s.views.inc s.views.view s.views.members h.stands.seated) in
+          let own : i ≡ s.views.inc = single_in w.config t.ghost t.life n s.views.inc s.views.view s.views.members h.stands.seated n i s.views.inc (subst (λ z. Has (member z i) s.views.members) e q) (member_self t.ghost t.life n s.views.inc s.views.view s.views.members h.stands.seated) in
           (length (t.ghost.nodes n).list, subst (λ z. suc m ≤ z) keeps.len l', inl (λ j. group.Ack (t.ghost.nodes n).view (e j) ((own ∙ sym h.stands.inc) j) (length (t.ghost.nodes n).list)))
 
       theirs : (k i : ℕ) → k ≢ n → Has (member k i) s.views.members → suc m ≤ elim (k == s.views.me) [ true ↦ len_in (row_of s g).list | false ↦ acked_from k (row_of s g).led.acked ] → (l : ℕ) × (suc m ≤ l) × Has (group.Ack (t.ghost.nodes n).view k i l) acking.ps
@@ -225,7 +225,7 @@ tied_raised g w n s t h from inc k among sent =
       where
         here : m ≡ from → IsAcked t.ghost s.views.view m i (acked_from m (acked_raised from k old))
         here e =
-            let one : i ≡ inc = single_in w.config t.life n s.views.inc s.views.view s.views.members is.stands.seated from i inc (subst (λ z. Has (member z i) s.views.members) e q) among in
+            let one : i ≡ inc = single_in w.config t.ghost t.life n s.views.inc s.views.view s.views.members is.stands.seated from i inc (subst (λ z. Has (member z i) s.views.members) e q) among in
             let P : ℕ → Type 0 = λ z. IsAcked t.ghost s.views.view z i (acked_from z (acked_raised from k old)) in
             subst P (sym e) (⊎_elim (λ (r : acked_from from (acked_raised from k old) ≡ k). subst (IsAcked t.ghost s.views.view from i) (sym r) (inr (subst (λ j. Has (group.Ack s.views.view from j k) t.ghost.ps) (sym one) z))) (λ (r : acked_from from (acked_raised from k old) ≡ acked_from from old). subst (IsAcked t.ghost s.views.view from i) (sym r) (before from i (subst (λ z. Has (member z i) s.views.members) e q))) (raised_here from k old))
 

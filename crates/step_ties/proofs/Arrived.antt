@@ -133,7 +133,7 @@ module _ (g : List ℕ) (w : Scene) (n : ℕ) where
     left = without_providers c.sessions (p ∷ [])
 
     goes : Goes x y
-    goes = record { packets = λ q h. h; records = λ q h. h; lines = λ l h. inr h; leads = λ v l e. e; bases = λ v s. refl }
+    goes = record { packets = λ q h. h; records = λ q h. h; lines = λ l h. inr h; leads = λ v l e. e; bases = λ v s. refl; asks = refl }
 
     spares : (m : ℕ) → m ≢ n → Spares x y m
     spares m ne =
@@ -186,6 +186,7 @@ module _ (g : List ℕ) (w : Scene) (n : ℕ) where
           };
           decides = decides_left (row_of c g).led k.decides;
           names = record { named = k.names.named; unnamed = k.names.unnamed };
+          asks = k.asks;
         }
 
     -- it is told, and leaves

@@ -1,6 +1,6 @@
 -- A step begins and ends; a node starts and stops.
 use Rattle.std.proofs.Common.{◌≡◌, ◌≢◌, ◌<◌, ℕ, ◌+◌, List, [], ◌∷◌, ◌++◌, Option, Some, None, refl, sym, ap, ◌∙◌, subst, inl, inr, ⊎_elim, arith}
-use Rattle.std.specs.Prelude.{true, false, ◌==◌, if◌then◌else◌, reverse, map}
+use Rattle.std.specs.Prelude.{not, true, false, ◌==◌, if◌then◌else◌, reverse, map}
 use Rattle.std.proofs.lemmas.Bool.{cases_eq}
 use Rattle.std.proofs.lemmas.Bool.Decides.{Decides-eqb}
 use Rattle.rsct_packet.specs.declared.ids.ViewId.{ViewId}
@@ -43,7 +43,7 @@ turned x = record x { all = Kept Begins ∷ x.all }
 
 module _ (x : Ghost) where
   turned_goes : Goes x (turned x)
-  turned_goes = record { packets = λ p h. h; records = λ r h. inr h; lines = λ l h. inr h; leads = λ v l e. e; bases = λ v s. refl }
+  turned_goes = record { packets = λ p h. h; records = λ r h. inr h; lines = λ l h. inr h; leads = λ v l e. e; bases = λ v s. refl; asks = refl }
 
   pub turned_spares : (m : ℕ) → Spares x (turned x) m
   turned_spares m =
@@ -95,6 +95,7 @@ end_tied g w n s e t =
       nodes = each_set (λ m k. NodeIsIf w.config t.ghost g m (w.incs m) k) w.cores n (Some s) t.own t.others;
       packets = t.packets;
       refused = t.refused;
+      asks = t.own.0.asks ∙ ap (λ (z : Config). not (is_fixed z.mode)) t.own.1;
     }
 
 pub stop_tied : (g : List ℕ) (w : Scene) (n : ℕ) (e : Event) (s : Core) → w.cores n ≡ Some s → Rests g w → Rests g (stopped w n e)
@@ -106,6 +107,7 @@ stop_tied g w n e s is t =
       nodes = each_set (λ m k. NodeIsIf w.config (turned x) g m (w.incs m) k) w.cores n None down (λ m ne. node_if_on x (turned x) m (turned_spares x m) refl w.config g (w.incs m) (w.cores m) (t.nodes m));
       packets = λ p h. shows_on x (turned x) (turned_goes x) g p (t.packets p h);
       refused = λ v p r h. seen_on x (turned x) (turned_goes x) v (t.refused v p r h);
+      asks = t.asks;
     }
   where
     x : Ghost
@@ -117,12 +119,13 @@ stop_tied g w n e s is t =
 pub nothing_tied : (g : List ℕ) (c : Config) → Rests g (nothing_yet c)
 nothing_tied g c =
     record {
-      ghost = record { nodes = λ m. record { inc = 0; view = first 0 0; promise = first 0 0; list = [] }; ps = []; all = []; leads = λ v. None; bases = λ v. None };
+      ghost = record { nodes = λ m. record { inc = 0; view = first 0 0; promise = first 0 0; list = [] }; ps = []; all = []; leads = λ v. None; bases = λ v. None; asks = not (is_fixed c.mode) };
       life = Dawn (λ m. record { inc = 0; view = first 0 0; promise = first 0 0; list = [] }) (λ m. (refl, refl, refl));
       lines = refl;
       nodes = λ m. refl;
       packets = λ p h. absurd h;
       refused = λ v p r h. absurd h;
+      asks = refl;
     }
 
 -- ---- a start
@@ -157,8 +160,8 @@ unseen_rings g n (x ∷ rings) r (inl q) = subst (Unseen g) (sym q) (unseen_ring
 unseen_rings g n (x ∷ rings) r (inr h) = unseen_rings g n rings r h
 
 -- what stands before the first view
-unbased : {o : Opening} {x : Ghost} → Lives o x → (v : ViewId) → v.number ≡ 1 → x.bases v ≡ None
-unbased {o = o} {x = x} life v one = by (x.bases v) refl
+unbased : {o : Opening} (x : Ghost) → Lives o x → (v : ViewId) → v.number ≡ 1 → x.bases v ≡ None
+unbased {o = o} x life v one = by (x.bases v) refl
   where
     by : (b : Option Origin) → x.bases v ≡ b → b ≡ None
     by None e = refl
@@ -168,8 +171,8 @@ unbased {o = o} {x = x} life v one = by (x.bases v) refl
         let l : 1 < v.number = (w.good.past.made v k.0 k.1 k.2).later in absurd (omega arith)
 
 -- an incarnation that did not start leads nothing
-not_led : {o : Opening} {x : Ghost} → Lives o x → (n : ℕ) (u : ViewId) (j : ℕ) → (x.nodes n).inc < j → x.leads u ≡ Some (member n j) → ⊥
-not_led {o = o} {x = x} life n u j l e = at (k.good.past.led u n j e)
+not_led : {o : Opening} (x : Ghost) → Lives o x → (n : ℕ) (u : ViewId) (j : ℕ) → (x.nodes n).inc < j → x.leads u ≡ Some (member n j) → ⊥
+not_led {o = o} x life n u j l e = at (k.good.past.led u n j e)
   where
     k : Whole o x.nodes x.ps x.all x.leads x.bases
     k = whole life
@@ -203,7 +206,7 @@ module _ (g : List ℕ) (w : Scene) (n : ℕ) (e : Event) (free : is_fixed w.con
   z = record { inc = w.incs n + 1; view = v; promise = v; list = [] }
 
   abbrev y : Ghost
-  y = record { nodes = at_node t.ghost.nodes n z; ps = t.ghost.ps; all = Kept (In n (w.incs n + 1) v ms) ∷ Kept Begins ∷ t.ghost.all; leads = t.ghost.leads; bases = t.ghost.bases }
+  y = record { nodes = at_node t.ghost.nodes n z; ps = t.ghost.ps; all = Kept (In n (w.incs n + 1) v ms) ∷ Kept Begins ∷ t.ghost.all; leads = t.ghost.leads; bases = t.ghost.bases; asks = t.ghost.asks }
 
   inc_is : (t.ghost.nodes n).inc ≡ w.incs n
   inc_is = subst (λ k. NodeIsIf w.config t.ghost g n (w.incs n) k) down (t.nodes n)
@@ -221,7 +224,7 @@ module _ (g : List ℕ) (w : Scene) (n : ℕ) (e : Event) (free : is_fixed w.con
       ap t.ghost.leads (view_alone w.config w.config.mode n (w.incs n + 1) free) ∙ ap (λ i. t.ghost.leads (first n (i + 1))) (sym inc_is) ∙ l
 
   bare : t.ghost.bases v ≡ None
-  bare = unbased alone v (ap (λ (k : ViewId). k.number) (view_alone w.config w.config.mode n (w.incs n + 1) free))
+  bare = unbased t.ghost alone v (ap (λ (k : ViewId). k.number) (view_alone w.config w.config.mode n (w.incs n + 1) free))
 
   lives : Lives (opening_of w.config) y
   lives =
@@ -245,7 +248,7 @@ module _ (g : List ℕ) (w : Scene) (n : ℕ) (e : Event) (free : is_fixed w.con
       up r (inr h) = unseen_rings g n (own_rings w.config w.config.mode n j) r h
 
   goes : Goes t.ghost y
-  goes = record { packets = λ p h. h; records = λ r h. inr (inr h); lines = λ l h. inr (inr h); leads = λ v l e. e; bases = λ v s. refl }
+  goes = record { packets = λ p h. h; records = λ r h. inr (inr h); lines = λ l h. inr (inr h); leads = λ v l e. e; bases = λ v s. refl; asks = refl }
 
   spares : (m : ℕ) → m ≢ n → Spares t.ghost y m
   spares m ne =
@@ -291,9 +294,10 @@ module _ (g : List ℕ) (w : Scene) (n : ℕ) (e : Event) (free : is_fixed w.con
             refused = λ p r q h. absurd (let f = unled in cc);
             begun = λ p r i f q h. absurd (let f = unled in cc);
             waiting = λ p q h. absurd (let f = unled in cc);
-            later = λ u l q p r h. not_led t.life n u (w.incs n + 1) (omega (arith, inc_is)) q;
+            later = λ u l q p r h. not_led t.ghost t.life n u (w.incs n + 1) (omega (arith, inc_is)) q;
           };
           names = record { named = λ m a b c f. absurd (cc); unnamed = λ a b c f. unled };
+          asks = t.asks;
         },
         refl,
         refl,
@@ -312,6 +316,7 @@ module _ (g : List ℕ) (w : Scene) (n : ℕ) (e : Event) (free : is_fixed w.con
         nodes = λ m. ⊎_elim (λ (q : m ≡ n). subst (λ k. NodeIsIf w.config y g k (at_node w.incs n j k) (at_node w.cores n (Some s) k)) (sym q) here) (λ (ne : m ≢ n). there m ne) (cases_eq m n);
         packets = packets;
         refused = λ u p r h. seen_on t.ghost y goes u (t.refused u p r h);
+        asks = t.asks;
       }
     where
       here : NodeIsIf w.config y g n (at_node w.incs n j n) (at_node w.cores n (Some s) n)

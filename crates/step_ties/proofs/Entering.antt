@@ -1,7 +1,7 @@
 -- A member enters a view by its install: what its old list lacks is put, then it is in, and all rows start anew from the
 -- bases.
 use Rattle.std.proofs.Common.{◌≡◌, ◌≢◌, ◌⊎◌, ◌≤◌, ℕ, ◌+◌, suc, List, [], ◌∷◌, ◌++◌, length, take, drop, Option, Some, None, Bool, true, false, refl, sym, ap, ◌∙◌, subst, inl, inr, ⊎_elim, append_assoc, length-append, arith}
-use Rattle.std.specs.Prelude.{◌==◌, ◌&&◌, reverse, map, find, slice_get, if◌then◌else◌}
+use Rattle.std.specs.Prelude.{not, ◌==◌, ◌&&◌, reverse, map, find, slice_get, if◌then◌else◌}
 use Rattle.std.specs.Option.{option_map}
 use Rattle.std.proofs.lemmas.Bool.{eqb-true, eq-eqb, and_parts}
 use Rattle.std.proofs.lemmas.Bool.Decides.{nat_tests}
@@ -33,6 +33,7 @@ use Rattle.node_state.specs.declared.happened.Happened.TheVariants as happened
 use Rattle.node_state.specs.declared.packet.Body.TheVariants as body
 use Rattle.node_state.specs.declared.packet.Packet.{Packet}
 use Rattle.node_state.specs.declared.state.Core.{Core}
+use Rattle.node_state.specs.declared.config.Config.{Config}
 use Rattle.node_state.specs.Settings.{is_fixed}
 use Rattle.node_state.specs.State.{nothing_led, row_found, row_of, list_of, held_rows, acked_from, recorded_all}
 use Rattle.node_state.specs.HandOn.{Answering}
@@ -58,7 +59,7 @@ use Rattle.step_ties.specs.Tied.{ShowsBody, Shows, RowIs, Owed, Owes, LeaderKeep
 use Rattle.step_ties.specs.Rows.{at_node}
 use Rattle.step_ties.proofs.Goes.{Spares, Settled, seen_on, node_if_on, shows_on, installs_on}
 use Rattle.step_ties.proofs.Changed.{set_here, set_there, changes}
-use Rattle.step_ties.proofs.Works.{lines_pushed, tied_sent}
+use Rattle.step_ties.proofs.Works.{lines_pushed, tied_sent, asked_free}
 use Rattle.step_ties.proofs.NameOrder.{is_of}
 use Rattle.step_ties.proofs.ViewRows.{same_of, before_of}
 use Rattle.step_ties.proofs.Acks.{has_member}
@@ -227,11 +228,11 @@ module _ (g : List ℕ) (w : Scene) (n : ℕ) (f : Answering) (s : Core) (t : Le
   tr = kept (front ++ filled)
 
   abbrev y : Ghost
-  y = record { nodes = nodes; ps = move.ps; all = front ++ fills.lines; leads = move.leads; bases = move.bases }
+  y = record { nodes = nodes; ps = move.ps; all = front ++ fills.lines; leads = move.leads; bases = move.bases; asks = x.asks }
 
-  lives_bare : Lives (opening_of w.config) (record { nodes = nodes; ps = move.ps; all = front ++ filled; leads = move.leads; bases = move.bases })
+  lives_bare : Lives (opening_of w.config) (record { nodes = nodes; ps = move.ps; all = front ++ filled; leads = move.leads; bases = move.bases; asks = x.asks })
   lives_bare =
-      subst (λ z. Lives (opening_of w.config) (record { nodes = nodes; ps = move.ps; all = z; leads = move.leads; bases = move.bases })) (based_append n i.view (move.bases i.view) (Kept (In n s.views.inc i.view i.members)) filled) move.life
+      subst (λ z. Lives (opening_of w.config) (record { nodes = nodes; ps = move.ps; all = z; leads = move.leads; bases = move.bases; asks = x.asks })) (based_append n i.view (move.bases i.view) (Kept (In n s.views.inc i.view i.members)) filled) move.life
 
   kept_tr : tr ≡ In n s.views.inc i.view i.members ∷ puts_from n s.views.view (length full) es (kept x.all)
   kept_tr =
@@ -310,6 +311,7 @@ module _ (g : List ℕ) (w : Scene) (n : ℕ) (f : Answering) (s : Core) (t : Le
         lines = λ l h. has_front l (has_sprinkled (HeardIn g w n x s es) l filled fills.lines fills.among (has_lines l n s.views.view (length full) es x.all h));
         leads = move.leads_on;
         bases = move.bases_same;
+        asks = refl;
       }
 
   entry : Has (In n s.views.inc i.view i.members) (kept y.all)
@@ -408,9 +410,9 @@ module _ (g : List ℕ) (w : Scene) (n : ℕ) (f : Answering) (s : Core) (t : Le
         requests = owed_new;
       }
 
-  node_new : (fixed : Bool) → NodeOf y g n fixed (views_entered s.views i) (row_found g (option_map base_row (base_named bs g))) (map base_row bs) (level_set c i.members) (map base_leader bs)
+  node_new : (fixed : Bool) → x.asks ≡ not fixed → NodeOf y g n fixed (views_entered s.views i) (row_found g (option_map base_row (base_named bs g))) (map base_row bs) (level_set c i.members) (map base_leader bs)
   unfolding views_entered own_install
-  node_new fixed =
+  node_new fixed asks =
       record {
         stands = record {
           me = t.own.0.stands.me;
@@ -427,6 +429,7 @@ module _ (g : List ℕ) (w : Scene) (n : ℕ) (f : Answering) (s : Core) (t : Le
         owes = owes_new;
         decides = subst (LeaderKeeps y n s.views.inc i.view) (sym (led_new (base_named bs g))) decides_new;
         names = record { named = (move.names fixed).named; unnamed = (move.names fixed).unnamed };
+        asks = asks;
       }
     where
       kept_install : (b : Bool) → InstallsIf y g (elim b as (λ _. Option Install) [ true ↦ Some i | false ↦ None ])
@@ -436,7 +439,7 @@ module _ (g : List ℕ) (w : Scene) (n : ℕ) (f : Answering) (s : Core) (t : Le
   own : NodeIsIf w.config y g n (w.incs n) (Some (view_entered c i bs))
   unfolding view_entered recorded_all row_of views_entered
   own =
-      let a : NodeOf y g n (is_fixed c.config.mode) (views_entered s.views i) (row_found g (find (is_of g) (map base_row bs))) (map base_row bs) (level_set c i.members) (map base_leader bs) = subst (λ z. NodeOf y g n (is_fixed c.config.mode) (views_entered s.views i) (row_found g z) (map base_row bs) (level_set c i.members) (map base_leader bs)) (sym (row_of_base g bs)) (node_new (is_fixed c.config.mode)) in
+      let a : NodeOf y g n (is_fixed c.config.mode) (views_entered s.views i) (row_found g (find (is_of g) (map base_row bs))) (map base_row bs) (level_set c i.members) (map base_leader bs) = subst (λ z. NodeOf y g n (is_fixed c.config.mode) (views_entered s.views i) (row_found g z) (map base_row bs) (level_set c i.members) (map base_leader bs)) (sym (row_of_base g bs)) (node_new (is_fixed c.config.mode) (t.own.0.asks ∙ ap (λ (z : Config). not (is_fixed z.mode)) (sym fills.config))) in
       let b : NodeOf y g n (is_fixed c.config.mode) (views_entered c.views i) (row_found g (find (is_of g) (map base_row bs))) (map base_row bs) (level_set c i.members) (map base_leader bs) = subst (λ z. NodeOf y g n (is_fixed c.config.mode) (views_entered z i) (row_found g (find (is_of g) (map base_row bs))) (map base_row bs) (level_set c i.members) (map base_leader bs)) (sym fills.views) a in
       (b, fills.config ∙ t.own.1, ap (λ (z : Views). z.inc) fills.views ∙ t.own.2)
 
@@ -543,9 +546,9 @@ quiet_now g w s none =
     subst (λ rs. Quiet (kept (lines_with g (reverse rs) w.before (lines_of g w.before)))) (sym none) (record { at = λ m u. refl })
 
 -- an install that is applied
-enters_row : (i : Install) (xs : List Lacking) (g : List ℕ) (w : Scene) (n : ℕ) (f : Answering) (s : Core) (p : Packet) → p.body ≡ body.View (view.Install i) → Has p w.sent → s.records ≡ [] → is_fixed w.config.mode ≡ false → same_view s.views.view i.view ≡ false → (same_view s.views.promise i.view && is_member i.members s.views.me s.views.inc) ≡ true → lacking s i ≡ Some xs → Tied g w n s → Tied g w n (entered f s i xs)
+enters_row : (i : Install) (xs : List Lacking) (g : List ℕ) (w : Scene) (n : ℕ) (f : Answering) (s : Core) (p : Packet) → p.body ≡ body.View (view.Install i) → Has p w.sent → s.records ≡ [] → same_view s.views.view i.view ≡ false → (same_view s.views.promise i.view && is_member i.members s.views.me s.views.inc) ≡ true → lacking s i ≡ Some xs → Tied g w n s → Tied g w n (entered f s i xs)
 unfolding entered entered_if
-enters_row i xs g w n f s p is delivered none free other may lacks t =
+enters_row i xs g w n f s p is delivered none other may lacks t =
     let k = arrived_tied g w n (view_entered (lists_filled f s xs) i (bases_of i)) (held_rows (lists_filled f s xs)) (lists_filled f s xs).views.view (bases_of i) (enters_arrived g w n f s (record { ghost = t.ghost; life = t.life; lines = t.lines; own = t.own; others = t.others; refused = t.refused }) i xs (member_moves g w n s t i shown (subst (λ l. Quiet (kept l)) (sym t.lines) (quiet_now g w s none)) promised lt among) (λ y a. installs_on t.ghost y a.goes g i shown) (λ y a q h. shows_on t.ghost y a.goes g q (t.packets q h)) lt among lacks) in
     groups_led_tied g w n (owed_sent (taken_sent (entering_noted (sides_dissolved (view_entered (lists_filled f s xs) i (bases_of i)) (held_rows (lists_filled f s xs)) (lists_filled f s xs).views.view (bases_of i)) (bases_of i)))) f k.1 free k.0
   where
@@ -554,6 +557,9 @@ enters_row i xs g w n f s p is delivered none free other may lacks t =
 
     parts : (same_view s.views.promise i.view ≡ true) × (is_member i.members s.views.me s.views.inc ≡ true)
     parts = and_parts (same_view s.views.promise i.view) (is_member i.members s.views.me s.views.inc) may
+
+    free : is_fixed w.config.mode ≡ false
+    free = asked_free g w n s t shown.asks
 
     promised : s.views.promise ≡ i.view
     promised = same_of s.views.promise i.view parts.0
@@ -576,14 +582,14 @@ enters_row i xs g w n f s p is delivered none free other may lacks t =
     among = subst (λ m. Has (member m s.views.inc) i.members) t.own.0.stands.me (has_member i.members s.views.me s.views.inc parts.1)
 
 -- INSTALL
-pub install_row_tied : (i : Install) (g : List ℕ) (w : Scene) (n : ℕ) (f : Answering) (s : Core) (p : Packet) → p.body ≡ body.View (view.Install i) → Has p w.sent → s.records ≡ [] → is_fixed w.config.mode ≡ false → Tied g w n s → Tied g w n (body_row f s p (body.View (view.Install i)))
+pub install_row_tied : (i : Install) (g : List ℕ) (w : Scene) (n : ℕ) (f : Answering) (s : Core) (p : Packet) → p.body ≡ body.View (view.Install i) → Has p w.sent → s.records ≡ [] → Tied g w n s → Tied g w n (body_row f s p (body.View (view.Install i)))
 unfolding body_row view_row views_taken install_applied entered_if install_row installed view_sent
-install_row_tied i g w n f s p is delivered none free t =
+install_row_tied i g w n f s p is delivered none t =
     by (same_view s.views.view i.view) (same_view s.views.promise i.view && is_member i.members s.views.me s.views.inc) refl refl
   where
     lists : (o : Option (List Lacking)) → same_view s.views.view i.view ≡ false → (same_view s.views.promise i.view && is_member i.members s.views.me s.views.inc) ≡ true → lacking s i ≡ o → Tied g w n (entered_if f s i o)
     lists None b c q = t
-    lists (Some xs) b c q = enters_row i xs g w n f s p is delivered none free b c q t
+    lists (Some xs) b c q = enters_row i xs g w n f s p is delivered none b c q t
 
     by : (b c : Bool) → same_view s.views.view i.view ≡ b → (same_view s.views.promise i.view && is_member i.members s.views.me s.views.inc) ≡ c → Tied g w n (views_taken f s (installed (views_at_work s.views) i b c))
     by true c a d = tied_sent g w n s t i.view.coord (body.View (view.Taken i.view)) tt

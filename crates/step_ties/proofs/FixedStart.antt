@@ -1,6 +1,6 @@
 -- In mode fixed every node starts at the beginning, in one event.
 use Rattle.std.proofs.Common.{◌≡◌, ◌≢◌, ◌<◌, ℕ, ◌+◌, List, [], ◌∷◌, ◌++◌, Option, Some, None, Bool, true, false, refl, sym, ap, ◌∙◌, subst, inl, inr, ⊎_elim, arith}
-use Rattle.std.specs.Prelude.{◌==◌, if◌then◌else◌, reverse, map, filter, find, fold}
+use Rattle.std.specs.Prelude.{not, ◌==◌, if◌then◌else◌, reverse, map, filter, find, fold}
 use Rattle.std.specs.Option.{unwrap_or}
 use Rattle.std.proofs.lemmas.Bool.{eq-eqb, cases_eq}
 use Rattle.std.proofs.lemmas.List.{reverse-append}
@@ -92,7 +92,7 @@ inc_one n (m ∷ ns) h = by (m == n) refl h (inc_one n ns)
 
 -- nobody leads, and nothing was sent
 abbrev bare : (ℕ → Standing) → List Line → Ghost
-bare nodes all = record { nodes = nodes; ps = []; all = all; leads = λ v. None; bases = λ v. None }
+bare nodes all = record { nodes = nodes; ps = []; all = all; leads = λ v. None; bases = λ v. None; asks = false }
 
 abbrev scene : Config → (ℕ → Option Core) → (ℕ → ℕ) → List Happened → Scene
 scene c cores incs rs = record { config = c; cores = cores; incs = incs; sent = []; before = record { event = None; records = rs } ∷ [] }
@@ -169,7 +169,7 @@ module _ (g : List ℕ) (c : Config) (fixed : is_fixed c.mode ≡ true) (cores :
       unseen r (inr h) = unseen_rings g n (own_rings c c.mode n j) r h
 
   goes : Goes (bare t.nodes t.all) (bare nodes all)
-  goes = record { packets = λ p h. h; records = λ r h. inr h; lines = λ l h. inr h; leads = λ v l e. e; bases = λ v s. refl }
+  goes = record { packets = λ p h. h; records = λ r h. inr h; lines = λ l h. inr h; leads = λ v l e. e; bases = λ v s. refl; asks = refl }
 
   spares : (m : ℕ) → m ≢ n → Spares (bare t.nodes t.all) (bare nodes all) m
   spares m ne =
@@ -216,6 +216,7 @@ module _ (g : List ℕ) (c : Config) (fixed : is_fixed c.mode ≡ true) (cores :
             later = λ u l q p r h. h;
           };
           names = record { named = λ m a b d f. absurd (cc); unnamed = λ a b d f. refl };
+          asks = ap not (sym fixed);
         },
         refl,
         refl,
@@ -242,7 +243,7 @@ module _ (g : List ℕ) (c : Config) (fixed : is_fixed c.mode ≡ true) (cores :
 
 opens_rest : (g : List ℕ) (c : Config) → is_fixed c.mode ≡ true → (ns : List ℕ) → ((m : ℕ) → Has m ns → Has m (nodes_of c.nodes)) → (cores : ℕ → Option Core) (incs : ℕ → ℕ) (rs : List Happened) → Opens g c cores incs rs → Rests g (fold (λ (w : Scene) n. starts_too w n (w.cores n)) (scene c cores incs rs) ns)
 opens_rest g c fixed [] there cores incs rs t =
-    record { ghost = bare t.nodes t.all; life = t.life; lines = t.lines; nodes = t.stand; packets = λ p h. absurd h; refused = λ v p r h. absurd h }
+    record { ghost = bare t.nodes t.all; life = t.life; lines = t.lines; nodes = t.stand; packets = λ p h. absurd h; refused = λ v p r h. absurd h; asks = ap not (sym fixed) }
 opens_rest g c fixed (n ∷ ns) there cores incs rs t =
     by (cores n) refl (λ cores' incs' rs' u. opens_rest g c fixed ns (λ m h. there m (inr h)) cores' incs' rs' u)
   where

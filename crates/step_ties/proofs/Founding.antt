@@ -48,7 +48,7 @@ use Rattle.step_ties.specs.Rows.{at_node}
 use Rattle.step_ties.proofs.Goes.{Settled, spares_same, seen_on, carries_on, shows_on, rest_on}
 use Rattle.step_ties.proofs.Changed.{changes}
 use Rattle.step_ties.proofs.NameOrder.{text_same, text_self}
-use Rattle.step_ties.proofs.Works.{tied_views}
+use Rattle.step_ties.proofs.Works.{tied_views, asked_free}
 use Rattle.step_ties.proofs.Sides.{SourcesAre}
 use Rattle.step_ties.proofs.Replies as replies
 use Rattle.step_ties.proofs.Arrived.{arrived_tied}
@@ -357,6 +357,7 @@ module _ (g : List ℕ) (w : Scene) (n : ℕ) (s : Core) (t : Tied g w n s) (e :
         names = sources.differ;
         rest = rest;
         base = moved y a.leaders a.origins (base_named (bases_of i) g) base_is;
+        asks = a.goes.asks ∙ h.asks;
       }
     where
       old_seen : (c : Source) → Has c i.sources → Seen x c.view
@@ -364,7 +365,10 @@ module _ (g : List ℕ) (w : Scene) (n : ℕ) (s : Core) (t : Tied g w n s) (e :
 
 -- ---- the view is founded
 
-module _ (g : List ℕ) (w : Scene) (n : ℕ) (f : Answering) (s : Core) (t : Tied g w n s) (e : Exchange) (h : Gathers t.ghost g n s.views.inc s.views.view s.views.promise e) (quiet : Quiet (kept t.ghost.all)) (free : is_fixed w.config.mode ≡ false) where
+module _ (g : List ℕ) (w : Scene) (n : ℕ) (f : Answering) (s : Core) (t : Tied g w n s) (e : Exchange) (h : Gathers t.ghost g n s.views.inc s.views.view s.views.promise e) (quiet : Quiet (kept t.ghost.all)) where
+  free : is_fixed w.config.mode ≡ false
+  free = asked_free g w n s t h.asks
+
   abbrev made : Install
   made = install_of e
 

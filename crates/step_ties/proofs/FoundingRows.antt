@@ -33,7 +33,7 @@ use Rattle.step_ties.specs.Tied.{Scene, Tied}
 use Rattle.step_ties.specs.Rows.{QuietNow}
 use Rattle.step_ties.proofs.GoingOn.{GoesOn, goes_on}
 use Rattle.step_ties.proofs.Gatherings.{counted_tied, next_promised, opened_tied, prepares_tied, asks_tied}
-use Rattle.step_ties.proofs.ViewTicks.{ages_tied, again_tied, noted_tied}
+use Rattle.step_ties.proofs.ViewTicks.{ages_tied, again_tied, noted_tied, rings_free}
 use Rattle.step_ties.proofs.Founding.{Sent, sends_out, sends_are, sends_more, ungathered, ungathered_sends, installs_to, lacking_same, dropped, founds_tied}
 
 quiet_ghost : (g : List ℕ) (w : Scene) (n : ℕ) (s : Core) (t : Tied g w n s) → QuietNow g w s → Quiet (kept t.ghost.all)
@@ -44,9 +44,9 @@ quiet_first g w s none =
     subst (λ rs. Quiet (kept (lines_with g (reverse rs) w.before (lines_of g w.before)))) (sym none) (record { at = λ m u. refl })
 
 -- all have answered
-founded_tied : (g : List ℕ) (w : Scene) (n : ℕ) (f : Answering) (s : Core) (e : Exchange) → s.views.gathering ≡ Some e → QuietNow g w s → is_fixed w.config.mode ≡ false → GoesOn s e → Tied g w n s → (b : Bool) → Tied g w n (views_taken f s (installs (gathering_set (views_at_work s.views) None) (install_of e) b))
+founded_tied : (g : List ℕ) (w : Scene) (n : ℕ) (f : Answering) (s : Core) (e : Exchange) → s.views.gathering ≡ Some e → QuietNow g w s → GoesOn s e → Tied g w n s → (b : Bool) → Tied g w n (views_taken f s (installs (gathering_set (views_at_work s.views) None) (install_of e) b))
 unfolding installs gathering_set view_sent_all views_taken install_applied
-founded_tied g w n f s e is quiet free goes t = by
+founded_tied g w n f s e is quiet goes t = by
   where
     q : Quiet (kept t.ghost.all)
     q = quiet_ghost g w n s t quiet
@@ -55,13 +55,13 @@ founded_tied g w n f s e is quiet free goes t = by
     h = subst (λ z. GathersIf t.ghost g n s.views.inc s.views.view s.views.promise z) is t.own.0.gathering
 
     by : (b : Bool) → Tied g w n (views_taken f s (installs (gathering_set (views_at_work s.views) None) (install_of e) b))
-    by false = dropped g w n f s t e h q free
-    by true = founds_tied g w n f s t e h q free goes.0 goes.1
+    by false = dropped g w n f s t e h q
+    by true = founds_tied g w n f s t e h q goes.0 goes.1
 
 -- ANSWER, where the own lists go on to the install
-answer_founds : (v old : ViewId) (parts : List Part) (g : List ℕ) (w : Scene) (n : ℕ) (f : Answering) (s : Core) (p : Packet) → p.body ≡ body.View (view.Answer v old parts) → Has p w.sent → s.records ≡ [] → is_fixed w.config.mode ≡ false → ((e : Exchange) → s.views.gathering ≡ Some e → (same_view e.view v && may_answer e p.from) ≡ true → all_answered (with_answer e (record { node = p.from; inc = p.inc; view = old; parts = parts })) ≡ true → GoesOn s (with_answer e (record { node = p.from; inc = p.inc; view = old; parts = parts }))) → Tied g w n s → Tied g w n (body_row f s p (body.View (view.Answer v old parts)))
+answer_founds : (v old : ViewId) (parts : List Part) (g : List ℕ) (w : Scene) (n : ℕ) (f : Answering) (s : Core) (p : Packet) → p.body ≡ body.View (view.Answer v old parts) → Has p w.sent → s.records ≡ [] → ((e : Exchange) → s.views.gathering ≡ Some e → (same_view e.view v && may_answer e p.from) ≡ true → all_answered (with_answer e (record { node = p.from; inc = p.inc; view = old; parts = parts })) ≡ true → GoesOn s (with_answer e (record { node = p.from; inc = p.inc; view = old; parts = parts }))) → Tied g w n s → Tied g w n (body_row f s p (body.View (view.Answer v old parts)))
 unfolding body_row view_row views_taken install_applied answer_row answer_to gathers gathered gathering_set
-answer_founds v old parts g w n f s p is delivered none free goes t = at s.views.gathering refl
+answer_founds v old parts g w n f s p is delivered none goes t = at s.views.gathering refl
   where
     a : Answer
     a = record { node = p.from; inc = p.inc; view = old; parts = parts }
@@ -71,7 +71,7 @@ answer_founds v old parts g w n f s p is delivered none free goes t = at s.views
     last e q c k true r =
         let s2 : Core = record s { views = record (s.views) { gathering = Some (with_answer e a) } } in
         let l : GoesOn s (with_answer e a) = goes e q c r in
-        founded_tied g w n f s2 (with_answer e a) refl (quiet_first g w s2 none) free (l.0, lacking_same s2 s (install_of (with_answer e a)) refl refl ∙ l.1) k (is_spelled (install_of (with_answer e a)))
+        founded_tied g w n f s2 (with_answer e a) refl (quiet_first g w s2 none) (l.0, lacking_same s2 s (install_of (with_answer e a)) refl refl ∙ l.1) k (is_spelled (install_of (with_answer e a)))
 
     by : (e : Exchange) → s.views.gathering ≡ Some e → (b : Bool) → (same_view e.view v && may_answer e p.from) ≡ b → Tied g w n (views_taken f s (elim b [ true ↦ gathers (views_at_work s.views) (with_answer e (record { node = p.from; inc = p.inc; view = old; parts = parts })) | false ↦ views_at_work s.views ]))
     by e q false r = t
@@ -83,9 +83,9 @@ answer_founds v old parts g w n f s p is delivered none free goes t = at s.views
     at (Some e) q = by e q (same_view e.view v && may_answer e p.from) refl
 
 -- ANSWER
-pub founding_answer_tied : (v old : ViewId) (parts : List Part) (w : Scene) (n : ℕ) (f : Answering) (s : Core) (p : Packet) → p.body ≡ body.View (view.Answer v old parts) → Has p w.sent → s.records ≡ [] → is_fixed w.config.mode ≡ false → ((h : List ℕ) → Tied h w n s) → (g : List ℕ) → Tied g w n (body_row f s p (body.View (view.Answer v old parts)))
-founding_answer_tied v old parts w n f s p is delivered none free all g =
-    answer_founds v old parts g w n f s p is delivered none free goes (all g)
+pub founding_answer_tied : (v old : ViewId) (parts : List Part) (w : Scene) (n : ℕ) (f : Answering) (s : Core) (p : Packet) → p.body ≡ body.View (view.Answer v old parts) → Has p w.sent → s.records ≡ [] → ((h : List ℕ) → Tied h w n s) → (g : List ℕ) → Tied g w n (body_row f s p (body.View (view.Answer v old parts)))
+founding_answer_tied v old parts w n f s p is delivered none all g =
+    answer_founds v old parts g w n f s p is delivered none goes (all g)
   where
     goes : (e : Exchange) → s.views.gathering ≡ Some e → (same_view e.view v && may_answer e p.from) ≡ true → all_answered (with_answer e (record { node = p.from; inc = p.inc; view = old; parts = parts })) ≡ true → GoesOn s (with_answer e (record { node = p.from; inc = p.inc; view = old; parts = parts }))
     goes e q c r =
@@ -101,14 +101,14 @@ abbrev FoundsAlone : Core → Mask → Type 0
 FoundsAlone s mask =
     all_answered (with_answer (opened (next_view s.views) mask) (own_answer s.views (own_parts s))) ≡ true → has_node mask s.views.me ≡ true → GoesOn s (with_answer (opened (next_view s.views) mask) (own_answer s.views (own_parts s)))
 
-founds_alone : (w : Scene) (n : ℕ) (s : Core) (mask : Mask) → ((h : List ℕ) → Tied h w n s) → FoundsAlone s mask
-founds_alone w n s mask all answered there =
+founds_alone : (w : Scene) (n : ℕ) (s : Core) (mask : Mask) → is_fixed s.config.mode ≡ false → ((h : List ℕ) → Tied h w n s) → FoundsAlone s mask
+founds_alone w n s mask free all answered there =
     let e : Exchange = with_answer (opened (next_view s.views) mask) (own_answer s.views (own_parts s)) in
     let s2 : Core = record s { views = record (s.views) { promise = next_view s.views; gathering = Some e } } in
-    let l : GoesOn s2 e = goes_on w n s2 e refl (λ h. opened_tied mask h w n s (all h) there) in
+    let l : GoesOn s2 e = goes_on w n s2 e refl (λ h. opened_tied mask h w n s (all h) free there) in
     (l.0, lacking_same s s2 (install_of e) refl refl ∙ l.1)
 
-module _ (mask : Mask) (g : List ℕ) (w : Scene) (n : ℕ) (f : Answering) (s : Core) (quiet : QuietNow g w s) (free : is_fixed w.config.mode ≡ false) (t : Tied g w n s) where
+module _ (mask : Mask) (g : List ℕ) (w : Scene) (n : ℕ) (f : Answering) (s : Core) (quiet : QuietNow g w s) (free : is_fixed s.config.mode ≡ false) (t : Tied g w n s) where
   abbrev v : ViewId
   v = next_view s.views
 
@@ -127,7 +127,7 @@ module _ (mask : Mask) (g : List ℕ) (w : Scene) (n : ℕ) (f : Answering) (s :
   -- oneself alone is asked
   alone : has_node mask s.views.me ≡ true → GoesOn s e → Tied g w n (install_applied f (sends_out (ungathered sG) (preps ++ installs_to made (others_of s.views.me made.members))) (Some made))
   alone there goes =
-      subst (λ c. Tied g w n (install_applied f c (Some made))) (sym path) (founds_tied g w n f sP tied e tied.own.0.gathering (quiet_ghost g w n sP tied quiet) free goes.0 (lacking_same sP s made refl refl ∙ goes.1))
+      subst (λ c. Tied g w n (install_applied f c (Some made))) (sym path) (founds_tied g w n f sP tied e tied.own.0.gathering (quiet_ghost g w n sP tied quiet) goes.0 (lacking_same sP s made refl refl ∙ goes.1))
     where
       out : Sent sG preps (sends_out sG preps)
       out = sends_are preps sG
@@ -136,7 +136,7 @@ module _ (mask : Mask) (g : List ℕ) (w : Scene) (n : ℕ) (f : Answering) (s :
       sP = record sG { sends = out.ps }
 
       tied : Tied g w n sP
-      tied = subst (Tied g w n) out.is (prepares_tied g w n (next_view s.views) mask (filter (λ m. not (m == s.views.me)) (nodes_of mask)) sG (opened_tied mask g w n s t there))
+      tied = subst (Tied g w n) out.is (prepares_tied g w n (next_view s.views) mask (filter (λ m. not (m == s.views.me)) (nodes_of mask)) sG (opened_tied mask g w n s t free there))
 
       path : sends_out (ungathered sG) (preps ++ installs_to made (others_of s.views.me made.members)) ≡ sends_out (ungathered sP) (installs_to made (others_of s.views.me made.members))
       path =
@@ -178,20 +178,21 @@ module _ (mask : Mask) (g : List ℕ) (w : Scene) (n : ℕ) (f : Answering) (s :
           asks all (and_parts (has_node mask s.views.me) (nat_lt (max s.views.promise.number s.views.floor) last_u32) q).0 (nat_le (length (own_parts s)) max_parts)
 
       at : (b : Bool) → all_answered e ≡ b → Tied g w n (views_taken f s (ask_row (views_at_work s.views) mask (own_parts s)))
-      at false q = asks_tied mask g w n f s q t
+      at false q = asks_tied mask g w n f s free q t
       at true q = by q (may_ask s.views mask) refl
 
-pub founding_ask_tied : (mask : Mask) (w : Scene) (n : ℕ) (f : Answering) (s : Core) → s.records ≡ [] → is_fixed w.config.mode ≡ false → ((h : List ℕ) → Tied h w n s) → (g : List ℕ) → Tied g w n (order_row f s mask)
+pub founding_ask_tied : (mask : Mask) (w : Scene) (n : ℕ) (f : Answering) (s : Core) → s.records ≡ [] → ((h : List ℕ) → Tied h w n s) → (g : List ℕ) → Tied g w n (order_row f s mask)
 unfolding order_row
-founding_ask_tied mask w n f s none free all g = by (is_fixed s.config.mode)
+founding_ask_tied mask w n f s none all g = by (is_fixed s.config.mode) refl
   where
-    by : (a : Bool) → Tied g w n (elim a [ true ↦ s | false ↦ views_taken f s (ask_row (views_at_work s.views) mask (own_parts s)) ])
-    by true = all g
-    by false = asks_founds mask g w n f s (quiet_first g w s none) free (all g) (founds_alone w n s mask all)
+    by : (a : Bool) → is_fixed s.config.mode ≡ a → Tied g w n (elim a [ true ↦ s | false ↦ views_taken f s (ask_row (views_at_work s.views) mask (own_parts s)) ])
+    by true q = all g
+    by false q =
+        asks_founds mask g w n f s (quiet_first g w s none) q (all g) (founds_alone w n s mask q all)
 
 -- ---- the tick
 
-module _ (g : List ℕ) (w : Scene) (n : ℕ) (f : Answering) (s : Core) (quiet : QuietNow g w s) (free : is_fixed w.config.mode ≡ false) (t : Tied g w n s) where
+module _ (g : List ℕ) (w : Scene) (n : ℕ) (f : Answering) (s : Core) (quiet : QuietNow g w s) (t : Tied g w n s) where
   abbrev stuck_now : Core
   stuck_now = record s { views = record (s.views) { stuck = drop 1 s.views.stuck ++ is_stuck s.views ∷ [] } }
 
@@ -199,20 +200,20 @@ module _ (g : List ℕ) (w : Scene) (n : ℕ) (f : Answering) (s : Core) (quiet 
   stuck_tied = noted_tied g w n f s t (drop 1 s.views.stuck ++ is_stuck s.views ∷ [])
 
   -- (2)
-  gathering_founds : (o : Option RingAsk) → ((a : RingAsk) → o ≡ Some a → FoundsAlone s a.mask) → Tied g w n (views_taken f s (gathering_ticks (views_at_work s.views) o (own_parts s)))
+  gathering_founds : (o : Option RingAsk) → ((a : RingAsk) → o ≡ Some a → is_fixed s.config.mode ≡ false) → ((a : RingAsk) → o ≡ Some a → FoundsAlone s a.mask) → Tied g w n (views_taken f s (gathering_ticks (views_at_work s.views) o (own_parts s)))
   unfolding gathering_ticks asks_or_ages stuck_noted views_taken install_applied own_parts held_rows next_view
-  gathering_founds None goes = ages_tied g w n f s t
-  gathering_founds (Some a) goes = by (tick_asks s.views a)
+  gathering_founds None free goes = ages_tied g w n f s t
+  gathering_founds (Some a) free goes = by (tick_asks s.views a)
     where
       on : FoundsAlone s a.mask → FoundsAlone stuck_now a.mask
       on k all there = let l = k all there in (l.0, lacking_same stuck_now s (install_of (with_answer (opened (next_view s.views) a.mask) (own_answer s.views (own_parts s)))) refl refl ∙ l.1)
 
       by : (b : Bool) → Tied g w n (views_taken f s (asks_or_ages (stuck_noted (views_at_work s.views)) a (own_parts s) b))
-      by true = asks_founds a.mask g w n f stuck_now quiet free stuck_tied (on (goes a refl))
+      by true = asks_founds a.mask g w n f stuck_now quiet (free a refl) stuck_tied (on (goes a refl))
       by false = ages_tied g w n f stuck_now stuck_tied
 
 -- (2) and (3)
-pub founding_tick_tied : (w : Scene) (n : ℕ) (f : Answering) (s : Core) → is_fixed w.config.mode ≡ false → ((h : List ℕ) → Tied h w n s) → (g : List ℕ) → QuietNow g w s → Tied g w n (views_part f s)
+pub founding_tick_tied : (w : Scene) (n : ℕ) (f : Answering) (s : Core) → ((h : List ℕ) → Tied h w n s) → (g : List ℕ) → QuietNow g w s → Tied g w n (views_part f s)
 unfolding views_part
-founding_tick_tied w n f s free all g quiet =
-    again_tied g w n f (views_taken f s (gathering_ticks (views_at_work s.views) (ring_ask s) (own_parts s))) (gathering_founds g w n f s quiet free (all g) (ring_ask s) (λ a q. founds_alone w n s a.mask all))
+founding_tick_tied w n f s all g quiet =
+    again_tied g w n f (views_taken f s (gathering_ticks (views_at_work s.views) (ring_ask s) (own_parts s))) (gathering_founds g w n f s quiet (all g) (ring_ask s) (rings_free s) (λ a q. founds_alone w n s a.mask (rings_free s a q) all))

@@ -97,6 +97,7 @@ gathers_more x g n inc v promise e a r may new h =
       own = (h.own.0, append_has_left h.own.0 h.answers (a ∷ []) h.own.1, h.own.2, h.own.3);
       single = λ b c i j q. both b c (has_append b h.answers (a ∷ []) i) (has_append c h.answers (a ∷ []) j) q;
       asked = λ b i. in_mask b (has_append b h.answers (a ∷ []) i);
+      asks = h.asks;
     }
   where
     absent : (b : Answer) → Has b h.answers → b.node ≡ a.node → ⊥
@@ -183,9 +184,9 @@ number_least a b l = grind (arith, nat_tests)
 
 module _ (g : List ℕ) (w : Scene) (n : ℕ) (s : Core) (t : Tied g w n s) where
   -- the own answer is there, and the gathering begins with it
-  pub opens_tied : (mask : Mask) → has_node mask s.views.me ≡ true → s.views.promise.coord ≡ n → s.views.promise.inc ≡ s.views.inc → 1 < s.views.promise.number → Lt s.views.view s.views.promise → Tied g w n (record s { views = record (s.views) { gathering = Some (with_answer (opened s.views.promise mask) (record { node = s.views.me; inc = s.views.inc; view = s.views.view; parts = own_parts s })) } })
+  pub opens_tied : (mask : Mask) → is_fixed s.config.mode ≡ false → has_node mask s.views.me ≡ true → s.views.promise.coord ≡ n → s.views.promise.inc ≡ s.views.inc → 1 < s.views.promise.number → Lt s.views.view s.views.promise → Tied g w n (record s { views = record (s.views) { gathering = Some (with_answer (opened s.views.promise mask) (record { node = s.views.me; inc = s.views.inc; view = s.views.view; parts = own_parts s })) } })
   unfolding row_of opened with_answer
-  opens_tied mask there coord inc later lt =
+  opens_tied mask free there coord inc later lt =
       let x : Ghost = t.ghost in
       let h = t.own.0 in
       let r : Reply = record { node = n; inc = (x.nodes n).inc; view = (x.nodes n).view; list = (x.nodes n).list } in
@@ -223,6 +224,7 @@ module _ (g : List ℕ) (w : Scene) (n : ℕ) (s : Core) (t : Tied g w n s) wher
         own = (a, inl refl, h.stands.me, refl);
         single = λ b c i j q. only_one a b i ∙ sym (only_one a c j);
         asked = λ b i. subst (λ (z : Answer). has_node mask z.node ≡ true) (sym (only_one a b i)) there;
+        asks = h.asks ∙ ap not free;
       } in
       let views : Views = record (s.views) { gathering = Some e } in
       let stands : Stands y n views = record { me = h.stands.me; up = h.stands.up; inc = h.stands.inc; view = h.stands.view; promise = h.stands.promise; seated = h.stands.seated } in
@@ -259,21 +261,21 @@ module _ (mask : Mask) (g : List ℕ) (w : Scene) (n : ℕ) (s : Core) (t : Tied
   unfolding next_view
   inc_is = refl
 
-  pub opened_tied : has_node mask s.views.me ≡ true → Tied g w n (record s { views = record (s.views) { promise = next_view s.views; gathering = Some (with_answer (opened (next_view s.views) mask) (own_answer s.views (own_parts s))) } })
+  pub opened_tied : is_fixed s.config.mode ≡ false → has_node mask s.views.me ≡ true → Tied g w n (record s { views = record (s.views) { promise = next_view s.views; gathering = Some (with_answer (opened (next_view s.views) mask) (own_answer s.views (own_parts s))) } })
   unfolding own_parts held_rows
-  opened_tied there =
-      opens_tied g w n (record s { views = record (s.views) { promise = next_view s.views; gathering = None } }) next_promised mask there (coord_is ∙ t.own.0.stands.me) inc_is later (le_lt_trans s.views.view s.views.promise (next_view s.views) below (next_later s.views))
+  opened_tied free there =
+      opens_tied g w n (record s { views = record (s.views) { promise = next_view s.views; gathering = None } }) next_promised mask free there (coord_is ∙ t.own.0.stands.me) inc_is later (le_lt_trans s.views.view s.views.promise (next_view s.views) below (next_later s.views))
 
 -- asking for the next view, where others are asked too
-pub asks_tied : (mask : Mask) (g : List ℕ) (w : Scene) (n : ℕ) (f : Answering) (s : Core) → all_answered (with_answer (opened (next_view s.views) mask) (own_answer s.views (own_parts s))) ≡ false → Tied g w n s → Tied g w n (views_taken f s (ask_row (views_at_work s.views) mask (own_parts s)))
+pub asks_tied : (mask : Mask) (g : List ℕ) (w : Scene) (n : ℕ) (f : Answering) (s : Core) → is_fixed s.config.mode ≡ false → all_answered (with_answer (opened (next_view s.views) mask) (own_answer s.views (own_parts s))) ≡ false → Tied g w n s → Tied g w n (views_taken f s (ask_row (views_at_work s.views) mask (own_parts s)))
 unfolding ask_row ask_if may_ask asks_view gathers gathered gathering_set view_sent_all promised views_taken install_applied
-asks_tied mask g w n f s more t = by (may_ask s.views mask) refl
+asks_tied mask g w n f s free more t = by (may_ask s.views mask) refl
   where
     asks : (b : Bool) → has_node mask s.views.me ≡ true → Tied g w n (views_taken f s (asks_view (views_at_work s.views) (next_view s.views) mask (own_parts s) b))
     asks false there = next_promised mask g w n s t
     asks true there =
         let ns : List ℕ = filter (λ m. not (m == s.views.me)) (nodes_of mask) in
-        let done = prepares_tied g w n (next_view s.views) mask ns (record s { views = record (s.views) { promise = next_view s.views; gathering = Some (with_answer (opened (next_view s.views) mask) (own_answer s.views (own_parts s))) } }) (opened_tied mask g w n s t there) in
+        let done = prepares_tied g w n (next_view s.views) mask ns (record s { views = record (s.views) { promise = next_view s.views; gathering = Some (with_answer (opened (next_view s.views) mask) (own_answer s.views (own_parts s))) } }) (opened_tied mask g w n s t free there) in
         subst (λ b. Tied g w n (views_taken f s (gathered (view_sent_all (promised (views_at_work s.views) (next_view s.views)) ns (view.Prepare (next_view s.views) mask)) (with_answer (opened (next_view s.views) mask) (own_answer s.views (own_parts s))) b))) (sym more) done
 
     by : (b : Bool) → may_ask s.views mask ≡ b → Tied g w n (views_taken f s (ask_if (views_at_work s.views) mask (own_parts s) b))
@@ -283,8 +285,8 @@ asks_tied mask g w n f s more t = by (may_ask s.views mask) refl
 
 pub ask_is_tied : (mask : Mask) (g : List ℕ) (w : Scene) (n : ℕ) (f : Answering) (s : Core) → all_answered (with_answer (opened (next_view s.views) mask) (own_answer s.views (own_parts s))) ≡ false → Tied g w n s → Tied g w n (order_row f s mask)
 unfolding order_row
-ask_is_tied mask g w n f s more t = by (is_fixed s.config.mode)
+ask_is_tied mask g w n f s more t = by (is_fixed s.config.mode) refl
   where
-    by : (a : Bool) → Tied g w n (elim a [ true ↦ s | false ↦ views_taken f s (ask_row (views_at_work s.views) mask (own_parts s)) ])
-    by true = t
-    by false = asks_tied mask g w n f s more t
+    by : (a : Bool) → is_fixed s.config.mode ≡ a → Tied g w n (elim a [ true ↦ s | false ↦ views_taken f s (ask_row (views_at_work s.views) mask (own_parts s)) ])
+    by true q = t
+    by false q = asks_tied mask g w n f s q more t

@@ -39,7 +39,7 @@ use Rattle.step_ties.specs.Tied.{ShowsView, ShowsBody, Shows, Stands, KnowsLeade
 
 pub goes_same : (x : Ghost) → Goes x x
 goes_same x =
-    record { packets = λ p h. h; records = λ r h. h; lines = λ l h. h; leads = λ v l e. e; bases = λ v s. refl }
+    record { packets = λ p h. h; records = λ r h. h; lines = λ l h. h; leads = λ v l e. e; bases = λ v s. refl; asks = refl }
 
 module _ (x y : Ghost) (o : Goes x y) where
   pub seen_on : (v : ViewId) → Seen x v → Seen y v
@@ -95,6 +95,7 @@ module _ (x y : Ghost) (o : Goes x y) where
         own = h.own;
         single = h.single;
         asked = h.asked;
+        asks = o.asks ∙ h.asks;
       }
 
   -- an install's view is one that its coordinator entered
@@ -113,6 +114,7 @@ module _ (x y : Ghost) (o : Goes x y) where
         names = h.names;
         rest = h.rest;
         base = base_on i.view i.members (base_named (bases_of i) g) h.entered h.base;
+        asks = o.asks ∙ h.asks;
       }
 
   pub install_on : (g : List ℕ) (i : Option Install) → InstallsIf x g i → InstallsIf y g i
@@ -230,6 +232,7 @@ module _ (x y : Ghost) (m : ℕ) (o : Spares x y m) where
         owes = subst (λ k. Owes y g m k u) (sym b) (owes_on g s.inc u h.owes);
         decides = subst (λ (k : ℕ × ViewId). LeaderKeeps y m k.0 k.1 row.led) (λ z. (sym b z, sym a z)) (decides_on s.inc s.view row.led (m, s.inc, s.members, h.stands.seated) h.decides);
         names = subst (λ (k : ℕ × ViewId × List Member). Names y g fixed m k.0 k.1 k.2 table) (λ z. (sym b z, sym a z, sym c z)) (names_on g fixed s.inc s.view s.members table (m, s.inc, s.members, h.stands.seated) h.names);
+        asks = o.goes.asks ∙ h.asks;
       }
 
   pub stands_on : y.nodes m ≡ x.nodes m → (s : Views) → Stands x m s → Stands y m s

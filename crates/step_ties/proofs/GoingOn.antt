@@ -99,7 +99,7 @@ module _ (g : List ℕ) (w : Scene) (n : ℕ) (s : Core) (t : Tied g w n s) (e :
   held j (inl e) = omega arith
   held j (inr q) =
       let seated = t.own.0.stands.seated in
-      let a : j ≤ length (puts_of n v (kept x.all)) = always_stable (opening_of w.config) x.nodes x.ps x.all x.leads x.bases t.life v j q n s.views.inc s.views.members seated n s.views.inc (member_self t.life n s.views.inc v s.views.members seated) in
+      let a : j ≤ length (puts_of n v (kept x.all)) = always_stable (opening_of w.config) x.nodes x.ps x.all x.leads x.bases t.life v j q n s.views.inc s.views.members seated n s.views.inc (member_self t.ghost t.life n s.views.inc v s.views.members seated) in
       let b : puts_of n v (kept x.all) ≡ full = ap (λ u. puts_of n u (kept x.all)) (sym t.own.0.stands.view) ∙ (k.good.past.seated n).list in
       subst (λ l. j ≤ length l) b a
 

@@ -17,14 +17,14 @@ with_packet x p = record x { ps = p ∷ x.ps }
 
 module _ (x : Ghost) where
   pub nodes_goes : (nodes : ℕ → Standing) → Goes x (with_nodes x nodes)
-  nodes_goes nodes = record { packets = λ p h. h; records = λ r h. h; lines = λ l h. h; leads = λ v l e. e; bases = λ v s. refl }
+  nodes_goes nodes = record { packets = λ p h. h; records = λ r h. h; lines = λ l h. h; leads = λ v l e. e; bases = λ v s. refl; asks = refl }
 
   pub nodes_spares : (nodes : ℕ → Standing) (m : ℕ) → (nodes m).list ≡ (x.nodes m).list → Spares x (with_nodes x nodes) m
   nodes_spares nodes m e =
       record { goes = nodes_goes nodes; list = e; leads = λ v s. refl; refusals = λ v p r h. h; puts = λ u k e h. h; told = λ p r u e h. h }
 
   pub packet_goes : (p : Packet) → Goes x (with_packet x p)
-  packet_goes p = record { packets = λ q h. inr h; records = λ r h. h; lines = λ l h. h; leads = λ v l e. e; bases = λ v s. refl }
+  packet_goes p = record { packets = λ q h. inr h; records = λ r h. h; lines = λ l h. h; leads = λ v l e. e; bases = λ v s. refl; asks = refl }
 
   pub packet_spares : (p : Packet) (m : ℕ) → (4 ≡ kind p → ⊥) → Spares x (with_packet x p) m
   packet_spares p m ne =
@@ -45,6 +45,7 @@ goes_then x y z o q =
       lines = λ l h. q.lines l (o.lines l h);
       leads = λ v l e. q.leads v l (o.leads v l e);
       bases = λ v s. q.bases v (s.0, s.1, s.2, o.records (In s.0 s.1 v s.2) s.3) ∙ o.bases v s;
+      asks = q.asks ∙ o.asks;
     }
 
 settled_on : (x y : Ghost) → Goes x y → (v : ViewId) → Settled x v → Settled y v

@@ -128,7 +128,7 @@ module _ (g : List ℕ) (w : Scene) (n : ℕ) (h : List ℕ) (v : ViewId) (i : �
         }
 
     heard_goes : (x : Ghost) (l : group.Note) → Goes x (record x { all = Noted l ∷ x.all })
-    heard_goes x l = record { packets = λ p h. h; records = λ r h. h; lines = λ r h. inr h; leads = λ v l e. e; bases = λ v s. refl }
+    heard_goes x l = record { packets = λ p h. h; records = λ r h. h; lines = λ r h. inr h; leads = λ v l e. e; bases = λ v s. refl; asks = refl }
 
     heard_spares : (x : Ghost) (p : ProviderId) (ms : List ProviderId) (value : List ℕ) (m : ℕ) → Spares x (record x { all = Noted (Heard p v i e ms value) ∷ x.all }) m
     heard_spares x p ms value m =

@@ -114,6 +114,7 @@ module _ (g : List ℕ) (w : Scene) (n : ℕ) (s : Core) (t : Tied g w n s) (h :
             owes = owes_less;
             decides = subst (λ (row : GroupRow). LeaderKeeps t.ghost n s.views.inc s.views.view row.led) (sym (row_there h (λ row. record row { list = Some (with_entry (list_or_new row.list) s.views.view e) }) (λ x. refl) s g ne)) t.own.0.decides;
             names = t.own.0.names;
+            asks = t.own.0.asks;
           },
           t.own.1,
           t.own.2,
@@ -132,7 +133,7 @@ module _ (g : List ℕ) (w : Scene) (n : ℕ) (s : Core) (t : Tied g w n s) (e :
 
   -- the entry is put
   abbrev pub put_ghost : List group.Packet → Ghost
-  put_ghost ps = record { nodes = at_node t.ghost.nodes n (grown (t.ghost.nodes n) e); ps = ps; all = Kept put_line ∷ t.ghost.all; leads = t.ghost.leads; bases = t.ghost.bases }
+  put_ghost ps = record { nodes = at_node t.ghost.nodes n (grown (t.ghost.nodes n) e); ps = ps; all = Kept put_line ∷ t.ghost.all; leads = t.ghost.leads; bases = t.ghost.bases; asks = t.ghost.asks }
 
   abbrev put_row : GroupRow → GroupRow
   put_row row = record row { list = Some (with_entry (list_or_new row.list) s.views.view e) }
@@ -154,7 +155,7 @@ module _ (g : List ℕ) (w : Scene) (n : ℕ) (s : Core) (t : Tied g w n s) (e :
     y = put_ghost ps
 
     goes : Goes t.ghost y
-    goes = record { packets = more; records = λ r h. inr h; lines = λ r h. inr h; leads = λ v l e. e; bases = λ v s. refl }
+    goes = record { packets = more; records = λ r h. inr h; lines = λ r h. inr h; leads = λ v l e. e; bases = λ v s. refl; asks = refl }
 
     spares : (m : ℕ) → m ≢ n → Spares t.ghost y m
     spares m ne =
@@ -237,6 +238,7 @@ module _ (g : List ℕ) (w : Scene) (n : ℕ) (s : Core) (t : Tied g w n s) (e :
           };
           decides = decides;
           names = record { named = k.names.named; unnamed = k.names.unnamed };
+          asks = k.asks;
         }
 
     lines_after : y.all ≡ lines_with g (reverse (s.records ++ happened.Put s.views.me s.views.view g (len_of s g) e ∷ [])) w.before (lines_of g w.before)

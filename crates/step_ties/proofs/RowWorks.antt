@@ -112,6 +112,7 @@ module _ (g : List ℕ) (w : Scene) (n : ℕ) (s : Core) (t : Tied g w n s) wher
             owes = k.owes;
             decides = (row c).1;
             names = k.names;
+            asks = k.asks;
           }
 
   -- what is stable is forgotten

@@ -12,12 +12,15 @@ use Rattle.view_core.specs.declared.views.RingAsk.{RingAsk}
 use Rattle.view_core.specs.Views.{is_frozen, is_coordinator, others_of, view_sent_all, gathering_set, own_answer, next_view, aged, prepared_again, tick_asks, stuck_noted, asks_or_ages, gathering_ticks, install_again_of, install_again, is_stuck, views_at_work}
 use Rattle.node_state.specs.declared.packet.Body.TheVariants as body
 use Rattle.node_state.specs.declared.state.Core.{Core}
-use Rattle.node_state.specs.Settings.{is_fixed}
+use Rattle.node_state.specs.declared.config.Mode.{Mode}
+use Rattle.node_state.specs.declared.config.Mode.TheVariants.{Fixed, Asked, Rings}
+use Rattle.node_reach.specs.Reach as reach
+use Rattle.node_state.specs.Settings.{is_fixed, is_rings}
 use Rattle.node_state.specs.State.{row_of, held_rows}
 use Rattle.node_state.specs.Sending.{sent}
 use Rattle.node_state.specs.HandOn.{Answering}
 use Rattle.node_state.specs.Applying.{own_parts, install_applied, views_taken}
-use Rattle.node_state.specs.Ticks.{ring_ask, views_part}
+use Rattle.node_state.specs.Ticks.{ring_ask_for, ring_ask, views_part}
 use Rattle.step_ties.specs.Ghost.{Installs, InstallsIf, GathersIf}
 use Rattle.step_ties.specs.Tied.{Scene, Tied}
 use Rattle.step_ties.proofs.Goes.{spares_same, rest_on}
@@ -58,6 +61,7 @@ module _ (g : List ℕ) (w : Scene) (n : ℕ) (f : Answering) (s : Core) (t : Ti
             own = k.own;
             single = k.single;
             asked = k.asked;
+            asks = k.asks;
           } in
           let set : Tied g w n (record s { views = views }) = tied_views g w n s t views (rest_on t.ghost t.ghost n (spares_same t.ghost n) g (is_fixed s.config.mode) s.views views (row_of s g) s.groups s.sessions s.names (record { me = h.stands.me; up = h.stands.up; inc = h.stands.inc; view = h.stands.view; promise = h.stands.promise; seated = h.stands.seated }) refl refl refl refl older h) refl in
           prepares_tied g w n e.view e.asked (filter (λ m. not (has_answered e m)) (nodes_of e.asked)) (record s { views = views }) set
@@ -88,20 +92,30 @@ module _ (g : List ℕ) (w : Scene) (n : ℕ) (f : Answering) (s : Core) (t : Ti
   noted = record s { views = record (s.views) { stuck = drop 1 s.views.stuck ++ is_stuck s.views ∷ [] } }
 
   -- (2) asking, or PREPARE again
-  gathering_tied : (o : Option RingAsk) → ((a : RingAsk) → o ≡ Some a → all_answered (with_answer (opened (next_view s.views) a.mask) (own_answer s.views (own_parts s))) ≡ false) → Tied g w n (views_taken f s (gathering_ticks (views_at_work s.views) o (own_parts s)))
+  gathering_tied : (o : Option RingAsk) → ((a : RingAsk) → o ≡ Some a → is_fixed s.config.mode ≡ false) → ((a : RingAsk) → o ≡ Some a → all_answered (with_answer (opened (next_view s.views) a.mask) (own_answer s.views (own_parts s))) ≡ false) → Tied g w n (views_taken f s (gathering_ticks (views_at_work s.views) o (own_parts s)))
   unfolding gathering_ticks asks_or_ages stuck_noted views_taken install_applied own_parts held_rows next_view
-  gathering_tied None more = ages_tied g w n f s t
-  gathering_tied (Some a) more = by (tick_asks s.views a)
+  gathering_tied None free more = ages_tied g w n f s t
+  gathering_tied (Some a) free more = by (tick_asks s.views a)
     where
       now : Tied g w n noted
       now = noted_tied (drop 1 s.views.stuck ++ is_stuck s.views ∷ [])
 
       by : (b : Bool) → Tied g w n (views_taken f s (asks_or_ages (stuck_noted (views_at_work s.views)) a (own_parts s) b))
-      by true = asks_tied a.mask g w n f noted (more a refl) now
+      by true = asks_tied a.mask g w n f noted (free a refl) (more a refl) now
       by false = ages_tied g w n f noted now
+
+-- where the rings ask, the mode is not fixed
+rings_are_free : (m : Mode) (x a : RingAsk) → elim (is_rings m) as (λ _. Option RingAsk) [ true ↦ Some x | false ↦ None ] ≡ Some a → is_fixed m ≡ false
+rings_are_free Fixed x a q = absurd (cc)
+rings_are_free Asked x a q = refl
+rings_are_free Rings x a q = refl
+
+pub rings_free : (s : Core) (a : RingAsk) → ring_ask s ≡ Some a → is_fixed s.config.mode ≡ false
+unfolding ring_ask
+rings_free s a q = rings_are_free s.config.mode (ring_ask_for s (reach.reach_of s.reach)) a q
 
 -- (2) and (3)
 pub views_part_tied : (g : List ℕ) (w : Scene) (n : ℕ) (f : Answering) (s : Core) → ((a : RingAsk) → ring_ask s ≡ Some a → all_answered (with_answer (opened (next_view s.views) a.mask) (own_answer s.views (own_parts s))) ≡ false) → Tied g w n s → Tied g w n (views_part f s)
 unfolding views_part
 views_part_tied g w n f s more t =
-    again_tied g w n f (views_taken f s (gathering_ticks (views_at_work s.views) (ring_ask s) (own_parts s))) (gathering_tied g w n f s t (ring_ask s) more)
+    again_tied g w n f (views_taken f s (gathering_ticks (views_at_work s.views) (ring_ask s) (own_parts s))) (gathering_tied g w n f s t (ring_ask s) (rings_free s) more)

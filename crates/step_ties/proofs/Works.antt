@@ -1,9 +1,10 @@
 -- What the pieces of a step make of the tie: what is sent and recorded, and the moves.
-use Rattle.std.proofs.Common.{◌≡◌, ◌≢◌, ℕ, List, [], ◌∷◌, ◌++◌, Some, refl, sym, ap, ◌∙◌, subst, inl, inr, ⊎_elim, append_assoc, ◌+◌, arith}
-use Rattle.std.specs.Prelude.{reverse}
+use Rattle.std.proofs.Common.{◌≡◌, ◌≢◌, ℕ, List, [], ◌∷◌, ◌++◌, Some, Bool, true, false, refl, sym, ap, ◌∙◌, subst, inl, inr, ⊎_elim, append_assoc, ◌+◌, arith}
+use Rattle.std.specs.Prelude.{not, reverse}
 use Rattle.std.proofs.lemmas.List.{reverse-append, append-nil}
 use Rattle.rsct_packet.specs.Search.{Has}
 use Rattle.view_core.specs.declared.views.Views.{Views}
+use Rattle.node_state.specs.declared.config.Config.{Config}
 use Rattle.node_state.specs.declared.happened.Happened.{Happened}
 use Rattle.node_state.specs.declared.packet.Body.{Body}
 use Rattle.node_state.specs.declared.packet.Packet.{Packet}
@@ -34,6 +35,14 @@ lines_unseen g (r ∷ rs) ys before all h =
 
 pub lines_none : (g : List ℕ) (rs : List Happened) (before : History) (all : List Line) → ((r : Happened) → Has r rs → Unseen g r) → lines_with g (reverse rs) before all ≡ Kept Begins ∷ all
 lines_none g rs before all h = ap (λ z. lines_with g z before all) (sym (append-nil (reverse rs))) ∙ lines_unseen g rs [] before all h
+
+-- where views are asked for, the mode is not fixed
+pub asked_free : (g : List ℕ) (w : Scene) (n : ℕ) (s : Core) (t : Tied g w n s) → t.ghost.asks ≡ true → is_fixed w.config.mode ≡ false
+asked_free g w n s t asks = by (is_fixed w.config.mode) (sym asks ∙ t.own.0.asks ∙ ap (λ (z : Config). not (is_fixed z.mode)) t.own.1)
+  where
+    by : (b : Bool) → true ≡ not b → b ≡ false
+    by true q = absurd (cc)
+    by false q = refl
 
 module _ (g : List ℕ) (w : Scene) (n : ℕ) (s : Core) (t : Tied g w n s) where
   -- the step goes on as moves do

@@ -1,6 +1,6 @@
 -- What stands for one group: how nodes stand to it, its packets, its lines, its leaders and its bases; and what a node
--- keeps or a packet carries of it, which shows the whole lists that stand here.
-use Rattle.std.specs.Prelude.{ℕ, ◌+◌, ◌≤◌, ◌<◌, ◌≡◌, ◌⊎◌, List, [], ◌∷◌, length, drop, find, Option, Some, None, true}
+-- keeps or a packet carries of it, which shows the whole lists that stand here; and whether nodes ask for views at all.
+use Rattle.std.specs.Prelude.{ℕ, ◌+◌, ◌≤◌, ◌<◌, ◌≡◌, ◌⊎◌, List, [], ◌∷◌, length, drop, find, Option, Some, None, Bool, true}
 use Rattle.std.specs.Str.{bytes_eq}
 use Rattle.rsct_packet.specs.declared.ids.ViewId.{ViewId}
 use Rattle.rsct_packet.specs.declared.ids.Member.{Member}
@@ -31,6 +31,8 @@ pub record Ghost : Type 0 where
   pub all : List Line
   pub leads : Leads
   pub bases : Bases
+  -- in mode fixed none does
+  pub asks : Bool
 
 -- moves make it
 abbrev pub Lives : Opening → Ghost → Type 0
@@ -47,6 +49,7 @@ pub record Goes (x y : Ghost) : Type 0 where
   pub lines : (l : Line) → Has l x.all → Has l y.all
   pub leads : (v : ViewId) (l : Member) → x.leads v ≡ Some l → y.leads v ≡ Some l
   pub bases : (v : ViewId) → Seen x v → y.bases v ≡ x.bases v
+  pub asks : y.asks ≡ x.asks
 
 -- all members of the view hold so many entries
 abbrev pub IsStable : Ghost → ViewId → ℕ → Type 0
@@ -121,6 +124,7 @@ pub record Gathers (x : Ghost) (g : List ℕ) (n inc : ℕ) (v promise : ViewId)
   pub own : (a : Answer) × Has a answers × (a.node ≡ n) × (a.inc ≡ inc)
   pub single : (a b : Answer) → Has a answers → Has b answers → a.node ≡ b.node → a ≡ b
   pub asked : (a : Answer) → Has a answers → has_node e.asked a.node ≡ true
+  pub asks : x.asks ≡ true
 
 abbrev pub GathersIf : Ghost → List ℕ → ℕ → ℕ → ViewId → ViewId → Option Exchange → Type 0
 GathersIf x g n inc v promise None = Unit {0}
@@ -144,6 +148,7 @@ pub record Installs (x : Ghost) (g : List ℕ) (i : Install) : Type 0 where
   pub names : (s : Source) → Has s i.sources → NamesDiffer s.parts
   pub rest : (v : ViewId) → source_at i.sources v ≡ None → whole v ≡ []
   pub base : BaseIsOf x i.view i.members (base_named (bases_of i) g)
+  pub asks : x.asks ≡ true
 
 abbrev pub InstallsIf : Ghost → List ℕ → Option Install → Type 0
 InstallsIf x g None = Unit {0}

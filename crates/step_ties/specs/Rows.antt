@@ -140,26 +140,26 @@ ViewsPartTied =
 abbrev pub QuietNow : List ℕ → Scene → Core → Type 0
 QuietNow g w s = Quiet (kept (lines_now g w s))
 
--- ANSWER, also the last one, with which the coordinator founds the view; outside of mode fixed, as the first row of a step;
+-- ANSWER, also the last one, with which the coordinator founds the view, as the first row of a step;
 -- the relation stands for every group, since the install carries the lists of all
 abbrev pub FoundingAnswerTied : Type 0
 FoundingAnswerTied =
-    (v old : ViewId) (parts : List Part) (w : Scene) (n : ℕ) (f : Answering) (s : Core) (p : Packet) → p.body ≡ body.View (view.Answer v old parts) → Has p w.sent → s.records ≡ [] → is_fixed w.config.mode ≡ false → ((h : List ℕ) → Tied h w n s) → (g : List ℕ) → Tied g w n (body_row f s p (body.View (view.Answer v old parts)))
+    (v old : ViewId) (parts : List Part) (w : Scene) (n : ℕ) (f : Answering) (s : Core) (p : Packet) → p.body ≡ body.View (view.Answer v old parts) → Has p w.sent → s.records ≡ [] → ((h : List ℕ) → Tied h w n s) → (g : List ℕ) → Tied g w n (body_row f s p (body.View (view.Answer v old parts)))
 
 -- an order to ask, also oneself alone, as the first row of a step
 abbrev pub FoundingAskTied : Type 0
 FoundingAskTied =
-    (mask : Mask) (w : Scene) (n : ℕ) (f : Answering) (s : Core) → s.records ≡ [] → is_fixed w.config.mode ≡ false → ((h : List ℕ) → Tied h w n s) → (g : List ℕ) → Tied g w n (order_row f s mask)
+    (mask : Mask) (w : Scene) (n : ℕ) (f : Answering) (s : Core) → s.records ≡ [] → ((h : List ℕ) → Tied h w n s) → (g : List ℕ) → Tied g w n (order_row f s mask)
 
 -- the tick of views, parts (2) and (3), also where it asks oneself alone
 abbrev pub FoundingTickTied : Type 0
 FoundingTickTied =
-    (w : Scene) (n : ℕ) (f : Answering) (s : Core) → is_fixed w.config.mode ≡ false → ((h : List ℕ) → Tied h w n s) → (g : List ℕ) → QuietNow g w s → Tied g w n (views_part f s)
+    (w : Scene) (n : ℕ) (f : Answering) (s : Core) → ((h : List ℕ) → Tied h w n s) → (g : List ℕ) → QuietNow g w s → Tied g w n (views_part f s)
 
--- INSTALL, outside of mode fixed, as the first row of a step
+-- INSTALL, as the first row of a step
 abbrev pub InstallTied : Type 0
 InstallTied =
-    (i : Install) (g : List ℕ) (w : Scene) (n : ℕ) (f : Answering) (s : Core) (p : Packet) → p.body ≡ body.View (view.Install i) → Has p w.sent → s.records ≡ [] → is_fixed w.config.mode ≡ false → Tied g w n s → Tied g w n (body_row f s p (body.View (view.Install i)))
+    (i : Install) (g : List ℕ) (w : Scene) (n : ℕ) (f : Answering) (s : Core) (p : Packet) → p.body ≡ body.View (view.Install i) → Has p w.sent → s.records ≡ [] → Tied g w n s → Tied g w n (body_row f s p (body.View (view.Install i)))
 
 -- the tick, part (4): what is owed is sent
 abbrev pub OwedPartTied : Type 0

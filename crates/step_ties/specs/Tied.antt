@@ -1,5 +1,5 @@
 -- The tie: a node in the middle of a step, and the world around it, stand for the life of a group.
-use Rattle.std.specs.Prelude.{ℕ, ◌≤◌, ◌<◌, ◌≡◌, ◌≢◌, ◌⊎◌, Bool, true, false, List, [], ◌∷◌, ◌++◌, reverse, Option, Some, None, slice_get}
+use Rattle.std.specs.Prelude.{ℕ, ◌≤◌, ◌<◌, ◌≡◌, ◌≢◌, ◌⊎◌, Bool, true, false, not, List, [], ◌∷◌, ◌++◌, reverse, Option, Some, None, slice_get}
 use Rattle.rsct_packet.specs.declared.ids.ViewId.{ViewId}
 use Rattle.rsct_packet.specs.declared.ids.ProviderId.{ProviderId}
 use Rattle.rsct_packet.specs.declared.ids.Member.{Member}
@@ -152,7 +152,7 @@ pub record Names (x : Ghost) (g : List ℕ) (fixed : Bool) (n inc : ℕ) (v : Vi
   pub named : (m : ℕ) → v.coord ≡ n → v.inc ≡ inc → fixed ≡ false → node_of g table ≡ Some m → (j : ℕ) × Has (member m j) ms × (x.leads v ≡ Some (member m j))
   pub unnamed : v.coord ≡ n → v.inc ≡ inc → fixed ≡ false → node_of g table ≡ None → x.leads v ≡ None
 
--- a node that is up stands for its part of the life of the group
+-- a node that is up stands for its part of the life of the group; in mode fixed no node asks for a view
 pub record NodeOf (x : Ghost) (g : List ℕ) (n : ℕ) (fixed : Bool) (s : Views) (row : GroupRow) (rows : List GroupRow) (t : SessionState) (table : List Leader) : Type 0 where
   pub stands : Stands x n s
   pub row_is : RowIs x n s.view s.members row
@@ -162,6 +162,7 @@ pub record NodeOf (x : Ghost) (g : List ℕ) (n : ℕ) (fixed : Bool) (s : Views
   pub owes : Owes x g n s.inc t
   pub decides : LeaderKeeps x n s.inc s.view row.led
   pub names : Names x g fixed n s.inc s.view s.members table
+  pub asks : x.asks ≡ not fixed
 
 abbrev pub NodeIs : Ghost → List ℕ → ℕ → Core → Type 0
 NodeIs x g n s = NodeOf x g n (is_fixed s.config.mode) s.views (row_of s g) s.groups s.sessions s.names
@@ -202,6 +203,7 @@ pub record Rests (g : List ℕ) (w : Scene) : Type 0 where
   pub nodes : (m : ℕ) → NodeIsIf w.config ghost g m (w.incs m) (w.cores m)
   pub packets : (p : Packet) → Has p w.sent → Shows ghost g p
   pub refused : Refused ghost
+  pub asks : ghost.asks ≡ not (is_fixed w.config.mode)
 
 -- the lines with those of a step that has come so far
 abbrev pub lines_now : List ℕ → Scene → Core → List Line

@@ -81,7 +81,7 @@ pub fn views_part_is_tied()
     ensures { ViewsPartTied }
 {}
 
-/// INSTALL, outside of mode fixed.
+/// INSTALL.
 #[tactic(auto, using(crate::proofs::Entering::install_row_tied))]
 pub fn install_is_tied()
     ensures { InstallTied }
