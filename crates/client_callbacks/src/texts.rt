@@ -20,8 +20,9 @@ struct TextRead {
     escape: Escape,
 }
 
+/// The value of a hex digit of either case; `None` for any other byte.
 #[tactic(auto, unfolding(crate::specs::Votes::hex_value))]
-fn hex_value(b: u8) -> Option<u8>
+pub fn hex_value(b: u8) -> Option<u8>
     ensures value { result ≡ hex_value b }
     ensures small { IfSome result (λ x. x < 16) }
 {

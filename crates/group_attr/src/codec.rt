@@ -26,8 +26,9 @@ pub struct AttrsRef<'a> {
     pub source_limit: u16,
 }
 
+/// One byte: 1 for one phase, 2 for several; `None` where the front is neither.
 #[tactic(auto, unfolding(crate::specs::Codec::phases_at))]
-fn read_phases(b: &[u8]) -> Option<(Phases, &[u8])>
+pub fn read_phases(b: &[u8]) -> Option<(Phases, &[u8])>
     ensures { Gives result (phases_at b.now) }
 {
     let (n, b) = read_u8(b)?;
@@ -127,7 +128,8 @@ pub fn read_attrs(b: &[u8]) -> Option<(AttrsRef<'_>, &[u8])>
     attrs_front(known(b))
 }
 
-fn phases_number(phases: Phases) -> u8
+/// The byte of a number of phases: 1 for one, 2 for several.
+pub fn phases_number(phases: Phases) -> u8
     ensures { result ≡ phases_number phases }
 {
     match phases {

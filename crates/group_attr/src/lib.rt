@@ -7,4 +7,4 @@ mod codec;
 mod tests;
 
 pub use attrs::{AttrFault, Attrs, Batch, DefaultVote, HOST_MEMBERSHIP, MAX_LIMIT, Phases};
-pub use codec::{AttrsRef, read_attrs};
+pub use codec::{AttrsRef, phases_number, read_attrs, read_phases};

@@ -82,20 +82,6 @@ fn is_join_line(words: &Words<'_>) -> bool
     words.len() == 4 && words.has(0, b"join")
 }
 
-/// Is this a byte of a name?
-fn is_name_byte(b: u8) -> bool
-    ensures { result ≡ name_byte b }
-{
-    b.is_ascii_alphanumeric() || b == b'_' || b == b'-' || b == b'.'
-}
-
-/// Is each of these a byte of a name?
-fn are_name_bytes(b: &[u8]) -> bool
-    ensures { result ≡ list_all name_byte b.now }
-{
-    b.iter().all(|x| is_name_byte(*x))
-}
-
 /// Is this a name of a client: 1 to 16 bytes of a name?
 #[tactic(auto, unfolding(world_model::specs::OneNodeScript::is_client_name))]
 fn is_client_name(word: &[u8]) -> bool

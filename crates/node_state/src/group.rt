@@ -7,6 +7,20 @@ use rsct_packet::{List, Name, ProviderId, Text};
 use std::marker::Model;
 use vote_phases::Tally;
 
+/// A table, whose rows are searched and changed in place by the crates that have its calls.
+#[derive(Drop)]
+pub struct Table<T> {
+    pub rows: Vec<T>,
+}
+
+impl<T> Model for Table<T> {
+    ghost use Rattle.std.specs.Prelude.{List};
+
+    ghost Value = { List T };
+
+    ghost view = { λ t. t.rows.items };
+}
+
 /// How many entries of a list a member has acknowledged.
 #[derive(Clone, Copy, Debug, PartialEq, Eq)]
 pub struct Acked {
@@ -42,13 +56,13 @@ pub struct Given {
 /// requester.
 #[derive(Drop)]
 pub struct Led {
-    pub acked: List<Acked>,
+    pub acked: Table<Acked>,
     pub waiting: Waiting,
     pub join_attrs: List<JoinAttrs>,
     pub tally: Option<Tally>,
     pub given: List<Given>,
     pub gone: List<ProviderId>,
-    pub decided: List<Decision>,
+    pub decided: Table<Decision>,
 }
 
 /// What a node has of a group: its list, if it holds one, its leader, if it is known, and what the node keeps of
@@ -62,16 +76,4 @@ pub struct GroupRow {
 }
 
 /// The rows of groups in name order.
-#[derive(Drop)]
-pub struct Groups {
-    rows: List<GroupRow>,
-}
-
-impl Model for Groups {
-    ghost use Rattle.std.specs.Prelude.{List};
-    ghost use Rattle.node_state.specs.declared.group.GroupRow.{GroupRow};
-
-    ghost Value = { List GroupRow };
-
-    ghost view = { λ g. g.rows };
-}
+pub type Groups = Table<GroupRow>;

@@ -11,7 +11,7 @@ mod state;
 
 pub use call::CallLine;
 pub use config::{Config, Mode};
-pub use group::{Acked, Decision, Given, GroupRow, Groups, JoinAttrs, Led};
+pub use group::{Acked, Decision, Given, GroupRow, Groups, JoinAttrs, Led, Table};
 pub use happened::{Happened, Records};
 pub use packet::{Body, Packet, Packets, Report};
 pub use packet_bodies::{ReportRow, What};

@@ -1,7 +1,6 @@
 //! The bodies of a view's groups.
 ghost use Rattle.std.specs.Prelude.{◌≡◌, Option, option_map, option_copied};
 ghost use Rattle.rsct_packet.specs.Reading.{Gives};
-ghost use Rattle.group_attr.specs.Codec.{phases_at};
 ghost use Rattle.node_state.specs.Bodies.{body_at, has_phases, request_at, why_at, why_data_at, tell_at, vote_of, vote_at};
 ghost use Rattle.packet_bodies.specs.Body.{whole_of};
 ghost use Rattle.packet_codec.specs.InPlace.{body_in};
@@ -9,7 +8,7 @@ ghost use Rattle.group_entry.specs.ProposalCodec.{proposal_in};
 
 use crate::packet::BodyRef;
 use client_callbacks::Why;
-use group_attr::Phases;
+use group_attr::{Phases, read_phases};
 use packet_bodies::{read_ack, read_gone, read_group, read_leader, read_lookup};
 use proposal_core::{Entry, ProposalRef, Vote, read_proposal};
 use rsct_packet::{read_optional_bytes, read_proto, read_provider, read_u8, read_u16, read_u32};
@@ -37,19 +36,6 @@ pub fn leader_body(b: &[u8]) -> Option<BodyRef<'_>>
     ensures { option_map body_in result ≡ body_at 15 b.now }
 {
     Some(BodyRef::Name(read_leader(b)?))
-}
-
-/// By how many phases a request is decided.
-#[tactic(auto, unfolding(group_attr::specs::Codec::phases_at))]
-fn read_phases(b: &[u8]) -> Option<(Phases, &[u8])>
-    ensures { Gives result (phases_at b.now) }
-{
-    let (n, b) = read_u8(b)?;
-    match n {
-        1 => Some((Phases::One, b)),
-        2 => Some((Phases::Many, b)),
-        _ => None,
-    }
 }
 
 /// A join's phases are 1, since its attributes say how it is decided.

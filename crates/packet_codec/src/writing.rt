@@ -2,14 +2,13 @@
 ghost use Rattle.std.specs.Prelude.{◌≡◌, ◌++◌, OnOk, OnErr, IfOk};
 ghost use Rattle.rsct_packet.specs.Fields.{u8_text, bytes_text, AreShort};
 ghost use Rattle.rsct_packet.specs.Format.{OptionFits, optional_text};
-ghost use Rattle.group_attr.specs.Codec.{phases_number};
 ghost use Rattle.node_state.specs.Bodies.{why_code, why_data_text, vote_number, kind_of, ring_kind, view_kind, ring_body_text, view_body_text, named_text, body_text};
 ghost use Rattle.node_state.specs.Bytes.{head_of, bytes_of};
 ghost use Rattle.packet_codec.specs.Spelled.{IsRingBody, IsViewBody, IsWhy, IsBody, IsSpelled};
 
 use adapter_ring::RingPacket;
 use client_callbacks::Why;
-use group_attr::Phases;
+use group_attr::phases_number;
 use group_entry::optional_bytes;
 use node_state::{Body, Packet};
 use packet_bodies::{
@@ -67,15 +66,6 @@ fn put_view_packet(alloc: Global, out: &mut Vec<u8>, x: &ViewPacket) -> Result<(
         ),
         ViewPacket::Install { install } => install.write(alloc, out),
         ViewPacket::Taken { view } => put_view(out, *view),
-    }
-}
-
-fn phases_number(phases: Phases) -> u8
-    ensures { result ≡ phases_number phases }
-{
-    match phases {
-        Phases::One => 1,
-        Phases::Many => 2,
     }
 }
 

@@ -91,8 +91,8 @@ fn is_name_byte(b: u8) -> bool
     b.is_ascii_alphanumeric() || b == b'_' || b == b'-' || b == b'.'
 }
 
-/// Is each of these a byte of a name?
-fn are_name_bytes(b: &[u8]) -> bool
+/// Is each of these a byte of a name: a letter, a digit, `_`, `-` or `.`?
+pub fn are_name_bytes(b: &[u8]) -> bool
     ensures { result ≡ list_all name_byte b.now }
 {
     b.iter().all(|x| is_name_byte(*x))

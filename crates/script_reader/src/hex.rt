@@ -1,25 +1,12 @@
 //! Bytes in pairs of hex digits.
-ghost use Rattle.std.specs.Prelude.{◌≡◌, ◌<◌, IfSome};
-ghost use Rattle.client_callbacks.specs.Votes.{hex_value};
+ghost use Rattle.std.specs.Prelude.{◌≡◌};
 ghost use Rattle.world_model.specs.Words.{hex_pair, hex_word};
 ghost use Rattle.script_reader.specs.Answers.{GivesWord};
 
 use crate::faults::WordFault;
+use client_callbacks::hex_value;
 use rsct_packet::List;
 use std::alloc::Global;
-
-#[tactic(auto, unfolding(client_callbacks::specs::Votes::hex_value))]
-fn hex_value(b: u8) -> Option<u8>
-    ensures value { result ≡ hex_value b }
-    ensures small { IfSome result (λ x. x < 16) }
-{
-    match b {
-        b'0'..=b'9' => Some(b - b'0'),
-        b'A'..=b'F' => Some(b - b'A' + 10),
-        b'a'..=b'f' => Some(b - b'a' + 10),
-        _ => None,
-    }
-}
 
 #[tactic(auto, unfolding(world_model::specs::Words::hex_pair, crate::specs::Answers::bind_opens))]
 fn hex_pair(a: u8, b: u8) -> Option<u8>

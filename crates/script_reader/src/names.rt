@@ -1,12 +1,10 @@
 //! Names of a script.
 ghost use Rattle.std.specs.Prelude.{◌≡◌};
-ghost use Rattle.std.specs.List.{list_all};
-ghost use Rattle.rsct_packet.specs.Text.{name_byte};
 ghost use Rattle.world_model.specs.Words.{name_word, client_word, group_word};
 ghost use Rattle.script_reader.specs.Answers.{GivesWord};
 
 use crate::faults::WordFault;
-use rsct_packet::{List, Name};
+use rsct_packet::{List, Name, are_name_bytes};
 use std::alloc::Global;
 
 /// How many bytes the name of a client has at most.
@@ -14,20 +12,6 @@ const MAX_CLIENT: usize = 16;
 
 /// How many bytes the name of a group has at most in a script; a session refuses those of more than 32.
 const MAX_GROUP: usize = 64;
-
-/// Is this a byte of a name?
-fn is_name_byte(b: u8) -> bool
-    ensures { result ≡ name_byte b }
-{
-    b.is_ascii_alphanumeric() || b == b'_' || b == b'-' || b == b'.'
-}
-
-/// Is each of these a byte of a name?
-fn are_name_bytes(b: &[u8]) -> bool
-    ensures { result ≡ list_all name_byte b.now }
-{
-    b.iter().all(|x| is_name_byte(*x))
-}
 
 /// The name of 1 to `most` bytes.
 #[tactic(auto, unfolding(world_model::specs::Words::name_word, world_model::specs::Words::when_true))]
