@@ -39,4 +39,17 @@ mod tests {
         assert!(rt; matches!(waiting.next(Batch::Neither), Some(Chosen::Joins(_))));
         assert_eq!(rt; waiting.joins() + waiting.failures(), 0);
     }
+
+    #[test]
+    fn each_kind_is_taken_alone(rt: HostRuntime) {
+        let mut waiting = Waiting::new();
+        assert_eq!(rt; waiting.add_join(provider(1), &[]), Added::Queued);
+        assert!(rt; waiting.is_duplicate(provider(1), &[]));
+        assert!(rt; !waiting.is_duplicate(provider(2), &[]));
+        assert!(rt; waiting.add_failure(provider(3), Cause::Died));
+        assert_eq!(rt; waiting.next_joins(Batch::Neither).len(), 1);
+        assert_eq!(rt; waiting.next_joins(Batch::Neither).len(), 0);
+        assert_eq!(rt; waiting.next_failures(Batch::Both).len(), 1);
+        assert_eq!(rt; waiting.joins() + waiting.failures(), 0);
+    }
 }

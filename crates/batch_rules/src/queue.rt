@@ -1,5 +1,5 @@
 //! Parts of the queue.
-ghost use Rattle.std.specs.Prelude.{◌≡◌, length, ◌<◌};
+ghost use Rattle.std.specs.Prelude.{◌≡◌};
 ghost use Rattle.std.specs.List.{list_any};
 ghost use Rattle.rsct_packet.specs.Providers.{without};
 ghost use Rattle.batch_rules.specs.Waiting.{has_instance, same_instance, is_failure_of, batches_joins, batches_failures, chosen_of, left_of};
@@ -49,12 +49,11 @@ pub(crate) fn batches_failures(batch: Batch) -> bool
     matches!(batch, Batch::Failures | Batch::Both)
 }
 
-/// Takes all of them, or the oldest one.
+/// Takes all of them, or the oldest one, if there is one.
 pub(crate) fn take_next<T: Default + Drop>(
     items: &mut ArrayVec<T, 64>,
     all: bool,
 ) -> ArrayVec<T, 64>
-    requires { 0 < length items.old.items }
     ensures taken { result.items ≡ chosen_of all items.old.items }
     ensures left { items.new.items ≡ left_of all items.old.items }
 {
@@ -62,6 +61,8 @@ pub(crate) fn take_next<T: Default + Drop>(
         return items.take();
     }
     let mut oldest = ArrayVec::new();
-    oldest.push(items.remove(0));
+    if !items.is_empty() {
+        oldest.push(items.remove(0));
+    }
     oldest
 }

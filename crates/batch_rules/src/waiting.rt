@@ -1,8 +1,8 @@
 //! The queue of a group.
 ghost use Rattle.std.specs.Prelude.{◌≡◌, ◌≤◌, length};
-ghost use Rattle.rsct_packet.specs.Providers.{among};
-ghost use Rattle.batch_rules.specs.Waiting.{nothing_waits, takes_failure, waits_failure, join_dropped};
-ghost use Rattle.batch_rules.specs.Next.{added_as, after_join, next_chosen, next_left};
+ghost use Rattle.rsct_packet.specs.Providers.{among, AreProviders};
+ghost use Rattle.batch_rules.specs.Waiting.{nothing_waits, takes_failure, waits_failure, join_dropped, next_failures, failures_left, next_joins, joins_left};
+ghost use Rattle.batch_rules.specs.Next.{is_duplicate, added_as, after_join, next_chosen, next_left};
 
 use crate::queue::{
     batches_failures, batches_joins, is_failing, is_instance_among, remove_join, take_next,
@@ -32,7 +32,8 @@ pub enum Chosen {
     Joins(ArrayVec<ProviderId, 64>),
 }
 
-/// The joins and the failures that wait, each oldest first and at most 64. It takes no memory and cannot fail.
+/// The joins and the failures that wait, each oldest first and at most 64; the joins differ. It takes no memory and
+/// cannot fail.
 #[derive(Drop)]
 pub struct Waiting {
     joins: ArrayVec<ProviderId, 64>,
@@ -40,11 +41,14 @@ pub struct Waiting {
 }
 
 impl Model for Waiting {
+    ghost use Rattle.rsct_packet.specs.Providers.{AreProviders};
     ghost use Rattle.batch_rules.specs.Waiting.{WaitingView};
 
     ghost Value = { WaitingView };
 
     ghost view = { λ w. record { joins = w.joins.items; failures = w.failures.items } };
+
+    ghost invariant = { λ w. AreProviders w.joins.items };
 }
 
 impl Waiting {
@@ -74,13 +78,20 @@ impl Waiting {
         self.failures.len()
     }
 
+    /// Is a provider with the node and instance number of this one present, or does one wait?
+    pub fn is_duplicate(&self, p: ProviderId, present: &[ProviderId]) -> bool
+        ensures { result ≡ is_duplicate p present.now self.now }
+    {
+        is_instance_among(present, p) || is_instance_among(self.joins.as_slice(), p)
+    }
+
     /// Puts a join at the end, unless a provider with its node and instance number is present or waits, or 64
     /// joins wait.
     pub fn add_join(&mut self, p: ProviderId, present: &[ProviderId]) -> Added
         ensures answer { result ≡ added_as p present.now self.old }
         ensures queue { self.new ≡ after_join p present.now self.old }
     {
-        if is_instance_among(present, p) || is_instance_among(self.joins.as_slice(), p) {
+        if self.is_duplicate(p, present) {
             return Added::DuplicateInstance;
         }
         if self.joins.is_full() {
@@ -113,6 +124,23 @@ impl Waiting {
         waits
     }
 
+    /// Takes out the failures that begin next: all of them where the batch control has them, else the oldest.
+    pub fn next_failures(&mut self, batch: Batch) -> ArrayVec<Failure, 64>
+        ensures taken { result.items ≡ next_failures batch self.old }
+        ensures queue { self.new ≡ failures_left batch self.old }
+    {
+        take_next(&mut self.failures, batches_failures(batch))
+    }
+
+    /// Takes out the joins that begin next: all of them where the batch control has them, else the oldest.
+    pub fn next_joins(&mut self, batch: Batch) -> ArrayVec<ProviderId, 64>
+        ensures taken { result.items ≡ next_joins batch self.old }
+        ensures apart { AreProviders (next_joins batch self.old) }
+        ensures queue { self.new ≡ joins_left batch self.old }
+    {
+        take_next(&mut self.joins, batches_joins(batch))
+    }
+
     /// Takes out what begins next: failures before joins, all of them where the batch control has them, else
     /// the oldest. `None` exactly where nothing waits.
     pub fn next(&mut self, batch: Batch) -> Option<Chosen>
@@ -120,10 +148,10 @@ impl Waiting {
         ensures queue { self.new ≡ next_left batch self.old }
     {
         if !self.failures.is_empty() {
-            return Some(Chosen::Failures(take_next(&mut self.failures, batches_failures(batch))));
+            return Some(Chosen::Failures(self.next_failures(batch)));
         }
         if !self.joins.is_empty() {
-            return Some(Chosen::Joins(take_next(&mut self.joins, batches_joins(batch))));
+            return Some(Chosen::Joins(self.next_joins(batch)));
         }
         None
     }

@@ -8,4 +8,5 @@ mod sessions;
 
 pub use clients::{hand_entry_on, tell_at};
 pub use laws::scripted_clients_fill_their_scripts;
-pub use sessions::Sessions;
+pub use reads::{client_token, member_token, sub_token};
+pub use sessions::{Sessions, close_session, open_session};

@@ -9,7 +9,7 @@ use crate::sessions::Sessions;
 use client_callbacks::Callbacks;
 use proposal_core::GroupState;
 use rsct_packet::{NoMemory, ProviderId};
-use session_state::{KeptBallot, MemberToken, Provider, Request, Session};
+use session_state::{KeptBallot, MemberToken, Provider, Request, Session, SessionState};
 use std::alloc::Global;
 use subscribe_core::{ClientToken, SubToken, Subscription, Tokens};
 
@@ -52,6 +52,39 @@ fn subscription_of<'a>(
 {
     rows.iter()
         .find(|x| x.client == t && x.group.as_slice() == g)
+}
+
+/// The token of the live session of a name; 0 where there is none.
+#[tactic(auto, unfolding(session_state::specs::State::client_token))]
+pub fn client_token(sessions: &SessionState, name: &[u8]) -> ClientToken
+    ensures { result ≡ client_token sessions.now name.now }
+{
+    match session_named(sessions.sessions.as_slice(), name) {
+        None => ClientToken { n: 0 },
+        Some(x) => x.token,
+    }
+}
+
+/// The token of a client's provider of a group; 0 where there is none.
+#[tactic(auto, unfolding(session_state::specs::State::member_token))]
+pub fn member_token(sessions: &SessionState, t: ClientToken, g: &[u8]) -> MemberToken
+    ensures { result ≡ member_token sessions.now t g.now }
+{
+    match provider_in(sessions.providers.as_slice(), t, g) {
+        None => MemberToken { n: 0 },
+        Some(x) => MemberToken { n: x.p.join },
+    }
+}
+
+/// The token of a client's subscription to a group; 0 where there is none.
+#[tactic(auto, unfolding(session_state::specs::State::sub_token))]
+pub fn sub_token(sessions: &SessionState, t: ClientToken, g: &[u8]) -> SubToken
+    ensures { result ≡ sub_token sessions.now t g.now }
+{
+    match subscription_of(sessions.subs.live(), t, g) {
+        None => SubToken { n: 0 },
+        Some(x) => x.token,
+    }
 }
 
 impl<C: Callbacks> Sessions<C> {
@@ -114,36 +147,24 @@ impl<C: Callbacks> Sessions<C> {
     }
 
     /// The token of the live session of this name; 0 where there is none.
-    #[tactic(auto, unfolding(session_state::specs::State::client_token))]
     pub fn client_token(&self, name: &[u8]) -> ClientToken
         ensures { result ≡ client_token self.now.state name.now }
     {
-        match session_named(self.state().sessions.as_slice(), name) {
-            None => ClientToken { n: 0 },
-            Some(x) => x.token,
-        }
+        client_token(self.state(), name)
     }
 
     /// The token of the client's provider of the group; 0 where there is none.
-    #[tactic(auto, unfolding(session_state::specs::State::member_token))]
     pub fn member_token(&self, t: ClientToken, g: &[u8]) -> MemberToken
         ensures { result ≡ member_token self.now.state t g.now }
     {
-        match provider_in(self.state().providers.as_slice(), t, g) {
-            None => MemberToken { n: 0 },
-            Some(x) => MemberToken { n: x.p.join },
-        }
+        member_token(self.state(), t, g)
     }
 
     /// The token of the client's subscription to the group; 0 where there is none.
-    #[tactic(auto, unfolding(session_state::specs::State::sub_token))]
     pub fn sub_token(&self, t: ClientToken, g: &[u8]) -> SubToken
         ensures { result ≡ sub_token self.now.state t g.now }
     {
-        match subscription_of(self.state().subs.live(), t, g) {
-            None => SubToken { n: 0 },
-            Some(x) => x.token,
-        }
+        sub_token(self.state(), t, g)
     }
 
     /// The name of a live client.

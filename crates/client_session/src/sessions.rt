@@ -41,7 +41,7 @@ impl<C: Callbacks> Model for Sessions<C> {
 
 /// Adds a session with its client.
 #[tactic(auto, unfolding(session_state::specs::Calls::inited, session_state::specs::Calls::session_added))]
-fn open_session<C: Callbacks>(
+pub fn open_session<C: Callbacks>(
     state: &mut SessionState,
     clients: &mut Vec<C>,
     alloc: Global,
@@ -81,7 +81,7 @@ fn drop_at<C: Callbacks>(clients: &mut Vec<C>, place: Option<usize>)
 
 /// Ends a session, and drops its client.
 #[tactic(auto, unfolding(session_state::specs::Calls::goodbye_taken), using(crate::proofs::Standing::removed_alike))]
-fn close_session<C: Callbacks>(
+pub fn close_session<C: Callbacks>(
     state: &mut SessionState,
     clients: &mut Vec<C>,
     t: ClientToken,

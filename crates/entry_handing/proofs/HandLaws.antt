@@ -62,11 +62,11 @@ questions n s e after (p ∷ ps) [] = []
 questions n s e after (p ∷ ps) (b ∷ bs) =
     record { place = n; sessions = s; entry = e; after = after; p = p; filled = b } ∷ questions (n + records_of_notice (answer_if (asks e after p) b)) s e after ps bs
 
-questions_filled : (scripts : List (Option (List (Option VoteItem)))) (n : ℕ) (s : SessionState) (e : Entry) (after : GroupState) (ps : List ProviderId) (bs : List (Option Filled)) → Fillings scripts s e after ps bs → AreFilled scripts (questions n s e after ps bs)
+questions_filled : (scripts : List (Option (List (Option VoteItem)))) (n : ℕ) (s : SessionState) (e : Entry) (after : GroupState) (ps : List ProviderId) (bs : List (Option Filled)) → Fillings scripts s e after ps bs → AreFilled scripts s.sessions (questions n s e after ps bs)
 unfolding questions
 questions_filled scripts n s e after [] bs h = tt
 questions_filled scripts n s e after (p ∷ ps) [] h = tt
-questions_filled scripts n s e after (p ∷ ps) (b ∷ bs) h = (h.0, questions_filled scripts (n + records_of_notice (answer_if (asks e after p) b)) s e after ps bs h.1)
+questions_filled scripts n s e after (p ∷ ps) (b ∷ bs) h = (refl, (h.0, questions_filled scripts (n + records_of_notice (answer_if (asks e after p) b)) s e after ps bs h.1))
 
 -- a notice has as many records as are counted for it
 count_head : (votes : Bool) (run : Option Running) (level : ℕ) (v : ViewId) (g : List ℕ) (i : ℕ) (e : Entry) (after : GroupState) (p : ProviderId) (b : Option Filled) → (votes ≡ true → is_some run ≡ true)
@@ -253,10 +253,10 @@ comes_to s t u w v to g i before after e x cs view sessions handing noting sendi
     ∙ ap (λ (z : Core). casts_sent z g to cs) (noting ∙ (ap (λ (z : Core). noted z g i before after) first ∙ noted_aside (recorded_all s rs) y g i before after same))
 
 pub handed_does : (scripts : List (Option (List (Option VoteItem)))) (s t u w : Core) (v : ViewId) (to : Option ℕ) (g : List ℕ) (i : ℕ) (before after : GroupState) (e : Entry) (bs : List (Option Filled)) (cs : List Cast)
-    → v ≡ s.views.view → Fillings scripts s.sessions e after (hearers s.sessions g before e) bs → cs ≡ casts_out s.sessions g before after e bs
+    → v ≡ s.views.view → SameSessions s.sessions t.sessions → Fillings scripts s.sessions e after (hearers s.sessions g before e) bs → cs ≡ casts_out s.sessions g before after e bs
     → t ≡ recorded_all (with_sessions s (session.handed_on s.sessions g before after e bs)) (flat_map (heard_in v g i e after) cs)
     → u ≡ noted t g i before after → w ≡ casts_sent u g to cs → Does scripts s w (λ f. handed_on f s to g i before after e)
-handed_does scripts s t u w v to g i before after e bs cs view fillings casting handing noting sending =
+handed_does scripts s t u w v to g i before after e bs cs view same fillings casting handing noting sending =
     let casts : cs ≡ casts_of e after s.sessions.level (hearers s.sessions g before e) bs = casting ∙ out_as s.sessions g before after e bs in
     let sessions : session.handed_on s.sessions g before after e bs ≡ sessions_with s.sessions g before after e cs = sessions_as s.sessions g before after e bs ∙ ap (sessions_with s.sessions g before after e) (sym casting) in
     let made : w ≡ handed_with s to g i before after e cs = comes_to s t u w v to g i before after e _ cs view sessions handing noting sending in
@@ -266,11 +266,14 @@ handed_does scripts s t u w v to g i before after e bs cs view fillings casting 
     let last : length u.records ≤ length w.records = beside_grows u w (beside_as u (casts_sent u g to cs) w sending (casts_sent_beside u g to cs)) in
     let upto : length t.records ≡ length s.records + length (flat_map (heard_in v g i e after) (casts_of e after s.sessions.level (hearers s.sessions g before e) bs)) =
     told ∙ ap (λ (xs : List Cast). length s.records + length (flat_map (heard_in v g i e after) xs)) casts in
+    let kept : u.sessions ≡ t.sessions = ap (λ (x : Core). x.sessions) noting ∙ noted_keeps t g i before after in
+    let beside : w.sessions ≡ u.sessions = (beside_as u (casts_sent u g to cs) w sending (casts_sent_beside u g to cs)).sessions in
     record {
       asked = questions (length s.records) s.sessions e after (hearers s.sessions g before e) bs;
       filled = questions_filled scripts (length s.records) s.sessions e after (hearers s.sessions g before e) bs fillings;
       placed = rise_upper (length s.records) (length t.records) (length w.records) _ (omega arith)
           (questions_placed scripts (length s.records) (length t.records) s.sessions.level v g i s.sessions e after (hearers s.sessions g before e) bs fillings upto);
+      lives = ap (λ (x : SessionState). x.sessions) beside ∙ (ap (λ (x : SessionState). x.sessions) kept ∙ same.0);
       does = λ f h.
           made
           ∙ (ap (handed_with s to g i before after e) (casts ∙ sym (casts_agree scripts f (length s.records) s.sessions s.sessions.level e after (hearers s.sessions g before e) bs fillings h))

@@ -7,6 +7,7 @@ use Rattle.proposal_core.specs.declared.group_state.GroupState.{GroupState}
 use Rattle.client_callbacks.specs.declared.ballot.Filled.{Filled}
 use Rattle.client_callbacks.specs.declared.votes.VoteItem.{VoteItem}
 use Rattle.client_callbacks.specs.Ballots.{is_level}
+use Rattle.session_state.specs.declared.state.Session.{Session}
 use Rattle.session_state.specs.declared.state.SessionState.{SessionState}
 use Rattle.session_state.specs.HandOn.{asks}
 use Rattle.client_session.specs.Notices.{Filling}
@@ -35,16 +36,22 @@ abbrev pub Rise : ℕ → ℕ → List Question → Type 0
 Rise low high [] = low ≤ high
 Rise low high (q ∷ qs) = (low ≤ q.place) × Rise (q.place + 1) high qs
 
--- each client fills what it may: what its items say, where it votes by items
-abbrev pub AreFilled : List (Option (List (Option VoteItem))) → List Question → Type 0
-AreFilled scripts [] = Unit {0}
-AreFilled scripts (q ∷ qs) = Filling scripts q.sessions q.entry q.after q.p q.filled × AreFilled scripts qs
+-- the clients are those of these sessions, and each fills what it may: what its items say, where it votes by items
+abbrev pub AreFilled : List (Option (List (Option VoteItem))) → List Session → List Question → Type 0
+AreFilled scripts lives [] = Unit {0}
+AreFilled scripts lives (q ∷ qs) = (q.sessions.sessions ≡ lives) × (Filling scripts q.sessions q.entry q.after q.p q.filled × AreFilled scripts lives qs)
+
+-- no record is lost, and the sessions are the same ones
+pub record Follows (s t : Core) : Type 0 where
+  pub grows : length s.records ≤ length t.records
+  pub lives : t.sessions.sessions ≡ s.sessions.sessions
 
 -- t is what the row makes of s, for all answers that agree with those of the clients, which vote by these scripts
 pub record Does (scripts : List (Option (List (Option VoteItem)))) (s t : Core) (row : Answering → Core) : Type 0 where
   pub asked : List Question
-  pub filled : AreFilled scripts asked
+  pub filled : AreFilled scripts s.sessions.sessions asked
   pub placed : Rise (length s.records) (length t.records) asked
+  pub lives : t.sessions.sessions ≡ s.sessions.sessions
   pub does : (f : Answering) → Agrees f asked → t ≡ row f
 
 -- as many clients as sessions, at a level that there is

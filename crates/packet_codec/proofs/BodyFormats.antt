@@ -169,9 +169,9 @@ pub packet_read_again : (p : Packet) → IsSpelled p → packet_of (bytes_of p) 
 unfolding packet_of bytes_of packet_text is_front
 packet_read_again p h =
     let view : PacketView = record { head = head_of p; level = p.level; domain = p.domain; body = body_text p.body } in
-    let passes : IsTrue (is_front (record { head = head_of p; level = p.level; body_len = length (body_text p.body) })) = rw (h.head, h.level) refl in
-    ap packet_in (packet_again view (record { front = record { passes = passes; inc = h.inc; body_len = h.short }; domain = h.domain }))
-    ∙ ap (option_map (with_body view)) (body_again p.body h.body)
+    let passes : IsTrue (is_front (record { head = head_of p; level = p.level; body_len = length (body_text p.body) })) = rw (h.writable.head, h.writable.level) refl in
+    ap packet_in (packet_again view (record { front = record { passes = passes; inc = h.writable.inc; body_len = h.short }; domain = h.writable.domain }))
+    ∙ ap (option_map (with_body view)) (body_again p.body h.writable.body)
 
 -- a packet's kind is one of 1 to 23
 pub has_kind : (p : PacketView) → IsPacket p → (1 ≤ p.head.kind) × (p.head.kind ≤ 23)

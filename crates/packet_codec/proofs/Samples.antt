@@ -23,10 +23,12 @@ nine = refl
 pub heartbeat_is_spelled : IsSpelled a_heartbeat
 unfolding is_head
 heartbeat_is_spelled = record {
-  head = refl;
-  level = refl;
-  inc = omega arith;
-  domain = refl;
-  body = record { number = omega arith; leader = (omega arith, omega arith); inc = omega arith };
+  writable = record {
+    head = refl;
+    level = refl;
+    inc = omega arith;
+    domain = refl;
+    body = record { number = omega arith; leader = (omega arith, omega arith); inc = omega arith };
+  };
   short = omega (arith, nine);
 }

@@ -64,11 +64,15 @@ IsBody (body.Gone v name p) = IsGone (record { group = record { view = v; name =
 IsBody (body.Query question what) = IsU32 question
 IsBody (body.Reply question text) = IsU32 question
 
--- a packet whose head and body have a spelling
-pub record IsSpelled (p : Packet) : Type 0 where
+-- a packet whose head and body have a spelling, of any length
+pub record IsWritable (p : Packet) : Type 0 where
   pub head : IsTrue (is_head (head_of p))
   pub level : IsTrue (is_level p.level (kind_of p.body))
   pub inc : IsU32 p.inc
   pub domain : DomainFits (p.level == 1) p.domain
   pub body : IsBody p.body
+
+-- a packet that has a spelling
+pub record IsSpelled (p : Packet) : Type 0 where
+  pub writable : IsWritable p
   pub short : IsU32 (length (body_text p.body))

@@ -10,7 +10,7 @@ mod writing;
 
 pub use laws::packets_are_read_again;
 pub use packet::{BodyRef, PacketRef};
-pub use writing::write_packet;
+pub use writing::{head_of, write_packet};
 
 #[cfg(test)]
 mod tests;

@@ -4,7 +4,7 @@ ghost use Rattle.rsct_packet.specs.Fields.{u8_text, bytes_text, AreShort};
 ghost use Rattle.rsct_packet.specs.Format.{OptionFits, optional_text};
 ghost use Rattle.node_state.specs.Bodies.{why_code, why_data_text, vote_number, kind_of, ring_kind, view_kind, ring_body_text, view_body_text, named_text, body_text};
 ghost use Rattle.node_state.specs.Bytes.{head_of, bytes_of};
-ghost use Rattle.packet_codec.specs.Spelled.{IsRingBody, IsViewBody, IsWhy, IsBody, IsSpelled};
+ghost use Rattle.packet_codec.specs.Spelled.{IsRingBody, IsViewBody, IsWhy, IsBody, IsWritable, IsSpelled};
 
 use adapter_ring::RingPacket;
 use client_callbacks::Why;
@@ -265,7 +265,8 @@ fn kind_of(body: &Body) -> u8
     }
 }
 
-fn head_of(p: &Packet) -> Head
+/// The head of a packet.
+pub fn head_of(p: &Packet) -> Head
     ensures { result ≡ head_of p.now }
 {
     Head {
@@ -280,11 +281,15 @@ fn head_of(p: &Packet) -> Head
 /// The spelling, in memory of its own.
 #[tactic(auto, unfolding(node_state::specs::Bytes::bytes_of))]
 fn spelled(alloc: Global, p: &Packet) -> Result<Vec<u8>, NoMemory>
-    requires { IsSpelled p.now }
-    ensures { IfOk result (λ v. v.items ≡ bytes_of p.now) }
+    requires { IsWritable p.now }
+    ensures bytes { IfOk result (λ v. v.items ≡ bytes_of p.now) }
+    ensures spelled { IfOk result (λ _. IsSpelled p.now) }
 {
     let mut body = Vec::new(alloc);
     put_body(alloc, &mut body, &p.body)?;
+    if body.len() > u32::MAX as usize {
+        return Err(NoMemory);
+    }
     let head = head_of(p);
     let mut out = Vec::new(alloc);
     if p.level == 1 {
@@ -297,10 +302,12 @@ fn spelled(alloc: Global, p: &Packet) -> Result<Vec<u8>, NoMemory>
 }
 
 /// Takes a packet's one spelling to the end of `out`, and leaves `out` as before where memory has run out. The packet
-/// must have a spelling: a head within its limits, and a body by the grammar of its kind.
+/// must have a head within its limits, and a body by the grammar of its kind; one whose body 32 bits cannot count
+/// counts as want of memory.
 pub fn write_packet(alloc: Global, out: &mut Vec<u8>, p: &Packet) -> Result<(), NoMemory>
-    requires { IsSpelled p.now }
+    requires { IsWritable p.now }
     ensures ok { OnOk result (out.new.items ≡ out.old.items ++ bytes_of p.now) }
+    ensures spelled { OnOk result (IsSpelled p.now) }
     ensures err { OnErr result (out.new.items ≡ out.old.items) }
 {
     let text = spelled(alloc, p)?;

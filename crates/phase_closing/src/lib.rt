@@ -12,7 +12,7 @@ mod tests {
     use crate::{closing_entry, is_phase};
     use batch_rules::Waiting;
     use group_attr::DefaultVote;
-    use node_state::Led;
+    use node_state::{Led, Table};
     use proposal_core::{Proposal, Running, Vote};
     use rsct_packet::{List, NoMemory, ProtoId, ProviderId, ViewId};
     use std::alloc::Global;
@@ -34,13 +34,17 @@ mod tests {
         let mut tally = Tally::new(&[provider()], DefaultVote::Approve, 0);
         let _ = tally.cast(provider(), Vote::Continue);
         Led {
-            acked: List::new(alloc),
+            acked: Table {
+                rows: Vec::new(alloc),
+            },
             waiting: Waiting::new(),
             join_attrs: List::new(alloc),
             tally: Some(tally),
             given: List::new(alloc),
             gone: List::new(alloc),
-            decided: List::new(alloc),
+            decided: Table {
+                rows: Vec::new(alloc),
+            },
         }
     }
 

@@ -3,7 +3,7 @@ use Rattle.std.specs.Prelude.{ℕ, Bool, true, false, ◌==◌, ◌&&◌, ◌+�
 use Rattle.std.specs.List.{list_any}
 use Rattle.rsct_packet.specs.declared.ids.ProviderId.{ProviderId}
 use Rattle.rsct_packet.specs.Ids.{last_u32}
-use Rattle.rsct_packet.specs.Providers.{same_provider}
+use Rattle.rsct_packet.specs.Providers.{same_provider, AreProviders}
 use Rattle.group_attr.specs.declared.attrs.DefaultVote.{DefaultVote}
 use Rattle.group_attr.specs.declared.attrs.DefaultVote.TheVariants as default_vote
 use Rattle.group_entry.specs.declared.entry.Vote.{Vote}
@@ -21,6 +21,10 @@ pub record TallyView : Type 0 where
   pub default_vote : DefaultVote
   pub limit : ℕ
   pub count : ℕ
+
+-- voters that differ, at most 64
+abbrev pub AreVoters : List Voter → Type 0
+AreVoters xs = AreProviders (map (λ x. x.p) xs)
 
 abbrev pub no_vote : ProviderId → Voter
 no_vote p = record { p = p; vote = None }

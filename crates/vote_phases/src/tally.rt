@@ -1,12 +1,16 @@
 //! The tally of one phase.
-ghost use Rattle.std.specs.Prelude.{◌≡◌, ◌≤◌, map, length, Some, None};
-ghost use Rattle.vote_phases.specs.Tally.{no_vote, tally_new, tally_cast, tally_fail, tally_tick, passes, counted, cast_answer, row_at, expires, outcome};
+ghost use Rattle.std.specs.Prelude.{◌≡◌, ◌≤◌, map, length, Some, None, IfOk};
+ghost use Rattle.rsct_packet.specs.Providers.{AreProviders};
+ghost use Rattle.vote_phases.specs.Tally.{no_vote, tally_new, tally_cast, tally_fail, tally_tick, passes, counted, cast_answer, row_at, expires, open_voters, outcome};
 
-use crate::voter::{Voter, give, give_all, is_one_open, one_continues, one_rejects, voter_of};
+use crate::voter::{
+    Voter, give, give_all, is_one_open, one_continues, one_rejects, open_among, voter_of,
+};
 use arrayvec::ArrayVec;
 use group_attr::DefaultVote;
 use proposal_core::{Row, RowVote, Vote};
-use rsct_packet::ProviderId;
+use rsct_packet::{NoMemory, ProviderId, Providers};
+use std::alloc::Global;
 use std::marker::Model;
 
 /// How many voters a phase has at most.
@@ -22,7 +26,7 @@ pub enum Cast {
 }
 
 /// The tally of one phase: its voters with what stands for each, the default vote, the time limit in ticks
-/// (0: none), and how many ticks it has counted.
+/// (0: none), and how many ticks it has counted. The voters differ.
 ///
 /// It takes no memory and cannot fail, so it keeps votes alone. Whoever leads keeps the values and messages
 /// of the ballots beside it, one for each vote that was `Recorded`, and takes the first of them in the order of
@@ -36,11 +40,13 @@ pub struct Tally {
 }
 
 impl Model for Tally {
-    ghost use Rattle.vote_phases.specs.Tally.{TallyView};
+    ghost use Rattle.vote_phases.specs.Tally.{TallyView, AreVoters};
 
     ghost Value = { TallyView };
 
     ghost view = { λ t. record { voters = t.voters.items; default_vote = t.default; limit = t.limit; count = t.count } };
+
+    ghost invariant = { λ t. AreVoters t.voters.items };
 }
 
 /// Providers that have not voted, in order.
@@ -64,9 +70,10 @@ fn passes(limit: u16, count: u32) -> bool
 }
 
 impl Tally {
-    /// The tally of these voters, at most 64, none of whom has voted.
+    /// The tally of these voters, at most 64 that differ, none of whom has voted.
+    #[tactic(auto, using(crate::proofs::VoterLaws::are_new, std::proofs::lemmas::Grind::common_steps))]
     pub fn new(voters: &[ProviderId], default: DefaultVote, limit: u16) -> Tally
-        requires { length voters.now ≤ 64 }
+        requires { AreProviders voters.now }
         ensures { result ≡ tally_new voters.now default limit }
     {
         Tally {
@@ -86,6 +93,7 @@ impl Tally {
     }
 
     /// Takes a vote, unless its provider does not vote or a row stands for it already.
+    #[tactic(auto, using(crate::proofs::VoterLaws::are_given_to, std::proofs::lemmas::Grind::common_steps))]
     pub fn cast(&mut self, p: ProviderId, vote: Vote) -> Cast
         ensures tally { self.new ≡ tally_cast p vote self.old }
         ensures answer { result ≡ cast_answer p self.old }
@@ -99,6 +107,7 @@ impl Tally {
     }
 
     /// The default vote stands for a provider that failed, unless it has voted.
+    #[tactic(auto, using(crate::proofs::VoterLaws::are_given_to, std::proofs::lemmas::Grind::common_steps))]
     pub fn fail(&mut self, p: ProviderId)
         ensures { self.new ≡ tally_fail p self.old }
     {
@@ -108,6 +117,7 @@ impl Tally {
 
     /// Counts a tick. The one that brings the count to the limit has the default vote stand for each voter
     /// that has not voted.
+    #[tactic(auto, using(crate::proofs::VoterLaws::are_given, std::proofs::lemmas::Grind::common_steps))]
     pub fn tick(&mut self)
         ensures { self.new ≡ tally_tick self.old }
     {
@@ -123,6 +133,14 @@ impl Tally {
         ensures { result ≡ expires self.now }
     {
         passes(self.limit, self.count) && is_one_open(self.voters.as_slice())
+    }
+
+    /// The voters that have not voted, in order.
+    pub fn open_voters(&self, alloc: Global) -> Result<Providers, NoMemory>
+        ensures { IfOk result (λ ps. ps ≡ open_voters self.now) }
+    {
+        let open = open_among(alloc, self.voters.as_slice())?;
+        Providers::of(alloc, open.as_slice())
     }
 
     /// The row of the voter at this place; none while it has none, and where no voter stands there.

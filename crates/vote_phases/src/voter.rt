@@ -1,12 +1,13 @@
 //! Voters, and what stands for them.
-ghost use Rattle.std.specs.Prelude.{◌≡◌, map, find, option_copied, Some};
+ghost use Rattle.std.specs.Prelude.{◌≡◌, map, filter, find, option_copied, Some, IfOk};
 ghost use Rattle.std.specs.List.{list_any};
 ghost use Rattle.vote_phases.specs.Tally.{given, given_to, is_voter, is_open, vote_of_default, vote_of_row as vote_of_row_of, row_in, answer_of, voter_stands, is_reject, is_continue};
 
 use crate::tally::Cast;
 use group_attr::DefaultVote;
 use proposal_core::{Row, RowVote, Vote};
-use rsct_packet::ProviderId;
+use rsct_packet::{NoMemory, ProviderId};
+use std::alloc::Global;
 
 /// A voter and what stands for it: none while it may still vote.
 #[derive(Clone, Copy, Debug, Default, PartialEq, Eq)]
@@ -127,6 +128,19 @@ pub(crate) fn is_one_open(voters: &[Voter]) -> bool
     ensures { result ≡ list_any is_open voters.now }
 {
     voters.iter().any(|x| x.is_open())
+}
+
+/// The voters without a row, in order.
+pub(crate) fn open_among(alloc: Global, voters: &[Voter]) -> Result<Vec<ProviderId>, NoMemory>
+    ensures { IfOk result (λ v. v.items ≡ map (λ x. x.p) (filter is_open voters.now)) }
+{
+    Ok(
+        voters
+            .iter()
+            .filter(|x| x.is_open())
+            .map(|x| x.p)
+            .collect(alloc)?,
+    )
 }
 
 /// Does any row stand for a rejection?

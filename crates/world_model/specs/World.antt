@@ -15,9 +15,9 @@ use Rattle.client_callbacks.specs.Ballots.{new_ballot}
 use Rattle.client_callbacks.specs.Handed.{voted_by}
 use Rattle.client_callbacks.specs.Votes.{votes_word}
 use Rattle.session_state.specs.declared.fault.GsFault.TheVariants.{NoInit}
-use Rattle.session_state.specs.declared.state.Provider.{Provider}
+use Rattle.session_state.specs.declared.state.Session.{Session}
 use Rattle.session_state.specs.declared.state.SessionState.{SessionState}
-use Rattle.session_state.specs.State.{provider_of}
+use Rattle.session_state.specs.State.{place_of}
 use Rattle.node_state.specs.declared.call.CallLine.{CallLine}
 use Rattle.node_state.specs.declared.call.CallLine.TheVariants.{Init}
 use Rattle.node_state.specs.declared.config.Config.{Config}
@@ -42,13 +42,21 @@ pub record Script : Type 0 where
   pub token : ClientToken
   pub items : List (Option VoteItem)
 
-unfoldable pub items_of : List Script → Option Provider → List (Option VoteItem)
-items_of scripts None = []
-items_of scripts (Some x) = unwrap_or (option_map (λ (y : Script). y.items) (find (λ (y : Script). y.token.n == x.client.n) scripts)) []
+abbrev pub items_in : List Script → Option Session → List (Option VoteItem)
+items_in scripts None = []
+items_in scripts (Some x) = unwrap_or (option_map (λ (y : Script). y.items) (find (λ (y : Script). y.token.n == x.token.n) scripts)) []
+
+abbrev pub session_at : SessionState → Option ℕ → Option Session
+session_at s None = None
+session_at s (Some i) = slice_get s.sessions i
+
+-- how the client of a provider votes, whose session is live
+unfoldable pub items_of : List Script → SessionState → ProviderId → List (Option VoteItem)
+items_of scripts s p = items_in scripts (session_at s (place_of s p))
 
 -- a client fills its ballot with the item of the phase
 unfoldable pub by_scripts : List Script → ℕ → SessionState → Entry → GroupState → ProviderId → Option Filled
-by_scripts scripts n s e after p = (voted_by (items_of scripts (provider_of s p)) after (new_ballot true s.level)).filled
+by_scripts scripts n s e after p = (voted_by (items_of scripts s p) after (new_ballot true s.level)).filled
 
 -- ---- the world
 
