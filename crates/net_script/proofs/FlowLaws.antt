@@ -1,11 +1,11 @@
 -- A flow goes on packet by packet.
 use Rattle.std.proofs.Common.{◌≡◌, ℕ, zero, suc, ◌+◌, ◌-◌, ◌<◌, ◌≤◌, true, false, List, [], ◌∷◌, ◌++◌, Option, Some, None, refl, sym, ◌∙◌, ap, arith, append_assoc, append-nil}
-use Rattle.std.specs.Prelude.{is_some, flat_map}
+use Rattle.std.specs.Prelude.{is_some}
 use Rattle.node_state.specs.declared.packet.Packet.{Packet}
 use Rattle.node_state.specs.declared.happened.Happened.{Happened}
 use Rattle.world_model.specs.declared.one_node.OneNodeWorld.{OneNodeWorld}
 use Rattle.world_model.specs.Run.{Run, trace_of}
-use Rattle.world_model.specs.OneNode.{next_packet, delivered, delivery, delivered_next, delivery_next, flows, flow_run}
+use Rattle.world_model.specs.OneNode.{next_packet, delivered_next, delivery_next, flows, flow_run}
 
 flows_some : (k : ℕ) (w : OneNodeWorld) (o : Option Packet) → next_packet w ≡ o → is_some o ≡ true → flows (suc k) w ≡ flows k (delivered_next w o)
 unfolding flows

@@ -1,5 +1,5 @@
 -- Reading goes on line by line.
-use Rattle.std.proofs.Common.{◌≡◌, ℕ, ◌<◌, ◌==◌, Bool, true, false, List, [], ◌∷◌, length, Option, Some, None, refl, sym, ◌∙◌, ap, arith, if◌then◌else◌}
+use Rattle.std.proofs.Common.{◌≡◌, ℕ, ◌<◌, ◌==◌, Bool, true, false, List, [], ◌∷◌, length, Option, Some, refl, sym, ◌∙◌, ap, arith, if◌then◌else◌}
 use Rattle.world_model.specs.declared.one_node.OneNodeScript.{OneNodeScript}
 use Rattle.world_model.specs.Pieces.{pieces, onto_first}
 use Rattle.world_model.specs.OneNodeScript.{◌>>=◌, line_read, ended, read_pieces}

@@ -4,7 +4,6 @@
 mod playing;
 mod reading;
 mod transcript;
-mod wording;
 mod words;
 mod world;
 

@@ -2,13 +2,12 @@
 ghost use Rattle.std.specs.Prelude.{◌≡◌, IsTrue, IfOk, OnOk};
 ghost use Rattle.net_script.specs.declared.reading.ReadFault.TheVariants as read_fault;
 ghost use Rattle.net_script.specs.Reading.{GivesRead};
-ghost use Rattle.std.specs.List.{list_all, list_any};
-ghost use Rattle.rsct_packet.specs.Text.{name_byte};
+ghost use Rattle.std.specs.List.{list_any};
 ghost use Rattle.world_model.specs.Pieces.{words_of};
 ghost use Rattle.world_model.specs.OneNodeScript.{no_script, equals, is_mode_line, is_node_line, is_begin_line, is_flow_line, is_show_line, is_client_line, is_join_line, is_client_name, is_open_group, is_known, has_room, with_group, event_added, client_read, join_read, event_read, next_if, read_by, line_read, may_end, ended, script_of};
 
 use crate::words::{Words, cut_at, number_of};
-use rsct_packet::{List, Name, NoMemory, is_name};
+use rsct_packet::{List, Name, NoMemory, are_name_bytes, is_name};
 use std::alloc::Global;
 use world_model::{Awaited, OneNodeLine, OneNodeScript};
 

@@ -1,21 +1,20 @@
 //! The line of each record.
 ghost use Rattle.std.specs.Prelude.{◌≡◌, ◌++◌, ◌∷◌, [], ◌==◌, OnOk, codes, decimal, flat_map, length, IfOk, OnErr};
-ghost use Rattle.node_state.specs.Wording.{word, nodes_text};
-ghost use Rattle.rsct_packet.specs.Mask.{nodes_of};
+ghost use Rattle.node_state.specs.Wording.{word};
 ghost use Rattle.world_model.specs.Text.{value_option_text, phases_text, batch_text, default_text, limit_text, source_text, source_phases_text, source_limit_text, attrs_text, source_len_text, cause_text, failure_text, asker_text, proposal_text, vote_text, default_letter, row_vote_text, row_text, phase_text, closed_text, entry_text, what_text, running_text, why_text, field_text, attr_fault_text, fault_text, place_option_text, cast_value_text, place_text, state_text, note_text, client_text, record_text, line_of};
 ghost use Rattle.node_state.specs.Wording.{joined};
 
-use crate::wording::{
-    kind_of, put_counted, put_labelled, put_members, put_nodes, put_number, put_number_word,
-    put_proto, put_provider, put_provider_word, put_providers, put_providers_word, put_ring_word,
-    put_text, put_value, put_view, put_view_word, put_word,
-};
 use client_callbacks::{Told, Why};
 use group_attr::{AttrFault, Attrs, Batch, DefaultVote, Phases};
 use node_state::Happened;
 use proposal_core::{Cause, Closed, Entry, Failure, Proposal, Row, RowVote, Running, Vote};
-use rsct_packet::{Mask, Name, NoMemory, ProtoId, ProviderId, Text, ViewId};
+use rsct_packet::{Name, NoMemory, ProtoId, ProviderId, Text, ViewId};
 use session_state::{Field, GsFault};
+use status_lines::{
+    kind_of, put_counted, put_labelled, put_mask_word, put_members, put_number, put_number_word,
+    put_proto, put_provider, put_provider_word, put_providers, put_providers_word, put_ring_word,
+    put_text, put_value, put_view, put_view_word, put_word,
+};
 use std::alloc::Global;
 
 #[tactic(auto, unfolding(world_model::specs::Text::value_option_text))]
@@ -569,16 +568,6 @@ fn put_client(alloc: Global, out: &mut Vec<u8>, node: u8, client: &[u8]) -> Resu
     put_number(alloc, out, u32::from(node))?;
     put_text(out, b".")?;
     put_word(out, client)
-}
-
-/// The nodes of a set, ascending, and a space.
-#[tactic(auto, unfolding(node_state::specs::Wording::word))]
-fn put_mask_word(alloc: Global, out: &mut Vec<u8>, nodes: Mask) -> Result<(), NoMemory>
-    ensures { OnOk result (out.new.items ≡ out.old.items ++ word (nodes_text (nodes_of nodes))) }
-{
-    let nodes = nodes.nodes(alloc)?;
-    put_nodes(alloc, out, nodes.as_slice())?;
-    put_text(out, b" ")
 }
 
 #[tactic(auto, unfolding(world_model::specs::Text::record_text, node_state::specs::Wording::word))]

@@ -5,12 +5,12 @@ ghost use Rattle.node_core.specs.Step.{init_row, join_row};
 ghost use Rattle.world_model.specs.Run.{trace_of};
 ghost use Rattle.world_model.specs.OneNode.{group_line, group_shown, groups_shown, after_step, next_packet, delivered_next, delivery_next, flows, flow_run, flow_limit, line_world, line_run, first_world, first_records};
 
-use crate::wording::{
-    put_count_word, put_escaped, put_number_word, put_providers_word, put_text, put_word,
-};
 use node_core::{Core, GroupRow};
 use node_state::{Happened, Records};
 use rsct_packet::{List, Name, NoMemory};
+use status_lines::{
+    put_count_word, put_escaped, put_number_word, put_providers_word, put_text, put_word,
+};
 use std::alloc::Global;
 use world_model::{OneNodeLine, OneNodeWorld};
 

@@ -1,9 +1,10 @@
 //! How ids, values and kinds are written.
 ghost use Rattle.std.specs.Prelude.{◌≡◌, ◌++◌, ◌<◌, OnOk, codes, flat_map, decimal};
+ghost use Rattle.rsct_packet.specs.Mask.{nodes_of};
 ghost use Rattle.node_state.specs.Wording.{word, view_text, provider_text, ring_text, proto_text, member_text, joined, nodes_text, members_text, providers_text, hex_digit, byte_text, escaped, value_text, kind_text};
 
 use proposal_core::Proposal;
-use rsct_packet::{Member, NoMemory, ProtoId, ProviderId, RingId, ViewId};
+use rsct_packet::{Mask, Member, NoMemory, ProtoId, ProviderId, RingId, ViewId};
 use std::alloc::Global;
 
 /// These bytes at the end; and likewise below.
@@ -124,6 +125,14 @@ pub fn put_proto(alloc: Global, out: &mut Vec<u8>, p: ProtoId) -> Result<(), NoM
     put_number(alloc, out, p.place)
 }
 
+#[tactic(auto, unfolding(node_state::specs::Wording::word))]
+pub fn put_proto_word(alloc: Global, out: &mut Vec<u8>, p: ProtoId) -> Result<(), NoMemory>
+    ensures { OnOk result (out.new.items ≡ out.old.items ++ word (proto_text p)) }
+{
+    put_proto(alloc, out, p)?;
+    put_text(out, b" ")
+}
+
 #[tactic(auto, unfolding(node_state::specs::Wording::member_text))]
 fn put_member(alloc: Global, out: &mut Vec<u8>, m: Member) -> Result<(), NoMemory>
     ensures { OnOk result (out.new.items ≡ out.old.items ++ member_text m) }
@@ -146,7 +155,7 @@ fn put_more_nodes(alloc: Global, out: &mut Vec<u8>, ns: &[u8]) -> Result<(), NoM
 
 /// Nodes between commas, `-` for none.
 #[tactic(auto, unfolding(node_state::specs::Wording::nodes_text, node_state::specs::Wording::joined))]
-pub fn put_nodes(alloc: Global, out: &mut Vec<u8>, ns: &[u8]) -> Result<(), NoMemory>
+fn put_nodes(alloc: Global, out: &mut Vec<u8>, ns: &[u8]) -> Result<(), NoMemory>
     ensures { OnOk result (out.new.items ≡ out.old.items ++ nodes_text ns.now) }
 {
     match ns {
@@ -156,6 +165,16 @@ pub fn put_nodes(alloc: Global, out: &mut Vec<u8>, ns: &[u8]) -> Result<(), NoMe
             put_more_nodes(alloc, out, others)
         }
     }
+}
+
+/// The nodes of a set, ascending, and a space.
+#[tactic(auto, unfolding(node_state::specs::Wording::word))]
+pub fn put_mask_word(alloc: Global, out: &mut Vec<u8>, nodes: Mask) -> Result<(), NoMemory>
+    ensures { OnOk result (out.new.items ≡ out.old.items ++ word (nodes_text (nodes_of nodes))) }
+{
+    let nodes = nodes.nodes(alloc)?;
+    put_nodes(alloc, out, nodes.as_slice())?;
+    put_text(out, b" ")
 }
 
 /// Members of a view, each behind a comma.
@@ -181,6 +200,14 @@ pub fn put_members(alloc: Global, out: &mut Vec<u8>, ms: &[Member]) -> Result<()
             put_more_members(alloc, out, others)
         }
     }
+}
+
+#[tactic(auto, unfolding(node_state::specs::Wording::word))]
+pub fn put_members_word(alloc: Global, out: &mut Vec<u8>, ms: &[Member]) -> Result<(), NoMemory>
+    ensures { OnOk result (out.new.items ≡ out.old.items ++ word (members_text ms.now)) }
+{
+    put_members(alloc, out, ms)?;
+    put_text(out, b" ")
 }
 
 /// Providers, each behind a comma.
