@@ -1,0 +1,55 @@
+-- Where the row of a group stands among rows in name order.
+use Rattle.std.specs.Prelude.{◌≡◌, ℕ, Bool, true, false, ◌==◌, ◌||◌, List, [], ◌∷◌, map, filter, Option, Some, None}
+use Rattle.std.specs.Str.{bytes_eq}
+use Rattle.rsct_packet.specs.declared.ids.ProviderId.{ProviderId}
+use Rattle.rsct_packet.specs.Providers.{same_provider}
+use Rattle.rsct_packet.specs.Text.{name_lt}
+use Rattle.node_state.specs.declared.group.Acked.{Acked}
+use Rattle.node_state.specs.declared.group.Decision.{Decision}
+use Rattle.node_state.specs.declared.group.GroupRow.{GroupRow}
+use Rattle.node_state.specs.declared.group.JoinAttrs.{JoinAttrs}
+use Rattle.node_state.specs.declared.group.Led.{Led}
+use Rattle.node_state.specs.declared.state.Core.{Core}
+use Rattle.node_state.specs.State.{nothing_led, rows_with, leads_in}
+
+abbrev pub has_name : List ℕ → GroupRow → Bool
+has_name g row = bytes_eq row.name g
+
+-- it has the name, or comes after it
+abbrev pub stops_at : List ℕ → GroupRow → Bool
+stops_at g row = bytes_eq row.name g || name_lt g row.name
+
+abbrev pub is_row_of : List ℕ → Option GroupRow → Bool
+is_row_of g None = false
+is_row_of g (Some row) = bytes_eq row.name g
+
+-- with an empty row where the group has none
+unfoldable pub row_opened : List ℕ → List GroupRow → List GroupRow
+row_opened g rows = rows_with g (λ row. row) rows
+
+-- each row comes after the name
+abbrev pub AllAfter : List ℕ → List GroupRow → Type 0
+AllAfter g [] = Unit {0}
+AllAfter g (row ∷ rows) = (name_lt g row.name ≡ true) × AllAfter g rows
+
+abbrev pub InNameOrder : List GroupRow → Type 0
+InNameOrder [] = Unit {0}
+InNameOrder (row ∷ rows) = AllAfter row.name rows × InNameOrder rows
+
+abbrev pub is_acked_by : ℕ → Acked → Bool
+is_acked_by n a = a.node == n
+
+abbrev pub is_decision_on : ProviderId → Decision → Bool
+is_decision_on p d = same_provider d.p p
+
+abbrev pub are_attrs_of : ProviderId → JoinAttrs → Bool
+are_attrs_of p j = same_provider j.p p
+
+-- nothing is led of a group that has no row
+abbrev pub led_or_nothing : Option Led → Led
+led_or_nothing None = nothing_led
+led_or_nothing (Some l) = l
+
+-- the names of the groups of these rows that the node leads
+abbrev pub names_led : Core → List GroupRow → List (List ℕ)
+names_led s rows = map (λ (row : GroupRow). row.name) (filter (leads_in s) rows)

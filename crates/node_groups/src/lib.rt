@@ -1,0 +1,58 @@
+//! What a node has of its groups: the table of their rows, and what is read and changed in it.
+#![tactic(auto)]
+
+mod changes;
+mod edits;
+mod led;
+mod places;
+mod reads;
+mod row;
+mod tables;
+
+pub use changes::{
+    cast_vote, drop_join, fail_voter, forget_below, forget_least, keep_decision, mark_gone,
+    note_acked, open_tally, put, set_leader, set_tally, tick_tally, wait_failure,
+};
+pub use led::{
+    decision_of, gone_of, is_gone, join_attrs_of, led_of, tally_of, waiting_failures, waiting_joins,
+};
+pub use places::{open, row_of};
+pub use reads::{
+    acked_by, fits_at_end, held_count, holds, leader_in, leader_of, leads, leads_in, least_acked,
+    led_groups, len_of, list_of, state_of,
+};
+pub use row::new_row;
+pub use tables::decision_on;
+
+#[cfg(test)]
+mod tests {
+    use crate::{open, row_of};
+    use node_state::{Groups, Table};
+    use rsct_packet::Name;
+    use std::alloc::Global;
+    use std::process::Abort;
+
+    fn named(rt: &impl Abort, alloc: Global, bytes: &[u8]) -> Name {
+        Name::of(alloc, bytes)
+            .expect(rt, "memory")
+            .expect(rt, "a name")
+    }
+
+    fn opened(rt: &impl Abort, groups: &mut Groups, alloc: Global, bytes: &[u8]) -> usize {
+        let name = named(rt, alloc, bytes);
+        open(groups, alloc, &name).expect(rt, "memory")
+    }
+
+    #[test]
+    fn rows_stand_in_name_order(rt: HostRuntime) {
+        let alloc = rt.alloc();
+        let mut groups = Table {
+            rows: Vec::new(alloc),
+        };
+        assert_eq!(rt; opened(&rt, &mut groups, alloc, b"db"), 0);
+        assert_eq!(rt; opened(&rt, &mut groups, alloc, b"app"), 0);
+        assert_eq!(rt; opened(&rt, &mut groups, alloc, b"db"), 1);
+        assert!(rt; row_of(&groups, b"app").is_some());
+        assert!(rt; row_of(&groups, b"web").is_none());
+    }
+}

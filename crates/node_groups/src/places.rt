@@ -1,0 +1,61 @@
+//! Where the rows of groups stand, in the order of their names.
+ghost use Rattle.std.specs.Prelude.{◌≡◌, ◌≤◌, length, IfOk, OnOk, find, slice_get, option_copied};
+ghost use Rattle.rsct_packet.specs.Search.{front_len};
+ghost use Rattle.node_groups.specs.Places.{has_name, stops_at, is_row_of, row_opened};
+
+use crate::row::new_row;
+use node_state::{GroupRow, Groups};
+use rsct_packet::{Name, NoMemory};
+use std::alloc::Global;
+
+/// Has the row this name, or does it come after it?
+fn stops_at(name: &[u8], row: &GroupRow) -> bool
+    ensures { result ≡ stops_at name.now row.now }
+{
+    row.name.bytes() == name || name.cmp(row.name.bytes()).is_lt()
+}
+
+/// How many rows stand before a name.
+#[tactic(auto, using(rsct_packet::proofs::SearchLaws::front_begins, rsct_packet::proofs::SearchLaws::front_goes_on, rsct_packet::proofs::SearchLaws::front_found, rsct_packet::proofs::SearchLaws::front_missing, rsct_packet::proofs::SearchLaws::front_is_in))]
+fn front(rows: &[GroupRow], name: &[u8]) -> usize
+    ensures value { result ≡ front_len (stops_at name.now) rows.now }
+    ensures within { result ≤ length rows.now }
+{
+    for (i, row) in rows.iter().enumerate() {
+        if stops_at(name, row) {
+            return i;
+        }
+    }
+    rows.len()
+}
+
+/// Does the row of this name stand at this place?
+fn is_row_at(rows: &[GroupRow], i: usize, name: &[u8]) -> bool
+    ensures { result ≡ is_row_of name.now (slice_get rows.now i) }
+{
+    match rows.get(i) {
+        None => false,
+        Some(row) => row.name.bytes() == name,
+    }
+}
+
+/// The row of a group, where it has one.
+pub fn row_of<'a>(groups: &'a Groups, name: &[u8]) -> Option<&'a GroupRow>
+    ensures { option_copied result ≡ find (has_name name.now) groups.now }
+{
+    groups.rows.iter().find(|row| row.name.bytes() == name)
+}
+
+/// The place of the group's row, which is made where there is none.
+#[tactic(auto, using(crate::proofs::RowLaws::opens_found, crate::proofs::RowLaws::opens_missing))]
+pub fn open(groups: &mut Groups, alloc: Global, name: &Name) -> Result<usize, NoMemory>
+    ensures place { IfOk result (λ i. i ≡ front_len (stops_at name.now) groups.old) }
+    ensures rows { OnOk result (groups.new ≡ row_opened name.now groups.old) }
+{
+    let i = front(groups.rows.as_slice(), name.bytes());
+    if !is_row_at(groups.rows.as_slice(), i, name.bytes()) {
+        let row = new_row(alloc, name)?;
+        groups.rows.insert(i, row)?;
+    }
+    Ok(i)
+}

@@ -1,0 +1,245 @@
+//! The row of a group.
+ghost use Rattle.std.specs.Prelude.{◌≡◌, [], IfOk, OnOk, IsTrue, Some, None};
+ghost use Rattle.batch_rules.specs.Waiting.{waits_failure, join_dropped};
+ghost use Rattle.proposal_core.specs.Fold.{joiners_fit};
+ghost use Rattle.proposal_core.specs.Lists.{list_or_new, state_in, len_in, entry_fits, with_entry};
+ghost use Rattle.node_state.specs.State.{nothing_led, new_row, list_forgotten, acked_raised, decisions_with};
+ghost use Rattle.node_state.specs.Following.{marked, given_with, vote_cast};
+ghost use Rattle.node_state.specs.Ticks.{ticked_in};
+ghost use Rattle.std.specs.Option.{option_map};
+ghost use Rattle.vote_phases.specs.Tally.{tally_fail};
+
+use crate::tables::{self, raise_acked};
+use batch_rules::Waiting;
+use node_state::{Decision, Given, GroupRow, Led, Table};
+use proposal_core::{Cause, Entry, GroupList, GroupState, Vote};
+use rsct_packet::{List, Name, NoMemory, ProviderId, Text, ViewId, is_among};
+use std::alloc::Global;
+use vote_phases::{Cast, Tally};
+
+/// The provider is marked, once.
+#[tactic(auto, unfolding(node_state::specs::Following::marked))]
+fn mark(list: &mut List<ProviderId>, p: ProviderId) -> Result<(), NoMemory>
+    ensures { OnOk result (list.new ≡ marked list.old p) }
+{
+    if is_among(list.as_slice(), p) {
+        return Ok(());
+    }
+    list.push(p)
+}
+
+/// Does the entry fit at the end of a new list?
+#[tactic(auto, unfolding(proposal_core::specs::Lists::entry_fits, proposal_core::specs::Fold::joiners_fit, proposal_core::specs::Fold::joiners_fit_at))]
+pub fn fits_in_new(alloc: Global, e: &Entry) -> bool
+    ensures { result ≡ entry_fits (list_or_new None) e.now }
+{
+    let list = GroupList::new(alloc, GroupState::empty(alloc));
+    list.state().fits(e) && list.has_room(e)
+}
+
+/// Nothing is led.
+fn nothing_led(alloc: Global) -> Led
+    ensures { result ≡ nothing_led }
+{
+    Led {
+        acked: Table {
+            rows: Vec::new(alloc),
+        },
+        waiting: Waiting::new(),
+        join_attrs: List::new(alloc),
+        tally: None,
+        given: List::new(alloc),
+        gone: List::new(alloc),
+        decided: Table {
+            rows: Vec::new(alloc),
+        },
+    }
+}
+
+/// The empty row of a group.
+pub fn new_row(alloc: Global, name: &Name) -> Result<GroupRow, NoMemory>
+    ensures { IfOk result (λ row. row ≡ new_row name.now) }
+{
+    Ok(GroupRow {
+        name: name.copy(alloc)?,
+        list: None,
+        leader: None,
+        led: nothing_led(alloc),
+    })
+}
+
+/// How many entries the list has.
+pub fn len(row: &GroupRow) -> u32
+    ensures { result ≡ len_in row.now.list }
+{
+    match &row.list {
+        None => 0,
+        Some(list) => list.len(),
+    }
+}
+
+/// The state at the end of the list.
+#[tactic(auto, unfolding(proposal_core::specs::Fold::joiners_fit, proposal_core::specs::Fold::joiners_fit_at))]
+pub fn state(row: &GroupRow, alloc: Global) -> Result<GroupState, NoMemory>
+    ensures value { IfOk result (λ st. st ≡ state_in row.now.list) }
+    ensures joiners { IfOk result (λ st. IsTrue (joiners_fit st)) }
+{
+    match &row.list {
+        None => Ok(GroupState::empty(alloc)),
+        Some(list) => list.state().copy(alloc),
+    }
+}
+
+/// Does the entry fit at the end of the list?
+#[tactic(auto, unfolding(proposal_core::specs::Lists::entry_fits))]
+pub fn fits_at_end(row: &GroupRow, alloc: Global, e: &Entry) -> bool
+    ensures { result ≡ entry_fits (list_or_new row.now.list) e.now }
+{
+    match &row.list {
+        None => fits_in_new(alloc, e),
+        Some(list) => list.state().fits(e) && list.has_room(e),
+    }
+}
+
+/// Puts an entry that fits at the end of the list.
+#[tactic(auto, unfolding(proposal_core::specs::Lists::entry_fits, proposal_core::specs::Fold::joiners_fit, proposal_core::specs::Fold::joiners_fit_at))]
+pub fn put(row: &mut GroupRow, alloc: Global, v: ViewId, e: Entry) -> Result<(), NoMemory>
+    requires { IsTrue (entry_fits (list_or_new row.old.list) e) }
+    ensures { OnOk result (row.new ≡ record (row.old) { list = Some (with_entry (list_or_new row.old.list) v e) }) }
+{
+    match &mut row.list {
+        None => {
+            let mut list = GroupList::new(alloc, GroupState::empty(alloc));
+            list.put(alloc, v, e)?;
+            row.list = Some(list);
+        }
+        Some(list) => {
+            list.put(alloc, v, e)?;
+        }
+    }
+    Ok(())
+}
+
+/// Lets the entries below a place go, where the list has that place.
+#[tactic(auto, unfolding(proposal_core::specs::Lists::forgotten))]
+pub fn forget_below(row: &mut GroupRow, place: u32)
+    ensures { row.new ≡ record (row.old) { list = list_forgotten place row.old.list } }
+{
+    if let Some(list) = &mut row.list {
+        if place <= list.len() {
+            list.forget_below(place);
+        }
+    }
+}
+
+/// The group has this leader.
+pub fn set_leader(row: &mut GroupRow, node: u8)
+    ensures { row.new ≡ record (row.old) { leader = Some node } }
+{
+    row.leader = Some(node);
+}
+
+/// The provider waits as a failure of this cause, unless it waits as one already.
+pub fn wait_failure(row: &mut GroupRow, p: ProviderId, cause: Cause)
+    ensures { row.new ≡ record (row.old) { led = record (row.old.led) { waiting = waits_failure p cause row.old.led.waiting } } }
+{
+    row.led.waiting.add_failure(p, cause);
+}
+
+/// The provider's join waits no more.
+pub fn drop_join(row: &mut GroupRow, p: ProviderId)
+    ensures { row.new ≡ record (row.old) { led = record (row.old.led) { waiting = join_dropped p row.old.led.waiting } } }
+{
+    row.led.waiting.drop_join(p);
+}
+
+/// The tally is this one.
+pub fn set_tally(row: &mut GroupRow, tally: Option<Tally>)
+    ensures { row.new ≡ record (row.old) { led = record (row.old.led) { tally = tally } } }
+{
+    row.led.tally = tally;
+}
+
+/// The tally is this one, and no ballot has been recorded.
+pub fn open_tally(row: &mut GroupRow, alloc: Global, tally: Option<Tally>)
+    ensures { row.new ≡ record (row.old) { led = record (row.old.led) { tally = tally; given = [] } } }
+{
+    row.led.tally = tally;
+    row.led.given = List::new(alloc);
+}
+
+/// What a ballot carries is kept where its vote was recorded.
+#[tactic(auto, unfolding(node_state::specs::Following::given_with))]
+fn keep_given(
+    given: &mut List<Given>,
+    p: ProviderId,
+    value: Option<Text>,
+    message: Option<Text>,
+    cast: Cast,
+) -> Result<(), NoMemory>
+    ensures { OnOk result (given.new ≡ given_with given.old p value message cast) }
+{
+    match cast {
+        Cast::Recorded => given.push(Given { p, value, message }),
+        _ => Ok(()),
+    }
+}
+
+/// A vote on the tally, where there is one.
+#[tactic(auto, unfolding(node_state::specs::Following::vote_cast))]
+pub fn cast_vote(
+    row: &mut GroupRow,
+    p: ProviderId,
+    vote: Vote,
+    value: Option<Text>,
+    message: Option<Text>,
+) -> Result<(), NoMemory>
+    ensures { OnOk result (row.new ≡ record (row.old) { led = vote_cast row.old.led p vote value message row.old.led.tally }) }
+{
+    match &mut row.led.tally {
+        None => Ok(()),
+        Some(tally) => {
+            let cast = tally.cast(p, vote);
+            keep_given(&mut row.led.given, p, value, message, cast)
+        }
+    }
+}
+
+/// The voter has failed, where there is a tally.
+pub fn fail_voter(row: &mut GroupRow, p: ProviderId)
+    ensures { row.new ≡ record (row.old) { led = record (row.old.led) { tally = option_map (tally_fail p) row.old.led.tally } } }
+{
+    if let Some(tally) = &mut row.led.tally {
+        tally.fail(p);
+    }
+}
+
+/// The tally ticks, where there is one.
+pub fn tick_tally(row: &mut GroupRow)
+    ensures { row.new ≡ record (row.old) { led = record (row.old.led) { tally = ticked_in row.old.led.tally } } }
+{
+    if let Some(tally) = &mut row.led.tally {
+        tally.tick();
+    }
+}
+
+/// The node has acknowledged this length, or a greater one.
+pub fn note_acked(row: &mut GroupRow, node: u8, len: u32) -> Result<(), NoMemory>
+    ensures { OnOk result (row.new ≡ record (row.old) { led = record (row.old.led) { acked = acked_raised node len row.old.led.acked } }) }
+{
+    raise_acked(&mut row.led.acked, node, len)
+}
+
+/// The provider is gone.
+pub fn mark_gone(row: &mut GroupRow, p: ProviderId) -> Result<(), NoMemory>
+    ensures { OnOk result (row.new ≡ record (row.old) { led = record (row.old.led) { gone = marked row.old.led.gone p } }) }
+{
+    mark(&mut row.led.gone, p)
+}
+
+/// The last decision on the requester is this one.
+pub fn keep_decision(row: &mut GroupRow, d: Decision) -> Result<(), NoMemory>
+    ensures { OnOk result (row.new ≡ record (row.old) { led = record (row.old.led) { decided = decisions_with d row.old.led.decided } }) }
+{
+    tables::keep_decision(&mut row.led.decided, d)
+}
