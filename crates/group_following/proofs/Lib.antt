@@ -1,0 +1,7 @@
+pub mod EntryLaws
+pub mod GoneLaws
+pub mod KeepLaws
+pub mod NameLaws
+pub mod RequestLaws
+pub mod TellLaws
+pub mod VoteLaws

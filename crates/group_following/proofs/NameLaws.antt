@@ -1,0 +1,61 @@
+-- What a name does.
+use Rattle.std.proofs.Common.{◌≡◌, ℕ, ◌==◌, Bool, true, false, List, Option, Some, None, refl, ap, arith}
+use Rattle.std.specs.List.{fold}
+use Rattle.std.proofs.lemmas.Bool.{ne_eqb}
+use Rattle.client_callbacks.specs.declared.told.Why.TheVariants.{GroupsFull}
+use Rattle.session_state.specs.declared.state.Request.{Request}
+use Rattle.name_server.specs.declared.names.Leader.{Leader}
+use Rattle.name_server.specs.Names.{answer_at, table_at, looked_up, names_after}
+use Rattle.node_state.specs.declared.packet.Body.{Body}
+use Rattle.node_state.specs.declared.state.Core.{Core}
+use Rattle.node_state.specs.State.{with_row, led_by}
+use Rattle.node_state.specs.Sending.{sent, request_sent}
+use Rattle.node_state.specs.Following.{tell_row, requests_of, named, is_name_used, name_row}
+use Rattle.node_groups.specs.Keeps.{Keeps}
+use Rattle.node_groups.proofs.KeepLaws.{keeps_then, keeps_as, sent_keeps}
+use Rattle.owed_sending.proofs.SendLaws.{groups_keep}
+use Rattle.group_following.proofs.KeepLaws.{fold_keeps}
+use Rattle.group_following.proofs.TellLaws.{tell_keeps}
+
+-- ---- LOOKUP
+
+stays_at : (g : List ℕ) (asker : ℕ) (table : List Leader) (is_full : Bool) (there : Option ℕ) → answer_at asker is_full there ≡ None → table_at g asker table is_full there ≡ table
+stays_at g asker table is_full (Some n) h = refl
+stays_at g asker table true None h = refl
+stays_at g asker table false None h = absurd (cc)
+
+-- a name that is refused changes nothing
+pub full_stays : (g : List ℕ) (asker : ℕ) (table : List Leader) → looked_up g asker table ≡ None → names_after g asker table ≡ table
+full_stays g asker table h = stays_at g asker table _ _ h
+
+-- a table of names, and an answer
+pub looked_keeps : (s t : Core) (table : List Leader) (to : ℕ) (b : Body) → t ≡ sent (record s { names = table }) to b → Keeps s t
+looked_keeps s t table to b e =
+    let u : Core = record s { names = table } in keeps_as s (sent u to b) t e (keeps_then s u (sent u to b) (groups_keep s u (omega arith) (refl, refl) refl) (sent_keeps u to b))
+
+-- ---- NAME
+
+-- a leader that becomes known changes no request
+pub requests_led : (s t : Core) (g : List ℕ) (n : ℕ) → t ≡ led_by s g n → requests_of t g ≡ requests_of s g
+unfolding requests_of led_by with_row
+requests_led s t g n e = ap (λ (x : Core). requests_of x g) e
+
+pub name_unused : (s : Core) (g : List ℕ) (n : ℕ) → is_name_used s g n ≡ false → s ≡ name_row s g n
+unfolding name_row
+name_unused s g n e = rw (e, name_row) refl
+
+pub name_refused : (s t : Core) (g : List ℕ) (n : ℕ) → is_name_used s g n ≡ true → n ≡ 0 → t ≡ fold (λ u (q : Request). tell_row u q.p q.r (GroupsFull 64)) s (requests_of s g) → t ≡ name_row s g n
+unfolding name_row named
+name_refused s t g n used none told = rw (used, none, name_row) told
+
+named_if : (s t : Core) (g : List ℕ) (n : ℕ) (is_none : Bool) → is_none ≡ false → t ≡ fold request_sent (led_by s g n) (requests_of s g) → t ≡ named s g n is_none
+unfolding named
+named_if s t g n false e led = led
+named_if s t g n true e led = absurd (cc)
+
+pub name_led : (s t : Core) (g : List ℕ) (n : ℕ) → is_name_used s g n ≡ true → (n ≡ 0 → ⊥) → t ≡ fold request_sent (led_by s g n) (requests_of s g) → t ≡ name_row s g n
+unfolding name_row
+name_led s t g n used some led = rw (used, name_row) (named_if s t g n (n == 0) (ne_eqb n 0 some) led)
+
+pub refused_keeps : (s : Core) (g : List ℕ) → Keeps s (fold (λ u (q : Request). tell_row u q.p q.r (GroupsFull 64)) s (requests_of s g))
+refused_keeps s g = fold_keeps (λ u (q : Request). tell_row u q.p q.r (GroupsFull 64)) (λ u q. tell_keeps u q.p q.r (GroupsFull 64)) s (requests_of s g)

@@ -1,0 +1,71 @@
+-- What a request does, by what was decided last.
+use Rattle.std.proofs.Common.{◌≡◌, ℕ, ◌<◌, ◌≤◌, ◌==◌, Bool, true, false, List, Option, Some, None, refl, sym, ap, ◌∙◌}
+use Rattle.std.specs.Prelude.{nat_lt}
+use Rattle.std.proofs.lemmas.Bool.{lt-ltb, le-ltb, eq-eqb, ne_eqb}
+use Rattle.rsct_packet.specs.declared.ids.ProviderId.{ProviderId}
+use Rattle.group_attr.specs.declared.attrs.Phases.{Phases}
+use Rattle.group_entry.specs.declared.proposal.Proposal.{Proposal}
+use Rattle.client_callbacks.specs.declared.told.Why.{Why}
+use Rattle.client_callbacks.specs.declared.votes.VoteItem.{VoteItem}
+use Rattle.node_state.specs.declared.group.Decision.{Decision}
+use Rattle.node_state.specs.declared.packet.Body.TheVariants as body
+use Rattle.node_state.specs.declared.state.Core.{Core}
+use Rattle.node_state.specs.State.{led_of, led_by, decision_of}
+use Rattle.node_state.specs.Sending.{sent}
+use Rattle.node_state.specs.HandOn.{Answering}
+use Rattle.node_state.specs.Deciding.{decided}
+use Rattle.node_state.specs.Following.{told_again, request_new, request_after, request_at, is_group_refused, request_row}
+use Rattle.node_groups.specs.Keeps.{Keeps}
+use Rattle.node_groups.proofs.KeepLaws.{keeps_itself, sent_keeps}
+use Rattle.entry_handing.specs.Doing.{Does}
+use Rattle.group_following.proofs.KeepLaws.{leader_keeps, does_behind}
+
+pub again_keeps : (s : Core) (g : List ℕ) (p : ProviderId) (r : ℕ) (why : Option Why) → Keeps s (told_again s g p r why)
+unfolding told_again
+again_keeps s g p r None = keeps_itself s
+again_keeps s g p r (Some y) = sent_keeps s p.node _
+
+pub request_refused : (f : Answering) (s : Core) (from : ℕ) (g : List ℕ) (p : ProviderId) (r : ℕ) (phases : Phases) (x : Proposal) → is_group_refused s g ≡ true
+    → sent s from (body.Name s.views.view g 0) ≡ request_row f s from g p r phases x
+unfolding request_row
+request_refused f s from g p r phases x e = rw (e, request_row) refl
+
+pub request_first : (f : Answering) (s : Core) (from : ℕ) (g : List ℕ) (p : ProviderId) (r : ℕ) (phases : Phases) (x : Proposal) → is_group_refused s g ≡ false → decision_of (led_of s g) p ≡ None
+    → request_new f s g p r phases x ≡ request_row f s from g p r phases x
+unfolding request_row request_at
+request_first f s from g p r phases x e none = rw (e, none, request_row, request_at) refl
+
+-- where a request was decided before
+request_again : (f : Answering) (s : Core) (from : ℕ) (g : List ℕ) (p : ProviderId) (r : ℕ) (phases : Phases) (x : Proposal) (d : Decision) → is_group_refused s g ≡ false → decision_of (led_of s g) p ≡ Some d
+    → request_after f s g p r phases x d (nat_lt r d.r) (r == d.r) ≡ request_row f s from g p r phases x
+unfolding request_row request_at
+request_again f s from g p r phases x d e some = rw (e, some, request_row, request_at) refl
+
+pub request_late : (f : Answering) (s : Core) (from : ℕ) (g : List ℕ) (p : ProviderId) (r : ℕ) (phases : Phases) (x : Proposal) (d : Decision) → is_group_refused s g ≡ false → decision_of (led_of s g) p ≡ Some d
+    → r < d.r → s ≡ request_row f s from g p r phases x
+unfolding request_after
+request_late f s from g p r phases x d e some late =
+    ap (λ (b : Bool). request_after f s g p r phases x d b (r == d.r)) (sym (lt-ltb r d.r late)) ∙ request_again f s from g p r phases x d e some
+
+-- where it is not an earlier one
+request_from : (f : Answering) (s : Core) (from : ℕ) (g : List ℕ) (p : ProviderId) (r : ℕ) (phases : Phases) (x : Proposal) (d : Decision) → is_group_refused s g ≡ false → decision_of (led_of s g) p ≡ Some d
+    → d.r ≤ r → request_after f s g p r phases x d false (r == d.r) ≡ request_row f s from g p r phases x
+request_from f s from g p r phases x d e some late =
+    ap (λ (b : Bool). request_after f s g p r phases x d b (r == d.r)) (sym (le-ltb r d.r late)) ∙ request_again f s from g p r phases x d e some
+
+pub request_same : (f : Answering) (s : Core) (from : ℕ) (g : List ℕ) (p : ProviderId) (r : ℕ) (phases : Phases) (x : Proposal) (d : Decision) → is_group_refused s g ≡ false → decision_of (led_of s g) p ≡ Some d
+    → d.r ≤ r → r ≡ d.r → told_again s g p r d.why ≡ request_row f s from g p r phases x
+unfolding request_after
+request_same f s from g p r phases x d e some late same =
+    ap (λ (b : Bool). request_after f s g p r phases x d false b) (sym (eq-eqb r d.r same)) ∙ request_from f s from g p r phases x d e some late
+
+pub request_next : (f : Answering) (s : Core) (from : ℕ) (g : List ℕ) (p : ProviderId) (r : ℕ) (phases : Phases) (x : Proposal) (d : Decision) → is_group_refused s g ≡ false → decision_of (led_of s g) p ≡ Some d
+    → d.r ≤ r → (r ≡ d.r → ⊥) → request_new f s g p r phases x ≡ request_row f s from g p r phases x
+unfolding request_after
+request_next f s from g p r phases x d e some late other =
+    ap (λ (b : Bool). request_after f s g p r phases x d false b) (sym (ne_eqb r d.r other)) ∙ request_from f s from g p r phases x d e some late
+
+pub new_does : (scripts : List (Option (List (Option VoteItem)))) (s t u : Core) (g : List ℕ) (p : ProviderId) (r : ℕ) (phases : Phases) (x : Proposal) → t ≡ led_by s g s.views.me → Does scripts t u (λ f. decided f t g p r phases x)
+    → Does scripts s u (λ f. request_new f s g p r phases x)
+unfolding request_new
+new_does scripts s t u g p r phases x e next = does_behind scripts s t u (led_by s g s.views.me) (λ f y. decided f y g p r phases x) (leader_keeps s g s.views.me) e next

@@ -1,0 +1,16 @@
+//! What a node does with the packets of a group.
+#![tactic(auto)]
+
+mod entries;
+mod leaving;
+mod naming;
+mod requesting;
+mod telling;
+mod voting;
+
+pub use entries::{take_ack, take_entry};
+pub use leaving::take_gone;
+pub use naming::{take_lookup, take_name};
+pub use requesting::take_request;
+pub use telling::take_tell;
+pub use voting::take_vote;

@@ -1,0 +1,105 @@
+//! Telling clients that their requests are refused.
+ghost use Rattle.std.specs.Prelude.{◌≡◌, OnOk, map, length};
+ghost use Rattle.std.specs.List.{fold};
+ghost use Rattle.session_state.specs.State.{outstanding};
+ghost use Rattle.session_state.specs.HandOn.{is_numbered, telling_taken};
+ghost use Rattle.entry_handing.specs.Doing.{Does};
+ghost use Rattle.group_leading.specs.Working.{AtWork};
+ghost use Rattle.node_state.specs.Following.{tell_row};
+
+use client_callbacks::{Callbacks, Told, Why};
+use client_session::tell_at;
+use node_state::{Core, Happened};
+use rsct_packet::{NoMemory, ProviderId};
+use session_state::SessionState;
+use std::alloc::Global;
+
+/// Is this the number of the provider's outstanding request?
+fn is_outstanding(sessions: &SessionState, p: ProviderId, r: u32) -> bool
+    ensures { result ≡ is_numbered r (outstanding sessions.now p) }
+{
+    match sessions.outstanding(p) {
+        None => false,
+        Some(q) => q.r == r,
+    }
+}
+
+/// Tells the client of a live provider that its request is refused, which ends the request.
+#[tactic(auto, unfolding(session_state::specs::HandOn::telling_taken))]
+fn tell_client<C: Callbacks>(
+    sessions: &mut SessionState,
+    clients: &mut Vec<C>,
+    p: ProviderId,
+    r: u32,
+    why: Why,
+) -> Result<(), NoMemory>
+    requires aligned { length clients.old.items ≡ length sessions.old.sessions }
+    ensures aligned { OnOk result (length clients.new.items ≡ length sessions.new.sessions) }
+    ensures scripts { OnOk result (map C.script clients.new.items ≡ map C.script clients.old.items) }
+    ensures state { OnOk result (sessions.new ≡ telling_taken sessions.old p r why) }
+{
+    if !sessions.takes_telling(p, r, why) {
+        return Ok(());
+    }
+    let told = Told::Refused { p, r, why };
+    tell_at(clients, sessions.place_of(p), &told)?;
+    sessions.take_telling(p, why);
+    Ok(())
+}
+
+/// Tells a client that its outstanding request is refused, and records it.
+#[tactic(auto, unfolding(node_state::specs::Following::tell_row, node_state::specs::Following::told_if, node_state::specs::State::recorded, node_state::specs::State::with_sessions))]
+fn tell<C: Callbacks>(
+    core: &mut Core,
+    clients: &mut Vec<C>,
+    p: ProviderId,
+    r: u32,
+    why: Why,
+) -> Result<(), NoMemory>
+    requires aligned { length clients.old.items ≡ length core.old.sessions.sessions }
+    ensures aligned { OnOk result (length clients.new.items ≡ length core.new.sessions.sessions) }
+    ensures scripts { OnOk result (map C.script clients.new.items ≡ map C.script clients.old.items) }
+    ensures row { OnOk result (core.new ≡ tell_row core.old p r why) }
+{
+    if !is_outstanding(&core.sessions, p, r) {
+        return Ok(());
+    }
+    tell_client(&mut core.sessions, clients, p, r, why)?;
+    core.records.push(Happened::Told { p, r, why })
+}
+
+/// Tells clients that these outstanding requests are refused.
+#[tactic(auto, using(std::proofs::lemmas::List::Sums::fold_more))]
+pub(crate) fn tell_each<C: Callbacks>(
+    core: &mut Core,
+    clients: &mut Vec<C>,
+    requests: &[(ProviderId, u32)],
+    why: Why,
+) -> Result<(), NoMemory>
+    requires aligned { length clients.old.items ≡ length core.old.sessions.sessions }
+    ensures aligned { OnOk result (length clients.new.items ≡ length core.new.sessions.sessions) }
+    ensures scripts { OnOk result (map C.script clients.new.items ≡ map C.script clients.old.items) }
+    ensures row { OnOk result (core.new ≡ fold (λ t x. tell_row t x.0 x.1 why) core.old requests.now) }
+{
+    for (p, r) in requests {
+        tell(core, clients, *p, *r, why)?;
+    }
+    Ok(())
+}
+
+/// TELL: a client is told that its outstanding request is refused.
+pub fn take_tell<C: Callbacks>(
+    core: &mut Core,
+    clients: &mut Vec<C>,
+    alloc: Global,
+    p: ProviderId,
+    r: u32,
+    y: Why,
+) -> Result<(), NoMemory>
+    requires work { AtWork core.old clients.old.items }
+    ensures work { OnOk result (AtWork core.new clients.new.items) }
+    ensures scripts { OnOk result (map C.script clients.new.items ≡ map C.script clients.old.items) }
+    ensures does { OnOk result (Does (map C.script clients.old.items) core.old core.new (λ f. tell_row core.old p r y)) }
+{
+    tell(core, clients, p, r, y)
+}

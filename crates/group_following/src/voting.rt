@@ -1,0 +1,60 @@
+//! Ballots that come to the leader of a group.
+ghost use Rattle.std.specs.Prelude.{◌≡◌, ◌&&◌, IfOk, OnOk, map, option_copied};
+ghost use Rattle.proposal_core.specs.Fold.{runs};
+ghost use Rattle.entry_handing.specs.Doing.{Does};
+ghost use Rattle.group_leading.specs.Working.{AtWork};
+ghost use Rattle.node_state.specs.State.{leads, state_of};
+ghost use Rattle.node_state.specs.Following.{vote_row};
+
+use client_callbacks::Callbacks;
+use group_leading::close;
+use node_groups::{cast_vote, leads};
+use node_state::Core;
+use owed_sending::is_running;
+use proposal_core::Vote;
+use rsct_packet::{Name, NoMemory, ProtoId, ProviderId, Text};
+use std::alloc::Global;
+
+/// A copy of a text, or none.
+fn copied(alloc: Global, text: Option<&Text>) -> Result<Option<Text>, NoMemory>
+    ensures { IfOk result (λ t. t ≡ option_copied text.entry) }
+{
+    match text {
+        None => Ok(None),
+        Some(text) => Ok(Some(text.copy(alloc)?)),
+    }
+}
+
+/// Does the node lead the group, in which this phase runs?
+fn takes_votes(core: &Core, g: &[u8], proto: ProtoId, phase: u16) -> bool
+    ensures { result ≡ (leads core.now g.now && runs proto phase (state_of core.now g.now).running) }
+{
+    leads(core, g) && is_running(core, g, proto, phase)
+}
+
+/// VOTE: a ballot of the phase that runs is recorded; the phase is closed where there is an outcome.
+pub fn take_vote<C: Callbacks>(
+    core: &mut Core,
+    clients: &mut Vec<C>,
+    alloc: Global,
+    g: &Name,
+    proto: ProtoId,
+    phase: u16,
+    p: ProviderId,
+    vote: Vote,
+    value: Option<&Text>,
+    message: Option<&Text>,
+) -> Result<(), NoMemory>
+    requires work { AtWork core.old clients.old.items }
+    ensures work { OnOk result (AtWork core.new clients.new.items) }
+    ensures scripts { OnOk result (map C.script clients.new.items ≡ map C.script clients.old.items) }
+    ensures does { OnOk result (Does (map C.script clients.old.items) core.old core.new (λ f. vote_row f core.old g.now proto phase p vote (option_copied value.entry) (option_copied message.entry))) }
+{
+    if !takes_votes(core, g.bytes(), proto, phase) {
+        return Ok(());
+    }
+    let value = copied(alloc, value)?;
+    let message = copied(alloc, message)?;
+    cast_vote(core, alloc, g, p, vote, value, message)?;
+    close(core, clients, alloc, g)
+}

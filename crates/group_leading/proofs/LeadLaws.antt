@@ -1,0 +1,120 @@
+-- What appending does.
+use Rattle.std.proofs.Common.{◌≡◌, ℕ, ◌+◌, ◌<◌, Bool, true, false, not, ◌++◌, List, [], ◌∷◌, length, get_or, take, filter, Option, refl, ap, ◌∙◌, append-nil}
+use Rattle.std.specs.List.{fold}
+use Rattle.std.proofs.lemmas.List.Elements.{filter_more}
+use Rattle.rsct_packet.specs.declared.ids.ProviderId.{ProviderId}
+use Rattle.rsct_packet.specs.Providers.{among}
+use Rattle.group_entry.specs.declared.entry.Entry.{Entry}
+use Rattle.proposal_core.specs.declared.group_state.GroupState.{GroupState}
+use Rattle.client_callbacks.specs.declared.votes.VoteItem.{VoteItem}
+use Rattle.node_state.specs.declared.packet.Body.{Body}
+use Rattle.node_state.specs.declared.packet.Body.TheVariants as body
+use Rattle.node_state.specs.declared.state.Core.{Core}
+use Rattle.node_state.specs.State.{led_of, state_of, len_of, leader_of, others, least_acked}
+use Rattle.node_state.specs.Sending.{sent_on, sent, sent_all}
+use Rattle.node_state.specs.HandOn.{handed_on}
+use Rattle.node_state.specs.Leading.{put, put_and_handed, forgets_least, with_waiting, waits_if, new_members_wait, appended, appended_if}
+use Rattle.node_groups.specs.Keeps.{Keeps}
+use Rattle.node_groups.proofs.KeepLaws.{keeps_itself, keeps_then, keeps_as, led_keeps, sent_keeps}
+use Rattle.entry_handing.specs.Doing.{Does, Ready}
+use Rattle.entry_handing.proofs.DoingLaws.{does_nothing, does_after, does_before, does_as}
+use Rattle.group_leading.specs.Appending.{sent_and_handed, append_finished}
+use Rattle.group_leading.specs.Waiting.{new_ones_wait}
+use Rattle.group_leading.specs.Working.{AtWork}
+use Rattle.group_leading.proofs.HandedLaws.{handed_order}
+use Rattle.group_leading.proofs.WorkLaws.{keeps_follows}
+
+-- a packet leaves the view as it is
+pub sent_view : (s : Core) (to : ℕ) (b : Body) → (sent s to b).views ≡ s.views
+unfolding sent sent_on
+sent_view s to b = refl
+
+-- ---- new members
+
+fold_on : {A B : Type 0} (f : B → A → B) (b : B) (xs : List A) (x : A) → fold f b (xs ++ x ∷ []) ≡ f (fold f b xs) x
+fold_on f b [] x = refl
+fold_on f b (y ∷ xs) x = fold_on f (f b y) xs x
+
+pub one_waits : (s : Core) (g : List ℕ) (failed gone before ps : List ProviderId) (i : ℕ) (d : ProviderId) → i < length ps → among before (get_or ps i d) ≡ false
+    → new_ones_wait s g failed gone before (take (i + 1) ps) ≡ waits_if (new_ones_wait s g failed gone before (take i ps)) g (get_or ps i d) (among failed (get_or ps i d)) (among gone (get_or ps i d))
+one_waits s g failed gone before ps i d lt h = rw (filter_more (λ p. not (among before p)) ps i d lt, h) (fold_on (λ (t : Core) (p : ProviderId). waits_if t g p (among failed p) (among gone p)) s (filter (λ p. not (among before p)) (take i ps)) (get_or ps i d))
+
+pub none_waits : (s : Core) (g : List ℕ) (failed gone before ps : List ProviderId) (i : ℕ) (d : ProviderId) → i < length ps → among before (get_or ps i d) ≡ true
+    → new_ones_wait s g failed gone before (take (i + 1) ps) ≡ new_ones_wait s g failed gone before (take i ps)
+none_waits s g failed gone before ps i d lt h = rw (filter_more (λ p. not (among before p)) ps i d lt, h, append-nil) refl
+
+-- ---- what asks no client
+
+each_sent_keeps : (s : Core) (ns : List ℕ) (b : Body) → Keeps s (fold (λ t n. sent t n b) s ns)
+each_sent_keeps s [] b = keeps_itself s
+each_sent_keeps s (n ∷ ns) b = keeps_then s (sent s n b) _ (sent_keeps s n b) (each_sent_keeps (sent s n b) ns b)
+
+pub sent_all_keeps : (s : Core) (ns : List ℕ) (b : Body) → Keeps s (sent_all s ns b)
+unfolding sent_all
+sent_all_keeps s ns b = each_sent_keeps s ns b
+
+waits_keeps : (s : Core) (g : List ℕ) (p : ProviderId) (failed gone : Bool) → Keeps s (waits_if s g p failed gone)
+unfolding waits_if with_waiting
+waits_keeps s g p true gone = led_keeps s g _
+waits_keeps s g p false true = led_keeps s g _
+waits_keeps s g p false false = keeps_itself s
+
+each_waits_keeps : (s : Core) (g : List ℕ) (failed gone : ProviderId → Bool) (ps : List ProviderId) → Keeps s (fold (λ t p. waits_if t g p (failed p) (gone p)) s ps)
+each_waits_keeps s g failed gone [] = keeps_itself s
+each_waits_keeps s g failed gone (p ∷ ps) =
+    keeps_then s (waits_if s g p (failed p) (gone p)) _ (waits_keeps s g p (failed p) (gone p)) (each_waits_keeps (waits_if s g p (failed p) (gone p)) g failed gone ps)
+
+pub new_members_keeps : (s : Core) (g : List ℕ) (before after : GroupState) → Keeps s (new_members_wait s g before after)
+unfolding new_members_wait
+new_members_keeps s g before after = each_waits_keeps s g (among after.failed) (among (led_of s g).gone) (filter (λ p. not (among before.members p)) after.members)
+
+-- ---- putting and appending
+
+pub handed_work : {C : Type 0} (scripts : List (Option (List (Option VoteItem)))) (s t : Core) (cs ds : List C) (to : Option ℕ) (g : List ℕ) (i : ℕ) (before after : GroupState) (e : Entry) → AtWork s cs
+    → Ready t ds × Does scripts s t (λ f. handed_on f s to g i before after e) → AtWork t ds
+handed_work scripts s t cs ds to g i before after e work handing =
+    record { ready = handing.0; order = handed_order scripts s t to g i before after e handing.1 work.order }
+
+pub put_and_handed_does : (scripts : List (Option (List (Option VoteItem)))) (s t u : Core) (to : Option ℕ) (g : List ℕ) (e : Entry) (i : ℕ) (before : GroupState) → t ≡ put s g e → Keeps s t → i ≡ len_of s g → before ≡ state_of s g
+    → Does scripts t u (λ f. handed_on f t to g i before (state_of t g) e) → Does scripts s u (λ f. put_and_handed f s to g e)
+unfolding put_and_handed
+put_and_handed_does scripts s t u to g e i before putting keeps at old handing =
+    does_as scripts s u (λ f. handed_on f t to g i before (state_of t g) e) (λ f. put_and_handed f s to g e) (λ f. rw (putting, at, old) refl)
+    (does_after scripts s t u (λ f. handed_on f t to g i before (state_of t g) e) (keeps_follows s t keeps) handing)
+
+pub sent_keeps_as : (s t : Core) (ns : List ℕ) (b : Body) → t ≡ sent_all s ns b → Keeps s t
+sent_keeps_as s t ns b sending = keeps_as s (sent_all s ns b) t sending (sent_all_keeps s ns b)
+
+pub sent_and_handed_does : (scripts : List (Option (List (Option VoteItem)))) (s t u : Core) (g : List ℕ) (i : ℕ) (before after : GroupState) (e : Entry) → t ≡ sent_all s (others s) (body.Entry s.views.view g i (least_acked s g) e)
+    → Does scripts t u (λ f. handed_on f t (leader_of t g) g i before after e) → Does scripts s u (λ f. sent_and_handed f s g i before after e)
+unfolding sent_and_handed
+sent_and_handed_does scripts s t u g i before after e sending handing =
+    does_as scripts s u (λ f. handed_on f t (leader_of t g) g i before after e) (λ f. sent_and_handed f s g i before after e) (λ f. rw sending refl)
+    (does_after scripts s t u (λ f. handed_on f t (leader_of t g) g i before after e) (keeps_follows s t (sent_keeps_as s t _ _ sending)) handing)
+
+pub waiting_keeps : (s t u : Core) (g : List ℕ) (before after : GroupState) → Keeps s t → u ≡ new_members_wait t g before after → Keeps s u
+waiting_keeps s t u g before after forgets waiting = keeps_then s t u forgets (keeps_as t (new_members_wait t g before after) u waiting (new_members_keeps t g before after))
+
+pub append_finished_does : (scripts : List (Option (List (Option VoteItem)))) (s t u w : Core) (g : List ℕ) (i : ℕ) (before after : GroupState) (e : Entry) → after ≡ state_of s g → Does scripts s t (λ f. sent_and_handed f s g i before after e)
+    → u ≡ forgets_least t g → Keeps t u → w ≡ new_members_wait u g before after → Does scripts s w (λ f. append_finished f s g i before e)
+unfolding append_finished
+append_finished_does scripts s t u w g i before after e new handing forgetting forgets waiting =
+    let behind : w ≡ new_members_wait (forgets_least t g) g before after = waiting ∙ ap (λ (x : Core). new_members_wait x g before after) forgetting in
+    rw (← new)
+    (does_before scripts s t w (λ f. sent_and_handed f s g i before after e) (λ x. new_members_wait (forgets_least x g) g before after) handing behind (keeps_follows t w (waiting_keeps t u w g before after forgets waiting)))
+
+pub appended_does : (scripts : List (Option (List (Option VoteItem)))) (s t u : Core) (g : List ℕ) (e : Entry) (i : ℕ) (before : GroupState) → t ≡ put s g e → Keeps s t → i ≡ len_of s g → before ≡ state_of s g
+    → Does scripts t u (λ f. append_finished f t g i before e) → Does scripts s u (λ f. appended f s g e)
+unfolding appended append_finished sent_and_handed
+appended_does scripts s t u g e i before putting keeps at old finishing =
+    does_as scripts s u (λ f. append_finished f t g i before e) (λ f. appended f s g e) (λ f. rw (putting, at, old) refl)
+    (does_after scripts s t u (λ f. append_finished f t g i before e) (keeps_follows s t keeps) finishing)
+
+-- where it fits, and where it does not
+pub appended_where : (scripts : List (Option (List (Option VoteItem)))) (s t : Core) (g : List ℕ) (e : Entry) (fits : Bool) → fits ≡ true → Does scripts s t (λ f. appended f s g e) → Does scripts s t (λ f. appended_if f s g e fits)
+unfolding appended_if
+appended_where scripts s t g e fits h d = rw h d
+
+pub appended_nowhere : (scripts : List (Option (List (Option VoteItem)))) (s : Core) (g : List ℕ) (e : Entry) (fits : Bool) → fits ≡ false → Does scripts s s (λ f. appended_if f s g e fits)
+unfolding appended_if
+appended_nowhere scripts s g e fits h = rw h (does_nothing scripts s)

@@ -1,0 +1,5 @@
+pub mod AnswerLaws
+pub mod CloseLaws
+pub mod HandedLaws
+pub mod LeadLaws
+pub mod WorkLaws

@@ -1,0 +1,4 @@
+pub mod Appending
+pub mod Closing
+pub mod Waiting
+pub mod Working
