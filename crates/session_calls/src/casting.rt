@@ -1,0 +1,74 @@
+//! Calls that vote: the ballot that they fill is recorded and sent.
+ghost use Rattle.std.specs.Prelude.{◌≡◌, None, OnOk, Result};
+ghost use Rattle.std.specs.List.{last_or};
+ghost use Rattle.session_state.specs.declared.fault.GsFault.{GsFault};
+ghost use Rattle.session_state.specs.declared.state.SessionState.{SessionState};
+ghost use Rattle.session_state.specs.Calls.{Answers, SameSessions};
+ghost use Rattle.node_state.specs.declared.state.Core.{Core};
+ghost use Rattle.node_state.specs.Calls.{ballot_recorded, ballot_given, last_cast};
+ghost use Rattle.node_state.specs.State.{with_sessions};
+ghost use Rattle.node_groups.specs.Keeps.{Keeps};
+
+use crate::answers::refuse;
+use node_sending::is_frozen;
+use node_state::{Core, Happened};
+use owed_sending::{copy_kept, send_kept};
+use rsct_packet::NoMemory;
+use session_state::{GsFault, KeptBallot};
+use std::alloc::Global;
+
+/// Records a kept ballot, where it is filled.
+#[tactic(auto, unfolding(node_state::specs::Calls::ballot_recorded, node_state::specs::State::recorded), using(crate::proofs::CallLaws::ballot_recorded_keeps))]
+fn record_ballot(core: &mut Core, alloc: Global, k: &KeptBallot) -> Result<(), NoMemory>
+    ensures row { OnOk result (core.new ≡ ballot_recorded core.old k.now k.now.ballot.filled) }
+    ensures keeps { OnOk result (Keeps core.old core.new) }
+{
+    match k.ballot.filled() {
+        None => Ok(()),
+        Some(filled) => {
+            let filled = filled.copy(alloc)?;
+            core.records.push(Happened::Cast {
+                p: k.p,
+                proto: k.proto,
+                phase: k.phase,
+                vote: filled.vote,
+                value: filled.value,
+                message: filled.message,
+            })
+        }
+    }
+}
+
+/// Records the ballot that was kept last, and sends it where the node is not frozen.
+#[tactic(auto, unfolding(node_state::specs::Calls::last_cast, node_state::specs::Calls::ballot_sent_if), using(crate::proofs::CallLaws::last_there))]
+fn cast_last(core: &mut Core, alloc: Global) -> Result<(), NoMemory>
+    ensures row { OnOk result (core.new ≡ last_cast core.old (last_or None core.old.sessions.kept)) }
+    ensures keeps { OnOk result (Keeps core.old core.new) }
+{
+    let frozen = is_frozen(core);
+    let k = match core.sessions.kept.as_slice().last() {
+        None => return Ok(()),
+        Some(k) => copy_kept(alloc, k)?,
+    };
+    record_ballot(core, alloc, &k)?;
+    if frozen {
+        return Ok(());
+    }
+    send_kept(core, alloc, &k)
+}
+
+/// What a call leaves that voted, or was refused.
+pub fn give_ballot(
+    core: &mut Core,
+    alloc: Global,
+    client: &[u8],
+    answer: Result<(), GsFault>,
+) -> Result<(), NoMemory>
+    ensures row { (s : Core) (r : Result SessionState GsFault) → Answers answer s.sessions core.old.sessions r → core.old ≡ with_sessions s core.old.sessions → OnOk result (core.new ≡ ballot_given s client.now r) }
+    ensures keeps { (s : Core) → SameSessions s.sessions core.old.sessions → core.old ≡ with_sessions s core.old.sessions → OnOk result (Keeps s core.new) }
+{
+    match answer {
+        Ok(()) => cast_last(core, alloc),
+        Err(fault) => refuse(core, alloc, client, fault),
+    }
+}

@@ -1,0 +1,3 @@
+pub mod PassLaws
+pub mod EndingLaws
+pub mod TakingLaws

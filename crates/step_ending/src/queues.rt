@@ -1,0 +1,50 @@
+//! What waits in a group, and is taken out to begin.
+ghost use Rattle.std.specs.Prelude.{◌≡◌, IfOk, OnOk};
+ghost use Rattle.rsct_packet.specs.Providers.{AreProviders};
+ghost use Rattle.batch_rules.specs.Waiting.{next_failures, failures_left, next_joins, joins_left};
+ghost use Rattle.node_state.specs.State.{led_of};
+ghost use Rattle.node_state.specs.Leading.{with_waiting};
+ghost use Rattle.node_groups.specs.Places.{InNameOrder};
+
+use arrayvec::ArrayVec;
+use group_attr::Batch;
+use node_groups::open;
+use node_state::Core;
+use proposal_core::Failure;
+use rsct_packet::{Name, NoMemory, ProviderId};
+use std::alloc::Global;
+
+/// Takes the failures that begin next out of the group's queue.
+#[tactic(auto, unfolding(node_state::specs::Leading::with_waiting, node_state::specs::State::with_led, node_state::specs::State::with_row, node_state::specs::State::led_of, node_state::specs::State::row_of), using(node_groups::proofs::RowLaws::set_is_row, node_groups::proofs::RowLaws::opened_within, node_groups::proofs::RowLaws::opened_row, std::proofs::lemmas::Grind::common_steps))]
+pub fn take_failures(
+    core: &mut Core,
+    alloc: Global,
+    g: &Name,
+    batch: Batch,
+) -> Result<ArrayVec<Failure, 64>, NoMemory>
+    requires { InNameOrder core.old.groups }
+    ensures taken { IfOk result (λ out. out.items ≡ next_failures batch (led_of core.old g.now).waiting) }
+    ensures row { OnOk result (core.new ≡ with_waiting core.old g.now (failures_left batch)) }
+{
+    let i = open(&mut core.groups, alloc, g)?;
+    let row = &mut core.groups.rows[i];
+    Ok(row.led.waiting.next_failures(batch))
+}
+
+/// Takes the joins that begin next out of the group's queue.
+#[tactic(auto, unfolding(node_state::specs::Leading::with_waiting, node_state::specs::State::with_led, node_state::specs::State::with_row, node_state::specs::State::led_of, node_state::specs::State::row_of), using(node_groups::proofs::RowLaws::set_is_row, node_groups::proofs::RowLaws::opened_within, node_groups::proofs::RowLaws::opened_row, std::proofs::lemmas::Grind::common_steps))]
+pub fn take_joins(
+    core: &mut Core,
+    alloc: Global,
+    g: &Name,
+    batch: Batch,
+) -> Result<ArrayVec<ProviderId, 64>, NoMemory>
+    requires { InNameOrder core.old.groups }
+    ensures taken { IfOk result (λ ps. ps.items ≡ next_joins batch (led_of core.old g.now).waiting) }
+    ensures apart { IfOk result (λ ps. AreProviders ps.items) }
+    ensures row { OnOk result (core.new ≡ with_waiting core.old g.now (joins_left batch)) }
+{
+    let i = open(&mut core.groups, alloc, g)?;
+    let row = &mut core.groups.rows[i];
+    Ok(row.led.waiting.next_joins(batch))
+}

@@ -1,0 +1,6 @@
+pub mod BaseLaws
+pub mod BaseOrder
+pub mod FillLaws
+pub mod ListLaws
+pub mod SideLaws
+pub mod WorkLaws

@@ -1,0 +1,40 @@
+-- The view is entered, and then told of and sent in.
+use Rattle.std.proofs.Common.{refl, ◌∙◌}
+use Rattle.std.proofs.lemmas.Result.{on_ok_weaker}
+use Rattle.view_entering.proofs.BaseOrder.{leaders_differ}
+use Rattle.view_entering.proofs.WorkLaws.{arrives, arrived_work, arrived_follows, entered_aligned, kept_aligned}
+use Rattle.view_entering.proofs.entering.arrive.Goals as goal
+
+pub start_anew-requires-clause-differ : goal.start_anew-requires-clause-differ
+start_anew-requires-clause-differ g c = leaders_differ c.args.bases.now c.requires.order
+
+pub dissolve_sides-requires : goal.dissolve_sides-requires
+dissolve_sides-requires g c = record { aligned = entered_aligned c.args.core.now c.start_anew.new.core c.args.i c.args.bases.now c.args.clients.now.items c.in_ok-rows.ensures.core c.requires.work }
+
+pub note_bases-requires : goal.note_bases-requires
+note_bases-requires g c = record {
+  aligned =
+      kept_aligned c.start_anew.new.core c.dissolve_sides.new.core c.args.clients.now.items c.dissolve_sides.new.clients.items c.in_ok-dissolve_sides.ensures.keeps c.dissolve_sides.ensures.length
+      (entered_aligned c.args.core.now c.start_anew.new.core c.args.i c.args.bases.now c.args.clients.now.items c.in_ok-rows.ensures.core c.requires.work);
+}
+
+pub returns-clause-work : goal.returns-clause-work
+returns-clause-work g c =
+    on_ok_weaker c.send_owed.result
+    (λ keeps. arrived_work c.args.core.now c.start_anew.new.core c.dissolve_sides.new.core c.note_bases.new.core c.send_taken.new.core c.send_owed.new.core c.args.i c.args.bases.now c.args.clients.now.items c.note_bases.new.clients.items
+    c.requires.work c.requires.order c.in_ok-rows.ensures.core c.in_ok-dissolve_sides.ensures.keeps c.in_ok-note_bases.ensures.keeps c.in_ok-send_taken.ensures.keeps keeps (c.note_bases.ensures.length ∙ c.dissolve_sides.ensures.length))
+    c.send_owed.ensures.keeps
+
+pub returns-clause-row : goal.returns-clause-row
+returns-clause-row g c =
+    on_ok_weaker c.send_owed.result
+    (λ owing. arrives c.args.core.now c.start_anew.new.core c.dissolve_sides.new.core c.note_bases.new.core c.send_taken.new.core c.send_owed.new.core c.args.i c.args.bases.now c.as_slice.result.now c.args.core.now.views.view
+    refl (cc (c.as_slice.ensures.value, c.rows.view_is, c.in_ok-rows.ensures.rows)) c.in_ok-rows.ensures.core c.in_ok-dissolve_sides.ensures.row c.in_ok-note_bases.ensures.row c.in_ok-send_taken.ensures.row owing)
+    c.send_owed.ensures.row
+
+pub returns-clause-follows : goal.returns-clause-follows
+returns-clause-follows g c =
+    on_ok_weaker c.send_owed.result
+    (λ keeps. arrived_follows c.args.core.now c.start_anew.new.core c.dissolve_sides.new.core c.note_bases.new.core c.send_taken.new.core c.send_owed.new.core c.args.i c.args.bases.now
+    c.in_ok-rows.ensures.core c.in_ok-dissolve_sides.ensures.keeps c.in_ok-note_bases.ensures.keeps c.in_ok-send_taken.ensures.keeps keeps)
+    c.send_owed.ensures.keeps

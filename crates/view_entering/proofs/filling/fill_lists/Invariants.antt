@@ -1,0 +1,14 @@
+-- The lists that were filled so far.
+use Rattle.std.proofs.Common.{◌≡◌, take, map}
+use Rattle.std.specs.List.{fold}
+use Rattle.entry_handing.specs.Doing.{Does}
+use Rattle.group_leading.specs.Working.{AtWork}
+use Rattle.view_entering.specs.declared.filling.Missing.{Missing}
+use Rattle.view_entering.specs.Filling.{list_filled}
+use Rattle.view_entering.proofs.filling.fill_lists.Given as goal
+
+abbrev pub invariant-loop-m : goal.invariant-loop-m
+invariant-loop-m g l =
+    AtWork l.core l.clients.items
+    × (map g.C.Callbacks.script l.clients.items ≡ map g.C.Callbacks.script l.initial.clients.items)
+    × Does (map g.C.Callbacks.script l.initial.clients.items) l.initial.core l.core (λ f. fold (λ t (m : Missing). list_filled f m.group.now t m.entries.now) l.initial.core (take l.m-index l.missing))

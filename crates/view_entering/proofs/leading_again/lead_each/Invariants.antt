@@ -1,0 +1,13 @@
+-- The groups that are led so far.
+use Rattle.std.proofs.Common.{◌≡◌, take, map}
+use Rattle.std.specs.List.{fold}
+use Rattle.entry_handing.specs.Doing.{Does}
+use Rattle.group_leading.specs.Working.{AtWork}
+use Rattle.node_state.specs.Applying.{group_led}
+use Rattle.view_entering.proofs.leading_again.lead_each.Given as goal
+
+abbrev pub invariant-loop-g : goal.invariant-loop-g
+invariant-loop-g g l =
+    AtWork l.core l.clients.items
+    × (map g.C.Callbacks.script l.clients.items ≡ map g.C.Callbacks.script l.initial.clients.items)
+    × Does (map g.C.Callbacks.script l.initial.clients.items) l.initial.core l.core (λ f. fold (group_led f) l.initial.core (take l.g-index l.groups))

@@ -1,0 +1,11 @@
+-- Those so far wait.
+use Rattle.std.proofs.Common.{◌≡◌, take}
+use Rattle.std.specs.List.{fold}
+use Rattle.group_entry.specs.declared.proposal.Cause.TheVariants.{Died}
+use Rattle.batch_rules.specs.Waiting.{waits_failure}
+use Rattle.node_groups.specs.Keeps.{Keeps}
+use Rattle.node_state.specs.Leading.{with_waiting}
+use Rattle.view_entering.proofs.leading_again.wait_failed.Given as goal
+
+abbrev pub invariant-loop-p : goal.invariant-loop-p
+invariant-loop-p l = (l.core ≡ fold (λ t p. with_waiting t l.g (waits_failure p Died)) l.initial.core (take l.p-index l.ps)) × Keeps l.initial.core l.core

@@ -1,0 +1,238 @@
+//! Providers that do not live in the base of their group are dissolved.
+ghost use Rattle.std.specs.Prelude.{◌≡◌, ◌&&◌, ◌∷◌, [], not, length, OnOk, filter, find, map, is_some, option_copied};
+ghost use Rattle.std.specs.List.{fold};
+ghost use Rattle.std.specs.Str.{bytes_eq};
+ghost use Rattle.proposal_core.specs.Fold.{joiners_in};
+ghost use Rattle.client_callbacks.specs.declared.told.Why.TheVariants as why;
+ghost use Rattle.session_state.specs.HandOn.{telling_taken};
+ghost use Rattle.session_state.specs.State.{provider_of, outstanding, is_asked_by};
+ghost use Rattle.view_exchange.specs.Bases.{base_named};
+ghost use Rattle.node_groups.specs.Keeps.{Keeps};
+ghost use Rattle.session_state.specs.Calls.{SameSessions};
+ghost use Rattle.node_state.specs.Applying.{is_in_base, number_of, dissolved, dissolved_if, group_dissolved, sides_dissolved};
+
+use client_callbacks::{Callbacks, Told, Why};
+use client_session::tell_at;
+use node_state::{Core, GroupRow, Happened};
+use proposal_core::{Proposal, Running};
+use rsct_packet::{Name, NoMemory, ProviderId, ViewId, is_among};
+use session_state::{Provider, Request, SessionState};
+use view_exchange::Base;
+
+/// The running joiners.
+fn joiners_in(running: &Option<Running>) -> &[ProviderId]
+    ensures { result.now ≡ joiners_in running.now }
+{
+    match running {
+        None => &[],
+        Some(run) => match &run.proposal {
+            Proposal::Join { ps, .. } => ps.as_slice(),
+            _ => &[],
+        },
+    }
+}
+
+/// The base of a group, where it has one.
+#[tactic(auto, unfolding(view_exchange::specs::Bases::base_named))]
+pub(crate) fn base_named<'a>(bases: &'a [Base], g: &[u8]) -> Option<&'a Base>
+    ensures { option_copied result ≡ base_named bases.now g.now }
+{
+    bases.iter().find(|base| base.name.bytes() == g)
+}
+
+/// Does the provider live in the base, which comes from the old view?
+#[tactic(auto, unfolding(node_state::specs::Applying::is_in_base), using(proposal_core::proofs::StateFormat::among_both))]
+fn is_in_base(old: ViewId, p: ProviderId, base: Option<&Base>) -> bool
+    ensures { result ≡ is_in_base old p (option_copied base.entry) }
+{
+    match base {
+        None => false,
+        Some(base) => {
+            base.from == old
+                && (is_among(base.state.members.as_slice(), p)
+                    || is_among(joiners_in(&base.state.running), p))
+        }
+    }
+}
+
+/// Does it take part in the group, and not live in its base?
+fn is_left_out(x: &Provider, g: &Name, old: ViewId, base: Option<&Base>) -> bool
+    ensures { result ≡ (x.now.takes_part && bytes_eq x.now.group g.now && not (is_in_base old x.now.p (option_copied base.entry))) }
+{
+    x.takes_part && x.group.bytes() == g.bytes() && !is_in_base(old, x.p, base)
+}
+
+/// The outstanding request of a provider.
+fn request_of(requests: &[Request], p: ProviderId) -> Option<&Request>
+    ensures { option_copied result ≡ find (is_asked_by p) requests.now }
+{
+    requests.iter().find(|q| q.p == p)
+}
+
+/// The number of the provider's outstanding request; 0 where it has none.
+#[tactic(auto, unfolding(session_state::specs::State::outstanding))]
+fn number_of(sessions: &SessionState, p: ProviderId) -> u32
+    ensures { result ≡ number_of (outstanding sessions.now p) }
+{
+    match request_of(sessions.requests.as_slice(), p) {
+        None => 0,
+        Some(q) => q.r,
+    }
+}
+
+/// Tells the client of a provider that it is dissolved, and drops the provider.
+#[tactic(auto, unfolding(session_state::specs::HandOn::telling_taken))]
+fn tell_dissolved<C: Callbacks>(
+    sessions: &mut SessionState,
+    clients: &mut Vec<C>,
+    p: ProviderId,
+    r: u32,
+) -> Result<(), NoMemory>
+    requires aligned { length clients.old.items ≡ length sessions.old.sessions }
+    ensures length { length clients.new.items ≡ length clients.old.items }
+    ensures scripts { OnOk result (map C.script clients.new.items ≡ map C.script clients.old.items) }
+    ensures state { OnOk result (sessions.new ≡ telling_taken sessions.old p r why.Dissolved) }
+    ensures same { OnOk result (SameSessions sessions.old sessions.new) }
+{
+    let why = Why::Dissolved;
+    if !sessions.takes_telling(p, r, why) {
+        return Ok(());
+    }
+    tell_at(clients, sessions.place_of(p), &Told::Refused { p, r, why })?;
+    sessions.take_telling(p, why);
+    Ok(())
+}
+
+/// Dissolves a provider, and records it.
+#[tactic(auto, unfolding(node_state::specs::Applying::dissolved, node_state::specs::State::recorded, node_state::specs::State::with_sessions), using(crate::proofs::WorkLaws::told_keeps))]
+fn dissolve<C: Callbacks>(
+    core: &mut Core,
+    clients: &mut Vec<C>,
+    p: ProviderId,
+    r: u32,
+) -> Result<(), NoMemory>
+    requires aligned { length clients.old.items ≡ length core.old.sessions.sessions }
+    ensures length { length clients.new.items ≡ length clients.old.items }
+    ensures scripts { OnOk result (map C.script clients.new.items ≡ map C.script clients.old.items) }
+    ensures row { OnOk result (core.new ≡ dissolved core.old p r) }
+    ensures keeps { OnOk result (Keeps core.old core.new) }
+{
+    tell_dissolved(&mut core.sessions, clients, p, r)?;
+    core.records.push(Happened::Told {
+        p,
+        r,
+        why: Why::Dissolved,
+    })
+}
+
+/// Dissolves a provider that takes part in the group and does not live in its base.
+#[tactic(auto, unfolding(node_state::specs::Applying::dissolved_if, session_state::specs::State::provider_of), using(node_groups::proofs::KeepLaws::keeps_itself))]
+fn dissolve_if<C: Callbacks>(
+    core: &mut Core,
+    clients: &mut Vec<C>,
+    g: &Name,
+    old: ViewId,
+    base: Option<&Base>,
+    p: ProviderId,
+) -> Result<(), NoMemory>
+    requires aligned { length clients.old.items ≡ length core.old.sessions.sessions }
+    ensures length { length clients.new.items ≡ length clients.old.items }
+    ensures scripts { OnOk result (map C.script clients.new.items ≡ map C.script clients.old.items) }
+    ensures row { OnOk result (core.new ≡ dissolved_if core.old g.now old (option_copied base.entry) (provider_of core.old.sessions p)) }
+    ensures keeps { OnOk result (Keeps core.old core.new) }
+{
+    match core.sessions.providers.get(p) {
+        None => Ok(()),
+        Some(x) => {
+            if !is_left_out(x, g, old, base) {
+                return Ok(());
+            }
+            let p = x.p;
+            let r = number_of(&core.sessions, p);
+            dissolve(core, clients, p, r)
+        }
+    }
+}
+
+/// Dissolves those of these that take part in the group and do not live in its base.
+#[tactic(auto, using(std::proofs::lemmas::List::Sums::fold_more, node_groups::proofs::KeepLaws::keeps_itself, node_groups::proofs::KeepLaws::keeps_then))]
+fn dissolve_each<C: Callbacks>(
+    core: &mut Core,
+    clients: &mut Vec<C>,
+    g: &Name,
+    old: ViewId,
+    base: Option<&Base>,
+    ps: &[ProviderId],
+) -> Result<(), NoMemory>
+    requires aligned { length clients.old.items ≡ length core.old.sessions.sessions }
+    ensures length { length clients.new.items ≡ length clients.old.items }
+    ensures scripts { OnOk result (map C.script clients.new.items ≡ map C.script clients.old.items) }
+    ensures row { OnOk result (core.new ≡ fold (λ t p. dissolved_if t g.now old (option_copied base.entry) (provider_of t.sessions p)) core.old ps.now) }
+    ensures keeps { OnOk result (Keeps core.old core.new) }
+{
+    for p in ps {
+        dissolve_if(core, clients, g, old, base, *p)?;
+    }
+    Ok(())
+}
+
+/// Dissolves those of a group's list, members and then running joiners, that do not live in the group's base.
+#[tactic(auto, unfolding(node_state::specs::Applying::group_dissolved), using(std::proofs::lemmas::Grind::common_steps, node_groups::proofs::KeepLaws::keeps_itself, node_groups::proofs::KeepLaws::keeps_then))]
+fn dissolve_group<C: Callbacks>(
+    core: &mut Core,
+    clients: &mut Vec<C>,
+    row: &GroupRow,
+    old: ViewId,
+    bases: &[Base],
+) -> Result<(), NoMemory>
+    requires aligned { length clients.old.items ≡ length core.old.sessions.sessions }
+    ensures length { length clients.new.items ≡ length clients.old.items }
+    ensures scripts { OnOk result (map C.script clients.new.items ≡ map C.script clients.old.items) }
+    ensures row { OnOk result (core.new ≡ fold (group_dissolved old bases.now) core.old (filter (λ x. is_some x.list) (row.now ∷ []))) }
+    ensures keeps { OnOk result (Keeps core.old core.new) }
+{
+    match &row.list {
+        None => Ok(()),
+        Some(list) => {
+            let base = base_named(bases, row.name.bytes());
+            let state = list.state();
+            dissolve_each(
+                core,
+                clients,
+                &row.name,
+                old,
+                base,
+                state.members.as_slice(),
+            )?;
+            dissolve_each(
+                core,
+                clients,
+                &row.name,
+                old,
+                base,
+                joiners_in(&state.running),
+            )
+        }
+    }
+}
+
+/// Dissolves, in the order of these rows of the old view, those of their lists that do not live in their bases.
+#[tactic(auto, unfolding(node_state::specs::Applying::sides_dissolved), using(crate::proofs::SideLaws::sides_more, node_groups::proofs::KeepLaws::keeps_itself, node_groups::proofs::KeepLaws::keeps_then))]
+pub(crate) fn dissolve_sides<C: Callbacks>(
+    core: &mut Core,
+    clients: &mut Vec<C>,
+    rows: &[GroupRow],
+    old: ViewId,
+    bases: &[Base],
+) -> Result<(), NoMemory>
+    requires aligned { length clients.old.items ≡ length core.old.sessions.sessions }
+    ensures length { length clients.new.items ≡ length clients.old.items }
+    ensures scripts { OnOk result (map C.script clients.new.items ≡ map C.script clients.old.items) }
+    ensures row { OnOk result (core.new ≡ sides_dissolved core.old (filter (λ x. is_some x.list) rows.now) old bases.now) }
+    ensures keeps { OnOk result (Keeps core.old core.new) }
+{
+    for row in rows {
+        dissolve_group(core, clients, row, old, bases)?;
+    }
+    Ok(())
+}

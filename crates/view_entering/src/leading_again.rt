@@ -1,0 +1,113 @@
+//! The groups that the node leads in the view that it enters.
+ghost use Rattle.std.specs.Prelude.{◌≡◌, OnOk, IfOk, filter, is_some, map};
+ghost use Rattle.std.specs.List.{fold};
+ghost use Rattle.rsct_packet.specs.Providers.{among};
+ghost use Rattle.entry_handing.specs.Doing.{Does};
+ghost use Rattle.group_leading.specs.Working.{AtWork};
+ghost use Rattle.node_groups.specs.Keeps.{Keeps};
+ghost use Rattle.node_state.specs.Applying.{failed_wait, phase_reopened, group_led, groups_led};
+
+use client_callbacks::Callbacks;
+use group_leading::{close, open_tally};
+use node_groups::{led_groups, state_of, wait_failure};
+use node_state::Core;
+use proposal_core::{Cause, GroupState};
+use rsct_packet::{Name, NoMemory, ProviderId, is_among};
+use std::alloc::Global;
+
+/// These failed members wait.
+#[tactic(auto, unfolding(node_state::specs::Applying::failed_wait), using(std::proofs::lemmas::List::Sums::fold_more, node_groups::proofs::KeepLaws::keeps_itself, node_groups::proofs::KeepLaws::keeps_then))]
+fn wait_failed(core: &mut Core, alloc: Global, g: &Name, ps: &[ProviderId]) -> Result<(), NoMemory>
+    ensures row { OnOk result (core.new ≡ failed_wait core.old g.now ps.now) }
+    ensures keeps { OnOk result (Keeps core.old core.new) }
+{
+    for p in ps {
+        wait_failure(core, alloc, g, *p, Cause::Died)?;
+    }
+    Ok(())
+}
+
+/// Opens the phase that runs anew, if one does, and closes it where it has an outcome at once.
+fn reopen<C: Callbacks>(
+    core: &mut Core,
+    clients: &mut Vec<C>,
+    alloc: Global,
+    g: &Name,
+    runs: bool,
+) -> Result<(), NoMemory>
+    requires work { AtWork core.old clients.old.items }
+    ensures work { OnOk result (AtWork core.new clients.new.items) }
+    ensures scripts { OnOk result (map C.script clients.new.items ≡ map C.script clients.old.items) }
+    ensures does { OnOk result (Does (map C.script clients.old.items) core.old core.new (λ f. phase_reopened f core.old g.now runs)) }
+{
+    if !runs {
+        return Ok(());
+    }
+    open_tally(core, alloc, g)?;
+    close(core, clients, alloc, g)
+}
+
+/// The members that failed.
+fn failed_members(alloc: Global, state: &GroupState) -> Result<Vec<ProviderId>, NoMemory>
+    ensures { IfOk result (λ v. v.items ≡ filter (among state.now.members) state.now.failed) }
+{
+    Ok(
+        state
+            .failed
+            .as_slice()
+            .iter()
+            .copied()
+            .filter(|p| is_among(state.members.as_slice(), *p))
+            .collect(alloc)?,
+    )
+}
+
+/// The node leads the group: its failed members wait, and its phase that runs is opened anew.
+fn lead<C: Callbacks>(
+    core: &mut Core,
+    clients: &mut Vec<C>,
+    alloc: Global,
+    g: &Name,
+) -> Result<(), NoMemory>
+    requires work { AtWork core.old clients.old.items }
+    ensures work { OnOk result (AtWork core.new clients.new.items) }
+    ensures scripts { OnOk result (map C.script clients.new.items ≡ map C.script clients.old.items) }
+    ensures does { OnOk result (Does (map C.script clients.old.items) core.old core.new (λ f. group_led f core.old g.now)) }
+{
+    let state = state_of(core, alloc, g.bytes())?;
+    let failed = failed_members(alloc, &state)?;
+    wait_failed(core, alloc, g, failed.as_slice())?;
+    reopen(core, clients, alloc, g, state.running.is_some())
+}
+
+fn lead_each<C: Callbacks>(
+    core: &mut Core,
+    clients: &mut Vec<C>,
+    alloc: Global,
+    groups: &[Name],
+) -> Result<(), NoMemory>
+    requires work { AtWork core.old clients.old.items }
+    ensures work { OnOk result (AtWork core.new clients.new.items) }
+    ensures scripts { OnOk result (map C.script clients.new.items ≡ map C.script clients.old.items) }
+    ensures does { OnOk result (Does (map C.script clients.old.items) core.old core.new (λ f. fold (group_led f) core.old groups.now)) }
+{
+    for g in groups {
+        lead(core, clients, alloc, g)?;
+    }
+    Ok(())
+}
+
+/// The node leads its groups, in name order.
+pub(crate) fn lead_groups<C: Callbacks>(
+    core: &mut Core,
+    clients: &mut Vec<C>,
+    alloc: Global,
+) -> Result<(), NoMemory>
+    requires work { AtWork core.old clients.old.items }
+    ensures work { OnOk result (AtWork core.new clients.new.items) }
+    ensures scripts { OnOk result (map C.script clients.new.items ≡ map C.script clients.old.items) }
+    ensures does { OnOk result (Does (map C.script clients.old.items) core.old core.new (λ f. groups_led f core.old)) }
+{
+    let groups = led_groups(core, alloc)?;
+    lead_each(core, clients, alloc, groups.as_slice())
+}

@@ -1,0 +1,187 @@
+//! What subscribers are told at an install.
+ghost use Rattle.std.specs.Prelude.{◌≡◌, ◌++◌, ◌∷◌, [], OnOk, IfOk, None, find, length, map, option_copied};
+ghost use Rattle.std.specs.List.{flat_map};
+ghost use Rattle.session_state.specs.State.{is_session};
+ghost use Rattle.client_callbacks.specs.declared.told.Told.TheVariants as told;
+ghost use Rattle.node_state.specs.declared.happened.Happened.TheVariants as happened;
+ghost use Rattle.node_state.specs.HandOn.{subscriber_name};
+ghost use Rattle.view_exchange.specs.Bases.{base_named};
+ghost use Rattle.node_state.specs.Applying.{entering_noted};
+ghost use Rattle.node_groups.specs.Keeps.{Keeps};
+ghost use Rattle.view_entering.specs.Arriving.{note_at, notes_at};
+
+use crate::dissolving::base_named;
+use client_callbacks::{Callbacks, Told};
+use client_session::tell_at;
+use group_attr::HOST_MEMBERSHIP;
+use node_state::{Core, Happened, Records};
+use rsct_packet::{List, Members, NoMemory, ViewId};
+use session_state::{Session, SessionState};
+use std::alloc::Global;
+use subscribe_core::{ClientToken, Subscription};
+use view_exchange::Base;
+
+/// What is told at a node of the view that it enters: its members, and what the groups begin with.
+#[derive(Clone, Copy)]
+struct Arrival<'a> {
+    node: u8,
+    view: ViewId,
+    members: &'a Members,
+    bases: &'a [Base],
+}
+
+fn session_of(rows: &[Session], t: ClientToken) -> Option<&Session>
+    ensures { option_copied result ≡ find (is_session t) rows.now }
+{
+    rows.iter().find(|x| x.token == t)
+}
+
+/// The name of a subscription's client; no bytes where it has no session.
+#[tactic(auto, unfolding(node_state::specs::HandOn::subscriber_name, session_state::specs::State::client_name))]
+fn subscriber_name(
+    alloc: Global,
+    sessions: &SessionState,
+    u: &Subscription,
+) -> Result<List<u8>, NoMemory>
+    ensures { IfOk result (λ l. l ≡ subscriber_name sessions.now u.now) }
+{
+    match session_of(sessions.sessions.as_slice(), u.client) {
+        None => Ok(List::new(alloc)),
+        Some(x) => List::of(alloc, x.name.as_slice()),
+    }
+}
+
+/// Tells the client of a subscription something at an install, and records it.
+fn tell<C: Callbacks>(
+    sessions: &SessionState,
+    clients: &mut Vec<C>,
+    records: &mut Records,
+    alloc: Global,
+    a: &Arrival<'_>,
+    u: &Subscription,
+    told: Told,
+) -> Result<(), NoMemory>
+    requires aligned { length clients.old.items ≡ length sessions.now.sessions }
+    ensures length { length clients.new.items ≡ length clients.old.items }
+    ensures scripts { OnOk result (map C.script clients.new.items ≡ map C.script clients.old.items) }
+    ensures records { OnOk result (records.new ≡ records.old ++ happened.Noted a.now.node (subscriber_name sessions.now u.now) a.now.view None told ∷ []) }
+{
+    let client = subscriber_name(alloc, sessions, u)?;
+    tell_at(clients, sessions.client_place(u.client), &told)?;
+    records.push(Happened::Noted {
+        node: a.node,
+        client,
+        view: a.view,
+        place: None,
+        told,
+    })
+}
+
+/// What a client is told of the hosts.
+fn hosts(alloc: Global, a: &Arrival<'_>) -> Result<Told, NoMemory>
+    ensures { IfOk result (λ t. t ≡ told.Hosts a.now.view a.now.members.now) }
+{
+    Ok(Told::Hosts {
+        view: a.view,
+        nodes: List::of(alloc, a.members.as_slice())?,
+    })
+}
+
+/// What a client is told of a group that begins from its base.
+fn note_of(alloc: Global, base: &Base) -> Result<Told, NoMemory>
+    ensures { IfOk result (λ t. t ≡ told.Note base.now.name base.now.state.members base.now.state.value) }
+{
+    Ok(Told::Note {
+        group: base.name.copy(alloc)?,
+        members: base.state.members.copy(alloc)?,
+        value: base.state.value.copy(alloc)?,
+    })
+}
+
+/// Tells the client of a subscription what its group begins with, where it has a base.
+fn tell_base<C: Callbacks>(
+    sessions: &SessionState,
+    clients: &mut Vec<C>,
+    records: &mut Records,
+    alloc: Global,
+    a: &Arrival<'_>,
+    u: &Subscription,
+) -> Result<(), NoMemory>
+    requires aligned { length clients.old.items ≡ length sessions.now.sessions }
+    ensures length { length clients.new.items ≡ length clients.old.items }
+    ensures scripts { OnOk result (map C.script clients.new.items ≡ map C.script clients.old.items) }
+    ensures records { OnOk result (records.new ≡ records.old ++ note_at a.now.node a.now.view sessions.now u.now (base_named a.now.bases.now u.now.group)) }
+{
+    match base_named(a.bases, u.group.as_slice()) {
+        None => Ok(()),
+        Some(base) => {
+            let told = note_of(alloc, base)?;
+            tell(sessions, clients, records, alloc, a, u, told)
+        }
+    }
+}
+
+/// Tells the client of a subscription who the hosts are, or what its group begins with.
+fn tell_one<C: Callbacks>(
+    sessions: &SessionState,
+    clients: &mut Vec<C>,
+    records: &mut Records,
+    alloc: Global,
+    a: &Arrival<'_>,
+    u: &Subscription,
+) -> Result<(), NoMemory>
+    requires aligned { length clients.old.items ≡ length sessions.now.sessions }
+    ensures length { length clients.new.items ≡ length clients.old.items }
+    ensures scripts { OnOk result (map C.script clients.new.items ≡ map C.script clients.old.items) }
+    ensures records { OnOk result (records.new ≡ records.old ++ notes_at a.now.node a.now.view a.now.members.now sessions.now a.now.bases.now u.now) }
+{
+    if u.group.as_slice() == HOST_MEMBERSHIP {
+        let told = hosts(alloc, a)?;
+        tell(sessions, clients, records, alloc, a, u, told)
+    } else {
+        tell_base(sessions, clients, records, alloc, a, u)
+    }
+}
+
+/// Tells the clients of all subscriptions, oldest first.
+#[tactic(auto, using(std::proofs::lemmas::List::flat_map_more, std::proofs::lemmas::Grind::common_steps))]
+fn tell_all<C: Callbacks>(
+    sessions: &SessionState,
+    clients: &mut Vec<C>,
+    records: &mut Records,
+    alloc: Global,
+    a: &Arrival<'_>,
+) -> Result<(), NoMemory>
+    requires aligned { length clients.old.items ≡ length sessions.now.sessions }
+    ensures length { length clients.new.items ≡ length clients.old.items }
+    ensures scripts { OnOk result (map C.script clients.new.items ≡ map C.script clients.old.items) }
+    ensures records { OnOk result (records.new ≡ records.old ++ flat_map (notes_at a.now.node a.now.view a.now.members.now sessions.now a.now.bases.now) sessions.now.subs.live) }
+{
+    for u in sessions.subs.live() {
+        tell_one(sessions, clients, records, alloc, a, u)?;
+    }
+    Ok(())
+}
+
+/// Tells the clients of subscriptions who the hosts of the view are and what their groups begin with, oldest first.
+#[tactic(auto, unfolding(node_state::specs::Applying::entering_noted, node_state::specs::Applying::entering_note, node_state::specs::Applying::base_note, node_state::specs::HandOn::note_of, node_state::specs::State::recorded_all), using(crate::proofs::WorkLaws::noted_keeps))]
+pub(crate) fn note_bases<C: Callbacks>(
+    core: &mut Core,
+    clients: &mut Vec<C>,
+    alloc: Global,
+    bases: &[Base],
+) -> Result<(), NoMemory>
+    requires aligned { length clients.old.items ≡ length core.old.sessions.sessions }
+    ensures length { length clients.new.items ≡ length clients.old.items }
+    ensures scripts { OnOk result (map C.script clients.new.items ≡ map C.script clients.old.items) }
+    ensures row { OnOk result (core.new ≡ entering_noted core.old bases.now) }
+    ensures keeps { OnOk result (Keeps core.old core.new) }
+{
+    let arrival = Arrival {
+        node: core.views.me,
+        view: core.views.view,
+        members: &core.views.members,
+        bases,
+    };
+    tell_all(&core.sessions, clients, &mut core.records, alloc, &arrival)
+}
