@@ -1,0 +1,3 @@
+pub mod StepLaws
+pub mod StartLaws
+pub mod PartLaws

@@ -1,0 +1,27 @@
+-- What happens to a node, in the words of its step.
+use Rattle.std.specs.Prelude.{Bool, true, List, Option, Some, None}
+use Rattle.node_state.specs.declared.packet.Packet.{Packet}
+use Rattle.node_state.specs.declared.state.Core.{Core}
+use Rattle.node_state.specs.HandOn.{Answering}
+use Rattle.node_state.specs.Bytes.{event_of}
+use Rattle.node_state.specs.Step.{Ticks, Asks, Calls, packet_row}
+use Rattle.node_state.specs.Step as step
+use Rattle.session_calls.specs.Calling.{is_within_session}
+use Rattle.node_step.specs.declared.events.NodeEvent.{NodeEvent}
+use Rattle.node_step.specs.declared.events.NodeEvent.TheVariants as event
+
+abbrev pub event_in : NodeEvent → step.NodeEvent
+event_in event.Tick = Ticks
+event_in (event.Ask mask) = Asks mask
+event_in (event.Datagram bytes) = event_of bytes.now
+event_in (event.Call c) = Calls c.now
+
+-- a call neither begins nor ends a session
+abbrev pub is_taken : NodeEvent → Bool
+is_taken (event.Call c) = is_within_session c.now
+is_taken _ = true
+
+-- what a datagram makes before the end of the step: bytes that are no packet make nothing
+unfoldable pub datagram_row : Answering → Core → Option Packet → Core
+datagram_row f s None = s
+datagram_row f s (Some p) = packet_row f s p
