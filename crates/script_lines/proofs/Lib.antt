@@ -1,0 +1,5 @@
+pub mod ClientLaws
+pub mod EachLaws
+pub mod SaidLaws
+pub mod ReadLaws
+pub mod ScriptLaws

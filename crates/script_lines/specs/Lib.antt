@@ -1,0 +1,4 @@
+pub mod Said
+pub mod Clients
+pub mod Faults
+pub mod Reading
