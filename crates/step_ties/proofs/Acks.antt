@@ -1,5 +1,5 @@
 -- ACK: what members acknowledged, and what is stable.
-use Rattle.std.proofs.Common.{◌≡◌, ◌≢◌, ◌≤◌, ◌⊎◌, ℕ, zero, suc, max, min, List, [], ◌∷◌, length, Bool, true, false, refl, sym, ap, ◌∙◌, subst, inl, inr, ⊎_elim, arith}
+use Rattle.std.proofs.Common.{Some, ◌≡◌, ◌≢◌, ◌≤◌, ◌⊎◌, ℕ, zero, suc, max, min, List, [], ◌∷◌, length, Bool, true, false, refl, sym, ap, ◌∙◌, subst, inl, inr, ⊎_elim, arith}
 use Rattle.std.specs.Prelude.{◌==◌, ◌&&◌, ◌||◌, not, nat_le, fold, map, find}
 use Rattle.std.proofs.lemmas.Bool.{eqb-true, eq-eqb, cases_eq, and_parts}
 use Rattle.rsct_packet.specs.declared.ids.ViewId.{ViewId}
@@ -10,7 +10,7 @@ use Rattle.rsct_packet.specs.Search.{Has}
 use Rattle.rsct_packet.proofs.HasLaws.{has_map, append_has_right}
 use Rattle.proposal_core.specs.Lists.{len_in, list_or_new}
 use Rattle.rsct_packet.specs.declared.ids.ProviderId.{ProviderId}
-use Rattle.rsct_packet.specs.Providers.{among, same_provider}
+use Rattle.rsct_packet.specs.Providers.{among, differ, same_provider}
 use Rattle.view_core.specs.Views.{is_frozen}
 use Rattle.node_state.specs.declared.config.Config.{Config}
 use Rattle.node_state.specs.declared.config.Mode.{Mode}
@@ -33,14 +33,18 @@ use Rattle.run_safety.proofs.Whole.{Whole}
 use Rattle.run_safety.proofs.Lives.{whole, always_same_members}
 use Rattle.run_safety.proofs.Past.{Origin}
 use Rattle.run_safety.proofs.Tests.{any_has}
-use Rattle.step_ties.specs.Ghost.{Ghost, Lives, Keeps, IsStable}
-use Rattle.step_ties.specs.Tied.{ShowsBody, RowIs, IsAcked, Decided, LeaderKeeps, NodeIs, Scene, opening_in, opening_of, Tied}
-use Rattle.step_ties.proofs.Goes.{Spares, shows_on, node_on}
+use Rattle.run_safety.proofs.Whole.{was_sent}
+use Rattle.run_safety.proofs.Parts.{member_parts}
+use Rattle.step_ties.specs.Ghost.{Ghost, Lives, Goes, Keeps, IsStable}
+use Rattle.step_ties.specs.Tied.{ShowsBody, RowIs, IsAcked, Decided, LeaderKeeps, NodeIs, Scene, Sound, opening_in, opening_of, Tied}
+use Rattle.step_ties.proofs.Goes.{Spares, Still, sound_on, owes_by, decides_by, node_by, shows_on}
 use Rattle.step_ties.proofs.Works.{tied_on}
 use Rattle.step_ties.proofs.NameOrder.{cases_text}
-use Rattle.step_ties.proofs.Gone.{with_packet, packet_spares, spares_then}
+use Rattle.step_ties.proofs.Leads.{leads_led, leads_known}
+use Rattle.step_ties.proofs.Gone.{with_packet, packet_goes, packet_still, goes_then}
 use Rattle.step_ties.proofs.ViewRows.{same_of}
-use Rattle.step_ties.proofs.RowWorks.{max_one, keeps_of, tied_row, tied_forgets}
+use Rattle.step_ties.proofs.RowWorks.{max_one, keeps_of, waits_of, tied_row, tied_forgets}
+use Rattle.step_ties.proofs.Turns.{packet_turns}
 
 -- ---- lengths that are acknowledged
 
@@ -77,6 +81,20 @@ raised_there m n k (a ∷ old) ne = by (a.node == n) refl (raised_there m n k ol
         let gone : (a.node == m) ≡ false = ap (λ z. z == m) (eqb-true a.node n e) ∙ other (n == m) refl in
         ap (λ b. elim b [ true ↦ max a.len k | false ↦ acked_from m old ]) (other (n == m) refl) ∙ ap (λ b. elim b [ true ↦ a.len | false ↦ acked_from m old ]) (sym gone)
     by false e r = ap (λ z. elim (a.node == m) [ true ↦ a.len | false ↦ z ]) r
+
+-- no length falls
+raised_more : (m n k : ℕ) (old : List Acked) → acked_from m old ≤ acked_from m (acked_raised n k old)
+unfolding acked_from acked_raised
+raised_more m n k [] = omega arith
+raised_more m n k (a ∷ old) = by (a.node == n) (a.node == m) (n == m) refl refl refl (raised_more m n k old)
+  where
+    by : (b c d : Bool) → (a.node == n) ≡ b → (a.node == m) ≡ c → (n == m) ≡ d → acked_from m old ≤ acked_from m (acked_raised n k old) → elim c as (λ _. ℕ) [ true ↦ a.len | false ↦ acked_from m old ] ≤ acked_from m (elim b as (λ _. List Acked) [ true ↦ record { node = n; len = max a.len k } ∷ old | false ↦ a ∷ acked_raised n k old ])
+    by true true true e f i r = let z : acked_from m (record { node = n; len = max a.len k } ∷ old) ≡ max a.len k = ap (λ b. elim b as (λ _. ℕ) [ true ↦ max a.len k | false ↦ acked_from m old ]) i in omega arith
+    by true false false e f i r = let z : acked_from m (record { node = n; len = max a.len k } ∷ old) ≡ acked_from m old = ap (λ b. elim b as (λ _. ℕ) [ true ↦ max a.len k | false ↦ acked_from m old ]) i in omega arith
+    by true true false e f i r = absurd (let z : (n == m) ≡ true = ap (λ y. y == m) (sym (eqb-true a.node n e)) ∙ f in cc)
+    by true false true e f i r = absurd (let z : (a.node == m) ≡ true = ap (λ y. y == m) (eqb-true a.node n e) ∙ i in cc)
+    by false true d e f i r = let z : acked_from m (a ∷ acked_raised n k old) ≡ a.len = ap (λ b. elim b as (λ _. ℕ) [ true ↦ a.len | false ↦ acked_from m (acked_raised n k old) ]) f in omega arith
+    by false false d e f i r = let z : acked_from m (a ∷ acked_raised n k old) ≡ acked_from m (acked_raised n k old) = ap (λ b. elim b as (λ _. ℕ) [ true ↦ a.len | false ↦ acked_from m (acked_raised n k old) ]) f in omega arith
 
 -- the least is no more than any
 fold_below : (f : Member → ℕ) (ms : List Member) (a : ℕ) → fold (λ least (m : Member). min least (f m)) a ms ≤ a
@@ -136,6 +154,10 @@ led_keeps x n inc v l m d u h =
       waiting = λ p e i. let z = h.waiting p e (subst (λ js. among js p ≡ true) u i) in
           record { proposal = z.proposal; sent = z.sent; joins = z.joins; open_still = z.open_still; unbegun = z.unbegun; decided = decided p p.join z.decided };
       later = h.later;
+      again = λ p z why e q. h.again p z why (ap (λ ds. find (λ d. same_provider d.p p) ds) (sym d) ∙ e) q;
+      leads_it = λ p i. h.leads_it p (subst (λ js. among js p ≡ true) u i);
+      apart = ap differ u ∙ h.apart;
+      lasts = λ p z i e. h.lasts p z (subst (λ js. among js p ≡ true) u i) (ap (λ ds. find (λ y. same_provider y.p p) ds) (sym d) ∙ e);
     }
   where
     decided : (p : ProviderId) (r : ℕ) → Decided l p r → Decided m p r
@@ -157,16 +179,47 @@ module _ (g : List ℕ) (w : Scene) (n : ℕ) (s : Core) (t : Tied g w n s) wher
   abbrev settles : ℕ → Ghost
   settles m = with_packet acking (settling m)
 
-  settle_spares : (m i : ℕ) → Spares t.ghost (settles m) i
-  settle_spares m i =
-      spares_then t.ghost acking (settles m) i (packet_spares t.ghost own_ack i (λ e. absurd (omega arith))) (packet_spares acking (settling m) i (λ e. absurd (omega arith)))
+  acking_still : Still t.ghost acking
+  acking_still = packet_still t.ghost own_ack (λ e. absurd (omega arith)) (λ e. absurd (omega arith))
+
+  -- what is settled where the node leads is new to no other leader
+  settle_spares : (m i : ℕ) → ((j : ℕ) → t.ghost.leads (t.ghost.nodes n).view ≡ Some (member i j) → ⊥) → Spares t.ghost (settles m) i
+  settle_spares m i apart =
+      record {
+        goes = goes_then t.ghost acking (settles m) acking_still.goes (packet_goes acking (settling m));
+        list = refl;
+        leads = λ v s. refl;
+        refusals = λ v p r h. inl (acking_still.refusals v p r (was_sent (group.Refusal v p r) (settling m) acking.ps (λ e. absurd (omega arith)) h));
+        stables = λ v k h. stable v k h;
+        puts = λ u k e h. h;
+        told = λ p r u e h. h;
+        shut = λ v e h. h;
+        asked = λ a e h. h;
+      }
+    where
+      stable : (v : ViewId) (k : ℕ) → Has (group.Stable v k) (settling m ∷ acking.ps) → Has (group.Stable v k) t.ghost.ps ⊎ ((j : ℕ) → t.ghost.leads v ≡ Some (member i j) → ⊥)
+      stable v k (inr h) = inl (acking_still.stables v k h)
+      stable v k (inl e) = let same : v ≡ (t.ghost.nodes n).view = cc in inr (λ j q. apart j (ap t.ghost.leads (sym same) ∙ q))
+
+  settle_sound : (m : ℕ) → Sound g (settles m)
+  settle_sound m =
+      let k = sound_on t.ghost acking acking_still g t.sound in
+      record {
+        refused = λ v p r h. k.refused v p r (was_sent (group.Refusal v p r) (settling m) acking.ps (λ e. absurd (omega arith)) h);
+        unled = λ v p r h. k.unled v p r (was_sent (group.Refusal v p r) (settling m) acking.ps (λ e. absurd (omega arith)) h);
+        shut = k.shut;
+        asked = k.asked;
+        one = k.one;
+        started = k.started;
+        told = k.told;
+      }
 
   -- what each member has is stable
-  pub settled : (m : ℕ) → ((k : Member) → Has k s.views.members → m ≤ acked_by s (row_of s g) k.node) → (t' : Tied g w n s) × IsStable t'.ghost s.views.view m × Settled t.ghost t'.ghost
+  pub settled : (m : ℕ) → ((k : Member) → Has k s.views.members → m ≤ acked_by s (row_of s g) k.node) → t.ghost.leads s.views.view ≡ Some (member n s.views.inc) → (t' : Tied g w n s) × IsStable t'.ghost s.views.view m × Settled t.ghost t'.ghost
   unfolding acked_by
-  settled zero le = (t, inl refl, record { all = refl; bases = refl; leads = refl; packets = λ p h. h })
-  settled (suc m) le = (
-    tied_on g w n s t s (settles (suc m)) life t.lines (node_on t.ghost (settles (suc m)) n (settle_spares (suc m) n) refl g (is_fixed s.config.mode) s.views (row_of s g) s.groups s.sessions s.names t.own.0, t.own.1, t.own.2) (λ i ne. settle_spares (suc m) i) (λ i ne. refl) (λ p h. shows_on t.ghost (settles (suc m)) (settle_spares (suc m) n).goes g p (t.packets p h)),
+  settled zero le led = (t, inl refl, record { all = refl; bases = refl; leads = refl; packets = λ p h. h })
+  settled (suc m) le led = (
+    tied_on g w n s t s (settles (suc m)) life t.lines t.placed (packet_turns w n s.views.view s.records s.sessions acking.ps (packet_turns w n s.views.view s.records s.sessions t.ghost.ps t.turns own_ack (λ b c d f e. cc)) (settling (suc m)) (λ b c d f e. cc)) (own, t.own.1, t.own.2) (λ i ne. settle_spares (suc m) i (apart i ne)) (λ i ne. refl) (λ p h. shows_on t.ghost (settles (suc m)) goes g p (t.packets p h)) (settle_sound (suc m)),
     inr (inl (ap (λ v. group.Stable v (suc m)) (sym t.own.0.stands.view))),
     record { all = refl; bases = refl; leads = refl; packets = λ p h. inr (inr h) },
   )
@@ -196,18 +249,42 @@ module _ (g : List ℕ) (w : Scene) (n : ℕ) (s : Core) (t : Tied g w n s) wher
           other true e = absurd (ne (eqb-true k s.views.me e ∙ h.stands.me))
           other false e = e
 
+      apart : (i : ℕ) → i ≢ n → (j : ℕ) → t.ghost.leads (t.ghost.nodes n).view ≡ Some (member i j) → ⊥
+      apart i ne j e = ne (member_parts i n j s.views.inc (sym e ∙ ap t.ghost.leads h.stands.view ∙ led)).0
+
+      goes : Goes t.ghost (settles (suc m))
+      goes = goes_then t.ghost acking (settles (suc m)) acking_still.goes (packet_goes acking (settling (suc m)))
+
+      others_acked : (b i : ℕ) → Has (member b i) s.views.members → b ≢ n → suc m ≤ acked_from b (row_of s g).led.acked
+      others_acked b i a ne = subst (λ c. suc m ≤ elim c [ true ↦ len_in (row_of s g).list | false ↦ acked_from b (row_of s g).led.acked ]) (other (b == s.views.me) refl) (le (member b i) a)
+        where
+          other : (c : Bool) → (b == s.views.me) ≡ c → (b == s.views.me) ≡ false
+          other true e = absurd (ne (eqb-true b s.views.me e ∙ h.stands.me))
+          other false e = e
+
+      covers : (j k : ℕ) → t.ghost.leads s.views.view ≡ Some (member n j) → Has (group.Stable s.views.view k) (settling (suc m) ∷ acking.ps) → (b i : ℕ) → Has (member b i) s.views.members → b ≢ n → k ≤ acked_from b (row_of s g).led.acked
+      covers j k e (inr c) b i a ne = h.row_is.covers j k e (acking_still.stables s.views.view k c) b i a ne
+      covers j k e (inl c) b i a ne = let same : k ≡ suc m = cc in subst (λ z. z ≤ acked_from b (row_of s g).led.acked) (sym same) (others_acked b i a ne)
+
+      refusal_old : (v : ViewId) (p : ProviderId) (r : ℕ) → Has (group.Refusal v p r) (settling (suc m) ∷ acking.ps) → Has (group.Refusal v p r) t.ghost.ps
+      refusal_old v p r i = acking_still.refusals v p r (was_sent (group.Refusal v p r) (settling (suc m)) acking.ps (λ e. absurd (omega arith)) i)
+
+      own : NodeIs (settles (suc m)) g n s
+      own =
+          node_by t.ghost (settles (suc m)) goes n refl g (is_fixed s.config.mode) s.views (row_of s g) s.groups s.sessions s.sessions s.names s.names covers (owes_by t.ghost (settles (suc m)) goes n (λ a e i. i) (λ u k e i. i) (λ p r u e i. i) g s.views.inc s.sessions h.owes) (decides_by t.ghost (settles (suc m)) goes n refl (λ v l e. e) refusal_old s.views.inc s.views.view (row_of s g).led h.decides) (record { named = h.names.named; unnamed = h.names.unnamed; full = h.names.full }) h
+
       life : Lives (opening_of w.config) (settles (suc m))
       life =
           Settles t.ghost.nodes acking.ps t.ghost.all t.ghost.leads t.ghost.bases n s.views.inc (t.ghost.nodes n).view s.views.members (suc m) (Acknowledges t.ghost.nodes t.ghost.ps t.ghost.all t.ghost.leads t.ghost.bases n (t.ghost.nodes n) (length (t.ghost.nodes n).list) t.life refl (omega arith)) seated (λ k i q. ⊎_elim (λ (e : k ≡ n). mine k i e q (le (member k i) q)) (λ (ne : k ≢ n). theirs k i ne q (le (member k i) q)) (cases_eq k n))
 
   -- what all members have is forgotten
-  pub tied_least : (h : List ℕ) → Tied g w n (forgets_least s h)
+  pub tied_least : (h : List ℕ) → (h ≡ g → t.ghost.leads s.views.view ≡ Some (member n s.views.inc)) → Tied g w n (forgets_least s h)
   unfolding forgets_least least_acked
-  tied_least h = at (cases_text h g)
+  tied_least h led = at (cases_text h g)
     where
       at : (h ≡ g) ⊎ (h ≡ g → ⊥) → Tied g w n (forgets_below s h (fold (λ least (m : Member). min least (acked_by s (row_of s h) m.node)) (len_in (row_of s h).list) s.views.members))
       at (inl e) =
-          let k = settled (fold (λ least (m : Member). min least (acked_by s (row_of s g) m.node)) (len_in (row_of s g).list) s.views.members) (λ m q. fold_least (λ (m : Member). acked_by s (row_of s g) m.node) s.views.members (len_in (row_of s g).list) m q) in
+          let k = settled (fold (λ least (m : Member). min least (acked_by s (row_of s g) m.node)) (len_in (row_of s g).list) s.views.members) (λ m q. fold_least (λ (m : Member). acked_by s (row_of s g) m.node) s.views.members (len_in (row_of s g).list) m q) (led e) in
           subst (λ z. Tied g w n (forgets_below s z (fold (λ least (m : Member). min least (acked_by s (row_of s z) m.node)) (len_in (row_of s z).list) s.views.members))) (sym e) (tied_forgets g w n s k.0 g (fold (λ least (m : Member). min least (acked_by s (row_of s g) m.node)) (len_in (row_of s g).list) s.views.members) (λ q. k.1))
       at (inr ne) = tied_forgets g w n s t h (fold (λ least (m : Member). min least (acked_by s (row_of s h) m.node)) (len_in (row_of s h).list) s.views.members) (λ q. absurd (ne q))
 
@@ -215,7 +292,7 @@ module _ (g : List ℕ) (w : Scene) (n : ℕ) (s : Core) (t : Tied g w n s) wher
 tied_raised : (g : List ℕ) (w : Scene) (n : ℕ) (s : Core) (t : Tied g w n s) (h : List ℕ) (from inc k : ℕ) → Has (member from inc) s.views.members → (h ≡ g → Has (group.Ack s.views.view from inc k) t.ghost.ps) → Tied g w n (with_led s h (λ l. record l { acked = acked_raised from k l.acked }))
 unfolding with_led
 tied_raised g w n s t h from inc k among sent =
-    tied_row g w n s t h (λ row. record row { led = record (row.led) { acked = acked_raised from k row.led.acked } }) (λ x. refl) new
+    tied_row g w n s t h (λ row. record row { led = record (row.led) { acked = acked_raised from k row.led.acked } }) (λ x. refl) (waits_of g w n s t h) new
   where
     is : NodeIs t.ghost g n s
     is = t.own.0
@@ -233,7 +310,7 @@ tied_raised g w n s t h from inc k among sent =
     new e =
         let P : List ℕ → Type 0 = λ z. RowIs t.ghost n s.views.view s.views.members (record (row_of s z) { led = record ((row_of s z).led) { acked = acked_raised from k (row_of s z).led.acked } }) × LeaderKeeps t.ghost n s.views.inc s.views.view (record ((row_of s z).led) { acked = acked_raised from k (row_of s z).led.acked }) in
         subst P (sym e) (
-          record { list = is.row_is.list; stable = is.row_is.stable; leader = is.row_is.leader; acked = acks (row_of s g).led.acked (sent e) is.row_is.acked },
+          record { list = is.row_is.list; stable = is.row_is.stable; leader = is.row_is.leader; acked = acks (row_of s g).led.acked (sent e) is.row_is.acked; covers = λ j i a b m q r ne. let y = is.row_is.covers j i a b m q r ne in let z = raised_more m from k (row_of s g).led.acked in omega arith },
           led_keeps t.ghost n s.views.inc s.views.view (row_of s g).led (record ((row_of s g).led) { acked = acked_raised from k (row_of s g).led.acked }) refl refl is.decides,
         )
 
@@ -255,14 +332,19 @@ used_is s p v e =
 
 pub ack_is_tied : (v : ViewId) (h : List ℕ) (k : ℕ) (g : List ℕ) (w : Scene) (n : ℕ) (f : Answering) (s : Core) (p : Packet) → p.body ≡ body.Ack v h k → Has p w.sent → Tied g w n s → Tied g w n (body_row f s p (body.Ack v h k))
 unfolding body_row used_if ack_row acked
-ack_is_tied v h k g w n f s p is sent t = by (is_used s p v) (leads s h && nat_le k (len_of s h)) refl
+ack_is_tied v h k g w n f s p is sent t = by (is_used s p v) (leads s h && nat_le k (len_of s h)) refl refl
   where
     shown : h ≡ g → Has (group.Ack v p.from p.inc k) t.ghost.ps
-    shown = subst (ShowsBody t.ghost g p.from p.inc) is (t.packets p (append_has_right p s.sends w.sent sent))
+    shown = subst (ShowsBody t.ghost g p.from p.inc p.to) is (t.packets p (append_has_right p s.sends w.sent sent))
 
-    by : (b c : Bool) → is_used s p v ≡ b → Tied g w n (used_if s (elim c [ true ↦ forgets_least (with_led s h (λ l. record l { acked = acked_raised p.from k l.acked })) h | false ↦ s ]) b)
-    by false c e = t
-    by true false e = t
-    by true true e =
-        let u = used_is s p v e in
-        tied_least g w n (with_led s h (λ l. record l { acked = acked_raised p.from k l.acked })) (tied_raised g w n s t h p.from p.inc k u.2 (λ q. subst (λ z. Has (group.Ack z p.from p.inc k) t.ghost.ps) u.0 (shown q))) h
+    raised : (v ≡ s.views.view) × (s.views.promise ≡ s.views.view) × Has (member p.from p.inc) s.views.members → Tied g w n (with_led s h (λ l. record l { acked = acked_raised p.from k l.acked }))
+    raised u = tied_raised g w n s t h p.from p.inc k u.2 (λ q. subst (λ z. Has (group.Ack z p.from p.inc k) t.ghost.ps) u.0 (shown q))
+
+    row : (v ≡ s.views.view) × (s.views.promise ≡ s.views.view) × Has (member p.from p.inc) s.views.members → leads s h ≡ true → Tied g w n (forgets_least (with_led s h (λ l. record l { acked = acked_raised p.from k l.acked })) h)
+    row u led =
+        tied_least g w n (with_led s h (λ l. record l { acked = acked_raised p.from k l.acked })) (raised u) h (λ e. leads_known g w n (with_led s h (λ l. record l { acked = acked_raised p.from k l.acked })) (raised u) (leads_led s h (λ l. record l { acked = acked_raised p.from k l.acked }) t.own.0.order g ∙ subst (λ z. leads s z ≡ true) e led))
+
+    by : (b c : Bool) → is_used s p v ≡ b → (leads s h && nat_le k (len_of s h)) ≡ c → Tied g w n (used_if s (elim c [ true ↦ forgets_least (with_led s h (λ l. record l { acked = acked_raised p.from k l.acked })) h | false ↦ s ]) b)
+    by false c e q = t
+    by true false e q = t
+    by true true e q = row (used_is s p v e) (and_parts (leads s h) (nat_le k (len_of s h)) q).0

@@ -1,7 +1,6 @@
--- The leader of a group appends an entry that carries no request, and closes the phases of a protocol.
-use Rattle.std.proofs.Common.{◌≡◌, ◌⊎◌, ◌<◌, ℕ, zero, suc, ◌+◌, List, [], ◌∷◌, ◌++◌, length, take, Option, Some, None, Bool, true, false, refl, sym, ap, ◌∙◌, subst, inl, inr, ⊎_elim, append_assoc}
-use Rattle.std.specs.Prelude.{◌==◌, not, map, filter, fold, flat_map, find, slice_get, nat_le, if◌then◌else◌}
-use Rattle.std.proofs.lemmas.Bool.{eqb-true}
+-- The leader of a group appends an entry, closes the phases of a protocol, and begins one.
+use Rattle.std.proofs.Common.{◌≤◌, ◌≡◌, ◌⊎◌, ◌<◌, ℕ, zero, suc, ◌+◌, List, [], ◌∷◌, ◌++◌, length, take, Option, Some, None, Bool, true, false, refl, sym, ap, ◌∙◌, subst, inl, inr, ⊎_elim, append_assoc}
+use Rattle.std.specs.Prelude.{not, map, filter, fold, flat_map, slice_get, nat_le, if◌then◌else◌}
 use Rattle.std.proofs.lemmas.List.{append-nil}
 use Rattle.rsct_packet.specs.declared.ids.ViewId.{ViewId}
 use Rattle.rsct_packet.specs.declared.ids.Member.{Member}
@@ -12,7 +11,11 @@ use Rattle.rsct_packet.specs.Search.{Has}
 use Rattle.rsct_packet.proofs.HasLaws.{has_append, append_has_left, append_has_right, has_map}
 use Rattle.group_entry.specs.declared.proposal.Cause.{Cause}
 use Rattle.group_entry.specs.declared.proposal.Cause.TheVariants.{Died, Gone}
+use Rattle.group_attr.specs.declared.attrs.Phases.{Phases}
+use Rattle.group_attr.specs.declared.attrs.Phases.TheVariants.{One, Many}
+use Rattle.group_entry.specs.declared.proposal.Proposal.{Proposal}
 use Rattle.group_entry.specs.declared.entry.Entry.{Entry}
+use Rattle.group_entry.specs.declared.entry.Entry.TheVariants.{Once, Begin}
 use Rattle.group_entry.specs.declared.entry.Vote.{Vote}
 use Rattle.group_entry.specs.declared.entry.Vote.TheVariants as vote
 use Rattle.proposal_core.specs.declared.group_state.GroupState.{GroupState}
@@ -29,42 +32,38 @@ use Rattle.session_state.specs.HandOn.{hearers, casts_out}
 use Rattle.session_state.specs.HandOn as session
 use Rattle.subscribe_core.specs.Subs.{differs}
 use Rattle.view_core.specs.declared.views.Views.{Views}
-use Rattle.node_state.specs.declared.config.Config.{Config}
-use Rattle.node_state.specs.declared.config.Mode.{Mode}
-use Rattle.node_state.specs.declared.config.Mode.TheVariants.{Fixed, Asked, Rings}
 use Rattle.node_state.specs.declared.group.GroupRow.{GroupRow}
 use Rattle.node_state.specs.declared.group.Led.{Led}
 use Rattle.node_state.specs.declared.packet.Body.{Body}
 use Rattle.node_state.specs.declared.packet.Body.TheVariants as body
 use Rattle.node_state.specs.declared.packet.Packet.{Packet}
 use Rattle.node_state.specs.declared.state.Core.{Core}
-use Rattle.node_state.specs.Settings.{is_fixed}
-use Rattle.node_state.specs.State.{row_found, row_of, with_row, with_led, led_of, state_of, list_forgotten, len_of, frozen, leader_by, is_this, leader_in, leader_of, leads_in, leads, others, least_acked, acked_by, acked_from, forgets_below, fits_at_end, recorded, recorded_all, with_sessions}
+use Rattle.node_state.specs.State.{row_of, with_row, with_led, led_of, state_of, list_forgotten, len_of, frozen, leader_of, leads, others, least_acked, acked_by, acked_from, forgets_below, fits_at_end, recorded, recorded_all, with_sessions}
 use Rattle.node_state.specs.Sending.{ring_network, network_to, level_for, domain_at, packet_on, sent_on, sent, sent_all, sent_if_known}
 use Rattle.node_state.specs.HandOn.{Answering, fills, heard, noted, notes, ballot_sent, cast_sent_of, casts_sent, handed_on}
-use Rattle.node_state.specs.Leading.{put, forgets_least, with_waiting, waits_if, new_members_wait, appended, tally_set, tally_for, tally_opened, closing, closing_of, closing_entry, is_phase, closes_from, closes}
+use Rattle.node_state.specs.Leading.{put, forgets_least, with_waiting, waits_if, new_members_wait, appended, appended_if, begun_many, begins, tally_set, tally_for, tally_opened, closing, closing_of, closing_entry, is_phase, closes_from, closes}
 use Rattle.run_safety.specs.Group.{member, Standing, Line, kept, Put}
 use Rattle.run_safety.specs.Group as group
 use Rattle.run_safety.specs.GroupLists.{puts_of}
 use Rattle.run_safety.specs.Bases.{Bases, state_of_list}
-use Rattle.run_safety.specs.Requests.{carried}
-use Rattle.run_safety.specs.Moves.{Appends, grown}
-use Rattle.run_safety.proofs.Whole.{Whole}
-use Rattle.run_safety.proofs.Lives.{whole}
+use Rattle.run_safety.specs.Requests.{proposal_of, carried}
+use Rattle.run_safety.specs.Moves.{Due, Appends, grown}
 use Rattle.step_ties.specs.Ghost.{Ghost, Lives}
-use Rattle.step_ties.specs.Tied.{Shows, KnowsLeader, IsAcked, RowIs, LeaderKeeps, InNameOrder, Scene, opening_of, Tied}
+use Rattle.step_ties.specs.Tied.{Decided, Shows, IsAcked, RowIs, LeaderKeeps, Scene, opening_of, Tied}
 use Rattle.step_ties.specs.Rows.{at_node}
 use Rattle.step_ties.proofs.Changed.{set_here, changes}
-use Rattle.step_ties.proofs.NameOrder.{KeepsName, is_of, cases_text, row_here, row_there}
-use Rattle.step_ties.proofs.RowWorks.{tied_row}
+use Rattle.step_ties.proofs.NameOrder.{KeepsName, cases_text}
+use Rattle.step_ties.proofs.RowWorks.{waits_of, tied_row}
+use Rattle.step_ties.proofs.Leads.{LeadsAs, leads_same, leads_row, leads_known}
 use Rattle.step_ties.proofs.Acks.{led_keeps, settled, fold_least, tied_least}
 use Rattle.step_ties.proofs.SessionLaws.{handed_later, handed_gone, hearer_has}
 use Rattle.step_ties.proofs.Puts.{Leaves, put_ghost, len_now, put_other, put_tied}
 use Rattle.step_ties.proofs.Handed.{Stepping, handed_tied}
+use Rattle.step_ties.proofs.Turns.{handed_fewer}
 
 -- ---- what is sent to many
 
-sent_all_is : (ns : List ℕ) (c : Core) (b : Body) → sent_all c ns b ≡ record c { sends = c.sends ++ map (λ m. packet_on c (network_to c m) m b) ns }
+pub sent_all_is : (ns : List ℕ) (c : Core) (b : Body) → sent_all c ns b ≡ record c { sends = c.sends ++ map (λ m. packet_on c (network_to c m) m b) ns }
 unfolding sent_all sent sent_on packet_on network_to ring_network level_for domain_at
 sent_all_is [] c b = ap (λ z. record c { sends = z }) (sym (append-nil c.sends))
 sent_all_is (m ∷ ns) c b =
@@ -80,7 +79,10 @@ sends_kept g w n c t ps ok = (
     own = t.own;
     others = t.others;
     packets = λ p h. ⊎_elim (λ (a : Has p (c.sends ++ ps)). ⊎_elim (λ (b : Has p c.sends). t.packets p (append_has_left p c.sends w.sent b)) (λ (b : Has p ps). ok p b) (has_append p c.sends ps a)) (λ (b : Has p w.sent). t.packets p (append_has_right p c.sends w.sent b)) (has_append p (c.sends ++ ps) w.sent h);
-    refused = t.refused;
+    sound = t.sound;
+    placed = t.placed;
+    nobody = t.nobody;
+    turns = t.turns;
   },
   refl,
 )
@@ -118,7 +120,7 @@ noted_rows c h i before after = by (differs before after)
     by true = (refl, refl)
     by false = (refl, refl)
 
-handed_rows : (f : Answering) (c : Core) (to : Option ℕ) (h : List ℕ) (i : ℕ) (before after : GroupState) (e : Entry) → ((handed_on f c to h i before after e).groups ≡ c.groups) × ((handed_on f c to h i before after e).config ≡ c.config)
+pub handed_rows : (f : Answering) (c : Core) (to : Option ℕ) (h : List ℕ) (i : ℕ) (before after : GroupState) (e : Entry) → ((handed_on f c to h i before after e).groups ≡ c.groups) × ((handed_on f c to h i before after e).config ≡ c.config)
 unfolding handed_on recorded_all with_sessions
 handed_rows f c to h i before after e =
     let bs : List (Option Filled) = fills f (length c.records) c.sessions e after (hearers c.sessions h before e) in
@@ -127,56 +129,20 @@ handed_rows f c to h i before after e =
     let a = casts_rows h to cs (with_sessions d (session.handed_on c.sessions h before after e bs)) in
     let b = noted_rows (recorded_all c (flat_map (heard c h i e after) cs)) h i before after in (a.0 ∙ b.0, a.1 ∙ b.1)
 
--- ---- who leads
+-- ---- the leader puts an entry
 
--- it leads what it led
-abbrev LeadsAs : Core → Core → Type 0
-LeadsAs c d = (k : List ℕ) → leads d k ≡ leads c k
+-- what the entry begins is due and decided, and waits no longer
+pub record MayPut (x : Ghost) (v : ViewId) (list : List Entry) (l : Led) (e : Entry) : Type 0 where
+  pub due : (p : ProviderId) (r : ℕ) → Has (p, r) (carried e) → Due x.ps v list e p r
+  pub decided : (p : ProviderId) (r : ℕ) → Has (p, r) (carried e) → Decided l p r
+  pub waits_not : (p : ProviderId) → among l.waiting.joins p ≡ true → Has (p, p.join) (carried e) → ⊥
 
-leads_same : (c d : Core) → d.groups ≡ c.groups → d.views ≡ c.views → d.config ≡ c.config → LeadsAs c d
-unfolding leads leads_in leader_in row_of
-leads_same c d rows views config k =
-    λ i. is_this (views i).me (leader_by (config i).mode (views i).view.coord (row_found k (find (is_of k) (rows i))).leader)
-
-leads_row : (c : Core) (h : List ℕ) (f : GroupRow → GroupRow) → KeepsName f → ((x : GroupRow) → (f x).leader ≡ x.leader) → InNameOrder c.groups → LeadsAs c (with_row c h f)
-unfolding leads leads_in leader_in with_row
-leads_row c h f keeps leader order k = by (cases_text h k)
+pub may_carry_none : (x : Ghost) (v : ViewId) (list : List Entry) (l : Led) (e : Entry) → carried e ≡ [] → MayPut x v list l e
+may_carry_none x v list l e none =
+    record { due = λ p r h. absurd (nothing p r h); decided = λ p r h. absurd (nothing p r h); waits_not = λ p i h. nothing p p.join h }
   where
-    abbrev_leads : GroupRow → Bool
-    abbrev_leads row = is_this c.views.me (leader_by c.config.mode c.views.view.coord row.leader)
-
-    own : abbrev_leads (row_of (with_row c h f) h) ≡ abbrev_leads (row_of c h)
-    own =
-        ap abbrev_leads (row_here h f keeps c order) ∙ ap (λ o. is_this c.views.me (leader_by c.config.mode c.views.view.coord o)) (leader (row_of c h))
-
-    by : (h ≡ k) ⊎ (h ≡ k → ⊥) → leads_in (with_row c h f) (row_of (with_row c h f) k) ≡ leads_in c (row_of c k)
-    by (inl e) = subst (λ z. leads_in (with_row c h f) (row_of (with_row c h f) z) ≡ leads_in c (row_of c z)) e (same (row_of (with_row c h f) h) ∙ own)
-      where
-        same : (row : GroupRow) → leads_in (with_row c h f) row ≡ abbrev_leads row
-        same row = refl
-    by (inr ne) = ap abbrev_leads (row_there h f keeps c k ne)
-
--- a group that the node leads it leads as a member
-leads_known : (g : List ℕ) (w : Scene) (n : ℕ) (c : Core) (t : Tied g w n c) → is_fixed c.config.mode ≡ false → leads c g ≡ true → t.ghost.leads c.views.view ≡ Some (member n c.views.inc)
-unfolding leads leads_in leader_in
-leads_known g w n c t free l = by c.config.mode (row_of c g).leader free l t.own.0.row_is.leader
-  where
-    known : (m : ℕ) → (m == c.views.me) ≡ true → KnowsLeader t.ghost c.views.view c.views.members (Some m) → t.ghost.leads c.views.view ≡ Some (member n c.views.inc)
-    known m q k =
-        let h = t.own.0.stands in
-        let o : Whole (opening_of w.config) t.ghost.nodes t.ghost.ps t.ghost.all t.ghost.leads t.ghost.bases = whole t.life in
-        let e : m ≡ n = eqb-true m c.views.me q ∙ h.me in
-        let led : t.ghost.leads c.views.view ≡ Some (member n k.0) = k.2 ∙ ap (λ a. Some (member a k.0)) e in
-        let inc : k.0 ≡ c.views.inc = (o.good.inv.node n).mine k.0 (ap t.ghost.leads h.view ∙ led) ∙ h.inc in led ∙ ap (λ j. Some (member n j)) inc
-
-    by : (m : Mode) (o : Option ℕ) → is_fixed m ≡ false → is_this c.views.me (leader_by m c.views.view.coord o) ≡ true → KnowsLeader t.ghost c.views.view c.views.members o → t.ghost.leads c.views.view ≡ Some (member n c.views.inc)
-    by Fixed o a b k = absurd (cc)
-    by Asked None a b k = absurd (cc)
-    by Asked (Some m) a b k = known m b k
-    by Rings None a b k = absurd (cc)
-    by Rings (Some m) a b k = known m b k
-
--- ---- the leader puts what carries no request
+    nothing : (p : ProviderId) (r : ℕ) → Has (p, r) (carried e) → ⊥
+    nothing p r h = subst (λ z. Has {A = ProviderId × ℕ} (p, r) z) none h
 
 get_pushed : (xs : List Entry) (i : ℕ) (e d : Entry) → slice_get (xs ++ e ∷ []) i ≡ Some d → (slice_get xs i ≡ Some d) ⊎ (d ≡ e)
 get_pushed [] zero e d q = let z : d ≡ e = cc in inr z
@@ -184,54 +150,66 @@ get_pushed [] (suc i) e d q = absurd (cc)
 get_pushed (x ∷ xs) zero e d q = inl q
 get_pushed (x ∷ xs) (suc i) e d q = get_pushed xs i e d q
 
-module _ (g : List ℕ) (w : Scene) (n : ℕ) (s : Core) (t : Tied g w n s) (e : Entry) (u : SessionState) (l : Leaves s.sessions u e) (room : fits_at_end s g e ≡ true) (thawed : s.views.promise ≡ s.views.view) (led : t.ghost.leads s.views.view ≡ Some (member n s.views.inc)) (none : carried e ≡ []) where
+module _ (g : List ℕ) (w : Scene) (n : ℕ) (s : Core) (t : Tied g w n s) (e : Entry) (u : SessionState) (l : Leaves s.sessions u e) (room : fits_at_end s g e ≡ true) (thawed : s.views.promise ≡ s.views.view) (led : t.ghost.leads s.views.view ≡ Some (member n s.views.inc)) (may : MayPut t.ghost s.views.view (t.ghost.nodes n).list (row_of s g).led e) where
   abbrev append : group.Packet
   append = group.Append (t.ghost.nodes n).view (length (t.ghost.nodes n).list) e
 
   abbrev y : Ghost
   y = put_ghost g w n s t e u l room (append ∷ t.ghost.ps)
 
-  nothing : (p : ProviderId) (r : ℕ) → Has (p, r) (carried e) → ⊥
-  nothing p r h = subst (λ z. Has {A = ProviderId × ℕ} (p, r) z) none h
-
   refusal : (v : ViewId) (p : ProviderId) (r : ℕ) → Has (group.Refusal v p r) (append ∷ t.ghost.ps) → Has (group.Refusal v p r) t.ghost.ps
   refusal v p r (inl q) = absurd (cc)
   refusal v p r (inr h) = h
 
+  stable : (v : ViewId) (k : ℕ) → Has (group.Stable v k) (append ∷ t.ghost.ps) → Has (group.Stable v k) t.ghost.ps
+  stable v k (inl q) = absurd (cc)
+  stable v k (inr h) = h
+
+  request : (v : ViewId) (p : ProviderId) (r : ℕ) (a : Proposal) → Has (group.Request v p r a) (append ∷ t.ghost.ps) → Has (group.Request v p r a) t.ghost.ps
+  request v p r a (inl q) = absurd (cc)
+  request v p r a (inr h) = h
+
   lives : Lives (opening_of w.config) y
   lives =
       let h = t.own.0.stands in
-      Appends t.ghost.nodes (at_node t.ghost.nodes n (grown (t.ghost.nodes n) e)) t.ghost.ps t.ghost.all t.ghost.leads t.ghost.bases n (t.ghost.nodes n) e t.life refl (subst (λ k. 0 < k) (sym h.inc) h.up) (ap t.ghost.leads h.view ∙ led ∙ ap (λ j. Some (member n j)) (sym h.inc)) (h.view ∙ sym thawed ∙ sym h.promise) (λ p r q. absurd (nothing p r q)) (changes t.ghost.nodes n (grown (t.ghost.nodes n) e))
+      Appends t.ghost.nodes (at_node t.ghost.nodes n (grown (t.ghost.nodes n) e)) t.ghost.ps t.ghost.all t.ghost.leads t.ghost.bases n (t.ghost.nodes n) e t.life refl (subst (λ k. 0 < k) (sym h.inc) h.up) (ap t.ghost.leads h.view ∙ led ∙ ap (λ j. Some (member n j)) (sym h.inc)) (h.view ∙ sym thawed ∙ sym h.promise) (λ p r q. subst (λ v. Due t.ghost.ps v (t.ghost.nodes n).list e p r) (sym h.view) (may.due p r q)) (changes t.ghost.nodes n (grown (t.ghost.nodes n) e))
 
   listed : (y.nodes n).list ≡ (t.ghost.nodes n).list ++ e ∷ []
   listed = ap (λ (z : Standing). z.list) (set_here t.ghost.nodes n (grown (t.ghost.nodes n) e))
 
-  unbegun : (p : ProviderId) (r : ℕ) (i : ℕ) (d : Entry) → slice_get (y.nodes n).list i ≡ Some d → Has (p, r) (carried d) → slice_get (t.ghost.nodes n).list i ≡ Some d
-  unbegun p r i d q h =
-      ⊎_elim (λ (a : slice_get (t.ghost.nodes n).list i ≡ Some d). a) (λ (a : d ≡ e). absurd (nothing p r (subst (λ z. Has {A = ProviderId × ℕ} (p, r) (carried z)) a h))) (get_pushed (t.ghost.nodes n).list i e d (subst (λ z. slice_get z i ≡ Some d) listed q))
+  -- it was there, or it is the entry
+  was : (i : ℕ) (d : Entry) → slice_get (y.nodes n).list i ≡ Some d → (slice_get (t.ghost.nodes n).list i ≡ Some d) ⊎ (d ≡ e)
+  was i d q = get_pushed (t.ghost.nodes n).list i e d (subst (λ z. slice_get z i ≡ Some d) listed q)
+
+  carries : (p : ProviderId) (r : ℕ) (d : Entry) → d ≡ e → Has (p, r) (carried d) → Has (p, r) (carried e)
+  carries p r d q h = subst (λ z. Has {A = ProviderId × ℕ} (p, r) (carried z)) q h
 
   decides : LeaderKeeps y n s.views.inc s.views.view (row_of s g).led
   decides =
       let h = t.own.0.decides in
       record {
         refused = λ p r q i. h.refused p r q (refusal s.views.view p r i);
-        begun = λ p r i d q a b. h.begun p r i d q (unbegun p r i d a b) b;
+        begun = λ p r i d q a b. ⊎_elim (λ (z : slice_get (t.ghost.nodes n).list i ≡ Some d). h.begun p r i d q z b) (λ (z : d ≡ e). may.decided p r (carries p r d z b)) (was i d a);
         waiting = λ p q i. let z = h.waiting p q i in
             record {
               proposal = z.proposal;
               sent = inr z.sent;
               joins = z.joins;
               open_still = λ k. z.open_still (refusal s.views.view p p.join k);
-              unbegun = λ i d a b. z.unbegun i d (unbegun p p.join i d a b) b;
+              unbegun = λ j d a b. ⊎_elim (λ (y : slice_get (t.ghost.nodes n).list j ≡ Some d). z.unbegun j d y b) (λ (y : d ≡ e). may.waits_not p i (carries p p.join d y b)) (was j d a);
               decided = z.decided;
             };
         later = λ v a q p r i. h.later v a q p r (refusal v p r i);
+        again = λ p d why q r. inr (h.again p d why q r);
+        leads_it = h.leads_it;
+        apart = h.apart;
+        lasts = h.lasts;
       }
 
   -- the entry stands in flight, and the node leads
   lead_own : (t' : Tied g w n (with_sessions (put s g e) u)) × (Has (Put n s.views.view (len_of s g) e) (kept t'.ghost.all) × (state_of (put s g e) g ≡ state_of_list t'.ghost.bases s.views.view (take (len_of s g + 1) (puts_of n s.views.view (kept t'.ghost.all))))) × Has (group.Append s.views.view (len_of s g) e) t'.ghost.ps × (t'.ghost.leads s.views.view ≡ Some (member n s.views.inc))
   lead_own =
-      let k = put_tied g w n s t e u l room (append ∷ t.ghost.ps) (λ p h. inr h) refusal lives decides in
+      let k = put_tied g w n s t e u l room (append ∷ t.ghost.ps) (λ p h. inr h) refusal stable request lives decides in
       (k.0, k.1, k.2 (group.Append s.views.view (len_of s g) e) (inl (λ i. group.Append (sym t.own.0.stands.view i) (len_now g w n s t e u l room i) e)), k.3 s.views.view ∙ led)
 
 -- ---- appending
@@ -241,6 +219,13 @@ pub record Leading (g : List ℕ) (w : Scene) (n : ℕ) (s c : Core) : Type 0 wh
   pub tied : Tied g w n c
   pub same : c.views ≡ s.views
   pub leads : LeadsAs s c
+
+pub joins_kept : (p : ProviderId) (why : Cause) (x : WaitingView) → (waits_failure p why x).joins ≡ x.joins
+joins_kept p why x = by (takes_failure p x)
+  where
+    by : (b : Bool) → (if b then record x { failures = x.failures ++ record { p = p; cause = why } ∷ [] } else x).joins ≡ x.joins
+    by true = refl
+    by false = refl
 
 module _ (g : List ℕ) (w : Scene) (n : ℕ) (s : Core) where
   pub row_goes : (c : Core) (h : List ℕ) (f : GroupRow → GroupRow) → KeepsName f → ((x : GroupRow) → (f x).leader ≡ x.leader) → Leading g w n s c → Tied g w n (with_row c h f) → Leading g w n s (with_row c h f)
@@ -252,7 +237,7 @@ module _ (g : List ℕ) (w : Scene) (n : ℕ) (s : Core) where
   pub led_goes : (c : Core) (h : List ℕ) (f : Led → Led) → ((l : Led) → ((f l).decided ≡ l.decided) × ((f l).waiting.joins ≡ l.waiting.joins) × ((f l).acked ≡ l.acked)) → Leading g w n s c → Leading g w n s (with_led c h f)
   unfolding with_led
   led_goes c h f keeps t =
-      row_goes c h (λ row. record row { led = f row.led }) (λ x. refl) (λ x. refl) t (tied_row g w n c t.tied h (λ row. record row { led = f row.led }) (λ x. refl) new)
+      row_goes c h (λ row. record row { led = f row.led }) (λ x. refl) (λ x. refl) t (tied_row g w n c t.tied h (λ row. record row { led = f row.led }) (λ x. refl) (λ p i. waits_of g w n c t.tied h p (subst (λ js. among js p ≡ true) (keeps (row_of c h).led).1 i)) new)
     where
       new : h ≡ g → RowIs t.tied.ghost n c.views.view c.views.members (record (row_of c h) { led = f (row_of c h).led }) × LeaderKeeps t.tied.ghost n c.views.inc c.views.view (f (row_of c h).led)
       new e =
@@ -265,16 +250,10 @@ module _ (g : List ℕ) (w : Scene) (n : ℕ) (s : Core) where
               stable = is.row_is.stable;
               leader = is.row_is.leader;
               acked = λ m i a. subst (λ old. IsAcked t.tied.ghost c.views.view m i (acked_from m old)) (sym k.2) (is.row_is.acked m i a);
+              covers = λ j i a b m q r ne. subst (λ old. i ≤ acked_from m old) (sym k.2) (is.row_is.covers j i a b m q r ne);
             },
             led_keeps t.tied.ghost n c.views.inc c.views.view (row_of c g).led (f (row_of c g).led) k.0 k.1 is.decides,
           )
-
-  joins_kept : (p : ProviderId) (why : Cause) (x : WaitingView) → (waits_failure p why x).joins ≡ x.joins
-  joins_kept p why x = by (takes_failure p x)
-    where
-      by : (b : Bool) → (if b then record x { failures = x.failures ++ record { p = p; cause = why } ∷ [] } else x).joins ≡ x.joins
-      by true = refl
-      by false = refl
 
   pub waits_goes : (c : Core) (h : List ℕ) (p : ProviderId) (why : Cause) → Leading g w n s c → Leading g w n s (with_waiting c h (waits_failure p why))
   unfolding with_waiting
@@ -291,8 +270,8 @@ module _ (g : List ℕ) (w : Scene) (n : ℕ) (s : Core) where
   new_wait h after gone (p ∷ ps) c t =
       new_wait h after gone ps (waits_if c h p (among after.failed p) (among gone p)) (waits_if_goes c h p (among after.failed p) (among gone p) t)
 
-module _ (g : List ℕ) (w : Scene) (n : ℕ) (s : Core) (f : Answering) (thawed : s.views.promise ≡ s.views.view) (free : is_fixed w.config.mode ≡ false) where
-  module _ (c : Core) (h : List ℕ) (e : Entry) (none : carried e ≡ []) (led : leads s h ≡ true) (room : fits_at_end c h e ≡ true) (t : Leading g w n s c) where
+module _ (g : List ℕ) (w : Scene) (n : ℕ) (s : Core) (f : Answering) (thawed : s.views.promise ≡ s.views.view) where
+  module _ (c : Core) (h : List ℕ) (e : Entry) (led : h ≡ g → leads s h ≡ true) (room : fits_at_end c h e ≡ true) (t : Leading g w n s c) (may : h ≡ g → MayPut t.tied.ghost c.views.view (t.tied.ghost.nodes n).list (row_of c h).led e) where
     -- what is sent of the entry, as if it were of another group
     abbrev entry_packets : List ℕ → List Packet
     entry_packets k =
@@ -314,7 +293,7 @@ module _ (g : List ℕ) (w : Scene) (n : ℕ) (s : Core) (f : Answering) (thawed
     u = session.handed_on c.sessions h before after e bs
 
     leaves : Leaves c.sessions u e
-    leaves = record { later = handed_later c.sessions h before after e bs; gone = handed_gone c.sessions h before after e bs }
+    leaves = record { later = handed_later c.sessions h before after e bs; gone = handed_gone c.sessions h before after e bs; fewer = handed_fewer c.sessions h before after e bs }
 
     hears : (q : ProviderId) → Has q (hearers c.sessions h before e) → q.node ≡ n
     hears q i =
@@ -324,16 +303,13 @@ module _ (g : List ℕ) (w : Scene) (n : ℕ) (s : Core) (f : Answering) (thawed
     thawed_now : c.views.promise ≡ c.views.view
     thawed_now = subst (λ (z : Views). z.promise ≡ z.view) (sym t.same) thawed
 
-    free_now : is_fixed c.config.mode ≡ false
-    free_now = ap (λ (z : Config). is_fixed z.mode) t.tied.own.1 ∙ free
-
     put_of_own : h ≡ g → Stepping g w n h c.views.view (len_of c g) e (state_of (put c g e) g) c.views (with_sessions (put_sent g) u)
     unfolding put recorded with_sessions with_row packet_on least_acked session.handed_on session.heard row_of acked_by
     put_of_own q =
-        let known : t.tied.ghost.leads c.views.view ≡ Some (member n c.views.inc) = leads_known g w n c t.tied free_now (subst (λ z. leads c z ≡ true) q (t.leads h ∙ led)) in
-        let k = lead_own g w n c t.tied e u leaves (subst (λ z. fits_at_end c z e ≡ true) q room) thawed_now known none in
+        let known : t.tied.ghost.leads c.views.view ≡ Some (member n c.views.inc) = leads_known g w n c t.tied (subst (λ z. leads c z ≡ true) q (t.leads h ∙ led q)) in
+        let k = lead_own g w n c t.tied e u leaves (subst (λ z. fits_at_end c z e ≡ true) q room) thawed_now known (subst (λ z. MayPut t.tied.ghost c.views.view (t.tied.ghost.nodes n).list (row_of c z).led e) q (may q)) in
         let d : Core = with_sessions (put c g e) u in
-        let z = settled g w n d k.0 (least_acked (put c g e) g) (λ m i. fold_least (λ (m : Member). acked_by d (row_of d g) m.node) d.views.members (len_in (row_of d g).list) m i) in
+        let z = settled g w n d k.0 (least_acked (put c g e) g) (λ m i. fold_least (λ (m : Member). acked_by d (row_of d g) m.node) d.views.members (len_in (row_of d g).list) m i) k.3 in
         let shown : (p : Packet) → Has p (entry_packets g) → Shows z.0.ghost g p = λ p i.
         let j = has_map (λ m. packet_on (put c g e) (network_to (put c g e) m) m (body.Entry (put c g e).views.view g (len_of c g) (least_acked (put c g e) g) e)) p (others (put c g e)) i in
         subst (Shows z.0.ghost g) (sym j.2) (λ _. record { sent = z.2.packets (group.Append c.views.view (len_of c g) e) k.2; stable = z.1; leads = ap (λ a. a c.views.view) z.2.leads ∙ k.3 ∙ ap (λ a. Some (member a c.views.inc)) (sym t.tied.own.0.stands.me) })
@@ -375,7 +351,7 @@ module _ (g : List ℕ) (w : Scene) (n : ℕ) (s : Core) (f : Answering) (thawed
     waits_after : Leading g w n s (new_members_wait (forgets_least handed h) h before after)
     unfolding new_members_wait forgets_least forgets_below
     waits_after =
-        new_wait g w n s h after (led_of (forgets_least handed h) h).gone (filter (λ p. not (among before.members p)) after.members) (forgets_least handed h) (row_goes g w n s handed h (λ row. record row { list = list_forgotten (least_acked handed h) row.list }) (λ x. refl) (λ x. refl) handed_goes (tied_least g w n handed handed_goes.tied h))
+        new_wait g w n s h after (led_of (forgets_least handed h) h).gone (filter (λ p. not (among before.members p)) after.members) (forgets_least handed h) (row_goes g w n s handed h (λ row. record row { list = list_forgotten (least_acked handed h) row.list }) (λ x. refl) (λ x. refl) handed_goes (tied_least g w n handed handed_goes.tied h (λ q. leads_known g w n handed handed_goes.tied (handed_goes.leads g ∙ subst (λ z. leads s z ≡ true) q (led q)))))
 
     pub appended_goes : Leading g w n s (appended f c h e)
     unfolding appended
@@ -408,26 +384,42 @@ module _ (g : List ℕ) (w : Scene) (n : ℕ) (s : Core) (f : Answering) (thawed
   unfolding tally_opened
   opened_goes c h t = tally_goes c h (Some (tally_for (state_of c h) (led_of c h).gone)) t
 
-  closes_goes : (fuel : ℕ) (c : Core) (h : List ℕ) → leads s h ≡ true → Leading g w n s c → Leading g w n s (closes_from fuel f c h)
+  closes_goes : (fuel : ℕ) (c : Core) (h : List ℕ) → (h ≡ g → leads s h ≡ true) → Leading g w n s c → Leading g w n s (closes_from fuel f c h)
   unfolding closes_from
   closes_goes zero c h led t = t
   closes_goes (suc k) c h led t = by (closing_entry (led_of c h) (led_of c h).tally (state_of c h).running) refl (closes_goes k)
     where
       next : (e : Entry) → closing_entry (led_of c h) (led_of c h).tally (state_of c h).running ≡ Some e → fits_at_end c h e ≡ true → Leading g w n s (appended f c h e)
-      next e q room = appended_goes c h e (closing_carries (led_of c h) (led_of c h).tally (state_of c h).running e q) led room t
+      next e q room = appended_goes c h e led room t (λ same. may_carry_none t.tied.ghost c.views.view (t.tied.ghost.nodes n).list (row_of c h).led e (closing_carries (led_of c h) (led_of c h).tally (state_of c h).running e q))
 
-      phase : (e : Entry) → closing_entry (led_of c h) (led_of c h).tally (state_of c h).running ≡ Some e → fits_at_end c h e ≡ true → ((d : Core) (j : List ℕ) → leads s j ≡ true → Leading g w n s d → Leading g w n s (closes_from k f d j)) → (b : Bool) → Leading g w n s (elim b as (λ _. Core) [ true ↦ closes_from k f (tally_opened (appended f c h e) h) h | false ↦ tally_set (appended f c h e) h None ])
+      phase : (e : Entry) → closing_entry (led_of c h) (led_of c h).tally (state_of c h).running ≡ Some e → fits_at_end c h e ≡ true → ((d : Core) (j : List ℕ) → (j ≡ g → leads s j ≡ true) → Leading g w n s d → Leading g w n s (closes_from k f d j)) → (b : Bool) → Leading g w n s (elim b as (λ _. Core) [ true ↦ closes_from k f (tally_opened (appended f c h e) h) h | false ↦ tally_set (appended f c h e) h None ])
       phase e q room rest true = rest (tally_opened (appended f c h e) h) h led (opened_goes (appended f c h e) h (next e q room))
       phase e q room rest false = tally_goes (appended f c h e) h None (next e q room)
 
-      fits : (e : Entry) → closing_entry (led_of c h) (led_of c h).tally (state_of c h).running ≡ Some e → ((d : Core) (j : List ℕ) → leads s j ≡ true → Leading g w n s d → Leading g w n s (closes_from k f d j)) → (b : Bool) → fits_at_end c h e ≡ b → Leading g w n s (elim b as (λ _. Core) [ false ↦ c | true ↦ elim (is_phase e) as (λ _. Core) [ true ↦ closes_from k f (tally_opened (appended f c h e) h) h | false ↦ tally_set (appended f c h e) h None ] ])
+      fits : (e : Entry) → closing_entry (led_of c h) (led_of c h).tally (state_of c h).running ≡ Some e → ((d : Core) (j : List ℕ) → (j ≡ g → leads s j ≡ true) → Leading g w n s d → Leading g w n s (closes_from k f d j)) → (b : Bool) → fits_at_end c h e ≡ b → Leading g w n s (elim b as (λ _. Core) [ false ↦ c | true ↦ elim (is_phase e) as (λ _. Core) [ true ↦ closes_from k f (tally_opened (appended f c h e) h) h | false ↦ tally_set (appended f c h e) h None ] ])
       fits e q rest false room = t
       fits e q rest true room = phase e q room rest (is_phase e)
 
-      by : (o : Option Entry) → closing_entry (led_of c h) (led_of c h).tally (state_of c h).running ≡ o → ((d : Core) (j : List ℕ) → leads s j ≡ true → Leading g w n s d → Leading g w n s (closes_from k f d j)) → Leading g w n s (elim o as (λ _. Core) [ None ↦ c | Some e ↦ elim (fits_at_end c h e) as (λ _. Core) [ false ↦ c | true ↦ elim (is_phase e) as (λ _. Core) [ true ↦ closes_from k f (tally_opened (appended f c h e) h) h | false ↦ tally_set (appended f c h e) h None ] ] ])
+      by : (o : Option Entry) → closing_entry (led_of c h) (led_of c h).tally (state_of c h).running ≡ o → ((d : Core) (j : List ℕ) → (j ≡ g → leads s j ≡ true) → Leading g w n s d → Leading g w n s (closes_from k f d j)) → Leading g w n s (elim o as (λ _. Core) [ None ↦ c | Some e ↦ elim (fits_at_end c h e) as (λ _. Core) [ false ↦ c | true ↦ elim (is_phase e) as (λ _. Core) [ true ↦ closes_from k f (tally_opened (appended f c h e) h) h | false ↦ tally_set (appended f c h e) h None ] ] ])
       by None q rest = t
       by (Some e) q rest = fits e q rest (fits_at_end c h e) refl
 
-  pub closed_goes : (c : Core) (h : List ℕ) → leads s h ≡ true → Leading g w n s c → Leading g w n s (closes f c h)
+  pub closed_goes : (c : Core) (h : List ℕ) → (h ≡ g → leads s h ≡ true) → Leading g w n s c → Leading g w n s (closes f c h)
   unfolding closes
   closed_goes c h led t = closes_goes max_phases c h led t
+
+  -- ---- beginning
+
+  pub begins_goes : (c : Core) (h : List ℕ) (x : Proposal) (phases : Phases) → (h ≡ g → leads s h ≡ true) → (t : Leading g w n s c) → (h ≡ g → (e : Entry) → proposal_of e ≡ Some x → MayPut t.tied.ghost c.views.view (t.tied.ghost.nodes n).list (row_of c h).led e) → Leading g w n s (begins f c h x phases)
+  unfolding begins appended_if begun_many
+  begins_goes c h x One led t may = by (fits_at_end c h (Once x)) refl
+    where
+      by : (b : Bool) → fits_at_end c h (Once x) ≡ b → Leading g w n s (appended_if f c h (Once x) b)
+      by false q = t
+      by true q = appended_goes c h (Once x) led q t (λ e. may e (Once x) refl)
+  begins_goes c h x Many led t may = by (fits_at_end c h (Begin x)) refl
+    where
+      by : (b : Bool) → fits_at_end c h (Begin x) ≡ b → Leading g w n s (begun_many f c h x b)
+      by false q = t
+      by true q =
+          closed_goes (tally_opened (appended f c h (Begin x)) h) h led (opened_goes (appended f c h (Begin x)) h (appended_goes c h (Begin x) led q t (λ e. may e (Begin x) refl)))

@@ -3,15 +3,15 @@
 use Rattle.std.proofs.Common.{◌≡◌, ◌≢◌, ◌⊎◌, ◌≤◌, ℕ, ◌+◌, suc, List, [], ◌∷◌, ◌++◌, length, take, drop, Option, Some, None, Bool, true, false, refl, sym, ap, ◌∙◌, subst, inl, inr, ⊎_elim, append_assoc, length-append, arith}
 use Rattle.std.specs.Prelude.{not, ◌==◌, ◌&&◌, reverse, map, find, slice_get, if◌then◌else◌}
 use Rattle.std.specs.Option.{option_map}
-use Rattle.std.proofs.lemmas.Bool.{eqb-true, eq-eqb, and_parts}
-use Rattle.std.proofs.lemmas.Bool.Decides.{nat_tests}
+use Rattle.std.proofs.lemmas.Bool.{eqb-true, eq-eqb}
 use Rattle.std.proofs.lemmas.List.{drop_all}
 use Rattle.rsct_packet.specs.declared.ids.ViewId.{ViewId}
 use Rattle.rsct_packet.specs.declared.ids.Member.{Member}
 use Rattle.rsct_packet.specs.declared.ids.ProviderId.{ProviderId}
-use Rattle.rsct_packet.specs.Ids.{same_view, is_member}
+use Rattle.rsct_packet.specs.Ids.{same_view}
 use Rattle.rsct_packet.specs.Search.{Has}
-use Rattle.rsct_packet.proofs.HasLaws.{find_has, append_has_right}
+use Rattle.rsct_packet.proofs.HasLaws.{find_has, has_map, append_has_right, append_has_left, has_append}
+use Rattle.rsct_packet.specs.Providers as providers
 use Rattle.group_entry.specs.declared.entry.Entry.{Entry}
 use Rattle.group_entry.specs.declared.proposal.Proposal.{Proposal}
 use Rattle.proposal_core.specs.declared.group_state.GroupState.{GroupState}
@@ -25,51 +25,50 @@ use Rattle.view_exchange.specs.declared.install.Base.{Base}
 use Rattle.view_exchange.specs.Longest.{NamesDiffer}
 use Rattle.view_exchange.proofs.CutLaws.{fit_ends}
 use Rattle.view_exchange.specs.Bases.{source_at, parts_in, parts_from, bases_of, base_named}
-use Rattle.view_core.specs.declared.packet.ViewPacket.TheVariants as view
 use Rattle.view_core.specs.declared.views.Views.{Views}
-use Rattle.view_core.specs.Views.{own_install, views_entered, view_sent, installed, install_row, views_at_work}
+use Rattle.view_core.specs.Views.{own_install, views_entered}
 use Rattle.node_state.specs.declared.happened.Happened.{Happened}
 use Rattle.node_state.specs.declared.happened.Happened.TheVariants as happened
-use Rattle.node_state.specs.declared.packet.Body.TheVariants as body
 use Rattle.node_state.specs.declared.packet.Packet.{Packet}
+use Rattle.node_state.specs.declared.group.GroupRow.{GroupRow}
+use Rattle.node_state.specs.declared.group.Led.{Led}
 use Rattle.node_state.specs.declared.state.Core.{Core}
 use Rattle.node_state.specs.declared.config.Config.{Config}
 use Rattle.node_state.specs.Settings.{is_fixed}
-use Rattle.node_state.specs.State.{nothing_led, row_found, row_of, list_of, held_rows, acked_from, recorded_all}
+use Rattle.node_state.specs.State.{nothing_led, row_found, row_of, list_of, acked_from, decision_of, recorded_all}
 use Rattle.node_state.specs.HandOn.{Answering}
-use Rattle.node_state.specs.Applying.{Lacking, lacking_in, lacking, lists_filled, level_set, base_row, base_leader, base_record, view_entered, sides_dissolved, entering_noted, taken_sent, owed_sent, entered, entered_if, install_applied, views_taken}
-use Rattle.node_state.specs.Step.{view_row, body_row}
+use Rattle.node_state.specs.Applying.{Lacking, lacking_in, lacking, lists_filled, level_set, base_row, base_leader, base_record, view_entered}
 use Rattle.run_safety.specs.ViewOrder.{Lt, Le}
-use Rattle.run_safety.specs.Past.{earlier, view_now, fold_from}
+use Rattle.run_safety.specs.Past.{earlier, view_now, fold_from, records_of}
 use Rattle.run_safety.specs.Sight.{inc_in, lines_with, lines_of}
 use Rattle.run_safety.specs.Group.{member, Standing, Origin, Record, In, Put, Note, Based, Heard, Asked, Told, Line, Kept, Noted, kept, lines_from, puts_from}
 use Rattle.run_safety.specs.Group as group
 use Rattle.run_safety.specs.GroupLists.{puts_of}
 use Rattle.run_safety.specs.Bases.{Bases, base_state, state_of_list}
-use Rattle.run_safety.specs.Moves.{Leads, Opening, Life, Quiet, based, Enters}
-use Rattle.run_safety.proofs.Order.{lt_trans}
+use Rattle.run_safety.specs.Moves.{Leads, Opening, Life, based}
+use Rattle.run_safety.proofs.Order.{lt_trans, lt_le}
 use Rattle.run_safety.proofs.Parts.{Entered}
 use Rattle.run_safety.proofs.Lines.{kept_lines, kept_based, has_lines, note_lines, note_based}
 use Rattle.run_safety.proofs.SightLaws.{kept_append}
 use Rattle.run_safety.proofs.Tracks.{puts_many_own, put_many, has_many}
 use Rattle.run_safety.proofs.Whole.{Whole}
-use Rattle.run_safety.proofs.Lives.{whole}
+use Rattle.run_safety.proofs.Lives.{whole, always_same_members}
 use Rattle.step_ties.specs.Ghost.{Ghost, FitIn, Lives, Seen, Goes, Keeps, CarriesIf, part_of, origin_of, BaseIsOf, Installs, InstallsIf}
-use Rattle.step_ties.specs.Tied.{ShowsBody, Shows, RowIs, Owed, Owes, LeaderKeeps, Names, NodeOf, NodeIsIf, Scene, Refused, opening_of, lines_now, Tied}
+use Rattle.step_ties.specs.Tied.{Shows, RowIs, Owed, Owes, LeaderKeeps, Names, NodeOf, NodeIsIf, ShowsLeader, Scene, Sound, Placed, opening_of, lines_now, InTurn, Turns}
 use Rattle.step_ties.specs.Rows.{at_node}
-use Rattle.step_ties.proofs.Goes.{Spares, Settled, seen_on, node_if_on, shows_on, installs_on}
-use Rattle.step_ties.proofs.Changed.{set_here, set_there, changes}
-use Rattle.step_ties.proofs.Works.{lines_pushed, tied_sent, asked_free}
+use Rattle.step_ties.proofs.Goes.{Spares, Still, Settled, still_spares, sound_on, node_if_on}
+use Rattle.step_ties.proofs.Changed.{set_here, set_there, incs_set}
+use Rattle.step_ties.proofs.Begins.{number_other}
+use Rattle.step_ties.proofs.Works.{lines_pushed, now_pushed}
 use Rattle.step_ties.proofs.NameOrder.{is_of}
-use Rattle.step_ties.proofs.ViewRows.{same_of, before_of}
-use Rattle.step_ties.proofs.Acks.{has_member}
+use Rattle.step_ties.proofs.ViewRows.{same_of}
 use Rattle.step_ties.proofs.RowWorks.{keeps_of}
-use Rattle.step_ties.proofs.SessionLaws.{Later, later_same, hearer_has}
-use Rattle.step_ties.proofs.Arrived.{now_pushed, now_bases, Arrived, arrived_tied}
+use Rattle.step_ties.proofs.SessionLaws.{Later, later_same, owes_later, hearer_has}
+use Rattle.step_ties.proofs.Arrived.{now_bases, Arrived}
 use Rattle.step_ties.proofs.BaseOrder.{bases_ordered, row_of_base, lines_of_bases}
 use Rattle.step_ties.proofs.Sprinkled.{Sprinkled, Hearing, kept_sprinkled, has_sprinkled, had_sprinkled, sprinkled_on, sprinkled_lives}
-use Rattle.step_ties.proofs.LedGroups.{groups_led_tied}
 use Rattle.step_ties.proofs.Fills.{collected, HeardIn, Fills, fills_all, nothing_filled, lacking_is, lacking_fits}
+use Rattle.step_ties.proofs.Turns.{turn_on, sent_on_more}
 
 -- ---- lists that are put
 
@@ -117,7 +116,10 @@ pub record Leaving (g : List ℕ) (w : Scene) (n : ℕ) (s : Core) : Type 0 wher
   pub lines : ghost.all ≡ lines_now g w s
   pub own : NodeIsIf w.config ghost g n (w.incs n) (Some s)
   pub others : (m : ℕ) → m ≢ n → NodeIsIf w.config ghost g m (w.incs m) (w.cores m)
-  pub refused : Refused ghost
+  pub sound : Sound g ghost
+  pub placed : Placed w n s
+  pub nobody : w.incs 0 ≡ 0
+  pub turns : Turns w n s.views.view s.records s.sessions ghost.ps
 
 -- the move by which it enters, with the sources of the view
 pub record Move (x : Ghost) (o : Opening) (g : List ℕ) (n inc : ℕ) (old : ViewId) (i : Install) : Type 0 where
@@ -129,6 +131,7 @@ pub record Move (x : Ghost) (o : Opening) (g : List ℕ) (n inc : ℕ) (old : Vi
   pub sent : Has (group.Install i.view i.members whole) ps
   pub more : (p : group.Packet) → Has p x.ps → Has p ps
   pub refusals : (v : ViewId) (p : ProviderId) (r : ℕ) → Has (group.Refusal v p r) ps → Has (group.Refusal v p r) x.ps
+  pub stables : (v : ViewId) (k : ℕ) → Has (group.Stable v k) ps → Has (group.Stable v k) x.ps
   pub requests : (v : ViewId) (p : ProviderId) (r : ℕ) (a : Proposal) → Has (group.Request v p r a) ps → Has (group.Request v p r a) x.ps
   pub leads_on : (v : ViewId) (l : Member) → x.leads v ≡ Some l → leads v ≡ Some l
   pub leads_same : (v : ViewId) → Settled x v → leads v ≡ x.leads v
@@ -148,7 +151,7 @@ pub record After (x y : Ghost) (v : ViewId) (ps : List group.Packet) (leads : Le
   pub origins : y.bases ≡ bases
   pub entered : Seen y v
 
-module _ (g : List ℕ) (w : Scene) (n : ℕ) (f : Answering) (s : Core) (t : Leaving g w n s) (i : Install) (xs : List Lacking) (move : Move t.ghost (opening_of w.config) g n s.views.inc s.views.view i) (installs : (y : Ghost) → After t.ghost y i.view move.ps move.leads move.bases → Installs y g i) (shown : (y : Ghost) → After t.ghost y i.view move.ps move.leads move.bases → (p : Packet) → Has p (s.sends ++ w.sent) → Shows y g p) (lt : Lt s.views.view i.view) (among : Has (member n s.views.inc) i.members) (lacks : lacking s i ≡ Some xs) where
+module _ (g : List ℕ) (w : Scene) (n : ℕ) (f : Answering) (s : Core) (t : Leaving g w n s) (free : is_fixed w.config.mode ≡ false) (i : Install) (xs : List Lacking) (move : Move t.ghost (opening_of w.config) g n s.views.inc s.views.view i) (installs : (y : Ghost) → After t.ghost y i.view move.ps move.leads move.bases → Installs y g i) (shown : (y : Ghost) → After t.ghost y i.view move.ps move.leads move.bases → (p : Packet) → Has p (s.sends ++ w.sent) → Shows y g p) (lt : Lt s.views.view i.view) (among : Has (member n s.views.inc) i.members) (lacks : lacking s i ≡ Some xs) where
   abbrev x : Ghost
   x = t.ghost
 
@@ -209,7 +212,7 @@ module _ (g : List ℕ) (w : Scene) (n : ℕ) (f : Answering) (s : Core) (t : Le
 
   fills : Fills g w n x s es c
   fills =
-      subst (λ z. Fills g w n x s z c) lacks_rest (fills_all g w n x s t.own.0.stands.me hears f xs [] s fits (nothing_filled g w n x s t.own.0.order keeps (later_same s.sessions) (sym t.lines)))
+      subst (λ z. Fills g w n x s z c) lacks_rest (fills_all g w n x s t.own.0.stands.me (λ q h. (t.own.0.owes.own q h).0) hears f xs [] s fits (nothing_filled g w n x s t.own.0.order keeps (later_same s.sessions) (sym t.lines) t.turns.own))
 
   -- the node as it stands
   abbrev now : Standing
@@ -228,11 +231,11 @@ module _ (g : List ℕ) (w : Scene) (n : ℕ) (f : Answering) (s : Core) (t : Le
   tr = kept (front ++ filled)
 
   abbrev y : Ghost
-  y = record { nodes = nodes; ps = move.ps; all = front ++ fills.lines; leads = move.leads; bases = move.bases; asks = x.asks }
+  y = record { nodes = nodes; ps = move.ps; all = front ++ fills.lines; leads = move.leads; bases = move.bases; asks = x.asks; shut = x.shut; asked = x.asked }
 
-  lives_bare : Lives (opening_of w.config) (record { nodes = nodes; ps = move.ps; all = front ++ filled; leads = move.leads; bases = move.bases; asks = x.asks })
+  lives_bare : Lives (opening_of w.config) (record { nodes = nodes; ps = move.ps; all = front ++ filled; leads = move.leads; bases = move.bases; asks = x.asks; shut = x.shut; asked = x.asked })
   lives_bare =
-      subst (λ z. Lives (opening_of w.config) (record { nodes = nodes; ps = move.ps; all = z; leads = move.leads; bases = move.bases; asks = x.asks })) (based_append n i.view (move.bases i.view) (Kept (In n s.views.inc i.view i.members)) filled) move.life
+      subst (λ z. Lives (opening_of w.config) (record { nodes = nodes; ps = move.ps; all = z; leads = move.leads; bases = move.bases; asks = x.asks; shut = x.shut; asked = x.asked })) (based_append n i.view (move.bases i.view) (Kept (In n s.views.inc i.view i.members)) filled) move.life
 
   kept_tr : tr ≡ In n s.views.inc i.view i.members ∷ puts_from n s.views.view (length full) es (kept x.all)
   kept_tr =
@@ -312,6 +315,8 @@ module _ (g : List ℕ) (w : Scene) (n : ℕ) (f : Answering) (s : Core) (t : Le
         leads = move.leads_on;
         bases = move.bases_same;
         asks = refl;
+        shut = λ v h. h;
+        asked = λ a h. h;
       }
 
   entry : Has (In n s.views.inc i.view i.members) (kept y.all)
@@ -339,32 +344,61 @@ module _ (g : List ℕ) (w : Scene) (n : ℕ) (f : Answering) (s : Core) (t : Le
       at (inr (inl q)) = absurd (cc)
       at (inr (inr h)) = note_lines (Told p r u) n s.views.view (length full) es x.all (had_sprinkled (HeardIn g w n x s es) (Noted (Told p r u)) apart filled fills.lines fills.among h)
 
-  spares : (m : ℕ) → m ≢ n → Spares x y m
-  spares m ne =
+  asked_only : (p : ProviderId) (r : ℕ) (q : Proposal) → Has (Noted (Asked p r q)) y.all → Has (Noted (Asked p r q)) x.all
+  asked_only p r q h = at (note_based (Asked p r q) n i.view (move.bases i.view) (Kept (In n s.views.inc i.view i.members) ∷ fills.lines) (subst (Has (Noted (Asked p r q))) (sym (based_append n i.view (move.bases i.view) (Kept (In n s.views.inc i.view i.members)) fills.lines)) h))
+    where
+      apart : (a : Note) → HeardIn g w n x s es a → Noted (Asked p r q) ≡ Noted a → ⊥
+      apart a h e = let z : Noted (Asked p r q) ≡ Noted (Heard h.p s.views.view (length full + length h.front) h.e h.state.members h.state.value) = e ∙ ap (λ k. Noted k) h.is in cc
+
+      at : ((b : Origin) × (move.bases i.view ≡ Some b) × (Asked p r q ≡ Based n i.view b)) ⊎ Has (Noted (Asked p r q)) (Kept (In n s.views.inc i.view i.members) ∷ fills.lines) → Has (Noted (Asked p r q)) x.all
+      at (inl e) = absurd (let z = e.2 in cc)
+      at (inr (inl e)) = absurd (cc)
+      at (inr (inr h)) = note_lines (Asked p r q) n s.views.view (length full) es x.all (had_sprinkled (HeardIn g w n x s es) (Noted (Asked p r q)) apart filled fills.lines fills.among h)
+
+  still : Still x y
+  still =
       record {
         goes = goes;
-        list = ap (λ (z : Standing). z.list) (set_there x.nodes n now m ne);
         leads = move.leads_same;
         refusals = move.refusals;
-        puts = λ u j e h. ⊎_elim (λ (a : Has (Put m u j e) (kept x.all)). a) (λ (b : (n ≡ m) × (s.views.view ≡ u)). absurd (ne (sym b.0))) (put_many m n u s.views.view j e (length full) es (kept x.all) (put_only m u j e h));
-        told = λ p r u e h. told_only p r u h;
+        stables = move.stables;
+        shut = λ v h. h;
+        asked = λ a h. h;
+        asks = asked_only;
+        told = λ p r u h. inl (told_only p r u h);
+        incs = λ m. incs_set x.nodes n now (let q = t.own.0.stands.inc in omega arith) m;
       }
+
+  spares : (m : ℕ) → m ≢ n → Spares x y m
+  spares m ne =
+      still_spares x y still m (ap (λ (z : Standing). z.list) (set_there x.nodes n now m ne)) (λ u j e h. ⊎_elim (λ (a : Has (Put m u j e) (kept x.all)). a) (λ (b : (n ≡ m) × (s.views.view ≡ u)). absurd (ne (sym b.0))) (put_many m n u s.views.view j e (length full) es (kept x.all) (put_only m u j e h))) (λ p r u e h. told_only p r u h)
 
   -- ---- the node
 
   here : nodes n ≡ now
   here = set_here x.nodes n now
 
+  -- nothing is stable in the view yet
+  unstable : (c : ℕ) → Has (group.Stable i.view c) move.ps → c ≤ 0
+  unstable c h =
+      let W : Whole (opening_of w.config) nodes move.ps y.all move.leads move.bases = whole lives in
+      let st = W.stable.stable i.view c h in
+      let same = always_same_members (opening_of w.config) nodes move.ps y.all move.leads move.bases lives n st.0 s.views.inc st.1 i.view i.members st.2 entry st.3 in
+      let most = st.4 n s.views.inc (subst (Has (member n s.views.inc)) same.0 same.1) in
+      let none : puts_of n i.view (kept y.all) ≡ [] = ap (λ (z : Standing). puts_of n z.view (kept y.all)) (sym here) ∙ (W.good.past.seated n).list ∙ ap (λ (z : Standing). z.list) here in
+      let zero : length (puts_of n i.view (kept y.all)) ≡ 0 = ap (λ (l : List Entry). length l) none in omega arith
+
   row_new : (o : Option Base) → BaseIsOf (record x { leads = move.leads; bases = move.bases }) i.view i.members o → RowIs y n i.view i.members (row_found g (option_map base_row o))
   unfolding base_row acked_from
   row_new None h =
-      record { list = (ap (λ (z : Standing). z.list) here, h); stable = inl refl; leader = tt; acked = λ m j a. inl refl }
+      record { list = (ap (λ (z : Standing). z.list) here, h); stable = inl refl; leader = tt; acked = λ m j a. inl refl; covers = λ j c q h b l a ne. let z = unstable c h in omega arith }
   row_new (Some b) h =
       record {
         list = subst (λ z. Keeps y i.view z (new_list b.state)) (sym (ap (λ (z : Standing). z.list) here)) (record { starts = z_le; len = refl; entries = refl; state = ap base_state (sym h.0); bytes = refl; fits = fit_ends i.view (new_list (base_state (y.bases i.view))) });
         stable = inl refl;
         leader = (h.1.0, h.1.1, h.1.2);
         acked = λ m j a. inl refl;
+        covers = λ j c q h b l a ne. let z = unstable c h in omega arith;
       }
     where
       z_le : 0 ≤ 0
@@ -376,12 +410,17 @@ module _ (g : List ℕ) (w : Scene) (n : ℕ) (f : Answering) (s : Core) (t : Le
   led_new (Some b) = refl
 
   decides_new : LeaderKeeps y n s.views.inc i.view nothing_led
+  unfolding decision_of
   decides_new =
       record {
         refused = λ p r q h. absurd (move.unrefused q p r (move.refusals i.view p r h));
         begun = λ p r j e q h. absurd (empty (y.nodes n).list (ap (λ (z : Standing). z.list) here) j e h);
         waiting = λ p q h. absurd (cc);
         later = λ u l q p r h. let j = move.refusals u p r h in t.own.0.decides.later u (lt_trans s.views.view i.view u lt l) (sym (move.leads_same u (inr (p, r, j))) ∙ q) p r j;
+        again = λ p d why q r. absurd (cc);
+        leads_it = λ p h. absurd (cc);
+        apart = refl;
+        lasts = λ p d h. absurd (cc);
       }
     where
       empty : (l : List Entry) → l ≡ [] → (j : ℕ) (e : Entry) → slice_get l j ≡ Some e → ⊥
@@ -402,17 +441,12 @@ module _ (g : List ℕ) (w : Scene) (n : ℕ) (f : Answering) (s : Core) (t : Le
   owes_new : Owes y g n s.views.inc (level_set c i.members)
   unfolding level_set
   owes_new =
-      let o = t.own.0.owes in
-      record {
-        me = fills.later.me ∙ o.me;
-        inc_of = fills.later.inc ∙ o.inc_of;
-        providers = λ q h. let a = fills.later.providers q h in let b = o.providers a.0 a.1 in (ap (λ (z : ProviderId). z.node) a.2 ∙ b.0, ap (λ (z : ProviderId). z.inc) a.2 ∙ b.1);
-        requests = owed_new;
-      }
+      let less = owes_later x g n s.views.inc s.sessions c.sessions fills.later t.own.0.owes in
+      record { me = less.me; inc_of = less.inc_of; providers = less.providers; own = less.own; requests = owed_new; attended = less.attended; given = less.given }
 
-  node_new : (fixed : Bool) → x.asks ≡ not fixed → NodeOf y g n fixed (views_entered s.views i) (row_found g (option_map base_row (base_named bs g))) (map base_row bs) (level_set c i.members) (map base_leader bs)
-  unfolding views_entered own_install
-  node_new fixed asks =
+  node_new : (fixed : Bool) → x.asks ≡ not fixed → (fixed ≡ true → ShowsLeader y i.view i.view.coord) → NodeOf y g n fixed (views_entered s.views i) (row_found g (option_map base_row (base_named bs g))) (map base_row bs) (level_set c i.members) (map base_leader bs)
+  unfolding views_entered own_install base_row
+  node_new fixed asks led =
       record {
         stands = record {
           me = t.own.0.stands.me;
@@ -428,10 +462,24 @@ module _ (g : List ℕ) (w : Scene) (n : ℕ) (f : Answering) (s : Core) (t : Le
         install = kept_install (i.view.coord == s.views.me && i.view.inc == s.views.inc);
         owes = owes_new;
         decides = subst (LeaderKeeps y n s.views.inc i.view) (sym (led_new (base_named bs g))) decides_new;
-        names = record { named = (move.names fixed).named; unnamed = (move.names fixed).unnamed };
+        names = record { named = (move.names fixed).named; unnamed = (move.names fixed).unnamed; full = (move.names fixed).full };
         asks = asks;
+        led = led;
+        waits = λ k p e. absurd (base_waits k p (find (is_of k) (map base_row bs)) refl e);
       }
     where
+      unwaited : (k : List ℕ) (bs : List Base) (row : GroupRow) → find (is_of k) (map base_row bs) ≡ Some row → row.led ≡ nothing_led
+      unwaited k bs row e =
+          let h = find_has (is_of k) (map base_row bs) row e in
+          let b = has_map base_row row bs h.0 in ap (λ (z : GroupRow). z.led) b.2
+
+      base_waits : (k : List ℕ) (p : ProviderId) (o : Option GroupRow) → find (is_of k) (map base_row bs) ≡ o → providers.among (row_found k o).led.waiting.joins p ≡ true → ⊥
+      base_waits k p None e h = cc
+      base_waits k p (Some row) e h = nothing_waits_there row.led (unwaited k bs row e) h
+        where
+          nothing_waits_there : (l : Led) → l ≡ nothing_led → providers.among l.waiting.joins p ≡ true → ⊥
+          nothing_waits_there l e h = let z : providers.among nothing_led.waiting.joins p ≡ true = subst (λ (y : Led). providers.among y.waiting.joins p ≡ true) e h in cc
+
       kept_install : (b : Bool) → InstallsIf y g (elim b as (λ _. Option Install) [ true ↦ Some i | false ↦ None ])
       kept_install true = installs y after
       kept_install false = tt
@@ -439,7 +487,7 @@ module _ (g : List ℕ) (w : Scene) (n : ℕ) (f : Answering) (s : Core) (t : Le
   own : NodeIsIf w.config y g n (w.incs n) (Some (view_entered c i bs))
   unfolding view_entered recorded_all row_of views_entered
   own =
-      let a : NodeOf y g n (is_fixed c.config.mode) (views_entered s.views i) (row_found g (find (is_of g) (map base_row bs))) (map base_row bs) (level_set c i.members) (map base_leader bs) = subst (λ z. NodeOf y g n (is_fixed c.config.mode) (views_entered s.views i) (row_found g z) (map base_row bs) (level_set c i.members) (map base_leader bs)) (sym (row_of_base g bs)) (node_new (is_fixed c.config.mode) (t.own.0.asks ∙ ap (λ (z : Config). not (is_fixed z.mode)) (sym fills.config))) in
+      let a : NodeOf y g n (is_fixed c.config.mode) (views_entered s.views i) (row_found g (find (is_of g) (map base_row bs))) (map base_row bs) (level_set c i.members) (map base_leader bs) = subst (λ z. NodeOf y g n (is_fixed c.config.mode) (views_entered s.views i) (row_found g z) (map base_row bs) (level_set c i.members) (map base_leader bs)) (sym (row_of_base g bs)) (node_new (is_fixed c.config.mode) (t.own.0.asks ∙ ap (λ (z : Config). not (is_fixed z.mode)) (sym fills.config)) (λ q. absurd (let f : is_fixed w.config.mode ≡ true = ap (λ (z : Config). is_fixed z.mode) (sym t.own.1 ∙ sym fills.config) ∙ q in let k = free in cc))) in
       let b : NodeOf y g n (is_fixed c.config.mode) (views_entered c.views i) (row_found g (find (is_of g) (map base_row bs))) (map base_row bs) (level_set c i.members) (map base_leader bs) = subst (λ z. NodeOf y g n (is_fixed c.config.mode) (views_entered z i) (row_found g (find (is_of g) (map base_row bs))) (map base_row bs) (level_set c i.members) (map base_leader bs)) (sym fills.views) a in
       (b, fills.config ∙ t.own.1, ap (λ (z : Views). z.inc) fills.views ∙ t.own.2)
 
@@ -467,6 +515,29 @@ module _ (g : List ℕ) (w : Scene) (n : ℕ) (f : Answering) (s : Core) (t : Le
       let d : (c.records ++ entering ∷ []) ++ map (base_record (view_entered c i bs)) bs ≡ c.records ++ entering ∷ map (base_record (view_entered c i bs)) bs = append_assoc c.records (entering ∷ []) (map (base_record (view_entered c i bs)) bs) in
       ap (λ z. view_now n (earlier (reverse z) w.before)) (sym d) ∙ now_bases n c.views.me i.view bs (c.records ++ entering ∷ []) w.before ∙ now_pushed n c.records entering w.before ∙ ap (λ b. if b then Some i.view else view_now n (earlier (reverse c.records) w.before)) (eq-eqb c.views.me n me_is)
 
+  -- the others are where they were
+  there : (m : ℕ) (d : Core) → m ≢ n → w.cores m ≡ Some d → view_now m (earlier (reverse (view_entered c i bs).records) w.before) ≡ Some d.views.view
+  unfolding view_entered recorded_all base_record views_entered
+  there m d ne q =
+      let entering : Happened = happened.In c.views.me i.view i.members in
+      let a : (c.records ++ entering ∷ []) ++ map (base_record (view_entered c i bs)) bs ≡ c.records ++ entering ∷ map (base_record (view_entered c i bs)) bs = append_assoc c.records (entering ∷ []) (map (base_record (view_entered c i bs)) bs) in
+      let b : (c.views.me == m) ≡ false = number_other c.views.me m (λ e. ne (e ∙ me_is)) in
+      ap (λ z. view_now m (earlier (reverse z) w.before)) (sym a) ∙ now_bases m c.views.me i.view bs (c.records ++ entering ∷ []) w.before ∙ now_pushed m c.records entering w.before ∙ ap (λ b. if b then Some i.view else view_now m (earlier (reverse c.records) w.before)) b ∙ fills.placed m ∙ t.placed.1 m d ne q
+
+  more_entered : (r : Happened) → Has r (c.records ++ records_of w.before) → Has r ((view_entered c i bs).records ++ records_of w.before)
+  unfolding view_entered recorded_all base_record views_entered
+  more_entered r h =
+      ⊎_elim (λ (a : Has r c.records). append_has_left r (view_entered c i bs).records (records_of w.before) (append_has_left r c.records (happened.In c.views.me i.view i.members ∷ map (base_record (view_entered c i bs)) bs) a)) (λ (a : Has r (records_of w.before)). append_has_right r (view_entered c i bs).records (records_of w.before) a) (has_append r c.records (records_of w.before) h)
+
+  more_records : (r : Happened) → Has r (s.records ++ records_of w.before) → Has r ((view_entered c i bs).records ++ records_of w.before)
+  more_records r h = more_entered r (fills.recorded_on r h)
+
+  turned : InTurn i.view ((view_entered c i bs).records ++ records_of w.before) (level_set c i.members)
+  unfolding level_set
+  turned =
+      let k = turn_on (c.records ++ records_of w.before) ((view_entered c i bs).records ++ records_of w.before) more_entered s.views.view i.view (lt_le s.views.view i.view lt) c.sessions fills.turn in
+      record { single = k.single; joined = k.joined; numbered = k.numbered; owner = k.owner }
+
   -- the view is entered, and its rows are those of the bases
   pub enters_arrived : Arrived g w n (view_entered c i bs)
   unfolding view_entered recorded_all views_entered
@@ -479,119 +550,11 @@ module _ (g : List ℕ) (w : Scene) (n : ℕ) (f : Answering) (s : Core) (t : Le
           own = own;
           others = λ m ne. node_if_on x y m (spares m ne) (set_there x.nodes n now m ne) w.config g (w.incs m) (w.cores m) (t.others m ne);
           packets = λ p h. shown y after p (subst (λ z. Has p (z ++ w.sent)) fills.sends h);
-          refused = λ u q r h. seen_on x y goes u (t.refused u q r (move.refusals u q r h));
+          sound = sound_on x y still g t.sound;
+          placed = (seen, there);
+          nobody = t.nobody;
+          turns = record { own = turned; others = t.turns.others; sent = sent_on_more (s.records ++ records_of w.before) ((view_entered c i bs).records ++ records_of w.before) more_records x.ps move.ps move.requests t.turns.sent };
         };
         unasked = λ p r a m e h. unasked p r a m (e ∙ ap (λ (z : Views). z.inc) fills.views) (move.requests i.view p r a h);
-        seen = seen;
         thawed = refl;
       }
-
--- ---- a member enters by an install that was sent
-
-module _ (g : List ℕ) (w : Scene) (n : ℕ) (s : Core) (t : Tied g w n s) (i : Install) (shows : Installs t.ghost g i) (quiet : Quiet (kept t.ghost.all)) (promised : s.views.promise ≡ i.view) (lt : Lt s.views.view i.view) (among : Has (member n s.views.inc) i.members) where
-  whole_life : Whole (opening_of w.config) t.ghost.nodes t.ghost.ps t.ghost.all t.ghost.leads t.ghost.bases
-  whole_life = whole t.life
-
-  -- it is not the coordinator, which has entered already
-  apart : i.view.coord ≡ n → i.view.inc ≡ s.views.inc → ⊥
-  apart a b = at (subst (λ m. Entered (t.ghost.nodes m) i.view.inc i.view) a (whole_life.good.inv.packet (group.Install i.view i.members shows.whole) shows.sent).used)
-    where
-      inc : (t.ghost.nodes n).inc ≡ s.views.inc
-      inc = t.own.0.stands.inc
-
-      before : Lt (t.ghost.nodes n).view i.view
-      before = subst (λ z. Lt z i.view) (sym t.own.0.stands.view) lt
-
-      at : Entered (t.ghost.nodes n) i.view.inc i.view → ⊥
-      at (inl l) = omega arith
-      at (inr l) = let z : Le i.view (t.ghost.nodes n).view = l.1 in let d = before in absurd (cc)
-
-  same_base : (o : Option Base) → BaseIsOf t.ghost i.view i.members o → BaseIsOf (record (t.ghost) { leads = t.ghost.leads; bases = t.ghost.bases }) i.view i.members o
-  same_base None h = h
-  same_base (Some b) h = h
-
-  abbrev was : Standing
-  was =
-      record { inc = s.views.inc; view = s.views.view; promise = s.views.promise; list = (t.ghost.nodes n).list }
-
-  was_is : t.ghost.nodes n ≡ was
-  was_is = λ j. record { inc = t.own.0.stands.inc j; view = t.own.0.stands.view j; promise = t.own.0.stands.promise j; list = (t.ghost.nodes n).list }
-
-  pub member_moves : Move t.ghost (opening_of w.config) g n s.views.inc s.views.view i
-  member_moves =
-      record {
-        whole = shows.whole;
-        ps = t.ghost.ps;
-        leads = t.ghost.leads;
-        bases = t.ghost.bases;
-        life = Enters t.ghost.nodes (at_node t.ghost.nodes n (record { inc = s.views.inc; view = i.view; promise = i.view; list = [] })) t.ghost.ps t.ghost.all t.ghost.leads t.ghost.bases n was i.view i.members shows.whole t.life was_is quiet t.own.0.stands.up promised lt among shows.sent (changes t.ghost.nodes n (record { inc = s.views.inc; view = i.view; promise = i.view; list = [] }));
-        sent = shows.sent;
-        more = λ p h. h;
-        refusals = λ v p r h. h;
-        requests = λ v p r a h. h;
-        leads_on = λ v l e. e;
-        leads_same = λ v h. refl;
-        bases_same = λ v h. refl;
-        rest = shows.rest;
-        parts = shows.parts;
-        differ = shows.names;
-        base = same_base (base_named (bases_of i) g) shows.base;
-        names = λ fixed. record { named = λ m a b d e. absurd (apart a b); unnamed = λ a b d e. absurd (apart a b) };
-        unrefused = λ q p r h. t.own.0.decides.later i.view lt q p r h;
-      }
-
--- no node put anything since the event began
-quiet_now : (g : List ℕ) (w : Scene) (s : Core) → s.records ≡ [] → Quiet (kept (lines_now g w s))
-quiet_now g w s none =
-    subst (λ rs. Quiet (kept (lines_with g (reverse rs) w.before (lines_of g w.before)))) (sym none) (record { at = λ m u. refl })
-
--- an install that is applied
-enters_row : (i : Install) (xs : List Lacking) (g : List ℕ) (w : Scene) (n : ℕ) (f : Answering) (s : Core) (p : Packet) → p.body ≡ body.View (view.Install i) → Has p w.sent → s.records ≡ [] → same_view s.views.view i.view ≡ false → (same_view s.views.promise i.view && is_member i.members s.views.me s.views.inc) ≡ true → lacking s i ≡ Some xs → Tied g w n s → Tied g w n (entered f s i xs)
-unfolding entered entered_if
-enters_row i xs g w n f s p is delivered none other may lacks t =
-    let k = arrived_tied g w n (view_entered (lists_filled f s xs) i (bases_of i)) (held_rows (lists_filled f s xs)) (lists_filled f s xs).views.view (bases_of i) (enters_arrived g w n f s (record { ghost = t.ghost; life = t.life; lines = t.lines; own = t.own; others = t.others; refused = t.refused }) i xs (member_moves g w n s t i shown (subst (λ l. Quiet (kept l)) (sym t.lines) (quiet_now g w s none)) promised lt among) (λ y a. installs_on t.ghost y a.goes g i shown) (λ y a q h. shows_on t.ghost y a.goes g q (t.packets q h)) lt among lacks) in
-    groups_led_tied g w n (owed_sent (taken_sent (entering_noted (sides_dissolved (view_entered (lists_filled f s xs) i (bases_of i)) (held_rows (lists_filled f s xs)) (lists_filled f s xs).views.view (bases_of i)) (bases_of i)))) f k.1 free k.0
-  where
-    shown : Installs t.ghost g i
-    shown = subst (ShowsBody t.ghost g p.from p.inc) is (t.packets p (append_has_right p s.sends w.sent delivered))
-
-    parts : (same_view s.views.promise i.view ≡ true) × (is_member i.members s.views.me s.views.inc ≡ true)
-    parts = and_parts (same_view s.views.promise i.view) (is_member i.members s.views.me s.views.inc) may
-
-    free : is_fixed w.config.mode ≡ false
-    free = asked_free g w n s t shown.asks
-
-    promised : s.views.promise ≡ i.view
-    promised = same_of s.views.promise i.view parts.0
-
-    below : Le s.views.view s.views.promise
-    below =
-        let k : Whole (opening_of w.config) t.ghost.nodes t.ghost.ps t.ghost.all t.ghost.leads t.ghost.bases = whole t.life in
-        subst (λ (z : ViewId × ViewId). Le z.0 z.1) (λ j. (t.own.0.stands.view j, t.own.0.stands.promise j)) (k.good.inv.node n).below
-
-    lt : Lt s.views.view i.view
-    lt = before_of s.views.view i.view (subst (Le s.views.view) promised below) (λ (e : i.view ≡ s.views.view). not_same e)
-      where
-        same_self : (v : ViewId) → same_view v v ≡ false → ⊥
-        same_self v e = grind (arith, nat_tests)
-
-        not_same : i.view ≡ s.views.view → ⊥
-        not_same e = let z : same_view s.views.view s.views.view ≡ false = subst (λ v. same_view s.views.view v ≡ false) e other in same_self s.views.view z
-
-    among : Has (member n s.views.inc) i.members
-    among = subst (λ m. Has (member m s.views.inc) i.members) t.own.0.stands.me (has_member i.members s.views.me s.views.inc parts.1)
-
--- INSTALL
-pub install_row_tied : (i : Install) (g : List ℕ) (w : Scene) (n : ℕ) (f : Answering) (s : Core) (p : Packet) → p.body ≡ body.View (view.Install i) → Has p w.sent → s.records ≡ [] → Tied g w n s → Tied g w n (body_row f s p (body.View (view.Install i)))
-unfolding body_row view_row views_taken install_applied entered_if install_row installed view_sent
-install_row_tied i g w n f s p is delivered none t =
-    by (same_view s.views.view i.view) (same_view s.views.promise i.view && is_member i.members s.views.me s.views.inc) refl refl
-  where
-    lists : (o : Option (List Lacking)) → same_view s.views.view i.view ≡ false → (same_view s.views.promise i.view && is_member i.members s.views.me s.views.inc) ≡ true → lacking s i ≡ o → Tied g w n (entered_if f s i o)
-    lists None b c q = t
-    lists (Some xs) b c q = enters_row i xs g w n f s p is delivered none b c q t
-
-    by : (b c : Bool) → same_view s.views.view i.view ≡ b → (same_view s.views.promise i.view && is_member i.members s.views.me s.views.inc) ≡ c → Tied g w n (views_taken f s (installed (views_at_work s.views) i b c))
-    by true c a d = tied_sent g w n s t i.view.coord (body.View (view.Taken i.view)) tt
-    by false false a d = t
-    by false true a d = lists (lacking s i) a d refl

@@ -32,11 +32,12 @@ use Rattle.step_ties.proofs.Acks.{used_is}
 use Rattle.step_ties.proofs.SessionLaws.{handed_later, handed_gone, hearer_has}
 use Rattle.step_ties.proofs.Puts.{Leaves, put_other, put_own}
 use Rattle.step_ties.proofs.Handed.{Stepping, handed_tied}
+use Rattle.step_ties.proofs.Turns.{handed_fewer}
 
 module _ (v : ViewId) (h : List ℕ) (place stable : ℕ) (e : Entry) (g : List ℕ) (w : Scene) (n : ℕ) (f : Answering) (s : Core) (p : Packet) (is : p.body ≡ body.Entry v h place stable e) (delivered : Has p w.sent) (t : Tied g w n s) (view_is : v ≡ s.views.view) (thawed : s.views.promise ≡ s.views.view) (among : Has (member p.from p.inc) s.views.members) where
   -- what the packet shows, at any moment
   shown : (c : Core) (k : Tied g w n c) → h ≡ g → ShowsEntry k.ghost p.from p.inc v place stable e
-  shown c k = subst (ShowsBody k.ghost g p.from p.inc) is (k.packets p (append_has_right p c.sends w.sent delivered))
+  shown c k = subst (ShowsBody k.ghost g p.from p.inc p.to) is (k.packets p (append_has_right p c.sends w.sent delivered))
 
   stable_is : (c : Core) (k : Tied g w n c) → c.views ≡ s.views → h ≡ g → IsStable k.ghost c.views.view stable
   stable_is c k same q =
@@ -77,7 +78,7 @@ module _ (v : ViewId) (h : List ℕ) (place stable : ℕ) (e : Entry) (g : List 
       u = session.handed_on s.sessions h (state_of s h) after e bs
 
       leaves : Leaves s.sessions u e
-      leaves = record { later = handed_later s.sessions h (state_of s h) after e bs; gone = handed_gone s.sessions h (state_of s h) after e bs }
+      leaves = record { later = handed_later s.sessions h (state_of s h) after e bs; gone = handed_gone s.sessions h (state_of s h) after e bs; fewer = handed_fewer s.sessions h (state_of s h) after e bs }
 
       hears : (q : ProviderId) → Has q (hearers s.sessions h (state_of s h) e) → q.node ≡ n
       hears q i =

@@ -35,20 +35,23 @@ use Rattle.node_state.specs.Sending.{sent_if_known}
 use Rattle.node_state.specs.HandOn.{Answering, fills, heard, noted, ballot_sent, cast_sent_of, casts_sent, handed_on}
 use Rattle.node_state.specs.Leading.{put, put_and_handed}
 use Rattle.node_state.specs.Applying.{Lacking, lacking_in, lists_filled}
-use Rattle.run_safety.specs.Past.{earlier}
+use Rattle.run_safety.specs.Past.{earlier, view_now, records_of}
 use Rattle.run_safety.specs.Sight.{lines_of}
 use Rattle.run_safety.specs.Group.{Put, Note, Heard, Line, Kept, Noted, lines_from}
 use Rattle.run_safety.specs.Bases.{state_of_list}
 use Rattle.run_safety.specs.Requests.{carried}
+use Rattle.run_safety.proofs.Order.{lt_refl}
 use Rattle.step_ties.specs.Ghost.{Ghost, FitIn, Keeps, Carries, CarriesIf, part_of}
-use Rattle.step_ties.specs.Tied.{InNameOrder, Scene, lines_now}
-use Rattle.step_ties.proofs.Works.{Unseen, lines_pushed}
+use Rattle.step_ties.specs.Tied.{InNameOrder, Scene, lines_now, InTurn}
+use Rattle.step_ties.proofs.Works.{Passes, lines_pushed, now_pushed}
 use Rattle.step_ties.proofs.NameOrder.{text_self, text_same, text_other, row_here, row_there, rows_ordered}
 use Rattle.step_ties.proofs.SessionLaws.{Later, later_then, handed_later, handed_gone}
 use Rattle.step_ties.proofs.Fits.{fits_more, fits_front}
 use Rattle.step_ties.proofs.Puts.{pushed_keeps}
 use Rattle.step_ties.proofs.Handed.{handed_records}
 use Rattle.step_ties.proofs.Sprinkled.{Sprinkled, Bare, Same, With, sprinkled_on}
+use Rattle.step_ties.proofs.Turns.{Fewer, turn_on, has_pushed_on, put_turn, handed_fewer}
+use Rattle.view_core.specs.declared.views.Views.{Views}
 
 -- an entry more at the end
 lines_pushed_from : (n : ℕ) (v : ViewId) (es : List Entry) (i : ℕ) (e : Entry) (all : List Line) → lines_from n v i (es ++ e ∷ []) all ≡ Kept (Put n v (i + length es) e) ∷ lines_from n v i es all
@@ -126,9 +129,12 @@ module _ (g : List ℕ) (w : Scene) (n : ℕ) (x : Ghost) (s : Core) where
     pub lines : List Line
     pub among : Sprinkled (HeardIn es) (lines_from n s.views.view (length full) es x.all) lines
     pub is : lines_now g w c ≡ lines
+    pub placed : (m : ℕ) → view_now m (earlier (reverse c.records) w.before) ≡ view_now m (earlier (reverse s.records) w.before)
+    pub turn : InTurn s.views.view (c.records ++ records_of w.before) c.sessions
+    pub recorded_on : (r : Happened) → Has r (s.records ++ records_of w.before) → Has r (c.records ++ records_of w.before)
 
-  module _ (me : s.views.me ≡ n) (own : (q : ProviderId) → ((y : SessionState) → Later s.sessions y → (b : GroupState) (k : List ℕ) (e : Entry) → Has q (hearers y k b e) → q.node ≡ n)) where
-    unseen_too : (es : List Entry) (c : Core) (r : Happened) → Unseen g r → Fills es c → Fills es (recorded c r)
+  module _ (me : s.views.me ≡ n) (mine : (q : Request) → Has q s.sessions.requests → q.p.node ≡ n) (own : (q : ProviderId) → ((y : SessionState) → Later s.sessions y → (b : GroupState) (k : List ℕ) (e : Entry) → Has q (hearers y k b e) → q.node ≡ n)) where
+    unseen_too : (es : List Entry) (c : Core) (r : Happened) → Passes g r → Fills es c → Fills es (recorded c r)
     unfolding recorded list_of row_of
     unseen_too es c r unseen t =
         record {
@@ -142,7 +148,10 @@ module _ (g : List ℕ) (w : Scene) (n : ℕ) (x : Ghost) (s : Core) where
           gone = t.gone;
           lines = t.lines;
           among = t.among;
-          is = lines_pushed g c.records r w.before (lines_of g w.before) ∙ ap (λ z. z ++ lines_now g w c) (unseen (earlier (reverse c.records) w.before)) ∙ t.is;
+          is = lines_pushed g c.records r w.before (lines_of g w.before) ∙ ap (λ z. z ++ lines_now g w c) (unseen.0 (earlier (reverse c.records) w.before)) ∙ t.is;
+          placed = λ m. now_pushed m c.records r w.before ∙ unseen.1 m (view_now m (earlier (reverse c.records) w.before)) ∙ t.placed m;
+          turn = turn_on (c.records ++ records_of w.before) ((c.records ++ r ∷ []) ++ records_of w.before) (λ y i. has_pushed_on (r) y c.records (records_of w.before) i) s.views.view s.views.view (lt_refl s.views.view) c.sessions t.turn;
+          recorded_on = λ y i. has_pushed_on (r) y c.records (records_of w.before) (t.recorded_on y i);
         }
 
     heard_too : (es : List Entry) (c : Core) (p : ProviderId) (v : ViewId) (i : ℕ) (e : Entry) (st : GroupState) → HeardIn es (Heard p v i e st.members st.value) → Fills es c → Fills es (recorded c (happened.Heard p v g i e st.members st.value))
@@ -160,15 +169,18 @@ module _ (g : List ℕ) (w : Scene) (n : ℕ) (x : Ghost) (s : Core) where
           lines = Noted (Heard p v i e st.members st.value) ∷ t.lines;
           among = With (Heard p v i e st.members st.value) (lines_from n s.views.view (length full) es x.all) t.lines new t.among;
           is = lines_pushed g c.records (happened.Heard p v g i e st.members st.value) w.before (lines_of g w.before) ∙ ap (λ b. (if b then Noted (Heard p v i e st.members st.value) ∷ [] else []) ++ lines_now g w c) (text_self g) ∙ ap (λ l. Noted (Heard p v i e st.members st.value) ∷ l) t.is;
+          placed = λ m. now_pushed m c.records (happened.Heard p v g i e st.members st.value) w.before ∙ t.placed m;
+          turn = turn_on (c.records ++ records_of w.before) ((c.records ++ happened.Heard p v g i e st.members st.value ∷ []) ++ records_of w.before) (λ y j. has_pushed_on (happened.Heard p v g i e st.members st.value) y c.records (records_of w.before) j) s.views.view s.views.view (lt_refl s.views.view) c.sessions t.turn;
+          recorded_on = λ y j. has_pushed_on (happened.Heard p v g i e st.members st.value) y c.records (records_of w.before) (t.recorded_on y j);
         }
 
     abbrev put_row : Entry → Core → GroupRow → GroupRow
     put_row e c row = record row { list = Some (with_entry (list_or_new row.list) c.views.view e) }
 
     -- another group's entry
-    put_other : (es : List Entry) (c : Core) (h : List ℕ) (e : Entry) (u : SessionState) → (h ≡ g → ⊥) → Later c.sessions u → Fills es c → Fills es (with_sessions (put c h e) u)
+    put_other : (es : List Entry) (c : Core) (h : List ℕ) (e : Entry) (u : SessionState) → (h ≡ g → ⊥) → Later c.sessions u → Fewer c.sessions u (carried e) → Fills es c → Fills es (with_sessions (put c h e) u)
     unfolding put recorded with_sessions with_row row_of list_of
-    put_other es c h e u ne l t =
+    put_other es c h e u ne l f t =
         record {
           config = t.config;
           views = t.views;
@@ -181,6 +193,9 @@ module _ (g : List ℕ) (w : Scene) (n : ℕ) (x : Ghost) (s : Core) where
           lines = t.lines;
           among = t.among;
           is = lines_pushed g c.records (happened.Put c.views.me c.views.view h (len_of c h) e) w.before (lines_of g w.before) ∙ ap (λ b. (if b then Kept (Put c.views.me c.views.view (len_of c h) e) ∷ [] else []) ++ lines_now g w c) (text_other h g ne) ∙ t.is;
+          placed = λ m. now_pushed m c.records (happened.Put c.views.me c.views.view h (len_of c h) e) w.before ∙ t.placed m;
+          turn = subst (λ z. InTurn z ((c.records ++ happened.Put c.views.me c.views.view h (len_of c h) e ∷ []) ++ records_of w.before) u) (ap (λ (z : Views). z.view) t.views) (put_turn (records_of w.before) c.records c.views.view c.sessions u c.views.me h (len_of c h) e (λ q i. mine q (t.later.requests q i) ∙ sym me ∙ ap (λ (z : Views). z.me) (sym t.views)) f (subst (λ z. InTurn z (c.records ++ records_of w.before) c.sessions) (ap (λ (z : Views). z.view) (sym t.views)) t.turn));
+          recorded_on = λ y i. has_pushed_on (happened.Put c.views.me c.views.view h (len_of c h) e) y c.records (records_of w.before) (t.recorded_on y i);
         }
 
     len_now : (es : List Entry) (c : Core) → Fills es c → len_of c g ≡ length full + length es
@@ -195,9 +210,9 @@ module _ (g : List ℕ) (w : Scene) (n : ℕ) (x : Ghost) (s : Core) where
         subst (λ z. Keeps x s.views.view z (with_entry (list_of c g) c.views.view e)) (append_assoc full es (e ∷ [])) b
 
     -- the own group's entry
-    put_own : (es : List Entry) (c : Core) (e : Entry) (u : SessionState) → FitIn x s.views.view (full ++ (es ++ e ∷ [])) → Later c.sessions u → ((q : Request) → Has q u.requests → Has (q.p, q.r) (carried e) → ⊥) → Fills es c → Fills (es ++ e ∷ []) (with_sessions (put c g e) u) × (state_of (put c g e) g ≡ state_of_list x.bases s.views.view (full ++ (es ++ e ∷ [])))
+    put_own : (es : List Entry) (c : Core) (e : Entry) (u : SessionState) → FitIn x s.views.view (full ++ (es ++ e ∷ [])) → Later c.sessions u → ((q : Request) → Has q u.requests → Has (q.p, q.r) (carried e) → ⊥) → Fewer c.sessions u (carried e) → Fills es c → Fills (es ++ e ∷ []) (with_sessions (put c g e) u) × (state_of (put c g e) g ≡ state_of_list x.bases s.views.view (full ++ (es ++ e ∷ [])))
     unfolding put recorded with_sessions with_row row_of list_of state_of
-    put_own es c e u fit l gone t =
+    put_own es c e u fit l gone f t =
         let here : list_of (with_row c g (put_row e c)) g ≡ with_entry (list_of c g) c.views.view e = ap (λ (row : GroupRow). list_or_new row.list) (row_here g (put_row e c) (λ y. refl) c t.order) in
         let keeps : Keeps x s.views.view (full ++ (es ++ e ∷ [])) (list_of (with_row c g (put_row e c)) g) = subst (Keeps x s.views.view (full ++ (es ++ e ∷ []))) (sym here) (keeps_more es c e fit t) in
         let line : Line = Kept (Put n s.views.view (length full + length es) e) in (
@@ -213,6 +228,9 @@ module _ (g : List ℕ) (w : Scene) (n : ℕ) (x : Ghost) (s : Core) where
             lines = line ∷ t.lines;
             among = subst (λ z. Sprinkled (HeardIn (es ++ e ∷ [])) z (line ∷ t.lines)) (sym (lines_pushed_from n s.views.view es (length full) e x.all)) (Same line (lines_from n s.views.view (length full) es x.all) t.lines (sprinkled_on (HeardIn es) (HeardIn (es ++ e ∷ [])) (heard_more es (e ∷ [])) (lines_from n s.views.view (length full) es x.all) t.lines t.among));
             is = lines_pushed g c.records (happened.Put c.views.me c.views.view g (len_of c g) e) w.before (lines_of g w.before) ∙ ap (λ b. (if b then Kept (Put c.views.me c.views.view (len_of c g) e) ∷ [] else []) ++ lines_now g w c) (text_self g) ∙ (λ i. Kept (Put (me_is i) (view_is i) (len_now es c t i) e) ∷ t.is i);
+            placed = λ m. now_pushed m c.records (happened.Put c.views.me c.views.view g (len_of c g) e) w.before ∙ t.placed m;
+            turn = subst (λ z. InTurn z ((c.records ++ happened.Put c.views.me c.views.view g (len_of c g) e ∷ []) ++ records_of w.before) u) (ap (λ (z : Views). z.view) t.views) (put_turn (records_of w.before) c.records c.views.view c.sessions u c.views.me g (len_of c g) e (λ q i. mine q (t.later.requests q i) ∙ sym me ∙ ap (λ (z : Views). z.me) (sym t.views)) f (subst (λ z. InTurn z (c.records ++ records_of w.before) c.sessions) (ap (λ (z : Views). z.view) (sym t.views)) t.turn));
+            recorded_on = λ y i. has_pushed_on (happened.Put c.views.me c.views.view g (len_of c g) e) y c.records (records_of w.before) (t.recorded_on y i);
           },
           keeps.state,
         )
@@ -237,7 +255,7 @@ module _ (g : List ℕ) (w : Scene) (n : ℕ) (x : Ghost) (s : Core) where
         let u : SessionState = session.handed_on c.sessions g before st e bs in
         let cs : List Cast = casts_out c.sessions g before st e bs in
         let hears : (q : ProviderId) → Has q (hearers c.sessions g before e) → q.node ≡ n = λ q i. own q c.sessions t.later before g e i in
-        let k = put_own es c e u fit (handed_later c.sessions g before st e bs) (handed_gone c.sessions g before st e bs) t in
+        let k = put_own es c e u fit (handed_later c.sessions g before st e bs) (handed_gone c.sessions g before st e bs) (handed_fewer c.sessions g before st e bs) t in
         let new : (p : ProviderId) → p.node ≡ n → HeardIn (es ++ e ∷ []) (Heard p c.views.view (len_of c g) e st.members st.value) = λ p at.
         record {
           p = p;
@@ -261,8 +279,8 @@ module _ (g : List ℕ) (w : Scene) (n : ℕ) (x : Ghost) (s : Core) where
         let u : SessionState = session.handed_on c.sessions h before st e bs in
         let cs : List Cast = casts_out c.sessions h before st e bs in
         let hears : (q : ProviderId) → Has q (hearers c.sessions h before e) → q.node ≡ n = λ q i. own q c.sessions t.later before h e i in
-        let k : Fills es (with_sessions (put c h e) u) = put_other es c h e u ne (handed_later c.sessions h before st e bs) t in
-        subst (Fills es) (sym (unsent (with_sessions (noted (recorded_all (put c h e) (flat_map (heard (put c h e) h (len_of c h) e st) cs)) h (len_of c h) before st) u) h cs)) (handed_records g n h c.views.view (len_of c h) e st (Fills es) (λ d r un j. unseen_too es d r un j) (λ d p at j. unseen_too es d (happened.Heard p c.views.view h (len_of c h) e st.members st.value) (λ rs. ap (λ b. if b then Noted (Heard p c.views.view (len_of c h) e st.members st.value) ∷ [] else []) (text_other h g ne)) j) f (put c h e) before refl hears k)
+        let k : Fills es (with_sessions (put c h e) u) = put_other es c h e u ne (handed_later c.sessions h before st e bs) (handed_fewer c.sessions h before st e bs) t in
+        subst (Fills es) (sym (unsent (with_sessions (noted (recorded_all (put c h e) (flat_map (heard (put c h e) h (len_of c h) e st) cs)) h (len_of c h) before st) u) h cs)) (handed_records g n h c.views.view (len_of c h) e st (Fills es) (λ d r un j. unseen_too es d r un j) (λ d p at j. unseen_too es d (happened.Heard p c.views.view h (len_of c h) e st.members st.value) ((λ rs. ap (λ b. if b then Noted (Heard p c.views.view (len_of c h) e st.members st.value) ∷ [] else []) (text_other h g ne)), λ m o. refl) j) f (put c h e) before refl hears k)
 
     fits_so_far : (es more : List Entry) → FitIn x s.views.view (full ++ (es ++ more)) → FitIn x s.views.view (full ++ es)
     fits_so_far es more fit =
@@ -297,8 +315,8 @@ module _ (g : List ℕ) (w : Scene) (n : ℕ) (x : Ghost) (s : Core) where
 -- ---- what a list lacks
 
 -- a node without a change yet
-pub nothing_filled : (g : List ℕ) (w : Scene) (n : ℕ) (x : Ghost) (s : Core) → InNameOrder s.groups → Keeps x s.views.view (x.nodes n).list (list_of s g) → Later s.sessions s.sessions → lines_now g w s ≡ x.all → Fills g w n x s [] s
-nothing_filled g w n x s order keeps later lines =
+pub nothing_filled : (g : List ℕ) (w : Scene) (n : ℕ) (x : Ghost) (s : Core) → InNameOrder s.groups → Keeps x s.views.view (x.nodes n).list (list_of s g) → Later s.sessions s.sessions → lines_now g w s ≡ x.all → InTurn s.views.view (s.records ++ records_of w.before) s.sessions → Fills g w n x s [] s
+nothing_filled g w n x s order keeps later lines turn =
     record {
       config = refl;
       views = refl;
@@ -311,6 +329,9 @@ nothing_filled g w n x s order keeps later lines =
       lines = x.all;
       among = Bare x.all;
       is = lines;
+      placed = λ m. refl;
+      turn = turn;
+      recorded_on = λ r i. i;
     }
 
 pub dropped : (a k : ℕ) (xs : List Entry) → a ≤ k → drop (k - a) (drop a xs) ≡ drop k xs

@@ -32,12 +32,12 @@ use Rattle.node_state.specs.Sending.{joins_nodes, ring_network, network_to, leve
 use Rattle.node_state.specs.HandOn.{Answering}
 use Rattle.node_state.specs.Applying.{Lacking, lacking_in, lacking, lists_filled, base_leader, view_entered, sides_dissolved, entering_noted, taken_sent, owed_sent, entered, entered_if, install_applied}
 use Rattle.view_exchange.specs.Cut.{lacking_of}
-use Rattle.run_safety.specs.ViewOrder.{is_same, Lt}
+use Rattle.run_safety.specs.ViewOrder.{Lt}
 use Rattle.run_safety.specs.Group.{member, members_of, Standing, Reply, Origin, In, Line, Kept, kept, lines_from}
 use Rattle.run_safety.specs.Group as group
 use Rattle.run_safety.specs.Bases.{Bases, leader_of}
 use Rattle.run_safety.specs.Moves.{Leads, Opening, Life, Quiet, Collected, based, Founds}
-use Rattle.run_safety.proofs.Order.{eq_true, eq_same, cases_view}
+use Rattle.run_safety.proofs.Order.{cases_view}
 use Rattle.run_safety.proofs.Past.{reply_member}
 use Rattle.run_safety.proofs.Founds.{found_new, found_unled}
 use Rattle.run_safety.proofs.Whole.{Whole}
@@ -46,7 +46,7 @@ use Rattle.step_ties.specs.Ghost.{Ghost, Seen, CarriesIf, Gathers, BaseIsOf, Ins
 use Rattle.step_ties.specs.Tied.{ShowsBody, Shows, Names, NodeOf, NodeIsIf, Scene, opening_of, Tied}
 use Rattle.step_ties.specs.Rows.{at_node}
 use Rattle.step_ties.proofs.Goes.{Settled, spares_same, seen_on, carries_on, shows_on, rest_on}
-use Rattle.step_ties.proofs.Changed.{changes}
+use Rattle.step_ties.proofs.Changed.{changes, set_view, view_here, view_there}
 use Rattle.step_ties.proofs.NameOrder.{text_same, text_self}
 use Rattle.step_ties.proofs.Works.{tied_views, asked_free}
 use Rattle.step_ties.proofs.Sides.{SourcesAre}
@@ -54,23 +54,6 @@ use Rattle.step_ties.proofs.Replies as replies
 use Rattle.step_ties.proofs.Arrived.{arrived_tied}
 use Rattle.step_ties.proofs.Entering.{Leaving, Move, After, enters_arrived}
 use Rattle.step_ties.proofs.LedGroups.{groups_led_tied}
-
--- ---- one view's value is set
-
-set_view : {A : Type 0} → (ViewId → A) → ViewId → A → ViewId → A
-set_view f v y u = if is_same u v then y else f u
-
-view_here : {A : Type 0} (f : ViewId → A) (v : ViewId) (y : A) → set_view f v y v ≡ y
-unfolding set_view
-view_here f v y = ap (λ b. if b then y else f v) (eq_same v)
-
-view_there : {A : Type 0} (f : ViewId → A) (v : ViewId) (y : A) (u : ViewId) → (u ≡ v → ⊥) → set_view f v y u ≡ f u
-unfolding set_view
-view_there f v y u ne = by (is_same u v) refl
-  where
-    by : (b : Bool) → is_same u v ≡ b → (if b then y else f u) ≡ f u
-    by true e = absurd (ne (eq_true u v e))
-    by false e = refl
 
 -- ---- the table of a coordinator is that of the bases
 
@@ -207,7 +190,7 @@ module _ (g : List ℕ) (w : Scene) (n : ℕ) (s : Core) (t : Tied g w n s) (e :
 
   unsettled : (v : ViewId) → Settled x v → v ≡ P → ⊥
   unsettled v (inl a) q = unseen (subst (Seen x) q a)
-  unsettled v (inr a) q = unseen (subst (Seen x) q (t.refused v a.0 a.1 a.2))
+  unsettled v (inr a) q = unseen (subst (Seen x) q (t.sound.refused v a.0 a.1 a.2))
 
   -- the base, and who leads
   base : Option Origin
@@ -279,6 +262,7 @@ module _ (g : List ℕ) (w : Scene) (n : ℕ) (s : Core) (t : Tied g w n s) (e :
       record {
         named = λ m a b d q. named m (base_of i g) refl (sym table ∙ q);
         unnamed = λ a b d q. unnamed (base_of i g) refl (sym table ∙ q);
+        full = λ a b d q. absurd (unseen (subst (Seen x) view_is (t.sound.shut i.view q).0));
       }
     where
       named : (m : ℕ) (b : Option Base) → base_of i g ≡ b → option_map (λ (b : Base). b.leader) b ≡ Some m → (j : ℕ) × Has (member m j) i.members × (leads i.view ≡ Some (member m j))
@@ -295,6 +279,10 @@ module _ (g : List ℕ) (w : Scene) (n : ℕ) (s : Core) (t : Tied g w n s) (e :
   refusal_old : (v : ViewId) (p : ProviderId) (r : ℕ) → Has (group.Refusal v p r) (group.Install i.view i.members ss ∷ x.ps) → Has (group.Refusal v p r) x.ps
   refusal_old v p r (inl q) = absurd (cc)
   refusal_old v p r (inr j) = j
+
+  stable_old : (v : ViewId) (k : ℕ) → Has (group.Stable v k) (group.Install i.view i.members ss ∷ x.ps) → Has (group.Stable v k) x.ps
+  stable_old v k (inl q) = absurd (cc)
+  stable_old v k (inr j) = j
 
   request_old : (v : ViewId) (p : ProviderId) (r : ℕ) (a : Proposal) → Has (group.Request v p r a) (group.Install i.view i.members ss ∷ x.ps) → Has (group.Request v p r a) x.ps
   request_old v p r a (inl q) = absurd (cc)
@@ -329,6 +317,7 @@ module _ (g : List ℕ) (w : Scene) (n : ℕ) (s : Core) (t : Tied g w n s) (e :
         sent = inl refl;
         more = λ p j. inr j;
         refusals = refusal_old;
+        stables = stable_old;
         requests = request_old;
         leads_on = leads_on;
         leads_same = λ v a. leads_there v (unsettled v a);
@@ -338,7 +327,7 @@ module _ (g : List ℕ) (w : Scene) (n : ℕ) (s : Core) (t : Tied g w n s) (e :
         differ = sources.differ;
         base = base_is;
         names = names;
-        unrefused = λ q p r j. unseen (subst (Seen x) view_is (t.refused i.view p r j));
+        unrefused = λ q p r j. unseen (subst (Seen x) view_is (t.sound.refused i.view p r j));
       }
 
   -- the install shows the one that was made
@@ -366,9 +355,6 @@ module _ (g : List ℕ) (w : Scene) (n : ℕ) (s : Core) (t : Tied g w n s) (e :
 -- ---- the view is founded
 
 module _ (g : List ℕ) (w : Scene) (n : ℕ) (f : Answering) (s : Core) (t : Tied g w n s) (e : Exchange) (h : Gathers t.ghost g n s.views.inc s.views.view s.views.promise e) (quiet : Quiet (kept t.ghost.all)) where
-  free : is_fixed w.config.mode ≡ false
-  free = asked_free g w n s t h.asks
-
   abbrev made : Install
   made = install_of e
 
@@ -399,7 +385,7 @@ module _ (g : List ℕ) (w : Scene) (n : ℕ) (f : Answering) (s : Core) (t : Ti
 
   abbrev leaves : Leaving g w n s1
   leaves =
-      record { ghost = t.ghost; life = t.life; lines = t.lines; own = own1; others = t.others; refused = t.refused }
+      record { ghost = t.ghost; life = t.life; lines = t.lines; own = own1; others = t.others; sound = t.sound; placed = t.placed; nobody = t.nobody; turns = t.turns }
 
   later : Lt s.views.view made.view
   later = subst (Lt s.views.view) (sym (view_is g w n s t e h quiet)) h.lt
@@ -426,7 +412,7 @@ module _ (g : List ℕ) (w : Scene) (n : ℕ) (f : Answering) (s : Core) (t : Ti
         new (inl i) = shows_on t.ghost y a.goes g p (t.packets p (append_has_left p s.sends w.sent i))
         new (inr i) =
             let q : p.body ≡ body.View (view.Install made) = i.2 ∙ ap (λ z. body.View z) (installs_all made (others_of s.views.me made.members) i.0 i.1) in
-            subst (ShowsBody y g p.from p.inc) (sym q) (install_shown g w n s t e h quiet y a)
+            subst (ShowsBody y g p.from p.inc p.to) (sym q) (install_shown g w n s t e h quiet y a)
 
         at : Has p sends.ps ⊎ Has p w.sent → Shows y g p
         at (inl i) = new (sends.new p i)
@@ -435,8 +421,8 @@ module _ (g : List ℕ) (w : Scene) (n : ℕ) (f : Answering) (s : Core) (t : Ti
     applied : Tied g w n (entered f s1 made xs)
     unfolding entered
     applied =
-        let k = arrived_tied g w n (view_entered (lists_filled f s1 xs) made (bases_of made)) (held_rows (lists_filled f s1 xs)) (lists_filled f s1 xs).views.view (bases_of made) (enters_arrived g w n f s1 leaves made xs move (install_shown g w n s t e h quiet) shown later among lacks1) in
-        groups_led_tied g w n (owed_sent (taken_sent (entering_noted (sides_dissolved (view_entered (lists_filled f s1 xs) made (bases_of made)) (held_rows (lists_filled f s1 xs)) (lists_filled f s1 xs).views.view (bases_of made)) (bases_of made)))) f k.1 free k.0
+        let k = arrived_tied g w n (view_entered (lists_filled f s1 xs) made (bases_of made)) (held_rows (lists_filled f s1 xs)) (lists_filled f s1 xs).views.view (bases_of made) (enters_arrived g w n f s1 leaves (asked_free g w n s t h.asks) made xs move (install_shown g w n s t e h quiet) shown later among lacks1) in
+        groups_led_tied g w n (owed_sent (taken_sent (entering_noted (sides_dissolved (view_entered (lists_filled f s1 xs) made (bases_of made)) (held_rows (lists_filled f s1 xs)) (lists_filled f s1 xs).views.view (bases_of made)) (bases_of made)))) f k.1 k.0
 
     pub founds_tied : Tied g w n (install_applied f (sends_out s0 out) (Some made))
     unfolding install_applied entered_if

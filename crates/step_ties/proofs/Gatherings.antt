@@ -40,11 +40,12 @@ use Rattle.run_safety.proofs.Whole.{Whole}
 use Rattle.run_safety.proofs.Lives.{whole}
 use Rattle.step_ties.specs.Ghost.{Ghost, Goes, Seen, CarriesIf, part_of, ReplyIs, Gathers, GathersIf}
 use Rattle.step_ties.specs.Tied.{ShowsBody, Stands, Scene, opening_of, Tied}
-use Rattle.step_ties.proofs.Goes.{Spares, spares_same, carries_on, shows_on, rest_on}
+use Rattle.step_ties.proofs.Goes.{Spares, sound_on, spares_same, carries_on, shows_on, rest_on}
 use Rattle.step_ties.proofs.Works.{tied_on, tied_sent, tied_views}
-use Rattle.step_ties.proofs.Gone.{with_packet, packet_goes, packet_spares}
+use Rattle.step_ties.proofs.Gone.{with_packet, packet_goes, packet_still, packet_spares}
 use Rattle.step_ties.proofs.Parts.{own_carries, own_differ}
 use Rattle.step_ties.proofs.ViewRows.{same_of, tied_promised}
+use Rattle.step_ties.proofs.Turns.{packet_turns}
 
 -- ---- one more answer
 
@@ -140,7 +141,7 @@ counted_tied v old parts g w n s p is delivered e q r t =
         record (s.views) { gathering = Some (with_answer e (record { node = p.from; inc = p.inc; view = old; parts = parts })) }
 
     shown : (full : List Entry) × Has (group.Answer v (record { node = p.from; inc = p.inc; view = old; list = full })) t.ghost.ps × Seen t.ghost old × CarriesIf t.ghost old full (part_of g parts) × NamesDiffer parts
-    shown = subst (ShowsBody t.ghost g p.from p.inc) is (t.packets p (append_has_right p s.sends w.sent delivered))
+    shown = subst (ShowsBody t.ghost g p.from p.inc p.to) is (t.packets p (append_has_right p s.sends w.sent delivered))
 
     k : (same_view e.view v ≡ true) × (may_answer e p.from ≡ true)
     k = and_parts (same_view e.view v) (may_answer e p.from) r
@@ -197,7 +198,7 @@ module _ (g : List ℕ) (w : Scene) (n : ℕ) (s : Core) (t : Tied g w n s) wher
       let le : Le v (x.nodes n).promise = subst (Le v) (sym h.stands.promise) (lt_refl v) in
       let lt' : Lt (x.nodes n).view v = subst (λ k. Lt k v) (sym h.stands.view) lt in
       let o : Goes x y = packet_goes x (group.Answer v r) in
-      let spares : (m : ℕ) → Spares x y m = λ m. packet_spares x (group.Answer v r) m (λ e. absurd (omega arith)) in
+      let spares : (m : ℕ) → Spares x y m = λ m. packet_spares x (group.Answer v r) m (λ e. absurd (omega arith)) (λ e. absurd (omega arith)) in
       let seen : Seen x s.views.view = (n, s.views.inc, s.views.members, h.stands.seated) in
       let reply : ReplyIs y g v a r = record {
         node = sym h.stands.me;
@@ -228,7 +229,7 @@ module _ (g : List ℕ) (w : Scene) (n : ℕ) (s : Core) (t : Tied g w n s) wher
       } in
       let views : Views = record (s.views) { gathering = Some e } in
       let stands : Stands y n views = record { me = h.stands.me; up = h.stands.up; inc = h.stands.inc; view = h.stands.view; promise = h.stands.promise; seated = h.stands.seated } in
-      tied_on g w n s t (record s { views = views }) y (Answers x.nodes x.ps x.all x.leads x.bases n (x.nodes n) v t.life refl up le lt') t.lines (rest_on x y n (spares n) g (is_fixed s.config.mode) s.views views (row_of s g) s.groups s.sessions s.names stands refl refl refl refl gathering h, t.own.1, t.own.2) (λ m ne. spares m) (λ m ne. refl) (λ p i. shows_on x y o g p (t.packets p i))
+      tied_on g w n s t (record s { views = views }) y (Answers x.nodes x.ps x.all x.leads x.bases n (x.nodes n) v t.life refl up le lt') t.lines t.placed (packet_turns w n s.views.view s.records s.sessions x.ps t.turns (group.Answer v r) (λ a b c d e. cc)) (rest_on x y n (spares n) g (is_fixed s.config.mode) s.views views (row_of s g) s.groups s.sessions s.names stands refl refl refl refl gathering h, t.own.1, t.own.2) (λ m ne. spares m) (λ m ne. refl) (λ p i. shows_on x y o g p (t.packets p i)) (sound_on x y (packet_still x (group.Answer v r) (λ e. absurd (omega arith)) (λ e. absurd (omega arith))) g t.sound)
 
 pub prepares_tied : (g : List ℕ) (w : Scene) (n : ℕ) (v : ViewId) (mask : Mask) (ns : List ℕ) (s : Core) → Tied g w n s → Tied g w n (fold (λ c (x : ViewSend). sent c x.to (body.View x.packet)) s (map (λ m. record { to = m; packet = view.Prepare v mask }) ns))
 prepares_tied g w n v mask [] s t = t

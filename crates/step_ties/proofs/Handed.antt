@@ -1,5 +1,5 @@
 -- What is handed on: each provider hears the entry at its place, and ballots go to the leader.
-use Rattle.std.proofs.Common.{◌≡◌, ◌⊎◌, ℕ, ◌+◌, List, [], ◌∷◌, ◌++◌, length, take, Option, Some, None, Bool, true, false, refl, sym, ap, ◌∙◌, subst, inl, inr, ⊎_elim, append_assoc}
+use Rattle.std.proofs.Common.{arith, ◌≡◌, ◌⊎◌, ℕ, ◌+◌, List, [], ◌∷◌, ◌++◌, length, take, Option, Some, None, Bool, true, false, refl, sym, ap, ◌∙◌, subst, inl, inr, ⊎_elim, append_assoc}
 use Rattle.std.specs.Prelude.{reverse, map, filter, fold, flat_map, if◌then◌else◌}
 use Rattle.std.proofs.lemmas.List.{append-nil}
 use Rattle.rsct_packet.specs.declared.ids.ViewId.{ViewId}
@@ -8,6 +8,7 @@ use Rattle.rsct_packet.specs.declared.ids.ProtoId.{ProtoId}
 use Rattle.rsct_packet.specs.Search.{Has}
 use Rattle.rsct_packet.proofs.HasLaws.{has_append, has_map}
 use Rattle.group_entry.specs.declared.entry.Entry.{Entry}
+use Rattle.group_entry.specs.declared.proposal.Proposal.{Proposal}
 use Rattle.proposal_core.specs.declared.group_state.GroupState.{GroupState}
 use Rattle.client_callbacks.specs.declared.ballot.Filled.{Filled}
 use Rattle.client_callbacks.specs.Ballots.{BallotView}
@@ -26,25 +27,26 @@ use Rattle.node_state.specs.Sending.{sent, sent_on, sent_if_known, vote_of}
 use Rattle.node_state.specs.HandOn.{Answering, fills, cast_record, cast_records, heard, note_of, notes, noted, ballot_sent, cast_sent_of, casts_sent, handed_on}
 use Rattle.run_safety.specs.Past.{earlier}
 use Rattle.run_safety.specs.Sight.{lines_of}
-use Rattle.run_safety.specs.Group.{Noted, Heard, Told, Put, kept}
+use Rattle.run_safety.specs.Group.{Noted, Heard, Asked, Told, Put, kept}
 use Rattle.run_safety.specs.Group as group
 use Rattle.run_safety.specs.GroupLists.{puts_of}
 use Rattle.run_safety.specs.Bases.{state_of_list}
 use Rattle.run_safety.specs.Moves.{Hears}
 use Rattle.step_ties.specs.Ghost.{Ghost, Goes}
 use Rattle.step_ties.specs.Tied.{Scene, lines_now, Tied}
-use Rattle.step_ties.proofs.Goes.{Spares, node_if_on, shows_on}
-use Rattle.step_ties.proofs.Works.{Unseen, lines_pushed, tied_sent}
+use Rattle.step_ties.proofs.Goes.{Spares, Still, still_spares, sound_on, node_if_on, shows_on}
+use Rattle.step_ties.proofs.Works.{Passes, lines_pushed, placed_pushed, tied_sent}
 use Rattle.std.specs.Str.{bytes_eq}
 use Rattle.step_ties.proofs.NameOrder.{cases_text, text_self, text_other}
 use Rattle.step_ties.proofs.SessionLaws.{cast_has}
 use Rattle.step_ties.proofs.Puts.{After}
+use Rattle.step_ties.proofs.Turns.{turns_pushed}
 
 -- what is heard of an entry at its place, or no group sees it
 abbrev Fine : List ℕ → List ℕ → ℕ → ViewId → ℕ → Entry → GroupState → Happened → Type 0
-Fine g h n v i e st r = Unseen g r ⊎ ((p : ProviderId) × (p.node ≡ n) × (r ≡ happened.Heard p v h i e st.members st.value))
+Fine g h n v i e st r = Passes g r ⊎ ((p : ProviderId) × (p.node ≡ n) × (r ≡ happened.Heard p v h i e st.members st.value))
 
-module _ (g : List ℕ) (n : ℕ) (h : List ℕ) (v : ViewId) (i : ℕ) (e : Entry) (st : GroupState) (P : Core → Type 0) (unseen : (c : Core) (r : Happened) → Unseen g r → P c → P (recorded c r)) (hear : (c : Core) (p : ProviderId) → p.node ≡ n → P c → P (recorded c (happened.Heard p v h i e st.members st.value))) where
+module _ (g : List ℕ) (n : ℕ) (h : List ℕ) (v : ViewId) (i : ℕ) (e : Entry) (st : GroupState) (P : Core → Type 0) (unseen : (c : Core) (r : Happened) → Passes g r → P c → P (recorded c r)) (hear : (c : Core) (p : ProviderId) → p.node ≡ n → P c → P (recorded c (happened.Heard p v h i e st.members st.value))) where
   one_too : (c : Core) (r : Happened) → Fine g h n v i e st r → P c → P (recorded c r)
   one_too c r (inl u) t = unseen c r u t
   one_too c r (inr k) t = subst (λ z. P (recorded c z)) (sym k.2) (hear c k.0 k.1 t)
@@ -56,14 +58,14 @@ module _ (g : List ℕ) (n : ℕ) (h : List ℕ) (v : ViewId) (i : ℕ) (e : Ent
   all_too (r ∷ rs) c fine t =
       subst (λ z. P (record c { records = z })) (append_assoc c.records (r ∷ []) rs) (all_too rs (recorded c r) (λ q k. fine q (inr k)) (one_too c r (fine r (inl refl)) t))
 
-  unseen_casts : (p : ProviderId) (o : Option (ProtoId × ℕ × BallotView)) (r : Happened) → Has r (cast_records p o) → Unseen g r
+  unseen_casts : (p : ProviderId) (o : Option (ProtoId × ℕ × BallotView)) (r : Happened) → Has r (cast_records p o) → Passes g r
   unfolding cast_records cast_record
   unseen_casts p None r k = absurd k
   unseen_casts p (Some x) r k = at (x.2).filled k
     where
-      at : (b : Option Filled) → Has r (cast_record p x.0 x.1 b) → Unseen g r
+      at : (b : Option Filled) → Has r (cast_record p x.0 x.1 b) → Passes g r
       at None k = absurd k
-      at (Some b) (inl q) = subst (Unseen g) (sym q) (λ rs. refl)
+      at (Some b) (inl q) = subst (Passes g) (sym q) ((λ rs. refl), λ m o. refl)
       at (Some b) (inr z) = absurd z
 
   fine_heard : (c : Core) → c.views.view ≡ v → (cs : List Cast) → ((x : Cast) → Has x cs → x.p.node ≡ n) → (r : Happened) → Has r (flat_map (heard c h i e st) cs) → Fine g h n v i e st r
@@ -100,7 +102,7 @@ module _ (g : List ℕ) (n : ℕ) (h : List ℕ) (v : ViewId) (i : ℕ) (e : Ent
       by false = told
       by true =
           let ns : List Happened = map (note_of (recorded_all c rs) h (Some i) st) (filter (is_of_group h) c.sessions.subs.live) in
-          all_too ns (recorded_all (with_sessions c u) rs) (λ r j. let q = has_map (note_of (recorded_all c rs) h (Some i) st) r (filter (is_of_group h) c.sessions.subs.live) j in inl (subst (Unseen g) (sym q.2) (λ ts. refl))) told
+          all_too ns (recorded_all (with_sessions c u) rs) (λ r j. let q = has_map (note_of (recorded_all c rs) h (Some i) st) r (filter (is_of_group h) c.sessions.subs.live) j in inl (subst (Passes g) (sym q.2) ((λ ts. refl), λ m o. refl))) told
 
 module _ (g : List ℕ) (w : Scene) (n : ℕ) (h : List ℕ) (v : ViewId) (i : ℕ) (e : Entry) (st : GroupState) where
   -- a step that has put the entry
@@ -110,29 +112,54 @@ module _ (g : List ℕ) (w : Scene) (n : ℕ) (h : List ℕ) (v : ViewId) (i : �
     pub after : After g h n v i e st tied.ghost
 
   module _ (views : Views) where
-    unseen_too : (c : Core) (r : Happened) → Unseen g r → Stepping views c → Stepping views (recorded c r)
+    unseen_too : (c : Core) (r : Happened) → Passes g r → Stepping views c → Stepping views (recorded c r)
     unfolding recorded row_of
     unseen_too c r unseen t =
         record {
           tied = record {
             ghost = t.tied.ghost;
             life = t.tied.life;
-            lines = t.tied.lines ∙ sym (lines_pushed g c.records r w.before (lines_of g w.before) ∙ ap (λ z. z ++ lines_now g w c) (unseen (earlier (reverse c.records) w.before)));
+            lines = t.tied.lines ∙ sym (lines_pushed g c.records r w.before (lines_of g w.before) ∙ ap (λ z. z ++ lines_now g w c) (unseen.0 (earlier (reverse c.records) w.before)));
             own = t.tied.own;
             others = t.tied.others;
             packets = t.tied.packets;
-            refused = t.tied.refused;
+            sound = t.tied.sound;
+            placed = placed_pushed w n c r unseen.1 t.tied.placed;
+            nobody = t.tied.nobody;
+            turns = turns_pushed w n c.views.view c.records c.sessions t.tied.ghost.ps t.tied.turns r;
           };
           same = t.same;
           after = t.after;
         }
 
     heard_goes : (x : Ghost) (l : group.Note) → Goes x (record x { all = Noted l ∷ x.all })
-    heard_goes x l = record { packets = λ p h. h; records = λ r h. h; lines = λ r h. inr h; leads = λ v l e. e; bases = λ v s. refl; asks = refl }
+    heard_goes x l = record { packets = λ p h. h; records = λ r h. h; lines = λ r h. inr h; leads = λ v l e. e; bases = λ v s. refl; asks = refl; shut = λ v h. h; asked = λ a h. h }
+
+    heard_still : (x : Ghost) (p : ProviderId) (ms : List ProviderId) (value : List ℕ) → Still x (record x { all = Noted (Heard p v i e ms value) ∷ x.all })
+    heard_still x p ms value =
+        record {
+          goes = heard_goes x (Heard p v i e ms value);
+          leads = λ v s. refl;
+          refusals = λ v p r h. h;
+          stables = λ v k h. h;
+          shut = λ v h. h;
+          asked = λ a h. h;
+          asks = λ q r y h. not_asked q r y h;
+          told = λ q r u h. inl (told_old q r u h);
+          incs = λ m. omega arith;
+        }
+      where
+        told_old : (q : ProviderId) (r : ℕ) (u : ViewId) → Has (Noted (Told q r u)) (Noted (Heard p v i e ms value) ∷ x.all) → Has (Noted (Told q r u)) x.all
+        told_old q r u (inl z) = absurd (cc)
+        told_old q r u (inr k) = k
+
+        not_asked : (q : ProviderId) (r : ℕ) (y : Proposal) → Has (Noted (Asked q r y)) (Noted (Heard p v i e ms value) ∷ x.all) → Has (Noted (Asked q r y)) x.all
+        not_asked q r y (inl z) = absurd (cc)
+        not_asked q r y (inr k) = k
 
     heard_spares : (x : Ghost) (p : ProviderId) (ms : List ProviderId) (value : List ℕ) (m : ℕ) → Spares x (record x { all = Noted (Heard p v i e ms value) ∷ x.all }) m
     heard_spares x p ms value m =
-        record { goes = heard_goes x (Heard p v i e ms value); list = refl; leads = λ v s. refl; refusals = λ v p r h. h; puts = λ u k e h. h; told = λ q r u e h. not_told q r u h }
+        still_spares x (record x { all = Noted (Heard p v i e ms value) ∷ x.all }) (heard_still x p ms value) m refl (λ u k e h. h) (λ q r u e h. not_told q r u h)
       where
         not_told : (q : ProviderId) (r : ℕ) (u : ViewId) → Has (Noted (Told q r u)) (Noted (Heard p v i e ms value) ∷ x.all) → Has (Noted (Told q r u)) x.all
         not_told q r u (inl z) = absurd (cc)
@@ -149,7 +176,10 @@ module _ (g : List ℕ) (w : Scene) (n : ℕ) (h : List ℕ) (v : ViewId) (i : �
             own = node_if_on x y n (heard_spares x p st.members st.value n) refl w.config g (w.incs n) (Some c) t.tied.own;
             others = λ m ne. node_if_on x y m (heard_spares x p st.members st.value m) refl w.config g (w.incs m) (w.cores m) (t.tied.others m ne);
             packets = λ q k. shows_on x y (heard_goes x (Heard p v i e st.members st.value)) g q (t.tied.packets q k);
-            refused = t.tied.refused;
+            sound = sound_on x y (heard_still x p st.members st.value) g t.tied.sound;
+            placed = placed_pushed w n c (happened.Heard p v h i e st.members st.value) (λ m o. refl) t.tied.placed;
+            nobody = t.tied.nobody;
+            turns = turns_pushed w n c.views.view c.records c.sessions t.tied.ghost.ps t.tied.turns (happened.Heard p v h i e st.members st.value);
           };
           same = t.same;
           after = t.after;
@@ -166,7 +196,7 @@ module _ (g : List ℕ) (w : Scene) (n : ℕ) (h : List ℕ) (v : ViewId) (i : �
 
     hears_too : (c : Core) (p : ProviderId) → p.node ≡ n → Stepping views c → Stepping views (recorded c (happened.Heard p v h i e st.members st.value))
     hears_too c p at t =
-        ⊎_elim (λ (q : h ≡ g). heard_too c p at q t) (λ (ne : h ≡ g → ⊥). unseen_too c (happened.Heard p v h i e st.members st.value) (λ rs. ap (λ b. if b then Noted (Heard p v i e st.members st.value) ∷ [] else []) (text_other h g ne)) t) (cases_text h g)
+        ⊎_elim (λ (q : h ≡ g). heard_too c p at q t) (λ (ne : h ≡ g → ⊥). unseen_too c (happened.Heard p v h i e st.members st.value) ((λ rs. ap (λ b. if b then Noted (Heard p v i e st.members st.value) ∷ [] else []) (text_other h g ne)), λ m o. refl) t) (cases_text h g)
 
   -- a step from there on
   pub record Going (views : Views) (c : Core) : Type 0 where

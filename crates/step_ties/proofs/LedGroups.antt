@@ -11,7 +11,6 @@ use Rattle.group_entry.specs.declared.proposal.Cause.TheVariants.{Died}
 use Rattle.batch_rules.specs.Waiting.{waits_failure}
 use Rattle.node_state.specs.declared.group.GroupRow.{GroupRow}
 use Rattle.node_state.specs.declared.state.Core.{Core}
-use Rattle.node_state.specs.Settings.{is_fixed}
 use Rattle.node_state.specs.State.{row_found, row_of, leads_in, leads, led_groups, state_of}
 use Rattle.node_state.specs.HandOn.{Answering}
 use Rattle.node_state.specs.Leading.{with_waiting, tally_opened}
@@ -41,14 +40,14 @@ found_self (x ∷ rows) row o (inr i) =
         let k : name_lt x.name x.name ≡ true = subst (λ z. name_lt x.name z ≡ true) (sym (text_same x.name row.name q)) l in
         let d = lt_self x.name in absurd (cc)
 
-led_are_led : (s : Core) (h : List ℕ) → InNameOrder s.groups → Has h (led_groups s) → leads s h ≡ true
+pub led_are_led : (s : Core) (h : List ℕ) → InNameOrder s.groups → Has h (led_groups s) → leads s h ≡ true
 unfolding led_groups leads row_of
 led_are_led s h o i =
     let a = has_map (λ (row : GroupRow). row.name) h (filter (leads_in s) s.groups) i in
     let b = has_filter (leads_in s) a.0 s.groups a.1 in
     ap (λ k. leads_in s (row_found k (find (is_of k) s.groups))) a.2 ∙ ap (λ z. leads_in s (row_found (a.0).name z)) (found_self s.groups a.0 o b.0) ∙ b.1
 
-module _ (g : List ℕ) (w : Scene) (n : ℕ) (s : Core) (f : Answering) (thawed : s.views.promise ≡ s.views.view) (free : is_fixed w.config.mode ≡ false) where
+module _ (g : List ℕ) (w : Scene) (n : ℕ) (s : Core) (f : Answering) (thawed : s.views.promise ≡ s.views.view) where
   wait_goes : (h : List ℕ) (ps : List ProviderId) (c : Core) → Leading g w n s c → Leading g w n s (fold (λ d p. with_waiting d h (waits_failure p Died)) c ps)
   wait_goes h [] c t = t
   wait_goes h (p ∷ ps) c t = wait_goes h ps (with_waiting c h (waits_failure p Died)) (waits_goes g w n s c h p Died t)
@@ -65,14 +64,14 @@ module _ (g : List ℕ) (w : Scene) (n : ℕ) (s : Core) (f : Answering) (thawed
 
       by : (b : Bool) → Leading g w n s (phase_reopened f waiting h b)
       by false = now
-      by true = closed_goes g w n s f thawed free (tally_opened waiting h) h led (opened_goes g w n s f thawed free waiting h now)
+      by true = closed_goes g w n s f thawed (tally_opened waiting h) h (λ q. led) (opened_goes g w n s f thawed waiting h now)
 
   groups_goes : (hs : List (List ℕ)) → ((h : List ℕ) → Has h hs → leads s h ≡ true) → (c : Core) → Leading g w n s c → Leading g w n s (fold (group_led f) c hs)
   groups_goes [] all c t = t
   groups_goes (h ∷ hs) all c t = groups_goes hs (λ k i. all k (inr i)) (group_led f c h) (group_goes c h (all h (inl refl)) t)
 
 -- (7)
-pub groups_led_tied : (g : List ℕ) (w : Scene) (n : ℕ) (s : Core) (f : Answering) → s.views.promise ≡ s.views.view → is_fixed w.config.mode ≡ false → Tied g w n s → Tied g w n (groups_led f s)
+pub groups_led_tied : (g : List ℕ) (w : Scene) (n : ℕ) (s : Core) (f : Answering) → s.views.promise ≡ s.views.view → Tied g w n s → Tied g w n (groups_led f s)
 unfolding groups_led
-groups_led_tied g w n s f thawed free t =
-    (groups_goes g w n s f thawed free (led_groups s) (λ h i. led_are_led s h t.own.0.order i) s (record { tied = t; same = refl; leads = λ k. refl })).tied
+groups_led_tied g w n s f thawed t =
+    (groups_goes g w n s f thawed (led_groups s) (λ h i. led_are_led s h t.own.0.order i) s (record { tied = t; same = refl; leads = λ k. refl })).tied

@@ -1,16 +1,19 @@
 -- What is owed is sent: outstanding requests, GONE, and votes.
-use Rattle.std.proofs.Common.{◌≡◌, ◌<◌, ℕ, List, [], ◌∷◌, ◌++◌, Option, Some, None, Bool, true, false, refl, sym, ap, ◌∙◌, subst, inl, inr, ⊎_elim, arith}
+use Rattle.std.proofs.Common.{◌≡◌, ◌<◌, ℕ, List, [], ◌∷◌, ◌++◌, Option, Some, None, Bool, true, false, refl, sym, ap, ◌∙◌, subst, inl, inr, ⊎_elim, arith, ◌⊎◌}
 use Rattle.std.specs.Prelude.{filter, fold}
 use Rattle.rsct_packet.specs.declared.ids.ViewId.{ViewId}
 use Rattle.rsct_packet.specs.declared.ids.ProviderId.{ProviderId}
 use Rattle.rsct_packet.specs.Search.{Has}
 use Rattle.group_entry.specs.declared.entry.Entry.{Entry}
+use Rattle.group_entry.specs.declared.proposal.Proposal.{Proposal}
 use Rattle.proposal_core.specs.Fold.{runs, present}
 use Rattle.proposal_core.specs.Lists.{state_in}
 use Rattle.client_callbacks.specs.declared.ballot.Filled.{Filled}
 use Rattle.session_state.specs.declared.state.KeptBallot.{KeptBallot}
 use Rattle.session_state.specs.declared.state.Request.{Request}
 use Rattle.session_state.specs.declared.state.SessionState.{SessionState}
+use Rattle.session_state.specs.declared.state.Provider.{Provider}
+use Rattle.session_state.specs.HandOn.{is_join}
 use Rattle.node_state.specs.declared.group.GroupRow.{GroupRow}
 use Rattle.node_state.specs.declared.packet.Body.{Body}
 use Rattle.node_state.specs.declared.packet.Body.TheVariants as body
@@ -22,21 +25,36 @@ use Rattle.node_state.specs.Sending.{sent, sent_on, packet_on, network_to, sent_
 use Rattle.node_state.specs.Ticks.{is_lost, lost_told, owed_part}
 use Rattle.run_safety.specs.Group.{Put, kept}
 use Rattle.run_safety.specs.Group as group
-use Rattle.run_safety.specs.Requests.{carried}
+use Rattle.run_safety.specs.Requests.{requests_of, carried}
 use Rattle.run_safety.specs.Moves.{Requests}
-use Rattle.step_ties.specs.Ghost.{Ghost, Goes}
-use Rattle.step_ties.specs.Tied.{Shows, ShowsBody, Owed, Scene, Tied}
-use Rattle.step_ties.proofs.Goes.{Spares, shows_on, node_on}
+use Rattle.run_safety.specs.Past.{records_of}
+use Rattle.step_ties.specs.Ghost.{asking, Ghost, Goes}
+use Rattle.step_ties.specs.Tied.{Shows, ShowsBody, ShowsLeader, Owed, Scene, Tied, JoinPut}
+use Rattle.step_ties.proofs.Goes.{Spares, sound_on, shows_on, node_on}
 use Rattle.step_ties.proofs.Changed.{has_pushed}
 use Rattle.step_ties.proofs.Works.{tied_on, tied_sent}
-use Rattle.step_ties.proofs.Gone.{with_packet, packet_goes, packet_spares}
+use Rattle.step_ties.proofs.Gone.{with_packet, packet_goes, packet_still, packet_spares}
 use Rattle.step_ties.proofs.NameOrder.{cases_text}
+use Rattle.step_ties.proofs.Leads.{known_leads, unknown_asks}
 
 module _ (g : List ℕ) (w : Scene) (n : ℕ) where
   -- a request of the group, to its leader
-  request_own : (s : Core) (q : Request) (to : ℕ) (t : Tied g w n s) → Owed t.ghost n s.views.inc q → Tied g w n (sent s to (body.Request s.views.view q.group q.p q.r q.phases q.proposal))
+  -- it is a join, or its provider's join was put
+  in_turn : (s : Core) (q : Request) (t : Tied g w n s) → Has q s.sessions.requests → (q.r ≡ q.p.join) ⊎ JoinPut (s.records ++ records_of w.before) q.p s.views.view
+  in_turn s q t h = by (t.turns.own.joined y.0 y.1)
+    where
+      y : (y : Provider) × Has y s.sessions.providers × (y.p ≡ q.p)
+      y = t.own.0.owes.attended q h
+
+      by : ((a : Request) × Has a s.sessions.requests × (a.p ≡ y.0.p) × (a.r ≡ y.0.p.join) × (is_join a.proposal ≡ true)) ⊎ JoinPut (s.records ++ records_of w.before) y.0.p s.views.view → (q.r ≡ q.p.join) ⊎ JoinPut (s.records ++ records_of w.before) q.p s.views.view
+      by (inr a) = inr (subst (λ p. JoinPut (s.records ++ records_of w.before) p s.views.view) y.2 a)
+      by (inl a) =
+          let same : a.0 ≡ q = t.turns.own.single a.0 q a.1 h (a.2 ∙ y.2) in
+          inl (ap (λ (z : Request). z.r) (sym same) ∙ a.3 ∙ ap (λ (p : ProviderId). p.join) y.2)
+
+  request_own : (s : Core) (q : Request) (to : ℕ) (t : Tied g w n s) → Has q s.sessions.requests → ShowsLeader t.ghost s.views.view to → Has (asking q.p q.r q.group) t.ghost.asked × Has (q.p, q.r) (requests_of q.proposal) → Owed t.ghost n s.views.inc q → Tied g w n (sent s to (body.Request s.views.view q.group q.p q.r q.phases q.proposal))
   unfolding row_of sent sent_on packet_on
-  request_own s q to t owed =
+  request_own s q to t there leader asked owed =
       let x : Ghost = t.ghost in
       let h = t.own.0 in
       let r : group.Packet = group.Request (x.nodes n).view q.p q.r q.proposal in
@@ -44,23 +62,31 @@ module _ (g : List ℕ) (w : Scene) (n : ℕ) where
       let p : Packet = packet_on s (network_to s to) to (body.Request s.views.view q.group q.p q.r q.phases q.proposal) in
       let up : 0 < (x.nodes n).inc = subst (λ k. 0 < k) (sym h.stands.inc) h.stands.up in
       let o : Goes x y = packet_goes x r in
-      let spares : (m : ℕ) → Spares x y m = λ m. packet_spares x r m (λ e. absurd (omega arith)) in
-      let new : Shows y g p = λ e. inl (ap (λ v. group.Request v q.p q.r q.proposal) (sym h.stands.view)) in
+      let spares : (m : ℕ) → Spares x y m = λ m. packet_spares x r m (λ e. absurd (omega arith)) (λ e. absurd (omega arith)) in
+      let new : Shows y g p = (asked.0, asked.1, λ e. record { sent = inl (ap (λ v. group.Request v q.p q.r q.proposal) (sym h.stands.view)); leader = record { inc = leader.inc; leads = leader.leads } }) in
       let unput : (u : ViewId) (k : ℕ) (e : Entry) → Has (Put q.p.node u k e) (kept x.all) → Has (q.p, q.r) (carried e) → ⊥ = λ u k e i c. owed.unput u k e (subst (λ m. Has (Put m u k e) (kept x.all)) owed.node i) c in
-      tied_on g w n s t (sent s to (body.Request s.views.view q.group q.p q.r q.phases q.proposal)) y (Requests x.nodes x.ps x.all x.leads x.bases q.p q.r q.proposal (x.nodes n) t.life (ap x.nodes owed.node) up (h.stands.inc ∙ sym owed.inc_of) owed.asked unput owed.untold) t.lines (node_on x y n (spares n) refl g (is_fixed s.config.mode) s.views (row_of s g) s.groups s.sessions s.names h, t.own.1, t.own.2) (λ m ne. spares m) (λ m ne. refl) (λ q i. ⊎_elim (λ (e : q ≡ p). subst (Shows y g) (sym e) new) (λ (k : Has q (s.sends ++ w.sent)). shows_on x y o g q (t.packets q k)) (has_pushed q p s.sends w.sent i))
+      tied_on g w n s t (sent s to (body.Request s.views.view q.group q.p q.r q.phases q.proposal)) y (Requests x.nodes x.ps x.all x.leads x.bases q.p q.r q.proposal (x.nodes n) t.life (ap x.nodes owed.node) up (h.stands.inc ∙ sym owed.inc_of) owed.asked unput owed.untold) t.lines t.placed (record { own = t.turns.own; others = t.turns.others; sent = λ v p k a i. sent_too v p k a i }) (node_on x y n (spares n) refl g (is_fixed s.config.mode) s.views (row_of s g) s.groups s.sessions s.names h, t.own.1, t.own.2) (λ m ne. spares m) (λ m ne. refl) (λ q i. ⊎_elim (λ (e : q ≡ p). subst (Shows y g) (sym e) new) (λ (k : Has q (s.sends ++ w.sent)). shows_on x y o g q (t.packets q k)) (has_pushed q p s.sends w.sent i)) (sound_on x y (packet_still x r (λ e. absurd (omega arith)) (λ e. absurd (omega arith))) g t.sound)
+    where
+      sent_too : (v : ViewId) (p : ProviderId) (k : ℕ) (a : Proposal) → Has (group.Request v p k a) (group.Request (t.ghost.nodes n).view q.p q.r q.proposal ∷ t.ghost.ps) → (k ≡ p.join) ⊎ JoinPut (s.records ++ records_of w.before) p v
+      sent_too v p k a (inr i) = t.turns.sent v p k a i
+      sent_too v p k a (inl e) =
+          let b : p ≡ q.p = cc in
+          let c : k ≡ q.r = cc in
+          let d : v ≡ (t.ghost.nodes n).view = cc in
+          subst (λ (z : ViewId × ProviderId × ℕ). (z.2 ≡ z.1.join) ⊎ JoinPut (s.records ++ records_of w.before) z.1 z.0) (λ j. (sym (d ∙ t.own.0.stands.view) j, sym b j, sym c j)) (in_turn s q t there)
 
   pub request_tied : (s : Core) (q : Request) → Has q s.sessions.requests → Tied g w n s → Tied g w n (request_sent s q)
   unfolding request_sent request_to
   request_tied s q h t = by (frozen s)
     where
-      at : (o : Option ℕ) → Tied g w n (request_to s q o)
-      at None = tied_sent g w n s t s.views.view.coord (body.Lookup s.views.view q.group) tt
-      at (Some m) =
-          ⊎_elim (λ (e : q.group ≡ g). request_own s q m t (t.own.0.owes.requests q h e)) (λ (ne : q.group ≡ g → ⊥). tied_sent g w n s t m (body.Request s.views.view q.group q.p q.r q.phases q.proposal) (λ e. absurd (ne e))) (cases_text q.group g)
+      at : (o : Option ℕ) → leader_of s q.group ≡ o → Tied g w n (request_to s q o)
+      at None k = tied_sent g w n s t s.views.view.coord (body.Lookup s.views.view q.group) (unknown_asks g w n s t q.group k)
+      at (Some m) k =
+          ⊎_elim (λ (e : q.group ≡ g). request_own s q m t h (known_leads g w n s t m (ap (leader_of s) (sym e) ∙ k)) ((t.own.0.owes.own q h).2, (t.own.0.owes.own q h).3) (t.own.0.owes.requests q h e)) (λ (ne : q.group ≡ g → ⊥). tied_sent g w n s t m (body.Request s.views.view q.group q.p q.r q.phases q.proposal) ((t.own.0.owes.own q h).2, (t.own.0.owes.own q h).3, λ e. absurd (ne e))) (cases_text q.group g)
 
       by : (b : Bool) → Tied g w n (elim b as (λ _. Core) [ true ↦ s | false ↦ request_to s q (leader_of s q.group) ])
       by true = t
-      by false = at (leader_of s q.group)
+      by false = at (leader_of s q.group) refl
 
   request_stays : (s : Core) (q : Request) → ((request_sent s q).sessions ≡ s.sessions) × ((request_sent s q).views ≡ s.views)
   unfolding request_sent request_to sent sent_on
@@ -78,7 +104,7 @@ module _ (g : List ℕ) (w : Scene) (n : ℕ) where
   requests_views [] s = refl
   requests_views (q ∷ qs) s = requests_views qs (request_sent s q) ∙ (request_stays s q).1
 
-  requests_fold : (qs : List Request) (s : Core) → ((q : Request) → Has q qs → Has q s.sessions.requests) → Tied g w n s → Tied g w n (fold request_sent s qs)
+  pub requests_fold : (qs : List Request) (s : Core) → ((q : Request) → Has q qs → Has q s.sessions.requests) → Tied g w n s → Tied g w n (fold request_sent s qs)
   requests_fold [] s all t = t
   requests_fold (q ∷ qs) s all t =
       requests_fold qs (request_sent s q) (λ r h. subst (λ (z : SessionState). Has r z.requests) (sym (request_stays s q).0) (all r (inr h))) (request_tied s q (all q (inl refl)) t)
@@ -88,22 +114,26 @@ module _ (g : List ℕ) (w : Scene) (n : ℕ) where
   requests_tied s t = requests_fold s.sessions.requests s (λ q h. h) t
 
   -- what no group sees goes to a node, if it is known
-  known_tied : (s : Core) (o : Option ℕ) (b : Body) → ((x : Ghost) → ShowsBody x g s.views.me s.views.inc b) → Tied g w n s → Tied g w n (sent_if_known s o b)
+  pub known_tied : (s : Core) (o : Option ℕ) (b : Body) → ((x : Ghost) (to : ℕ) → ShowsBody x g s.views.me s.views.inc to b) → Tied g w n s → Tied g w n (sent_if_known s o b)
   unfolding sent_if_known
   known_tied s None b ok t = t
-  known_tied s (Some m) b ok t = tied_sent g w n s t m b (ok t.ghost)
+  known_tied s (Some m) b ok t = tied_sent g w n s t m b (ok t.ghost m)
+
+  pub kept_sent_tied : (s : Core) (k : KeptBallot) → Tied g w n s → Tied g w n (kept_sent s k)
+  unfolding kept_sent kept_sent_to vote_of
+  kept_sent_tied s k t = by k.ballot.filled
+    where
+      by : (b : Option Filled) → Tied g w n (kept_sent_to s k (leader_of s k.group) b)
+      by None = t
+      by (Some b) = known_tied s (leader_of s k.group) (vote_of s k.group k.proto k.phase k.p b) (λ x to. tt) t
 
   kept_tied : (s : Core) (k : KeptBallot) → Tied g w n s → Tied g w n (kept_sent_again s k)
-  unfolding kept_sent_again kept_sent_if kept_sent kept_sent_to vote_of
-  kept_tied s k t = by (runs k.proto k.phase (state_of s k.group).running) k.ballot.filled
+  unfolding kept_sent_again kept_sent_if
+  kept_tied s k t = by (runs k.proto k.phase (state_of s k.group).running)
     where
-      filled : (b : Option Filled) → Tied g w n (kept_sent_to s k (leader_of s k.group) b)
-      filled None = t
-      filled (Some b) = known_tied s (leader_of s k.group) (vote_of s k.group k.proto k.phase k.p b) (λ x. tt) t
-
-      by : (c : Bool) (b : Option Filled) → Tied g w n (kept_sent_if s k c)
-      by false b = t
-      by true b = filled k.ballot.filled
+      by : (c : Bool) → Tied g w n (kept_sent_if s k c)
+      by false = t
+      by true = kept_sent_tied s k t
 
   kept_fold : (ks : List KeptBallot) (s : Core) → Tied g w n s → Tied g w n (fold kept_sent_again s ks)
   kept_fold [] s t = t
@@ -142,7 +172,7 @@ module _ (g : List ℕ) (w : Scene) (n : ℕ) where
   lost_fold : (h : List ℕ) (ps : List ProviderId) (s : Core) → Tied g w n s → Tied g w n (fold (λ (t : Core) p. sent_if_known t (leader_of t h) (body.Gone t.views.view h p)) s ps)
   lost_fold h [] s t = t
   lost_fold h (p ∷ ps) s t =
-      lost_fold h ps (sent_if_known s (leader_of s h) (body.Gone s.views.view h p)) (known_tied s (leader_of s h) (body.Gone s.views.view h p) (λ x. tt) t)
+      lost_fold h ps (sent_if_known s (leader_of s h) (body.Gone s.views.view h p)) (known_tied s (leader_of s h) (body.Gone s.views.view h p) (λ x to. tt) t)
 
   rows_fold : (rows : List GroupRow) (s : Core) → Tied g w n s → Tied g w n (fold lost_told s rows)
   unfolding lost_told

@@ -5,6 +5,7 @@ use Rattle.rsct_packet.specs.declared.ids.ViewId.{ViewId}
 use Rattle.rsct_packet.specs.declared.ids.ProviderId.{ProviderId}
 use Rattle.rsct_packet.specs.Search.{Has}
 use Rattle.group_entry.specs.declared.entry.Entry.{Entry}
+use Rattle.group_entry.specs.declared.proposal.Proposal.{Proposal}
 use Rattle.group_entry.specs.Sizes.{entry_len}
 use Rattle.proposal_core.specs.declared.group_state.GroupState.{GroupState}
 use Rattle.proposal_core.specs.Fold.{after}
@@ -19,9 +20,9 @@ use Rattle.node_state.specs.declared.state.Core.{Core}
 use Rattle.node_state.specs.Settings.{is_fixed}
 use Rattle.node_state.specs.State.{row_of, acked_from, with_row, list_of, state_of, len_of, fits_at_end, recorded, with_sessions}
 use Rattle.node_state.specs.Leading.{put}
-use Rattle.run_safety.specs.Past.{fold_from}
+use Rattle.run_safety.specs.Past.{fold_from, records_of}
 use Rattle.run_safety.specs.Sight.{lines_with, lines_of}
-use Rattle.run_safety.specs.Group.{member, Standing, Kept, Noted, Told, Put, kept}
+use Rattle.run_safety.specs.Group.{member, Standing, Kept, Noted, Asked, Told, Put, kept}
 use Rattle.run_safety.specs.Group as group
 use Rattle.run_safety.specs.GroupLists.{puts_of}
 use Rattle.run_safety.specs.Bases.{base_state, state_of_list}
@@ -32,13 +33,14 @@ use Rattle.run_safety.proofs.Lives.{whole}
 use Rattle.step_ties.specs.Ghost.{Ghost, Lives, Goes, Keeps, FitIn}
 use Rattle.step_ties.specs.Tied.{RowIs, Owed, Owes, LeaderKeeps, NodeOf, Scene, opening_of, lines_now, Tied}
 use Rattle.step_ties.specs.Rows.{at_node}
-use Rattle.step_ties.proofs.Goes.{Spares, seen_on, node_if_on, stable_on, knows_on, acked_on, gathers_on, install_on, shows_on}
-use Rattle.step_ties.proofs.Changed.{set_here, set_there, changes}
-use Rattle.step_ties.proofs.Works.{lines_pushed}
+use Rattle.step_ties.proofs.Goes.{Spares, Still, still_spares, sound_on, node_if_on, stable_on, knows_on, acked_on, gathers_on, install_on, shows_on}
+use Rattle.step_ties.proofs.Changed.{set_here, set_there, changes, incs_set}
+use Rattle.step_ties.proofs.Works.{lines_pushed, placed_pushed}
 use Rattle.step_ties.proofs.NameOrder.{text_self, text_other, row_here, row_there, rows_ordered}
-use Rattle.step_ties.proofs.RowWorks.{keeps_of}
-use Rattle.step_ties.proofs.SessionLaws.{Later}
+use Rattle.step_ties.proofs.RowWorks.{keeps_of, waits_with, waits_of}
+use Rattle.step_ties.proofs.SessionLaws.{Later, owes_later}
 use Rattle.step_ties.proofs.Fits.{fits_one, bytes_pushed}
+use Rattle.step_ties.proofs.Turns.{Fewer, turns_pushed, turns_packets, turns_sessions, put_turn}
 
 -- ---- lists with one more entry
 
@@ -80,22 +82,13 @@ pushed_keeps x y v full l e b h fit =
 pub record Leaves (s t : SessionState) (e : Entry) : Type 0 where
   pub later : Later s t
   pub gone : (q : Request) → Has q t.requests → Has (q.p, q.r) (carried e) → ⊥
+  pub fewer : Fewer s t (carried e)
 
 -- the put of the entry stands, and the state is that after it
 abbrev pub After : List ℕ → List ℕ → ℕ → ViewId → ℕ → Entry → GroupState → Ghost → Type 0
 After g h n v i e st x = h ≡ g → Has (Put n v i e) (kept x.all) × (st ≡ state_of_list x.bases v (take (i + 1) (puts_of n v (kept x.all))))
 
 module _ (g : List ℕ) (w : Scene) (n : ℕ) (s : Core) (t : Tied g w n s) (h : List ℕ) (e : Entry) (u : SessionState) (l : Leaves s.sessions u e) (thawed : s.views.promise ≡ s.views.view) where
-  owes_less : Owes t.ghost g n s.views.inc u
-  owes_less =
-      let k = t.own.0.owes in
-      record {
-        me = l.later.me ∙ k.me;
-        inc_of = l.later.inc ∙ k.inc_of;
-        providers = λ y i. let z = l.later.providers y i in let j = k.providers z.0 z.1 in (ap (λ (q : ProviderId). q.node) z.2 ∙ j.0, ap (λ (q : ProviderId). q.inc) z.2 ∙ j.1);
-        requests = λ q i c. k.requests q (l.later.requests q i) c;
-      }
-
   -- another group's entry
   pub put_other : (h ≡ g → ⊥) → Tied g w n (with_sessions (put s h e) u)
   unfolding put recorded with_sessions with_row row_of
@@ -111,17 +104,22 @@ module _ (g : List ℕ) (w : Scene) (n : ℕ) (s : Core) (t : Tied g w n s) (h :
             order = rows_ordered h (λ row. record row { list = Some (with_entry (list_or_new row.list) s.views.view e) }) (λ x. refl) s t.own.0.order;
             gathering = t.own.0.gathering;
             install = t.own.0.install;
-            owes = owes_less;
+            owes = owes_later t.ghost g n s.views.inc s.sessions u l.later t.own.0.owes;
             decides = subst (λ (row : GroupRow). LeaderKeeps t.ghost n s.views.inc s.views.view row.led) (sym (row_there h (λ row. record row { list = Some (with_entry (list_or_new row.list) s.views.view e) }) (λ x. refl) s g ne)) t.own.0.decides;
             names = t.own.0.names;
             asks = t.own.0.asks;
+            led = t.own.0.led;
+            waits = waits_with t.ghost s h (λ row. record row { list = Some (with_entry (list_or_new row.list) s.views.view e) }) (λ x. refl) t.own.0.order t.own.0.waits (waits_of g w n s t h);
           },
           t.own.1,
           t.own.2,
         );
         others = t.others;
         packets = t.packets;
-        refused = t.refused;
+        sound = t.sound;
+        placed = placed_pushed w n s (happened.Put s.views.me s.views.view h (len_of s h) e) (λ m o. refl) t.placed;
+        nobody = t.nobody;
+        turns = turns_sessions w n s.views.view (s.records ++ happened.Put s.views.me s.views.view h (len_of s h) e ∷ []) s.sessions t.ghost.ps (turns_pushed w n s.views.view s.records s.sessions t.ghost.ps t.turns (happened.Put s.views.me s.views.view h (len_of s h) e)) u (put_turn (records_of w.before) s.records s.views.view s.sessions u s.views.me h (len_of s h) e (λ q i. (t.own.0.owes.own q i).0 ∙ sym t.own.0.stands.me) l.fewer t.turns.own);
       }
 
 module _ (g : List ℕ) (w : Scene) (n : ℕ) (s : Core) (t : Tied g w n s) (e : Entry) (u : SessionState) (l : Leaves s.sessions u e) (room : fits_at_end s g e ≡ true) where
@@ -133,7 +131,7 @@ module _ (g : List ℕ) (w : Scene) (n : ℕ) (s : Core) (t : Tied g w n s) (e :
 
   -- the entry is put
   abbrev pub put_ghost : List group.Packet → Ghost
-  put_ghost ps = record { nodes = at_node t.ghost.nodes n (grown (t.ghost.nodes n) e); ps = ps; all = Kept put_line ∷ t.ghost.all; leads = t.ghost.leads; bases = t.ghost.bases; asks = t.ghost.asks }
+  put_ghost ps = record { nodes = at_node t.ghost.nodes n (grown (t.ghost.nodes n) e); ps = ps; all = Kept put_line ∷ t.ghost.all; leads = t.ghost.leads; bases = t.ghost.bases; asks = t.ghost.asks; shut = t.ghost.shut; asked = t.ghost.asked }
 
   abbrev put_row : GroupRow → GroupRow
   put_row row = record row { list = Some (with_entry (list_or_new row.list) s.views.view e) }
@@ -150,23 +148,38 @@ module _ (g : List ℕ) (w : Scene) (n : ℕ) (s : Core) (t : Tied g w n s) (e :
   unfolding len_of
   len_now = keeps.len
 
-  module _ (ps : List group.Packet) (more : (p : group.Packet) → Has p t.ghost.ps → Has p ps) (refusals : (v : ViewId) (p : ProviderId) (r : ℕ) → Has (group.Refusal v p r) ps → Has (group.Refusal v p r) t.ghost.ps) (lives : Lives (opening_of w.config) (put_ghost ps)) (decides : LeaderKeeps (put_ghost ps) n s.views.inc s.views.view (row_of s g).led) where
+  module _ (ps : List group.Packet) (more : (p : group.Packet) → Has p t.ghost.ps → Has p ps) (refusals : (v : ViewId) (p : ProviderId) (r : ℕ) → Has (group.Refusal v p r) ps → Has (group.Refusal v p r) t.ghost.ps) (stables : (v : ViewId) (k : ℕ) → Has (group.Stable v k) ps → Has (group.Stable v k) t.ghost.ps) (requests : (v : ViewId) (p : ProviderId) (r : ℕ) (a : Proposal) → Has (group.Request v p r a) ps → Has (group.Request v p r a) t.ghost.ps) (lives : Lives (opening_of w.config) (put_ghost ps)) (decides : LeaderKeeps (put_ghost ps) n s.views.inc s.views.view (row_of s g).led) where
     abbrev y : Ghost
     y = put_ghost ps
 
     goes : Goes t.ghost y
-    goes = record { packets = more; records = λ r h. inr h; lines = λ r h. inr h; leads = λ v l e. e; bases = λ v s. refl; asks = refl }
+    goes = record { packets = more; records = λ r h. inr h; lines = λ r h. inr h; leads = λ v l e. e; bases = λ v s. refl; asks = refl; shut = λ v h. h; asked = λ a h. h }
+
+    still : Still t.ghost y
+    still =
+        record {
+          goes = goes;
+          leads = λ v s. refl;
+          refusals = refusals;
+          stables = stables;
+          shut = λ v h. h;
+          asked = λ a h. h;
+          asks = λ p r q h. not_asked p r q h;
+          told = λ p r v h. inl (told_old p r v h);
+          incs = λ m. incs_set t.ghost.nodes n (grown (t.ghost.nodes n) e) (omega arith) m;
+        }
+      where
+        told_old : (p : ProviderId) (r : ℕ) (v : ViewId) → Has (Noted (Told p r v)) (Kept put_line ∷ t.ghost.all) → Has (Noted (Told p r v)) t.ghost.all
+        told_old p r v (inl q) = absurd (cc)
+        told_old p r v (inr h) = h
+
+        not_asked : (p : ProviderId) (r : ℕ) (q : Proposal) → Has (Noted (Asked p r q)) (Kept put_line ∷ t.ghost.all) → Has (Noted (Asked p r q)) t.ghost.all
+        not_asked p r q (inl z) = absurd (cc)
+        not_asked p r q (inr h) = h
 
     spares : (m : ℕ) → m ≢ n → Spares t.ghost y m
     spares m ne =
-        record {
-          goes = goes;
-          list = ap (λ (k : Standing). k.list) (set_there t.ghost.nodes n (grown (t.ghost.nodes n) e) m ne);
-          leads = λ v s. refl;
-          refusals = refusals;
-          puts = λ v k f h. not_put v k f h;
-          told = λ p r v q h. not_told p r v h;
-        }
+        still_spares t.ghost y still m (ap (λ (k : Standing). k.list) (set_there t.ghost.nodes n (grown (t.ghost.nodes n) e) m ne)) (λ v k f h. not_put v k f h) (λ p r v q h. not_told p r v h)
       where
         not_put : (v : ViewId) (k : ℕ) (f : Entry) → Has (Put m v k f) (put_line ∷ kept t.ghost.all) → Has (Put m v k f) (kept t.ghost.all)
         not_put v k f (inl q) = absurd (ne (at q))
@@ -190,6 +203,7 @@ module _ (g : List ℕ) (w : Scene) (n : ℕ) (s : Core) (t : Tied g w n s) (e :
           stable = stable_on t.ghost y goes s.views.view (list_or_new (row_of s g).list).start t.own.0.row_is.stable;
           leader = knows_on t.ghost y goes s.views.view s.views.members (row_of s g).leader t.own.0.row_is.leader;
           acked = λ m i a. acked_on t.ghost y goes s.views.view m i (acked_from m (row_of s g).led.acked) (t.own.0.row_is.acked m i a);
+          covers = λ j k q h. t.own.0.row_is.covers j k q (stables s.views.view k h);
         }
 
     owed_after : (q : Request) → Has q u.requests → q.group ≡ g → Owed y n s.views.inc q
@@ -230,16 +244,16 @@ module _ (g : List ℕ) (w : Scene) (n : ℕ) (s : Core) (t : Tied g w n s) (e :
           order = rows_ordered g put_row (λ x. refl) s k.order;
           gathering = gathers_on t.ghost y goes g n s.views.inc s.views.view s.views.promise s.views.gathering k.gathering;
           install = install_on t.ghost y goes g s.views.install k.install;
-          owes = record {
-            me = l.later.me ∙ k.owes.me;
-            inc_of = l.later.inc ∙ k.owes.inc_of;
-            providers = λ q i. let a = l.later.providers q i in let j = k.owes.providers a.0 a.1 in (ap (λ (r : ProviderId). r.node) a.2 ∙ j.0, ap (λ (r : ProviderId). r.inc) a.2 ∙ j.1);
-            requests = owed_after;
-          };
+          owes = record { me = less.me; inc_of = less.inc_of; providers = less.providers; own = less.own; requests = owed_after; attended = less.attended; given = less.given };
           decides = decides;
-          names = record { named = k.names.named; unnamed = k.names.unnamed };
+          names = record { named = k.names.named; unnamed = k.names.unnamed; full = k.names.full };
           asks = k.asks;
+          led = λ q. let a = k.led q in record { inc = a.inc; leads = a.leads };
+          waits = waits_with t.ghost s g put_row (λ x. refl) k.order k.waits (waits_of g w n s t g);
         }
+      where
+        less : Owes t.ghost g n s.views.inc u
+        less = owes_later t.ghost g n s.views.inc s.sessions u l.later t.own.0.owes
 
     lines_after : y.all ≡ lines_with g (reverse (s.records ++ happened.Put s.views.me s.views.view g (len_of s g) e ∷ [])) w.before (lines_of g w.before)
     lines_after =
@@ -266,7 +280,10 @@ module _ (g : List ℕ) (w : Scene) (n : ℕ) (s : Core) (t : Tied g w n s) (e :
         own = (subst (λ row. NodeOf y g n (is_fixed s.config.mode) s.views row (with_row s g put_row).groups u s.names) (sym (row_here g put_row (λ x. refl) s t.own.0.order)) own_after, t.own.1, t.own.2);
         others = λ m ne. node_if_on t.ghost y m (spares m ne) (set_there t.ghost.nodes n (grown (t.ghost.nodes n) e) m ne) w.config g (w.incs m) (w.cores m) (t.others m ne);
         packets = λ p i. shows_on t.ghost y goes g p (t.packets p i);
-        refused = λ v p r h. seen_on t.ghost y goes v (t.refused v p r (refusals v p r h));
+        sound = sound_on t.ghost y still g t.sound;
+        placed = placed_pushed w n s (happened.Put s.views.me s.views.view g (len_of s g) e) (λ m o. refl) t.placed;
+        nobody = t.nobody;
+        turns = turns_packets w n s.views.view (s.records ++ happened.Put s.views.me s.views.view g (len_of s g) e ∷ []) u t.ghost.ps (turns_sessions w n s.views.view (s.records ++ happened.Put s.views.me s.views.view g (len_of s g) e ∷ []) s.sessions t.ghost.ps (turns_pushed w n s.views.view s.records s.sessions t.ghost.ps t.turns (happened.Put s.views.me s.views.view g (len_of s g) e)) u (put_turn (records_of w.before) s.records s.views.view s.sessions u s.views.me g (len_of s g) e (λ q i. (t.own.0.owes.own q i).0 ∙ sym t.own.0.stands.me) l.fewer t.turns.own)) ps requests;
       },
       (inl (λ i. Put n (sym t.own.0.stands.view i) (len_now i) e), state_after),
       (λ p h. h),
@@ -301,7 +318,11 @@ module _ (g : List ℕ) (w : Scene) (n : ℕ) (s : Core) (t : Tied g w n s) (e :
         begun = λ p r i f q. absurd (unled q);
         waiting = λ p q. absurd (unled q);
         later = t.own.0.decides.later;
+        again = t.own.0.decides.again;
+        leads_it = t.own.0.decides.leads_it;
+        apart = t.own.0.decides.apart;
+        lasts = t.own.0.decides.lasts;
       }
 
   pub put_own : (t' : Tied g w n (with_sessions (put s g e) u)) × (Has (Put n s.views.view (len_of s g) e) (kept t'.ghost.all) × (state_of (put s g e) g ≡ state_of_list t'.ghost.bases s.views.view (take (len_of s g + 1) (puts_of n s.views.view (kept t'.ghost.all)))))
-  put_own = let k = put_tied g w n s t e u l room t.ghost.ps (λ p h. h) (λ v p r h. h) follows decides in (k.0, k.1)
+  put_own = let k = put_tied g w n s t e u l room t.ghost.ps (λ p h. h) (λ v p r h. h) (λ v k h. h) (λ v p r a h. h) follows decides in (k.0, k.1)

@@ -35,11 +35,11 @@ module _ (g : List ℕ) (w : Scene) (n : ℕ) where
   -- rings and reach are no group's
   rings_set : (s : Core) (rings : List Ring) → Tied g w n s → Tied g w n (record s { rings = rings })
   unfolding row_of
-  rings_set s rings t = record { ghost = t.ghost; life = t.life; lines = t.lines; own = t.own; others = t.others; packets = t.packets; refused = t.refused }
+  rings_set s rings t = record { ghost = t.ghost; life = t.life; lines = t.lines; own = t.own; others = t.others; packets = t.packets; sound = t.sound; placed = t.placed; nobody = t.nobody; turns = t.turns }
 
   reach_set : (s : Core) (r : Reach) → Tied g w n s → Tied g w n (record s { reach = r })
   unfolding row_of
-  reach_set s r t = record { ghost = t.ghost; life = t.life; lines = t.lines; own = t.own; others = t.others; packets = t.packets; refused = t.refused }
+  reach_set s r t = record { ghost = t.ghost; life = t.life; lines = t.lines; own = t.own; others = t.others; packets = t.packets; sound = t.sound; placed = t.placed; nobody = t.nobody; turns = t.turns }
 
   sends_tied : (xs : List RingSend) (s : Core) → Tied g w n s → Tied g w n (fold (λ u (x : RingSend). sent_on u x.network x.to (body.Ring x.packet)) s xs)
   sends_tied [] s t = t
@@ -58,7 +58,7 @@ module _ (g : List ℕ) (w : Scene) (n : ℕ) where
 
       by : (o : Option RingSet) → Tied g w n (recorded_all sent_now (set_records s.views.me x.ring.net o))
       by None = subst (λ z. Tied g w n (record sent_now { records = z })) (sym (append-nil sent_now.records)) now
-      by (Some r) = tied_unseen g w n sent_now now (happened.Ring s.views.me x.ring.net r.id r.members r.neighbour) (λ rs. refl)
+      by (Some r) = tied_unseen g w n sent_now now (happened.Ring s.views.me x.ring.net r.id r.members r.neighbour) ((λ rs. refl), λ m o. refl)
 
   rings_fold : (rs : List Ring) (s : Core) → Tied g w n s → Tied g w n (fold (λ u (r : Ring). ring_taken u (ring_stepped r ring_event.Tick)) s rs)
   rings_fold [] s t = t
@@ -66,16 +66,16 @@ module _ (g : List ℕ) (w : Scene) (n : ℕ) where
       rings_fold rs (ring_taken s (ring_stepped r ring_event.Tick)) (ring_tied s (ring_stepped r ring_event.Tick) t)
 
   -- what shows nothing is sent to many
-  all_sent : (ns : List ℕ) (s : Core) (b : Body) → ((x : Ghost) (me inc : ℕ) → ShowsBody x g me inc b) → Tied g w n s → Tied g w n (sent_all s ns b)
+  all_sent : (ns : List ℕ) (s : Core) (b : Body) → ((x : Ghost) (me inc to : ℕ) → ShowsBody x g me inc to b) → Tied g w n s → Tied g w n (sent_all s ns b)
   unfolding sent_all
   all_sent [] s b ok t = t
-  all_sent (m ∷ ns) s b ok t = all_sent ns (sent s m b) b ok (tied_sent g w n s t m b (ok t.ghost s.views.me s.views.inc))
+  all_sent (m ∷ ns) s b ok t = all_sent ns (sent s m b) b ok (tied_sent g w n s t m b (ok t.ghost s.views.me s.views.inc m))
 
   report_tied : (s : Core) (m : Mask) → Tied g w n s → Tied g w n (report_sent s m)
   unfolding report_sent
   report_tied s m t =
       let d : Core = record s { reach = reach.own_set s.reach m } in
-      all_sent (filter (λ k. not (k == s.views.me)) (nodes_of m)) d (body.Report (report_of d.reach)) (λ x me inc. tt) (reach_set s (reach.own_set s.reach m) t)
+      all_sent (filter (λ k. not (k == s.views.me)) (nodes_of m)) d (body.Report (report_of d.reach)) (λ x me inc to. tt) (reach_set s (reach.own_set s.reach m) t)
 
 -- the tick, part (1)
 pub rings_part_tied : (g : List ℕ) (w : Scene) (n : ℕ) (s : Core) → Tied g w n s → Tied g w n (rings_part s)

@@ -5,6 +5,8 @@ use Rattle.std.proofs.lemmas.List.{drop-drop}
 use Rattle.std.proofs.lemmas.Grind.{common_steps}
 use Rattle.std.proofs.lemmas.Bool.Decides.{nat_tests}
 use Rattle.rsct_packet.specs.declared.ids.ViewId.{ViewId}
+use Rattle.rsct_packet.specs.declared.ids.ProviderId.{ProviderId}
+use Rattle.rsct_packet.specs.Providers.{among}
 use Rattle.rsct_packet.specs.Search.{Has}
 use Rattle.group_entry.specs.declared.entry.Entry.{Entry}
 use Rattle.proposal_core.specs.GroupView.{GroupView, new_list}
@@ -21,13 +23,14 @@ use Rattle.node_state.specs.Sending.{sent, sent_on, packet_on, network_to}
 use Rattle.run_safety.specs.Group as group
 use Rattle.run_safety.specs.Bases.{base_state, state_of_list}
 use Rattle.run_safety.specs.Moves.{Acknowledges}
-use Rattle.step_ties.specs.Ghost.{Ghost, Goes, Keeps, KeepsIf, bytes_of, IsStable}
-use Rattle.step_ties.specs.Tied.{Shows, KnowsLeader, RowIs, LeaderKeeps, NodeIs, Scene, Tied}
-use Rattle.step_ties.proofs.Goes.{Spares, shows_on, node_on}
+use Rattle.step_ties.specs.Ghost.{asking, Ghost, Goes, Keeps, KeepsIf, bytes_of, IsStable}
+use Rattle.step_ties.specs.Tied.{Waiting, InNameOrder, Shows, KnowsLeader, RowIs, LeaderKeeps, NodeIs, Scene, Tied}
+use Rattle.step_ties.proofs.Goes.{Spares, sound_on, shows_on, node_on}
 use Rattle.step_ties.proofs.Changed.{has_pushed}
 use Rattle.step_ties.proofs.Works.{tied_on}
 use Rattle.step_ties.proofs.NameOrder.{KeepsName, cases_text, row_here, row_there, rows_ordered}
-use Rattle.step_ties.proofs.Gone.{with_packet, packet_goes, packet_spares}
+use Rattle.step_ties.proofs.Gone.{with_packet, packet_goes, packet_still, packet_spares}
+use Rattle.step_ties.proofs.Turns.{packet_turns}
 
 -- a list that shows a whole one, whether it is held or not
 pub keeps_of : (x : Ghost) (v : ViewId) (full : List Entry) (l : Option GroupView) → KeepsIf x v full l → Keeps x v full (list_or_new l)
@@ -74,20 +77,37 @@ forgotten_stable x v l k new old = by (nat_le k l.len)
     by false = old
     by true = ⊎_elim (λ (e : max l.start k ≡ l.start). subst (IsStable x v) (sym e) old) (λ (e : max l.start k ≡ k). subst (IsStable x v) (sym e) new) (max_one l.start k)
 
+-- joins that wait in a row that changes were asked in its group
+pub waits_with : (x : Ghost) (s : Core) (h : List ℕ) (f : GroupRow → GroupRow) → KeepsName f → InNameOrder s.groups → Waiting x s.groups → ((p : ProviderId) → among (f (row_of s h)).led.waiting.joins p ≡ true → Has (asking p p.join h) x.asked) → Waiting x (with_row s h f).groups
+unfolding row_of with_row
+waits_with x s h f keeps order old new k p e = by (cases_text h k)
+  where
+    by : (h ≡ k) ⊎ (h ≡ k → ⊥) → Has (asking p p.join k) x.asked
+    by (inl q) =
+        let P : List ℕ → Type 0 = λ z. among (row_of (with_row s h f) z).led.waiting.joins p ≡ true in
+        let e' : among (row_of (with_row s h f) h).led.waiting.joins p ≡ true = subst P (sym q) e in
+        subst (λ z. Has (asking p p.join z) x.asked) q (new p (subst (λ (row : GroupRow). among row.led.waiting.joins p ≡ true) (row_here h f keeps s order) e'))
+    by (inr ne) = old k p (subst (λ (row : GroupRow). among row.led.waiting.joins p ≡ true) (row_there h f keeps s k ne) e)
+
 module _ (g : List ℕ) (w : Scene) (n : ℕ) (s : Core) (t : Tied g w n s) where
   -- a row changes
-  pub tied_row : (h : List ℕ) (f : GroupRow → GroupRow) → KeepsName f → (h ≡ g → RowIs t.ghost n s.views.view s.views.members (f (row_of s h)) × LeaderKeeps t.ghost n s.views.inc s.views.view (f (row_of s h)).led) → Tied g w n (with_row s h f)
+  pub row_kept : (h : List ℕ) (f : GroupRow → GroupRow) → KeepsName f → ((p : ProviderId) → among (f (row_of s h)).led.waiting.joins p ≡ true → Has (asking p p.join h) t.ghost.asked) → (h ≡ g → RowIs t.ghost n s.views.view s.views.members (f (row_of s h)) × LeaderKeeps t.ghost n s.views.inc s.views.view (f (row_of s h)).led) → (u : Tied g w n (with_row s h f)) × (u.ghost ≡ t.ghost)
   unfolding with_row
-  tied_row h f keeps new =
-      record {
-        ghost = t.ghost;
-        life = t.life;
-        lines = t.lines;
-        own = (own (cases_text h g), t.own.1, t.own.2);
-        others = t.others;
-        packets = t.packets;
-        refused = t.refused;
-      }
+  row_kept h f keeps waits new = (
+    record {
+      ghost = t.ghost;
+      life = t.life;
+      lines = t.lines;
+      own = (own (cases_text h g), t.own.1, t.own.2);
+      others = t.others;
+      packets = t.packets;
+      sound = t.sound;
+      placed = t.placed;
+      nobody = t.nobody;
+      turns = t.turns;
+    },
+    refl,
+  )
     where
       k : NodeIs t.ghost g n s
       k = t.own.0
@@ -113,12 +133,21 @@ module _ (g : List ℕ) (w : Scene) (n : ℕ) (s : Core) (t : Tied g w n s) wher
             decides = (row c).1;
             names = k.names;
             asks = k.asks;
+            led = k.led;
+            waits = waits_with t.ghost s h f keeps k.order k.waits waits;
           }
+
+  pub tied_row : (h : List ℕ) (f : GroupRow → GroupRow) → KeepsName f → ((p : ProviderId) → among (f (row_of s h)).led.waiting.joins p ≡ true → Has (asking p p.join h) t.ghost.asked) → (h ≡ g → RowIs t.ghost n s.views.view s.views.members (f (row_of s h)) × LeaderKeeps t.ghost n s.views.inc s.views.view (f (row_of s h)).led) → Tied g w n (with_row s h f)
+  tied_row h f keeps waits new = (row_kept h f keeps waits new).0
+
+  pub waits_of : (h : List ℕ) (p : ProviderId) → among (row_of s h).led.waiting.joins p ≡ true → Has (asking p p.join h) t.ghost.asked
+  unfolding row_of
+  waits_of h p e = t.own.0.waits h p e
 
   -- what is stable is forgotten
   pub tied_forgets : (h : List ℕ) (m : ℕ) → (h ≡ g → IsStable t.ghost s.views.view m) → Tied g w n (forgets_below s h m)
   unfolding forgets_below
-  tied_forgets h m stable = tied_row h (λ row. record row { list = list_forgotten m row.list }) (λ x. refl) new
+  tied_forgets h m stable = tied_row h (λ row. record row { list = list_forgotten m row.list }) (λ x. refl) (waits_of h) new
     where
       new : h ≡ g → RowIs t.ghost n s.views.view s.views.members (record (row_of s h) { list = list_forgotten m (row_of s h).list }) × LeaderKeeps t.ghost n s.views.inc s.views.view (row_of s h).led
       new e =
@@ -129,6 +158,7 @@ module _ (g : List ℕ) (w : Scene) (n : ℕ) (s : Core) (t : Tied g w n s) wher
               stable = start (row_of s g).list (stable e) t.own.0.row_is.stable;
               leader = t.own.0.row_is.leader;
               acked = t.own.0.row_is.acked;
+              covers = t.own.0.row_is.covers;
             },
             t.own.0.decides,
           )
@@ -144,13 +174,13 @@ module _ (g : List ℕ) (w : Scene) (n : ℕ) (s : Core) (t : Tied g w n s) wher
   -- the leader is known
   pub tied_led_by : (h : List ℕ) (m : ℕ) → (h ≡ g → KnowsLeader t.ghost s.views.view s.views.members (Some m)) → Tied g w n (led_by s h m)
   unfolding led_by
-  tied_led_by h m knows = tied_row h (λ row. record row { leader = Some m }) (λ x. refl) new
+  tied_led_by h m knows = tied_row h (λ row. record row { leader = Some m }) (λ x. refl) (waits_of h) new
     where
       new : h ≡ g → RowIs t.ghost n s.views.view s.views.members (record (row_of s h) { leader = Some m }) × LeaderKeeps t.ghost n s.views.inc s.views.view (row_of s h).led
       new e =
           let P : List ℕ → Type 0 = λ z. RowIs t.ghost n s.views.view s.views.members (record (row_of s z) { leader = Some m }) × LeaderKeeps t.ghost n s.views.inc s.views.view (row_of s z).led in
           subst P (sym e) (
-            record { list = t.own.0.row_is.list; stable = t.own.0.row_is.stable; leader = knows e; acked = t.own.0.row_is.acked },
+            record { list = t.own.0.row_is.list; stable = t.own.0.row_is.stable; leader = knows e; acked = t.own.0.row_is.acked; covers = t.own.0.row_is.covers },
             t.own.0.decides,
           )
 
@@ -168,7 +198,7 @@ module _ (g : List ℕ) (w : Scene) (n : ℕ) (s : Core) (t : Tied g w n s) wher
       let a : group.Packet = group.Ack (x.nodes n).view n (x.nodes n).inc (length (x.nodes n).list) in
       let y : Ghost = with_packet x a in
       let o : Goes x y = packet_goes x a in
-      let spares : (m : ℕ) → Spares x y m = λ m. packet_spares x a m (λ e. absurd (omega arith)) in
+      let spares : (m : ℕ) → Spares x y m = λ m. packet_spares x a m (λ e. absurd (omega arith)) (λ e. absurd (omega arith)) in
       let p : Packet = packet_on s (network_to s to) to (body.Ack s.views.view h (len_of s h)) in
       let new : Shows y g p = λ e. inl (λ i. group.Ack (sym k.stands.view i) (k.stands.me i) (sym k.stands.inc i) ((ap (len_of s) e ∙ len_is) i)) in
-      tied_on g w n s t (sent s to (body.Ack s.views.view h (len_of s h))) y (Acknowledges x.nodes x.ps x.all x.leads x.bases n (x.nodes n) (length (x.nodes n).list) t.life refl (omega arith)) t.lines (node_on x y n (spares n) refl g (is_fixed s.config.mode) s.views (row_of s g) s.groups s.sessions s.names k, t.own.1, t.own.2) (λ m ne. spares m) (λ m ne. refl) (λ q i. ⊎_elim (λ (e : q ≡ p). subst (Shows y g) (sym e) new) (λ (j : Has q (s.sends ++ w.sent)). shows_on x y o g q (t.packets q j)) (has_pushed q p s.sends w.sent i))
+      tied_on g w n s t (sent s to (body.Ack s.views.view h (len_of s h))) y (Acknowledges x.nodes x.ps x.all x.leads x.bases n (x.nodes n) (length (x.nodes n).list) t.life refl (omega arith)) t.lines t.placed (packet_turns w n s.views.view s.records s.sessions x.ps t.turns a (λ b c d f e. cc)) (node_on x y n (spares n) refl g (is_fixed s.config.mode) s.views (row_of s g) s.groups s.sessions s.names k, t.own.1, t.own.2) (λ m ne. spares m) (λ m ne. refl) (λ q i. ⊎_elim (λ (e : q ≡ p). subst (Shows y g) (sym e) new) (λ (j : Has q (s.sends ++ w.sent)). shows_on x y o g q (t.packets q j)) (has_pushed q p s.sends w.sent i)) (sound_on x y (packet_still x a (λ e. absurd (omega arith)) (λ e. absurd (omega arith))) g t.sound)

@@ -1,11 +1,11 @@
 -- What handing an entry on leaves of a node's providers and outstanding requests.
-use Rattle.std.proofs.Common.{◌≡◌, ℕ, List, [], ◌∷◌, ◌++◌, Option, Some, None, Bool, true, false, refl, ap, ◌∙◌, inl, inr, ⊎_elim, arith}
+use Rattle.std.proofs.Common.{◌≡◌, ℕ, List, [], ◌∷◌, ◌++◌, Option, Some, None, Bool, true, false, refl, sym, ap, ◌∙◌, inl, inr, ⊎_elim, arith}
 use Rattle.std.specs.Prelude.{◌==◌, ◌&&◌, not, filter, map, fold, find, if◌then◌else◌}
 use Rattle.std.proofs.lemmas.Bool.Decides.{nat_tests}
 use Rattle.rsct_packet.specs.declared.ids.ProviderId.{ProviderId}
 use Rattle.rsct_packet.specs.Providers.{among, same_provider}
 use Rattle.rsct_packet.specs.Search.{Has, edit_where}
-use Rattle.rsct_packet.proofs.HasLaws.{has_filter, has_append, find_has}
+use Rattle.rsct_packet.proofs.HasLaws.{has_filter, filter_has, has_append, find_has}
 use Rattle.group_entry.specs.declared.proposal.Proposal.{Proposal}
 use Rattle.group_entry.specs.declared.proposal.Proposal.TheVariants.{Join, Leave, Fail, Expel, State, Message, Attributes, Reflect}
 use Rattle.group_entry.specs.declared.entry.Entry.{Entry}
@@ -20,17 +20,31 @@ use Rattle.session_state.specs.declared.state.SessionState.{SessionState}
 use Rattle.session_state.specs.State.{is_provider, is_request, provider_of, with_provider, request_ended, without_providers}
 use Rattle.session_state.specs.HandOn.{kept_ended, kept_after, hears, hearers_in, beginners, hearers, part_taken, opened_after, phases_opened, casts_of, casts_kept, proposal_begun, requests_after, removed_from, casts_out, cast_of, heard, handed_on, taking_part, brought_by}
 use Rattle.run_safety.specs.Requests.{requests_of, carried}
+use Rattle.step_ties.specs.Ghost.{Ghost}
+use Rattle.step_ties.specs.Tied.{Owes}
 
--- nothing comes in: each provider was there, and each request
+pub provider_self : (p : ProviderId) → same_provider p p ≡ true
+provider_self p = grind (arith, nat_tests)
+
+pub provider_same : (a b : ProviderId) → same_provider a b ≡ true → a ≡ b
+provider_same a b z = grind (arith, nat_tests)
+
+-- each request is that of a provider that is there
+abbrev pub Attended : SessionState → Type 0
+Attended s = (q : Request) → Has q s.requests → (y : Provider) × Has y s.providers × (y.p ≡ q.p)
+
+-- nothing comes in: each provider was there, and each request; and no provider goes without its requests
 pub record Later (s t : SessionState) : Type 0 where
   pub me : t.me ≡ s.me
   pub inc : t.inc ≡ s.inc
   pub level : t.level ≡ s.level
+  pub last : t.last_request ≡ s.last_request
   pub providers : (y : Provider) → Has y t.providers → (z : Provider) × Has z s.providers × (y.p ≡ z.p)
   pub requests : (q : Request) → Has q t.requests → Has q s.requests
+  pub attended : Attended s → Attended t
 
 pub later_same : (s : SessionState) → Later s s
-later_same s = record { me = refl; inc = refl; level = refl; providers = λ y h. (y, h, refl); requests = λ q h. h }
+later_same s = record { me = refl; inc = refl; level = refl; last = refl; providers = λ y h. (y, h, refl); requests = λ q h. h; attended = λ a. a }
 
 pub later_then : (s t u : SessionState) → Later s t → Later t u → Later s u
 later_then s t u a b =
@@ -38,8 +52,23 @@ later_then s t u a b =
       me = b.me ∙ a.me;
       inc = b.inc ∙ a.inc;
       level = b.level ∙ a.level;
+      last = b.last ∙ a.last;
       providers = λ y h. let k = b.providers y h in let j = a.providers k.0 k.1 in (j.0, j.1, k.2 ∙ j.2);
       requests = λ q h. a.requests q (b.requests q h);
+      attended = λ k. b.attended (a.attended k);
+    }
+
+-- what was owed is owed
+pub owes_later : (x : Ghost) (g : List ℕ) (n inc : ℕ) (s t : SessionState) → Later s t → Owes x g n inc s → Owes x g n inc t
+owes_later x g n inc s t l o =
+    record {
+      me = l.me ∙ o.me;
+      inc_of = l.inc ∙ o.inc_of;
+      providers = λ y h. let a = l.providers y h in let b = o.providers a.0 a.1 in (ap (λ (z : ProviderId). z.node) a.2 ∙ b.0, ap (λ (z : ProviderId). z.inc) a.2 ∙ b.1);
+      own = λ q h. o.own q (l.requests q h);
+      requests = λ q h. o.requests q (l.requests q h);
+      attended = l.attended o.attended;
+      given = λ a h e f. let k = o.given a h e f in let z = l.last in omega arith;
     }
 
 later_fold : {A : Type 0} (f : SessionState → A → SessionState) → ((s : SessionState) (x : A) → Later s (f s x)) → (xs : List A) (s : SessionState) → Later s (fold f s xs)
@@ -56,18 +85,28 @@ edited p f keeps (x ∷ xs) y h = by (is_provider p x) h (edited p f keeps xs y)
     by false (inl e) k = (x, inl refl, ap (λ (w : Provider). w.p) e)
     by false (inr i) k = let r = k i in (r.0, inr r.1, r.2)
 
+edited_has : (p : ProviderId) (f : Provider → Provider) → ((x : Provider) → (f x).p ≡ x.p) → (xs : List Provider) (z : Provider) → Has z xs → (y : Provider) × Has y (edit_where (is_provider p) f xs) × (y.p ≡ z.p)
+edited_has p f keeps [] z h = absurd h
+edited_has p f keeps (x ∷ xs) z h = by (is_provider p x) h (edited_has p f keeps xs z)
+  where
+    by : (b : Bool) → Has z (x ∷ xs) → (Has z xs → (y : Provider) × Has y (edit_where (is_provider p) f xs) × (y.p ≡ z.p)) → (y : Provider) × Has y (if b then f x ∷ xs else x ∷ edit_where (is_provider p) f xs) × (y.p ≡ z.p)
+    by true (inl e) k = (f x, inl refl, keeps x ∙ ap (λ (w : Provider). w.p) (sym e))
+    by true (inr i) k = (z, inr i, refl)
+    by false (inl e) k = (x, inl refl, ap (λ (w : Provider). w.p) (sym e))
+    by false (inr i) k = let r = k i in (r.0, inr r.1, r.2)
+
 later_provider : (s : SessionState) (p : ProviderId) (f : Provider → Provider) → ((x : Provider) → (f x).p ≡ x.p) → Later s (with_provider s p f)
 unfolding with_provider
 later_provider s p f keeps =
-    record { me = refl; inc = refl; level = refl; providers = λ y h. edited p f keeps s.providers y h; requests = λ q h. h }
+    record { me = refl; inc = refl; level = refl; last = refl; providers = λ y h. edited p f keeps s.providers y h; requests = λ q h. h; attended = λ a q h. let k = a q h in let e = edited_has p f keeps s.providers k.0 k.1 in (e.0, e.1, e.2 ∙ k.2) }
 
 later_kept : (s : SessionState) (g : List ℕ) (e : Entry) → Later s (kept_after s g e)
 unfolding kept_after kept_ended
 later_kept s g (Once x) = later_same s
 later_kept s g (Begin x) = later_same s
-later_kept s g (Phase c) = record { me = refl; inc = refl; level = refl; providers = λ y h. (y, h, refl); requests = λ q h. h }
-later_kept s g (Approve c) = record { me = refl; inc = refl; level = refl; providers = λ y h. (y, h, refl); requests = λ q h. h }
-later_kept s g (Reject c) = record { me = refl; inc = refl; level = refl; providers = λ y h. (y, h, refl); requests = λ q h. h }
+later_kept s g (Phase c) = record { me = refl; inc = refl; level = refl; last = refl; providers = λ y h. (y, h, refl); requests = λ q h. h; attended = λ a. a }
+later_kept s g (Approve c) = record { me = refl; inc = refl; level = refl; last = refl; providers = λ y h. (y, h, refl); requests = λ q h. h; attended = λ a. a }
+later_kept s g (Reject c) = record { me = refl; inc = refl; level = refl; last = refl; providers = λ y h. (y, h, refl); requests = λ q h. h; attended = λ a. a }
 later_kept s g (Late proto phase ps) = later_same s
 
 later_parts : (s : SessionState) (ps : List ProviderId) → Later s (part_taken s ps)
@@ -90,12 +129,12 @@ later_opened s e after ps =
 
 later_casts : (s : SessionState) (g : List ℕ) (cs : List Cast) → Later s (casts_kept s g cs)
 unfolding casts_kept
-later_casts s g cs = record { me = refl; inc = refl; level = refl; providers = λ y h. (y, h, refl); requests = λ q h. h }
+later_casts s g cs = record { me = refl; inc = refl; level = refl; last = refl; providers = λ y h. (y, h, refl); requests = λ q h. h; attended = λ a. a }
 
 later_ended : (s : SessionState) (p : ProviderId) (r : ℕ) → Later s (request_ended s p r)
 unfolding request_ended
 later_ended s p r =
-    record { me = refl; inc = refl; level = refl; providers = λ y h. (y, h, refl); requests = λ q h. (has_filter (λ q. not (is_request p r q)) q s.requests h).0 }
+    record { me = refl; inc = refl; level = refl; last = refl; providers = λ y h. (y, h, refl); requests = λ q h. (has_filter (λ q. not (is_request p r q)) q s.requests h).0; attended = λ a q h. a q (has_filter (λ q. not (is_request p r q)) q s.requests h).0 }
 
 pub later_without : (s : SessionState) (ps : List ProviderId) → Later s (without_providers s ps)
 unfolding without_providers
@@ -104,8 +143,12 @@ later_without s ps =
       me = refl;
       inc = refl;
       level = refl;
+      last = refl;
       providers = λ y h. (y, (has_filter (λ x. not (among ps x.p)) y s.providers h).0, refl);
       requests = λ q h. (has_filter (λ q. not (among ps q.p)) q s.requests h).0;
+      attended = λ a q h. let i = has_filter (λ q. not (among ps q.p)) q s.requests h in
+          let k = a q i.0 in
+          (k.0, filter_has (λ x. not (among ps x.p)) k.0 s.providers k.1 (ap (λ z. not (among ps z)) k.2 ∙ i.1), k.2);
     }
 
 later_begun : (s : SessionState) (x : Proposal) → Later s (proposal_begun s x)

@@ -32,11 +32,12 @@ use Rattle.run_safety.proofs.Lives.{whole}
 use Rattle.step_ties.specs.Ghost.{Ghost, Goes, part_of}
 use Rattle.step_ties.specs.Rows.{at_node}
 use Rattle.step_ties.specs.Tied.{Shows, Stands, NodeOf, Scene, opening_of, Tied}
-use Rattle.step_ties.proofs.Goes.{Spares, spares_same, carries_on, shows_on, rest_on, node_on}
-use Rattle.step_ties.proofs.Changed.{set_here, set_there, changes, has_pushed}
+use Rattle.step_ties.proofs.Goes.{Spares, sound_on, spares_same, carries_on, shows_on, rest_on, node_on}
+use Rattle.step_ties.proofs.Changed.{set_here, set_there, changes, incs_set, has_pushed}
 use Rattle.step_ties.proofs.Works.{tied_on, tied_sent, tied_views}
-use Rattle.step_ties.proofs.Gone.{with_nodes, with_packet, nodes_goes, nodes_spares, packet_goes, packet_spares}
+use Rattle.step_ties.proofs.Gone.{with_nodes, with_packet, nodes_goes, nodes_still, nodes_spares, packet_goes, packet_still, packet_spares}
 use Rattle.step_ties.proofs.Parts.{own_carries, own_differ}
+use Rattle.step_ties.proofs.Turns.{packet_turns}
 
 lt_of : (a b : ViewId) → view_lt a b ≡ true → Lt a b
 unfolding is_before
@@ -81,7 +82,7 @@ module _ (g : List ℕ) (w : Scene) (n : ℕ) (s : Core) (t : Tied g w n s) wher
       } in
       let own : NodeOf (with_nodes x nodes) g n (is_fixed s.config.mode) views (row_of s g) s.groups s.sessions s.names =
       rest_on x (with_nodes x nodes) n (nodes_spares x nodes n (ap (λ (k : Standing). k.list) here)) g (is_fixed s.config.mode) s.views views (row_of s g) s.groups s.sessions s.names stands refl refl refl refl tt h in
-      tied_on g w n s t (record s { views = views }) (with_nodes x nodes) (Promises x.nodes nodes x.ps x.all x.leads x.bases n (x.nodes n) v t.life refl le (changes x.nodes n z)) t.lines (own, t.own.1, t.own.2) (λ m ne. nodes_spares x nodes m (ap (λ (k : Standing). k.list) (set_there x.nodes n z m ne))) (λ m ne. set_there x.nodes n z m ne) (λ p i. shows_on x (with_nodes x nodes) (nodes_goes x nodes) g p (t.packets p i))
+      tied_on g w n s t (record s { views = views }) (with_nodes x nodes) (Promises x.nodes nodes x.ps x.all x.leads x.bases n (x.nodes n) v t.life refl le (changes x.nodes n z)) t.lines t.placed t.turns (own, t.own.1, t.own.2) (λ m ne. nodes_spares x nodes m (ap (λ (k : Standing). k.list) (set_there x.nodes n z m ne))) (λ m ne. set_there x.nodes n z m ne) (λ p i. shows_on x (with_nodes x nodes) (nodes_goes x nodes) g p (t.packets p i)) (sound_on x (with_nodes x nodes) (nodes_still x nodes (λ m. incs_set x.nodes n z (omega arith) m)) g t.sound)
 
   -- an answer for a view that it promised is sent
   pub tied_answers : (to : ℕ) (v : ViewId) → Le v s.views.promise → Lt s.views.view v → Tied g w n (sent s to (body.View (view.Answer v s.views.view (own_parts s))))
@@ -96,7 +97,7 @@ module _ (g : List ℕ) (w : Scene) (n : ℕ) (s : Core) (t : Tied g w n s) wher
       let le' : Le v (x.nodes n).promise = subst (Le v) (sym h.stands.promise) le in
       let lt' : Lt (x.nodes n).view v = subst (λ k. Lt k v) (sym h.stands.view) lt in
       let o : Goes x y = packet_goes x (group.Answer v r) in
-      let spares : (m : ℕ) → Spares x y m = λ m. packet_spares x (group.Answer v r) m (λ e. absurd (omega arith)) in
+      let spares : (m : ℕ) → Spares x y m = λ m. packet_spares x (group.Answer v r) m (λ e. absurd (omega arith)) (λ e. absurd (omega arith)) in
       let mine : r ≡ record { node = s.views.me; inc = s.views.inc; view = s.views.view; list = (x.nodes n).list } = λ i. record { node = sym h.stands.me i; inc = h.stands.inc i; view = h.stands.view i; list = (x.nodes n).list } in
       let new : Shows y g p = (
         (x.nodes n).list,
@@ -105,7 +106,7 @@ module _ (g : List ℕ) (w : Scene) (n : ℕ) (s : Core) (t : Tied g w n s) wher
         carries_on x y o s.views.view (x.nodes n).list (part_of g (own_parts s)) (n, s.views.inc, s.views.members, h.stands.seated) (own_carries x g s.views.view (x.nodes n).list s h.order h.row_is.list h.row_is.stable),
         own_differ s h.order,
       ) in
-      tied_on g w n s t (sent s to (body.View (view.Answer v s.views.view (own_parts s)))) y (Answers x.nodes x.ps x.all x.leads x.bases n (x.nodes n) v t.life refl up le' lt') t.lines (node_on x y n (spares n) refl g (is_fixed s.config.mode) s.views (row_of s g) s.groups s.sessions s.names h, t.own.1, t.own.2) (λ m ne. spares m) (λ m ne. refl) (λ q i. ⊎_elim (λ (e : q ≡ p). subst (Shows y g) (sym e) new) (λ (k : Has q (s.sends ++ w.sent)). shows_on x y o g q (t.packets q k)) (has_pushed q p s.sends w.sent i))
+      tied_on g w n s t (sent s to (body.View (view.Answer v s.views.view (own_parts s)))) y (Answers x.nodes x.ps x.all x.leads x.bases n (x.nodes n) v t.life refl up le' lt') t.lines t.placed (packet_turns w n s.views.view s.records s.sessions x.ps t.turns (group.Answer v r) (λ a b c d e. cc)) (node_on x y n (spares n) refl g (is_fixed s.config.mode) s.views (row_of s g) s.groups s.sessions s.names h, t.own.1, t.own.2) (λ m ne. spares m) (λ m ne. refl) (λ q i. ⊎_elim (λ (e : q ≡ p). subst (Shows y g) (sym e) new) (λ (k : Has q (s.sends ++ w.sent)). shows_on x y o g q (t.packets q k)) (has_pushed q p s.sends w.sent i)) (sound_on x y (packet_still x (group.Answer v r) (λ e. absurd (omega arith)) (λ e. absurd (omega arith))) g t.sound)
 
 module _ (g : List ℕ) (w : Scene) (n : ℕ) (f : Answering) (s : Core) (t : Tied g w n s) where
   -- what is noted of views alone

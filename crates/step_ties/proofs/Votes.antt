@@ -1,11 +1,11 @@
 -- VOTE and GONE.
-use Rattle.std.proofs.Common.{◌≡◌, ℕ, List, [], ◌∷◌, Option, Some, None, Bool, true, false, refl, sym, subst}
+use Rattle.std.proofs.Common.{◌≡◌, ℕ, List, [], ◌∷◌, Option, Some, None, Bool, true, false, refl, sym, ap, ◌∙◌, subst}
 use Rattle.std.specs.Prelude.{◌&&◌, ◌||◌, not, if◌then◌else◌}
 use Rattle.std.proofs.lemmas.Bool.{and_parts}
 use Rattle.rsct_packet.specs.declared.ids.ViewId.{ViewId}
 use Rattle.rsct_packet.specs.declared.ids.ProtoId.{ProtoId}
 use Rattle.rsct_packet.specs.declared.ids.ProviderId.{ProviderId}
-use Rattle.rsct_packet.specs.Providers.{same_provider, among, without}
+use Rattle.rsct_packet.specs.Providers.{same_provider, among, differ, without}
 use Rattle.group_entry.specs.declared.proposal.Cause.TheVariants.{Gone}
 use Rattle.group_entry.specs.declared.entry.Vote.{Vote}
 use Rattle.proposal_core.specs.Fold.{runs, present}
@@ -15,14 +15,13 @@ use Rattle.node_state.specs.declared.group.Led.{Led}
 use Rattle.node_state.specs.declared.packet.Body.TheVariants as body
 use Rattle.node_state.specs.declared.packet.Packet.{Packet}
 use Rattle.node_state.specs.declared.state.Core.{Core}
-use Rattle.node_state.specs.Settings.{is_fixed}
 use Rattle.node_state.specs.State.{row_of, with_led, led_of, state_of, leads, decision_of}
 use Rattle.node_state.specs.HandOn.{Answering}
 use Rattle.node_state.specs.Leading.{with_waiting, with_tally, closes}
 use Rattle.node_state.specs.Following.{vote_cast, vote_row, tally_failed, gone_waits, marked, gone_present, gone_of, gone_row}
 use Rattle.node_state.specs.Step.{is_used, used_if, body_row}
 use Rattle.step_ties.specs.Tied.{RowIs, LeaderKeeps, Scene, Tied}
-use Rattle.step_ties.proofs.RowWorks.{tied_row}
+use Rattle.step_ties.proofs.RowWorks.{waits_of, tied_row}
 use Rattle.step_ties.proofs.Acks.{used_is}
 use Rattle.step_ties.proofs.Appending.{Leading, led_goes, waits_goes, closed_goes}
 
@@ -38,15 +37,15 @@ cast_keeps p v value message l = by l.tally
     by None = (refl, refl, refl)
     by (Some t) = (refl, refl, refl)
 
-pub vote_is_tied : (v : ViewId) (h : List ℕ) (proto : ProtoId) (phase : ℕ) (q : ProviderId) (ballot : Vote) (value message : Option (List ℕ)) (g : List ℕ) (w : Scene) (n : ℕ) (f : Answering) (s : Core) (p : Packet) → is_fixed w.config.mode ≡ false → Tied g w n s → Tied g w n (body_row f s p (body.Vote v h proto phase q ballot value message))
+pub vote_is_tied : (v : ViewId) (h : List ℕ) (proto : ProtoId) (phase : ℕ) (q : ProviderId) (ballot : Vote) (value message : Option (List ℕ)) (g : List ℕ) (w : Scene) (n : ℕ) (f : Answering) (s : Core) (p : Packet) → Tied g w n s → Tied g w n (body_row f s p (body.Vote v h proto phase q ballot value message))
 unfolding body_row used_if vote_row
-vote_is_tied v h proto phase q ballot value message g w n f s p free t =
+vote_is_tied v h proto phase q ballot value message g w n f s p t =
     by (is_used s p v) refl (leads s h && runs proto phase (state_of s h).running) refl
   where
     row : s.views.promise ≡ s.views.view → (b : Bool) → (leads s h && runs proto phase (state_of s h).running) ≡ b → Tied g w n (elim b as (λ _. Core) [ true ↦ closes f (with_led s h (λ l. vote_cast l q ballot value message l.tally)) h | false ↦ s ])
     row thawed false e = t
     row thawed true e =
-        (closed_goes g w n s f thawed free (with_led s h (λ l. vote_cast l q ballot value message l.tally)) h (and_parts (leads s h) (runs proto phase (state_of s h).running) e).0 (led_goes g w n s s h (λ l. vote_cast l q ballot value message l.tally) (cast_keeps q ballot value message) (leads_itself g w n s t))).tied
+        (closed_goes g w n s f thawed (with_led s h (λ l. vote_cast l q ballot value message l.tally)) h (λ q. (and_parts (leads s h) (runs proto phase (state_of s h).running) e).0) (led_goes g w n s s h (λ l. vote_cast l q ballot value message l.tally) (cast_keeps q ballot value message) (leads_itself g w n s t))).tied
 
     by : (a : Bool) → is_used s p v ≡ a → (b : Bool) → (leads s h && runs proto phase (state_of s h).running) ≡ b → Tied g w n (used_if s (elim b as (λ _. Core) [ true ↦ closes f (with_led s h (λ l. vote_cast l q ballot value message l.tally)) h | false ↦ s ]) a)
     by false e b d = t
@@ -63,11 +62,28 @@ among_fewer (x ∷ xs) p q e = by (same_provider x p) (same_provider x q) refl e
     by true false d e rest = rest e
     by false false d e rest = rest (subst (λ z. (z || among (without xs p) q) ≡ true) d e)
 
+differ_without : (xs : List ProviderId) (p : ProviderId) → differ xs ≡ true → differ (without xs p) ≡ true
+differ_without [] p e = refl
+differ_without (x ∷ xs) p e = by (same_provider x p) (differ_without xs p (and_parts (not (among xs x)) (differ xs) e).1)
+  where
+    rest : (b : Bool) → among xs x ≡ false → among (without xs p) x ≡ b → not b ≡ true
+    rest false e q = refl
+    rest true e q = absurd (let k = among_fewer xs p x q in cc)
+
+    new : (b : Bool) → among xs x ≡ b → not b ≡ true → among xs x ≡ false
+    new false q e = q
+    new true q e = absurd (cc)
+
+    by : (a : Bool) → differ (without xs p) ≡ true → differ (if not a then x ∷ without xs p else without xs p) ≡ true
+    by true k = k
+    by false k =
+        ap (λ b. b && differ (without xs p)) (rest (among (without xs p) x) (new (among xs x) refl (and_parts (not (among xs x)) (differ xs) e).0) refl) ∙ k
+
 -- a join waits no longer
 drops_tied : (g : List ℕ) (w : Scene) (n : ℕ) (s : Core) (h : List ℕ) (p : ProviderId) → Tied g w n s → Tied g w n (with_waiting s h (join_dropped p))
 unfolding with_waiting with_led decision_of
 drops_tied g w n s h p t =
-    tied_row g w n s t h (λ row. record row { led = record (row.led) { waiting = join_dropped p row.led.waiting } }) (λ x. refl) new
+    tied_row g w n s t h (λ row. record row { led = record (row.led) { waiting = join_dropped p row.led.waiting } }) (λ x. refl) (λ q i. waits_of g w n s t h q (among_fewer (row_of s h).led.waiting.joins p q i)) new
   where
     new : h ≡ g → RowIs t.ghost n s.views.view s.views.members (record (row_of s h) { led = record ((row_of s h).led) { waiting = join_dropped p (row_of s h).led.waiting } }) × LeaderKeeps t.ghost n s.views.inc s.views.view (record ((row_of s h).led) { waiting = join_dropped p (row_of s h).led.waiting })
     new e =
@@ -75,19 +91,23 @@ drops_tied g w n s h p t =
         let is = t.own.0 in
         let d = is.decides in
         subst P (sym e) (
-          record { list = is.row_is.list; stable = is.row_is.stable; leader = is.row_is.leader; acked = is.row_is.acked },
+          record { list = is.row_is.list; stable = is.row_is.stable; leader = is.row_is.leader; acked = is.row_is.acked; covers = is.row_is.covers },
           record {
             refused = λ q r a i. let z = d.refused q r a i in record { last = z.last; kept_it = z.kept_it; later = z.later };
             begun = λ q r i x a b c. let z = d.begun q r i x a b c in record { last = z.last; kept_it = z.kept_it; later = z.later };
             waiting = λ q a i. let z = d.waiting q a (among_fewer (row_of s g).led.waiting.joins p q i) in
                 record { proposal = z.proposal; sent = z.sent; joins = z.joins; open_still = z.open_still; unbegun = z.unbegun; decided = record { last = z.decided.last; kept_it = z.decided.kept_it; later = z.decided.later } };
             later = d.later;
+            again = d.again;
+            leads_it = λ q i. d.leads_it q (among_fewer (row_of s g).led.waiting.joins p q i);
+            apart = differ_without (row_of s g).led.waiting.joins p d.apart;
+            lasts = λ q z i. d.lasts q z (among_fewer (row_of s g).led.waiting.joins p q i);
           },
         )
 
-pub gone_is_tied : (v : ViewId) (h : List ℕ) (q : ProviderId) (g : List ℕ) (w : Scene) (n : ℕ) (f : Answering) (s : Core) (p : Packet) → is_fixed w.config.mode ≡ false → Tied g w n s → Tied g w n (body_row f s p (body.Gone v h q))
+pub gone_is_tied : (v : ViewId) (h : List ℕ) (q : ProviderId) (g : List ℕ) (w : Scene) (n : ℕ) (f : Answering) (s : Core) (p : Packet) → Tied g w n s → Tied g w n (body_row f s p (body.Gone v h q))
 unfolding body_row used_if gone_row gone_of gone_present gone_waits tally_failed with_tally
-gone_is_tied v h q g w n f s p free t = by (is_used s p v) refl (leads s h) refl
+gone_is_tied v h q g w n f s p t = by (is_used s p v) refl (leads s h) refl
   where
     noted : Core
     noted = with_led s h (λ l. record l { gone = marked l.gone q })
@@ -98,7 +118,7 @@ gone_is_tied v h q g w n f s p free t = by (is_used s p v) refl (leads s h) refl
     fails : s.views.promise ≡ s.views.view → leads s h ≡ true → (o : Option TallyView) → Leading g w n s (tally_failed f noted h q o)
     fails thawed led None = marks
     fails thawed led (Some x) =
-        closed_goes g w n s f thawed free (with_tally noted h (Some (tally_fail q x))) h led (led_goes g w n s noted h (λ l. record l { tally = Some (tally_fail q x) }) (λ l. (refl, refl, refl)) marks)
+        closed_goes g w n s f thawed (with_tally noted h (Some (tally_fail q x))) h (λ z. led) (led_goes g w n s noted h (λ l. record l { tally = Some (tally_fail q x) }) (λ l. (refl, refl, refl)) marks)
 
     waits : (c : Core) → Leading g w n s c → (b : Bool) → Tied g w n (elim b as (λ _. Core) [ true ↦ with_waiting c h (waits_failure q Gone) | false ↦ c ])
     waits c k true = (waits_goes g w n s c h q Gone k).tied

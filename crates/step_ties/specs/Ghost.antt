@@ -4,6 +4,7 @@ use Rattle.std.specs.Prelude.{ℕ, ◌+◌, ◌≤◌, ◌<◌, ◌≡◌, ◌�
 use Rattle.std.specs.Str.{bytes_eq}
 use Rattle.rsct_packet.specs.declared.ids.ViewId.{ViewId}
 use Rattle.rsct_packet.specs.declared.ids.Member.{Member}
+use Rattle.rsct_packet.specs.declared.ids.ProviderId.{ProviderId}
 use Rattle.rsct_packet.specs.Mask.{has_node}
 use Rattle.rsct_packet.specs.Search.{Has}
 use Rattle.group_entry.specs.declared.entry.Entry.{Entry}
@@ -25,6 +26,15 @@ use Rattle.run_safety.specs.Group as group
 use Rattle.run_safety.specs.Bases.{Bases, base_state, state_of_list}
 use Rattle.run_safety.specs.Moves.{Leads, Opening, Life}
 
+-- a request: of which provider, under which number, in which group
+pub record Asking : Type 0 where
+  pub p : ProviderId
+  pub r : ℕ
+  pub group : List ℕ
+
+abbrev pub asking : ProviderId → ℕ → List ℕ → Asking
+asking p r g = record { p = p; r = r; group = g }
+
 pub record Ghost : Type 0 where
   pub nodes : ℕ → Standing
   pub ps : List Packet
@@ -33,6 +43,10 @@ pub record Ghost : Type 0 where
   pub bases : Bases
   -- in mode fixed none does
   pub asks : Bool
+  -- views in which the group has no leader for good
+  pub shut : List ViewId
+  -- what was asked, in any group
+  pub asked : List Asking
 
 -- moves make it
 abbrev pub Lives : Opening → Ghost → Type 0
@@ -50,6 +64,8 @@ pub record Goes (x y : Ghost) : Type 0 where
   pub leads : (v : ViewId) (l : Member) → x.leads v ≡ Some l → y.leads v ≡ Some l
   pub bases : (v : ViewId) → Seen x v → y.bases v ≡ x.bases v
   pub asks : y.asks ≡ x.asks
+  pub shut : (v : ViewId) → Has v x.shut → Has v y.shut
+  pub asked : (a : Asking) → Has a x.asked → Has a y.asked
 
 -- all members of the view hold so many entries
 abbrev pub IsStable : Ghost → ViewId → ℕ → Type 0

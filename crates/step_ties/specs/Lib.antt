@@ -1,3 +1,4 @@
 pub mod Ghost
 pub mod Tied
 pub mod Rows
+pub mod Runs

@@ -1,5 +1,5 @@
 -- What is tied: the step begins and ends, a node starts and stops, and rows of the step.
-use Rattle.std.specs.Prelude.{ℕ, ◌+◌, ◌≡◌, ◌==◌, true, false, ◌∷◌, ◌++◌, [], List, reverse, fold, Option, Some, None, if◌then◌else◌}
+use Rattle.std.specs.Prelude.{ℕ, ◌+◌, ◌≡◌, ◌≢◌, ◌==◌, true, false, ◌∷◌, ◌++◌, [], List, reverse, fold, Option, Some, None, if◌then◌else◌}
 use Rattle.rsct_packet.specs.declared.ids.ViewId.{ViewId}
 use Rattle.rsct_packet.specs.declared.ids.ProtoId.{ProtoId}
 use Rattle.rsct_packet.specs.declared.ids.ProviderId.{ProviderId}
@@ -9,10 +9,16 @@ use Rattle.rsct_packet.specs.Search.{Has}
 use Rattle.packet_bodies.specs.declared.body.ReportRow.{ReportRow}
 use Rattle.packet_bodies.specs.declared.body.What.{What}
 use Rattle.adapter_ring.specs.declared.packet.RingPacket.{RingPacket}
+use Rattle.group_attr.specs.declared.attrs.Phases.{Phases}
+use Rattle.group_entry.specs.declared.proposal.Proposal.{Proposal}
 use Rattle.group_entry.specs.declared.entry.Entry.{Entry}
 use Rattle.group_entry.specs.declared.entry.Vote.{Vote}
 use Rattle.view_core.specs.declared.packet.ViewPacket.{ViewPacket}
 use Rattle.view_core.specs.declared.packet.ViewPacket.TheVariants as view
+use Rattle.client_callbacks.specs.declared.told.Why.{Why}
+use Rattle.node_state.specs.Ending.{step_ended}
+use Rattle.node_state.specs.declared.call.CallLine.{CallLine}
+use Rattle.node_state.specs.Calls.{call_row}
 use Rattle.node_state.specs.declared.config.Config.{Config}
 use Rattle.node_state.specs.declared.happened.Happened.{Happened}
 use Rattle.node_state.specs.declared.happened.Happened.TheVariants as happened
@@ -29,8 +35,8 @@ use Rattle.view_exchange.specs.Answers.{opened, with_answer, all_answered}
 use Rattle.view_core.specs.declared.views.RingAsk.{RingAsk}
 use Rattle.view_core.specs.Views.{own_answer, next_view}
 use Rattle.node_state.specs.Applying.{own_parts}
-use Rattle.node_state.specs.Ticks.{ring_ask, rings_part, views_part, owed_part}
-use Rattle.node_state.specs.Step.{order_row, at_work, started, view_row, body_row}
+use Rattle.node_state.specs.Ticks.{ring_ask, rings_part, views_part, owed_part, led_part}
+use Rattle.node_state.specs.Step.{NodeEvent, Ticks, Asks, Given, Calls, Garbage, order_row, at_work, started, view_row, body_row, packet_row, stepped}
 use Rattle.world_model.specs.declared.event.Event.{Event}
 use Rattle.world_model.specs.Run.{Happening}
 use Rattle.run_safety.specs.Past.{History}
@@ -83,10 +89,10 @@ all_started c =
 abbrev pub FixedStartTied : Type 0
 FixedStartTied = (g : List ℕ) (c : Config) → is_fixed c.mode ≡ true → Rests g (all_started c)
 
--- outside of mode fixed
+-- outside of mode fixed; 0 is no node's number
 abbrev pub StartTied : Type 0
 StartTied =
-    (g : List ℕ) (w : Scene) (n : ℕ) (e : Event) → is_fixed w.config.mode ≡ false → w.cores n ≡ None → Rests g w → Rests g (start_with w n e (started w.config n (w.incs n + 1)))
+    (g : List ℕ) (w : Scene) (n : ℕ) (e : Event) → is_fixed w.config.mode ≡ false → n ≢ 0 → w.cores n ≡ None → Rests g w → Rests g (start_with w n e (started w.config n (w.incs n + 1)))
 
 abbrev pub StopTied : Type 0
 StopTied = (g : List ℕ) (w : Scene) (n : ℕ) (e : Event) (s : Core) → w.cores n ≡ Some s → Rests g w → Rests g (stopped w n e)
@@ -120,6 +126,23 @@ AckTied = (v : ViewId) (h : List ℕ) (k : ℕ) → GivenTied (body.Ack v h k)
 
 abbrev pub EntryTied : Type 0
 EntryTied = (v : ViewId) (h : List ℕ) (i stable : ℕ) (e : Entry) → GivenTied (body.Entry v h i stable e)
+
+abbrev pub LookupTied : Type 0
+LookupTied = (v : ViewId) (h : List ℕ) → GivenTied (body.Lookup v h)
+
+-- NAME, outside of mode fixed
+abbrev pub NameTied : Type 0
+NameTied =
+    (v : ViewId) (h : List ℕ) (k : ℕ) (g : List ℕ) (w : Scene) (n : ℕ) (f : Answering) (s : Core) (p : Packet) → is_fixed w.config.mode ≡ false → p.body ≡ body.Name v h k → Has p w.sent → Tied g w n s → Tied g w n (body_row f s p (body.Name v h k))
+
+abbrev pub TellTied : Type 0
+TellTied = (v : ViewId) (h : List ℕ) (q : ProviderId) (r : ℕ) (why : Why) → GivenTied (body.Tell v h q r why)
+
+-- REQUEST, given to whom it was sent, as the first row of a step; the relation stands for every group, since an older
+-- join of the provider may have been put in any
+abbrev pub RequestTied : Type 0
+RequestTied =
+    (v : ViewId) (h : List ℕ) (q : ProviderId) (r : ℕ) (phases : Phases) (x : Proposal) (w : Scene) (n : ℕ) (f : Answering) (s : Core) (p : Packet) → p.to ≡ n → p.body ≡ body.Request v h q r phases x → Has p w.sent → s.records ≡ [] → ((k : List ℕ) → Tied k w n s) → (g : List ℕ) → Tied g w n (body_row f s p (body.Request v h q r phases x))
 
 -- an answer that is not the last one
 abbrev pub AnswerTied : Type 0
@@ -165,15 +188,49 @@ InstallTied =
 abbrev pub OwedPartTied : Type 0
 OwedPartTied = (g : List ℕ) (w : Scene) (n : ℕ) (s : Core) → Tied g w n s → Tied g w n (owed_part s)
 
--- VOTE, outside of mode fixed
+-- VOTE
 abbrev pub VoteTied : Type 0
 VoteTied =
-    (v : ViewId) (h : List ℕ) (proto : ProtoId) (phase : ℕ) (q : ProviderId) (ballot : Vote) (value message : Option (List ℕ)) (g : List ℕ) (w : Scene) (n : ℕ) (f : Answering) (s : Core) (p : Packet) → is_fixed w.config.mode ≡ false → Tied g w n s → Tied g w n (body_row f s p (body.Vote v h proto phase q ballot value message))
+    (v : ViewId) (h : List ℕ) (proto : ProtoId) (phase : ℕ) (q : ProviderId) (ballot : Vote) (value message : Option (List ℕ)) (g : List ℕ) (w : Scene) (n : ℕ) (f : Answering) (s : Core) (p : Packet) → Tied g w n s → Tied g w n (body_row f s p (body.Vote v h proto phase q ballot value message))
 
--- GONE, outside of mode fixed
+-- GONE
 abbrev pub GoneTied : Type 0
 GoneTied =
-    (v : ViewId) (h : List ℕ) (q : ProviderId) (g : List ℕ) (w : Scene) (n : ℕ) (f : Answering) (s : Core) (p : Packet) → is_fixed w.config.mode ≡ false → Tied g w n s → Tied g w n (body_row f s p (body.Gone v h q))
+    (v : ViewId) (h : List ℕ) (q : ProviderId) (g : List ℕ) (w : Scene) (n : ℕ) (f : Answering) (s : Core) (p : Packet) → Tied g w n s → Tied g w n (body_row f s p (body.Gone v h q))
+
+-- a call
+abbrev pub CallTied : Type 0
+CallTied = (c : CallLine) (g : List ℕ) (w : Scene) (n : ℕ) (s : Core) → Tied g w n s → Tied g w n (call_row s c)
+
+abbrev pub StepEndTied : Type 0
+StepEndTied = (g : List ℕ) (w : Scene) (n : ℕ) (f : Answering) (s : Core) → Tied g w n s → Tied g w n (step_ended f s)
+
+-- a step up to its end
+abbrev pub acted : Answering → Core → NodeEvent → Core
+acted f s Ticks = led_part f (owed_part (views_part f (rings_part s)))
+acted f s (Asks mask) = order_row f s mask
+acted f s (Given p) = packet_row f s p
+acted f s (Calls c) = call_row s c
+acted f s Garbage = s
+
+-- what NAME asks for: another mode than fixed
+abbrev pub Tame : Scene → Body → Type 0
+Tame w (body.Name v h k) = is_fixed w.config.mode ≡ false
+Tame w _ = Unit {0}
+
+-- a packet that is given was sent
+abbrev pub Arises : Scene → NodeEvent → Type 0
+Arises w (Given p) = Has p w.sent × Tame w p.body
+Arises w _ = Unit {0}
+
+-- a whole step: from the relation of all groups between two events to that of each
+abbrev pub StepTied : Type 0
+StepTied =
+    (w : Scene) (n : ℕ) (f : Answering) (s : Core) (e : NodeEvent) (v : Event) → w.cores n ≡ Some s → ((h : List ℕ) → Rests h w) → Arises w e → (g : List ℕ) → Rests g (ended w n v (stepped f s e))
+
+-- the tick, part (5): what is led
+abbrev pub LedPartTied : Type 0
+LedPartTied = (g : List ℕ) (w : Scene) (n : ℕ) (f : Answering) (s : Core) → Tied g w n s → Tied g w n (led_part f s)
 
 -- what no group sees: the tick, part (1), packets of rings, reports, questions and answers
 abbrev pub RingsPartTied : Type 0

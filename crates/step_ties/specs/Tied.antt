@@ -1,19 +1,22 @@
 -- The tie: a node in the middle of a step, and the world around it, stand for the life of a group.
-use Rattle.std.specs.Prelude.{ℕ, ◌≤◌, ◌<◌, ◌≡◌, ◌≢◌, ◌⊎◌, Bool, true, false, not, List, [], ◌∷◌, ◌++◌, reverse, Option, Some, None, slice_get}
+use Rattle.std.specs.Prelude.{ℕ, ◌≤◌, ◌<◌, ◌≡◌, ◌≢◌, ◌⊎◌, Bool, true, false, not, List, [], ◌∷◌, ◌++◌, length, find, reverse, Option, Some, None, slice_get}
 use Rattle.rsct_packet.specs.declared.ids.ViewId.{ViewId}
 use Rattle.rsct_packet.specs.declared.ids.ProviderId.{ProviderId}
 use Rattle.rsct_packet.specs.declared.ids.Member.{Member}
-use Rattle.rsct_packet.specs.Providers.{among}
+use Rattle.rsct_packet.specs.Providers.{among, differ}
+use Rattle.std.specs.Str.{bytes_eq}
 use Rattle.rsct_packet.specs.Search.{Has}
 use Rattle.rsct_packet.specs.Text.{name_lt}
 use Rattle.group_entry.specs.declared.entry.Entry.{Entry}
 use Rattle.group_entry.specs.declared.proposal.Proposal.{Proposal}
 use Rattle.proposal_core.specs.Lists.{list_or_new}
 use Rattle.name_server.specs.declared.names.Leader.{Leader}
-use Rattle.name_server.specs.Names.{node_of}
+use Rattle.name_server.specs.Names.{node_of, max_names}
+use Rattle.client_callbacks.specs.declared.told.Why.{Why}
 use Rattle.session_state.specs.declared.state.Provider.{Provider}
 use Rattle.session_state.specs.declared.state.Request.{Request}
 use Rattle.session_state.specs.declared.state.SessionState.{SessionState}
+use Rattle.session_state.specs.HandOn.{is_join}
 use Rattle.view_exchange.specs.Longest.{NamesDiffer}
 use Rattle.view_core.specs.declared.packet.ViewPacket.{ViewPacket}
 use Rattle.view_core.specs.declared.packet.ViewPacket.TheVariants as view
@@ -29,16 +32,18 @@ use Rattle.node_state.specs.declared.packet.Body.TheVariants as body
 use Rattle.node_state.specs.declared.packet.Packet.{Packet}
 use Rattle.node_state.specs.declared.state.Core.{Core}
 use Rattle.node_state.specs.Settings.{is_fixed}
-use Rattle.node_state.specs.State.{row_of, acked_from, decision_of}
+use Rattle.node_state.specs.State.{row_found, row_of, acked_from, decision_of}
 use Rattle.node_state.specs.Step.{first_view, first_members}
-use Rattle.run_safety.specs.Past.{History}
-use Rattle.run_safety.specs.ViewOrder.{Lt}
+use Rattle.node_state.specs.declared.happened.Happened.{Happened}
+use Rattle.node_state.specs.declared.happened.Happened.TheVariants as happened
+use Rattle.run_safety.specs.Past.{History, records_of, earlier, view_now}
+use Rattle.run_safety.specs.ViewOrder.{Lt, Le}
 use Rattle.run_safety.specs.Sight.{lines_with, lines_of}
 use Rattle.run_safety.specs.Group.{member, Line, Noted, Asked, Told, In, Put, kept}
 use Rattle.run_safety.specs.Group as group
-use Rattle.run_safety.specs.Requests.{carried, IsJoin}
+use Rattle.run_safety.specs.Requests.{requests_of, carried, IsJoin}
 use Rattle.run_safety.specs.Moves.{Opening, Alone, Together}
-use Rattle.step_ties.specs.Ghost.{Ghost, Lives, Seen, KeepsIf, CarriesIf, part_of, GathersIf, Installs, InstallsIf, IsStable}
+use Rattle.step_ties.specs.Ghost.{Asking, asking, Ghost, Lives, Seen, KeepsIf, CarriesIf, part_of, GathersIf, Installs, InstallsIf, IsStable}
 
 -- ---- what a packet shows
 
@@ -61,18 +66,24 @@ pub record ShowsLeader (x : Ghost) (v : ViewId) (n : ℕ) : Type 0 where
   pub inc : ℕ
   pub leads : x.leads v ≡ Some (member n inc)
 
--- what a packet of a node in an incarnation shows of the group
-abbrev pub ShowsBody : Ghost → List ℕ → ℕ → ℕ → Body → Type 0
-ShowsBody x g from inc (body.View y) = ShowsView x g from inc y
-ShowsBody x g from inc (body.Name v h n) = h ≡ g → n ≢ 0 → ShowsLeader x v n
-ShowsBody x g from inc (body.Request v h p r phases y) = h ≡ g → Has (group.Request v p r y) x.ps
-ShowsBody x g from inc (body.Tell v h p r why) = h ≡ g → Has (group.Refusal v p r) x.ps
-ShowsBody x g from inc (body.Entry v h i k e) = h ≡ g → ShowsEntry x from inc v i k e
-ShowsBody x g from inc (body.Ack v h n) = h ≡ g → Has (group.Ack v from inc n) x.ps
-ShowsBody x g from inc _ = Unit {0}
+-- a request goes to the leader of its view
+pub record ShowsRequest (x : Ghost) (to : ℕ) (v : ViewId) (p : ProviderId) (r : ℕ) (y : Proposal) : Type 0 where
+  pub sent : Has (group.Request v p r y) x.ps
+  pub leader : ShowsLeader x v to
+
+-- what a packet of a node in an incarnation, to another, shows of the group
+abbrev pub ShowsBody : Ghost → List ℕ → ℕ → ℕ → ℕ → Body → Type 0
+ShowsBody x g from inc to (body.View y) = ShowsView x g from inc y
+ShowsBody x g from inc to (body.Lookup v h) = x.asks ≡ true
+ShowsBody x g from inc to (body.Name v h n) = h ≡ g → (n ≢ 0 → ShowsLeader x v n) × (n ≡ 0 → x.asks ≡ true → Has v x.shut)
+ShowsBody x g from inc to (body.Request v h p r phases y) = Has (asking p r h) x.asked × Has (p, r) (requests_of y) × (h ≡ g → ShowsRequest x to v p r y)
+ShowsBody x g from inc to (body.Tell v h p r why) = Has (asking p r h) x.asked × (h ≡ g → Has (group.Refusal v p r) x.ps)
+ShowsBody x g from inc to (body.Entry v h i k e) = h ≡ g → ShowsEntry x from inc v i k e
+ShowsBody x g from inc to (body.Ack v h n) = h ≡ g → Has (group.Ack v from inc n) x.ps
+ShowsBody x g from inc to _ = Unit {0}
 
 abbrev pub Shows : Ghost → List ℕ → Packet → Type 0
-Shows x g p = ShowsBody x g p.from p.inc p.body
+Shows x g p = ShowsBody x g p.from p.inc p.to p.body
 
 -- ---- what a node has
 
@@ -94,12 +105,13 @@ KnowsLeader x v ms (Some n) = (j : ℕ) × Has (member n j) ms × (x.leads v ≡
 abbrev pub IsAcked : Ghost → ViewId → ℕ → ℕ → ℕ → Type 0
 IsAcked x v m i k = (k ≡ 0) ⊎ Has (group.Ack v m i k) x.ps
 
--- its row of the group shows the whole list
+-- its row of the group shows the whole list; what is stable where it leads it knows of each other member
 pub record RowIs (x : Ghost) (n : ℕ) (v : ViewId) (ms : List Member) (row : GroupRow) : Type 0 where
   pub list : KeepsIf x v (x.nodes n).list row.list
   pub stable : IsStable x v (list_or_new row.list).start
   pub leader : KnowsLeader x v ms row.leader
   pub acked : (m i : ℕ) → Has (member m i) ms → IsAcked x v m i (acked_from m row.led.acked)
+  pub covers : (j k : ℕ) → x.leads v ≡ Some (member n j) → Has (group.Stable v k) x.ps → (m i : ℕ) → Has (member m i) ms → m ≢ n → k ≤ acked_from m row.led.acked
 
 -- rows stand in the order of their names
 abbrev pub AllAfter : List ℕ → List GroupRow → Type 0
@@ -118,12 +130,16 @@ pub record Owed (x : Ghost) (n inc : ℕ) (q : Request) : Type 0 where
   pub unput : (u : ViewId) (k : ℕ) (e : Entry) → Has (Put n u k e) (kept x.all) → Has (q.p, q.r) (carried e) → ⊥
   pub untold : (u : ViewId) → Has (Noted (Told q.p q.r u)) x.all → ⊥
 
--- the providers are the node's own, and what is outstanding of the group is owed
+-- the providers and what they have outstanding are the node's own, and what is outstanding of the group is owed; numbers
+-- that were given are not given again
 pub record Owes (x : Ghost) (g : List ℕ) (n inc : ℕ) (s : SessionState) : Type 0 where
   pub me : s.me ≡ n
   pub inc_of : s.inc ≡ inc
   pub providers : (y : Provider) → Has y s.providers → (y.p.node ≡ n) × (y.p.inc ≡ inc)
+  pub own : (q : Request) → Has q s.requests → (q.p.node ≡ n) × (q.p.inc ≡ inc) × Has (asking q.p q.r q.group) x.asked × Has (q.p, q.r) (requests_of q.proposal)
   pub requests : (q : Request) → Has q s.requests → q.group ≡ g → Owed x n inc q
+  pub attended : (q : Request) → Has q s.requests → (y : Provider) × Has y s.providers × (y.p ≡ q.p)
+  pub given : (a : Asking) → Has a x.asked → a.p.node ≡ n → a.p.inc ≡ inc → a.r ≤ s.last_request
 
 -- what a leader began or refused it keeps a decision of, which is no earlier one
 pub record Decided (l : Led) (p : ProviderId) (r : ℕ) : Type 0 where
@@ -140,19 +156,32 @@ pub record Waits (x : Ghost) (v : ViewId) (list : List Entry) (l : Led) (p : Pro
   pub unbegun : (i : ℕ) (e : Entry) → slice_get list i ≡ Some e → Has (p, p.join) (carried e) → ⊥
   pub decided : Decided l p p.join
 
--- what the leader of the group keeps of requests; in a view that it is to lead nothing was refused yet
+-- what the leader of the group keeps of requests, and why it refused some; in a view that it is to lead nothing was
+-- refused yet; joins that wait, which differ, wait at the leader alone, and no later request of theirs was decided
 pub record LeaderKeeps (x : Ghost) (n inc : ℕ) (v : ViewId) (l : Led) : Type 0 where
   pub refused : (p : ProviderId) (r : ℕ) → x.leads v ≡ Some (member n inc) → Has (group.Refusal v p r) x.ps → Decided l p r
   pub begun : (p : ProviderId) (r i : ℕ) (e : Entry) → x.leads v ≡ Some (member n inc) → slice_get (x.nodes n).list i ≡ Some e → Has (p, r) (carried e) → Decided l p r
   pub waiting : (p : ProviderId) → x.leads v ≡ Some (member n inc) → among l.waiting.joins p ≡ true → Waits x v (x.nodes n).list l p
   pub later : (u : ViewId) → Lt v u → x.leads u ≡ Some (member n inc) → (p : ProviderId) (r : ℕ) → Has (group.Refusal u p r) x.ps → ⊥
+  pub again : (p : ProviderId) (d : Decision) (why : Why) → decision_of l p ≡ Some d → d.why ≡ Some why → Has (group.Refusal v p d.r) x.ps
+  pub leads_it : (p : ProviderId) → among l.waiting.joins p ≡ true → x.leads v ≡ Some (member n inc)
+  pub apart : differ l.waiting.joins ≡ true
+  pub lasts : (p : ProviderId) (d : Decision) → among l.waiting.joins p ≡ true → decision_of l p ≡ Some d → d.r ≤ p.join
 
--- the table of a coordinator says who leads, and of each leader; in mode fixed there is none
+-- the table of a coordinator says who leads, and of each leader, and it is full where the group has none for good; in mode
+-- fixed there is none
 pub record Names (x : Ghost) (g : List ℕ) (fixed : Bool) (n inc : ℕ) (v : ViewId) (ms : List Member) (table : List Leader) : Type 0 where
   pub named : (m : ℕ) → v.coord ≡ n → v.inc ≡ inc → fixed ≡ false → node_of g table ≡ Some m → (j : ℕ) × Has (member m j) ms × (x.leads v ≡ Some (member m j))
   pub unnamed : v.coord ≡ n → v.inc ≡ inc → fixed ≡ false → node_of g table ≡ None → x.leads v ≡ None
+  pub full : v.coord ≡ n → v.inc ≡ inc → fixed ≡ false → Has v x.shut → (node_of g table ≡ None) × (max_names ≤ length table)
 
--- a node that is up stands for its part of the life of the group; in mode fixed no node asks for a view
+-- joins that wait, of any group, were asked there
+abbrev pub Waiting : Ghost → List GroupRow → Type 0
+Waiting x rows =
+    (h : List ℕ) (p : ProviderId) → among (row_found h (find (λ (row : GroupRow). bytes_eq row.name h) rows)).led.waiting.joins p ≡ true → Has (asking p p.join h) x.asked
+
+-- a node that is up stands for its part of the life of the group; in mode fixed no node asks for a view, and the
+-- coordinator leads
 pub record NodeOf (x : Ghost) (g : List ℕ) (n : ℕ) (fixed : Bool) (s : Views) (row : GroupRow) (rows : List GroupRow) (t : SessionState) (table : List Leader) : Type 0 where
   pub stands : Stands x n s
   pub row_is : RowIs x n s.view s.members row
@@ -163,9 +192,35 @@ pub record NodeOf (x : Ghost) (g : List ℕ) (n : ℕ) (fixed : Bool) (s : Views
   pub decides : LeaderKeeps x n s.inc s.view row.led
   pub names : Names x g fixed n s.inc s.view s.members table
   pub asks : x.asks ≡ not fixed
+  pub led : fixed ≡ true → ShowsLeader x s.view s.view.coord
+  pub waits : Waiting x rows
 
 abbrev pub NodeIs : Ghost → List ℕ → ℕ → Core → Type 0
 NodeIs x g n s = NodeOf x g n (is_fixed s.config.mode) s.views (row_of s g) s.groups s.sessions s.names
+
+-- ---- what providers ask for, one thing at a time
+
+-- its node put the join of the provider, in some group, in this view or before it
+pub record JoinPut (rs : List Happened) (p : ProviderId) (v : ViewId) : Type 0 where
+  pub at_view : ViewId
+  pub named : List ℕ
+  pub place : ℕ
+  pub entry : Entry
+  pub put : Has (happened.Put p.node at_view named place entry) rs
+  pub joins : Has (p, p.join) (carried entry)
+  pub by_then : Le at_view v
+
+-- of each provider one request is outstanding at most, and its join is, or was put
+pub record InTurn (v : ViewId) (rs : List Happened) (t : SessionState) : Type 0 where
+  pub single : (a b : Request) → Has a t.requests → Has b t.requests → a.p ≡ b.p → a ≡ b
+  pub joined : (y : Provider) → Has y t.providers → ((q : Request) × Has q t.requests × (q.p ≡ y.p) × (q.r ≡ y.p.join) × (is_join q.proposal ≡ true)) ⊎ JoinPut rs y.p v
+  pub numbered : (y : Provider) → Has y t.providers → y.p.join ≤ t.last_request
+  pub owner : (a b : Provider) → Has a t.providers → Has b t.providers → a.p ≡ b.p → a.client ≡ b.client
+
+-- a request that was sent is a join, or its provider's join was put
+abbrev pub SentInTurn : List Happened → List group.Packet → Type 0
+SentInTurn rs ps =
+    (v : ViewId) (p : ProviderId) (r : ℕ) (y : Proposal) → Has (group.Request v p r y) ps → (r ≡ p.join) ⊎ JoinPut rs p v
 
 -- ---- the world
 
@@ -182,9 +237,21 @@ abbrev pub NodeIsIf : Config → Ghost → List ℕ → ℕ → ℕ → Option C
 NodeIsIf c x g n inc None = (x.nodes n).inc ≡ inc
 NodeIsIf c x g n inc (Some s) = NodeIs x g n s × (s.config ≡ c) × (s.views.inc ≡ inc)
 
--- what was refused was refused in a view that was entered
-abbrev pub Refused : Ghost → Type 0
-Refused x = (v : ViewId) (p : ProviderId) (r : ℕ) → Has (group.Refusal v p r) x.ps → Seen x v
+-- a number that is 0, or under which something was asked
+abbrev pub Numbered : Ghost → ProviderId → ℕ → Type 0
+Numbered x p r = (r ≡ 0) ⊎ ((h : List ℕ) × Has (asking p r h) x.asked)
+
+-- what was refused was refused in a view that was entered, which has a leader or none for good; a view without a leader
+-- for good was entered; and what was asked was asked in one group, by a node that had started, and before it
+-- was told
+pub record Sound (g : List ℕ) (x : Ghost) : Type 0 where
+  pub refused : (v : ViewId) (p : ProviderId) (r : ℕ) → Has (group.Refusal v p r) x.ps → Seen x v
+  pub unled : (v : ViewId) (p : ProviderId) (r : ℕ) → Has (group.Refusal v p r) x.ps → x.leads v ≡ None → Has v x.shut
+  pub shut : (v : ViewId) → Has v x.shut → Seen x v × (x.leads v ≡ None)
+  pub asked : (p : ProviderId) (r : ℕ) (y : Proposal) → Has (Noted (Asked p r y)) x.all → Has (asking p r g) x.asked
+  pub one : (p : ProviderId) (r : ℕ) (h k : List ℕ) → Has (asking p r h) x.asked → Has (asking p r k) x.asked → h ≡ k
+  pub started : (a : Asking) → Has a x.asked → a.p.inc ≤ (x.nodes a.p.node).inc
+  pub told : (p : ProviderId) (r : ℕ) (u : ViewId) → Has (Noted (Told p r u)) x.all → Numbered x p r
 
 -- how nodes start
 abbrev pub opening_in : Config → Mode → Opening
@@ -195,21 +262,36 @@ opening_in c Rings = Alone
 abbrev pub opening_of : Config → Opening
 opening_of c = opening_in c c.mode
 
--- between two events
+-- in the middle of a step in which the node has recorded so much
+pub record Turns (w : Scene) (n : ℕ) (v : ViewId) (rs : List Happened) (t : SessionState) (ps : List group.Packet) : Type 0 where
+  pub own : InTurn v (rs ++ records_of w.before) t
+  pub others : (m : ℕ) (c : Core) → m ≢ n → w.cores m ≡ Some c → InTurn c.views.view (records_of w.before) c.sessions
+  pub sent : SentInTurn (rs ++ records_of w.before) ps
+
+-- between two events; no node is 0
 pub record Rests (g : List ℕ) (w : Scene) : Type 0 where
   pub ghost : Ghost
   pub life : Lives (opening_of w.config) ghost
   pub lines : ghost.all ≡ lines_of g w.before
   pub nodes : (m : ℕ) → NodeIsIf w.config ghost g m (w.incs m) (w.cores m)
   pub packets : (p : Packet) → Has p w.sent → Shows ghost g p
-  pub refused : Refused ghost
+  pub sound : Sound g ghost
   pub asks : ghost.asks ≡ not (is_fixed w.config.mode)
+  pub placed : (m : ℕ) (c : Core) → w.cores m ≡ Some c → view_now m (records_of w.before) ≡ Some c.views.view
+  pub nobody : w.incs 0 ≡ 0
+  pub turns : (m : ℕ) (c : Core) → w.cores m ≡ Some c → InTurn c.views.view (records_of w.before) c.sessions
+  pub sent : SentInTurn (records_of w.before) ghost.ps
 
 -- the lines with those of a step that has come so far
 abbrev pub lines_now : List ℕ → Scene → Core → List Line
 lines_now g w s = lines_with g (reverse s.records) w.before (lines_of g w.before)
 
--- in the middle of a step of node n, which has come to s
+-- the records say of each node that is up which view it is in
+abbrev pub Placed : Scene → ℕ → Core → Type 0
+Placed w n s =
+    (view_now n (earlier (reverse s.records) w.before) ≡ Some s.views.view) × ((m : ℕ) (c : Core) → m ≢ n → w.cores m ≡ Some c → view_now m (earlier (reverse s.records) w.before) ≡ Some c.views.view)
+
+-- in the middle of a step of node n, which has come to s; no node is 0
 pub record Tied (g : List ℕ) (w : Scene) (n : ℕ) (s : Core) : Type 0 where
   pub ghost : Ghost
   pub life : Lives (opening_of w.config) ghost
@@ -217,4 +299,7 @@ pub record Tied (g : List ℕ) (w : Scene) (n : ℕ) (s : Core) : Type 0 where
   pub own : NodeIsIf w.config ghost g n (w.incs n) (Some s)
   pub others : (m : ℕ) → m ≢ n → NodeIsIf w.config ghost g m (w.incs m) (w.cores m)
   pub packets : (p : Packet) → Has p (s.sends ++ w.sent) → Shows ghost g p
-  pub refused : Refused ghost
+  pub sound : Sound g ghost
+  pub placed : Placed w n s
+  pub nobody : w.incs 0 ≡ 0
+  pub turns : Turns w n s.views.view s.records s.sessions ghost.ps

@@ -1,7 +1,8 @@
 //! The step of a node, tied to the lives of groups.
 #![tactic(auto)]
 
-ghost use Rattle.step_ties.specs.Rows.{NothingTied, StartTied, StopTied, BeginTied, EndTied, TakenTied, RefuseTied, PrepareTied, AckTied, EntryTied, AnswerTied, AskTied, ViewsPartTied, InstallTied, FixedStartTied, OwedPartTied, VoteTied, GoneTied, RingsPartTied, RingTied, ReportTied, QueryTied, ReplyTied, FoundingAnswerTied, FoundingAskTied, FoundingTickTied};
+ghost use Rattle.step_ties.specs.Rows.{NothingTied, StartTied, StopTied, BeginTied, EndTied, TakenTied, RefuseTied, PrepareTied, AckTied, EntryTied, LookupTied, NameTied, TellTied, RequestTied, AnswerTied, AskTied, ViewsPartTied, InstallTied, FixedStartTied, OwedPartTied, VoteTied, GoneTied, CallTied, LedPartTied, StepEndTied, StepTied, RingsPartTied, RingTied, ReportTied, QueryTied, ReplyTied, FoundingAnswerTied, FoundingAskTied, FoundingTickTied};
+ghost use Rattle.step_ties.specs.Runs.{RunsAreSafe};
 
 /// Before anything happened, nothing stands for the dawn of each group's life.
 #[tactic(auto, using(crate::proofs::Begins::nothing_tied))]
@@ -63,6 +64,30 @@ pub fn entry_is_tied()
     ensures { EntryTied }
 {}
 
+/// LOOKUP.
+#[tactic(auto, using(crate::proofs::Named::lookup_is_tied))]
+pub fn lookup_is_tied()
+    ensures { LookupTied }
+{}
+
+/// NAME, outside of mode fixed.
+#[tactic(auto, using(crate::proofs::Named::name_is_tied))]
+pub fn name_is_tied()
+    ensures { NameTied }
+{}
+
+/// TELL.
+#[tactic(auto, using(crate::proofs::Tellings::tell_is_tied))]
+pub fn tell_is_tied()
+    ensures { TellTied }
+{}
+
+/// REQUEST. The relation is of all groups at once.
+#[tactic(auto, using(crate::proofs::Steps::request_given))]
+pub fn request_is_tied()
+    ensures { RequestTied }
+{}
+
 /// ANSWER, up to the last one.
 #[tactic(auto, using(crate::proofs::Gatherings::answer_is_tied))]
 pub fn answer_is_tied()
@@ -82,7 +107,7 @@ pub fn views_part_is_tied()
 {}
 
 /// INSTALL.
-#[tactic(auto, using(crate::proofs::Entering::install_row_tied))]
+#[tactic(auto, using(crate::proofs::Installs::install_row_tied))]
 pub fn install_is_tied()
     ensures { InstallTied }
 {}
@@ -99,16 +124,34 @@ pub fn owed_part_is_tied()
     ensures { OwedPartTied }
 {}
 
-/// VOTE, outside of mode fixed.
+/// VOTE.
 #[tactic(auto, using(crate::proofs::Votes::vote_is_tied))]
 pub fn vote_is_tied()
     ensures { VoteTied }
 {}
 
-/// GONE, outside of mode fixed.
+/// GONE.
 #[tactic(auto, using(crate::proofs::Votes::gone_is_tied))]
 pub fn gone_is_tied()
     ensures { GoneTied }
+{}
+
+/// A call of a client.
+#[tactic(auto, using(crate::proofs::Calls::call_is_tied))]
+pub fn call_is_tied()
+    ensures { CallTied }
+{}
+
+/// The tick, part (5): what is led.
+#[tactic(auto, using(crate::proofs::LedTicks::led_part_tied))]
+pub fn led_part_is_tied()
+    ensures { LedPartTied }
+{}
+
+/// The end of a step.
+#[tactic(auto, using(crate::proofs::Ends::step_end_tied))]
+pub fn step_end_is_tied()
+    ensures { StepEndTied }
 {}
 
 /// The tick, part (1): rings, and reports of reach.
@@ -141,6 +184,12 @@ pub fn reply_is_tied()
     ensures { ReplyTied }
 {}
 
+/// A whole step.
+#[tactic(auto, using(crate::proofs::Steps::step_tied))]
+pub fn step_is_tied()
+    ensures { StepTied }
+{}
+
 /// ANSWER, also the last one: the coordinator founds the view. The relation is of all groups at once.
 #[tactic(auto, using(crate::proofs::FoundingRows::founding_answer_tied))]
 pub fn founding_answer_is_tied()
@@ -157,4 +206,9 @@ pub fn founding_ask_is_tied()
 #[tactic(auto, using(crate::proofs::FoundingRows::founding_tick_tied))]
 pub fn founding_tick_is_tied()
     ensures { FoundingTickTied }
+{}
+
+/// Whatever starts, stops and steps, in any order: what each group sees is safe, and each view and group has one list.
+pub fn runs_are_safe()
+    ensures { RunsAreSafe }
 {}
