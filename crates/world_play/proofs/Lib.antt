@@ -1,0 +1,10 @@
+pub mod VoteLaws
+pub mod NodeLaws
+pub mod PacketLaws
+pub mod StepLaws
+pub mod StartLaws
+pub mod WorldLaws
+pub mod ComingLaws
+pub mod GivingLaws
+pub mod CallLaws
+pub mod BeginLaws

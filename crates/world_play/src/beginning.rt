@@ -1,0 +1,64 @@
+//! How a world begins.
+ghost use Rattle.std.specs.Prelude.{◌≡◌, IfOk, OnOk};
+ghost use Rattle.std.specs.List.{fold};
+ghost use Rattle.world_model.specs.World.{empty_world, node_starts, world_new};
+ghost use Rattle.world_model.specs.World as world;
+ghost use Rattle.world_play.specs.Standing.{Stands, Goes, kept_empty};
+
+use crate::nodes::Nodes;
+use crate::starts::Starts;
+use crate::world::World;
+use node_state::{Config, Mode, Records};
+use rsct_packet::NoMemory;
+use std::alloc::Global;
+use world_packets::WorldPackets;
+
+impl World {
+    /// No node has started.
+    fn empty(alloc: Global, config: Config, limit: u64) -> World
+        ensures { result ≡ kept_empty config limit }
+    {
+        World {
+            config,
+            nodes: Nodes::new(alloc),
+            starts: Starts::new(alloc),
+            packets: WorldPackets::new(alloc),
+            kept: 0,
+            limit,
+        }
+    }
+
+    /// Nodes start, in this order.
+    #[tactic(auto, using(crate::proofs::BeginLaws::starts_first, crate::proofs::BeginLaws::starts_next, crate::proofs::BeginLaws::starts_done))]
+    fn start_all(&mut self, alloc: Global, ns: &[u8], out: &mut Records) -> Result<(), NoMemory>
+        ensures { OnOk result ((w : world.World) → Stands self.old w → Goes self.old self.new out.old out.new w (fold node_starts w ns.now)) }
+    {
+        let mut left = ns;
+        while let Some((n, rest)) = left.split_first() {
+            self.start(alloc, *n, out)?;
+            left = rest;
+        }
+        Ok(())
+    }
+
+    /// A world of this domain, whose packets may have as many bytes as the limit says. In mode fixed every node
+    /// starts: what that records comes behind what is in `out`.
+    pub fn new(
+        alloc: Global,
+        config: Config,
+        limit: u64,
+        out: &mut Records,
+    ) -> Result<World, NoMemory>
+        ensures { IfOk result (λ c. Goes (kept_empty config limit) c out.old out.new (empty_world config) (world_new config)) }
+    {
+        let mut world = World::empty(alloc, config, limit);
+        match config.mode {
+            Mode::Fixed => {
+                let nodes = config.nodes.nodes(alloc)?;
+                world.start_all(alloc, nodes.as_slice(), out)?;
+                Ok(world)
+            }
+            Mode::Asked | Mode::Rings => Ok(world),
+        }
+    }
+}

@@ -1,0 +1,65 @@
+//! Nodes that start, stop and are shown.
+ghost use Rattle.std.specs.Prelude.{◌≡◌, OnOk};
+ghost use Rattle.world_model.specs.World.{node_at, node_starts, started_at, stops_if, shows_if};
+ghost use Rattle.world_model.specs.World as world;
+ghost use Rattle.world_play.specs.Standing.{Stands, Goes};
+
+use crate::world::World;
+use node_state::{Happened, Records, What};
+use node_step::Node;
+use rsct_packet::NoMemory;
+use status_lines::record_status;
+use std::alloc::Global;
+
+impl World {
+    /// A node that is not up starts in an incarnation.
+    fn begin(&mut self, alloc: Global, n: u8, inc: u32, out: &mut Records) -> Result<(), NoMemory>
+        ensures { OnOk result ((w : world.World) → Stands self.old w → Goes self.old self.new out.old out.new w (started_at w n inc)) }
+    {
+        let mut node = Node::start(alloc, self.config, n, inc)?;
+        let mut records = node.take_records(alloc);
+        self.nodes.insert(n, node)?;
+        self.starts.note(n, inc)?;
+        out.append(&mut records)
+    }
+
+    /// A node starts, in its next incarnation, unless it is up or has had the last one.
+    pub(crate) fn start(&mut self, alloc: Global, n: u8, out: &mut Records) -> Result<(), NoMemory>
+        ensures { OnOk result ((w : world.World) → Stands self.old w → Goes self.old self.new out.old out.new w (node_starts w n)) }
+    {
+        if self.nodes.is_up(n) {
+            return Ok(());
+        }
+        let last = self.starts.last(n);
+        if last == u32::MAX {
+            return Ok(());
+        }
+        self.begin(alloc, n, last + 1, out)
+    }
+
+    /// A node stops, if it is up.
+    pub(crate) fn stop(&mut self, n: u8, out: &mut Records) -> Result<(), NoMemory>
+        ensures { OnOk result ((w : world.World) → Stands self.old w → Goes self.old self.new out.old out.new w (stops_if w n (node_at w n))) }
+    {
+        if !self.nodes.remove(n) {
+            return Ok(());
+        }
+        out.push(Happened::Down { node: n })
+    }
+
+    /// A status of a node is shown, if it is up.
+    pub(crate) fn show(
+        &self,
+        alloc: Global,
+        n: u8,
+        what: What,
+        out: &mut Records,
+    ) -> Result<(), NoMemory>
+        ensures { OnOk result ((w : world.World) → Stands self.now w → Goes self.now self.now out.old out.new w (shows_if w n what (node_at w n))) }
+    {
+        match self.nodes.get(n) {
+            None => Ok(()),
+            Some(node) => record_status(node.core(), alloc, what, out),
+        }
+    }
+}

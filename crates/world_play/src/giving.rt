@@ -1,0 +1,51 @@
+//! Packets that are given to nodes.
+ghost use Rattle.std.specs.Prelude.{◌≡◌, ℕ, OnOk, IsErrOf, IsTrue, is_some, find, ◌&&◌};
+ghost use Rattle.world_model.specs.World.{kth_in, delivers};
+ghost use Rattle.world_model.specs.World as world;
+ghost use Rattle.world_packets.specs.Packets.{world_pairs, find_pair};
+ghost use Rattle.world_play.specs.Standing.{is_me, Stands, Goes, Passes};
+
+use crate::fault::WorldFault;
+use crate::world::World;
+use node_state::Records;
+use node_step::NodeEvent;
+use std::alloc::Global;
+
+impl World {
+    /// Is there a k-th packet from one node to another, which is up?
+    fn can_give(&self, a: u8, b: u8, k: u32) -> bool
+        ensures { result ≡ (is_some (find (is_me b) self.now.nodes) && is_some (kth_in k (find_pair a b (world_pairs self.now.packets.pairs)))) }
+    {
+        self.nodes.is_up(b) && self.packets.kth(a, b, k).is_some()
+    }
+
+    /// A node is given the k-th packet that was ever sent to it from another one, if it is up and there is one: it
+    /// waits no more.
+    pub(crate) fn give(
+        &mut self,
+        alloc: Global,
+        a: u8,
+        b: u8,
+        k: u32,
+        out: &mut Records,
+    ) -> Result<(), WorldFault>
+        ensures goes { OnOk result ((w : world.World) → Stands self.old w → Goes self.old self.new out.old out.new w (delivers w a b k)) }
+        ensures passes { (n : ℕ) → IsErrOf result (WorldFault.TooMuchKept n) → (w : world.World) → Stands self.old w → Passes n self.old w (delivers w a b k) }
+        ensures kept { (n : ℕ) → IsErrOf result (WorldFault.TooMuchKept n) → out.new ≡ out.old }
+    {
+        if !self.can_give(a, b, k) {
+            return Ok(());
+        }
+        self.packets.take(a, b, k);
+        let Some(packet) = self.packets.kth(a, b, k) else {
+            return Ok(());
+        };
+        let done = self
+            .nodes
+            .step(alloc, b, NodeEvent::Datagram(packet.bytes()))?;
+        match done {
+            None => Ok(()),
+            Some(left) => self.settle(alloc, left, out),
+        }
+    }
+}

@@ -1,0 +1,44 @@
+//! What happens, in one call.
+ghost use Rattle.std.specs.Prelude.{◌≡◌, ℕ, OnOk, IsErrOf};
+ghost use Rattle.node_state.specs.Step.{Garbage};
+ghost use Rattle.world_model.specs.World.{node_steps, happens};
+ghost use Rattle.world_model.specs.World as world;
+ghost use Rattle.world_play.specs.Standing.{Stands, Goes, Passes};
+
+use crate::fault::WorldFault;
+use crate::world::World;
+use node_state::Records;
+use node_step::NodeEvent;
+use std::alloc::Global;
+use world_model::Event;
+
+impl World {
+    /// A node is given bytes that are no packet.
+    fn give_garbage(&mut self, alloc: Global, n: u8, out: &mut Records) -> Result<(), WorldFault>
+        ensures goes { OnOk result ((w : world.World) → Stands self.old w → Goes self.old self.new out.old out.new w (node_steps w n Garbage)) }
+        ensures passes { (k : ℕ) → IsErrOf result (WorldFault.TooMuchKept k) → (w : world.World) → Stands self.old w → Passes k self.old w (node_steps w n Garbage) }
+        ensures kept { (k : ℕ) → IsErrOf result (WorldFault.TooMuchKept k) → out.new ≡ out.old }
+    {
+        self.step(alloc, n, NodeEvent::Datagram(b""), out)
+    }
+
+    /// A plain event happens: what it records comes behind what is in `out`. Where its packets pass the limit, `out` is
+    /// as it was. After an error nothing is said of the world.
+    #[tactic(auto, unfolding(world_model::specs::World::happens))]
+    pub fn event(&mut self, alloc: Global, e: &Event, out: &mut Records) -> Result<(), WorldFault>
+        ensures goes { OnOk result ((w : world.World) → Stands self.old w → Goes self.old self.new out.old out.new w (happens w e.now)) }
+        ensures passes { (k : ℕ) → IsErrOf result (WorldFault.TooMuchKept k) → (w : world.World) → Stands self.old w → Passes k self.old w (happens w e.now) }
+        ensures kept { (k : ℕ) → IsErrOf result (WorldFault.TooMuchKept k) → out.new ≡ out.old }
+    {
+        match e {
+            Event::Start(n) => Ok(self.start(alloc, *n, out)?),
+            Event::Stop(n) => Ok(self.stop(*n, out)?),
+            Event::Tick(n) => self.step(alloc, *n, NodeEvent::Tick, out),
+            Event::Ask(n, mask) => self.step(alloc, *n, NodeEvent::Ask(*mask), out),
+            Event::Call(n, c) => self.call(alloc, *n, c, out),
+            Event::Show(n, what) => Ok(self.show(alloc, *n, *what, out)?),
+            Event::Deliver(a, b, k) => self.give(alloc, *a, *b, *k, out),
+            Event::Garbage(n, _) => self.give_garbage(alloc, *n, out),
+        }
+    }
+}

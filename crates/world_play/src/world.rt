@@ -1,0 +1,72 @@
+//! What happens in a world.
+ghost use Rattle.std.specs.Prelude.{◌≡◌, ℕ, OnOk, IsErrOf, IsTrue, Some};
+ghost use Rattle.node_step.specs.Event.{event_in, is_taken};
+ghost use Rattle.world_model.specs.World.{node_steps};
+ghost use Rattle.world_model.specs.World as world;
+ghost use Rattle.world_play.specs.Standing.{Stands, Goes, Passes, Settled, bytes_after};
+
+use crate::fault::WorldFault;
+use crate::nodes::Nodes;
+use crate::posting::post_all;
+use crate::starts::Starts;
+use crate::stepping::Left;
+use node_state::{Config, Records};
+use node_step::NodeEvent;
+use std::alloc::Global;
+use world_packets::WorldPackets;
+
+/// A world: the nodes that are up, all packets that they ever sent, and how many bytes those have, which may be as
+/// many as the limit says.
+#[derive(Drop)]
+pub struct World {
+    pub config: Config,
+    pub nodes: Nodes,
+    pub starts: Starts,
+    pub packets: WorldPackets,
+    pub kept: u64,
+    pub limit: u64,
+}
+
+impl World {
+    /// Sends and records what a step left.
+    pub(crate) fn settle(
+        &mut self,
+        alloc: Global,
+        left: Left,
+        out: &mut Records,
+    ) -> Result<(), WorldFault>
+        ensures settled { OnOk result (Settled self.old self.new left out.old out.new) }
+        ensures passes { (n : ℕ) → IsErrOf result (WorldFault.TooMuchKept n) → ((bytes_after self.old.limit self.old.kept left.sends).passed ≡ Some n) × (out.new ≡ out.old) }
+    {
+        let mut left = left;
+        post_all(
+            &mut self.packets,
+            &mut self.kept,
+            self.limit,
+            alloc,
+            left.sends.as_slice(),
+        )?;
+        out.append(&mut left.records)?;
+        Ok(())
+    }
+
+    /// An event happens to a node, if it is up.
+    pub(crate) fn step(
+        &mut self,
+        alloc: Global,
+        n: u8,
+        e: NodeEvent<'_>,
+        out: &mut Records,
+    ) -> Result<(), WorldFault>
+        requires taken { IsTrue (is_taken e) }
+        ensures goes { OnOk result ((w : world.World) → Stands self.old w → Goes self.old self.new out.old out.new w (node_steps w n (event_in e.entry))) }
+        ensures passes { (k : ℕ) → IsErrOf result (WorldFault.TooMuchKept k) → (w : world.World) → Stands self.old w → Passes k self.old w (node_steps w n (event_in e.entry)) }
+        ensures kept { (k : ℕ) → IsErrOf result (WorldFault.TooMuchKept k) → out.new ≡ out.old }
+    {
+        let done = self.nodes.step(alloc, n, e)?;
+        match done {
+            None => Ok(()),
+            Some(left) => self.settle(alloc, left, out),
+        }
+    }
+}
