@@ -39,7 +39,7 @@ use Rattle.step_ties.specs.Ghost.{Ghost, Lives, Goes, Keeps, IsStable}
 use Rattle.step_ties.specs.Tied.{ShowsBody, RowIs, IsAcked, Decided, LeaderKeeps, NodeIs, Scene, Sound, opening_in, opening_of, Tied}
 use Rattle.step_ties.proofs.Goes.{Spares, Still, sound_on, owes_by, decides_by, node_by, shows_on}
 use Rattle.step_ties.proofs.Works.{tied_on}
-use Rattle.step_ties.proofs.NameOrder.{cases_text}
+use Rattle.node_groups.proofs.NameOrder.{cases_text}
 use Rattle.step_ties.proofs.Leads.{leads_led, leads_known}
 use Rattle.step_ties.proofs.Gone.{with_packet, packet_goes, packet_still, goes_then}
 use Rattle.step_ties.proofs.ViewRows.{same_of}

@@ -52,7 +52,7 @@ use Rattle.step_ties.specs.Ghost.{Ghost, Lives}
 use Rattle.step_ties.specs.Tied.{Decided, Shows, IsAcked, RowIs, LeaderKeeps, Scene, opening_of, Tied}
 use Rattle.step_ties.specs.Rows.{at_node}
 use Rattle.step_ties.proofs.Changed.{set_here, changes}
-use Rattle.step_ties.proofs.NameOrder.{KeepsName, cases_text}
+use Rattle.node_groups.proofs.NameOrder.{KeepsName, cases_text}
 use Rattle.step_ties.proofs.RowWorks.{waits_of, tied_row}
 use Rattle.step_ties.proofs.Leads.{LeadsAs, leads_same, leads_row, leads_known}
 use Rattle.step_ties.proofs.Acks.{led_keeps, settled, fold_least, tied_least}

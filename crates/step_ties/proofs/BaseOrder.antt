@@ -21,10 +21,10 @@ use Rattle.run_safety.specs.Past.{History}
 use Rattle.run_safety.specs.Sight.{lines_with}
 use Rattle.run_safety.specs.Group.{Line, Noted, Based}
 use Rattle.run_safety.specs.Moves.{based}
+use Rattle.node_groups.specs.Places.{AllAfter, InNameOrder, has_name}
 use Rattle.step_ties.specs.Ghost.{origin_of}
-use Rattle.step_ties.specs.Tied.{AllAfter, InNameOrder}
 use Rattle.step_ties.proofs.Works.{lines_pushed}
-use Rattle.step_ties.proofs.NameOrder.{text_same, text_self, name_lt_total, is_of, none_after, after_less}
+use Rattle.node_groups.proofs.NameOrder.{text_same, text_self, name_lt_total, none_after, after_less}
 
 abbrev rows_of : List (List ℕ) → List GroupRow
 rows_of ns = map new_row ns
@@ -95,12 +95,12 @@ unfolding bases_of names_in
 bases_ordered i = order_bases i (names_in i.sources) (order_names i.sources [] tt)
 
 -- the row of a group is that of its base
-pub row_of_base : (g : List ℕ) (bs : List Base) → find (is_of g) (map base_row bs) ≡ option_map base_row (base_named bs g)
+pub row_of_base : (g : List ℕ) (bs : List Base) → find (has_name g) (map base_row bs) ≡ option_map base_row (base_named bs g)
 unfolding base_named base_row
 row_of_base g [] = refl
 row_of_base g (b ∷ bs) = by (bytes_eq b.name g) (row_of_base g bs)
   where
-    by : (t : Bool) → find (is_of g) (map base_row bs) ≡ option_map base_row (base_named bs g) → (if t then Some (base_row b) else find (is_of g) (map base_row bs)) ≡ option_map base_row (if t then Some b else base_named bs g)
+    by : (t : Bool) → find (has_name g) (map base_row bs) ≡ option_map base_row (base_named bs g) → (if t then Some (base_row b) else find (has_name g) (map base_row bs)) ≡ option_map base_row (if t then Some b else base_named bs g)
     by true k = refl
     by false k = k
 

@@ -42,7 +42,7 @@ use Rattle.run_safety.specs.Moves as moves
 use Rattle.step_ties.specs.Ghost.{asking, Ghost}
 use Rattle.step_ties.specs.Tied.{RowIs, Decided, LeaderKeeps, Scene, Tied}
 use Rattle.step_ties.proofs.Leads.{leads_known, leads_row}
-use Rattle.step_ties.proofs.NameOrder.{row_here}
+use Rattle.node_groups.proofs.NameOrder.{row_here}
 use Rattle.step_ties.proofs.RowWorks.{waits_of, row_kept}
 use Rattle.step_ties.proofs.ViewRows.{same_of}
 use Rattle.step_ties.proofs.Refusals.{refusing}

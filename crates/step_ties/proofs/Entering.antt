@@ -53,6 +53,7 @@ use Rattle.run_safety.proofs.SightLaws.{kept_append}
 use Rattle.run_safety.proofs.Tracks.{puts_many_own, put_many, has_many}
 use Rattle.run_safety.proofs.Whole.{Whole}
 use Rattle.run_safety.proofs.Lives.{whole, always_same_members}
+use Rattle.node_groups.specs.Places.{has_name}
 use Rattle.step_ties.specs.Ghost.{Ghost, FitIn, Lives, Seen, Goes, Keeps, CarriesIf, part_of, origin_of, BaseIsOf, Installs, InstallsIf}
 use Rattle.step_ties.specs.Tied.{Shows, RowIs, Owed, Owes, LeaderKeeps, Names, NodeOf, NodeIsIf, ShowsLeader, Scene, Sound, Placed, opening_of, lines_now, InTurn, Turns}
 use Rattle.step_ties.specs.Rows.{at_node}
@@ -60,7 +61,6 @@ use Rattle.step_ties.proofs.Goes.{Spares, Still, Settled, still_spares, sound_on
 use Rattle.step_ties.proofs.Changed.{set_here, set_there, incs_set}
 use Rattle.step_ties.proofs.Begins.{number_other}
 use Rattle.step_ties.proofs.Works.{lines_pushed, now_pushed}
-use Rattle.step_ties.proofs.NameOrder.{is_of}
 use Rattle.step_ties.proofs.ViewRows.{same_of}
 use Rattle.step_ties.proofs.RowWorks.{keeps_of}
 use Rattle.step_ties.proofs.SessionLaws.{Later, later_same, owes_later, hearer_has}
@@ -465,15 +465,15 @@ module _ (g : List ℕ) (w : Scene) (n : ℕ) (f : Answering) (s : Core) (t : Le
         names = record { named = (move.names fixed).named; unnamed = (move.names fixed).unnamed; full = (move.names fixed).full };
         asks = asks;
         led = led;
-        waits = λ k p e. absurd (base_waits k p (find (is_of k) (map base_row bs)) refl e);
+        waits = λ k p e. absurd (base_waits k p (find (has_name k) (map base_row bs)) refl e);
       }
     where
-      unwaited : (k : List ℕ) (bs : List Base) (row : GroupRow) → find (is_of k) (map base_row bs) ≡ Some row → row.led ≡ nothing_led
+      unwaited : (k : List ℕ) (bs : List Base) (row : GroupRow) → find (has_name k) (map base_row bs) ≡ Some row → row.led ≡ nothing_led
       unwaited k bs row e =
-          let h = find_has (is_of k) (map base_row bs) row e in
+          let h = find_has (has_name k) (map base_row bs) row e in
           let b = has_map base_row row bs h.0 in ap (λ (z : GroupRow). z.led) b.2
 
-      base_waits : (k : List ℕ) (p : ProviderId) (o : Option GroupRow) → find (is_of k) (map base_row bs) ≡ o → providers.among (row_found k o).led.waiting.joins p ≡ true → ⊥
+      base_waits : (k : List ℕ) (p : ProviderId) (o : Option GroupRow) → find (has_name k) (map base_row bs) ≡ o → providers.among (row_found k o).led.waiting.joins p ≡ true → ⊥
       base_waits k p None e h = cc
       base_waits k p (Some row) e h = nothing_waits_there row.led (unwaited k bs row e) h
         where
@@ -487,8 +487,8 @@ module _ (g : List ℕ) (w : Scene) (n : ℕ) (f : Answering) (s : Core) (t : Le
   own : NodeIsIf w.config y g n (w.incs n) (Some (view_entered c i bs))
   unfolding view_entered recorded_all row_of views_entered
   own =
-      let a : NodeOf y g n (is_fixed c.config.mode) (views_entered s.views i) (row_found g (find (is_of g) (map base_row bs))) (map base_row bs) (level_set c i.members) (map base_leader bs) = subst (λ z. NodeOf y g n (is_fixed c.config.mode) (views_entered s.views i) (row_found g z) (map base_row bs) (level_set c i.members) (map base_leader bs)) (sym (row_of_base g bs)) (node_new (is_fixed c.config.mode) (t.own.0.asks ∙ ap (λ (z : Config). not (is_fixed z.mode)) (sym fills.config)) (λ q. absurd (let f : is_fixed w.config.mode ≡ true = ap (λ (z : Config). is_fixed z.mode) (sym t.own.1 ∙ sym fills.config) ∙ q in let k = free in cc))) in
-      let b : NodeOf y g n (is_fixed c.config.mode) (views_entered c.views i) (row_found g (find (is_of g) (map base_row bs))) (map base_row bs) (level_set c i.members) (map base_leader bs) = subst (λ z. NodeOf y g n (is_fixed c.config.mode) (views_entered z i) (row_found g (find (is_of g) (map base_row bs))) (map base_row bs) (level_set c i.members) (map base_leader bs)) (sym fills.views) a in
+      let a : NodeOf y g n (is_fixed c.config.mode) (views_entered s.views i) (row_found g (find (has_name g) (map base_row bs))) (map base_row bs) (level_set c i.members) (map base_leader bs) = subst (λ z. NodeOf y g n (is_fixed c.config.mode) (views_entered s.views i) (row_found g z) (map base_row bs) (level_set c i.members) (map base_leader bs)) (sym (row_of_base g bs)) (node_new (is_fixed c.config.mode) (t.own.0.asks ∙ ap (λ (z : Config). not (is_fixed z.mode)) (sym fills.config)) (λ q. absurd (let f : is_fixed w.config.mode ≡ true = ap (λ (z : Config). is_fixed z.mode) (sym t.own.1 ∙ sym fills.config) ∙ q in let k = free in cc))) in
+      let b : NodeOf y g n (is_fixed c.config.mode) (views_entered c.views i) (row_found g (find (has_name g) (map base_row bs))) (map base_row bs) (level_set c i.members) (map base_leader bs) = subst (λ z. NodeOf y g n (is_fixed c.config.mode) (views_entered z i) (row_found g (find (has_name g) (map base_row bs))) (map base_row bs) (level_set c i.members) (map base_leader bs)) (sym fills.views) a in
       (b, fills.config ∙ t.own.1, ap (λ (z : Views). z.inc) fills.views ∙ t.own.2)
 
   -- nothing was asked in the view

@@ -26,7 +26,7 @@ use Rattle.run_safety.specs.Group.{member}
 use Rattle.run_safety.specs.Group as group
 use Rattle.step_ties.specs.Ghost.{IsStable}
 use Rattle.step_ties.specs.Tied.{ShowsBody, ShowsEntry, KnowsLeader, Scene, Tied}
-use Rattle.step_ties.proofs.NameOrder.{cases_text}
+use Rattle.node_groups.proofs.NameOrder.{cases_text}
 use Rattle.step_ties.proofs.RowWorks.{tied_forgets, tied_led_by, tied_acks}
 use Rattle.step_ties.proofs.Acks.{used_is}
 use Rattle.step_ties.proofs.SessionLaws.{handed_later, handed_gone, hearer_has}

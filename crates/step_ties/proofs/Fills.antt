@@ -41,10 +41,11 @@ use Rattle.run_safety.specs.Group.{Put, Note, Heard, Line, Kept, Noted, lines_fr
 use Rattle.run_safety.specs.Bases.{state_of_list}
 use Rattle.run_safety.specs.Requests.{carried}
 use Rattle.run_safety.proofs.Order.{lt_refl}
+use Rattle.node_groups.specs.Places.{InNameOrder}
 use Rattle.step_ties.specs.Ghost.{Ghost, FitIn, Keeps, Carries, CarriesIf, part_of}
-use Rattle.step_ties.specs.Tied.{InNameOrder, Scene, lines_now, InTurn}
+use Rattle.step_ties.specs.Tied.{Scene, lines_now, InTurn}
 use Rattle.step_ties.proofs.Works.{Passes, lines_pushed, now_pushed}
-use Rattle.step_ties.proofs.NameOrder.{text_self, text_same, text_other, row_here, row_there, rows_ordered}
+use Rattle.node_groups.proofs.NameOrder.{text_self, text_same, text_other, row_here, row_there, rows_ordered}
 use Rattle.step_ties.proofs.SessionLaws.{Later, later_then, handed_later, handed_gone}
 use Rattle.step_ties.proofs.Fits.{fits_more, fits_front}
 use Rattle.step_ties.proofs.Puts.{pushed_keeps}

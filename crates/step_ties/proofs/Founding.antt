@@ -47,7 +47,7 @@ use Rattle.step_ties.specs.Tied.{ShowsBody, Shows, Names, NodeOf, NodeIsIf, Scen
 use Rattle.step_ties.specs.Rows.{at_node}
 use Rattle.step_ties.proofs.Goes.{Settled, spares_same, seen_on, carries_on, shows_on, rest_on}
 use Rattle.step_ties.proofs.Changed.{changes, set_view, view_here, view_there}
-use Rattle.step_ties.proofs.NameOrder.{text_same, text_self}
+use Rattle.node_groups.proofs.NameOrder.{text_same, text_self}
 use Rattle.step_ties.proofs.Works.{tied_views, asked_free}
 use Rattle.step_ties.proofs.Sides.{SourcesAre}
 use Rattle.step_ties.proofs.Replies as replies

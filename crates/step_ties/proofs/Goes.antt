@@ -35,8 +35,9 @@ use Rattle.run_safety.specs.Group.{member, Standing, Reply, Noted, Asked, Told, 
 use Rattle.run_safety.specs.Group as group
 use Rattle.run_safety.specs.Bases.{state_of_list, base_state}
 use Rattle.run_safety.specs.Past.{fold_from}
+use Rattle.node_groups.specs.Places.{InNameOrder}
 use Rattle.step_ties.specs.Ghost.{Asking, asking, Ghost, Seen, Goes, FitIn, KeepsIf, CarriesIf, part_of, ReplyIs, GathersIf, BaseIsOf, Installs, InstallsIf, IsStable}
-use Rattle.step_ties.specs.Tied.{Numbered, InNameOrder, Waiting, Sound, ShowsLeader, ShowsView, ShowsBody, Shows, Stands, KnowsLeader, RowIs, Owed, Owes, LeaderKeeps, Names, NodeOf, NodeIsIf, IsAcked}
+use Rattle.step_ties.specs.Tied.{Numbered, Waiting, Sound, ShowsLeader, ShowsView, ShowsBody, Shows, Stands, KnowsLeader, RowIs, Owed, Owes, LeaderKeeps, Names, NodeOf, NodeIsIf, IsAcked}
 
 pub goes_same : (x : Ghost) → Goes x x
 goes_same x =

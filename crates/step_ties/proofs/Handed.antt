@@ -37,7 +37,7 @@ use Rattle.step_ties.specs.Tied.{Scene, lines_now, Tied}
 use Rattle.step_ties.proofs.Goes.{Spares, Still, still_spares, sound_on, node_if_on, shows_on}
 use Rattle.step_ties.proofs.Works.{Passes, lines_pushed, placed_pushed, tied_sent}
 use Rattle.std.specs.Str.{bytes_eq}
-use Rattle.step_ties.proofs.NameOrder.{cases_text, text_self, text_other}
+use Rattle.node_groups.proofs.NameOrder.{cases_text, text_self, text_other}
 use Rattle.step_ties.proofs.SessionLaws.{cast_has}
 use Rattle.step_ties.proofs.Puts.{After}
 use Rattle.step_ties.proofs.Turns.{turns_pushed}

@@ -12,8 +12,9 @@ use Rattle.node_state.specs.State.{row_found, row_of, with_row, with_led, is_thi
 use Rattle.run_safety.specs.Group.{member}
 use Rattle.run_safety.proofs.Whole.{Whole}
 use Rattle.run_safety.proofs.Lives.{whole}
-use Rattle.step_ties.specs.Tied.{ShowsLeader, KnowsLeader, InNameOrder, Scene, opening_of, Tied}
-use Rattle.step_ties.proofs.NameOrder.{KeepsName, is_of, cases_text, row_here, row_there}
+use Rattle.node_groups.specs.Places.{InNameOrder, has_name}
+use Rattle.step_ties.specs.Tied.{ShowsLeader, KnowsLeader, Scene, opening_of, Tied}
+use Rattle.node_groups.proofs.NameOrder.{KeepsName, cases_text, row_here, row_there}
 
 -- who is known to lead leads: in mode fixed the coordinator
 pub known_leads : (g : List ℕ) (w : Scene) (n : ℕ) (s : Core) (t : Tied g w n s) (m : ℕ) → leader_of s g ≡ Some m → ShowsLeader t.ghost s.views.view m
@@ -49,7 +50,7 @@ LeadsAs c d = (k : List ℕ) → leads d k ≡ leads c k
 pub leads_same : (c d : Core) → d.groups ≡ c.groups → d.views ≡ c.views → d.config ≡ c.config → LeadsAs c d
 unfolding leads leads_in leader_in row_of
 leads_same c d rows views config k =
-    λ i. is_this (views i).me (leader_by (config i).mode (views i).view.coord (row_found k (find (is_of k) (rows i))).leader)
+    λ i. is_this (views i).me (leader_by (config i).mode (views i).view.coord (row_found k (find (has_name k) (rows i))).leader)
 
 pub leads_row : (c : Core) (h : List ℕ) (f : GroupRow → GroupRow) → KeepsName f → ((x : GroupRow) → (f x).leader ≡ x.leader) → InNameOrder c.groups → LeadsAs c (with_row c h f)
 unfolding leads leads_in leader_in with_row

@@ -26,7 +26,7 @@ use Rattle.run_safety.specs.Group as group
 use Rattle.step_ties.specs.Ghost.{Ghost, KeepsIf, IsStable}
 use Rattle.step_ties.specs.Tied.{RowIs, Scene, Tied}
 use Rattle.step_ties.proofs.Works.{sent_kept, tied_sent}
-use Rattle.step_ties.proofs.NameOrder.{cases_text}
+use Rattle.node_groups.proofs.NameOrder.{cases_text}
 use Rattle.step_ties.proofs.ViewRows.{same_of}
 use Rattle.step_ties.proofs.Leads.{leads_same, leads_known}
 use Rattle.step_ties.proofs.Acks.{settled, fold_least}

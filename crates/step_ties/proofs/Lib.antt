@@ -1,6 +1,5 @@
 pub mod Goes
 pub mod Changed
-pub mod NameOrder
 pub mod Works
 pub mod Begins
 pub mod Parts

@@ -45,7 +45,7 @@ use Rattle.step_ties.specs.Tied.{Stands, ShowsBody, ShowsLeader, KnowsLeader, Le
 use Rattle.step_ties.proofs.Goes.{Spares, owes_by, decides_by, node_by, shows_on, node_if_on}
 use Rattle.step_ties.proofs.Changed.{set_view, view_here, view_there}
 use Rattle.step_ties.proofs.Works.{asked_free, tied_sent}
-use Rattle.step_ties.proofs.NameOrder.{text_same, text_self, text_other, cases_text}
+use Rattle.node_groups.proofs.NameOrder.{text_same, text_self, text_other, cases_text}
 use Rattle.step_ties.proofs.Begins.{opening_alone}
 use Rattle.step_ties.proofs.Acks.{used_is}
 use Rattle.step_ties.proofs.RowWorks.{tied_led_by}

@@ -14,9 +14,9 @@ use Rattle.node_state.specs.declared.group.GroupRow.{GroupRow}
 use Rattle.node_state.specs.declared.state.Core.{Core}
 use Rattle.node_state.specs.State.{row_found, row_of, held_rows}
 use Rattle.node_state.specs.Applying.{part_of_list, own_parts}
+use Rattle.node_groups.specs.Places.{AllAfter, InNameOrder, has_name}
 use Rattle.step_ties.specs.Ghost.{Ghost, KeepsIf, CarriesIf, part_of, IsStable}
-use Rattle.step_ties.specs.Tied.{AllAfter, InNameOrder}
-use Rattle.step_ties.proofs.NameOrder.{text_same, lt_self, is_of, none_after}
+use Rattle.node_groups.proofs.NameOrder.{text_same, lt_self, none_after}
 
 abbrev part_in : GroupRow → Part
 part_in row = record { name = row.name; start = (list_or_new row.list).start; state = (list_or_new row.list).state; entries = (list_or_new row.list).entries }
@@ -36,20 +36,20 @@ found_part None = None
 found_part (Some row) = held_part row row.list
 
 -- a name that no row has no part has
-unfound : (g : List ℕ) (rows : List GroupRow) → find (is_of g) rows ≡ None → find (named g) (map part_in (filter is_held rows)) ≡ None
+unfound : (g : List ℕ) (rows : List GroupRow) → find (has_name g) rows ≡ None → find (named g) (map part_in (filter is_held rows)) ≡ None
 unfound g [] e = refl
 unfound g (row ∷ rows) e = by (bytes_eq row.name g) (is_some row.list) refl e (unfound g rows)
   where
-    by : (b c : Bool) → bytes_eq row.name g ≡ b → cond b (Some row) (find (is_of g) rows) ≡ None → (find (is_of g) rows ≡ None → find (named g) (map part_in (filter is_held rows)) ≡ None) → find (named g) (map part_in (cond c (row ∷ filter is_held rows) (filter is_held rows))) ≡ None
+    by : (b c : Bool) → bytes_eq row.name g ≡ b → cond b (Some row) (find (has_name g) rows) ≡ None → (find (has_name g) rows ≡ None → find (named g) (map part_in (filter is_held rows)) ≡ None) → find (named g) (map part_in (cond c (row ∷ filter is_held rows) (filter is_held rows))) ≡ None
     by true c q e k = absurd (cc)
     by false true q e k = ap (λ b. cond b (Some (part_in row)) (find (named g) (map part_in (filter is_held rows)))) q ∙ k e
     by false false q e k = k e
 
-part_found : (g : List ℕ) (rows : List GroupRow) → InNameOrder rows → find (named g) (map part_in (filter is_held rows)) ≡ found_part (find (is_of g) rows)
+part_found : (g : List ℕ) (rows : List GroupRow) → InNameOrder rows → find (named g) (map part_in (filter is_held rows)) ≡ found_part (find (has_name g) rows)
 part_found g [] o = refl
 part_found g (row ∷ rows) o = by (bytes_eq row.name g) row.list refl refl (part_found g rows o.1)
   where
-    by : (b : Bool) (l : Option GroupView) → bytes_eq row.name g ≡ b → row.list ≡ l → find (named g) (map part_in (filter is_held rows)) ≡ found_part (find (is_of g) rows) → find (named g) (map part_in (cond (is_some l) (row ∷ filter is_held rows) (filter is_held rows))) ≡ found_part (cond b (Some row) (find (is_of g) rows))
+    by : (b : Bool) (l : Option GroupView) → bytes_eq row.name g ≡ b → row.list ≡ l → find (named g) (map part_in (filter is_held rows)) ≡ found_part (find (has_name g) rows) → find (named g) (map part_in (cond (is_some l) (row ∷ filter is_held rows) (filter is_held rows))) ≡ found_part (cond b (Some row) (find (has_name g) rows))
     by true None q e k = unfound g rows (none_after g rows (subst (λ z. AllAfter z rows) (text_same row.name g q) o.0)) ∙ ap (held_part row) (sym e)
     by true (Some l) q e k = ap (λ b. cond b (Some (part_in row)) (find (named g) (map part_in (filter is_held rows)))) q ∙ ap (held_part row) (sym e)
     by false None q e k = k
@@ -59,7 +59,7 @@ part_found g (row ∷ rows) o = by (bytes_eq row.name g) row.list refl refl (par
 pub own_carries : (x : Ghost) (g : List ℕ) (v : ViewId) (full : List Entry) (s : Core) → InNameOrder s.groups → KeepsIf x v full (row_of s g).list → IsStable x v (list_or_new (row_of s g).list).start → CarriesIf x v full (part_of g (own_parts s))
 unfolding row_of own_parts held_rows part_of_list
 own_carries x g v full s o k stable =
-    subst (CarriesIf x v full) (sym (part_found g s.groups o)) (at (find (is_of g) s.groups) k stable)
+    subst (CarriesIf x v full) (sym (part_found g s.groups o)) (at (find (has_name g) s.groups) k stable)
   where
     held : (row : GroupRow) (l : Option GroupView) → row.list ≡ l → KeepsIf x v full l → IsStable x v (list_or_new row.list).start → CarriesIf x v full (held_part row l)
     held row None e k b = k

@@ -36,7 +36,7 @@ use Rattle.step_ties.specs.Rows.{at_node}
 use Rattle.step_ties.proofs.Goes.{Spares, Still, still_spares, sound_on, node_if_on, stable_on, knows_on, acked_on, gathers_on, install_on, shows_on}
 use Rattle.step_ties.proofs.Changed.{set_here, set_there, changes, incs_set}
 use Rattle.step_ties.proofs.Works.{lines_pushed, placed_pushed}
-use Rattle.step_ties.proofs.NameOrder.{text_self, text_other, row_here, row_there, rows_ordered}
+use Rattle.node_groups.proofs.NameOrder.{text_self, text_other, row_here, row_there, rows_ordered}
 use Rattle.step_ties.proofs.RowWorks.{keeps_of, waits_with, waits_of}
 use Rattle.step_ties.proofs.SessionLaws.{Later, owes_later}
 use Rattle.step_ties.proofs.Fits.{fits_one, bytes_pushed}

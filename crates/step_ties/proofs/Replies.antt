@@ -42,7 +42,7 @@ use Rattle.run_safety.specs.Moves.{Longest, Collected}
 use Rattle.run_safety.proofs.Order.{eq_true, eq_same}
 use Rattle.run_safety.proofs.Past.{member_reply, reply_member}
 use Rattle.step_ties.specs.Ghost.{Ghost, Seen, Carries, CarriesIf, part_of, Gathers, origin_of}
-use Rattle.step_ties.proofs.NameOrder.{text_same, text_self}
+use Rattle.node_groups.proofs.NameOrder.{text_same, text_self}
 use Rattle.step_ties.proofs.BaseOrder.{base_name}
 use Rattle.step_ties.proofs.Acks.{has_member}
 use Rattle.step_ties.proofs.Sides.{SourcesAre, sources_are}

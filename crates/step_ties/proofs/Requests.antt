@@ -34,7 +34,7 @@ use Rattle.run_safety.proofs.Parts.{member_parts}
 use Rattle.step_ties.specs.Ghost.{asking}
 use Rattle.step_ties.specs.Tied.{ShowsBody, ShowsLeader, ShowsRequest, KnowsLeader, Scene, Tied}
 use Rattle.step_ties.proofs.Works.{tied_sent}
-use Rattle.step_ties.proofs.NameOrder.{row_here}
+use Rattle.node_groups.proofs.NameOrder.{row_here}
 use Rattle.step_ties.proofs.Acks.{used_is, member_self}
 use Rattle.step_ties.proofs.RowWorks.{tied_led_by}
 use Rattle.step_ties.proofs.Decisions.{Newer, Ripe}

@@ -23,12 +23,13 @@ use Rattle.node_state.specs.Sending.{sent, sent_on, packet_on, network_to}
 use Rattle.run_safety.specs.Group as group
 use Rattle.run_safety.specs.Bases.{base_state, state_of_list}
 use Rattle.run_safety.specs.Moves.{Acknowledges}
+use Rattle.node_groups.specs.Places.{InNameOrder}
 use Rattle.step_ties.specs.Ghost.{asking, Ghost, Goes, Keeps, KeepsIf, bytes_of, IsStable}
-use Rattle.step_ties.specs.Tied.{Waiting, InNameOrder, Shows, KnowsLeader, RowIs, LeaderKeeps, NodeIs, Scene, Tied}
+use Rattle.step_ties.specs.Tied.{Waiting, Shows, KnowsLeader, RowIs, LeaderKeeps, NodeIs, Scene, Tied}
 use Rattle.step_ties.proofs.Goes.{Spares, sound_on, shows_on, node_on}
 use Rattle.step_ties.proofs.Changed.{has_pushed}
 use Rattle.step_ties.proofs.Works.{tied_on}
-use Rattle.step_ties.proofs.NameOrder.{KeepsName, cases_text, row_here, row_there, rows_ordered}
+use Rattle.node_groups.proofs.NameOrder.{KeepsName, cases_text, row_here, row_there, rows_ordered}
 use Rattle.step_ties.proofs.Gone.{with_packet, packet_goes, packet_still, packet_spares}
 use Rattle.step_ties.proofs.Turns.{packet_turns}
 

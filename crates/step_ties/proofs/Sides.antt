@@ -25,7 +25,7 @@ use Rattle.view_exchange.specs.Codec.{views_ascend_from, views_ascend}
 use Rattle.view_exchange.specs.Longest.{all_counted, NamesDiffer}
 use Rattle.view_exchange.proofs.ViewOrder.{not_before_itself, before_trans, same_view_is}
 use Rattle.view_exchange.proofs.Edits.{inserted_has, has_inserted, Once, edited_has, has_edited, none_placed, some_placed}
-use Rattle.step_ties.proofs.NameOrder.{text_same, text_self}
+use Rattle.node_groups.proofs.NameOrder.{text_same, text_self}
 
 -- ---- names of kept lists
 

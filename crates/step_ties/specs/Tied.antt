@@ -6,7 +6,6 @@ use Rattle.rsct_packet.specs.declared.ids.Member.{Member}
 use Rattle.rsct_packet.specs.Providers.{among, differ}
 use Rattle.std.specs.Str.{bytes_eq}
 use Rattle.rsct_packet.specs.Search.{Has}
-use Rattle.rsct_packet.specs.Text.{name_lt}
 use Rattle.group_entry.specs.declared.entry.Entry.{Entry}
 use Rattle.group_entry.specs.declared.proposal.Proposal.{Proposal}
 use Rattle.proposal_core.specs.Lists.{list_or_new}
@@ -36,6 +35,7 @@ use Rattle.node_state.specs.State.{row_found, row_of, acked_from, decision_of}
 use Rattle.node_state.specs.Step.{first_view, first_members}
 use Rattle.node_state.specs.declared.happened.Happened.{Happened}
 use Rattle.node_state.specs.declared.happened.Happened.TheVariants as happened
+use Rattle.node_groups.specs.Places.{InNameOrder}
 use Rattle.run_safety.specs.Past.{History, records_of, earlier, view_now}
 use Rattle.run_safety.specs.ViewOrder.{Lt, Le}
 use Rattle.run_safety.specs.Sight.{lines_with, lines_of}
@@ -112,15 +112,6 @@ pub record RowIs (x : Ghost) (n : ℕ) (v : ViewId) (ms : List Member) (row : Gr
   pub leader : KnowsLeader x v ms row.leader
   pub acked : (m i : ℕ) → Has (member m i) ms → IsAcked x v m i (acked_from m row.led.acked)
   pub covers : (j k : ℕ) → x.leads v ≡ Some (member n j) → Has (group.Stable v k) x.ps → (m i : ℕ) → Has (member m i) ms → m ≢ n → k ≤ acked_from m row.led.acked
-
--- rows stand in the order of their names
-abbrev pub AllAfter : List ℕ → List GroupRow → Type 0
-AllAfter g [] = Unit {0}
-AllAfter g (row ∷ rows) = (name_lt g row.name ≡ true) × AllAfter g rows
-
-abbrev pub InNameOrder : List GroupRow → Type 0
-InNameOrder [] = Unit {0}
-InNameOrder (row ∷ rows) = AllAfter row.name rows × InNameOrder rows
 
 -- a request that is outstanding was asked, and neither put nor refused at its node
 pub record Owed (x : Ghost) (n inc : ℕ) (q : Request) : Type 0 where
