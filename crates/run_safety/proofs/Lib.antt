@@ -17,14 +17,11 @@ pub mod Tests
 pub mod BasesLaw
 pub mod HeardLaw
 pub mod StableLaw
+pub mod TallyLaw
 pub mod Whole
 pub mod WholeNotes
 pub mod WholeLists
 pub mod Lives
 pub mod Shows
 pub mod SightLaws
-pub mod OneNodeQuiet
-pub mod OneNodeKnown
-pub mod OneNodeRows
-pub mod OneNodeWorlds
-pub mod OneNodeRuns
+pub mod RunTallyLaw

@@ -1,16 +1,18 @@
 -- Every life keeps all parts, so each law holds of it.
-use Rattle.std.proofs.Common.{refl, Some, ◌≡◌, ℕ, ◌+◌, ◌<◌, ◌⊎◌, List, [], ◌∷◌, length, sym, ◌∙◌, subst}
+use Rattle.std.proofs.Common.{refl, Some, true, ◌≡◌, ℕ, ◌+◌, ◌<◌, ◌⊎◌, List, [], ◌∷◌, length, sym, ◌∙◌, subst}
 use Rattle.std.specs.Prelude.{slice_get}
 use Rattle.rsct_packet.specs.declared.ids.ViewId.{ViewId}
 use Rattle.rsct_packet.specs.declared.ids.ProviderId.{ProviderId}
 use Rattle.group_entry.specs.declared.entry.Entry.{Entry}
 use Rattle.group_entry.specs.declared.proposal.Proposal.{Proposal}
+use Rattle.proposal_core.specs.Fold.{fits}
 use Rattle.rsct_packet.specs.Search.{Has}
 use Rattle.run_safety.specs.ViewOrder.{Lt, Le}
 use Rattle.run_safety.specs.Group.{member, Standing, members_of, Packet, Install, Append, Request, Refusal, In, Put, Told, Line, Kept, Noted, kept}
-use Rattle.run_safety.specs.GroupLists.{OneEntryOf}
-use Rattle.run_safety.specs.Bases.{Bases, leader_of}
+use Rattle.run_safety.specs.GroupLists.{OneEntryOf, puts_of}
+use Rattle.run_safety.specs.Bases.{Bases, state_of_list, leader_of}
 use Rattle.run_safety.specs.Requests.{carried}
+use Rattle.run_safety.specs.Tallies.{IsTallied, Tallied, Fitted}
 use Rattle.run_safety.specs.Moves.{Leads, Changes, Opening, Born, Collected, SetAt, entered, grown, Due, Life, Dawn, NextEvent, Promises, Answers, Appends, Follows, Starts, Enters, Founds, Names, Hears, Asks, Requests, Refuses, IsTold, Acknowledges, Settles}
 use Rattle.run_safety.specs.GroupLaws.{Leading, OneBase, BaseOfInstall, HeardIsFold, RequestsOnce, StableHeld}
 use Rattle.run_safety.proofs.Prefix.{prefix_get}
@@ -20,10 +22,11 @@ use Rattle.run_safety.proofs.WholeNotes.{whole_requests, whole_refuses, whole_to
 use Rattle.run_safety.proofs.WholeLists.{whole_appends, whole_follows, whole_starts, whole_enters, whole_founds}
 use Rattle.run_safety.specs.SafeGroups.{BaseWon, LivesAreSafe}
 use Rattle.run_safety.specs.Bases.{BaseIs, side_state}
-use Rattle.run_safety.specs.Always.{AlwaysOneList, AlwaysInOrder, AlwaysRising, AlwaysSameMembers, AlwaysOneInstall, AlwaysOneBase, AlwaysTogether, AlwaysCut, AlwaysFold, AlwaysBase, AlwaysLed, AlwaysOnce, AlwaysStable}
+use Rattle.run_safety.specs.Always.{AlwaysOneList, AlwaysInOrder, AlwaysRising, AlwaysSameMembers, AlwaysOneInstall, AlwaysOneBase, AlwaysTogether, AlwaysCut, AlwaysFold, AlwaysBase, AlwaysLed, AlwaysOnce, AlwaysStable, AlwaysTallied, AlwaysApprovedByAll, AlwaysFitted}
 use Rattle.run_safety.proofs.OnceLaw.{begun_once}
-use Rattle.run_safety.proofs.HeardLaw.{heard_law}
+use Rattle.run_safety.proofs.HeardLaw.{heard_law, front_of, take_front}
 use Rattle.run_safety.proofs.StableLaw.{stable_law}
+use Rattle.run_safety.proofs.TallyLaw.{approved_by_all}
 
 pub whole : {o : Opening} {nodes : ℕ → Standing} {ps : List Packet} {all : List Line} {leads : Leads} {bases : Bases} → Life o nodes ps all leads bases → Whole o nodes ps all leads bases
 whole {o = o} (Dawn nodes new) = whole_dawn o nodes new
@@ -33,9 +36,9 @@ whole {o = o} (Promises nodes now ps all leads bases n x v life is le c) =
     subst P is (whole_promises o nodes ps all leads bases (whole life) now n v) le c
 whole {o = o} (Answers nodes ps all leads bases n x v life is up le lt) =
     whole_answers o nodes ps all leads bases (whole life) n x v is up le lt
-whole {o = o} (Appends nodes now ps all leads bases n x e life is up led same due c) =
-    let P : Standing → Type 0 = λ z. 0 < z.inc → leads z.view ≡ Some (member n z.inc) → z.view ≡ z.promise → ((p : ProviderId) (r : ℕ) → Has (p, r) (carried e) → Due ps z.view z.list e p r) → Changes nodes now n (grown z e) → Whole o now (Append z.view (length z.list) e ∷ ps) (Kept (Put n z.view (length z.list) e) ∷ all) leads bases in
-    subst P is (whole_appends o nodes ps all leads bases (whole life) now n e) up led same due c
+whole {o = o} (Appends nodes now ps all leads bases n x e life is up led same due tallied room c) =
+    let P : Standing → Type 0 = λ z. 0 < z.inc → leads z.view ≡ Some (member n z.inc) → z.view ≡ z.promise → ((p : ProviderId) (r : ℕ) → Has (p, r) (carried e) → Due ps z.view z.list e p r) → IsTallied e → fits (state_of_list bases z.view z.list) e ≡ true → Changes nodes now n (grown z e) → Whole o now (Append z.view (length z.list) e ∷ ps) (Kept (Put n z.view (length z.list) e) ∷ all) leads bases in
+    subst P is (whole_appends o nodes ps all leads bases (whole life) now n e) up led same due tallied room c
 whole {o = o} (Follows nodes now ps all leads bases n x e life is up same sent c) =
     let P : Standing → Type 0 = λ z. 0 < z.inc → z.view ≡ z.promise → Has (Append z.view (length z.list) e) ps → Changes nodes now n (grown z e) → Whole o now ps (Kept (Put n z.view (length z.list) e) ∷ all) leads bases in
     subst P is (whole_follows o nodes ps all leads bases (whole life) now n e) up same sent c
@@ -108,6 +111,14 @@ module _ (o : Opening) (nodes : ℕ → Standing) (ps : List Packet) (all : List
   pub law_stable : StableHeld ps (kept all)
   law_stable = stable_law ps (kept all) w.stable (law_same_members o nodes ps (kept all) w.log leads w.good.inv w.good.past)
 
+  pub law_tallied : Tallied (kept all)
+  law_tallied n v i e h = w.tallied.entry v i e (w.good.inv.records (Put n v i e) h)
+
+  pub law_fitted : Fitted (kept all) bases
+  law_fitted n v i e h m l =
+      let same = take_front i (puts_of m v (kept all)) (w.log v) (front_of o nodes ps all w.log leads bases w.good m v) l in
+      subst (λ xs. fits (state_of_list bases v xs) e ≡ true) same (w.tallied.fitting v i e (w.good.inv.records (Put n v i e) h))
+
 pub always_one_list : AlwaysOneList
 always_one_list o nodes ps all leads bases life = law_one_entry o nodes ps all leads bases (whole life)
 
@@ -150,6 +161,16 @@ always_once o nodes ps all leads bases life = law_requests o nodes ps all leads 
 pub always_stable : AlwaysStable
 always_stable o nodes ps all leads bases life = law_stable o nodes ps all leads bases (whole life)
 
+pub always_tallied : AlwaysTallied
+always_tallied o nodes ps all leads bases life = law_tallied o nodes ps all leads bases (whole life)
+
+pub always_approved_by_all : AlwaysApprovedByAll
+always_approved_by_all o nodes ps all leads bases life =
+    approved_by_all (kept all) (law_tallied o nodes ps all leads bases (whole life))
+
+pub always_fitted : AlwaysFitted
+always_fitted o nodes ps all leads bases life = law_fitted o nodes ps all leads bases (whole life)
+
 -- a base that is noted was installed
 won : (o : Opening) (nodes : ℕ → Standing) (ps : List Packet) (all : List Line) (leads : Leads) (bases : Bases) (w : Whole o nodes ps all leads bases) → BaseWon all bases
 won o nodes ps all leads bases w n v b h =
@@ -175,4 +196,6 @@ lives_are_safe o nodes ps all leads bases life =
       heard_fold = law_heard o nodes ps all leads bases w;
       leading = law_leading o nodes ps all leads bases w;
       requests = law_requests o nodes ps all leads bases w;
+      tallied = law_tallied o nodes ps all leads bases w;
+      fitted = law_fitted o nodes ps all leads bases w;
     }

@@ -22,6 +22,7 @@ use Rattle.run_safety.proofs.OnceLaw.{OnceOk, once_move}
 use Rattle.run_safety.proofs.BasesLaw.{BasesOk, bases_move}
 use Rattle.run_safety.proofs.HeardLaw.{HeardOk, heard_on}
 use Rattle.run_safety.proofs.StableLaw.{StableOk, stable_on}
+use Rattle.run_safety.proofs.TallyLaw.{TallyOk}
 
 pub record Whole (o : Opening) (nodes : ℕ → Standing) (ps : List Packet) (all : List Line) (leads : Leads) (bases : Bases) : Type 0 where
   pub log : ViewId → List Entry
@@ -33,6 +34,7 @@ pub record Whole (o : Opening) (nodes : ℕ → Standing) (ps : List Packet) (al
   pub heard : HeardOk all log bases
   pub once : OnceOk ps all log
   pub stable : StableOk ps (kept all)
+  pub tallied : TallyOk log bases
 
 -- kinds of packets, to tell them apart
 abbrev pub kind : Packet → ℕ
@@ -99,6 +101,7 @@ whole_dawn o nodes new =
         order = tt;
       };
       stable = record { acks = λ v n j k h. absurd h; stable = λ v k h. absurd h };
+      tallied = record { entry = λ v i e h. absurd (cc); fitting = λ v i e h. absurd (cc) };
     }
 
 module _ (o : Opening) (nodes : ℕ → Standing) (ps : List Packet) (all : List Line) (leads : Leads) (bases : Bases) (w : Whole o nodes ps all leads bases) where
@@ -138,6 +141,7 @@ module _ (o : Opening) (nodes : ℕ → Standing) (ps : List Packet) (all : List
         heard = w.heard;
         once = once;
         stable = stable;
+        tallied = w.tallied;
       }
 
   pub whole_turn : Whole o nodes ps (Kept Begins ∷ all) leads bases
@@ -152,6 +156,7 @@ module _ (o : Opening) (nodes : ℕ → Standing) (ps : List Packet) (all : List
         heard = heard_on all (Kept Begins ∷ all) log log bases bases (λ v. prefix_refl (log v)) (λ v i e h. refl) (λ p v i e ms value h. old (Heard p v i e ms value) h) w.heard;
         once = once_still ps (Kept Begins ∷ all) (λ v q r x h. h) (λ v q r x h. h) (λ v q r h. h) (λ v q r h. h) (λ y h. inr h) (λ r h. inr h) (λ q r u h. old (Told q r u) h) (λ m k e u h. inl (old_put m k e u h)) w.once.order;
         stable = stable_on ps ps tr (Begins ∷ tr) (λ v n j k h. h) (λ v k h. h) (λ r h. inr h) (λ m v. omega arith) w.stable;
+        tallied = w.tallied;
       }
     where
       old : (x : Note) → Has (Noted x) (Kept Begins ∷ all) → Has (Noted x) all
@@ -179,6 +184,7 @@ module _ (o : Opening) (nodes : ℕ → Standing) (ps : List Packet) (all : List
         heard = heard;
         once = once;
         stable = w.stable;
+        tallied = w.tallied;
       }
     where
       old : (n : ℕ) (v : ViewId) (b : Origin) → Has (Noted (Based n v b)) (Noted x ∷ all) → Has (Noted (Based n v b)) all
@@ -212,6 +218,7 @@ module _ (o : Opening) (nodes : ℕ → Standing) (ps : List Packet) (all : List
         heard = w.heard;
         once = w.once;
         stable = w.stable;
+        tallied = w.tallied;
       }
 
   pub whole_answers : (n : ℕ) (x : Standing) (v : ViewId) → nodes n ≡ x → 0 < x.inc → Le v x.promise → Lt x.view v → Whole o nodes (Answer v (record { node = n; inc = x.inc; view = x.view; list = x.list }) ∷ ps) all leads bases
@@ -267,6 +274,7 @@ module _ (o : Opening) (nodes : ℕ → Standing) (ps : List Packet) (all : List
         heard = w.heard;
         once = w.once;
         stable = w.stable;
+        tallied = w.tallied;
       }
     where
       other : (u : ViewId) (l : Member) → leads u ≡ Some l → u ≡ v → ⊥

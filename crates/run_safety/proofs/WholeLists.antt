@@ -6,12 +6,14 @@ use Rattle.rsct_packet.specs.declared.ids.Member.{Member}
 use Rattle.rsct_packet.specs.declared.ids.ProviderId.{ProviderId}
 use Rattle.group_entry.specs.declared.entry.Entry.{Entry}
 use Rattle.group_entry.specs.declared.proposal.Proposal.{Proposal}
+use Rattle.proposal_core.specs.Fold.{fits}
 use Rattle.rsct_packet.specs.Search.{Has}
 use Rattle.run_safety.specs.ViewOrder.{is_same, Lt}
 use Rattle.run_safety.specs.Group.{member, Standing, Reply, members_of, Origin, Packet, Install, Append, Request, Refusal, Ack, Stable, Record, In, Put, Note, Based, Heard, Told, Line, Kept, Noted, kept, lines_from, puts_from}
 use Rattle.run_safety.specs.GroupLists.{puts_of}
-use Rattle.run_safety.specs.Bases.{Bases, side_state, BaseIs, leading, leader_of}
+use Rattle.run_safety.specs.Bases.{Bases, state_of_list, side_state, BaseIs, leading, leader_of}
 use Rattle.run_safety.specs.Requests.{carried, Meets}
+use Rattle.run_safety.specs.Tallies.{IsTallied}
 use Rattle.run_safety.specs.Moves.{Leads, Changes, Opening, Alone, Together, Born, Quiet, Collected, SetAt, MayLead, based, entered, grown, Due}
 use Rattle.run_safety.specs.GroupLaws.{AskedAndUntold, AskedFirst}
 use Rattle.run_safety.proofs.Order.{eq_true, eq_same, cases_view}
@@ -31,6 +33,7 @@ use Rattle.run_safety.proofs.BasesLaw.{bases_move, bases_enter, bases_found, lea
 use Rattle.run_safety.proofs.HeardLaw.{heard_on}
 use Rattle.run_safety.proofs.Whole.{Whole, kind, was_sent, once_still}
 use Rattle.run_safety.proofs.StableLaw.{StableOk, stable_on, puts_more, puts_many}
+use Rattle.run_safety.proofs.TallyLaw.{tally_extends, tally_based}
 
 -- one entry more in the log of a view
 unfoldable log_with : (ViewId → List Entry) → ViewId → Entry → ViewId → List Entry
@@ -112,8 +115,8 @@ module _ (o : Opening) (nodes : ℕ → Standing) (ps : List Packet) (all : List
         subst (λ (z : ViewId × ℕ × Entry). slice_get (log' z.0) z.1 ≡ Some z.2) (λ z. (sym b z, sym c z, sym d z)) at,
       )
 
-  pub whole_appends : (now : ℕ → Standing) (n : ℕ) (e : Entry) → 0 < (nodes n).inc → leads (nodes n).view ≡ Some (member n (nodes n).inc) → (nodes n).view ≡ (nodes n).promise → ((p : ProviderId) (r : ℕ) → Has (p, r) (carried e) → Due ps (nodes n).view (nodes n).list e p r) → Changes nodes now n (grown (nodes n) e) → Whole o now (Append (nodes n).view (length (nodes n).list) e ∷ ps) (Kept (Put n (nodes n).view (length (nodes n).list) e) ∷ all) leads bases
-  whole_appends now n e up led same due c =
+  pub whole_appends : (now : ℕ → Standing) (n : ℕ) (e : Entry) → 0 < (nodes n).inc → leads (nodes n).view ≡ Some (member n (nodes n).inc) → (nodes n).view ≡ (nodes n).promise → ((p : ProviderId) (r : ℕ) → Has (p, r) (carried e) → Due ps (nodes n).view (nodes n).list e p r) → IsTallied e → fits (state_of_list bases (nodes n).view (nodes n).list) e ≡ true → Changes nodes now n (grown (nodes n) e) → Whole o now (Append (nodes n).view (length (nodes n).list) e ∷ ps) (Kept (Put n (nodes n).view (length (nodes n).list) e) ∷ all) leads bases
+  whole_appends now n e up led same due closes room c =
       record {
         log = log';
         good = move_lead o nodes ps tr log leads w.good now log' n e up led same c ext;
@@ -124,6 +127,7 @@ module _ (o : Opening) (nodes : ℕ → Standing) (ps : List Packet) (all : List
         heard = heard_on all all' log log' bases bases (λ u. (extends_grows log log' v e ext).at u) (λ u i f h. refl) (λ p u i f ms value h. old_note (Heard p u i f ms value) n v (length x.list) e h) w.heard;
         once = once_move o nodes ps all log leads w.good w.once ps' all' log' (λ u p r y h. inr h) (λ u p r y h. was_sent (Request u p r y) k ps (λ q. omega arith) h) (λ u p r h. inr h) (λ y h. inr h) (λ r h. inr h) (λ p r u h. old_note (Told p r u) n v (length x.list) e h) (news n e log' up here) asked apart refused (well_put o nodes ps all log leads w.good w.once n e up (record { by = λ p r d. (due p r d).sent; unrefused = λ p r d. (due p r d).open_still }), w.once.order);
         stable = stable_on ps ps' tr (kept all') (λ u m j l h. was_sent (Ack u m j l) k ps (λ q. omega arith) h) (λ u l h. was_sent (Stable u l) k ps (λ q. omega arith) h) (λ r h. inr h) (λ m u. puts_more m u (Put n v (length x.list) e) tr) w.stable;
+        tallied = tally_extends w.log log' bases v e ext (log_cases w.log log' v e ext) closes (subst (λ l. fits (state_of_list bases v l) e ≡ true) all_of room) w.tallied;
       }
     where
       x : Standing
@@ -194,6 +198,7 @@ module _ (o : Opening) (nodes : ℕ → Standing) (ps : List Packet) (all : List
         heard = heard_on all all' log log bases bases (λ u. prefix_refl (log u)) (λ u i f h. refl) (λ p u i f ms value h. old_note (Heard p u i f ms value) n (nodes n).view (length (nodes n).list) e h) w.heard;
         once = once_still o nodes ps all leads bases w ps all' (λ u p r y h. h) (λ u p r y h. h) (λ u p r h. h) (λ u p r h. h) (λ y h. inr h) (λ r h. inr h) (λ p r u h. old_note (Told p r u) n (nodes n).view (length (nodes n).list) e h) (news n e log up here) (well_put o nodes ps all log leads w.good w.once n e up (logged_well o nodes ps all log leads w.good w.once n e (length (nodes n).list) here), w.once.order);
         stable = stable_on ps ps tr (kept all') (λ u m j l h. h) (λ u l h. h) (λ r h. inr h) (λ m u. puts_more m u (Put n (nodes n).view (length (nodes n).list) e) tr) w.stable;
+        tallied = w.tallied;
       }
     where
       all' : List Line
@@ -214,6 +219,7 @@ module _ (o : Opening) (nodes : ℕ → Standing) (ps : List Packet) (all : List
         heard = heard_on all all' log log bases bases (λ u. prefix_refl (log u)) (λ u i f h. refl) (λ p u i f ms value h. old (Heard p u i f ms value) h) w.heard;
         once = once_still o nodes ps all leads bases w ps all' (λ u p r y h. h) (λ u p r y h. h) (λ u p r h. h) (λ u p r h. h) (λ y h. inr h) (λ r h. inr h) (λ p r u h. old (Told p r u) h) (λ m k f u h. inl (put m k f u h)) w.once.order;
         stable = stable_on ps ps tr (kept all') (λ u m i l h. h) (λ u l h. h) (λ r h. inr h) (λ m u. omega arith) w.stable;
+        tallied = w.tallied;
       }
     where
       j : ℕ
@@ -304,6 +310,7 @@ module _ (o : Opening) (nodes : ℕ → Standing) (ps : List Packet) (all : List
         heard = heard_on all all' log log bases bases (λ u. prefix_refl (log u)) (λ u i f h. refl) (λ p u i f ns value h. old_heard p u i f ns value (note_entered (Heard p u i f ns value) n (nodes n) v ms ss (bases v) all h)) w.heard;
         once = parts.once;
         stable = parts.stable;
+        tallied = w.tallied;
       }
     where
       all' : List Line
@@ -334,6 +341,7 @@ module _ (o : Opening) (nodes : ℕ → Standing) (ps : List Packet) (all : List
         heard = heard_on all all' log log bases bases' (λ u. prefix_refl (log u)) same_base (λ p u i f ns value h. old_heard p u i f ns value (note_entered (Heard p u i f ns value) n x v ms ss b all h)) w.heard;
         once = parts.once;
         stable = parts.stable;
+        tallied = tally_based log bases bases' same_base w.tallied;
       }
     where
       x : Standing

@@ -184,6 +184,7 @@ module _ (o : Opening) (nodes : ℕ → Standing) (ps : List Packet) (all : List
         heard = heard_hears o nodes ps all log leads bases w.good more p v i e s w.heard put is new;
         once = once_still o nodes ps all leads bases w ps more (λ v q r x h. h) (λ v q r x h. h) (λ v q r h. h) (λ v q r h. h) (λ z h. has_inserted y all more new z h) (λ r h. subst (λ t. Has r t) (sym same) h) (λ q r u h. old_told q r u (had_inserted y all more new (Noted (Told q r u)) h)) (λ m k f u h. inl (subst (λ t. Has (Put m u k f) t) same h)) (subst AskedFirst (sym new.is) (asked_inserted y (λ q r u f. cc) new.newer new.older (subst AskedFirst new.was w.once.order)));
         stable = subst (λ t. StableOk ps t) (sym same) w.stable;
+        tallied = w.tallied;
       }
     where
       y : Note

@@ -3,6 +3,7 @@ use Rattle.std.specs.Prelude.{ℕ, List}
 use Rattle.run_safety.specs.Group.{Standing, Packet, Line, kept}
 use Rattle.run_safety.specs.GroupLists.{OneEntryOf, Rises, OneInstall, InOrder, SameLists, CutHolds, SameMembers}
 use Rattle.run_safety.specs.Bases.{Bases}
+use Rattle.run_safety.specs.Tallies.{Tallied, ApprovedByAll, Fitted}
 use Rattle.run_safety.specs.Moves.{Leads, Opening, Life}
 use Rattle.run_safety.specs.GroupLaws.{Leading, OneBase, BaseOfInstall, HeardIsFold, RequestsOnce, StableHeld}
 
@@ -49,3 +50,12 @@ AlwaysOnce = Always (λ o ps all leads bases. RequestsOnce all)
 
 abbrev pub AlwaysStable : Type 0
 AlwaysStable = Always (λ o ps all leads bases. StableHeld ps (kept all))
+
+abbrev pub AlwaysTallied : Type 0
+AlwaysTallied = Always (λ o ps all leads bases. Tallied (kept all))
+
+abbrev pub AlwaysApprovedByAll : Type 0
+AlwaysApprovedByAll = Always (λ o ps all leads bases. ApprovedByAll (kept all))
+
+abbrev pub AlwaysFitted : Type 0
+AlwaysFitted = Always (λ o ps all leads bases. Fitted (kept all) bases)

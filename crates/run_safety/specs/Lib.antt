@@ -8,8 +8,10 @@ pub mod Group
 pub mod GroupLists
 pub mod Bases
 pub mod Requests
+pub mod Tallies
 pub mod Moves
 pub mod GroupLaws
 pub mod Always
 pub mod Sight
 pub mod SafeGroups
+pub mod RunTallies

@@ -6,12 +6,14 @@ use Rattle.rsct_packet.specs.declared.ids.Member.{Member}
 use Rattle.group_entry.specs.declared.entry.Entry.{Entry}
 use Rattle.group_entry.specs.declared.proposal.Proposal.{Proposal}
 use Rattle.proposal_core.specs.declared.group_state.GroupState.{GroupState}
+use Rattle.proposal_core.specs.Fold.{fits}
 use Rattle.rsct_packet.specs.Search.{Has}
 use Rattle.run_safety.specs.ViewOrder.{Lt, Le}
 use Rattle.run_safety.specs.Group.{member, Standing, Reply, members_of, Origin, Packet, Answer, Install, Append, Request, Refusal, Ack, Stable, Record, In, Put, Begins, Note, Based, Heard, Asked, Told, Line, Kept, Noted, kept, lines_from}
 use Rattle.run_safety.specs.GroupLists.{held_by, WasIn, puts_of}
 use Rattle.run_safety.specs.Bases.{Bases, side_state, BaseIs, leader_of, state_of_list}
 use Rattle.run_safety.specs.Requests.{carried, Meets}
+use Rattle.run_safety.specs.Tallies.{IsTallied}
 
 -- who leads the group in a view, once that is settled, with the incarnation
 abbrev pub Leads : Type 0
@@ -108,8 +110,8 @@ pub data Life (o : Opening) : (ℕ → Standing) → List Packet → List Line �
   Promises : (nodes now : ℕ → Standing) (ps : List Packet) (all : List Line) (leads : Leads) (bases : Bases) (n : ℕ) (x : Standing) (v : ViewId) → Life o nodes ps all leads bases → nodes n ≡ x → Le x.promise v → Changes nodes now n (record x { promise = v }) → Life o now ps all leads bases
   -- a node that has promised v, and is not in it, answers
   Answers : (nodes : ℕ → Standing) (ps : List Packet) (all : List Line) (leads : Leads) (bases : Bases) (n : ℕ) (x : Standing) (v : ViewId) → Life o nodes ps all leads bases → nodes n ≡ x → 0 < x.inc → Le v x.promise → Lt x.view v → Life o nodes (Answer v (record { node = n; inc = x.inc; view = x.view; list = x.list }) ∷ ps) all leads bases
-  -- the leader appends what is due, and sends it
-  Appends : (nodes now : ℕ → Standing) (ps : List Packet) (all : List Line) (leads : Leads) (bases : Bases) (n : ℕ) (x : Standing) (e : Entry) → Life o nodes ps all leads bases → nodes n ≡ x → 0 < x.inc → leads x.view ≡ Some (member n x.inc) → x.view ≡ x.promise → ((p : ProviderId) (r : ℕ) → Has (p, r) (carried e) → Due ps x.view x.list e p r) → Changes nodes now n (grown x e) → Life o now (Append x.view (length x.list) e ∷ ps) (Kept (Put n x.view (length x.list) e) ∷ all) leads bases
+  -- the leader appends what is due, or closes a phase by its tally, where it fits, and sends the entry
+  Appends : (nodes now : ℕ → Standing) (ps : List Packet) (all : List Line) (leads : Leads) (bases : Bases) (n : ℕ) (x : Standing) (e : Entry) → Life o nodes ps all leads bases → nodes n ≡ x → 0 < x.inc → leads x.view ≡ Some (member n x.inc) → x.view ≡ x.promise → ((p : ProviderId) (r : ℕ) → Has (p, r) (carried e) → Due ps x.view x.list e p r) → IsTallied e → fits (state_of_list bases x.view x.list) e ≡ true → Changes nodes now n (grown x e) → Life o now (Append x.view (length x.list) e ∷ ps) (Kept (Put n x.view (length x.list) e) ∷ all) leads bases
   -- another appends an entry that was sent
   Follows : (nodes now : ℕ → Standing) (ps : List Packet) (all : List Line) (leads : Leads) (bases : Bases) (n : ℕ) (x : Standing) (e : Entry) → Life o nodes ps all leads bases → nodes n ≡ x → 0 < x.inc → x.view ≡ x.promise → Has (Append x.view (length x.list) e) ps → Changes nodes now n (grown x e) → Life o now ps (Kept (Put n x.view (length x.list) e) ∷ all) leads bases
   -- a node starts

@@ -9,6 +9,7 @@ use Rattle.run_safety.specs.SafeLists.{OneEntry}
 use Rattle.run_safety.specs.Group.{Standing, Reply, Origin, Packet, Line, Noted, Based, kept}
 use Rattle.run_safety.specs.GroupLists.{OneEntryOf, Rises, InOrder, SameLists, CutHolds, SameMembers}
 use Rattle.run_safety.specs.Bases.{Bases, side_state, Wins}
+use Rattle.run_safety.specs.Tallies.{Tallied, Fitted}
 use Rattle.run_safety.specs.Moves.{Leads, Opening, Life}
 use Rattle.run_safety.specs.GroupLaws.{Leading, OneBase, Brought, HeardIsFold, RequestsOnce}
 use Rattle.run_safety.specs.Sight.{lines_of}
@@ -33,6 +34,8 @@ pub record SafeLines (o : Opening) (all : List Line) : Type 0 where
   pub heard_fold : HeardIsFold all bases
   pub leading : Leading o (kept all) leads bases
   pub requests : RequestsOnce all
+  pub tallied : Tallied (kept all)
+  pub fitted : Fitted (kept all) bases
 
 -- what each group of a run sees is safe
 abbrev pub SafeGroups : Opening → History → Type 0

@@ -4,11 +4,9 @@
 //! one group; each function here is a law over every list of such moves, in whatever order they come.
 #![tactic(auto)]
 
-ghost use Rattle.run_safety.specs.Always.{AlwaysOneList, AlwaysInOrder, AlwaysRising, AlwaysSameMembers, AlwaysOneInstall, AlwaysOneBase, AlwaysTogether, AlwaysCut, AlwaysFold, AlwaysBase, AlwaysLed, AlwaysOnce, AlwaysStable};
+ghost use Rattle.run_safety.specs.Always.{AlwaysOneList, AlwaysInOrder, AlwaysRising, AlwaysSameMembers, AlwaysOneInstall, AlwaysOneBase, AlwaysTogether, AlwaysCut, AlwaysFold, AlwaysBase, AlwaysLed, AlwaysOnce, AlwaysStable, AlwaysTallied, AlwaysApprovedByAll, AlwaysFitted};
 ghost use Rattle.run_safety.specs.SafeGroups.{LivesAreSafe, GroupsGiveOneList};
-ghost use Rattle.run_safety.specs.Safe.{Safe};
-ghost use Rattle.world_model.specs.declared.one_node.OneNodeScript.{OneNodeScript};
-ghost use Rattle.world_model.specs.OneNode.{run_of};
+ghost use Rattle.run_safety.specs.RunTallies.{GroupsCloseByTally};
 
 /// Two entries that nodes put at one place of one view's list are the same.
 #[tactic(auto, using(crate::proofs::Lives::always_one_list))]
@@ -85,6 +83,25 @@ pub fn stable_is_held()
     ensures { AlwaysStable }
 {}
 
+/// An entry that closes a phase has the tally that its kind says: an approval APPROVE, a next phase CONTINUE, and a
+/// rejection REJECT, or CONTINUE in the last phase.
+#[tactic(auto, using(crate::proofs::Lives::always_tallied))]
+pub fn closed_by_tally()
+    ensures { AlwaysTallied }
+{}
+
+/// A voted proposal is approved only if all rows of the last phase approve, those that stand for a default included.
+#[tactic(auto, using(crate::proofs::Lives::always_approved_by_all))]
+pub fn approved_by_all()
+    ensures { AlwaysApprovedByAll }
+{}
+
+/// Each entry fits what those before it make of the view's base: what closes a phase names the protocol and the phase
+/// that run there.
+pub fn entries_fit()
+    ensures { AlwaysFitted }
+{}
+
 /// Together: the lines of a group that such moves make are safe, whoever leads and whatever the bases are.
 #[tactic(auto, using(crate::proofs::Lives::lives_are_safe))]
 pub fn lives_are_safe()
@@ -97,8 +114,8 @@ pub fn groups_give_one_list()
     ensures { GroupsGiveOneList }
 {}
 
-/// Every run of a script of one node is safe.
-#[tactic(auto, using(crate::proofs::OneNodeRuns::one_node_safe))]
-pub fn one_node_runs_are_safe()
-    ensures { (s : OneNodeScript) → Safe (run_of s) }
+/// Where what each group sees of a run is safe, the entries of the run's own records that close a phase have the tally
+/// that their kind says, and what is approved each row of the last phase approves.
+pub fn groups_close_by_tally()
+    ensures { GroupsCloseByTally }
 {}

@@ -38,6 +38,7 @@ use Rattle.run_safety.proofs.Parts.{member_parts}
 use Rattle.step_ties.specs.Ghost.{Ghost, Lives, Goes, Keeps, IsStable}
 use Rattle.step_ties.specs.Tied.{ShowsBody, RowIs, IsAcked, Decided, LeaderKeeps, NodeIs, Scene, Sound, opening_in, opening_of, Tied}
 use Rattle.step_ties.proofs.Goes.{Spares, Still, sound_on, owes_by, decides_by, node_by, shows_on}
+use Rattle.step_ties.proofs.Idle.{led_lightens}
 use Rattle.step_ties.proofs.Works.{tied_on}
 use Rattle.node_groups.proofs.NameOrder.{cases_text}
 use Rattle.step_ties.proofs.Leads.{leads_led, leads_known}
@@ -149,7 +150,7 @@ pub led_keeps : (x : Ghost) (n inc : ℕ) (v : ViewId) (l m : Led) → m.decided
 unfolding decision_of
 led_keeps x n inc v l m d u h =
     record {
-      refused = λ p r e i. decided p r (h.refused p r e i);
+      refused = λ p r e c i. decided p r (h.refused p r e c i);
       begun = λ p r i e a b c. decided p r (h.begun p r i e a b c);
       waiting = λ p e i. let z = h.waiting p e (subst (λ js. among js p ≡ true) u i) in
           record { proposal = z.proposal; sent = z.sent; joins = z.joins; open_still = z.open_still; unbegun = z.unbegun; decided = decided p p.join z.decided };
@@ -194,6 +195,7 @@ module _ (g : List ℕ) (w : Scene) (n : ℕ) (s : Core) (t : Tied g w n s) wher
         puts = λ u k e h. h;
         told = λ p r u e h. h;
         shut = λ v e h. h;
+        shut_led = λ v i e h. h;
         asked = λ a e h. h;
       }
     where
@@ -271,7 +273,7 @@ module _ (g : List ℕ) (w : Scene) (n : ℕ) (s : Core) (t : Tied g w n s) wher
 
       own : NodeIs (settles (suc m)) g n s
       own =
-          node_by t.ghost (settles (suc m)) goes n refl g (is_fixed s.config.mode) s.views (row_of s g) s.groups s.sessions s.sessions s.names s.names covers (owes_by t.ghost (settles (suc m)) goes n (λ a e i. i) (λ u k e i. i) (λ p r u e i. i) g s.views.inc s.sessions h.owes) (decides_by t.ghost (settles (suc m)) goes n refl (λ v l e. e) refusal_old s.views.inc s.views.view (row_of s g).led h.decides) (record { named = h.names.named; unnamed = h.names.unnamed; full = h.names.full }) h
+          node_by t.ghost (settles (suc m)) goes n refl g (is_fixed s.config.mode) s.views (row_of s g) s.groups s.sessions s.sessions s.names s.names covers (owes_by t.ghost (settles (suc m)) goes n (λ a e i. i) (λ u k e i. i) (λ p r u e i. i) g s.views.inc s.sessions h.owes) (decides_by t.ghost (settles (suc m)) goes n refl (λ v l e. e) refusal_old s.views.inc s.views.view (row_of s g).led h.decides) (record { named = h.names.named; unnamed = h.names.unnamed; full = h.names.full }) (record { few = h.idles.few; shut = h.idles.shut }) h
 
       life : Lives (opening_of w.config) (settles (suc m))
       life =
@@ -292,7 +294,7 @@ module _ (g : List ℕ) (w : Scene) (n : ℕ) (s : Core) (t : Tied g w n s) wher
 tied_raised : (g : List ℕ) (w : Scene) (n : ℕ) (s : Core) (t : Tied g w n s) (h : List ℕ) (from inc k : ℕ) → Has (member from inc) s.views.members → (h ≡ g → Has (group.Ack s.views.view from inc k) t.ghost.ps) → Tied g w n (with_led s h (λ l. record l { acked = acked_raised from k l.acked }))
 unfolding with_led
 tied_raised g w n s t h from inc k among sent =
-    tied_row g w n s t h (λ row. record row { led = record (row.led) { acked = acked_raised from k row.led.acked } }) (λ x. refl) (waits_of g w n s t h) new
+    tied_row g w n s t h (λ row. record row { led = record (row.led) { acked = acked_raised from k row.led.acked } }) (λ x. refl) (led_lightens (λ l. record l { acked = acked_raised from k l.acked }) (λ l. omega arith)) (waits_of g w n s t h) new
   where
     is : NodeIs t.ghost g n s
     is = t.own.0

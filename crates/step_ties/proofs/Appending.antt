@@ -1,5 +1,5 @@
 -- The leader of a group appends an entry, closes the phases of a protocol, and begins one.
-use Rattle.std.proofs.Common.{◌≤◌, ◌≡◌, ◌⊎◌, ◌<◌, ℕ, zero, suc, ◌+◌, List, [], ◌∷◌, ◌++◌, length, take, Option, Some, None, Bool, true, false, refl, sym, ap, ◌∙◌, subst, inl, inr, ⊎_elim, append_assoc}
+use Rattle.std.proofs.Common.{◌≤◌, ◌≡◌, ◌⊎◌, ◌<◌, ℕ, zero, suc, ◌+◌, List, [], ◌∷◌, ◌++◌, length, take, Option, Some, None, Bool, true, false, refl, sym, ap, ◌∙◌, subst, inl, inr, ⊎_elim, append_assoc, arith}
 use Rattle.std.specs.Prelude.{not, map, filter, fold, flat_map, slice_get, nat_le, if◌then◌else◌}
 use Rattle.std.proofs.lemmas.List.{append-nil}
 use Rattle.rsct_packet.specs.declared.ids.ViewId.{ViewId}
@@ -20,7 +20,9 @@ use Rattle.group_entry.specs.declared.entry.Vote.{Vote}
 use Rattle.group_entry.specs.declared.entry.Vote.TheVariants as vote
 use Rattle.proposal_core.specs.declared.group_state.GroupState.{GroupState}
 use Rattle.proposal_core.specs.declared.group_state.Running.{Running}
-use Rattle.proposal_core.specs.Fold.{max_phases}
+use Rattle.proposal_core.specs.Fold.{empty_state, max_phases}
+use Rattle.proposal_core.specs.Fold as states
+use Rattle.proposal_core.specs.GroupView.{GroupView}
 use Rattle.proposal_core.specs.Lists.{list_or_new, len_in, with_entry}
 use Rattle.vote_phases.specs.Tally.{TallyView, outcome}
 use Rattle.batch_rules.specs.Waiting.{WaitingView, takes_failure, waits_failure}
@@ -38,7 +40,7 @@ use Rattle.node_state.specs.declared.packet.Body.{Body}
 use Rattle.node_state.specs.declared.packet.Body.TheVariants as body
 use Rattle.node_state.specs.declared.packet.Packet.{Packet}
 use Rattle.node_state.specs.declared.state.Core.{Core}
-use Rattle.node_state.specs.State.{row_of, with_row, with_led, led_of, state_of, list_forgotten, len_of, frozen, leader_of, leads, others, least_acked, acked_by, acked_from, forgets_below, fits_at_end, recorded, recorded_all, with_sessions}
+use Rattle.node_state.specs.State.{row_of, with_row, with_led, led_of, list_of, state_of, list_forgotten, len_of, frozen, leader_of, leads, others, least_acked, acked_by, acked_from, forgets_below, fits_at_end, recorded, recorded_all, with_sessions}
 use Rattle.node_state.specs.Sending.{ring_network, network_to, level_for, domain_at, packet_on, sent_on, sent, sent_all, sent_if_known}
 use Rattle.node_state.specs.HandOn.{Answering, fills, heard, noted, notes, ballot_sent, cast_sent_of, casts_sent, handed_on}
 use Rattle.node_state.specs.Leading.{put, forgets_least, with_waiting, waits_if, new_members_wait, appended, appended_if, begun_many, begins, tally_set, tally_for, tally_opened, closing, closing_of, closing_entry, is_phase, closes_from, closes}
@@ -47,19 +49,22 @@ use Rattle.run_safety.specs.Group as group
 use Rattle.run_safety.specs.GroupLists.{puts_of}
 use Rattle.run_safety.specs.Bases.{Bases, state_of_list}
 use Rattle.run_safety.specs.Requests.{proposal_of, carried}
+use Rattle.run_safety.specs.Tallies.{IsTallied}
 use Rattle.run_safety.specs.Moves.{Due, Appends, grown}
 use Rattle.step_ties.specs.Ghost.{Ghost, Lives}
 use Rattle.step_ties.specs.Tied.{Decided, Shows, IsAcked, RowIs, LeaderKeeps, Scene, opening_of, Tied}
 use Rattle.step_ties.specs.Rows.{at_node}
 use Rattle.step_ties.proofs.Changed.{set_here, changes}
 use Rattle.node_groups.proofs.NameOrder.{KeepsName, cases_text}
-use Rattle.step_ties.proofs.RowWorks.{waits_of, tied_row}
+use Rattle.step_ties.proofs.Idle.{led_lightens}
+use Rattle.step_ties.proofs.RowWorks.{keeps_of, waits_of, tied_row}
 use Rattle.step_ties.proofs.Leads.{LeadsAs, leads_same, leads_row, leads_known}
 use Rattle.step_ties.proofs.Acks.{led_keeps, settled, fold_least, tied_least}
 use Rattle.step_ties.proofs.SessionLaws.{handed_later, handed_gone, hearer_has}
 use Rattle.step_ties.proofs.Puts.{Leaves, put_ghost, len_now, put_other, put_tied}
 use Rattle.step_ties.proofs.Handed.{Stepping, handed_tied}
 use Rattle.step_ties.proofs.Turns.{handed_fewer}
+use Rattle.step_ties.proofs.Closings.{closing_tallied, fits_whole}
 
 -- ---- what is sent to many
 
@@ -131,15 +136,16 @@ handed_rows f c to h i before after e =
 
 -- ---- the leader puts an entry
 
--- what the entry begins is due and decided, and waits no longer
+-- what the entry begins is due and decided, and waits no longer; and the view is not shut to the group
 pub record MayPut (x : Ghost) (v : ViewId) (list : List Entry) (l : Led) (e : Entry) : Type 0 where
   pub due : (p : ProviderId) (r : ℕ) → Has (p, r) (carried e) → Due x.ps v list e p r
   pub decided : (p : ProviderId) (r : ℕ) → Has (p, r) (carried e) → Decided l p r
   pub waits_not : (p : ProviderId) → among l.waiting.joins p ≡ true → Has (p, p.join) (carried e) → ⊥
+  pub unshut : Has v x.shut → ⊥
 
-pub may_carry_none : (x : Ghost) (v : ViewId) (list : List Entry) (l : Led) (e : Entry) → carried e ≡ [] → MayPut x v list l e
-may_carry_none x v list l e none =
-    record { due = λ p r h. absurd (nothing p r h); decided = λ p r h. absurd (nothing p r h); waits_not = λ p i h. nothing p p.join h }
+pub may_carry_none : (x : Ghost) (v : ViewId) (list : List Entry) (l : Led) (e : Entry) → carried e ≡ [] → (Has v x.shut → ⊥) → MayPut x v list l e
+may_carry_none x v list l e none unshut =
+    record { due = λ p r h. absurd (nothing p r h); decided = λ p r h. absurd (nothing p r h); waits_not = λ p i h. nothing p p.join h; unshut = unshut }
   where
     nothing : (p : ProviderId) (r : ℕ) → Has (p, r) (carried e) → ⊥
     nothing p r h = subst (λ z. Has {A = ProviderId × ℕ} (p, r) z) none h
@@ -150,7 +156,7 @@ get_pushed [] (suc i) e d q = absurd (cc)
 get_pushed (x ∷ xs) zero e d q = inl q
 get_pushed (x ∷ xs) (suc i) e d q = get_pushed xs i e d q
 
-module _ (g : List ℕ) (w : Scene) (n : ℕ) (s : Core) (t : Tied g w n s) (e : Entry) (u : SessionState) (l : Leaves s.sessions u e) (room : fits_at_end s g e ≡ true) (thawed : s.views.promise ≡ s.views.view) (led : t.ghost.leads s.views.view ≡ Some (member n s.views.inc)) (may : MayPut t.ghost s.views.view (t.ghost.nodes n).list (row_of s g).led e) where
+module _ (g : List ℕ) (w : Scene) (n : ℕ) (s : Core) (t : Tied g w n s) (e : Entry) (u : SessionState) (l : Leaves s.sessions u e) (room : fits_at_end s g e ≡ true) (thawed : s.views.promise ≡ s.views.view) (led : t.ghost.leads s.views.view ≡ Some (member n s.views.inc)) (may : MayPut t.ghost s.views.view (t.ghost.nodes n).list (row_of s g).led e) (tallied : IsTallied e) where
   abbrev append : group.Packet
   append = group.Append (t.ghost.nodes n).view (length (t.ghost.nodes n).list) e
 
@@ -169,10 +175,16 @@ module _ (g : List ℕ) (w : Scene) (n : ℕ) (s : Core) (t : Tied g w n s) (e :
   request v p r a (inl q) = absurd (cc)
   request v p r a (inr h) = h
 
+  fitting : states.fits (state_of_list t.ghost.bases (t.ghost.nodes n).view (t.ghost.nodes n).list) e ≡ true
+  unfolding fits_at_end list_of
+  fitting =
+      let k = keeps_of t.ghost s.views.view (t.ghost.nodes n).list (row_of s g).list t.own.0.row_is.list in
+      subst (λ v. states.fits (state_of_list t.ghost.bases v (t.ghost.nodes n).list) e ≡ true) (sym t.own.0.stands.view) (fits_whole t.ghost s.views.view (t.ghost.nodes n).list (list_of s g) e k room)
+
   lives : Lives (opening_of w.config) y
   lives =
       let h = t.own.0.stands in
-      Appends t.ghost.nodes (at_node t.ghost.nodes n (grown (t.ghost.nodes n) e)) t.ghost.ps t.ghost.all t.ghost.leads t.ghost.bases n (t.ghost.nodes n) e t.life refl (subst (λ k. 0 < k) (sym h.inc) h.up) (ap t.ghost.leads h.view ∙ led ∙ ap (λ j. Some (member n j)) (sym h.inc)) (h.view ∙ sym thawed ∙ sym h.promise) (λ p r q. subst (λ v. Due t.ghost.ps v (t.ghost.nodes n).list e p r) (sym h.view) (may.due p r q)) (changes t.ghost.nodes n (grown (t.ghost.nodes n) e))
+      Appends t.ghost.nodes (at_node t.ghost.nodes n (grown (t.ghost.nodes n) e)) t.ghost.ps t.ghost.all t.ghost.leads t.ghost.bases n (t.ghost.nodes n) e t.life refl (subst (λ k. 0 < k) (sym h.inc) h.up) (ap t.ghost.leads h.view ∙ led ∙ ap (λ j. Some (member n j)) (sym h.inc)) (h.view ∙ sym thawed ∙ sym h.promise) (λ p r q. subst (λ v. Due t.ghost.ps v (t.ghost.nodes n).list e p r) (sym h.view) (may.due p r q)) tallied fitting (changes t.ghost.nodes n (grown (t.ghost.nodes n) e))
 
   listed : (y.nodes n).list ≡ (t.ghost.nodes n).list ++ e ∷ []
   listed = ap (λ (z : Standing). z.list) (set_here t.ghost.nodes n (grown (t.ghost.nodes n) e))
@@ -188,7 +200,7 @@ module _ (g : List ℕ) (w : Scene) (n : ℕ) (s : Core) (t : Tied g w n s) (e :
   decides =
       let h = t.own.0.decides in
       record {
-        refused = λ p r q i. h.refused p r q (refusal s.views.view p r i);
+        refused = λ p r q c i. h.refused p r q c (refusal s.views.view p r i);
         begun = λ p r i d q a b. ⊎_elim (λ (z : slice_get (t.ghost.nodes n).list i ≡ Some d). h.begun p r i d q z b) (λ (z : d ≡ e). may.decided p r (carries p r d z b)) (was i d a);
         waiting = λ p q i. let z = h.waiting p q i in
             record {
@@ -209,7 +221,7 @@ module _ (g : List ℕ) (w : Scene) (n : ℕ) (s : Core) (t : Tied g w n s) (e :
   -- the entry stands in flight, and the node leads
   lead_own : (t' : Tied g w n (with_sessions (put s g e) u)) × (Has (Put n s.views.view (len_of s g) e) (kept t'.ghost.all) × (state_of (put s g e) g ≡ state_of_list t'.ghost.bases s.views.view (take (len_of s g + 1) (puts_of n s.views.view (kept t'.ghost.all))))) × Has (group.Append s.views.view (len_of s g) e) t'.ghost.ps × (t'.ghost.leads s.views.view ≡ Some (member n s.views.inc))
   lead_own =
-      let k = put_tied g w n s t e u l room (append ∷ t.ghost.ps) (λ p h. inr h) refusal stable request lives decides in
+      let k = put_tied g w n s t e u l room (append ∷ t.ghost.ps) (λ p h. inr h) refusal stable request (λ q h. may.unshut h) lives decides in
       (k.0, k.1, k.2 (group.Append s.views.view (len_of s g) e) (inl (λ i. group.Append (sym t.own.0.stands.view i) (len_now g w n s t e u l room i) e)), k.3 s.views.view ∙ led)
 
 -- ---- appending
@@ -237,7 +249,7 @@ module _ (g : List ℕ) (w : Scene) (n : ℕ) (s : Core) where
   pub led_goes : (c : Core) (h : List ℕ) (f : Led → Led) → ((l : Led) → ((f l).decided ≡ l.decided) × ((f l).waiting.joins ≡ l.waiting.joins) × ((f l).acked ≡ l.acked)) → Leading g w n s c → Leading g w n s (with_led c h f)
   unfolding with_led
   led_goes c h f keeps t =
-      row_goes c h (λ row. record row { led = f row.led }) (λ x. refl) (λ x. refl) t (tied_row g w n c t.tied h (λ row. record row { led = f row.led }) (λ x. refl) (λ p i. waits_of g w n c t.tied h p (subst (λ js. among js p ≡ true) (keeps (row_of c h).led).1 i)) new)
+      row_goes c h (λ row. record row { led = f row.led }) (λ x. refl) (λ x. refl) t (tied_row g w n c t.tied h (λ row. record row { led = f row.led }) (λ x. refl) (led_lightens f (λ l. let q : length (f l).waiting.joins ≡ length l.waiting.joins = ap (λ (z : List ProviderId). length z) (keeps l).1 in omega arith)) (λ p i. waits_of g w n c t.tied h p (subst (λ js. among js p ≡ true) (keeps (row_of c h).led).1 i)) new)
     where
       new : h ≡ g → RowIs t.tied.ghost n c.views.view c.views.members (record (row_of c h) { led = f (row_of c h).led }) × LeaderKeeps t.tied.ghost n c.views.inc c.views.view (f (row_of c h).led)
       new e =
@@ -270,8 +282,27 @@ module _ (g : List ℕ) (w : Scene) (n : ℕ) (s : Core) where
   new_wait h after gone (p ∷ ps) c t =
       new_wait h after gone ps (waits_if c h p (among after.failed p) (among gone p)) (waits_if_goes c h p (among after.failed p) (among gone p) t)
 
+-- ---- a view that is not shut to the group
+
+-- where the node leads the group, and has a list of it or a join that waits, the view is not shut to it
+pub led_open : (g : List ℕ) (w : Scene) (n : ℕ) (c : Core) (t : Tied g w n c) → t.ghost.leads c.views.view ≡ Some (member n c.views.inc) → ((row_of c g).list ≡ None → (row_of c g).led.waiting.joins ≡ [] → ⊥) → Has c.views.view t.ghost.shut → ⊥
+led_open g w n c t led busy h = let z = t.own.0.idles.shut led h in busy z.bare z.idle
+
+-- nor where something runs, or somebody is a member, or a source is named: there is a list
+module _ (g : List ℕ) (w : Scene) (n : ℕ) (s c : Core) (h : List ℕ) (t : Leading g w n s c) (led : h ≡ g → leads s h ≡ true) (same : h ≡ g) where
+  pub busy_open : ((row_of c h).list ≡ None → (row_of c h).led.waiting.joins ≡ [] → ⊥) → Has c.views.view t.tied.ghost.shut → ⊥
+  busy_open busy =
+      led_open g w n c t.tied (leads_known g w n c t.tied (t.leads g ∙ subst (λ z. leads s z ≡ true) same (led same))) (subst (λ z. (row_of c z).list ≡ None → (row_of c z).led.waiting.joins ≡ [] → ⊥) same busy)
+
+  pub state_open : (state_of c h ≡ empty_state → ⊥) → Has c.views.view t.tied.ghost.shut → ⊥
+  unfolding state_of list_of
+  state_open some = busy_open (λ none idle. some (ap (λ (l : Option GroupView). (list_or_new l).state) none))
+
+  pub running_open : ((state_of c h).running ≡ None → ⊥) → Has c.views.view t.tied.ghost.shut → ⊥
+  running_open runs = state_open (λ e. runs (ap (λ (st : GroupState). st.running) e))
+
 module _ (g : List ℕ) (w : Scene) (n : ℕ) (s : Core) (f : Answering) (thawed : s.views.promise ≡ s.views.view) where
-  module _ (c : Core) (h : List ℕ) (e : Entry) (led : h ≡ g → leads s h ≡ true) (room : fits_at_end c h e ≡ true) (t : Leading g w n s c) (may : h ≡ g → MayPut t.tied.ghost c.views.view (t.tied.ghost.nodes n).list (row_of c h).led e) where
+  module _ (c : Core) (h : List ℕ) (e : Entry) (led : h ≡ g → leads s h ≡ true) (room : fits_at_end c h e ≡ true) (t : Leading g w n s c) (may : h ≡ g → MayPut t.tied.ghost c.views.view (t.tied.ghost.nodes n).list (row_of c h).led e) (tallied : IsTallied e) where
     -- what is sent of the entry, as if it were of another group
     abbrev entry_packets : List ℕ → List Packet
     entry_packets k =
@@ -307,7 +338,7 @@ module _ (g : List ℕ) (w : Scene) (n : ℕ) (s : Core) (f : Answering) (thawed
     unfolding put recorded with_sessions with_row packet_on least_acked session.handed_on session.heard row_of acked_by
     put_of_own q =
         let known : t.tied.ghost.leads c.views.view ≡ Some (member n c.views.inc) = leads_known g w n c t.tied (subst (λ z. leads c z ≡ true) q (t.leads h ∙ led q)) in
-        let k = lead_own g w n c t.tied e u leaves (subst (λ z. fits_at_end c z e ≡ true) q room) thawed_now known (subst (λ z. MayPut t.tied.ghost c.views.view (t.tied.ghost.nodes n).list (row_of c z).led e) q (may q)) in
+        let k = lead_own g w n c t.tied e u leaves (subst (λ z. fits_at_end c z e ≡ true) q room) thawed_now known (subst (λ z. MayPut t.tied.ghost c.views.view (t.tied.ghost.nodes n).list (row_of c z).led e) q (may q)) tallied in
         let d : Core = with_sessions (put c g e) u in
         let z = settled g w n d k.0 (least_acked (put c g e) g) (λ m i. fold_least (λ (m : Member). acked_by d (row_of d g) m.node) d.views.members (len_in (row_of d g).list) m i) k.3 in
         let shown : (p : Packet) → Has p (entry_packets g) → Shows z.0.ghost g p = λ p i.
@@ -360,6 +391,12 @@ module _ (g : List ℕ) (w : Scene) (n : ℕ) (s : Core) (f : Answering) (thawed
 
   -- ---- closing
 
+  closing_runs : (l : Led) (t : Option TallyView) (run : Option Running) (e : Entry) → closing_entry l t run ≡ Some e → run ≡ None → ⊥
+  unfolding closing_entry
+  closing_runs l None run e q none = cc
+  closing_runs l (Some t) None e q none = cc
+  closing_runs l (Some t) (Some run) e q none = cc
+
   closing_carries : (l : Led) (t : Option TallyView) (run : Option Running) (e : Entry) → closing_entry l t run ≡ Some e → carried e ≡ []
   unfolding closing_entry closing_of closing
   closing_carries l None run e q = absurd (cc)
@@ -390,7 +427,8 @@ module _ (g : List ℕ) (w : Scene) (n : ℕ) (s : Core) (f : Answering) (thawed
   closes_goes (suc k) c h led t = by (closing_entry (led_of c h) (led_of c h).tally (state_of c h).running) refl (closes_goes k)
     where
       next : (e : Entry) → closing_entry (led_of c h) (led_of c h).tally (state_of c h).running ≡ Some e → fits_at_end c h e ≡ true → Leading g w n s (appended f c h e)
-      next e q room = appended_goes c h e led room t (λ same. may_carry_none t.tied.ghost c.views.view (t.tied.ghost.nodes n).list (row_of c h).led e (closing_carries (led_of c h) (led_of c h).tally (state_of c h).running e q))
+      next e q room =
+          appended_goes c h e led room t (λ same. may_carry_none t.tied.ghost c.views.view (t.tied.ghost.nodes n).list (row_of c h).led e (closing_carries (led_of c h) (led_of c h).tally (state_of c h).running e q) (running_open g w n s c h t led same (λ none. closing_runs (led_of c h) (led_of c h).tally (state_of c h).running e q none))) (closing_tallied (led_of c h) (led_of c h).tally (state_of c h).running e q)
 
       phase : (e : Entry) → closing_entry (led_of c h) (led_of c h).tally (state_of c h).running ≡ Some e → fits_at_end c h e ≡ true → ((d : Core) (j : List ℕ) → (j ≡ g → leads s j ≡ true) → Leading g w n s d → Leading g w n s (closes_from k f d j)) → (b : Bool) → Leading g w n s (elim b as (λ _. Core) [ true ↦ closes_from k f (tally_opened (appended f c h e) h) h | false ↦ tally_set (appended f c h e) h None ])
       phase e q room rest true = rest (tally_opened (appended f c h e) h) h led (opened_goes (appended f c h e) h (next e q room))
@@ -416,10 +454,10 @@ module _ (g : List ℕ) (w : Scene) (n : ℕ) (s : Core) (f : Answering) (thawed
     where
       by : (b : Bool) → fits_at_end c h (Once x) ≡ b → Leading g w n s (appended_if f c h (Once x) b)
       by false q = t
-      by true q = appended_goes c h (Once x) led q t (λ e. may e (Once x) refl)
+      by true q = appended_goes c h (Once x) led q t (λ e. may e (Once x) refl) tt
   begins_goes c h x Many led t may = by (fits_at_end c h (Begin x)) refl
     where
       by : (b : Bool) → fits_at_end c h (Begin x) ≡ b → Leading g w n s (begun_many f c h x b)
       by false q = t
       by true q =
-          closed_goes (tally_opened (appended f c h (Begin x)) h) h led (opened_goes (appended f c h (Begin x)) h (appended_goes c h (Begin x) led q t (λ e. may e (Begin x) refl)))
+          closed_goes (tally_opened (appended f c h (Begin x)) h) h led (opened_goes (appended f c h (Begin x)) h (appended_goes c h (Begin x) led q t (λ e. may e (Begin x) refl) tt))

@@ -1,6 +1,6 @@
 -- A step begins and ends; a node starts and stops.
-use Rattle.std.proofs.Common.{◌≡◌, ◌≢◌, ◌<◌, Bool, ℕ, ◌+◌, List, [], ◌∷◌, ◌++◌, Option, Some, None, refl, sym, ap, ◌∙◌, subst, inl, inr, ⊎_elim, arith}
-use Rattle.std.specs.Prelude.{not, true, false, ◌==◌, if◌then◌else◌, reverse, map}
+use Rattle.std.proofs.Common.{◌≡◌, ◌≢◌, ◌<◌, Bool, true, false, ℕ, ◌+◌, List, [], ◌∷◌, ◌++◌, Option, Some, None, refl, sym, ap, ◌∙◌, subst, inl, inr, ⊎_elim, arith}
+use Rattle.std.specs.Prelude.{not, ◌==◌, if◌then◌else◌, reverse, map}
 use Rattle.std.proofs.lemmas.Bool.{eqb-true, cases_eq}
 use Rattle.std.proofs.lemmas.List.{reverse-append}
 use Rattle.std.proofs.lemmas.Bool.Decides.{Decides-eqb}
@@ -37,7 +37,7 @@ use Rattle.run_safety.proofs.Lives.{whole}
 use Rattle.run_safety.proofs.PastIn.{start_unled}
 use Rattle.run_safety.proofs.Order.{lt_refl}
 use Rattle.step_ties.specs.Ghost.{Ghost, Lives, Goes, Seen}
-use Rattle.step_ties.specs.Tied.{Shows, NodeIsIf, Scene, opening_in, opening_of, Rests, Tied, InTurn}
+use Rattle.step_ties.specs.Tied.{Shows, NodeIsIf, Scene, opening_in, opening_of, Begun, Rests, Tied, InTurn}
 use Rattle.step_ties.specs.Rows.{at_node, over, stopped, start_with, ended, nothing_yet}
 use Rattle.step_ties.proofs.Goes.{Spares, Still, still_spares, sound_on, shows_on, node_if_on}
 use Rattle.step_ties.proofs.Changed.{set_here, set_there, each_set, changes, incs_set}
@@ -49,12 +49,12 @@ abbrev pub turned : Ghost → Ghost
 turned x = record x { all = Kept Begins ∷ x.all }
 
 module _ (x : Ghost) where
-  turned_goes : Goes x (turned x)
+  pub turned_goes : Goes x (turned x)
   turned_goes = record { packets = λ p h. h; records = λ r h. inr h; lines = λ l h. inr h; leads = λ v l e. e; bases = λ v s. refl; asks = refl; shut = λ v h. h; asked = λ a h. h }
 
   pub turned_still : Still x (turned x)
   turned_still =
-      record { goes = turned_goes; leads = λ v s. refl; refusals = λ v p r h. h; stables = λ v k h. h; shut = λ v h. h; asked = λ a h. h; asks = λ p r q h. not_asked p r q h; told = λ p r u h. inl (not_told p r u h); incs = λ m. omega arith }
+      record { goes = turned_goes; leads = λ v s. refl; refusals = λ v p r h. h; stables = λ v k h. h; shut = λ v h. h; asked = λ a h. h; asks = λ p r q h. not_asked p r q h; told = λ p r u h. inl (not_told p r u h); incs = λ m. omega arith; closed = λ v s c. c }
     where
       not_told : (p : ProviderId) (r : ℕ) (u : ViewId) → Has (Noted (Told p r u)) (Kept Begins ∷ x.all) → Has (Noted (Told p r u)) x.all
       not_told p r u (inl q) = absurd (cc)
@@ -105,8 +105,13 @@ pub idle_start : (c : Config) (n j : ℕ) → ((started c n j).sessions.provider
 unfolding started with_sessions level_set
 idle_start c n j = (refl, refl)
 
-pub end_tied : (g : List ℕ) (w : Scene) (n : ℕ) (s : Core) (e : Event) → Tied g w n s → Rests g (ended w n e s)
-end_tied g w n s e t =
+-- nor has it a row
+pub begun_start : (g : List ℕ) (c : Config) (n j : ℕ) → Begun g (started c n j)
+unfolding started with_sessions row_of
+begun_start g c n j fixed led bare = refl
+
+pub end_tied : (g : List ℕ) (w : Scene) (n : ℕ) (s : Core) (e : Event) → Begun g s → ((m : ℕ) (c : Core) → m ≢ n → w.cores m ≡ Some c → Begun g c) → Tied g w n s → Rests g (ended w n e s)
+end_tied g w n s e own others t =
     record {
       ghost = t.ghost;
       life = t.life;
@@ -119,6 +124,7 @@ end_tied g w n s e t =
       nobody = t.nobody;
       turns = each_set (λ m o. (c : Core) → o ≡ Some c → InTurn c.views.view (reverse s.records ++ records_of w.before) c.sessions) w.cores n (Some s) (λ c q. let same : s ≡ c = cc in subst (λ (z : Core). InTurn z.views.view (reverse s.records ++ records_of w.before) z.sessions) same (turn_on (s.records ++ records_of w.before) (reverse s.records ++ records_of w.before) (λ r h. has_turned r s.records (records_of w.before) h) s.views.view s.views.view (lt_refl s.views.view) s.sessions t.turns.own)) (λ m ne c q. turn_on (records_of w.before) (reverse s.records ++ records_of w.before) (λ r h. append_has_right r (reverse s.records) (records_of w.before) h) c.views.view c.views.view (lt_refl c.views.view) c.sessions (t.turns.others m c ne q));
       sent = sent_on_more (s.records ++ records_of w.before) (reverse s.records ++ records_of w.before) (λ r h. has_turned r s.records (records_of w.before) h) t.ghost.ps t.ghost.ps (λ v p r y h. h) t.turns.sent;
+      begun = each_set (λ m o. (c : Core) → o ≡ Some c → Begun g c) w.cores n (Some s) (λ c q. let same : s ≡ c = cc in subst (Begun g) same own) (λ m ne c q. others m c ne q);
     }
 
 pub number_self : (n : ℕ) → (n == n) ≡ true
@@ -145,6 +151,7 @@ stop_tied g w n e s is t =
       nobody = t.nobody;
       turns = each_set (λ m o. (c : Core) → o ≡ Some c → InTurn c.views.view (happened.Down n ∷ records_of w.before) c.sessions) w.cores n None (λ c q. absurd (cc)) (λ m ne c q. turn_on (records_of w.before) (happened.Down n ∷ records_of w.before) (λ r h. inr h) c.views.view c.views.view (lt_refl c.views.view) c.sessions (t.turns m c q));
       sent = sent_on_more (records_of w.before) (happened.Down n ∷ records_of w.before) (λ r h. inr h) t.ghost.ps t.ghost.ps (λ v p r y h. h) t.sent;
+      begun = each_set (λ m o. (c : Core) → o ≡ Some c → Begun g c) w.cores n None (λ c q. absurd (cc)) (λ m ne c q. t.begun m c q);
     }
   where
     x : Ghost
@@ -167,6 +174,7 @@ nothing_tied g c =
       nobody = refl;
       turns = λ m c e. absurd (cc);
       sent = λ v p r y h. absurd h;
+      begun = λ m c e. absurd (cc);
     }
 
 -- ---- a start
@@ -326,6 +334,7 @@ module _ (g : List ℕ) (w : Scene) (n : ℕ) (e : Event) (free : is_fixed w.con
         asks = λ p r q h. not_asked p r q h;
         told = λ p r u h. inl (not_told p r u h);
         incs = λ m. incs_set t.ghost.nodes n z (omega (arith, inc_is)) m;
+        closed = λ v s c. absurd (let f : t.ghost.asks ≡ true = t.asks ∙ ap not free in let d = c.asks_not in cc);
       }
     where
       not_told : (p : ProviderId) (r : ℕ) (u : ViewId) → Has (Noted (Told p r u)) (Kept (In n (w.incs n + 1) v ms) ∷ Kept Begins ∷ t.ghost.all) → Has (Noted (Told p r u)) t.ghost.all
@@ -368,7 +377,7 @@ module _ (g : List ℕ) (w : Scene) (n : ℕ) (e : Event) (free : is_fixed w.con
           };
           row_is = record { list = (ap (λ (k : Standing). k.list) here, bare); stable = inl refl; leader = tt; acked = λ m i h. inl refl; covers = λ j k q h. absurd (let f = unled in cc) };
           order = tt;
-          gathering = tt;
+          gathering = λ a. refl;
           install = tt;
           owes = record {
             me = refl;
@@ -380,7 +389,7 @@ module _ (g : List ℕ) (w : Scene) (n : ℕ) (e : Event) (free : is_fixed w.con
             given = λ a h e f. absurd (let l = t.sound.started a h in let q : (t.ghost.nodes a.p.node).inc ≡ w.incs n = ap (λ m. (t.ghost.nodes m).inc) e ∙ inc_is in omega arith);
           };
           decides = record {
-            refused = λ p r q h. absurd (let f = unled in cc);
+            refused = λ p r q c h. absurd (let f = unled in cc);
             begun = λ p r i f q h. absurd (let f = unled in cc);
             waiting = λ p q h. absurd (let f = unled in cc);
             later = λ u l q p r h. not_led t.ghost t.life n u (w.incs n + 1) (omega (arith, inc_is)) q;
@@ -393,6 +402,7 @@ module _ (g : List ℕ) (w : Scene) (n : ℕ) (e : Event) (free : is_fixed w.con
           asks = t.asks;
           led = λ q. absurd (let f = free in cc);
           waits = λ k p q. absurd (cc);
+          idles = record { few = λ q e. omega arith; shut = λ e h. absurd (let f = unled in cc) };
         },
         refl,
         refl,
@@ -434,6 +444,7 @@ module _ (g : List ℕ) (w : Scene) (n : ℕ) (e : Event) (free : is_fixed w.con
         nobody = set_there w.incs n j 0 (λ q. real (sym q)) ∙ t.nobody;
         turns = each_set (λ m o. (c : Core) → o ≡ Some c → InTurn c.views.view (reverse s.records ++ records_of w.before) c.sessions) w.cores n (Some s) (λ c q. let same : s ≡ c = cc in subst (λ (z : Core). InTurn z.views.view (reverse s.records ++ records_of w.before) z.sessions) same (idle_turn s.views.view (reverse s.records ++ records_of w.before) s.sessions (idle_start w.config n j).0 (idle_start w.config n j).1)) (λ m ne c q. turn_on (records_of w.before) (reverse s.records ++ records_of w.before) (λ r h. append_has_right r (reverse s.records) (records_of w.before) h) c.views.view c.views.view (lt_refl c.views.view) c.sessions (t.turns m c q));
         sent = sent_on_more (records_of w.before) (reverse s.records ++ records_of w.before) (λ r h. append_has_right r (reverse s.records) (records_of w.before) h) t.ghost.ps t.ghost.ps (λ v p r y h. h) t.sent;
+        begun = each_set (λ m o. (c : Core) → o ≡ Some c → Begun g c) w.cores n (Some s) (λ c q. let same : s ≡ c = cc in subst (Begun g) same (begun_start g w.config n j)) (λ m ne c q. t.begun m c q);
         placed = each_set (λ m o. (c : Core) → o ≡ Some c → view_now m (reverse s.records ++ records_of w.before) ≡ Some c.views.view) w.cores n (Some s) (λ c q. let same : s ≡ c = cc in subst (λ (k : Core). view_now n (reverse s.records ++ records_of w.before) ≡ Some k.views.view) same now_here) (λ m ne c q. now_there m ne ∙ t.placed m c q);
       }
     where

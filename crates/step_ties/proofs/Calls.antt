@@ -240,7 +240,7 @@ module _ (g : List ℕ) (w : Scene) (n : ℕ) (s : Core) (t : Tied g w n s) wher
         ghost = t.ghost;
         life = t.life;
         lines = t.lines;
-        own = (record { stands = k.stands; row_is = k.row_is; order = k.order; gathering = k.gathering; install = k.install; owes = owes_later t.ghost g n s.views.inc s.sessions u l.0 k.owes; decides = k.decides; names = k.names; asks = k.asks; led = k.led; waits = k.waits }, t.own.1, t.own.2);
+        own = (record { stands = k.stands; row_is = k.row_is; order = k.order; gathering = k.gathering; install = k.install; owes = owes_later t.ghost g n s.views.inc s.sessions u l.0 k.owes; decides = k.decides; names = k.names; asks = k.asks; led = k.led; waits = k.waits; idles = k.idles }, t.own.1, t.own.2);
         others = t.others;
         packets = t.packets;
         sound = t.sound;
@@ -281,7 +281,7 @@ module _ (g : List ℕ) (w : Scene) (n : ℕ) (s : Core) (t : Tied g w n s) wher
 
       spares : (m : ℕ) → m ≢ n → Spares x y m
       spares m ne =
-          record { goes = goes; list = refl; leads = λ v z. refl; refusals = λ v p r h. inl h; stables = λ v k h. inl h; puts = puts_old m; told = λ p r v e h. told_old p r v h; shut = λ v e h. h; asked = λ b e h. asked_old b e h }
+          record { goes = goes; list = refl; leads = λ v z. refl; refusals = λ v p r h. inl h; stables = λ v k h. inl h; puts = puts_old m; told = λ p r v e h. told_old p r v h; shut = λ v e h. h; shut_led = λ v i e h. h; asked = λ b e h. asked_old b e h }
         where
           asked_old : (b : Asking) → b.p.node ≡ m → Has b (asking q.p q.r q.group ∷ x.asked) → Has b x.asked
           asked_old b e (inr h) = h
@@ -382,7 +382,7 @@ module _ (g : List ℕ) (w : Scene) (n : ℕ) (s : Core) (t : Tied g w n s) wher
       own_asks : NodeOf y g n (is_fixed s.config.mode) s.views (row_of s g) s.groups u s.names
       own_asks =
           let k = t.own.0 in
-          node_by x y goes n refl g (is_fixed s.config.mode) s.views (row_of s g) s.groups s.sessions u s.names s.names k.row_is.covers owes (decides_by x y goes n refl (λ v l e. e) (λ v p r h. h) s.views.inc s.views.view (row_of s g).led k.decides) (record { named = k.names.named; unnamed = k.names.unnamed; full = k.names.full }) k
+          node_by x y goes n refl g (is_fixed s.config.mode) s.views (row_of s g) s.groups s.sessions u s.names s.names k.row_is.covers owes (decides_by x y goes n refl (λ v l e. e) (λ v p r h. h) s.views.inc s.views.view (row_of s g).led k.decides) (record { named = k.names.named; unnamed = k.names.unnamed; full = k.names.full }) (record { few = k.idles.few; shut = k.idles.shut }) k
 
       asks_with : Tied g w n (recorded (with_sessions s u) (happened.Asked q.p q.r q.group q.proposal))
       unfolding recorded with_sessions row_of

@@ -1,5 +1,5 @@
 -- REQUEST: the leader of a group decides.
-use Rattle.std.proofs.Common.{◌≡◌, ◌≢◌, ◌≤◌, ◌⊎◌, ℕ, List, [], ◌∷◌, ◌++◌, Option, Some, None, Bool, true, false, refl, sym, ap, ◌∙◌, subst, inl, inr, arith}
+use Rattle.std.proofs.Common.{◌≡◌, ◌≢◌, ◌≤◌, ◌⊎◌, ℕ, List, [], ◌∷◌, ◌++◌, length, Option, Some, None, Bool, true, false, refl, sym, ap, ◌∙◌, subst, inl, inr, arith}
 use Rattle.std.specs.Prelude.{◌&&◌, ◌||◌, not, find, map}
 use Rattle.rsct_packet.specs.declared.ids.ViewId.{ViewId}
 use Rattle.rsct_packet.specs.declared.ids.ProviderId.{ProviderId}
@@ -40,7 +40,8 @@ use Rattle.step_ties.proofs.Works.{sent_kept}
 use Rattle.step_ties.proofs.Gone.{packet_goes}
 use Rattle.step_ties.proofs.Leads.{leads_known, leads_row, leads_same}
 use Rattle.node_groups.proofs.NameOrder.{cases_text, row_here, rows_ordered}
-use Rattle.step_ties.proofs.RowWorks.{waits_with, waits_of, row_kept}
+use Rattle.step_ties.proofs.Idle.{Calm, held_with, led_lightens}
+use Rattle.step_ties.proofs.RowWorks.{waits_with, waits_of, row_calm, row_kept}
 use Rattle.step_ties.proofs.Refusals.{refusing, refusal_spares, refusal_sound, refusing_turns}
 use Rattle.step_ties.proofs.Decisions.{among_push, differ_push, apart_instances, with_here, with_there, Newer, NoOlder, Ripe, newer_no_older, Unbegun, Fresh, fresh_unbegun, fresh_of, with_decision, decided_now, no_older_now, decided_still}
 use Rattle.step_ties.proofs.Appending.{MayPut, Leading, begins_goes}
@@ -81,7 +82,7 @@ module _ (x : Ghost) (n inc : ℕ) (v : ViewId) (l : Led) (p : ProviderId) (r : 
   pub taken_leader : LeaderKeeps x n inc v (with_decision p r None l)
   taken_leader =
       record {
-        refused = λ q k e i. decided_still l p r None newer q k (h.refused q k e i);
+        refused = λ q k e o i. decided_still l p r None newer q k (h.refused q k e o i);
         begun = λ q k i e a b c. decided_still l p r None newer q k (h.begun q k i e a b c);
         waiting = λ q e i. let z = h.waiting q e i in
             record { proposal = z.proposal; sent = z.sent; joins = z.joins; open_still = z.open_still; unbegun = z.unbegun; decided = decided_still l p r None newer q q.join z.decided };
@@ -100,7 +101,7 @@ module _ (x : Ghost) (n inc : ℕ) (v : ViewId) (l : Led) (p : ProviderId) (r : 
   pub refusing_leader : (why : Why) → Unbegun (x.nodes n).list l p r → LeaderKeeps (refusing x v p r) n inc v (with_decision p r (Some why) l)
   refusing_leader why fresh =
       record {
-        refused = λ q k e i. refused q k e i;
+        refused = λ q k e o i. refused q k e o i;
         begun = λ q k i e a b c. decided_still l p r (Some why) newer q k (h.begun q k i e a b c);
         waiting = λ q e i. let z = h.waiting q e i in
             record { proposal = z.proposal; sent = inr z.sent; joins = z.joins; open_still = λ k. still_open q i z.open_still k; unbegun = z.unbegun; decided = decided_still l p r (Some why) newer q q.join z.decided };
@@ -111,9 +112,9 @@ module _ (x : Ghost) (n inc : ℕ) (v : ViewId) (l : Led) (p : ProviderId) (r : 
         lasts = lasts_on (Some why);
       }
     where
-      refused : (q : ProviderId) (k : ℕ) → x.leads v ≡ Some (member n inc) → Has (group.Refusal v q k) (group.Refusal v p r ∷ x.ps) → Decided (with_decision p r (Some why) l) q k
-      refused q k e (inr i) = decided_still l p r (Some why) newer q k (h.refused q k e i)
-      refused q k e (inl s) =
+      refused : (q : ProviderId) (k : ℕ) → x.leads v ≡ Some (member n inc) → (Has v x.shut → ⊥) → Has (group.Refusal v q k) (group.Refusal v p r ∷ x.ps) → Decided (with_decision p r (Some why) l) q k
+      refused q k e o (inr i) = decided_still l p r (Some why) newer q k (h.refused q k e o i)
+      refused q k e o (inl s) =
           let a : p ≡ q = cc in
           let b : r ≡ k = cc in
           subst (λ (z : ProviderId × ℕ). Decided (with_decision p r (Some why) l) z.0 z.1) (λ i. (a i, b i)) (decided_now l p r (Some why))
@@ -141,7 +142,7 @@ pub waiting_leader : (x : Ghost) (n inc : ℕ) (v : ViewId) (l m : Led) (p : Pro
 unfolding decision_of
 waiting_leader x n inc v l m p a same more led sent joins decided last fresh apart h =
     record {
-      refused = λ q k e i. moved q k (h.refused q k e i);
+      refused = λ q k e o i. moved q k (h.refused q k e o i);
       begun = λ q k i e b c d. moved q k (h.begun q k i e b c d);
       waiting = λ q e i. waits q (among_push l.waiting.joins p q (subst (λ js. among js q ≡ true) more i));
       later = h.later;
@@ -224,7 +225,7 @@ module _ (g : List ℕ) (w : Scene) (n : ℕ) (s : Core) where
     pub taken_goes : (u : Leading g w n s (decision_kept c h p r None)) × (u.tied.ghost ≡ t.tied.ghost)
     unfolding decision_kept with_led with_row
     taken_goes =
-        let k = row_kept g w n c t.tied h (deciding_row p r None) (λ x. refl) (waits_of g w n c t.tied h) new in
+        let k = row_kept g w n c t.tied h (deciding_row p r None) (λ x. refl) (led_lightens (with_decision p r None) (λ l. omega arith)) (waits_of g w n c t.tied h) new in
         (record { tied = k.0; same = t.same; leads = row_leads None }, k.1)
       where
         new : h ≡ g → RowIs t.tied.ghost n c.views.view c.views.members (deciding_row p r None (row_of c h)) × LeaderKeeps t.tied.ghost n c.views.inc c.views.view (with_decision p r None (row_of c h).led)
@@ -258,7 +259,7 @@ module _ (g : List ℕ) (w : Scene) (n : ℕ) (s : Core) where
         let F : GroupRow → GroupRow = deciding_row p r (Some why) in
         let o : Goes x y = packet_goes x (group.Refusal v p r) in
         let is : RowIs x n v c.views.members (F (row_of c g)) = record { list = k.row_is.list; stable = k.row_is.stable; leader = k.row_is.leader; acked = k.row_is.acked; covers = k.row_is.covers } in
-        subst (λ row. NodeOf y g n (is_fixed c.config.mode) c.views row (with_row c g F).groups c.sessions c.names) (sym (row_here g F (λ z. refl) c k.order)) (node_rows_by x y o n refl g (is_fixed c.config.mode) c.views (row_of c g) (F (row_of c g)) c.groups (with_row c g F).groups c.sessions c.sessions c.names c.names is (λ j i e b. k.row_is.covers j i e (stable_old i b)) (rows_ordered g F (λ z. refl) c k.order) (waits_with x c g F (λ z. refl) k.order k.waits (waits_of g w n c t g)) (owes_by x y o n (λ a e i. i) (λ u j e i. i) (λ q j u e i. i) g c.views.inc c.sessions k.owes) (refusing_leader x n c.views.inc v (row_of c g).led p r newer ripe k.decides why fresh) (record { named = k.names.named; unnamed = k.names.unnamed; full = k.names.full }) k)
+        subst (λ row. NodeOf y g n (is_fixed c.config.mode) c.views row (with_row c g F).groups c.sessions c.names) (sym (row_here g F (λ z. refl) c k.order)) (node_rows_by x y o n refl g (is_fixed c.config.mode) c.views (row_of c g) (F (row_of c g)) c.groups (with_row c g F).groups c.sessions c.sessions c.names c.names is (λ j i e b. k.row_is.covers j i e (stable_old i b)) (rows_ordered g F (λ z. refl) c k.order) (waits_with x c g F (λ z. refl) k.order k.waits (waits_of g w n c t g)) (owes_by x y o n (λ a e i. i) (λ u j e i. i) (λ q j u e i. i) g c.views.inc c.sessions k.owes) (refusing_leader x n c.views.inc v (row_of c g).led p r newer ripe k.decides why fresh) (record { named = k.names.named; unnamed = k.names.unnamed; full = k.names.full }) (record { few = k.idles.few; shut = λ e i. let a = k.idles.shut e i in record { bare = a.bare; idle = a.idle; full = let b = a.full in let d = held_with c g F (λ row e. e) in omega arith } }) k)
 
     refused_row : (u : Tied g w n (with_row c g (deciding_row p r (Some why)))) × (u.ghost ≡ y)
     unfolding row_of with_row
@@ -300,16 +301,16 @@ module _ (g : List ℕ) (w : Scene) (n : ℕ) (s : Core) where
           let k : P h = subst P (sym e) (refused_row c p r why t.tied (subst (λ z. NoOlder (row_of c z).led p r) e (newer e)) (subst (λ z. Ripe (row_of c z).led p r) e (ripe e)) known (subst (λ z. Unbegun (t.tied.ghost.nodes n).list (row_of c z).led p r) e (fresh e))) in
           done k.0 (λ _. subst (λ (z : Ghost). Has (group.Refusal c.views.view p r) z.ps) (sym k.1) (inl refl)) (ap (λ (z : Ghost). z.asked) k.1) (λ _. k.1)
       by (inr ne) =
-          let k = row_kept g w n c t.tied h (deciding_row p r (Some why)) (λ x. refl) (waits_of g w n c t.tied h) (λ e. absurd (ne e)) in
+          let k = row_kept g w n c t.tied h (deciding_row p r (Some why)) (λ x. refl) (led_lightens (with_decision p r (Some why)) (λ l. omega arith)) (waits_of g w n c t.tied h) (λ e. absurd (ne e)) in
           done k.0 (λ e. absurd (ne e)) (ap (λ (z : Ghost). z.asked) k.1) (λ e. absurd (ne e))
 
-module _ (g : List ℕ) (w : Scene) (n : ℕ) (s : Core) (f : Answering) (thawed : s.views.promise ≡ s.views.view) (h : List ℕ) (p : ProviderId) (r : ℕ) (x : Proposal) (made : Has (p, r) (requests_of x)) (led : h ≡ g → leads s h ≡ true) (c : Core) (t : Leading g w n s c) (newer : h ≡ g → Newer (row_of c h).led p r) (ripe : h ≡ g → Ripe (row_of c h).led p r) (asked : Has (asking p r h) t.tied.ghost.asked) (request : h ≡ g → Has (group.Request c.views.view p r x) t.tied.ghost.ps) where
+module _ (g : List ℕ) (w : Scene) (n : ℕ) (s : Core) (f : Answering) (thawed : s.views.promise ≡ s.views.view) (h : List ℕ) (p : ProviderId) (r : ℕ) (x : Proposal) (made : Has (p, r) (requests_of x)) (led : h ≡ g → leads s h ≡ true) (c : Core) (t : Leading g w n s c) (newer : h ≡ g → Newer (row_of c h).led p r) (ripe : h ≡ g → Ripe (row_of c h).led p r) (asked : Has (asking p r h) t.tied.ghost.asked) (request : h ≡ g → Has (group.Request c.views.view p r x) t.tied.ghost.ps) (unshut : h ≡ g → Has c.views.view t.tied.ghost.shut → ⊥) (begun : h ≡ g → is_fixed c.config.mode ≡ true → (row_of c h).list ≡ None → (row_of c h).led.waiting.joins ≡ []) where
   known : h ≡ g → t.tied.ghost.leads c.views.view ≡ Some (member n c.views.inc)
   known e = leads_known g w n c t.tied (t.leads g ∙ subst (λ z. leads s z ≡ true) e (led e))
 
   fresh_now : h ≡ g → Fresh t.tied.ghost c.views.view (t.tied.ghost.nodes n).list (row_of c h).led p r
   fresh_now e =
-      fresh_of t.tied.ghost n c.views.inc c.views.view (row_of c h).led p r (known e) (subst (λ z. LeaderKeeps t.tied.ghost n c.views.inc c.views.view (row_of c z).led) (sym e) t.tied.own.0.decides) (newer e)
+      fresh_of t.tied.ghost n c.views.inc c.views.view (row_of c h).led p r (known e) (unshut e) (subst (λ z. LeaderKeeps t.tied.ghost n c.views.inc c.views.view (row_of c z).led) (sym e) t.tied.own.0.decides) (newer e)
 
   no_older : h ≡ g → NoOlder (row_of c h).led p r
   no_older e = newer_no_older (row_of c h).led p r (newer e)
@@ -321,6 +322,10 @@ module _ (g : List ℕ) (w : Scene) (n : ℕ) (s : Core) (f : Answering) (thawed
   unfolding decision_kept with_led
   taken_row = ap (λ (z : GroupRow). z.led) (row_here h (deciding_row g w n s p r None) (λ z. refl) c t.tied.own.0.order)
 
+  taken_whole : row_of (decision_kept c h p r None) h ≡ deciding_row g w n s p r None (row_of c h)
+  unfolding decision_kept with_led
+  taken_whole = row_here h (deciding_row g w n s p r None) (λ z. refl) c t.tied.own.0.order
+
   -- a join waits
   waits_goes_on : (a : Attrs) (idle : Bool) (ps : List ProviderId) (attrs : Attrs) (len : Option ℕ) → x ≡ Join ps attrs len → among (row_of c h).led.waiting.joins p ≡ false → Leading g w n s (join_waits c h p r a idle)
   unfolding join_waits decision_kept with_led with_row
@@ -328,9 +333,17 @@ module _ (g : List ℕ) (w : Scene) (n : ℕ) (s : Core) (f : Answering) (thawed
       let u = taken_goes g w n s c h p r t no_older ripe in
       let F : GroupRow → GroupRow = λ row. record row { led = record (row.led) { waiting = waits_join p row.led.waiting; join_attrs = attrs_kept row.led.join_attrs p a idle } } in
       let numbered = joins_numbered ps p r (subst (λ z. Has (p, r) (requests_of z)) is made) in
-      let k = row_kept g w n taken u.0.tied h F (λ z. refl) (λ q i. asked_of u.0.tied u.1 numbered.0 q i) (new u.0.tied u.1 numbered.0 numbered.1) in
+      let k = row_calm g w n taken u.0.tied h F (λ z. refl) (λ row e. e) (λ e. calm u.0.tied u.1 e) (λ q i. asked_of u.0.tied u.1 numbered.0 q i) (new u.0.tied u.1 numbered.0 numbered.1) in
       record { tied = k.0; same = u.0.same; leads = λ z. leads_row taken h F (λ z. refl) (λ z. refl) u.0.tied.own.0.order z ∙ u.0.leads z }
     where
+      -- no other join waits where there is no list
+      calm : (u : Tied g w n taken) → u.ghost ≡ t.tied.ghost → h ≡ g → Calm u.ghost n taken.views.inc taken.views.view (is_fixed taken.config.mode) (record (row_of taken h) { led = record ((row_of taken h).led) { waiting = waits_join p (row_of taken h).led.waiting; join_attrs = attrs_kept (row_of taken h).led.join_attrs p a idle } })
+      calm u same e =
+          record {
+            few = λ q none. let b = begun e q (sym (ap (λ (row : GroupRow). row.list) taken_whole) ∙ none) in let d : (row_of taken h).led.waiting.joins ≡ [] = ap (λ (row : GroupRow). row.led.waiting.joins) taken_whole ∙ b in let i : length ((row_of taken h).led.waiting.joins ++ p ∷ []) ≡ 1 = ap (λ (js : List ProviderId). length (js ++ p ∷ [])) d in omega arith;
+            idle = λ q i. absurd (unshut e (subst (λ (z : Ghost). Has c.views.view z.shut) same i));
+          }
+
       asked_of : (u : Tied g w n taken) → u.ghost ≡ t.tied.ghost → r ≡ p.join → (q : ProviderId) → among ((row_of taken h).led.waiting.joins ++ p ∷ []) q ≡ true → Has (asking q q.join h) u.ghost.asked
       asked_of u same number q i = at (among_push (row_of taken h).led.waiting.joins p q i)
         where
@@ -374,6 +387,7 @@ module _ (g : List ℕ) (w : Scene) (n : ℕ) (s : Core) (f : Answering) (thawed
                 subst (λ (y : ProviderId × ℕ × Led). Decided y.2 y.0 y.1) (λ j. (sym z.0 j, sym z.1 j, sym taken_row j)) (decided_now (row_of c h).led p r None);
             waits_not = λ a i k. let z = same a a.join k in
                 old.unwaiting (subst (λ (y : ProviderId × Led). among y.1.waiting.joins y.0 ≡ true) (λ j. (z.0 j, taken_row j)) i) (ap (λ (y : ProviderId). y.join) (sym z.0) ∙ z.1);
+            unshut = unshut e;
           }
         where
           same : (a : ProviderId) (k : ℕ) → Has (a, k) (carried d) → (a ≡ p) × (k ≡ r)

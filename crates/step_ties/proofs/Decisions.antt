@@ -140,10 +140,10 @@ pub record Fresh (x : Ghost) (v : ViewId) (list : List Entry) (l : Led) (p : Pro
 pub fresh_unbegun : (x : Ghost) (v : ViewId) (list : List Entry) (l : Led) (p : ProviderId) (r : ℕ) → Fresh x v list l p r → Unbegun list l p r
 fresh_unbegun x v list l p r h = record { unbegun = h.unbegun; unwaiting = h.unwaiting }
 
-pub fresh_of : (x : Ghost) (n inc : ℕ) (v : ViewId) (l : Led) (p : ProviderId) (r : ℕ) → x.leads v ≡ Some (member n inc) → LeaderKeeps x n inc v l → Newer l p r → Fresh x v (x.nodes n).list l p r
-fresh_of x n inc v l p r led k newer =
+pub fresh_of : (x : Ghost) (n inc : ℕ) (v : ViewId) (l : Led) (p : ProviderId) (r : ℕ) → x.leads v ≡ Some (member n inc) → (Has v x.shut → ⊥) → LeaderKeeps x n inc v l → Newer l p r → Fresh x v (x.nodes n).list l p r
+fresh_of x n inc v l p r led unshut k newer =
     record {
-      unrefused = λ h. old r (k.refused p r led h) (omega arith);
+      unrefused = λ h. old r (k.refused p r led unshut h) (omega arith);
       unbegun = λ i e a b. old r (k.begun p r i e led a b) (omega arith);
       unwaiting = λ i q. old p.join (k.waiting p led i).decided (omega arith);
     }

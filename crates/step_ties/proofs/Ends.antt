@@ -1,6 +1,6 @@
 -- The end of a step: what waits begins.
 use Rattle.std.proofs.Common.{◌≡◌, ◌≤◌, ℕ, zero, suc, List, [], ◌∷◌, length, Option, Some, None, Bool, true, false, refl, sym, ap, ◌∙◌, subst, inl, inr, arith}
-use Rattle.std.specs.Prelude.{◌||◌, not, filter, find, fold}
+use Rattle.std.specs.Prelude.{◌||◌, ◌*◌, not, filter, find, fold}
 use Rattle.std.proofs.lemmas.Bool.{and_parts}
 use Rattle.rsct_packet.specs.declared.ids.ViewId.{ViewId}
 use Rattle.rsct_packet.specs.declared.ids.ProviderId.{ProviderId}
@@ -15,19 +15,23 @@ use Rattle.group_entry.specs.declared.proposal.Failure.{Failure}
 use Rattle.group_entry.specs.declared.proposal.Proposal.{Proposal}
 use Rattle.group_entry.specs.declared.proposal.Proposal.TheVariants.{Join, Fail, Reflect}
 use Rattle.proposal_core.specs.declared.group_state.GroupState.{GroupState}
-use Rattle.proposal_core.specs.Lists.{list_or_new}
+use Rattle.proposal_core.specs.Fold.{empty_state}
+use Rattle.proposal_core.specs.Lists.{max_places, list_or_new}
 use Rattle.batch_rules.specs.Waiting.{batches_failures, batches_joins, chosen_of, left_of, next_failures, failures_left}
 use Rattle.source_target.specs.declared.Due.{Due}
 use Rattle.source_target.specs.declared.Due.TheVariants as due
 use Rattle.source_target.specs.Due as target
 use Rattle.client_callbacks.specs.declared.told.Why.TheVariants.{NoSource}
+use Rattle.view_exchange.specs.declared.exchange.Exchange.{Exchange}
 use Rattle.view_core.specs.declared.views.Views.{Views}
 use Rattle.view_core.specs.Views.{is_frozen}
+use Rattle.node_state.specs.declared.config.Config.{Config}
 use Rattle.node_state.specs.declared.group.Decision.{Decision}
 use Rattle.node_state.specs.declared.group.GroupRow.{GroupRow}
 use Rattle.node_state.specs.declared.group.Led.{Led}
 use Rattle.node_state.specs.declared.state.Core.{Core}
-use Rattle.node_state.specs.State.{row_of, with_row, with_led, led_of, state_of, frozen, leads, led_groups, decision_of, decisions_with}
+use Rattle.node_state.specs.Settings.{is_fixed}
+use Rattle.node_state.specs.State.{row_of, with_row, with_led, led_of, list_of, state_of, frozen, leads, led_groups, decision_of, decisions_with}
 use Rattle.node_state.specs.HandOn.{Answering}
 use Rattle.node_state.specs.Leading.{with_waiting, begins}
 use Rattle.rsct_packet.specs.Ids.{same_view}
@@ -39,17 +43,20 @@ use Rattle.run_safety.specs.Group.{member}
 use Rattle.run_safety.specs.Group as group
 use Rattle.run_safety.specs.Requests.{requests_of, proposal_of, carried, carried_by, IsJoin}
 use Rattle.run_safety.specs.Moves as moves
-use Rattle.step_ties.specs.Ghost.{asking, Ghost}
-use Rattle.step_ties.specs.Tied.{RowIs, Decided, LeaderKeeps, Scene, Tied}
+use Rattle.step_ties.specs.Ghost.{asking, Ghost, GathersIf}
+use Rattle.step_ties.specs.Tied.{RowIs, Decided, LeaderKeeps, Scene, Begun, Tied}
 use Rattle.step_ties.proofs.Leads.{leads_known, leads_row}
+use Rattle.node_groups.specs.Places.{InNameOrder}
 use Rattle.node_groups.proofs.NameOrder.{row_here}
 use Rattle.step_ties.proofs.RowWorks.{waits_of, row_kept}
-use Rattle.step_ties.proofs.ViewRows.{same_of}
+use Rattle.step_ties.proofs.ViewRows.{same_of, apart_of}
 use Rattle.step_ties.proofs.Refusals.{refusing}
 use Rattle.step_ties.proofs.Decisions.{NoOlder, Unbegun, Fresh, with_decision, with_here, with_there, decided_still}
 use Rattle.step_ties.proofs.Deciding.{refused_goes}
 use Rattle.step_ties.proofs.LedGroups.{led_are_led}
-use Rattle.step_ties.proofs.Appending.{MayPut, may_carry_none, Leading, led_goes, begins_goes}
+use Rattle.step_ties.proofs.Idle.{led_lightens}
+use Rattle.step_ties.proofs.Begun.{drop_fewer, led_begun}
+use Rattle.step_ties.proofs.Appending.{MayPut, may_carry_none, busy_open, state_open, Leading, led_goes, begins_goes}
 use Rattle.step_ties.proofs.SessionLaws.{provider_self, provider_same}
 
 -- ---- lists of providers
@@ -93,6 +100,11 @@ chosen_gone false (x ∷ xs) p d (inl q) e =
     let b : among xs x ≡ true = subst (λ z. among xs z ≡ true) q e in
     let c : not true ≡ true = ap not (sym b) ∙ a in cc
 
+-- one of them
+one_there : (ps : List ProviderId) → is_empty ps ≡ false → (p : ProviderId) × Has p ps
+one_there [] e = absurd (cc)
+one_there (p ∷ ps) e = (p, inl refl)
+
 -- a join that is about to begin
 record Ready (x : Ghost) (v : ViewId) (list : List Entry) (l : Led) (p : ProviderId) : Type 0 where
   pub proposal : Proposal
@@ -100,6 +112,7 @@ record Ready (x : Ghost) (v : ViewId) (list : List Entry) (l : Led) (p : Provide
   pub joins : IsJoin p proposal
   pub decided : Decided l p p.join
   pub fresh : Fresh x v list l p p.join
+  pub unshut : Has v x.shut → ⊥
 
 -- a decision on p's join is the last on it
 no_older_still : (l : Led) (p q : ProviderId) (why : Option Why) → NoOlder l q q.join → NoOlder (with_decision p p.join why l) q q.join
@@ -117,14 +130,35 @@ no_older_still l p q why h d e = by (same_provider p q) refl
 
 module _ (g : List ℕ) (w : Scene) (n : ℕ) (s : Core) (f : Answering) (thawed : s.views.promise ≡ s.views.view) where
   -- what carries no request begins
-  plain_begins : (c : Core) (h : List ℕ) (x : Proposal) (phases : Phases) → requests_of x ≡ [] → (h ≡ g → leads s h ≡ true) → Leading g w n s c → Leading g w n s (begins f c h x phases)
-  plain_begins c h x phases none led t =
-      begins_goes g w n s f thawed c h x phases led t (λ e d q. may_carry_none t.tied.ghost c.views.view (t.tied.ghost.nodes n).list (row_of c h).led d (ap carried_by q ∙ none))
+  plain_begins : (c : Core) (h : List ℕ) (x : Proposal) (phases : Phases) → requests_of x ≡ [] → (h ≡ g → leads s h ≡ true) → (t : Leading g w n s c) → (h ≡ g → Has c.views.view t.tied.ghost.shut → ⊥) → Leading g w n s (begins f c h x phases)
+  plain_begins c h x phases none led t unshut =
+      begins_goes g w n s f thawed c h x phases led t (λ e d q. may_carry_none t.tied.ghost c.views.view (t.tied.ghost.nodes n).list (row_of c h).led d (ap carried_by q ∙ none) (unshut e))
+
+  abbrev fewer_fail : Core → List ℕ → Led → Led
+  fewer_fail c h l = record l { waiting = failures_left (state_of c h).attrs.batch l.waiting }
+
+  abbrev who_fails : Core → List ℕ → GroupState → List Failure
+  who_fails c h st = filter (λ (x : Failure). among st.members x.p) (next_failures (state_of c h).attrs.batch (led_of c h).waiting)
+
+  -- where a member fails, there is a list
+  fails_unshut : (c : Core) (h : List ℕ) → (h ≡ g → leads s h ≡ true) → InNameOrder c.groups → (t : Leading g w n s (with_led c h (fewer_fail c h))) → is_empty (who_fails c h (state_of c h)) ≡ false → h ≡ g → Has c.views.view t.tied.ghost.shut → ⊥
+  unfolding with_led with_row state_of list_of
+  fails_unshut c h led order t some same =
+      state_open g w n s (with_led c h (fewer_fail c h)) h t led same (λ e. none (ap (λ (row : GroupRow). (list_or_new row.list).state) (sym (row_here h (λ row. record row { led = fewer_fail c h row.led }) (λ x. refl) c order)) ∙ e))
+    where
+      nobody : (xs : List Failure) → is_empty (filter (λ (x : Failure). among [] x.p) xs) ≡ true
+      nobody [] = refl
+      nobody (x ∷ xs) = nobody xs
+
+      none : state_of c h ≡ empty_state → ⊥
+      none e =
+          let z : is_empty (who_fails c h (state_of c h)) ≡ true = ap (λ (st : GroupState). is_empty (who_fails c h st)) e ∙ nobody (next_failures (state_of c h).attrs.batch (led_of c h).waiting) in
+          let y : true ≡ false = sym z ∙ some in cc
 
   failures_end : (fuel : ℕ) (c : Core) (h : List ℕ) → (h ≡ g → leads s h ≡ true) → Leading g w n s c → Leading g w n s (failures_begin fuel f c h).core
-  unfolding failures_begin with_waiting
+  unfolding failures_begin with_waiting with_led with_row
   failures_end zero c h led t = t
-  failures_end (suc k) c h led t = by (is_empty out) (failures_end k)
+  failures_end (suc k) c h led t = by (is_empty out) refl (failures_end k)
     where
       out : List Failure
       out = filter (λ (x : Failure). among (state_of c h).members x.p) (next_failures (state_of c h).attrs.batch (led_of c h).waiting)
@@ -132,20 +166,21 @@ module _ (g : List ℕ) (w : Scene) (n : ℕ) (s : Core) (f : Answering) (thawed
       now : Leading g w n s (with_led c h (λ l. record l { waiting = failures_left (state_of c h).attrs.batch l.waiting }))
       now = led_goes g w n s c h (λ l. record l { waiting = failures_left (state_of c h).attrs.batch l.waiting }) (λ l. (refl, refl, refl)) t
 
-      by : (b : Bool) → ((d : Core) (j : List ℕ) → (j ≡ g → leads s j ≡ true) → Leading g w n s d → Leading g w n s (failures_begin k f d j).core) → Leading g w n s (elim b as (λ _. Pass) [ true ↦ failures_begin k f (with_led c h (λ l. record l { waiting = failures_left (state_of c h).attrs.batch l.waiting })) h | false ↦ begun_now (begins f (with_led c h (λ l. record l { waiting = failures_left (state_of c h).attrs.batch l.waiting })) h (Fail (filter (λ (x : Failure). among (state_of c h).members x.p) (next_failures (state_of c h).attrs.batch (led_of c h).waiting))) (state_of c h).attrs.phases) ]).core
-      by true rest = rest (with_led c h (λ l. record l { waiting = failures_left (state_of c h).attrs.batch l.waiting })) h led now
-      by false rest = plain_begins (with_led c h (λ l. record l { waiting = failures_left (state_of c h).attrs.batch l.waiting })) h (Fail (filter (λ (x : Failure). among (state_of c h).members x.p) (next_failures (state_of c h).attrs.batch (led_of c h).waiting))) (state_of c h).attrs.phases refl led now
+      by : (b : Bool) → is_empty out ≡ b → ((d : Core) (j : List ℕ) → (j ≡ g → leads s j ≡ true) → Leading g w n s d → Leading g w n s (failures_begin k f d j).core) → Leading g w n s (elim b as (λ _. Pass) [ true ↦ failures_begin k f (with_led c h (λ l. record l { waiting = failures_left (state_of c h).attrs.batch l.waiting })) h | false ↦ begun_now (begins f (with_led c h (λ l. record l { waiting = failures_left (state_of c h).attrs.batch l.waiting })) h (Fail (filter (λ (x : Failure). among (state_of c h).members x.p) (next_failures (state_of c h).attrs.batch (led_of c h).waiting))) (state_of c h).attrs.phases) ]).core
+      by true e rest = rest (with_led c h (λ l. record l { waiting = failures_left (state_of c h).attrs.batch l.waiting })) h led now
+      by false e rest = plain_begins (with_led c h (λ l. record l { waiting = failures_left (state_of c h).attrs.batch l.waiting })) h (Fail (filter (λ (x : Failure). among (state_of c h).members x.p) (next_failures (state_of c h).attrs.batch (led_of c h).waiting))) (state_of c h).attrs.phases refl led now (fails_unshut c h led t.tied.own.0.order now e)
 
-  due_end : (c : Core) (h : List ℕ) (st : GroupState) (k : List ℕ) (o : Option Due) → (h ≡ g → leads s h ≡ true) → Leading g w n s c → Leading g w n s (due_begins f c h st k o).core
+  due_end : (c : Core) (h : List ℕ) (st : GroupState) (k : List ℕ) (o : Option Due) → (h ≡ g → leads s h ≡ true) → (t : Leading g w n s c) → (h ≡ g → Has c.views.view t.tied.ghost.shut → ⊥) → Leading g w n s (due_begins f c h st k o).core
   unfolding due_begins
-  due_end c h st k None led t = t
-  due_end c h st k (Some (due.CastOut out)) led t = plain_begins c h (Fail (chosen_of (batches_failures st.attrs.batch) out)) st.attrs.phases refl led t
-  due_end c h st k (Some (due.Reflect v i)) led t = plain_begins c h (Reflect v i (state_of c k).value) st.attrs.source_phases refl led t
+  due_end c h st k None led t unshut = t
+  due_end c h st k (Some (due.CastOut out)) led t unshut = plain_begins c h (Fail (chosen_of (batches_failures st.attrs.batch) out)) st.attrs.phases refl led t unshut
+  due_end c h st k (Some (due.Reflect v i)) led t unshut = plain_begins c h (Reflect v i (state_of c k).value) st.attrs.source_phases refl led t unshut
 
-  source_end : (c : Core) (h : List ℕ) (st : GroupState) (o : Option (List ℕ)) → (h ≡ g → leads s h ≡ true) → Leading g w n s c → Leading g w n s (source_begins f c h st o).core
+  source_end : (c : Core) (h : List ℕ) (st : GroupState) (o : Option (List ℕ)) → (state_of c h).attrs.source ≡ o → (h ≡ g → leads s h ≡ true) → Leading g w n s c → Leading g w n s (source_begins f c h st o).core
   unfolding source_begins
-  source_end c h st None led t = t
-  source_end c h st (Some k) led t = due_end c h st k (target.due st (known_state c k)) led t
+  source_end c h st None is led t = t
+  source_end c h st (Some k) is led t =
+      due_end c h st k (target.due st (known_state c k)) led t (λ e. state_open g w n s c h t led e (λ none. let z : Some k ≡ None = sym is ∙ ap (λ (st : GroupState). st.attrs.source) none in cc))
 
   -- ---- joins
 
@@ -173,7 +208,7 @@ module _ (g : List ℕ) (w : Scene) (n : ℕ) (s : Core) (f : Answering) (thawed
     fewer e =
         let k = (keeps e).1 in
         record {
-          refused = λ q r a i. let z = k.refused q r a i in record { last = z.last; kept_it = z.kept_it; later = z.later };
+          refused = λ q r a o i. let z = k.refused q r a o i in record { last = z.last; kept_it = z.kept_it; later = z.later };
           begun = λ q r i x a y z. let z = k.begun q r i x a y z in record { last = z.last; kept_it = z.kept_it; later = z.later };
           waiting = λ q a i. let z = k.waiting q a (left_there b (row_of c h).led.waiting.joins q i) in
               record { proposal = z.proposal; sent = z.sent; joins = z.joins; open_still = z.open_still; unbegun = z.unbegun; decided = record { last = z.decided.last; kept_it = z.decided.kept_it; later = z.decided.later } };
@@ -187,7 +222,7 @@ module _ (g : List ℕ) (w : Scene) (n : ℕ) (s : Core) (f : Answering) (thawed
     left_row : (u : Leading g w n s d) × (u.tied.ghost ≡ t.tied.ghost)
     unfolding with_row
     left_row =
-        let k = row_kept g w n c t.tied h R (λ x. refl) (λ p i. waits_of g w n c t.tied h p (left_there b (row_of c h).led.waiting.joins p i)) new in
+        let k = row_kept g w n c t.tied h R (λ x. refl) (led_lightens L (λ l. drop_fewer b l.waiting.joins)) (λ p i. waits_of g w n c t.tied h p (left_there b (row_of c h).led.waiting.joins p i)) new in
         (record { tied = k.0; same = t.same; leads = λ z. leads_row c h R (λ x. refl) (λ x. refl) t.tied.own.0.order z ∙ t.leads z }, k.1)
       where
         new : h ≡ g → RowIs t.tied.ghost n c.views.view c.views.members (R (row_of c h)) × LeaderKeeps t.tied.ghost n c.views.inc c.views.view (L (row_of c h).led)
@@ -213,7 +248,7 @@ module _ (g : List ℕ) (w : Scene) (n : ℕ) (s : Core) (f : Answering) (thawed
         let k = (keeps e).1.waiting p (known e) there in
         let gone = chosen_gone b l.waiting.joins p (keeps e).1.apart i in
         let P : Ghost → Led → Type 0 = λ z y. Ready z c.views.view (z.nodes n).list y p × NoOlder y p p.join in
-        let here : P t.tied.ghost (L l) = (record { proposal = k.proposal; sent = k.sent; joins = k.joins; decided = record { last = k.decided.last; kept_it = k.decided.kept_it; later = k.decided.later }; fresh = record { unrefused = k.open_still; unbegun = k.unbegun; unwaiting = λ z q. gone z } }, λ z q. (keeps e).1.lasts p z there q) in
+        let here : P t.tied.ghost (L l) = (record { proposal = k.proposal; sent = k.sent; joins = k.joins; decided = record { last = k.decided.last; kept_it = k.decided.kept_it; later = k.decided.later }; fresh = record { unrefused = k.open_still; unbegun = k.unbegun; unwaiting = λ z q. gone z }; unshut = busy_open g w n s c h t led e (λ none idle. let z : among [] p ≡ true = subst (λ js. among js p ≡ true) idle there in cc) }, λ z q. (keeps e).1.lasts p z there q) in
         subst (λ (z : Ghost × Led). P z.0 z.1) (λ j. (sym left_row.1 j, sym (ap (λ (y : GroupRow). y.led) row_now) j)) here
 
   -- some are to be refused, and others are about to begin
@@ -263,7 +298,7 @@ module _ (g : List ℕ) (w : Scene) (n : ℕ) (s : Core) (f : Answering) (thawed
         ready : h ≡ g → (p : ProviderId) → (q ≡ p → ⊥) → Ready t.ends.tied.ghost c.views.view (t.ends.tied.ghost.nodes n).list (row_of c h).led p → NoOlder (row_of c h).led p p.join → Ready goes_on.0.tied.ghost (refused c h q q.join (NoSource places)).views.view (goes_on.0.tied.ghost.nodes n).list (row_of (refused c h q q.join (NoSource places)) h).led p × NoOlder (row_of (refused c h q q.join (NoSource places)) h).led p p.join
         ready e p ne a b =
             let P : Ghost → Views → Led → Type 0 = λ z v l. Ready z v.view (z.nodes n).list l p × NoOlder l p p.join in
-            let now : P (refusing t.ends.tied.ghost c.views.view q q.join) c.views (with_decision q q.join (Some (NoSource places)) (row_of c h).led) = (record { proposal = a.proposal; sent = inr a.sent; joins = a.joins; decided = decided_still (row_of c h).led q q.join (Some (NoSource places)) (t.still e q (inl refl)).0 p p.join a.decided; fresh = record { unrefused = unrefused p ne a.fresh.unrefused; unbegun = a.fresh.unbegun; unwaiting = a.fresh.unwaiting } }, no_older_still (row_of c h).led q p (Some (NoSource places)) b) in
+            let now : P (refusing t.ends.tied.ghost c.views.view q q.join) c.views (with_decision q q.join (Some (NoSource places)) (row_of c h).led) = (record { proposal = a.proposal; sent = inr a.sent; joins = a.joins; decided = decided_still (row_of c h).led q q.join (Some (NoSource places)) (t.still e q (inl refl)).0 p p.join a.decided; fresh = record { unrefused = unrefused p ne a.fresh.unrefused; unbegun = a.fresh.unbegun; unwaiting = a.fresh.unwaiting }; unshut = a.unshut }, no_older_still (row_of c h).led q p (Some (NoSource places)) b) in
             subst (λ (z : Ghost × Views × Led). P z.0 z.1 z.2) (λ j. (sym (goes_on.2 e) j, sym views_after j, sym row_after j)) now
 
   refuse_all : (h : List ℕ) → (h ≡ g → leads s h ≡ true) → (src : Option (List ℕ)) (ps out : List ProviderId) → ((q p : ProviderId) → Has q out → Has p ps → q ≡ p → ⊥) → (c : Core) → Refusing h ps out c → Refusing h ps [] (fold (λ d (p : ProviderId). refused d h p p.join (NoSource (source_len d src))) c out)
@@ -272,8 +307,8 @@ module _ (g : List ℕ) (w : Scene) (n : ℕ) (s : Core) (f : Answering) (thawed
       refuse_all h led src ps out (λ a p i j. apart a p (inr i) j) (refused c h q q.join (NoSource (source_len c src))) (refuse_one h led ps out q c t (λ p i e. apart q p (inl refl) i e) (source_len c src))
 
   -- joins begin
-  begin_joins : (h : List ℕ) → (h ≡ g → leads s h ≡ true) → (ps : List ProviderId) (c : Core) → Refusing h ps [] c → (a : Attrs) (len : Option ℕ) (phases : Phases) → Leading g w n s (begins f c h (Join ps a len) phases)
-  begin_joins h led ps c t a len phases =
+  begin_joins : (h : List ℕ) → (h ≡ g → leads s h ≡ true) → (ps : List ProviderId) → is_empty ps ≡ false → (c : Core) → Refusing h ps [] c → (a : Attrs) (len : Option ℕ) (phases : Phases) → Leading g w n s (begins f c h (Join ps a len) phases)
+  begin_joins h led ps some c t a len phases =
       begins_goes g w n s f thawed c h (Join ps a len) phases led t.ends may
     where
       x : Ghost
@@ -294,6 +329,7 @@ module _ (g : List ℕ) (w : Scene) (n : ℕ) (s : Core) (f : Answering) (thawed
                 subst (λ (z : ProviderId × ℕ). Decided (row_of c h).led z.0 z.1) (λ l. (sym j.2 l, sym j.3 l)) (t.ready same j.0 j.1).0.decided;
             waits_not = λ q i k. let j = of_list e is q q.join k in
                 (t.ready same j.0 j.1).0.fresh.unwaiting (subst (λ z. among (row_of c h).led.waiting.joins z ≡ true) j.2 i) refl;
+            unshut = let j = one_there ps some in (t.ready same j.0 j.1).0.unshut;
           }
 
   joins_end : (fuel : ℕ) (c : Core) (h : List ℕ) → (h ≡ g → leads s h ≡ true) → Leading g w n s c → Leading g w n s (joins_begin fuel f c h).core
@@ -345,12 +381,12 @@ module _ (g : List ℕ) (w : Scene) (n : ℕ) (s : Core) (f : Answering) (thawed
       done : Refusing h ps [] after
       done = refuse_all h led a.source ps out apart base refusing_now
 
-      at : (e : Bool) → ((c : Core) (h : List ℕ) → (h ≡ g → leads s h ≡ true) → Leading g w n s c → Leading g w n s (joins_begin k f c h).core) → Leading g w n s (elim e as (λ _. Pass) [ true ↦ joins_begin k f after h | false ↦ begun_now (begins f after h (Join ps a (carried_len after a.source)) a.phases) ]).core
-      at true rest = rest after h led done.ends
-      at false rest = begin_joins h led ps after done a (carried_len after a.source) a.phases
+      at : (e : Bool) → is_empty ps ≡ e → ((c : Core) (h : List ℕ) → (h ≡ g → leads s h ≡ true) → Leading g w n s c → Leading g w n s (joins_begin k f c h).core) → Leading g w n s (elim e as (λ _. Pass) [ true ↦ joins_begin k f after h | false ↦ begun_now (begins f after h (Join ps a (carried_len after a.source)) a.phases) ]).core
+      at true e rest = rest after h led done.ends
+      at false e rest = begin_joins h led ps e after done a (carried_len after a.source) a.phases
 
       by : ((c : Core) (h : List ℕ) → (h ≡ g → leads s h ≡ true) → Leading g w n s c → Leading g w n s (joins_begin k f c h).core) → Leading g w n s (elim (is_empty ps) as (λ _. Pass) [ true ↦ joins_begin k f after h | false ↦ begun_now (begins f after h (Join ps a (carried_len after a.source)) a.phases) ]).core
-      by rest = at (is_empty ps) rest
+      by rest = at (is_empty ps) refl rest
 
   -- ---- passes
 
@@ -360,7 +396,7 @@ module _ (g : List ℕ) (w : Scene) (n : ℕ) (s : Core) (f : Answering) (thawed
     where
       by : (b : Bool) → Leading g w n s (elim b as (λ _. Pass) [ true ↦ p | false ↦ source_begins f p.core h (state_of p.core h) (state_of p.core h).attrs.source ]).core
       by true = t
-      by false = source_end p.core h (state_of p.core h) (state_of p.core h).attrs.source led t
+      by false = source_end p.core h (state_of p.core h) (state_of p.core h).attrs.source refl led t
 
   joins_or : (h : List ℕ) → (h ≡ g → leads s h ≡ true) → (p : Pass) → Leading g w n s p.core → Leading g w n s (or_joins f h p).core
   unfolding or_joins
@@ -421,3 +457,26 @@ step_end_tied g w n f s t = by (same_view s.views.promise s.views.view) refl
     by false e = t
     by true e =
         (passes_end g w n s f (same_of s.views.promise s.views.view e) (most_begun s) (most_begun s) s (record { tied = t; same = refl; leads = λ k. refl })).tied
+
+-- and in mode fixed no join of a group that the node leads is left waiting without a list
+pub step_begun : (g : List ℕ) (w : Scene) (n : ℕ) (f : Answering) (s : Core) → Tied g w n s → Begun g (step_ended f s)
+unfolding step_ended frozen is_frozen most_begun
+step_begun g w n f s t = by (same_view s.views.promise s.views.view) refl
+  where
+    promised : (o : Option Exchange) → GathersIf t.ghost g n s.views.inc s.views.view s.views.promise o → t.ghost.asks ≡ false → s.views.promise ≡ s.views.view
+    promised None h a = h a
+    promised (Some e) h a = absurd (let z : true ≡ false = sym h.asks ∙ a in cc)
+
+    no_joins : (xs : List ProviderId) → length xs ≤ 0 → xs ≡ []
+    no_joins [] e = refl
+    no_joins (x ∷ xs) e = absurd (omega (arith, e))
+
+    by : (b : Bool) → same_view s.views.promise s.views.view ≡ b → Begun g (elim (not b) as (λ _. Core) [ true ↦ s | false ↦ passes (suc (length s.groups * max_places)) (suc (length s.groups * max_places)) f s ])
+    by false e fixed led bare =
+        absurd (apart_of s.views.promise s.views.view e (promised s.views.gathering t.own.0.gathering (t.own.0.asks ∙ ap not fixed)))
+    by true e fixed led bare =
+        let most : ℕ = length s.groups * max_places in
+        let u = passes_end g w n s f (same_of s.views.promise s.views.view e) (suc most) (suc most) s (record { tied = t; same = refl; leads = λ k. refl }) in
+        let same : (passes (suc most) (suc most) f s).config ≡ s.config = u.tied.own.1 ∙ sym t.own.1 in
+        let was : is_fixed s.config.mode ≡ true = ap (λ (z : Config). is_fixed z.mode) (sym same) ∙ fixed in
+        no_joins (row_of (passes (suc most) (suc most) f s) g).led.waiting.joins (led_begun g f most most s t.own.0.order (sym (u.leads g) ∙ led) (t.own.0.idles.few was) bare)

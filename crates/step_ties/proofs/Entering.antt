@@ -55,7 +55,7 @@ use Rattle.run_safety.proofs.Whole.{Whole}
 use Rattle.run_safety.proofs.Lives.{whole, always_same_members}
 use Rattle.node_groups.specs.Places.{has_name}
 use Rattle.step_ties.specs.Ghost.{Ghost, FitIn, Lives, Seen, Goes, Keeps, CarriesIf, part_of, origin_of, BaseIsOf, Installs, InstallsIf}
-use Rattle.step_ties.specs.Tied.{Shows, RowIs, Owed, Owes, LeaderKeeps, Names, NodeOf, NodeIsIf, ShowsLeader, Scene, Sound, Placed, opening_of, lines_now, InTurn, Turns}
+use Rattle.step_ties.specs.Tied.{Shows, RowIs, Owed, Owes, LeaderKeeps, Names, Closed, NodeOf, NodeIsIf, ShowsLeader, Scene, Sound, Placed, opening_of, lines_now, InTurn, Turns}
 use Rattle.step_ties.specs.Rows.{at_node}
 use Rattle.step_ties.proofs.Goes.{Spares, Still, Settled, still_spares, sound_on, node_if_on}
 use Rattle.step_ties.proofs.Changed.{set_here, set_there, incs_set}
@@ -355,6 +355,9 @@ module _ (g : List ℕ) (w : Scene) (n : ℕ) (f : Answering) (s : Core) (t : Le
       at (inr (inl e)) = absurd (cc)
       at (inr (inr h)) = note_lines (Asked p r q) n s.views.view (length full) es x.all (had_sprinkled (HeardIn g w n x s es) (Noted (Asked p r q)) apart filled fills.lines fills.among h)
 
+  asked : x.asks ≡ true
+  asked = t.own.0.asks ∙ ap (λ (z : Config). not (is_fixed z.mode)) t.own.1 ∙ ap not free
+
   still : Still x y
   still =
       record {
@@ -367,6 +370,7 @@ module _ (g : List ℕ) (w : Scene) (n : ℕ) (f : Answering) (s : Core) (t : Le
         asks = asked_only;
         told = λ p r u h. inl (told_only p r u h);
         incs = λ m. incs_set x.nodes n now (let q = t.own.0.stands.inc in omega arith) m;
+        closed = λ v s c. absurd (let a = c.asks_not in let b = asked in cc);
       }
 
   spares : (m : ℕ) → m ≢ n → Spares x y m
@@ -413,7 +417,7 @@ module _ (g : List ℕ) (w : Scene) (n : ℕ) (f : Answering) (s : Core) (t : Le
   unfolding decision_of
   decides_new =
       record {
-        refused = λ p r q h. absurd (move.unrefused q p r (move.refusals i.view p r h));
+        refused = λ p r q c h. absurd (move.unrefused q p r (move.refusals i.view p r h));
         begun = λ p r j e q h. absurd (empty (y.nodes n).list (ap (λ (z : Standing). z.list) here) j e h);
         waiting = λ p q h. absurd (cc);
         later = λ u l q p r h. let j = move.refusals u p r h in t.own.0.decides.later u (lt_trans s.views.view i.view u lt l) (sym (move.leads_same u (inr (p, r, j))) ∙ q) p r j;
@@ -444,6 +448,14 @@ module _ (g : List ℕ) (w : Scene) (n : ℕ) (f : Answering) (s : Core) (t : Le
       let less = owes_later x g n s.views.inc s.sessions c.sessions fills.later t.own.0.owes in
       record { me = less.me; inc_of = less.inc_of; providers = less.providers; own = less.own; requests = owed_new; attended = less.attended; given = less.given }
 
+  -- where views are asked for, a view with a leader is not shut to the group
+  unshut : y.leads i.view ≡ Some (member n s.views.inc) → Has i.view y.shut → ⊥
+  unshut q h = by ((sound_on x y still g t.sound).shut i.view h).1
+    where
+      by : (y.leads i.view ≡ None) ⊎ Closed y.nodes y.leads y.asks i.view → ⊥
+      by (inl e) = let z : None ≡ Some (member n s.views.inc) = sym e ∙ q in cc
+      by (inr c) = let a : true ≡ false = sym asked ∙ c.asks_not in cc
+
   node_new : (fixed : Bool) → x.asks ≡ not fixed → (fixed ≡ true → ShowsLeader y i.view i.view.coord) → NodeOf y g n fixed (views_entered s.views i) (row_found g (option_map base_row (base_named bs g))) (map base_row bs) (level_set c i.members) (map base_leader bs)
   unfolding views_entered own_install base_row
   node_new fixed asks led =
@@ -458,7 +470,7 @@ module _ (g : List ℕ) (w : Scene) (n : ℕ) (f : Answering) (s : Core) (t : Le
         };
         row_is = row_new (base_named bs g) move.base;
         order = bases_ordered i;
-        gathering = tt;
+        gathering = λ a. refl;
         install = kept_install (i.view.coord == s.views.me && i.view.inc == s.views.inc);
         owes = owes_new;
         decides = subst (LeaderKeeps y n s.views.inc i.view) (sym (led_new (base_named bs g))) decides_new;
@@ -466,6 +478,10 @@ module _ (g : List ℕ) (w : Scene) (n : ℕ) (f : Answering) (s : Core) (t : Le
         asks = asks;
         led = led;
         waits = λ k p e. absurd (base_waits k p (find (has_name k) (map base_row bs)) refl e);
+        idles = record {
+          few = λ q e. absurd (let a : x.asks ≡ true = asked in let b : not fixed ≡ true = sym asks ∙ a in let d : not true ≡ true = ap not (sym q) ∙ b in cc);
+          shut = λ q h. absurd (unshut q h);
+        };
       }
     where
       unwaited : (k : List ℕ) (bs : List Base) (row : GroupRow) → find (has_name k) (map base_row bs) ≡ Some row → row.led ≡ nothing_led

@@ -31,12 +31,12 @@ use Rattle.run_safety.specs.GroupLists.{held_by}
 use Rattle.run_safety.specs.Group as group
 use Rattle.run_safety.specs.Moves.{Leads, MayLead, Together, Born, Quiet, Life, Dawn, NextEvent, Starts, Names, first}
 use Rattle.step_ties.specs.Ghost.{Ghost, Goes}
-use Rattle.step_ties.specs.Tied.{ShowsLeader, NodeIsIf, Scene, opening_in, opening_of, Rests}
+use Rattle.step_ties.specs.Tied.{ShowsLeader, NodeIsIf, Scene, opening_in, opening_of, Begun, Rests}
 use Rattle.step_ties.specs.Rows.{at_node, starts_too, all_started}
 use Rattle.step_ties.proofs.Goes.{Spares, node_if_on}
 use Rattle.step_ties.proofs.Changed.{set_here, set_there, each_set, changes, set_view, view_here, view_there}
 use Rattle.step_ties.proofs.Works.{Unseen, Stays, lines_unseen, now_still}
-use Rattle.step_ties.proofs.Begins.{number_self, number_other, unseen_rings, rings_stay, idle_start}
+use Rattle.step_ties.proofs.Begins.{number_self, number_other, unseen_rings, rings_stay, idle_start, begun_start}
 use Rattle.step_ties.proofs.Turns.{idle_turn}
 
 -- ---- what the settings say
@@ -138,6 +138,7 @@ record Opens (g : List ℕ) (c : Config) (cores : ℕ → Option Core) (incs : �
   pub fresh : (m : ℕ) → cores m ≡ None → incs m ≡ 0
   pub nobody : incs 0 ≡ 0
   pub idle : (m : ℕ) (k : Core) → cores m ≡ Some k → (k.sessions.providers ≡ []) × (k.sessions.requests ≡ [])
+  pub begun : (m : ℕ) (k : Core) → cores m ≡ Some k → Begun g k
 
 module _ (g : List ℕ) (c : Config) (fixed : is_fixed c.mode ≡ true) (cores : ℕ → Option Core) (incs : ℕ → ℕ) (rs : List Happened) (t : Opens g c cores incs rs) (n : ℕ) (down : cores n ≡ None) (there : Has n (nodes_of c.nodes)) where
   abbrev j : ℕ
@@ -214,6 +215,7 @@ module _ (g : List ℕ) (c : Config) (fixed : is_fixed c.mode ≡ true) (cores :
         puts = λ u k e h. not_put u k e h;
         told = λ p r u e h. not_told p r u h;
         shut = λ v e h. h;
+        shut_led = λ v i e h. h;
         asked = λ a e h. h;
       }
     where
@@ -241,11 +243,11 @@ module _ (g : List ℕ) (c : Config) (fixed : is_fixed c.mode ≡ true) (cores :
           };
           row_is = record { list = (ap (λ (k : Standing). k.list) here, refl); stable = inl refl; leader = tt; acked = λ m i h. inl refl; covers = λ j k q h. absurd h };
           order = tt;
-          gathering = tt;
+          gathering = λ a. refl;
           install = tt;
           owes = record { me = refl; inc_of = refl; providers = λ q h. absurd h; own = λ q h. absurd h; requests = λ q h. absurd h; attended = λ q h. absurd h; given = λ a h. absurd h };
           decides = record {
-            refused = λ p r q h. absurd h;
+            refused = λ p r q c h. absurd h;
             begun = λ p r i f q h. absurd (empty i f (subst (λ (k : Standing). slice_get k.list i ≡ Some f) here h));
             waiting = λ p q h. absurd (cc);
             later = λ u l q p r h. h;
@@ -258,6 +260,7 @@ module _ (g : List ℕ) (c : Config) (fixed : is_fixed c.mode ≡ true) (cores :
           asks = ap not (sym fixed);
           led = λ q. subst (λ z. ShowsLeader (bare c nodes all) z z.coord) (sym (view_fixed c c.mode n (incs n + 1) fixed there)) (record { inc = 1; leads = view_here (λ v. None) (first_of c) (Some (member (first_of c).coord 1)) });
           waits = λ k p q. absurd (cc);
+          idles = record { few = λ q e. omega arith; shut = λ e h. absurd h };
         },
         refl,
         refl,
@@ -306,6 +309,7 @@ module _ (g : List ℕ) (c : Config) (fixed : is_fixed c.mode ≡ true) (cores :
         fresh = λ m e. ⊎_elim (λ (q : m ≡ n). absurd (let k = ap (at_node cores n (Some s)) q ∙ set_here cores n (Some s) in cc)) (λ (ne : m ≢ n). set_there incs n j m ne ∙ t.fresh m (sym (set_there cores n (Some s) m ne) ∙ e)) (cases_eq m n);
         nobody = set_there incs n j 0 (λ q. nodes_real c.nodes n there (sym q)) ∙ t.nobody;
         idle = each_set (λ m o. (k : Core) → o ≡ Some k → (k.sessions.providers ≡ []) × (k.sessions.requests ≡ [])) cores n (Some s) (λ k q. let same : s ≡ k = cc in subst (λ (z : Core). (z.sessions.providers ≡ []) × (z.sessions.requests ≡ [])) same (idle_start c n j)) (λ m ne k q. t.idle m k q);
+        begun = each_set (λ m o. (k : Core) → o ≡ Some k → Begun g k) cores n (Some s) (λ k q. let same : s ≡ k = cc in subst (Begun g) same (begun_start g c n j)) (λ m ne k q. t.begun m k q);
       }
     where
       not_told : (p : ProviderId) (r : ℕ) (u : ViewId) → Has (Noted (Told p r u)) (Kept (In n (incs n + 1) v ms) ∷ t.all) → ⊥
@@ -347,6 +351,7 @@ opens_rest g c fixed [] there cores incs rs t up =
       nobody = t.nobody;
       turns = λ m k e. let i = t.idle m k e in idle_turn k.views.view (rs ++ []) k.sessions i.0 i.1;
       sent = λ v p r y h. absurd h;
+      begun = t.begun;
     }
 opens_rest g c fixed (n ∷ ns) there cores incs rs t up =
     by (cores n) refl (λ cores' incs' rs' u h. opens_rest g c fixed ns (λ m i. there m (inr i)) cores' incs' rs' u h)
@@ -393,6 +398,7 @@ fixed_start_tied g c fixed = by (nodes_of c.nodes) refl
           fresh = λ m e. refl;
           nobody = refl;
           idle = λ m k e. absurd (cc);
+          begun = λ m k e. absurd (cc);
         }
       where
         not_told : (p : ProviderId) (r : ℕ) (u : ViewId) → Has (Noted (Told p r u)) (Kept Begins ∷ []) → ⊥
@@ -417,6 +423,7 @@ fixed_start_tied g c fixed = by (nodes_of c.nodes) refl
           nobody = refl;
           turns = λ m k e. absurd (cc);
           sent = λ v p r y h. absurd h;
+          begun = λ m k e. absurd (cc);
         }
     by (n ∷ ns) e =
         let there : (m : ℕ) → Has m (n ∷ ns) → Has m (nodes_of c.nodes) = λ m h. subst (Has m) (sym e) h in

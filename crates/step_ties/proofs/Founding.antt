@@ -373,7 +373,7 @@ module _ (g : List ℕ) (w : Scene) (n : ℕ) (f : Answering) (s : Core) (t : Ti
   own_views : NodeOf t.ghost g n (is_fixed s.config.mode) s0.views (row_of s g) s.groups s.sessions s.names
   own_views =
       let k = t.own.0 in
-      rest_on t.ghost t.ghost n (spares_same t.ghost n) g (is_fixed s.config.mode) s.views s0.views (row_of s g) s.groups s.sessions s.names (record { me = k.stands.me; up = k.stands.up; inc = k.stands.inc; view = k.stands.view; promise = k.stands.promise; seated = k.stands.seated }) refl refl refl refl tt k
+      rest_on t.ghost t.ghost n (spares_same t.ghost n) g (is_fixed s.config.mode) s.views s0.views (row_of s g) s.groups s.sessions s.names (record { me = k.stands.me; up = k.stands.up; inc = k.stands.inc; view = k.stands.view; promise = k.stands.promise; seated = k.stands.seated }) refl refl refl refl (λ a. absurd (let z : true ≡ false = sym h.asks ∙ a in cc)) k
 
   -- it is no longer gathered
   pub dropped : Tied g w n s0

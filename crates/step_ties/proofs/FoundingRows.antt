@@ -136,7 +136,7 @@ module _ (mask : Mask) (g : List ℕ) (w : Scene) (n : ℕ) (f : Answering) (s :
       sP = record sG { sends = out.ps }
 
       tied : Tied g w n sP
-      tied = subst (Tied g w n) out.is (prepares_tied g w n (next_view s.views) mask (filter (λ m. not (m == s.views.me)) (nodes_of mask)) sG (opened_tied mask g w n s t free there))
+      tied = subst (Tied g w n) out.is (prepares_tied g w n (next_view s.views) mask (filter (λ m. not (m == s.views.me)) (nodes_of mask)) sG free (opened_tied mask g w n s t free there))
 
       path : sends_out (ungathered sG) (preps ++ installs_to made (others_of s.views.me made.members)) ≡ sends_out (ungathered sP) (installs_to made (others_of s.views.me made.members))
       path =
@@ -145,7 +145,7 @@ module _ (mask : Mask) (g : List ℕ) (w : Scene) (n : ℕ) (f : Answering) (s :
   unspelled : Tied g w n (install_applied f (sends_out (ungathered sG) preps) None)
   unfolding install_applied
   unspelled =
-      prepares_tied g w n (next_view s.views) mask (filter (λ m. not (m == s.views.me)) (nodes_of mask)) (ungathered sG) (next_promised mask g w n s t)
+      prepares_tied g w n (next_view s.views) mask (filter (λ m. not (m == s.views.me)) (nodes_of mask)) (ungathered sG) free (next_promised mask g w n s t free)
 
   nothing_taken : Tied g w n (views_taken f s (views_at_work s.views))
   unfolding views_taken install_applied
@@ -153,7 +153,7 @@ module _ (mask : Mask) (g : List ℕ) (w : Scene) (n : ℕ) (f : Answering) (s :
 
   promised_alone : Tied g w n (views_taken f s (promised (views_at_work s.views) (next_view s.views)))
   unfolding views_taken install_applied promised
-  promised_alone = next_promised mask g w n s t
+  promised_alone = next_promised mask g w n s t free
 
   all_asked : all_answered e ≡ true → has_node mask s.views.me ≡ true → GoesOn s e → Tied g w n (views_taken f s (gathers (view_sent_all (promised (views_at_work s.views) (next_view s.views)) (filter (λ m. not (m == s.views.me)) (nodes_of mask)) (view.Prepare (next_view s.views) mask)) e))
   unfolding gathers gathered gathering_set view_sent_all promised installs views_taken

@@ -27,7 +27,7 @@ use Rattle.node_state.specs.declared.packet.Packet.{Packet}
 use Rattle.node_state.specs.declared.state.Core.{Core}
 use Rattle.node_state.specs.Settings.{is_fixed}
 use Rattle.node_state.specs.State.{row_of, held_rows}
-use Rattle.node_state.specs.Sending.{sent}
+use Rattle.node_state.specs.Sending.{sent_on, sent}
 use Rattle.node_state.specs.HandOn.{Answering}
 use Rattle.node_state.specs.Applying.{own_parts, install_applied, views_taken}
 use Rattle.node_state.specs.Step.{order_row, view_row, body_row}
@@ -231,10 +231,11 @@ module _ (g : List ℕ) (w : Scene) (n : ℕ) (s : Core) (t : Tied g w n s) wher
       let stands : Stands y n views = record { me = h.stands.me; up = h.stands.up; inc = h.stands.inc; view = h.stands.view; promise = h.stands.promise; seated = h.stands.seated } in
       tied_on g w n s t (record s { views = views }) y (Answers x.nodes x.ps x.all x.leads x.bases n (x.nodes n) v t.life refl up le lt') t.lines t.placed (packet_turns w n s.views.view s.records s.sessions x.ps t.turns (group.Answer v r) (λ a b c d e. cc)) (rest_on x y n (spares n) g (is_fixed s.config.mode) s.views views (row_of s g) s.groups s.sessions s.names stands refl refl refl refl gathering h, t.own.1, t.own.2) (λ m ne. spares m) (λ m ne. refl) (λ p i. shows_on x y o g p (t.packets p i)) (sound_on x y (packet_still x (group.Answer v r) (λ e. absurd (omega arith)) (λ e. absurd (omega arith))) g t.sound)
 
-pub prepares_tied : (g : List ℕ) (w : Scene) (n : ℕ) (v : ViewId) (mask : Mask) (ns : List ℕ) (s : Core) → Tied g w n s → Tied g w n (fold (λ c (x : ViewSend). sent c x.to (body.View x.packet)) s (map (λ m. record { to = m; packet = view.Prepare v mask }) ns))
-prepares_tied g w n v mask [] s t = t
-prepares_tied g w n v mask (m ∷ ns) s t =
-    prepares_tied g w n v mask ns (sent s m (body.View (view.Prepare v mask))) (tied_sent g w n s t m (body.View (view.Prepare v mask)) tt)
+pub prepares_tied : (g : List ℕ) (w : Scene) (n : ℕ) (v : ViewId) (mask : Mask) (ns : List ℕ) (s : Core) → is_fixed s.config.mode ≡ false → Tied g w n s → Tied g w n (fold (λ c (x : ViewSend). sent c x.to (body.View x.packet)) s (map (λ m. record { to = m; packet = view.Prepare v mask }) ns))
+unfolding sent sent_on
+prepares_tied g w n v mask [] s free t = t
+prepares_tied g w n v mask (m ∷ ns) s free t =
+    prepares_tied g w n v mask ns (sent s m (body.View (view.Prepare v mask))) free (tied_sent g w n s t m (body.View (view.Prepare v mask)) (t.own.0.asks ∙ ap not free))
 
 -- the next view is promised, and the own answer gathered for it
 module _ (mask : Mask) (g : List ℕ) (w : Scene) (n : ℕ) (s : Core) (t : Tied g w n s) where
@@ -251,8 +252,8 @@ module _ (mask : Mask) (g : List ℕ) (w : Scene) (n : ℕ) (s : Core) (t : Tied
   unfolding next_view
   later = let a = number_least s.views.view s.views.promise below in let b = begun in omega arith
 
-  pub next_promised : Tied g w n (record s { views = record (s.views) { promise = next_view s.views; gathering = None } })
-  next_promised = tied_promised g w n s t (next_view s.views) (next_later s.views)
+  pub next_promised : is_fixed s.config.mode ≡ false → Tied g w n (record s { views = record (s.views) { promise = next_view s.views; gathering = None } })
+  next_promised free = tied_promised g w n s t (next_view s.views) (t.own.0.asks ∙ ap not free) (next_later s.views)
 
   coord_is : (next_view s.views).coord ≡ s.views.me
   unfolding next_view
@@ -265,7 +266,7 @@ module _ (mask : Mask) (g : List ℕ) (w : Scene) (n : ℕ) (s : Core) (t : Tied
   pub opened_tied : is_fixed s.config.mode ≡ false → has_node mask s.views.me ≡ true → Tied g w n (record s { views = record (s.views) { promise = next_view s.views; gathering = Some (with_answer (opened (next_view s.views) mask) (own_answer s.views (own_parts s))) } })
   unfolding own_parts held_rows
   opened_tied free there =
-      opens_tied g w n (record s { views = record (s.views) { promise = next_view s.views; gathering = None } }) next_promised mask free there (coord_is ∙ t.own.0.stands.me) inc_is later (le_lt_trans s.views.view s.views.promise (next_view s.views) below (next_later s.views))
+      opens_tied g w n (record s { views = record (s.views) { promise = next_view s.views; gathering = None } }) (next_promised free) mask free there (coord_is ∙ t.own.0.stands.me) inc_is later (le_lt_trans s.views.view s.views.promise (next_view s.views) below (next_later s.views))
 
 -- asking for the next view, where others are asked too
 pub asks_tied : (mask : Mask) (g : List ℕ) (w : Scene) (n : ℕ) (f : Answering) (s : Core) → is_fixed s.config.mode ≡ false → all_answered (with_answer (opened (next_view s.views) mask) (own_answer s.views (own_parts s))) ≡ false → Tied g w n s → Tied g w n (views_taken f s (ask_row (views_at_work s.views) mask (own_parts s)))
@@ -273,10 +274,10 @@ unfolding ask_row ask_if may_ask asks_view gathers gathered gathering_set view_s
 asks_tied mask g w n f s free more t = by (may_ask s.views mask) refl
   where
     asks : (b : Bool) → has_node mask s.views.me ≡ true → Tied g w n (views_taken f s (asks_view (views_at_work s.views) (next_view s.views) mask (own_parts s) b))
-    asks false there = next_promised mask g w n s t
+    asks false there = next_promised mask g w n s t free
     asks true there =
         let ns : List ℕ = filter (λ m. not (m == s.views.me)) (nodes_of mask) in
-        let done = prepares_tied g w n (next_view s.views) mask ns (record s { views = record (s.views) { promise = next_view s.views; gathering = Some (with_answer (opened (next_view s.views) mask) (own_answer s.views (own_parts s))) } }) (opened_tied mask g w n s t free there) in
+        let done = prepares_tied g w n (next_view s.views) mask ns (record s { views = record (s.views) { promise = next_view s.views; gathering = Some (with_answer (opened (next_view s.views) mask) (own_answer s.views (own_parts s))) } }) free (opened_tied mask g w n s t free there) in
         subst (λ b. Tied g w n (views_taken f s (gathered (view_sent_all (promised (views_at_work s.views) (next_view s.views)) ns (view.Prepare (next_view s.views) mask)) (with_answer (opened (next_view s.views) mask) (own_answer s.views (own_parts s))) b))) (sym more) done
 
     by : (b : Bool) → may_ask s.views mask ≡ b → Tied g w n (views_taken f s (ask_if (views_at_work s.views) mask (own_parts s) b))

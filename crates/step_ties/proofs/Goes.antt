@@ -37,7 +37,7 @@ use Rattle.run_safety.specs.Bases.{state_of_list, base_state}
 use Rattle.run_safety.specs.Past.{fold_from}
 use Rattle.node_groups.specs.Places.{InNameOrder}
 use Rattle.step_ties.specs.Ghost.{Asking, asking, Ghost, Seen, Goes, FitIn, KeepsIf, CarriesIf, part_of, ReplyIs, GathersIf, BaseIsOf, Installs, InstallsIf, IsStable}
-use Rattle.step_ties.specs.Tied.{Numbered, Waiting, Sound, ShowsLeader, ShowsView, ShowsBody, Shows, Stands, KnowsLeader, RowIs, Owed, Owes, LeaderKeeps, Names, NodeOf, NodeIsIf, IsAcked}
+use Rattle.step_ties.specs.Tied.{Numbered, Waiting, Sound, ShowsLeader, ShowsView, ShowsBody, Shows, Stands, KnowsLeader, RowIs, Owed, Owes, LeaderKeeps, Names, Idles, Closed, NodeOf, NodeIsIf, IsAcked}
 
 pub goes_same : (x : Ghost) → Goes x x
 goes_same x =
@@ -80,7 +80,7 @@ module _ (x y : Ghost) (o : Goes x y) where
       }
 
   pub gathers_on : (g : List ℕ) (n inc : ℕ) (v promise : ViewId) (e : Option Exchange) → GathersIf x g n inc v promise e → GathersIf y g n inc v promise e
-  gathers_on g n inc v promise None h = tt
+  gathers_on g n inc v promise None h = λ a. h (sym o.asks ∙ a)
   gathers_on g n inc v promise (Some e) h =
       record {
         view = h.view;
@@ -124,7 +124,7 @@ module _ (x y : Ghost) (o : Goes x y) where
   install_on g (Some i) h = installs_on g i h
 
   shows_view_on : (g : List ℕ) (from inc : ℕ) (p : ViewPacket) → ShowsView x g from inc p → ShowsView y g from inc p
-  shows_view_on g from inc (view.Prepare v mask) h = tt
+  shows_view_on g from inc (view.Prepare v mask) h = o.asks ∙ h
   shows_view_on g from inc (view.Answer v old parts) h = (h.0, o.packets _ h.1, seen_on old h.2, carries_on old h.0 (part_of g parts) h.2 h.3, h.4)
   shows_view_on g from inc (view.Refuse v n) h = tt
   shows_view_on g from inc (view.Install i) h = installs_on g i h
@@ -139,7 +139,7 @@ module _ (x y : Ghost) (o : Goes x y) where
   shows_body_on g from inc to (body.View p) h = shows_view_on g from inc p h
   shows_body_on g from inc to (body.Lookup v k) h = o.asks ∙ h
   shows_body_on g from inc to (body.Name v k n) h = λ e. let z = h e in
-      ((λ ne. shows_leader_on v n (z.0 ne)), λ none asks. o.shut v (z.1 none (sym o.asks ∙ asks)))
+      ((λ ne. shows_leader_on v n (z.0 ne)), λ none. o.shut v (z.1 none))
   shows_body_on g from inc to (body.Request v k p r phases q) h = (
     o.asked (asking p r k) h.0,
     h.1,
@@ -194,7 +194,7 @@ module _ (x y : Ghost) (o : Goes x y) (m : ℕ) where
   pub decides_by : (y.nodes m).list ≡ (x.nodes m).list → ((v : ViewId) (l : Member) → y.leads v ≡ Some l → x.leads v ≡ Some l) → ((v : ViewId) (p : ProviderId) (r : ℕ) → Has (group.Refusal v p r) y.ps → Has (group.Refusal v p r) x.ps) → (inc : ℕ) (v : ViewId) (l : Led) → LeaderKeeps x m inc v l → LeaderKeeps y m inc v l
   decides_by list leads refusals inc v l h =
       record {
-        refused = λ p r e i. h.refused p r (leads v (member m inc) e) (refusals v p r i);
+        refused = λ p r e c i. h.refused p r (leads v (member m inc) e) (λ k. c (o.shut v k)) (refusals v p r i);
         begun = λ p r i e a b c. h.begun p r i e (leads v (member m inc) a) (subst (λ z. slice_get z i ≡ Some e) list b) c;
         waiting = λ p e i. let z = h.waiting p (leads v (member m inc) e) i in
             record {
@@ -213,8 +213,8 @@ module _ (x y : Ghost) (o : Goes x y) (m : ℕ) where
       }
 
   -- a node that stands as it stood, with other rows
-  pub node_rows_by : y.nodes m ≡ x.nodes m → (g : List ℕ) (fixed : Bool) (s : Views) (row row' : GroupRow) (rows rows' : List GroupRow) (t u : SessionState) (table now : List Leader) → RowIs x m s.view s.members row' → ((j k : ℕ) → y.leads s.view ≡ Some (member m j) → Has (group.Stable s.view k) y.ps → (b i : ℕ) → Has (member b i) s.members → b ≢ m → k ≤ acked_from b row'.led.acked) → InNameOrder rows' → Waiting y rows' → Owes y g m s.inc u → LeaderKeeps y m s.inc s.view row'.led → Names y g fixed m s.inc s.view s.members now → NodeOf x g m fixed s row rows t table → NodeOf y g m fixed s row' rows' u now
-  node_rows_by same g fixed s row row' rows rows' t u table now is covers order waits owes decides names h =
+  pub node_rows_by : y.nodes m ≡ x.nodes m → (g : List ℕ) (fixed : Bool) (s : Views) (row row' : GroupRow) (rows rows' : List GroupRow) (t u : SessionState) (table now : List Leader) → RowIs x m s.view s.members row' → ((j k : ℕ) → y.leads s.view ≡ Some (member m j) → Has (group.Stable s.view k) y.ps → (b i : ℕ) → Has (member b i) s.members → b ≢ m → k ≤ acked_from b row'.led.acked) → InNameOrder rows' → Waiting y rows' → Owes y g m s.inc u → LeaderKeeps y m s.inc s.view row'.led → Names y g fixed m s.inc s.view s.members now → Idles y m s.inc s.view fixed row' rows' → NodeOf x g m fixed s row rows t table → NodeOf y g m fixed s row' rows' u now
+  node_rows_by same g fixed s row row' rows rows' t u table now is covers order waits owes decides names idles h =
       let seen : Seen x s.view = (m, s.inc, s.members, h.stands.seated) in
       record {
         stands = record {
@@ -241,12 +241,13 @@ module _ (x y : Ghost) (o : Goes x y) (m : ℕ) where
         asks = o.asks ∙ h.asks;
         led = λ e. shows_leader_on x y o s.view s.view.coord (h.led e);
         waits = waits;
+        idles = idles;
       }
 
   -- with the same rows
-  pub node_by : y.nodes m ≡ x.nodes m → (g : List ℕ) (fixed : Bool) (s : Views) (row : GroupRow) (rows : List GroupRow) (t u : SessionState) (table now : List Leader) → ((j k : ℕ) → y.leads s.view ≡ Some (member m j) → Has (group.Stable s.view k) y.ps → (b i : ℕ) → Has (member b i) s.members → b ≢ m → k ≤ acked_from b row.led.acked) → Owes y g m s.inc u → LeaderKeeps y m s.inc s.view row.led → Names y g fixed m s.inc s.view s.members now → NodeOf x g m fixed s row rows t table → NodeOf y g m fixed s row rows u now
-  node_by same g fixed s row rows t u table now covers owes decides names h =
-      node_rows_by same g fixed s row row rows rows t u table now h.row_is covers h.order (λ k p e. o.asked (asking p p.join k) (h.waits k p e)) owes decides names h
+  pub node_by : y.nodes m ≡ x.nodes m → (g : List ℕ) (fixed : Bool) (s : Views) (row : GroupRow) (rows : List GroupRow) (t u : SessionState) (table now : List Leader) → ((j k : ℕ) → y.leads s.view ≡ Some (member m j) → Has (group.Stable s.view k) y.ps → (b i : ℕ) → Has (member b i) s.members → b ≢ m → k ≤ acked_from b row.led.acked) → Owes y g m s.inc u → LeaderKeeps y m s.inc s.view row.led → Names y g fixed m s.inc s.view s.members now → Idles y m s.inc s.view fixed row rows → NodeOf x g m fixed s row rows t table → NodeOf y g m fixed s row rows u now
+  node_by same g fixed s row rows t u table now covers owes decides names idles h =
+      node_rows_by same g fixed s row row rows rows t u table now h.row_is covers h.order (λ k p e. o.asked (asking p p.join k) (h.waits k p e)) owes decides names idles h
 
 -- some node entered the view, or refused something in it
 abbrev pub Settled : Ghost → ViewId → Type 0
@@ -263,6 +264,7 @@ pub record Spares (x y : Ghost) (m : ℕ) : Type 0 where
   pub told : (p : ProviderId) (r : ℕ) (u : ViewId) → p.node ≡ m → Has (Noted (Told p r u)) y.all → Has (Noted (Told p r u)) x.all
   pub stables : (v : ViewId) (k : ℕ) → Has (group.Stable v k) y.ps → Has (group.Stable v k) x.ps ⊎ ((i : ℕ) → y.leads v ≡ Some (member m i) → ⊥)
   pub shut : (v : ViewId) → v.coord ≡ m → Has v y.shut → Has v x.shut
+  pub shut_led : (v : ViewId) (i : ℕ) → y.leads v ≡ Some (member m i) → Has v y.shut → Has v x.shut
   pub asked : (a : Asking) → a.p.node ≡ m → Has a y.asked → Has a x.asked
 
 -- nobody is named, nothing is refused, nobody asks, and who is told had asked
@@ -276,10 +278,11 @@ pub record Still (x y : Ghost) : Type 0 where
   pub asks : (p : ProviderId) (r : ℕ) (q : Proposal) → Has (Noted (Asked p r q)) y.all → Has (Noted (Asked p r q)) x.all
   pub told : (p : ProviderId) (r : ℕ) (u : ViewId) → Has (Noted (Told p r u)) y.all → Has (Noted (Told p r u)) x.all ⊎ Numbered x p r
   pub incs : (m : ℕ) → (x.nodes m).inc ≤ (y.nodes m).inc
+  pub closed : (v : ViewId) → Has v x.shut → Closed x.nodes x.leads x.asks v → Closed y.nodes y.leads y.asks v
 
 pub still_same : (x : Ghost) → Still x x
 still_same x =
-    record { goes = goes_same x; leads = λ v s. refl; refusals = λ v p r h. h; stables = λ v k h. h; shut = λ v h. h; asked = λ a h. h; asks = λ p r q h. h; told = λ p r u h. inl h; incs = λ m. omega arith }
+    record { goes = goes_same x; leads = λ v s. refl; refusals = λ v p r h. h; stables = λ v k h. h; shut = λ v h. h; asked = λ a h. h; asks = λ p r q h. h; told = λ p r u h. inl h; incs = λ m. omega arith; closed = λ v s c. c }
 
 pub numbered_on : (x y : Ghost) → Goes x y → (p : ProviderId) (r : ℕ) → Numbered x p r → Numbered y p r
 numbered_on x y o p r (inl e) = inl e
@@ -297,6 +300,7 @@ module _ (x y : Ghost) (o : Still x y) where
         puts = puts;
         told = told;
         shut = λ v e h. o.shut v h;
+        shut_led = λ v i e h. o.shut v h;
         asked = λ a e h. o.asked a h;
       }
 
@@ -305,7 +309,8 @@ module _ (x y : Ghost) (o : Still x y) where
       record {
         refused = λ v p r h. seen_on x y o.goes v (t.refused v p r (o.refusals v p r h));
         unled = λ v p r h e. let k = o.refusals v p r h in o.goes.shut v (t.unled v p r k (sym (o.leads v (inr (p, r, k))) ∙ e));
-        shut = λ v h. let k = t.shut v (o.shut v h) in (seen_on x y o.goes v k.0, o.leads v (inl k.0) ∙ k.1);
+        shut = λ v h. let k = t.shut v (o.shut v h) in
+            (seen_on x y o.goes v k.0, ⊎_elim (λ (e : x.leads v ≡ None). inl (o.leads v (inl k.0) ∙ e)) (λ (c : Closed x.nodes x.leads x.asks v). inr (o.closed v (o.shut v h) c)) k.1);
         asked = λ p r q h. o.goes.asked (asking p r g) (t.asked p r q (o.asks p r q h));
         one = λ p r h k a b. t.one p r h k (o.asked (asking p r h) a) (o.asked (asking p r k) b);
         started = λ a h. let i = t.started a (o.asked a h) in let j = o.incs a.p.node in omega arith;
@@ -332,7 +337,7 @@ module _ (x y : Ghost) (m : ℕ) (o : Spares x y m) where
   pub decides_on : (inc : ℕ) (v : ViewId) (l : Led) → Seen x v → LeaderKeeps x m inc v l → LeaderKeeps y m inc v l
   decides_on inc v l seen h =
       record {
-        refused = λ p r e i. h.refused p r (sym (o.leads v (inl seen)) ∙ e) (old v p r e i);
+        refused = λ p r e c i. h.refused p r (sym (o.leads v (inl seen)) ∙ e) (λ k. c (o.goes.shut v k)) (old v p r e i);
         begun = λ p r i e a b c. h.begun p r i e (sym (o.leads v (inl seen)) ∙ a) (subst (λ z. slice_get z i ≡ Some e) o.list b) c;
         waiting = λ p e i. let z = h.waiting p (sym (o.leads v (inl seen)) ∙ e) i in
             record {
@@ -361,6 +366,10 @@ module _ (x y : Ghost) (m : ℕ) (o : Spares x y m) where
         full = λ a b c e. h.full a b c (o.shut v a e);
       }
 
+  pub idles_on : (inc : ℕ) (v : ViewId) (fixed : Bool) (row : GroupRow) (rows : List GroupRow) → Seen x v → Idles x m inc v fixed row rows → Idles y m inc v fixed row rows
+  idles_on inc v fixed row rows seen h =
+      record { few = h.few; shut = λ e k. h.shut (sym (o.leads v (inl seen)) ∙ e) (o.shut_led v inc e k) }
+
   -- all but where it stands
   pub rest_on : (g : List ℕ) (fixed : Bool) (s t : Views) (row : GroupRow) (rows : List GroupRow) (u : SessionState) (table : List Leader) → Stands y m t → t.view ≡ s.view → t.inc ≡ s.inc → t.members ≡ s.members → t.install ≡ s.install → GathersIf y g m t.inc t.view t.promise t.gathering → NodeOf x g m fixed s row rows u table → NodeOf y g m fixed t row rows u table
   rest_on g fixed s t row rows u table stands a b c d gathering h =
@@ -376,6 +385,7 @@ module _ (x y : Ghost) (m : ℕ) (o : Spares x y m) where
         asks = o.goes.asks ∙ h.asks;
         led = λ e. subst (λ z. ShowsLeader y z z.coord) (sym a) (shows_leader_on x y o.goes s.view s.view.coord (h.led e));
         waits = λ k p e. o.goes.asked (asking p p.join k) (h.waits k p e);
+        idles = subst (λ (k : ℕ × ViewId). Idles y m k.0 k.1 fixed row rows) (λ z. (sym b z, sym a z)) (idles_on s.inc s.view fixed row rows (m, s.inc, s.members, h.stands.seated) h.idles);
       }
 
   pub stands_on : y.nodes m ≡ x.nodes m → (s : Views) → Stands x m s → Stands y m s

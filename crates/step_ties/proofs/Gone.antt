@@ -1,5 +1,5 @@
 -- Moves of one node, and what they leave of the others.
-use Rattle.std.proofs.Common.{◌≡◌, ◌≤◌, ℕ, ◌∷◌, arith, refl, ◌∙◌, inl, inr, ⊎_elim}
+use Rattle.std.proofs.Common.{◌≡◌, ◌≤◌, ℕ, ◌∷◌, true, arith, refl, ◌∙◌, inl, inr, ⊎_elim}
 use Rattle.rsct_packet.specs.declared.ids.ViewId.{ViewId}
 use Rattle.rsct_packet.specs.declared.ids.ProviderId.{ProviderId}
 use Rattle.rsct_packet.specs.Search.{Has}
@@ -22,13 +22,13 @@ module _ (x : Ghost) where
   pub nodes_goes : (nodes : ℕ → Standing) → Goes x (with_nodes x nodes)
   nodes_goes nodes = record { packets = λ p h. h; records = λ r h. h; lines = λ l h. h; leads = λ v l e. e; bases = λ v s. refl; asks = refl; shut = λ v h. h; asked = λ a h. h }
 
-  pub nodes_still : (nodes : ℕ → Standing) → ((m : ℕ) → (x.nodes m).inc ≤ (nodes m).inc) → Still x (with_nodes x nodes)
-  nodes_still nodes incs =
-      record { goes = nodes_goes nodes; leads = λ v s. refl; refusals = λ v p r h. h; stables = λ v k h. h; shut = λ v h. h; asked = λ a h. h; asks = λ p r q h. h; told = λ p r u h. inl h; incs = incs }
+  pub nodes_still : (nodes : ℕ → Standing) → ((m : ℕ) → (x.nodes m).inc ≤ (nodes m).inc) → x.asks ≡ true → Still x (with_nodes x nodes)
+  nodes_still nodes incs asks =
+      record { goes = nodes_goes nodes; leads = λ v s. refl; refusals = λ v p r h. h; stables = λ v k h. h; shut = λ v h. h; asked = λ a h. h; asks = λ p r q h. h; told = λ p r u h. inl h; incs = incs; closed = λ v s c. absurd (let z = c.asks_not in cc) }
 
   pub nodes_spares : (nodes : ℕ → Standing) (m : ℕ) → (nodes m).list ≡ (x.nodes m).list → Spares x (with_nodes x nodes) m
   nodes_spares nodes m e =
-      record { goes = nodes_goes nodes; list = e; leads = λ v s. refl; refusals = λ v p r h. inl h; stables = λ v k h. inl h; puts = λ u k e h. h; told = λ p r u e h. h; shut = λ v e h. h; asked = λ a e h. h }
+      record { goes = nodes_goes nodes; list = e; leads = λ v s. refl; refusals = λ v p r h. inl h; stables = λ v k h. inl h; puts = λ u k e h. h; told = λ p r u e h. h; shut = λ v e h. h; shut_led = λ v i e h. h; asked = λ a e h. h }
 
   pub packet_goes : (p : Packet) → Goes x (with_packet x p)
   packet_goes p = record { packets = λ q h. inr h; records = λ r h. h; lines = λ l h. h; leads = λ v l e. e; bases = λ v s. refl; asks = refl; shut = λ v h. h; asked = λ a h. h }
@@ -46,6 +46,7 @@ module _ (x : Ghost) where
         asks = λ q r y h. h;
         told = λ q r u h. inl h;
         incs = λ m. omega arith;
+        closed = λ v s c. c;
       }
 
   pub packet_spares : (p : Packet) (m : ℕ) → (4 ≡ kind p → ⊥) → (6 ≡ kind p → ⊥) → Spares x (with_packet x p) m
@@ -80,6 +81,7 @@ still_then x y z o q =
       asks = λ p r y h. o.asks p r y (q.asks p r y h);
       told = λ p r u h. ⊎_elim (λ (i : Has (Noted (Told p r u)) y.all). o.told p r u i) (λ (i : Numbered y p r). inr (back p r i)) (q.told p r u h);
       incs = λ m. let a = o.incs m in let b = q.incs m in omega arith;
+      closed = λ v s c. q.closed v (o.goes.shut v s) (o.closed v s c);
     }
   where
     back : (p : ProviderId) (r : ℕ) → Numbered y p r → Numbered x p r

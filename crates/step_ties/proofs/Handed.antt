@@ -147,6 +147,7 @@ module _ (g : List ℕ) (w : Scene) (n : ℕ) (h : List ℕ) (v : ViewId) (i : �
           asks = λ q r y h. not_asked q r y h;
           told = λ q r u h. inl (told_old q r u h);
           incs = λ m. omega arith;
+          closed = λ v s c. c;
         }
       where
         told_old : (q : ProviderId) (r : ℕ) (u : ViewId) → Has (Noted (Told q r u)) (Noted (Heard p v i e ms value) ∷ x.all) → Has (Noted (Told q r u)) x.all

@@ -33,7 +33,7 @@ use Rattle.step_ties.proofs.Acks.{settled, fold_least}
 use Rattle.step_ties.proofs.Fills.{dropped}
 use Rattle.step_ties.proofs.AllSent.{all_sent}
 use Rattle.step_ties.proofs.LedGroups.{led_are_led}
-use Rattle.step_ties.proofs.Appending.{may_carry_none, Leading, led_goes, appended_goes, closed_goes}
+use Rattle.step_ties.proofs.Appending.{may_carry_none, running_open, Leading, led_goes, appended_goes, closed_goes}
 
 -- ---- parts of lists
 
@@ -158,20 +158,20 @@ module _ (g : List ℕ) (w : Scene) (n : ℕ) where
         again_goes h led ms (sent_again h c m) (λ a i. all a (inr i)) (record { tied = u; same = same.1 ∙ t.same; leads = λ z. leads_same c (sent_again h c m) same.0 same.1 same.2 z ∙ t.leads z })
 
     -- who passes the limit is announced
-    late_goes : (c : Core) (h : List ℕ) (t : TallyView) (o : Option Running) → (h ≡ g → leads s h ≡ true) → Leading g w n s c → Leading g w n s (late_appended f c h t o)
+    late_goes : (c : Core) (h : List ℕ) (t : TallyView) (o : Option Running) → (state_of c h).running ≡ o → (h ≡ g → leads s h ≡ true) → Leading g w n s c → Leading g w n s (late_appended f c h t o)
     unfolding late_appended appended_if
-    late_goes c h t None led k = k
-    late_goes c h t (Some run) led k = by (fits_at_end c h (Late run.proto run.phase (open_voters t))) refl
+    late_goes c h t None runs led k = k
+    late_goes c h t (Some run) runs led k = by (fits_at_end c h (Late run.proto run.phase (open_voters t))) refl
       where
         by : (b : Bool) → fits_at_end c h (Late run.proto run.phase (open_voters t)) ≡ b → Leading g w n s (appended_if f c h (Late run.proto run.phase (open_voters t)) b)
         by false q = k
         by true q =
-            appended_goes g w n s f thawed c h (Late run.proto run.phase (open_voters t)) led q k (λ e. may_carry_none k.tied.ghost c.views.view (k.tied.ghost.nodes n).list (row_of c h).led (Late run.proto run.phase (open_voters t)) refl)
+            appended_goes g w n s f thawed c h (Late run.proto run.phase (open_voters t)) led q k (λ e. may_carry_none k.tied.ghost c.views.view (k.tied.ghost.nodes n).list (row_of c h).led (Late run.proto run.phase (open_voters t)) refl (running_open g w n s c h k led e (λ none. let z : Some run ≡ None = sym runs ∙ none in cc))) tt
 
     announced_goes : (c : Core) (h : List ℕ) (t : TallyView) (b : Bool) → (h ≡ g → leads s h ≡ true) → Leading g w n s c → Leading g w n s (announced f c h t b)
     unfolding announced
     announced_goes c h t false led k = k
-    announced_goes c h t true led k = late_goes c h t (state_of c h).running led k
+    announced_goes c h t true led k = late_goes c h t (state_of c h).running refl led k
 
     tally_goes : (c : Core) (h : List ℕ) (o : Option TallyView) → (h ≡ g → leads s h ≡ true) → Leading g w n s c → Leading g w n s (tally_ticks f c h o)
     unfolding tally_ticks with_tally

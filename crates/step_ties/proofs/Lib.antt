@@ -1,4 +1,6 @@
 pub mod Goes
+pub mod Idle
+pub mod Begun
 pub mod Changed
 pub mod Works
 pub mod Begins
@@ -24,6 +26,7 @@ pub mod Entering
 pub mod Installs
 pub mod FixedStart
 pub mod Owed
+pub mod Closings
 pub mod Appending
 pub mod LedGroups
 pub mod Votes
@@ -44,6 +47,7 @@ pub mod Founding
 pub mod GoingOn
 pub mod FoundingRows
 pub mod Steps
+pub mod Noting
 pub mod RunLaw
 pub mod Turns
 pub mod JoinsFirst

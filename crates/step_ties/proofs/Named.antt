@@ -1,6 +1,6 @@
 -- LOOKUP and NAME: a view without a leader gets one, or has none for good.
 use Rattle.std.proofs.Common.{◌≡◌, ◌≢◌, ◌≤◌, ◌⊎◌, ℕ, List, [], ◌∷◌, ◌++◌, length, Option, Some, None, Bool, true, false, refl, sym, ap, ◌∙◌, subst, inl, inr, ⊎_elim, arith}
-use Rattle.std.specs.Prelude.{◌==◌, ◌&&◌, not, fold, slice_get, nat_le, if◌then◌else◌}
+use Rattle.std.specs.Prelude.{◌==◌, ◌&&◌, fold, slice_get, nat_le, if◌then◌else◌}
 use Rattle.std.specs.Option.{unwrap_or}
 use Rattle.std.specs.Str.{bytes_eq}
 use Rattle.std.proofs.lemmas.Bool.{eqb-true, eqb-false, and_parts}
@@ -41,7 +41,7 @@ use Rattle.run_safety.proofs.Past.{Origin}
 use Rattle.run_safety.proofs.Whole.{Whole}
 use Rattle.run_safety.proofs.Lives.{whole, always_same_members}
 use Rattle.step_ties.specs.Ghost.{asking, Ghost, Goes, Lives, Seen}
-use Rattle.step_ties.specs.Tied.{Stands, ShowsBody, ShowsLeader, KnowsLeader, LeaderKeeps, Names, NodeOf, NodeIsIf, Sound, Scene, opening_of, Tied}
+use Rattle.step_ties.specs.Tied.{Stands, ShowsBody, ShowsLeader, KnowsLeader, LeaderKeeps, Names, Closed, NodeOf, NodeIsIf, Sound, Scene, opening_of, Tied}
 use Rattle.step_ties.proofs.Goes.{Spares, owes_by, decides_by, node_by, shows_on, node_if_on}
 use Rattle.step_ties.proofs.Changed.{set_view, view_here, view_there}
 use Rattle.step_ties.proofs.Works.{asked_free, tied_sent}
@@ -87,7 +87,8 @@ module _ (g : List ℕ) (x : Ghost) (v : ViewId) (l : Member) (was : x.leads v �
       record {
         refused = t.refused;
         unled = λ u p r h e. t.unled u p r h (sym (leads_there u (λ q. unrefused p r (subst (λ z. Has (group.Refusal z p r) x.ps) q h))) ∙ e);
-        shut = λ u h. let k = t.shut u h in (k.0, leads_there u (λ q. unshut (subst (λ z. Has z x.shut) q h)) ∙ k.1);
+        shut = λ u h. let k = t.shut u h in
+            (k.0, ⊎_elim (λ (e : x.leads u ≡ None). inl (leads_there u (λ q. unshut (subst (λ z. Has z x.shut) q h)) ∙ e)) (λ (c : Closed x.nodes x.leads x.asks u). inr (record { asks_not = c.asks_not; node = c.node; stands = c.stands; led = naming_goes.leads u (member c.node (x.nodes c.node).inc) c.led; bare = c.bare })) k.1);
         asked = t.asked;
         one = t.one;
         started = t.started;
@@ -98,7 +99,7 @@ module _ (g : List ℕ) (x : Ghost) (v : ViewId) (l : Member) (was : x.leads v �
     naming_decides : (led : Led) → LeaderKeeps x m inc u led → LeaderKeeps naming m inc u led
     naming_decides led h =
         record {
-          refused = λ p r e i. h.refused p r (sym (leads_there u (λ q. unrefused p r (subst (λ z. Has (group.Refusal z p r) x.ps) q i))) ∙ e) i;
+          refused = λ p r e o i. h.refused p r (sym (leads_there u (λ q. unrefused p r (subst (λ z. Has (group.Refusal z p r) x.ps) q i))) ∙ e) o i;
           begun = λ p r i e a b c. ⊎_elim (λ (q : u ≡ v). absurd (none (x.nodes m).list (bare q) i e b)) (λ (ne : u ≡ v → ⊥). h.begun p r i e (sym (leads_there u ne) ∙ a) b c) (cases_view u v);
           waiting = λ p e i. let z = h.waiting p (h.leads_it p i) i in
               record { proposal = z.proposal; sent = z.sent; joins = z.joins; open_still = z.open_still; unbegun = z.unbegun; decided = z.decided };
@@ -115,7 +116,7 @@ module _ (g : List ℕ) (x : Ghost) (v : ViewId) (l : Member) (was : x.leads v �
 
   pub naming_node : (m : ℕ) (fixed : Bool) (s : Views) (row : GroupRow) (rows : List GroupRow) (t : SessionState) (table now : List Leader) → (s.view ≡ v → (x.nodes m).list ≡ []) → (s.view ≡ v → (k : ℕ) → Has (group.Stable s.view k) x.ps → k ≤ 0) → Names naming g fixed m s.inc s.view s.members now → NodeOf x g m fixed s row rows t table → NodeOf naming g m fixed s row rows t now
   naming_node m fixed s row rows t table now bare unstable names h =
-      node_by x naming naming_goes m refl g fixed s row rows t t table now covers (owes_by x naming naming_goes m (λ a e i. i) (λ u k e i. i) (λ p r u e i. i) g s.inc t h.owes) (naming_decides m s.inc s.view bare row.led h.decides) names h
+      node_by x naming naming_goes m refl g fixed s row rows t t table now covers (owes_by x naming naming_goes m (λ a e i. i) (λ u k e i. i) (λ p r u e i. i) g s.inc t h.owes) (naming_decides m s.inc s.view bare row.led h.decides) names (record { few = h.idles.few; shut = λ e k. h.idles.shut (sym (leads_there s.view (λ q. unshut (subst (λ z. Has z x.shut) q k))) ∙ e) k }) h
     where
       covers : (j k : ℕ) → naming.leads s.view ≡ Some (member m j) → Has (group.Stable s.view k) x.ps → (b i : ℕ) → Has (member b i) s.members → b ≢ m → k ≤ acked_from b row.led.acked
       covers j k e c b i a ne =
@@ -188,7 +189,7 @@ module _ (g : List ℕ) (w : Scene) (n : ℕ) (s : Core) (t : Tied g w n s) (h :
 
   -- what is answered
   abbrev Answers : Ghost → ℕ → Type 0
-  Answers y m = h ≡ g → (m ≢ 0 → ShowsLeader y v m) × (m ≡ 0 → y.asks ≡ true → Has v y.shut)
+  Answers y m = h ≡ g → (m ≢ 0 → ShowsLeader y v m) × (m ≡ 0 → Has v y.shut)
 
   answered : (c : Core) (y : Ghost) (u : (k : Tied g w n c) × (k.ghost ≡ y)) (m : ℕ) → Answers y m → Tied g w n (sent c from (body.Name v h m))
   answered c y u m shows = tied_sent g w n c u.0 from (body.Name v h m) (subst (λ z. Answers z m) (sym u.1) shows)
@@ -202,7 +203,7 @@ module _ (g : List ℕ) (w : Scene) (n : ℕ) (s : Core) (t : Tied g w n s) (h :
           ghost = x;
           life = t.life;
           lines = t.lines;
-          own = (record { stands = k.stands; row_is = k.row_is; order = k.order; gathering = k.gathering; install = k.install; owes = k.owes; decides = k.decides; names = names; asks = k.asks; led = k.led; waits = k.waits }, t.own.1, t.own.2);
+          own = (record { stands = k.stands; row_is = k.row_is; order = k.order; gathering = k.gathering; install = k.install; owes = k.owes; decides = k.decides; names = names; asks = k.asks; led = k.led; waits = k.waits; idles = k.idles }, t.own.1, t.own.2);
           others = t.others;
           packets = t.packets;
           sound = t.sound;
@@ -227,8 +228,12 @@ module _ (g : List ℕ) (w : Scene) (n : ℕ) (s : Core) (t : Tied g w n s) (h :
 
     spares : (m : ℕ) → m ≢ n → Spares x y m
     spares m ne =
-        record { goes = goes; list = refl; leads = λ u s. refl; refusals = λ u p r h. inl h; stables = λ u k h. inl h; puts = λ u k e h. h; told = λ p r u e h. h; shut = λ u e h. old u e h; asked = λ a e h. h }
+        record { goes = goes; list = refl; leads = λ u s. refl; refusals = λ u p r h. inl h; stables = λ u k h. inl h; puts = λ u k e h. h; told = λ p r u e h. h; shut = λ u e h. old u e h; shut_led = λ u i e h. old_led u i e h; asked = λ a e h. h }
       where
+        old_led : (u : ViewId) (i : ℕ) → x.leads u ≡ Some (member m i) → Has u (v ∷ x.shut) → Has u x.shut
+        old_led u i e (inr h) = h
+        old_led u i e (inl q) = absurd (let z : None ≡ Some (member m i) = sym unled ∙ ap x.leads (sym q) ∙ e in cc)
+
         old : (u : ViewId) → u.coord ≡ m → Has u (v ∷ x.shut) → Has u x.shut
         old u e (inr h) = h
         old u e (inl q) = absurd (ne (sym e ∙ ap (λ (z : ViewId). z.coord) q ∙ coord.0))
@@ -237,14 +242,14 @@ module _ (g : List ℕ) (w : Scene) (n : ℕ) (s : Core) (t : Tied g w n s) (h :
     sound =
         record { refused = t.sound.refused; unled = λ u p r h e. inr (t.sound.unled u p r h e); shut = λ u h. shut u h; asked = t.sound.asked; one = t.sound.one; started = t.sound.started; told = t.sound.told }
       where
-        shut : (u : ViewId) → Has u (v ∷ x.shut) → Seen y u × (x.leads u ≡ None)
+        shut : (u : ViewId) → Has u (v ∷ x.shut) → Seen y u × ((x.leads u ≡ None) ⊎ Closed x.nodes x.leads x.asks u)
         shut u (inr h) = t.sound.shut u h
-        shut u (inl q) = subst (λ z. Seen x z × (x.leads z ≡ None)) (sym q) ((n, s.views.inc, s.views.members, t.own.0.stands.seated), unled)
+        shut u (inl q) = subst (λ z. Seen x z × ((x.leads z ≡ None) ⊎ Closed x.nodes x.leads x.asks z)) (sym q) ((n, s.views.inc, s.views.members, t.own.0.stands.seated), inl unled)
 
     own : NodeOf y g n (is_fixed s.config.mode) s.views (row_of s g) s.groups s.sessions s.names
     own =
         let k = t.own.0 in
-        node_by x y goes n refl g (is_fixed s.config.mode) s.views (row_of s g) s.groups s.sessions s.sessions s.names s.names k.row_is.covers (owes_by x y goes n (λ a e i. i) (λ u j e i. i) (λ p r u e i. i) g s.views.inc s.sessions k.owes) (decides_by x y goes n refl (λ u l e. e) (λ u p r h. h) s.views.inc s.views.view (row_of s g).led k.decides) (record { named = k.names.named; unnamed = k.names.unnamed; full = λ a b c d. (unnamed, full) }) k
+        node_by x y goes n refl g (is_fixed s.config.mode) s.views (row_of s g) s.groups s.sessions s.sessions s.names s.names k.row_is.covers (owes_by x y goes n (λ a e i. i) (λ u j e i. i) (λ p r u e i. i) g s.views.inc s.sessions k.owes) (decides_by x y goes n refl (λ u l e. e) (λ u p r h. h) s.views.inc s.views.view (row_of s g).led k.decides) (record { named = k.names.named; unnamed = k.names.unnamed; full = λ a b c d. (unnamed, full) }) (record { few = k.idles.few; shut = λ e i. absurd (let z : None ≡ Some (member n s.views.inc) = sym unled ∙ e in cc) }) k
 
     shuts : (u : Tied g w n s) × Has v u.ghost.shut
     shuts = (
@@ -399,7 +404,7 @@ module _ (g : List ℕ) (w : Scene) (n : ℕ) (s : Core) (t : Tied g w n s) (h :
           answered_by k.0 k.1
         where
           answered_by : (u : Tied g w n s) → Has v u.ghost.shut → Tied g w n (sent (record s { names = s.names }) from (body.Name v h 0))
-          answered_by u shut = tied_sent g w n s u from (body.Name v h 0) (λ same. ((λ ne. absurd (ne refl)), λ zero asks. shut))
+          answered_by u shut = tied_sent g w n s u from (body.Name v h 0) (λ same. ((λ ne. absurd (ne refl)), λ zero. shut))
       by None false e q (inr ne) =
           answered (record s { names = names.named h from s.names }) x (table_set (names.named h from s.names) (other_names ne)) from (λ same. absurd (ne same))
       by None false e q (inl same) =
@@ -426,13 +431,10 @@ lookup_is_tied v h g w n f s p is delivered t = by (is_used s p v) refl
 
 -- ---- NAME
 
-module _ (v : ViewId) (h : List ℕ) (k : ℕ) (g : List ℕ) (w : Scene) (n : ℕ) (s : Core) (p : Packet) (is : p.body ≡ body.Name v h k) (delivered : Has p w.sent) (view_is : v ≡ s.views.view) (free : is_fixed w.config.mode ≡ false) where
+module _ (v : ViewId) (h : List ℕ) (k : ℕ) (g : List ℕ) (w : Scene) (n : ℕ) (s : Core) (p : Packet) (is : p.body ≡ body.Name v h k) (delivered : Has p w.sent) (view_is : v ≡ s.views.view) where
   -- what the packet shows, at any moment
-  shown : (c : Core) (t : Tied g w n c) → h ≡ g → (k ≢ 0 → ShowsLeader t.ghost v k) × (k ≡ 0 → t.ghost.asks ≡ true → Has v t.ghost.shut)
+  shown : (c : Core) (t : Tied g w n c) → h ≡ g → (k ≢ 0 → ShowsLeader t.ghost v k) × (k ≡ 0 → Has v t.ghost.shut)
   shown c t = subst (ShowsBody t.ghost g p.from p.inc p.to) is (t.packets p (append_has_right p c.sends w.sent delivered))
-
-  asks_now : (c : Core) (t : Tied g w n c) → t.ghost.asks ≡ true
-  asks_now c t = t.own.0.asks ∙ ap not (ap (λ (z : Config). is_fixed z.mode) t.own.1 ∙ free)
 
   -- nobody leads for good: each request of the group is refused
   one_refused : k ≡ 0 → (c : Core) (t : Tied g w n c) → c.views ≡ s.views → (q : ProviderId) (r : ℕ) → Has (asking q r h) t.ghost.asked → (u : Tied g w n (tell_row c q r (GroupsFull 64))) × (u.ghost.asked ≡ t.ghost.asked)
@@ -442,7 +444,7 @@ module _ (v : ViewId) (h : List ℕ) (k : ℕ) (g : List ℕ) (w : Scene) (n : �
       by (inr ne) = tell_tied g w n c q r (GroupsFull 64) t (λ z i a b. inr (unrequested g w n c t h q r asked ne c.views.view))
       by (inl e) =
           let here : c.views.view ≡ v = ap (λ (z : Views). z.view) same ∙ sym view_is in
-          let d = refused_shut g w n c t q r (subst (λ z. Has z t.ghost.shut) (sym here) ((shown c t e).1 zero (asks_now c t))) in
+          let d = refused_shut g w n c t q r (subst (λ z. Has z t.ghost.shut) (sym here) ((shown c t e).1 zero)) in
           let u = tell_tied g w n c q r (GroupsFull 64) d.0 (λ z i a b. inl d.1) in (u.0, u.1 ∙ d.2)
 
   all_refused : k ≡ 0 → (qs : List Request) (c : Core) (t : Tied g w n c) → c.views ≡ s.views → ((q : Request) → Has q qs → Has (asking q.p q.r h) t.ghost.asked) → Tied g w n (fold (λ d (q : Request). tell_row d q.p q.r (GroupsFull 64)) c qs)
@@ -469,12 +471,12 @@ module _ (v : ViewId) (h : List ℕ) (k : ℕ) (g : List ℕ) (w : Scene) (n : �
           let l : t.ghost.leads s.views.view ≡ Some (member k z.inc) = ap t.ghost.leads (sym view_is) ∙ z.leads in
           (z.inc, leader_member t.ghost t.life n s.views.inc s.views.view s.views.members t.own.0.stands.seated k z.inc l, l)
 
--- NAME, outside of mode fixed
-pub name_is_tied : (v : ViewId) (h : List ℕ) (k : ℕ) (g : List ℕ) (w : Scene) (n : ℕ) (f : Answering) (s : Core) (p : Packet) → is_fixed w.config.mode ≡ false → p.body ≡ body.Name v h k → Has p w.sent → Tied g w n s → Tied g w n (body_row f s p (body.Name v h k))
+-- NAME
+pub name_is_tied : (v : ViewId) (h : List ℕ) (k : ℕ) (g : List ℕ) (w : Scene) (n : ℕ) (f : Answering) (s : Core) (p : Packet) → p.body ≡ body.Name v h k → Has p w.sent → Tied g w n s → Tied g w n (body_row f s p (body.Name v h k))
 unfolding body_row used_if name_row
-name_is_tied v h k g w n f s p free is delivered t = by (is_used s p v) refl (is_name_used s h k)
+name_is_tied v h k g w n f s p is delivered t = by (is_used s p v) refl (is_name_used s h k)
   where
     by : (b : Bool) → is_used s p v ≡ b → (c : Bool) → Tied g w n (used_if s (elim c as (λ _. Core) [ true ↦ named s h k (k == 0) | false ↦ s ]) b)
     by false e c = t
     by true e false = t
-    by true e true = name_tied v h k g w n s p is delivered (used_is s p v e).0 free t (k == 0) refl
+    by true e true = name_tied v h k g w n s p is delivered (used_is s p v e).0 t (k == 0) refl

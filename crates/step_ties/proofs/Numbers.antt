@@ -51,7 +51,7 @@ all_started_up (Dawn nodes new) = λ n j v ms h. absurd h
 all_started_up (NextEvent nodes ps all leads bases life) = one_more Begins (kept all) (λ n j v ms e. absurd (cc)) (all_started_up life)
 all_started_up (Promises nodes now ps all leads bases n x v life is le c) = all_started_up life
 all_started_up (Answers nodes ps all leads bases n x v life is up le lt) = all_started_up life
-all_started_up (Appends nodes now ps all leads bases n x e life is up led same due c) = one_more (Put n x.view (length x.list) e) (kept all) (λ n j v ms e. absurd (cc)) (all_started_up life)
+all_started_up (Appends nodes now ps all leads bases n x e life is up led same due tallied room c) = one_more (Put n x.view (length x.list) e) (kept all) (λ n j v ms e. absurd (cc)) (all_started_up life)
 all_started_up (Follows nodes now ps all leads bases n x e life is up same sent c) = one_more (Put n x.view (length x.list) e) (kept all) (λ n j v ms e. absurd (cc)) (all_started_up life)
 all_started_up (Starts nodes now ps all leads bases n x v ms life is quiet born how c) = one_more (In n (x.inc + 1) v ms) (kept all) (λ m j u ns e. let q : j ≡ x.inc + 1 = cc in omega arith) (all_started_up life)
 all_started_up (Enters nodes now ps all leads bases n x v ms ss life is quiet up at lt among sent c) = entered_started n x v ms ss (bases v) all up (all_started_up life)

@@ -1,6 +1,7 @@
 -- ENTRY: an entry is put at the end of the list, and handed on.
-use Rattle.std.proofs.Common.{◌≡◌, ◌≢◌, ◌≤◌, ◌<◌, ℕ, zero, suc, ◌+◌, List, [], ◌∷◌, ◌++◌, length, drop, take, Some, true, refl, sym, ap, ◌∙◌, subst, inl, inr, length-append, arith}
+use Rattle.std.proofs.Common.{◌≡◌, ◌≢◌, ◌≤◌, ◌<◌, ◌⊎◌, ℕ, zero, suc, ◌+◌, List, [], ◌∷◌, ◌++◌, length, drop, take, Some, true, refl, sym, ap, ◌∙◌, subst, inl, inr, length-append, arith}
 use Rattle.std.specs.Prelude.{reverse, slice_get, if◌then◌else◌}
+use Rattle.std.proofs.lemmas.Bool.{cases_eq}
 use Rattle.rsct_packet.specs.declared.ids.ViewId.{ViewId}
 use Rattle.rsct_packet.specs.declared.ids.ProviderId.{ProviderId}
 use Rattle.rsct_packet.specs.Search.{Has}
@@ -31,9 +32,10 @@ use Rattle.run_safety.specs.Moves.{Follows, grown}
 use Rattle.run_safety.proofs.Whole.{Whole}
 use Rattle.run_safety.proofs.Lives.{whole}
 use Rattle.step_ties.specs.Ghost.{Ghost, Lives, Goes, Keeps, FitIn}
-use Rattle.step_ties.specs.Tied.{RowIs, Owed, Owes, LeaderKeeps, NodeOf, Scene, opening_of, lines_now, Tied}
+use Rattle.step_ties.specs.Tied.{RowIs, Owed, Owes, LeaderKeeps, Closed, NodeOf, Scene, opening_of, lines_now, Tied}
 use Rattle.step_ties.specs.Rows.{at_node}
 use Rattle.step_ties.proofs.Goes.{Spares, Still, still_spares, sound_on, node_if_on, stable_on, knows_on, acked_on, gathers_on, install_on, shows_on}
+use Rattle.step_ties.proofs.Idle.{idles_with}
 use Rattle.step_ties.proofs.Changed.{set_here, set_there, changes, incs_set}
 use Rattle.step_ties.proofs.Works.{lines_pushed, placed_pushed}
 use Rattle.node_groups.proofs.NameOrder.{text_self, text_other, row_here, row_there, rows_ordered}
@@ -110,6 +112,7 @@ module _ (g : List ℕ) (w : Scene) (n : ℕ) (s : Core) (t : Tied g w n s) (h :
             asks = t.own.0.asks;
             led = t.own.0.led;
             waits = waits_with t.ghost s h (λ row. record row { list = Some (with_entry (list_or_new row.list) s.views.view e) }) (λ x. refl) t.own.0.order t.own.0.waits (waits_of g w n s t h);
+            idles = idles_with t.ghost n s.views.inc s.views.view (is_fixed s.config.mode) s h g (λ row. record row { list = Some (with_entry (list_or_new row.list) s.views.view e) }) (λ x. refl) (λ row k. refl) t.own.0.order (λ q. absurd (ne q)) t.own.0.idles;
           },
           t.own.1,
           t.own.2,
@@ -148,7 +151,7 @@ module _ (g : List ℕ) (w : Scene) (n : ℕ) (s : Core) (t : Tied g w n s) (e :
   unfolding len_of
   len_now = keeps.len
 
-  module _ (ps : List group.Packet) (more : (p : group.Packet) → Has p t.ghost.ps → Has p ps) (refusals : (v : ViewId) (p : ProviderId) (r : ℕ) → Has (group.Refusal v p r) ps → Has (group.Refusal v p r) t.ghost.ps) (stables : (v : ViewId) (k : ℕ) → Has (group.Stable v k) ps → Has (group.Stable v k) t.ghost.ps) (requests : (v : ViewId) (p : ProviderId) (r : ℕ) (a : Proposal) → Has (group.Request v p r a) ps → Has (group.Request v p r a) t.ghost.ps) (lives : Lives (opening_of w.config) (put_ghost ps)) (decides : LeaderKeeps (put_ghost ps) n s.views.inc s.views.view (row_of s g).led) where
+  module _ (ps : List group.Packet) (more : (p : group.Packet) → Has p t.ghost.ps → Has p ps) (refusals : (v : ViewId) (p : ProviderId) (r : ℕ) → Has (group.Refusal v p r) ps → Has (group.Refusal v p r) t.ghost.ps) (stables : (v : ViewId) (k : ℕ) → Has (group.Stable v k) ps → Has (group.Stable v k) t.ghost.ps) (requests : (v : ViewId) (p : ProviderId) (r : ℕ) (a : Proposal) → Has (group.Request v p r a) ps → Has (group.Request v p r a) t.ghost.ps) (unshut : t.ghost.leads s.views.view ≡ Some (member n s.views.inc) → Has s.views.view t.ghost.shut → ⊥) (lives : Lives (opening_of w.config) (put_ghost ps)) (decides : LeaderKeeps (put_ghost ps) n s.views.inc s.views.view (row_of s g).led) where
     abbrev y : Ghost
     y = put_ghost ps
 
@@ -167,8 +170,25 @@ module _ (g : List ℕ) (w : Scene) (n : ℕ) (s : Core) (t : Tied g w n s) (e :
           asks = λ p r q h. not_asked p r q h;
           told = λ p r v h. inl (told_old p r v h);
           incs = λ m. incs_set t.ghost.nodes n (grown (t.ghost.nodes n) e) (omega arith) m;
+          closed = λ v s c. closed v s c (cases_eq c.node n);
         }
       where
+        -- nothing is put where the view is shut to the group
+        closed : (v : ViewId) → Has v t.ghost.shut → (c : Closed t.ghost.nodes t.ghost.leads t.ghost.asks v) → (c.node ≡ n) ⊎ (c.node ≢ n) → Closed y.nodes y.leads y.asks v
+        closed v h c (inl q) =
+            let same : s.views.view ≡ v = sym t.own.0.stands.view ∙ ap (λ m. (t.ghost.nodes m).view) (sym q) ∙ c.stands in
+            let led : t.ghost.leads s.views.view ≡ Some (member n s.views.inc) = ap t.ghost.leads same ∙ c.led ∙ (λ i. Some (member (q i) (t.ghost.nodes (q i)).inc)) ∙ ap (λ j. Some (member n j)) t.own.0.stands.inc in
+            absurd (unshut led (subst (λ z. Has z t.ghost.shut) (sym same) h))
+        closed v h c (inr ne) =
+            let there : at_node t.ghost.nodes n (grown (t.ghost.nodes n) e) c.node ≡ t.ghost.nodes c.node = set_there t.ghost.nodes n (grown (t.ghost.nodes n) e) c.node ne in
+            record {
+              asks_not = c.asks_not;
+              node = c.node;
+              stands = ap (λ (k : Standing). k.view) there ∙ c.stands;
+              led = c.led ∙ ap (λ (k : Standing). Some (member c.node k.inc)) (sym there);
+              bare = ap (λ (k : Standing). k.list) there ∙ c.bare;
+            }
+
         told_old : (p : ProviderId) (r : ℕ) (v : ViewId) → Has (Noted (Told p r v)) (Kept put_line ∷ t.ghost.all) → Has (Noted (Told p r v)) t.ghost.all
         told_old p r v (inl q) = absurd (cc)
         told_old p r v (inr h) = h
@@ -250,6 +270,7 @@ module _ (g : List ℕ) (w : Scene) (n : ℕ) (s : Core) (t : Tied g w n s) (e :
           asks = k.asks;
           led = λ q. let a = k.led q in record { inc = a.inc; leads = a.leads };
           waits = waits_with t.ghost s g put_row (λ x. refl) k.order k.waits (waits_of g w n s t g);
+          idles = record { few = λ q a. absurd (cc); shut = λ a h. absurd (unshut a h) };
         }
       where
         less : Owes t.ghost g n s.views.inc u
@@ -314,7 +335,7 @@ module _ (g : List ℕ) (w : Scene) (n : ℕ) (s : Core) (t : Tied g w n s) (e :
   decides : LeaderKeeps (put_ghost g w n s t e u l room t.ghost.ps) n s.views.inc s.views.view (row_of s g).led
   decides =
       record {
-        refused = λ p r q. absurd (unled q);
+        refused = λ p r q c. absurd (unled q);
         begun = λ p r i f q. absurd (unled q);
         waiting = λ p q. absurd (unled q);
         later = t.own.0.decides.later;
@@ -325,4 +346,4 @@ module _ (g : List ℕ) (w : Scene) (n : ℕ) (s : Core) (t : Tied g w n s) (e :
       }
 
   pub put_own : (t' : Tied g w n (with_sessions (put s g e) u)) × (Has (Put n s.views.view (len_of s g) e) (kept t'.ghost.all) × (state_of (put s g e) g ≡ state_of_list t'.ghost.bases s.views.view (take (len_of s g + 1) (puts_of n s.views.view (kept t'.ghost.all)))))
-  put_own = let k = put_tied g w n s t e u l room t.ghost.ps (λ p h. h) (λ v p r h. h) (λ v k h. h) (λ v p r a h. h) follows decides in (k.0, k.1)
+  put_own = let k = put_tied g w n s t e u l room t.ghost.ps (λ p h. h) (λ v p r h. h) (λ v k h. h) (λ v p r a h. h) (λ q h. unled q) follows decides in (k.0, k.1)

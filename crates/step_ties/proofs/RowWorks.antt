@@ -27,6 +27,7 @@ use Rattle.node_groups.specs.Places.{InNameOrder}
 use Rattle.step_ties.specs.Ghost.{asking, Ghost, Goes, Keeps, KeepsIf, bytes_of, IsStable}
 use Rattle.step_ties.specs.Tied.{Waiting, Shows, KnowsLeader, RowIs, LeaderKeeps, NodeIs, Scene, Tied}
 use Rattle.step_ties.proofs.Goes.{Spares, sound_on, shows_on, node_on}
+use Rattle.step_ties.proofs.Idle.{Holds, Calm, Lightens, calm_of, calm_lighter, idles_with, leader_lightens, forgets_lighten}
 use Rattle.step_ties.proofs.Changed.{has_pushed}
 use Rattle.step_ties.proofs.Works.{tied_on}
 use Rattle.node_groups.proofs.NameOrder.{KeepsName, cases_text, row_here, row_there, rows_ordered}
@@ -92,9 +93,9 @@ waits_with x s h f keeps order old new k p e = by (cases_text h k)
 
 module _ (g : List ℕ) (w : Scene) (n : ℕ) (s : Core) (t : Tied g w n s) where
   -- a row changes
-  pub row_kept : (h : List ℕ) (f : GroupRow → GroupRow) → KeepsName f → ((p : ProviderId) → among (f (row_of s h)).led.waiting.joins p ≡ true → Has (asking p p.join h) t.ghost.asked) → (h ≡ g → RowIs t.ghost n s.views.view s.views.members (f (row_of s h)) × LeaderKeeps t.ghost n s.views.inc s.views.view (f (row_of s h)).led) → (u : Tied g w n (with_row s h f)) × (u.ghost ≡ t.ghost)
+  pub row_calm : (h : List ℕ) (f : GroupRow → GroupRow) → KeepsName f → Holds f → (h ≡ g → Calm t.ghost n s.views.inc s.views.view (is_fixed s.config.mode) (f (row_of s h))) → ((p : ProviderId) → among (f (row_of s h)).led.waiting.joins p ≡ true → Has (asking p p.join h) t.ghost.asked) → (h ≡ g → RowIs t.ghost n s.views.view s.views.members (f (row_of s h)) × LeaderKeeps t.ghost n s.views.inc s.views.view (f (row_of s h)).led) → (u : Tied g w n (with_row s h f)) × (u.ghost ≡ t.ghost)
   unfolding with_row
-  row_kept h f keeps waits new = (
+  row_calm h f keeps holds calm waits new = (
     record {
       ghost = t.ghost;
       life = t.life;
@@ -136,10 +137,16 @@ module _ (g : List ℕ) (w : Scene) (n : ℕ) (s : Core) (t : Tied g w n s) wher
             asks = k.asks;
             led = k.led;
             waits = waits_with t.ghost s h f keeps k.order k.waits waits;
+            idles = idles_with t.ghost n s.views.inc s.views.view (is_fixed s.config.mode) s h g f keeps holds k.order calm k.idles;
           }
 
-  pub tied_row : (h : List ℕ) (f : GroupRow → GroupRow) → KeepsName f → ((p : ProviderId) → among (f (row_of s h)).led.waiting.joins p ≡ true → Has (asking p p.join h) t.ghost.asked) → (h ≡ g → RowIs t.ghost n s.views.view s.views.members (f (row_of s h)) × LeaderKeeps t.ghost n s.views.inc s.views.view (f (row_of s h)).led) → Tied g w n (with_row s h f)
-  tied_row h f keeps waits new = (row_kept h f keeps waits new).0
+  -- no list is begun, and no join comes to wait
+  pub row_kept : (h : List ℕ) (f : GroupRow → GroupRow) → KeepsName f → Lightens f → ((p : ProviderId) → among (f (row_of s h)).led.waiting.joins p ≡ true → Has (asking p p.join h) t.ghost.asked) → (h ≡ g → RowIs t.ghost n s.views.view s.views.members (f (row_of s h)) × LeaderKeeps t.ghost n s.views.inc s.views.view (f (row_of s h)).led) → (u : Tied g w n (with_row s h f)) × (u.ghost ≡ t.ghost)
+  row_kept h f keeps light waits new =
+      row_calm h f keeps light.held (λ e. calm_lighter t.ghost n s.views.inc s.views.view (is_fixed s.config.mode) (row_of s h) f light (subst (λ z. Calm t.ghost n s.views.inc s.views.view (is_fixed s.config.mode) (row_of s z)) (sym e) (calm_of t.ghost n s.views.inc s.views.view (is_fixed s.config.mode) (row_of s g) s.groups t.own.0.idles))) waits new
+
+  pub tied_row : (h : List ℕ) (f : GroupRow → GroupRow) → KeepsName f → Lightens f → ((p : ProviderId) → among (f (row_of s h)).led.waiting.joins p ≡ true → Has (asking p p.join h) t.ghost.asked) → (h ≡ g → RowIs t.ghost n s.views.view s.views.members (f (row_of s h)) × LeaderKeeps t.ghost n s.views.inc s.views.view (f (row_of s h)).led) → Tied g w n (with_row s h f)
+  tied_row h f keeps light waits new = (row_kept h f keeps light waits new).0
 
   pub waits_of : (h : List ℕ) (p : ProviderId) → among (row_of s h).led.waiting.joins p ≡ true → Has (asking p p.join h) t.ghost.asked
   unfolding row_of
@@ -148,7 +155,7 @@ module _ (g : List ℕ) (w : Scene) (n : ℕ) (s : Core) (t : Tied g w n s) wher
   -- what is stable is forgotten
   pub tied_forgets : (h : List ℕ) (m : ℕ) → (h ≡ g → IsStable t.ghost s.views.view m) → Tied g w n (forgets_below s h m)
   unfolding forgets_below
-  tied_forgets h m stable = tied_row h (λ row. record row { list = list_forgotten m row.list }) (λ x. refl) (waits_of h) new
+  tied_forgets h m stable = tied_row h (λ row. record row { list = list_forgotten m row.list }) (λ x. refl) (forgets_lighten m) (waits_of h) new
     where
       new : h ≡ g → RowIs t.ghost n s.views.view s.views.members (record (row_of s h) { list = list_forgotten m (row_of s h).list }) × LeaderKeeps t.ghost n s.views.inc s.views.view (row_of s h).led
       new e =
@@ -173,9 +180,9 @@ module _ (g : List ℕ) (w : Scene) (n : ℕ) (s : Core) (t : Tied g w n s) wher
           start (Some l) new old = forgotten_stable t.ghost s.views.view l m new old
 
   -- the leader is known
-  pub tied_led_by : (h : List ℕ) (m : ℕ) → (h ≡ g → KnowsLeader t.ghost s.views.view s.views.members (Some m)) → Tied g w n (led_by s h m)
+  pub led_by_kept : (h : List ℕ) (m : ℕ) → (h ≡ g → KnowsLeader t.ghost s.views.view s.views.members (Some m)) → (u : Tied g w n (led_by s h m)) × (u.ghost ≡ t.ghost)
   unfolding led_by
-  tied_led_by h m knows = tied_row h (λ row. record row { leader = Some m }) (λ x. refl) (waits_of h) new
+  led_by_kept h m knows = row_kept h (λ row. record row { leader = Some m }) (λ x. refl) (leader_lightens m) (waits_of h) new
     where
       new : h ≡ g → RowIs t.ghost n s.views.view s.views.members (record (row_of s h) { leader = Some m }) × LeaderKeeps t.ghost n s.views.inc s.views.view (row_of s h).led
       new e =
@@ -184,6 +191,9 @@ module _ (g : List ℕ) (w : Scene) (n : ℕ) (s : Core) (t : Tied g w n s) wher
             record { list = t.own.0.row_is.list; stable = t.own.0.row_is.stable; leader = knows e; acked = t.own.0.row_is.acked; covers = t.own.0.row_is.covers },
             t.own.0.decides,
           )
+
+  pub tied_led_by : (h : List ℕ) (m : ℕ) → (h ≡ g → KnowsLeader t.ghost s.views.view s.views.members (Some m)) → Tied g w n (led_by s h m)
+  tied_led_by h m knows = (led_by_kept h m knows).0
 
   -- the length that the node's list has
   pub len_is : len_of s g ≡ length (t.ghost.nodes n).list

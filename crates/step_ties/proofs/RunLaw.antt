@@ -5,17 +5,19 @@ use Rattle.run_safety.specs.SafeGroups.{SafeGroups, SafeLines}
 use Rattle.run_safety.proofs.Lives.{lives_are_safe}
 use Rattle.run_safety.proofs.SightLaws.{one_entry_seen}
 use Rattle.step_ties.specs.Tied.{Scene, Rests, opening_of}
-use Rattle.step_ties.specs.Runs.{RunsAreSafe, Reached, Nothing, AllStart, Starts, Stops, Steps}
+use Rattle.step_ties.specs.Runs.{RunsAreSafe, Reached, Nothing, AllStart, Starts, Stops, Steps, Notes}
 use Rattle.step_ties.proofs.Begins.{nothing_tied, start_tied, stop_tied}
 use Rattle.step_ties.proofs.FixedStart.{fixed_start_tied}
 use Rattle.step_ties.proofs.Steps.{step_tied}
+use Rattle.step_ties.proofs.Noting.{note_tied}
 
-reached_rests : (c : Config) (w : Scene) → Reached c w → (g : List ℕ) → Rests g w
+pub reached_rests : (c : Config) (w : Scene) → Reached c w → (g : List ℕ) → Rests g w
 reached_rests c _ Nothing g = nothing_tied g c
 reached_rests c _ (AllStart fixed) g = fixed_start_tied g c fixed
 reached_rests c _ (Starts w n e k free real down) g = start_tied g w n e free real down (reached_rests c w k g)
 reached_rests c _ (Stops w n e s k up) g = stop_tied g w n e s up (reached_rests c w k g)
 reached_rests c _ (Steps w n f s e v k up arises) g = step_tied w n f s e v up (λ h. reached_rests c w k h) arises g
+reached_rests c _ (Notes w e rs k notes) g = note_tied g w e rs notes (reached_rests c w k g)
 
 reached_safe : (c : Config) (w : Scene) → Reached c w → SafeGroups (opening_of w.config) w.before
 reached_safe c w k g =

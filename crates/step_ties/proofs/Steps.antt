@@ -25,7 +25,7 @@ use Rattle.node_state.specs.declared.packet.Body.TheVariants as body
 use Rattle.node_state.specs.declared.packet.Packet.{Packet}
 use Rattle.node_state.specs.declared.state.Core.{Core}
 use Rattle.node_state.specs.Settings.{is_rings}
-use Rattle.node_state.specs.State.{recorded_all}
+use Rattle.node_state.specs.State.{row_of, leader_in, leads_in, leads, recorded_all}
 use Rattle.node_state.specs.Sending.{sent_on}
 use Rattle.node_state.specs.HandOn.{Answering}
 use Rattle.node_state.specs.Ticks.{set_records, ring_put, ring_taken, rings_union, report_of, report_sent, rings_tick, rings_part, views_part, owed_part, tick_row}
@@ -35,8 +35,8 @@ use Rattle.world_model.specs.declared.event.Event.{Event}
 use Rattle.run_safety.specs.Sight.{lines_of}
 use Rattle.run_safety.specs.Group.{kept}
 use Rattle.run_safety.specs.Moves.{Quiet}
-use Rattle.step_ties.specs.Tied.{Scene, Rests, lines_now, Tied}
-use Rattle.step_ties.specs.Rows.{ended, acted, Tame, Arises}
+use Rattle.step_ties.specs.Tied.{Scene, Begun, Rests, lines_now, Tied}
+use Rattle.step_ties.specs.Rows.{ended, acted, Arises}
 use Rattle.step_ties.proofs.Works.{Unseen, lines_none}
 use Rattle.step_ties.proofs.Begins.{begin_tied, end_tied}
 use Rattle.step_ties.proofs.ViewRows.{taken_is_tied, refuse_is_tied, prepare_is_tied}
@@ -53,7 +53,7 @@ use Rattle.step_ties.proofs.Owed.{owed_part_tied}
 use Rattle.step_ties.proofs.LedTicks.{led_part_tied}
 use Rattle.step_ties.proofs.Calls.{call_is_tied}
 use Rattle.step_ties.proofs.Appending.{sent_all_is}
-use Rattle.step_ties.proofs.Ends.{step_end_tied}
+use Rattle.step_ties.proofs.Ends.{step_end_tied, step_begun}
 use Rattle.step_ties.proofs.JoinsFirst.{joins_first}
 
 -- ---- rings are no group's
@@ -108,33 +108,33 @@ module _ (g : List ℕ) where
 -- ---- rows
 
 -- REQUEST, given to whom it was sent
-pub request_given : (v : ViewId) (h : List ℕ) (q : ProviderId) (r : ℕ) (phases : Phases) (x : Proposal) (w : Scene) (n : ℕ) (f : Answering) (s : Core) (p : Packet) → p.to ≡ n → p.body ≡ body.Request v h q r phases x → Has p w.sent → s.records ≡ [] → ((k : List ℕ) → Tied k w n s) → (g : List ℕ) → Tied g w n (body_row f s p (body.Request v h q r phases x))
-request_given v h q r phases x w n f s p to is sent none all g =
-    request_is_tied v h q r phases x g w n f s p to is sent (joins_first w n s none all v h q r phases x p is sent) (all g)
+pub request_given : (v : ViewId) (h : List ℕ) (q : ProviderId) (r : ℕ) (phases : Phases) (x : Proposal) (w : Scene) (n : ℕ) (f : Answering) (s : Core) (p : Packet) → p.to ≡ n → p.body ≡ body.Request v h q r phases x → Has p w.sent → s.records ≡ [] → ((k : List ℕ) → Begun k s) → ((k : List ℕ) → Tied k w n s) → (g : List ℕ) → Tied g w n (body_row f s p (body.Request v h q r phases x))
+request_given v h q r phases x w n f s p to is sent none begun all g =
+    request_is_tied v h q r phases x g w n f s p to is sent (joins_first w n s none all v h q r phases x p is sent) (begun h) (all g)
 
-module _ (w : Scene) (n : ℕ) (f : Answering) (s : Core) (none : s.records ≡ []) (all : (h : List ℕ) → Tied h w n s) where
+module _ (w : Scene) (n : ℕ) (f : Answering) (s : Core) (none : s.records ≡ []) (begun : (h : List ℕ) → Begun h s) (all : (h : List ℕ) → Tied h w n s) where
   view_tied : (p : Packet) (y : ViewPacket) → p.body ≡ body.View y → Has p w.sent → (g : List ℕ) → Tied g w n (body_row f s p (body.View y))
   unfolding body_row
-  view_tied p (view.Prepare v mask) is sent g = prepare_is_tied v mask g w n f s p.from p.inc (all g)
+  view_tied p (view.Prepare v mask) is sent g = prepare_is_tied v mask g w n f s p is sent (all g)
   view_tied p (view.Answer v old parts) is sent g = founding_answer_tied v old parts w n f s p is sent none all g
   view_tied p (view.Refuse v k) is sent g = refuse_is_tied v k g w n f s p.from p.inc (all g)
   view_tied p (view.Install i) is sent g = install_row_tied i g w n f s p is sent none (all g)
   view_tied p (view.Taken v) is sent g = taken_is_tied v g w n f s p.from p.inc (all g)
 
-  body_tied : (p : Packet) (b : Body) → p.body ≡ b → p.to ≡ n → Has p w.sent → Tame w b → (g : List ℕ) → Tied g w n (body_row f s p b)
-  body_tied p (body.Ring x) is to sent tame g = ring_is_tied x g w n f s p (all g)
-  body_tied p (body.Report rows) is to sent tame g = report_is_tied rows g w n f s p (all g)
-  body_tied p (body.View y) is to sent tame g = view_tied p y is sent g
-  body_tied p (body.Lookup v h) is to sent tame g = lookup_is_tied v h g w n f s p is sent (all g)
-  body_tied p (body.Name v h k) is to sent tame g = name_is_tied v h k g w n f s p tame is sent (all g)
-  body_tied p (body.Request v h q r phases x) is to sent tame g = request_given v h q r phases x w n f s p to is sent none all g
-  body_tied p (body.Tell v h q r why) is to sent tame g = tell_is_tied v h q r why g w n f s p is sent (all g)
-  body_tied p (body.Entry v h i k e) is to sent tame g = entry_is_tied v h i k e g w n f s p is sent (all g)
-  body_tied p (body.Ack v h k) is to sent tame g = ack_is_tied v h k g w n f s p is sent (all g)
-  body_tied p (body.Vote v h proto phase q ballot value message) is to sent tame g = vote_is_tied v h proto phase q ballot value message g w n f s p (all g)
-  body_tied p (body.Gone v h q) is to sent tame g = gone_is_tied v h q g w n f s p (all g)
-  body_tied p (body.Query question what) is to sent tame g = query_is_tied question what g w n f s p (all g)
-  body_tied p (body.Reply question text) is to sent tame g = reply_is_tied question text g w n f s p (all g)
+  body_tied : (p : Packet) (b : Body) → p.body ≡ b → p.to ≡ n → Has p w.sent → (g : List ℕ) → Tied g w n (body_row f s p b)
+  body_tied p (body.Ring x) is to sent g = ring_is_tied x g w n f s p (all g)
+  body_tied p (body.Report rows) is to sent g = report_is_tied rows g w n f s p (all g)
+  body_tied p (body.View y) is to sent g = view_tied p y is sent g
+  body_tied p (body.Lookup v h) is to sent g = lookup_is_tied v h g w n f s p is sent (all g)
+  body_tied p (body.Name v h k) is to sent g = name_is_tied v h k g w n f s p is sent (all g)
+  body_tied p (body.Request v h q r phases x) is to sent g = request_given v h q r phases x w n f s p to is sent none begun all g
+  body_tied p (body.Tell v h q r why) is to sent g = tell_is_tied v h q r why g w n f s p is sent (all g)
+  body_tied p (body.Entry v h i k e) is to sent g = entry_is_tied v h i k e g w n f s p is sent (all g)
+  body_tied p (body.Ack v h k) is to sent g = ack_is_tied v h k g w n f s p is sent (all g)
+  body_tied p (body.Vote v h proto phase q ballot value message) is to sent g = vote_is_tied v h proto phase q ballot value message g w n f s p (all g)
+  body_tied p (body.Gone v h q) is to sent g = gone_is_tied v h q g w n f s p (all g)
+  body_tied p (body.Query question what) is to sent g = query_is_tied question what g w n f s p (all g)
+  body_tied p (body.Reply question text) is to sent g = reply_is_tied question text g w n f s p (all g)
 
   acted_tied : (e : NodeEvent) → Arises w e → (g : List ℕ) → Tied g w n (acted f s e)
   unfolding packet_row
@@ -149,7 +149,7 @@ module _ (w : Scene) (n : ℕ) (f : Answering) (s : Core) (none : s.records ≡ 
     where
       by : (b : Bool) → (p.to == s.views.me) ≡ b → Tied g w n (elim b as (λ _. Core) [ true ↦ body_row f s p p.body | false ↦ s ])
       by false e = all g
-      by true e = body_tied p p.body refl (eqb-true p.to s.views.me e ∙ (all g).own.0.stands.me) arises.0 arises.1 g
+      by true e = body_tied p p.body refl (eqb-true p.to s.views.me e ∙ (all g).own.0.stands.me) arises g
 
 stepped_is : (f : Answering) (s : Core) (e : NodeEvent) → stepped f s e ≡ step_ended f (acted f (at_work s) e)
 unfolding stepped event_row tick_row
@@ -159,9 +159,15 @@ stepped_is f s (Given p) = refl
 stepped_is f s (Calls c) = refl
 stepped_is f s Garbage = refl
 
+begun_at_work : (g : List ℕ) (s : Core) → Begun g s → Begun g (at_work s)
+unfolding leads leads_in leader_in row_of
+begun_at_work g s h = h
+
 -- from one event to the next
 pub step_tied : (w : Scene) (n : ℕ) (f : Answering) (s : Core) (e : NodeEvent) (v : Event) → w.cores n ≡ Some s → ((h : List ℕ) → Rests h w) → Arises w e → (g : List ℕ) → Rests g (ended w n v (stepped f s e))
 step_tied w n f s e v is all arises g =
     let began : (h : List ℕ) → Tied h w n (at_work s) = λ h. begin_tied h w n s is (all h) in
-    let t = step_end_tied g w n f (acted f (at_work s) e) (acted_tied w n f (at_work s) refl began e arises g) in
-    end_tied g w n (stepped f s e) v (subst (Tied g w n) (sym (stepped_is f s e)) t)
+    let first : (h : List ℕ) → Begun h (at_work s) = λ h. begun_at_work h s ((all h).begun n s is) in
+    let acts = acted_tied w n f (at_work s) refl first began e arises g in
+    let is_end = sym (stepped_is f s e) in
+    end_tied g w n (stepped f s e) v (subst (Begun g) is_end (step_begun g w n f (acted f (at_work s) e) acts)) (λ m c ne up. (all g).begun m c up) (subst (Tied g w n) is_end (step_end_tied g w n f (acted f (at_work s) e) acts))

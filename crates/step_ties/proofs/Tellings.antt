@@ -99,7 +99,7 @@ module _ (g : List ℕ) (w : Scene) (n : ℕ) (c : Core) (t : Tied g w n c) (p :
 
   still : Still x y
   still =
-      record { goes = goes; leads = λ v s. refl; refusals = λ v q k h. h; stables = λ v k h. h; shut = λ v h. h; asked = λ a h. h; asks = λ q k a h. not_asked q k a h; told = λ q k u h. told_or q k u h; incs = λ m. omega arith }
+      record { goes = goes; leads = λ v s. refl; refusals = λ v q k h. h; stables = λ v k h. h; shut = λ v h. h; asked = λ a h. h; asks = λ q k a h. not_asked q k a h; told = λ q k u h. told_or q k u h; incs = λ m. omega arith; closed = λ v s c. c }
     where
       told_or : (q : ProviderId) (k : ℕ) (u : ViewId) → Has (Noted (Told q k u)) (Noted (Told p r (x.nodes n).view) ∷ x.all) → Has (Noted (Told q k u)) x.all ⊎ Numbered x q k
       told_or q k u (inr h) = inl h
@@ -132,7 +132,7 @@ module _ (g : List ℕ) (w : Scene) (n : ℕ) (c : Core) (t : Tied g w n c) (p :
   node_left =
       let k = t.own.0 in
       let less = owes_later x g n c.views.inc c.sessions left later k.owes in
-      node_by x y goes n refl g (is_fixed c.config.mode) c.views (row_of c g) c.groups c.sessions left c.names c.names k.row_is.covers (record { me = less.me; inc_of = less.inc_of; providers = less.providers; own = less.own; requests = owed_left; attended = less.attended; given = less.given }) (decides_by x y goes n refl (λ v l e. e) (λ v q k h. h) c.views.inc c.views.view (row_of c g).led k.decides) (record { named = k.names.named; unnamed = k.names.unnamed; full = k.names.full }) k
+      node_by x y goes n refl g (is_fixed c.config.mode) c.views (row_of c g) c.groups c.sessions left c.names c.names k.row_is.covers (record { me = less.me; inc_of = less.inc_of; providers = less.providers; own = less.own; requests = owed_left; attended = less.attended; given = less.given }) (decides_by x y goes n refl (λ v l e. e) (λ v q k h. h) c.views.inc c.views.view (row_of c g).led k.decides) (record { named = k.names.named; unnamed = k.names.unnamed; full = k.names.full }) (record { few = k.idles.few; shut = k.idles.shut }) k
 
   -- nothing else changes
   pub told_tied : (u : Tied g w n (recorded (with_sessions c left) (happened.Told p r why))) × (u.ghost.ps ≡ t.ghost.ps) × (u.ghost.asked ≡ t.ghost.asked)

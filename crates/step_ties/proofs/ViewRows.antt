@@ -8,6 +8,7 @@ use Rattle.rsct_packet.specs.declared.mask.Mask.{Mask}
 use Rattle.rsct_packet.specs.Ids.{same_view, view_lt}
 use Rattle.rsct_packet.specs.Mask.{has_node, with_node}
 use Rattle.rsct_packet.specs.Search.{Has}
+use Rattle.rsct_packet.proofs.HasLaws.{append_has_right}
 use Rattle.view_exchange.specs.declared.exchange.Exchange.{Exchange}
 use Rattle.view_exchange.specs.Answers.{max_parts}
 use Rattle.view_core.specs.declared.packet.ViewPacket.TheVariants as view
@@ -21,7 +22,7 @@ use Rattle.node_state.specs.State.{row_of, held_rows}
 use Rattle.node_state.specs.Sending.{sent, sent_on, packet_on, network_to}
 use Rattle.node_state.specs.HandOn.{Answering}
 use Rattle.node_state.specs.Applying.{own_parts, install_applied, views_taken}
-use Rattle.node_state.specs.Step.{view_row}
+use Rattle.node_state.specs.Step.{view_row, body_row}
 use Rattle.run_safety.specs.ViewOrder.{is_before, Lt, Le}
 use Rattle.run_safety.specs.Group.{Standing, Reply}
 use Rattle.run_safety.specs.Group as group
@@ -29,9 +30,9 @@ use Rattle.run_safety.specs.Moves.{Promises, Answers}
 use Rattle.run_safety.proofs.Order.{lt_refl, lt_le, le_lt_trans, le_antisym}
 use Rattle.run_safety.proofs.Whole.{Whole}
 use Rattle.run_safety.proofs.Lives.{whole}
-use Rattle.step_ties.specs.Ghost.{Ghost, Goes, part_of}
+use Rattle.step_ties.specs.Ghost.{Ghost, Goes, part_of, Gathers, GathersIf}
 use Rattle.step_ties.specs.Rows.{at_node}
-use Rattle.step_ties.specs.Tied.{Shows, Stands, NodeOf, Scene, opening_of, Tied}
+use Rattle.step_ties.specs.Tied.{ShowsBody, Shows, Stands, NodeOf, Scene, opening_of, Tied}
 use Rattle.step_ties.proofs.Goes.{Spares, sound_on, spares_same, carries_on, shows_on, rest_on, node_on}
 use Rattle.step_ties.proofs.Changed.{set_here, set_there, changes, incs_set, has_pushed}
 use Rattle.step_ties.proofs.Works.{tied_on, tied_sent, tied_views}
@@ -52,6 +53,9 @@ differs a b e q = let f : not (same_view b b) ≡ true = subst (λ z. not (same_
     at : (b : ViewId) → not (same_view b b) ≡ true → ⊥
     at b f = grind (arith, nat_tests)
 
+pub apart_of : (a b : ViewId) → same_view a b ≡ false → a ≡ b → ⊥
+apart_of a b e q = differs a b (ap not e) q
+
 -- a view that is no later than another, and not the same, is before it
 pub before_of : (a b : ViewId) → Le a b → (b ≡ a → ⊥) → Lt a b
 before_of a b l ne = by (is_before a b) refl
@@ -62,9 +66,9 @@ before_of a b l ne = by (is_before a b) refl
 
 module _ (g : List ℕ) (w : Scene) (n : ℕ) (s : Core) (t : Tied g w n s) where
   -- it promises more, and what it gathered is dropped
-  pub tied_promised : (v : ViewId) → Lt s.views.promise v → Tied g w n (record s { views = record (s.views) { promise = v; gathering = None } })
+  pub tied_promised : (v : ViewId) → t.ghost.asks ≡ true → Lt s.views.promise v → Tied g w n (record s { views = record (s.views) { promise = v; gathering = None } })
   unfolding row_of
-  tied_promised v lt =
+  tied_promised v asks lt =
       let x : Ghost = t.ghost in
       let h = t.own.0 in
       let z : Standing = record (x.nodes n) { promise = v } in
@@ -81,8 +85,8 @@ module _ (g : List ℕ) (w : Scene) (n : ℕ) (s : Core) (t : Tied g w n s) wher
         seated = h.stands.seated;
       } in
       let own : NodeOf (with_nodes x nodes) g n (is_fixed s.config.mode) views (row_of s g) s.groups s.sessions s.names =
-      rest_on x (with_nodes x nodes) n (nodes_spares x nodes n (ap (λ (k : Standing). k.list) here)) g (is_fixed s.config.mode) s.views views (row_of s g) s.groups s.sessions s.names stands refl refl refl refl tt h in
-      tied_on g w n s t (record s { views = views }) (with_nodes x nodes) (Promises x.nodes nodes x.ps x.all x.leads x.bases n (x.nodes n) v t.life refl le (changes x.nodes n z)) t.lines t.placed t.turns (own, t.own.1, t.own.2) (λ m ne. nodes_spares x nodes m (ap (λ (k : Standing). k.list) (set_there x.nodes n z m ne))) (λ m ne. set_there x.nodes n z m ne) (λ p i. shows_on x (with_nodes x nodes) (nodes_goes x nodes) g p (t.packets p i)) (sound_on x (with_nodes x nodes) (nodes_still x nodes (λ m. incs_set x.nodes n z (omega arith) m)) g t.sound)
+      rest_on x (with_nodes x nodes) n (nodes_spares x nodes n (ap (λ (k : Standing). k.list) here)) g (is_fixed s.config.mode) s.views views (row_of s g) s.groups s.sessions s.names stands refl refl refl refl (λ a. absurd (let z : true ≡ false = sym asks ∙ a in cc)) h in
+      tied_on g w n s t (record s { views = views }) (with_nodes x nodes) (Promises x.nodes nodes x.ps x.all x.leads x.bases n (x.nodes n) v t.life refl le (changes x.nodes n z)) t.lines t.placed t.turns (own, t.own.1, t.own.2) (λ m ne. nodes_spares x nodes m (ap (λ (k : Standing). k.list) (set_there x.nodes n z m ne))) (λ m ne. set_there x.nodes n z m ne) (λ p i. shows_on x (with_nodes x nodes) (nodes_goes x nodes) g p (t.packets p i)) (sound_on x (with_nodes x nodes) (nodes_still x nodes (λ m. incs_set x.nodes n z (omega arith) m) asks) g t.sound)
 
   -- an answer for a view that it promised is sent
   pub tied_answers : (to : ℕ) (v : ViewId) → Le v s.views.promise → Lt s.views.view v → Tied g w n (sent s to (body.View (view.Answer v s.views.view (own_parts s))))
@@ -122,22 +126,22 @@ module _ (g : List ℕ) (w : Scene) (n : ℕ) (f : Answering) (s : Core) (t : Ti
 
   pub refuse_tied : (from inc : ℕ) (v : ViewId) (k : ℕ) → Tied g w n (view_row f s from inc (view.Refuse v k))
   unfolding view_row views_taken install_applied refuse_row refuse_to refused_by
-  refuse_tied from inc v k = at s.views.gathering
+  refuse_tied from inc v k = at s.views.gathering t.own.0.gathering
     where
-      by : (e : Exchange) (b : Bool) → Tied g w n (views_taken f s (elim b [ true ↦ refused_by (views_at_work s.views) k | false ↦ views_at_work s.views ]))
-      by e true =
+      by : (e : Exchange) (b : Bool) → Gathers t.ghost g n s.views.inc s.views.view s.views.promise e → Tied g w n (views_taken f s (elim b [ true ↦ refused_by (views_at_work s.views) k | false ↦ views_at_work s.views ]))
+      by e true k' =
           let h = t.own.0 in
           let views : Views = record (s.views) { floor = max s.views.floor k; gathering = None } in
-          tied_views g w n s t views (rest_on t.ghost t.ghost n (spares_same t.ghost n) g (is_fixed s.config.mode) s.views views (row_of s g) s.groups s.sessions s.names (record { me = h.stands.me; up = h.stands.up; inc = h.stands.inc; view = h.stands.view; promise = h.stands.promise; seated = h.stands.seated }) refl refl refl refl tt h) refl
-      by e false = t
+          tied_views g w n s t views (rest_on t.ghost t.ghost n (spares_same t.ghost n) g (is_fixed s.config.mode) s.views views (row_of s g) s.groups s.sessions s.names (record { me = h.stands.me; up = h.stands.up; inc = h.stands.inc; view = h.stands.view; promise = h.stands.promise; seated = h.stands.seated }) refl refl refl refl (λ a. absurd (let z : true ≡ false = sym k'.asks ∙ a in cc)) h) refl
+      by e false k' = t
 
-      at : (e : Option Exchange) → Tied g w n (views_taken f s (refuse_to (views_at_work s.views) v k e))
-      at None = t
-      at (Some e) = by e (same_view e.view v)
+      at : (e : Option Exchange) → GathersIf t.ghost g n s.views.inc s.views.view s.views.promise e → Tied g w n (views_taken f s (refuse_to (views_at_work s.views) v k e))
+      at None h = t
+      at (Some e) h = by e (same_view e.view v) h
 
-  pub prepare_tied : (from inc : ℕ) (v : ViewId) (mask : Mask) → Tied g w n (view_row f s from inc (view.Prepare v mask))
+  pub prepare_tied : t.ghost.asks ≡ true → (from inc : ℕ) (v : ViewId) (mask : Mask) → Tied g w n (view_row f s from inc (view.Prepare v mask))
   unfolding view_row prepare_row prepared answered promised view_sent views_taken install_applied row_of own_parts held_rows
-  prepare_tied from inc v mask =
+  prepare_tied asks from inc v mask =
       let asked : Bool = v.coord == from && v.inc == inc && has_node mask s.views.me in
       by asked (asked && view_lt s.views.promise v) (asked && same_view v s.views.promise && not (same_view v s.views.view)) (view_lt v s.views.promise) refl refl
     where
@@ -153,8 +157,8 @@ module _ (g : List ℕ) (w : Scene) (n : ℕ) (f : Answering) (s : Core) (t : Ti
           lt = lt_of s.views.promise v (and_parts asked (view_lt s.views.promise v) e).1
 
           first : (c : Bool) → Tied g w n (views_taken f s (elim c [ true ↦ view_sent (promised (views_at_work s.views) v) v.coord (view.Answer v s.views.view (own_parts s)) | false ↦ promised (views_at_work s.views) v ]))
-          first true = tied_answers g w n (record s { views = record (s.views) { promise = v; gathering = None } }) (tied_promised g w n s t v lt) v.coord v (lt_refl v) (le_lt_trans s.views.view s.views.promise v below lt)
-          first false = tied_promised g w n s t v lt
+          first true = tied_answers g w n (record s { views = record (s.views) { promise = v; gathering = None } }) (tied_promised g w n s t v asks lt) v.coord v (lt_refl v) (le_lt_trans s.views.view s.views.promise v below lt)
+          first false = tied_promised g w n s t v asks lt
       by asked false true b3 e q = again (nat_le (length (own_parts s)) max_parts)
         where
           k : ((asked && same_view v s.views.promise) ≡ true) × (not (same_view v s.views.view) ≡ true)
@@ -175,5 +179,7 @@ taken_is_tied v g w n f s from inc t = taken_tied g w n f s t from inc v
 pub refuse_is_tied : (v : ViewId) (k : ℕ) (g : List ℕ) (w : Scene) (n : ℕ) (f : Answering) (s : Core) (from inc : ℕ) → Tied g w n s → Tied g w n (view_row f s from inc (view.Refuse v k))
 refuse_is_tied v k g w n f s from inc t = refuse_tied g w n f s t from inc v k
 
-pub prepare_is_tied : (v : ViewId) (mask : Mask) (g : List ℕ) (w : Scene) (n : ℕ) (f : Answering) (s : Core) (from inc : ℕ) → Tied g w n s → Tied g w n (view_row f s from inc (view.Prepare v mask))
-prepare_is_tied v mask g w n f s from inc t = prepare_tied g w n f s t from inc v mask
+pub prepare_is_tied : (v : ViewId) (mask : Mask) (g : List ℕ) (w : Scene) (n : ℕ) (f : Answering) (s : Core) (p : Packet) → p.body ≡ body.View (view.Prepare v mask) → Has p w.sent → Tied g w n s → Tied g w n (body_row f s p (body.View (view.Prepare v mask)))
+unfolding body_row
+prepare_is_tied v mask g w n f s p is delivered t =
+    prepare_tied g w n f s t (subst (ShowsBody t.ghost g p.from p.inc p.to) is (t.packets p (append_has_right p s.sends w.sent delivered))) p.from p.inc v mask

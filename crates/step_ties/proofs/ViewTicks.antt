@@ -1,5 +1,5 @@
 -- The tick of views: asking or PREPARE again, and INSTALL again.
-use Rattle.std.proofs.Common.{◌≡◌, ℕ, List, [], ◌∷◌, ◌++◌, Option, Some, None, Bool, true, false, refl, sym, ap, subst}
+use Rattle.std.proofs.Common.{◌≡◌, ℕ, List, [], ◌∷◌, ◌++◌, Option, Some, None, Bool, true, false, refl, sym, ap, ◌∙◌, subst}
 use Rattle.std.specs.Prelude.{◌&&◌, not, map, filter, fold, drop}
 use Rattle.rsct_packet.specs.Mask.{has_node, nodes_of}
 use Rattle.view_exchange.specs.declared.exchange.Exchange.{Exchange}
@@ -34,6 +34,10 @@ installs_tied g w n i (m ∷ ns) s t h =
     let k = sent_kept g w n s t m (body.View (view.Install i)) h in
     installs_tied g w n i ns (sent s m (body.View (view.Install i))) k.0 (subst (λ x. Installs x g i) (sym k.1) h)
 
+asked_free_here : (b : Bool) → not b ≡ true → b ≡ false
+asked_free_here true e = absurd (cc)
+asked_free_here false e = refl
+
 module _ (g : List ℕ) (w : Scene) (n : ℕ) (f : Answering) (s : Core) (t : Tied g w n s) where
   -- what is gathered ages, and PREPARE is sent again
   pub ages_tied : Tied g w n (views_taken f s (prepared_again (views_at_work s.views) s.views.gathering))
@@ -64,7 +68,7 @@ module _ (g : List ℕ) (w : Scene) (n : ℕ) (f : Answering) (s : Core) (t : Ti
             asks = k.asks;
           } in
           let set : Tied g w n (record s { views = views }) = tied_views g w n s t views (rest_on t.ghost t.ghost n (spares_same t.ghost n) g (is_fixed s.config.mode) s.views views (row_of s g) s.groups s.sessions s.names (record { me = h.stands.me; up = h.stands.up; inc = h.stands.inc; view = h.stands.view; promise = h.stands.promise; seated = h.stands.seated }) refl refl refl refl older h) refl in
-          prepares_tied g w n e.view e.asked (filter (λ m. not (has_answered e m)) (nodes_of e.asked)) (record s { views = views }) set
+          prepares_tied g w n e.view e.asked (filter (λ m. not (has_answered e m)) (nodes_of e.asked)) (record s { views = views }) (asked_free_here (is_fixed s.config.mode) (sym h.asks ∙ k.asks)) set
 
   -- the coordinator sends its install again
   pub again_tied : Tied g w n (views_taken f s (install_again (views_at_work s.views)))

@@ -1,5 +1,5 @@
 -- VOTE and GONE.
-use Rattle.std.proofs.Common.{◌≡◌, ℕ, List, [], ◌∷◌, Option, Some, None, Bool, true, false, refl, sym, ap, ◌∙◌, subst}
+use Rattle.std.proofs.Common.{◌≡◌, ◌≤◌, ℕ, List, [], ◌∷◌, length, Option, Some, None, Bool, true, false, refl, sym, ap, ◌∙◌, subst, arith}
 use Rattle.std.specs.Prelude.{◌&&◌, ◌||◌, not, if◌then◌else◌}
 use Rattle.std.proofs.lemmas.Bool.{and_parts}
 use Rattle.rsct_packet.specs.declared.ids.ViewId.{ViewId}
@@ -21,6 +21,7 @@ use Rattle.node_state.specs.Leading.{with_waiting, with_tally, closes}
 use Rattle.node_state.specs.Following.{vote_cast, vote_row, tally_failed, gone_waits, marked, gone_present, gone_of, gone_row}
 use Rattle.node_state.specs.Step.{is_used, used_if, body_row}
 use Rattle.step_ties.specs.Tied.{RowIs, LeaderKeeps, Scene, Tied}
+use Rattle.step_ties.proofs.Idle.{led_lightens}
 use Rattle.step_ties.proofs.RowWorks.{waits_of, tied_row}
 use Rattle.step_ties.proofs.Acks.{used_is}
 use Rattle.step_ties.proofs.Appending.{Leading, led_goes, waits_goes, closed_goes}
@@ -79,11 +80,19 @@ differ_without (x ∷ xs) p e = by (same_provider x p) (differ_without xs p (and
     by false k =
         ap (λ b. b && differ (without xs p)) (rest (among (without xs p) x) (new (among xs x) refl (and_parts (not (among xs x)) (differ xs) e).0) refl) ∙ k
 
+fewer_without : (xs : List ProviderId) (p : ProviderId) → length (without xs p) ≤ length xs
+fewer_without [] p = omega arith
+fewer_without (x ∷ xs) p = by (same_provider x p) (fewer_without xs p)
+  where
+    by : (b : Bool) → length (without xs p) ≤ length xs → length (if not b then x ∷ without xs p else without xs p) ≤ length (x ∷ xs)
+    by true k = omega (arith, k)
+    by false k = omega (arith, k)
+
 -- a join waits no longer
 drops_tied : (g : List ℕ) (w : Scene) (n : ℕ) (s : Core) (h : List ℕ) (p : ProviderId) → Tied g w n s → Tied g w n (with_waiting s h (join_dropped p))
 unfolding with_waiting with_led decision_of
 drops_tied g w n s h p t =
-    tied_row g w n s t h (λ row. record row { led = record (row.led) { waiting = join_dropped p row.led.waiting } }) (λ x. refl) (λ q i. waits_of g w n s t h q (among_fewer (row_of s h).led.waiting.joins p q i)) new
+    tied_row g w n s t h (λ row. record row { led = record (row.led) { waiting = join_dropped p row.led.waiting } }) (λ x. refl) (led_lightens (λ l. record l { waiting = join_dropped p l.waiting }) (λ l. fewer_without l.waiting.joins p)) (λ q i. waits_of g w n s t h q (among_fewer (row_of s h).led.waiting.joins p q i)) new
   where
     new : h ≡ g → RowIs t.ghost n s.views.view s.views.members (record (row_of s h) { led = record ((row_of s h).led) { waiting = join_dropped p (row_of s h).led.waiting } }) × LeaderKeeps t.ghost n s.views.inc s.views.view (record ((row_of s h).led) { waiting = join_dropped p (row_of s h).led.waiting })
     new e =
@@ -93,7 +102,7 @@ drops_tied g w n s h p t =
         subst P (sym e) (
           record { list = is.row_is.list; stable = is.row_is.stable; leader = is.row_is.leader; acked = is.row_is.acked; covers = is.row_is.covers },
           record {
-            refused = λ q r a i. let z = d.refused q r a i in record { last = z.last; kept_it = z.kept_it; later = z.later };
+            refused = λ q r a c i. let z = d.refused q r a c i in record { last = z.last; kept_it = z.kept_it; later = z.later };
             begun = λ q r i x a b c. let z = d.begun q r i x a b c in record { last = z.last; kept_it = z.kept_it; later = z.later };
             waiting = λ q a i. let z = d.waiting q a (among_fewer (row_of s g).led.waiting.joins p q i) in
                 record { proposal = z.proposal; sent = z.sent; joins = z.joins; open_still = z.open_still; unbegun = z.unbegun; decided = record { last = z.decided.last; kept_it = z.decided.kept_it; later = z.decided.later } };

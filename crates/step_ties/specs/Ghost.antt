@@ -1,6 +1,6 @@
 -- What stands for one group: how nodes stand to it, its packets, its lines, its leaders and its bases; and what a node
 -- keeps or a packet carries of it, which shows the whole lists that stand here; and whether nodes ask for views at all.
-use Rattle.std.specs.Prelude.{ℕ, ◌+◌, ◌≤◌, ◌<◌, ◌≡◌, ◌⊎◌, List, [], ◌∷◌, length, drop, find, Option, Some, None, Bool, true}
+use Rattle.std.specs.Prelude.{ℕ, ◌+◌, ◌≤◌, ◌<◌, ◌≡◌, ◌⊎◌, List, [], ◌∷◌, length, drop, find, Option, Some, None, Bool, true, false}
 use Rattle.std.specs.Str.{bytes_eq}
 use Rattle.rsct_packet.specs.declared.ids.ViewId.{ViewId}
 use Rattle.rsct_packet.specs.declared.ids.Member.{Member}
@@ -43,7 +43,7 @@ pub record Ghost : Type 0 where
   pub bases : Bases
   -- in mode fixed none does
   pub asks : Bool
-  -- views in which the group has no leader for good
+  -- views that are shut to the group: they have no leader of it for good, or one that takes no request of it
   pub shut : List ViewId
   -- what was asked, in any group
   pub asked : List Asking
@@ -142,8 +142,9 @@ pub record Gathers (x : Ghost) (g : List ℕ) (n inc : ℕ) (v promise : ViewId)
   pub asked : (a : Answer) → Has a answers → has_node e.asked a.node ≡ true
   pub asks : x.asks ≡ true
 
+-- a node that gathers nothing in mode fixed has promised no other view
 abbrev pub GathersIf : Ghost → List ℕ → ℕ → ℕ → ViewId → ViewId → Option Exchange → Type 0
-GathersIf x g n inc v promise None = Unit {0}
+GathersIf x g n inc v promise None = x.asks ≡ false → promise ≡ v
 GathersIf x g n inc v promise (Some e) = Gathers x g n inc v promise e
 
 abbrev pub origin_of : Base → Origin

@@ -42,7 +42,7 @@ use Rattle.world_model.specs.Run.{Happening}
 use Rattle.run_safety.specs.Past.{History}
 use Rattle.run_safety.specs.Group.{kept}
 use Rattle.run_safety.specs.Moves.{Quiet}
-use Rattle.step_ties.specs.Tied.{Scene, Rests, lines_now, Tied}
+use Rattle.step_ties.specs.Tied.{Scene, Begun, Rests, lines_now, Tied}
 
 -- one value set
 unfoldable pub at_node : {A : Type 0} → (ℕ → A) → ℕ → A → ℕ → A
@@ -100,8 +100,10 @@ StopTied = (g : List ℕ) (w : Scene) (n : ℕ) (e : Event) (s : Core) → w.cor
 abbrev pub BeginTied : Type 0
 BeginTied = (g : List ℕ) (w : Scene) (n : ℕ) (s : Core) → w.cores n ≡ Some s → Rests g w → Tied g w n (at_work s)
 
+-- where no join of a led group waits without a list, neither at the node nor at the others
 abbrev pub EndTied : Type 0
-EndTied = (g : List ℕ) (w : Scene) (n : ℕ) (s : Core) (e : Event) → Tied g w n s → Rests g (ended w n e s)
+EndTied =
+    (g : List ℕ) (w : Scene) (n : ℕ) (s : Core) (e : Event) → Begun g s → ((m : ℕ) (c : Core) → m ≢ n → w.cores m ≡ Some c → Begun g c) → Tied g w n s → Rests g (ended w n e s)
 
 -- a packet that was sent is given, and this is its row
 abbrev pub GivenTied : Body → Type 0
@@ -119,7 +121,7 @@ abbrev pub RefuseTied : Type 0
 RefuseTied = (v : ViewId) (k : ℕ) → ViewTied (view.Refuse v k)
 
 abbrev pub PrepareTied : Type 0
-PrepareTied = (v : ViewId) (mask : Mask) → ViewTied (view.Prepare v mask)
+PrepareTied = (v : ViewId) (mask : Mask) → GivenTied (body.View (view.Prepare v mask))
 
 abbrev pub AckTied : Type 0
 AckTied = (v : ViewId) (h : List ℕ) (k : ℕ) → GivenTied (body.Ack v h k)
@@ -130,19 +132,17 @@ EntryTied = (v : ViewId) (h : List ℕ) (i stable : ℕ) (e : Entry) → GivenTi
 abbrev pub LookupTied : Type 0
 LookupTied = (v : ViewId) (h : List ℕ) → GivenTied (body.Lookup v h)
 
--- NAME, outside of mode fixed
 abbrev pub NameTied : Type 0
-NameTied =
-    (v : ViewId) (h : List ℕ) (k : ℕ) (g : List ℕ) (w : Scene) (n : ℕ) (f : Answering) (s : Core) (p : Packet) → is_fixed w.config.mode ≡ false → p.body ≡ body.Name v h k → Has p w.sent → Tied g w n s → Tied g w n (body_row f s p (body.Name v h k))
+NameTied = (v : ViewId) (h : List ℕ) (k : ℕ) → GivenTied (body.Name v h k)
 
 abbrev pub TellTied : Type 0
 TellTied = (v : ViewId) (h : List ℕ) (q : ProviderId) (r : ℕ) (why : Why) → GivenTied (body.Tell v h q r why)
 
--- REQUEST, given to whom it was sent, as the first row of a step; the relation stands for every group, since an older
--- join of the provider may have been put in any
+-- REQUEST, given to whom it was sent, as the first row of a step, before which no join of a led group waited without a
+-- list; the relation stands for every group, since an older join of the provider may have been put in any
 abbrev pub RequestTied : Type 0
 RequestTied =
-    (v : ViewId) (h : List ℕ) (q : ProviderId) (r : ℕ) (phases : Phases) (x : Proposal) (w : Scene) (n : ℕ) (f : Answering) (s : Core) (p : Packet) → p.to ≡ n → p.body ≡ body.Request v h q r phases x → Has p w.sent → s.records ≡ [] → ((k : List ℕ) → Tied k w n s) → (g : List ℕ) → Tied g w n (body_row f s p (body.Request v h q r phases x))
+    (v : ViewId) (h : List ℕ) (q : ProviderId) (r : ℕ) (phases : Phases) (x : Proposal) (w : Scene) (n : ℕ) (f : Answering) (s : Core) (p : Packet) → p.to ≡ n → p.body ≡ body.Request v h q r phases x → Has p w.sent → s.records ≡ [] → ((k : List ℕ) → Begun k s) → ((k : List ℕ) → Tied k w n s) → (g : List ℕ) → Tied g w n (body_row f s p (body.Request v h q r phases x))
 
 -- an answer that is not the last one
 abbrev pub AnswerTied : Type 0
@@ -213,14 +213,9 @@ acted f s (Given p) = packet_row f s p
 acted f s (Calls c) = call_row s c
 acted f s Garbage = s
 
--- what NAME asks for: another mode than fixed
-abbrev pub Tame : Scene → Body → Type 0
-Tame w (body.Name v h k) = is_fixed w.config.mode ≡ false
-Tame w _ = Unit {0}
-
 -- a packet that is given was sent
 abbrev pub Arises : Scene → NodeEvent → Type 0
-Arises w (Given p) = Has p w.sent × Tame w p.body
+Arises w (Given p) = Has p w.sent
 Arises w _ = Unit {0}
 
 -- a whole step: from the relation of all groups between two events to that of each

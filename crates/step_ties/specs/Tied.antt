@@ -1,5 +1,5 @@
 -- The tie: a node in the middle of a step, and the world around it, stand for the life of a group.
-use Rattle.std.specs.Prelude.{ℕ, ◌≤◌, ◌<◌, ◌≡◌, ◌≢◌, ◌⊎◌, Bool, true, false, not, List, [], ◌∷◌, ◌++◌, length, find, reverse, Option, Some, None, slice_get}
+use Rattle.std.specs.Prelude.{ℕ, ◌≤◌, ◌<◌, ◌≡◌, ◌≢◌, ◌⊎◌, Bool, true, false, not, List, [], ◌++◌, length, filter, find, reverse, Option, Some, None, is_some, slice_get}
 use Rattle.rsct_packet.specs.declared.ids.ViewId.{ViewId}
 use Rattle.rsct_packet.specs.declared.ids.ProviderId.{ProviderId}
 use Rattle.rsct_packet.specs.declared.ids.Member.{Member}
@@ -31,7 +31,8 @@ use Rattle.node_state.specs.declared.packet.Body.TheVariants as body
 use Rattle.node_state.specs.declared.packet.Packet.{Packet}
 use Rattle.node_state.specs.declared.state.Core.{Core}
 use Rattle.node_state.specs.Settings.{is_fixed}
-use Rattle.node_state.specs.State.{row_found, row_of, acked_from, decision_of}
+use Rattle.node_state.specs.State.{row_found, row_of, acked_from, decision_of, leads}
+use Rattle.node_state.specs.Following.{max_groups}
 use Rattle.node_state.specs.Step.{first_view, first_members}
 use Rattle.node_state.specs.declared.happened.Happened.{Happened}
 use Rattle.node_state.specs.declared.happened.Happened.TheVariants as happened
@@ -39,16 +40,16 @@ use Rattle.node_groups.specs.Places.{InNameOrder}
 use Rattle.run_safety.specs.Past.{History, records_of, earlier, view_now}
 use Rattle.run_safety.specs.ViewOrder.{Lt, Le}
 use Rattle.run_safety.specs.Sight.{lines_with, lines_of}
-use Rattle.run_safety.specs.Group.{member, Line, Noted, Asked, Told, In, Put, kept}
+use Rattle.run_safety.specs.Group.{member, Standing, Line, Noted, Asked, Told, In, Put, kept}
 use Rattle.run_safety.specs.Group as group
 use Rattle.run_safety.specs.Requests.{requests_of, carried, IsJoin}
-use Rattle.run_safety.specs.Moves.{Opening, Alone, Together}
+use Rattle.run_safety.specs.Moves.{Opening, Alone, Together, Leads}
 use Rattle.step_ties.specs.Ghost.{Asking, asking, Ghost, Lives, Seen, KeepsIf, CarriesIf, part_of, GathersIf, Installs, InstallsIf, IsStable}
 
 -- ---- what a packet shows
 
 abbrev pub ShowsView : Ghost → List ℕ → ℕ → ℕ → ViewPacket → Type 0
-ShowsView x g from inc (view.Prepare v mask) = Unit {0}
+ShowsView x g from inc (view.Prepare v mask) = x.asks ≡ true
 ShowsView x g from inc (view.Answer v old parts) =
     (full : List Entry) × Has (group.Answer v (record { node = from; inc = inc; view = old; list = full })) x.ps × Seen x old × CarriesIf x old full (part_of g parts) × NamesDiffer parts
 ShowsView x g from inc (view.Refuse v n) = Unit {0}
@@ -75,7 +76,7 @@ pub record ShowsRequest (x : Ghost) (to : ℕ) (v : ViewId) (p : ProviderId) (r 
 abbrev pub ShowsBody : Ghost → List ℕ → ℕ → ℕ → ℕ → Body → Type 0
 ShowsBody x g from inc to (body.View y) = ShowsView x g from inc y
 ShowsBody x g from inc to (body.Lookup v h) = x.asks ≡ true
-ShowsBody x g from inc to (body.Name v h n) = h ≡ g → (n ≢ 0 → ShowsLeader x v n) × (n ≡ 0 → x.asks ≡ true → Has v x.shut)
+ShowsBody x g from inc to (body.Name v h n) = h ≡ g → (n ≢ 0 → ShowsLeader x v n) × (n ≡ 0 → Has v x.shut)
 ShowsBody x g from inc to (body.Request v h p r phases y) = Has (asking p r h) x.asked × Has (p, r) (requests_of y) × (h ≡ g → ShowsRequest x to v p r y)
 ShowsBody x g from inc to (body.Tell v h p r why) = Has (asking p r h) x.asked × (h ≡ g → Has (group.Refusal v p r) x.ps)
 ShowsBody x g from inc to (body.Entry v h i k e) = h ≡ g → ShowsEntry x from inc v i k e
@@ -147,10 +148,11 @@ pub record Waits (x : Ghost) (v : ViewId) (list : List Entry) (l : Led) (p : Pro
   pub unbegun : (i : ℕ) (e : Entry) → slice_get list i ≡ Some e → Has (p, p.join) (carried e) → ⊥
   pub decided : Decided l p p.join
 
--- what the leader of the group keeps of requests, and why it refused some; in a view that it is to lead nothing was
--- refused yet; joins that wait, which differ, wait at the leader alone, and no later request of theirs was decided
+-- what the leader of the group keeps of requests, and why it refused some, where the view is not shut to the group; in a
+-- view that it is to lead nothing was refused yet; joins that wait, which differ, wait at the leader alone, and no later
+-- request of theirs was decided
 pub record LeaderKeeps (x : Ghost) (n inc : ℕ) (v : ViewId) (l : Led) : Type 0 where
-  pub refused : (p : ProviderId) (r : ℕ) → x.leads v ≡ Some (member n inc) → Has (group.Refusal v p r) x.ps → Decided l p r
+  pub refused : (p : ProviderId) (r : ℕ) → x.leads v ≡ Some (member n inc) → (Has v x.shut → ⊥) → Has (group.Refusal v p r) x.ps → Decided l p r
   pub begun : (p : ProviderId) (r i : ℕ) (e : Entry) → x.leads v ≡ Some (member n inc) → slice_get (x.nodes n).list i ≡ Some e → Has (p, r) (carried e) → Decided l p r
   pub waiting : (p : ProviderId) → x.leads v ≡ Some (member n inc) → among l.waiting.joins p ≡ true → Waits x v (x.nodes n).list l p
   pub later : (u : ViewId) → Lt v u → x.leads u ≡ Some (member n inc) → (p : ProviderId) (r : ℕ) → Has (group.Refusal u p r) x.ps → ⊥
@@ -166,10 +168,27 @@ pub record Names (x : Ghost) (g : List ℕ) (fixed : Bool) (n inc : ℕ) (v : Vi
   pub unnamed : v.coord ≡ n → v.inc ≡ inc → fixed ≡ false → node_of g table ≡ None → x.leads v ≡ None
   pub full : v.coord ≡ n → v.inc ≡ inc → fixed ≡ false → Has v x.shut → (node_of g table ≡ None) × (max_names ≤ length table)
 
+-- the rows with a list
+abbrev pub rows_held : List GroupRow → List GroupRow
+rows_held rows = filter (λ (row : GroupRow). is_some row.list) rows
+
 -- joins that wait, of any group, were asked there
 abbrev pub Waiting : Ghost → List GroupRow → Type 0
 Waiting x rows =
     (h : List ℕ) (p : ProviderId) → among (row_found h (find (λ (row : GroupRow). bytes_eq row.name h) rows)).led.waiting.joins p ≡ true → Has (asking p p.join h) x.asked
+
+-- the leader takes no request of the group: it has no list of it, no join waits, and it holds as many lists as a view has
+-- at most
+pub record Shut (row : GroupRow) (rows : List GroupRow) : Type 0 where
+  pub bare : row.list ≡ None
+  pub idle : row.led.waiting.joins ≡ []
+  pub full : max_groups ≤ length (rows_held rows)
+
+-- in mode fixed at most one join waits where there is no list yet; and the leader of a view that is shut to the group takes
+-- no request of it
+pub record Idles (x : Ghost) (n inc : ℕ) (v : ViewId) (fixed : Bool) (row : GroupRow) (rows : List GroupRow) : Type 0 where
+  pub few : fixed ≡ true → row.list ≡ None → length row.led.waiting.joins ≤ 1
+  pub shut : x.leads v ≡ Some (member n inc) → Has v x.shut → Shut row rows
 
 -- a node that is up stands for its part of the life of the group; in mode fixed no node asks for a view, and the
 -- coordinator leads
@@ -185,6 +204,7 @@ pub record NodeOf (x : Ghost) (g : List ℕ) (n : ℕ) (fixed : Bool) (s : Views
   pub asks : x.asks ≡ not fixed
   pub led : fixed ≡ true → ShowsLeader x s.view s.view.coord
   pub waits : Waiting x rows
+  pub idles : Idles x n s.inc s.view fixed row rows
 
 abbrev pub NodeIs : Ghost → List ℕ → ℕ → Core → Type 0
 NodeIs x g n s = NodeOf x g n (is_fixed s.config.mode) s.views (row_of s g) s.groups s.sessions s.names
@@ -232,13 +252,21 @@ NodeIsIf c x g n inc (Some s) = NodeIs x g n s × (s.config ≡ c) × (s.views.i
 abbrev pub Numbered : Ghost → ProviderId → ℕ → Type 0
 Numbered x p r = (r ≡ 0) ⊎ ((h : List ℕ) × Has (asking p r h) x.asked)
 
--- what was refused was refused in a view that was entered, which has a leader or none for good; a view without a leader
--- for good was entered; and what was asked was asked in one group, by a node that had started, and before it
--- was told
+-- in mode fixed: the leader of the view stands in it, and has no entry of the group
+pub record Closed (nodes : ℕ → Standing) (leads : Leads) (asks : Bool) (v : ViewId) : Type 0 where
+  pub asks_not : asks ≡ false
+  pub node : ℕ
+  pub stands : (nodes node).view ≡ v
+  pub led : leads v ≡ Some (member node (nodes node).inc)
+  pub bare : (nodes node).list ≡ []
+
+-- what was refused was refused in a view that was entered, which has a leader or is shut to the group; a view that is shut
+-- to the group was entered, and has no leader for good, or one that takes no request of it; and what was asked was asked
+-- in one group, by a node that had started, and before it was told
 pub record Sound (g : List ℕ) (x : Ghost) : Type 0 where
   pub refused : (v : ViewId) (p : ProviderId) (r : ℕ) → Has (group.Refusal v p r) x.ps → Seen x v
   pub unled : (v : ViewId) (p : ProviderId) (r : ℕ) → Has (group.Refusal v p r) x.ps → x.leads v ≡ None → Has v x.shut
-  pub shut : (v : ViewId) → Has v x.shut → Seen x v × (x.leads v ≡ None)
+  pub shut : (v : ViewId) → Has v x.shut → Seen x v × ((x.leads v ≡ None) ⊎ Closed x.nodes x.leads x.asks v)
   pub asked : (p : ProviderId) (r : ℕ) (y : Proposal) → Has (Noted (Asked p r y)) x.all → Has (asking p r g) x.asked
   pub one : (p : ProviderId) (r : ℕ) (h k : List ℕ) → Has (asking p r h) x.asked → Has (asking p r k) x.asked → h ≡ k
   pub started : (a : Asking) → Has a x.asked → a.p.inc ≤ (x.nodes a.p.node).inc
@@ -259,6 +287,10 @@ pub record Turns (w : Scene) (n : ℕ) (v : ViewId) (rs : List Happened) (t : Se
   pub others : (m : ℕ) (c : Core) → m ≢ n → w.cores m ≡ Some c → InTurn c.views.view (records_of w.before) c.sessions
   pub sent : SentInTurn (rs ++ records_of w.before) ps
 
+-- at the end of a step in mode fixed no join of a group that the node leads waits without a list
+abbrev pub Begun : List ℕ → Core → Type 0
+Begun g s = is_fixed s.config.mode ≡ true → leads s g ≡ true → (row_of s g).list ≡ None → (row_of s g).led.waiting.joins ≡ []
+
 -- between two events; no node is 0
 pub record Rests (g : List ℕ) (w : Scene) : Type 0 where
   pub ghost : Ghost
@@ -272,6 +304,7 @@ pub record Rests (g : List ℕ) (w : Scene) : Type 0 where
   pub nobody : w.incs 0 ≡ 0
   pub turns : (m : ℕ) (c : Core) → w.cores m ≡ Some c → InTurn c.views.view (records_of w.before) c.sessions
   pub sent : SentInTurn (records_of w.before) ghost.ps
+  pub begun : (m : ℕ) (c : Core) → w.cores m ≡ Some c → Begun g c
 
 -- the lines with those of a step that has come so far
 abbrev pub lines_now : List ℕ → Scene → Core → List Line

@@ -2,7 +2,7 @@
 #![tactic(auto)]
 
 ghost use Rattle.step_ties.specs.Rows.{NothingTied, StartTied, StopTied, BeginTied, EndTied, TakenTied, RefuseTied, PrepareTied, AckTied, EntryTied, LookupTied, NameTied, TellTied, RequestTied, AnswerTied, AskTied, ViewsPartTied, InstallTied, FixedStartTied, OwedPartTied, VoteTied, GoneTied, CallTied, LedPartTied, StepEndTied, StepTied, RingsPartTied, RingTied, ReportTied, QueryTied, ReplyTied, FoundingAnswerTied, FoundingAskTied, FoundingTickTied};
-ghost use Rattle.step_ties.specs.Runs.{RunsAreSafe};
+ghost use Rattle.step_ties.specs.Runs.{NoteTied, RunsAreSafe};
 
 /// Before anything happened, nothing stands for the dawn of each group's life.
 #[tactic(auto, using(crate::proofs::Begins::nothing_tied))]
@@ -70,7 +70,7 @@ pub fn lookup_is_tied()
     ensures { LookupTied }
 {}
 
-/// NAME, outside of mode fixed.
+/// NAME.
 #[tactic(auto, using(crate::proofs::Named::name_is_tied))]
 pub fn name_is_tied()
     ensures { NameTied }
@@ -206,6 +206,12 @@ pub fn founding_ask_is_tied()
 #[tactic(auto, using(crate::proofs::FoundingRows::founding_tick_tied))]
 pub fn founding_tick_is_tied()
     ensures { FoundingTickTied }
+{}
+
+/// An event by which no node changes, with what is noted.
+#[tactic(auto, using(crate::proofs::Noting::note_tied))]
+pub fn note_is_tied()
+    ensures { NoteTied }
 {}
 
 /// Whatever starts, stops and steps, in any order: what each group sees is safe, and each view and group has one list.

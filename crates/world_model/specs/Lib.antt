@@ -1,7 +1,5 @@
 pub mod Run
 pub mod Text
-pub mod Pieces
-pub mod OneNodeScript
 pub mod Words
 pub mod Lines
 pub mod Reading
@@ -11,5 +9,3 @@ pub mod Kept
 pub mod Opens
 pub mod Load
 pub mod Samples
-pub mod OneNode
-pub mod OneNodeRows

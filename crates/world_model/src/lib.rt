@@ -2,8 +2,6 @@
 #![tactic(auto)]
 
 mod event;
-mod one_node;
-pub mod one_node_rows;
 pub mod rows_basic;
 pub mod rows_bytes;
 pub mod rows_queue;
@@ -15,5 +13,4 @@ mod script;
 
 pub use event::{Event, Events};
 pub use node_state::CallLine;
-pub use one_node::{Awaited, OneNodeLine, OneNodeScript, OneNodeWorld};
 pub use script::{Line, LineWhy, Lines, Script};
