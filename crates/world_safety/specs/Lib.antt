@@ -1,0 +1,4 @@
+pub mod Events
+pub mod Mirrors
+pub mod Safety
+pub mod Scripts
