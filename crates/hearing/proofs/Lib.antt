@@ -1,0 +1,11 @@
+pub mod Changes
+pub mod Leading
+pub mod Sessions
+pub mod Rows
+pub mod Whose
+pub mod Viewing
+pub mod Handing
+pub mod Attending
+pub mod Doing
+pub mod Listening
+pub mod NoGap

@@ -1,0 +1,73 @@
+-- What a node does in a step, change by change: what it records of puts and of what is heard, and what it makes of its clients.
+use Rattle.std.specs.Prelude.{◌≡◌, ◌≤◌, ℕ, List, flat_map, Option, Some}
+use Rattle.rsct_packet.specs.declared.ids.ProviderId.{ProviderId}
+use Rattle.group_attr.specs.declared.attrs.Attrs.{Attrs}
+use Rattle.group_entry.specs.declared.entry.Entry.{Entry}
+use Rattle.proposal_core.specs.declared.group_state.GroupState.{GroupState}
+use Rattle.subscribe_core.specs.declared.subs.ClientToken.{ClientToken}
+use Rattle.client_callbacks.specs.declared.ballot.Filled.{Filled}
+use Rattle.session_state.specs.declared.state.Provider.{Provider}
+use Rattle.session_state.specs.declared.state.SessionState.{SessionState}
+use Rattle.session_state.specs.State.{provider_of}
+use Rattle.session_state.specs.Calls.{join_asked}
+use Rattle.session_state.specs.HandOn.{casts_out}
+use Rattle.session_state.specs.HandOn as session
+use Rattle.view_exchange.specs.declared.install.Install.{Install}
+use Rattle.view_exchange.specs.Bases.{bases_of}
+use Rattle.node_state.specs.declared.happened.Happened.{Happened}
+use Rattle.node_state.specs.declared.happened.Happened.TheVariants as happened
+use Rattle.node_state.specs.declared.state.Core.{Core}
+use Rattle.node_state.specs.State.{state_of, len_of, held_rows, recorded, recorded_all, with_sessions}
+use Rattle.node_state.specs.HandOn.{Answering, heard}
+use Rattle.node_state.specs.Leading.{put}
+use Rattle.node_state.specs.Applying.{view_entered, sides_dissolved}
+use Rattle.node_state.specs.Step.{NodeEvent, at_work, stepped}
+use Rattle.run_safety.specs.ViewOrder.{Lt}
+use Rattle.node_groups.specs.Places.{InNameOrder}
+use Rattle.step_ties.specs.Tied.{Scene}
+use Rattle.step_ties.specs.Runs.{Reached}
+use Rattle.node_state.specs.declared.config.Config.{Config}
+
+-- what a provider's hearing depends on stays
+pub record Same (s t : Core) : Type 0 where
+  pub me : t.views.me ≡ s.views.me
+  pub inc : t.views.inc ≡ s.views.inc
+  pub view : t.views.view ≡ s.views.view
+  pub sessions : t.sessions ≡ s.sessions
+  pub records : t.records ≡ s.records
+  pub lens : (h : List ℕ) → len_of t h ≡ len_of s h
+  pub states : (h : List ℕ) → state_of t h ≡ state_of s h
+
+-- nothing is put or heard
+abbrev pub Aside : Happened → Type 0
+Aside (happened.Put n v g i e) = ⊥
+Aside (happened.Heard p v g i e ms value) = ⊥
+Aside _ = Unit {0}
+
+-- no provider comes in or changes, and numbers that were given are not given again
+pub record Fewer (s t : SessionState) : Type 0 where
+  pub me : t.me ≡ s.me
+  pub inc : t.inc ≡ s.inc
+  pub last : s.last_request ≤ t.last_request
+  pub providers : (p : ProviderId) (x : Provider) → provider_of t p ≡ Some x → provider_of s p ≡ Some x
+
+-- an entry that was put is handed on, where clients fill bs
+abbrev pub handing : Core → List ℕ → ℕ → GroupState → GroupState → Entry → List (Option Filled) → Core
+handing c h i before after e bs =
+    with_sessions (recorded_all c (flat_map (heard c h i e after) (casts_out c.sessions h before after e bs))) (session.handed_on c.sessions h before after e bs)
+
+-- what a step makes of a node, change by change
+pub data Does : Core → Core → Type 0 where
+  Stays : (s t : Core) → Same s t → Does s t
+  Then : (s t u : Core) → Does s t → Does t u → Does s u
+  Records : (s : Core) (r : Happened) → Aside r → Does s (recorded s r)
+  Hands : (s c : Core) (h : List ℕ) (e : Entry) (bs : List (Option Filled)) → InNameOrder s.groups → Same (put s h e) c → Does s (handing c h (len_of s h) (state_of s h) (state_of (put s h e) h) e bs)
+  Loses : (s : Core) (t : SessionState) → Fewer s.sessions t → Does s (with_sessions s t)
+  Joins : (s : Core) (t : ClientToken) (g : List ℕ) (instance : ℕ) (attrs : Attrs) → Does s (with_sessions s (join_asked s.sessions t g instance attrs))
+  Enters : (s : Core) (i : Install) → Lt s.views.view i.view → Does s (sides_dissolved (view_entered s i (bases_of i)) (held_rows s) s.views.view (bases_of i))
+
+-- so is each step of a node in each scene that events lead to: at each put of it just those hear, each in its turn and directly
+-- after it, whom the sessions of that moment name for the entry
+abbrev pub StepsAreChanges : Type 0
+StepsAreChanges =
+    (c : Config) (w : Scene) → Reached c w → (n : ℕ) (s : Core) → w.cores n ≡ Some s → (f : Answering) (e : NodeEvent) → Does (at_work s) (stepped f s e)

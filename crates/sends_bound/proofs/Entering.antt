@@ -1,0 +1,267 @@
+-- What a node sends as it enters a view: what it owes, TAKEN, and a hundred packets for each put.
+use Rattle.std.proofs.Common.{◌≡◌, ◌≤◌, ℕ, ◌+◌, List, [], ◌∷◌, length, map, filter, fold, flat_map, Some, None, Option, Bool, true, false, cond, refl, sym, ap, ◌∙◌, subst, inl, inr, arith}
+use Rattle.std.specs.Prelude.{not, ◌&&◌, ◌==◌, find, is_some}
+use Rattle.std.specs.Str.{bytes_eq}
+use Rattle.rsct_packet.specs.declared.ids.ProviderId.{ProviderId}
+use Rattle.rsct_packet.specs.declared.ids.ViewId.{ViewId}
+use Rattle.rsct_packet.specs.Providers.{among}
+use Rattle.rsct_packet.specs.Search.{Has}
+use Rattle.group_attr.specs.Attrs.{host_membership}
+use Rattle.group_entry.specs.declared.proposal.Cause.TheVariants.{Died}
+use Rattle.proposal_core.specs.declared.group_state.GroupState.{GroupState}
+use Rattle.proposal_core.specs.Fold.{present}
+use Rattle.proposal_core.specs.Lists.{state_in}
+use Rattle.batch_rules.specs.Waiting.{waits_failure}
+use Rattle.subscribe_core.specs.declared.subs.Subscription.{Subscription}
+use Rattle.client_callbacks.specs.declared.told.Told.TheVariants as told
+use Rattle.client_callbacks.specs.declared.told.Why.TheVariants.{Dissolved}
+use Rattle.session_state.specs.declared.state.Provider.{Provider}
+use Rattle.session_state.specs.declared.state.SessionState.{SessionState}
+use Rattle.session_state.specs.State.{provider_of, outstanding}
+use Rattle.session_state.specs.HandOn.{telling_taken}
+use Rattle.view_exchange.specs.declared.install.Install.{Install}
+use Rattle.view_exchange.specs.declared.install.Base.{Base}
+use Rattle.view_exchange.specs.Bases.{IsBaseOf, parts_from, base_of, bases_for, bases_of, names_in, base_named}
+use Rattle.view_exchange.proofs.Bases.{base_is}
+use Rattle.view_core.specs.declared.packet.ViewPacket.TheVariants as packet
+use Rattle.view_core.specs.declared.packet.ViewSend.{ViewSend}
+use Rattle.view_core.specs.declared.views.Views.{Views}
+use Rattle.view_core.specs.declared.views.ViewWork.{ViewWork}
+use Rattle.view_core.specs.Views.{views_at_work, views_entered}
+use Rattle.node_state.specs.declared.group.GroupRow.{GroupRow}
+use Rattle.node_state.specs.declared.happened.Happened.{Happened}
+use Rattle.node_state.specs.declared.happened.Happened.TheVariants as happened
+use Rattle.node_state.specs.declared.packet.Body.TheVariants as body
+use Rattle.node_state.specs.declared.state.Core.{Core}
+use Rattle.node_state.specs.State.{row_found, row_of, list_of, state_of, held_rows, led_groups, recorded, recorded_all, with_sessions}
+use Rattle.node_state.specs.Sending.{sent, requests_sent, votes_sent_again}
+use Rattle.node_state.specs.HandOn.{Answering, subscriber_name, note_of}
+use Rattle.node_state.specs.Leading.{with_waiting, tally_opened, closes}
+use Rattle.node_state.specs.Applying.{Lacking, lacking, lists_filled, level_set, base_row, base_leader, base_record, view_entered, is_in_base, number_of, dissolved, dissolved_if, group_dissolved, sides_dissolved, base_note, entering_note, entering_noted, taken_sent, owed_sent, failed_wait, phase_reopened, group_led, groups_led, entered, entered_if, install_applied, views_taken}
+use Rattle.node_groups.specs.Places.{has_name}
+use Rattle.step_ties.proofs.BaseOrder.{bases_ordered}
+use Rattle.sends_bound.specs.Bound.{puts_of, waits_of, Room, Stands, Within, Fine, FineIf}
+use Rattle.sends_bound.proofs.Counts.{puts_both}
+use Rattle.sends_bound.proofs.Parts.{Goes, goes_same, goes_then, then_free, fold_free, fold_each, goes_sent, goes_recorded_all, goes_recorded, goes_sessions}
+use Rattle.sends_bound.proofs.Leads.{goes_waits_failure, goes_opened, goes_closes}
+use Rattle.sends_bound.proofs.Ticks.{goes_requests_sent, goes_votes_again}
+use Rattle.sends_bound.proofs.Owed.{sends_fold, sends_sent, sends_requests, kept_same, sessions_same}
+use Rattle.sends_bound.proofs.Sessions.{Less, less_told}
+use Rattle.sends_bound.proofs.Filling.{Holds, holds_same, holds_then, holds_free, holds_fold, holds_goes, holds_by, FilledAll, filled}
+use Rattle.sends_bound.proofs.ViewSends.{Works}
+
+-- from one state to another, maybe in another view
+pub record Moves (c : ℕ) (s t : Core) : Type 0 where
+  pub within : Within c s t
+  pub stands : Stands t
+
+pub moves_goes : (c : ℕ) (s t : Core) → Goes c s t → Moves c s t
+moves_goes c s t g = record { within = g.within; stands = g.stands }
+
+pub moves_then : (a b : ℕ) (s t u : Core) → Moves a s t → Moves b t u → Moves (a + b) s u
+moves_then a b s t u x y = record { within = omega (arith, x.within, y.within); stands = y.stands }
+
+pub moves_more : (a b : ℕ) (s t : Core) → a ≤ b → Moves a s t → Moves b s t
+moves_more a b s t le x = record { within = omega (arith, x.within, le); stands = x.stands }
+
+-- ---- the bases
+
+base_room : (v : ViewId) (i : Install) (g : List ℕ) (b : Base) → Fine v i → base_of i g ≡ Some b → Room b.state
+base_room v i g b fine e =
+    let k : IsBaseOf i g b = base_is i g (Some b) fine.ascend (sym e) in
+    subst Room (sym k.state) (fine.room k.source k.wins.candidate.0 k.part k.wins.candidate.1.0)
+
+bases_room : (v : ViewId) (i : Install) → Fine v i → (ns : List (List ℕ)) (b : Base) → Has b (bases_for i ns) → Room b.state
+unfolding bases_for
+bases_room v i fine [] b h = absurd h
+bases_room v i fine (n ∷ ns) b h = by (base_of i n) refl (bases_room v i fine ns b) h
+  where
+    by : (o : Option Base) → base_of i n ≡ o → (Has b (bases_for i ns) → Room b.state) → Has b (elim o as (λ _. List Base) [ None ↦ bases_for i ns | Some x ↦ x ∷ bases_for i ns ]) → Room b.state
+    by None e on h = on h
+    by (Some x) e on (inl q) = subst (λ (z : Base). Room z.state) (sym q) (base_room v i n x fine e)
+    by (Some x) e on (inr k) = on k
+
+found_room : (g : List ℕ) (bs : List Base) → ((b : Base) → Has b bs → Room b.state) → Room (state_in (row_found g (find (has_name g) (map base_row bs))).list)
+unfolding base_row
+found_room g [] h = omega arith
+found_room g (b ∷ bs) h = by (bytes_eq b.name g) (found_room g bs (λ x k. h x (inr k)))
+  where
+    by : (t : Bool) → Room (state_in (row_found g (find (has_name g) (map base_row bs))).list) → Room (state_in (row_found g (cond t (Some (base_row b)) (find (has_name g) (map base_row bs)))).list)
+    by true k = h b (inl refl)
+    by false k = k
+
+no_waits : (bs : List Base) → waits_of (map base_row bs) ≡ 0
+unfolding base_row
+no_waits [] = refl
+no_waits (b ∷ bs) = let h : waits_of (map base_row bs) ≡ 0 = no_waits bs in omega arith
+
+no_put_bases : (s : Core) (bs : List Base) → puts_of (map (base_record s) bs) ≡ 0
+unfolding base_record
+no_put_bases s [] = refl
+no_put_bases s (b ∷ bs) = let h : puts_of (map (base_record s) bs) ≡ 0 = no_put_bases s bs in omega arith
+
+abbrev entered_at : Core → Install → List Base → Core
+entered_at s i bs = record s { views = views_entered s.views i; sessions = level_set s i.members; groups = map base_row bs; names = map base_leader bs }
+
+holds_entered : (v : ViewId) (s : Core) (i : Install) → Fine v i → Holds 0 s (view_entered s i (bases_of i))
+unfolding view_entered recorded_all views_entered level_set state_of list_of row_of bases_of
+holds_entered v s i fine =
+    let bs : List Base = bases_of i in
+    let t : Core = view_entered s i bs in
+    let rs : List Happened = map (base_record (entered_at s i bs)) bs in
+    record {
+      within = omega (arith, puts_both s.records (happened.In (entered_at s i bs).views.me i.view i.members ∷ rs), no_put_bases (entered_at s i bs) bs, no_waits bs);
+      stands = record { few = fine.few; order = bases_ordered i; room = λ g. found_room g bs (bases_room v i fine (names_in i.sources)) };
+    }
+
+-- ---- who is dissolved, and who is told
+
+holds_dissolved : (s : Core) (p : ProviderId) (r : ℕ) → Stands s → Holds 0 s (dissolved s p r)
+unfolding dissolved recorded with_sessions
+holds_dissolved s p r k =
+    let t : Core = with_sessions s (telling_taken s.sessions p r Dissolved) in
+    let a : Goes 0 s t = goes_sessions s (telling_taken s.sessions p r Dissolved) k in
+    let u : Core = recorded t (happened.Told p r Dissolved) in
+    let b : Goes 0 t u = goes_recorded t (happened.Told p r Dissolved) refl a.stands in
+    told_holds s u (then_free 0 s t u a b) (less_told s.sessions p r Dissolved)
+  where
+    told_holds : (s u : Core) → Goes 0 s u → Less 0 s.sessions u.sessions → Holds 0 s u
+    told_holds s u g l = record { within = omega (arith, g.within, l.kept, l.requests); stands = g.stands }
+
+holds_dissolved_if : (s : Core) (g : List ℕ) (old : ViewId) (b : Option Base) (o : Option Provider) → Stands s → Holds 0 s (dissolved_if s g old b o)
+unfolding dissolved_if
+holds_dissolved_if s g old b None k = holds_same s k
+holds_dissolved_if s g old b (Some x) k = by (x.takes_part && bytes_eq x.group g && not (is_in_base old x.p b))
+  where
+    by : (c : Bool) → Holds 0 s (elim c [ true ↦ dissolved s x.p (number_of (outstanding s.sessions x.p)) | false ↦ s ])
+    by true = holds_dissolved s x.p (number_of (outstanding s.sessions x.p)) k
+    by false = holds_same s k
+
+holds_sides : (s : Core) (rows : List GroupRow) (old : ViewId) (bs : List Base) → Stands s → Holds 0 s (sides_dissolved s rows old bs)
+unfolding sides_dissolved group_dissolved
+holds_sides s rows old bs k =
+    holds_fold (group_dissolved old bs) (λ t row h. holds_fold (λ (u : Core) p. dissolved_if u row.name old (base_named bs row.name) (provider_of u.sessions p)) (λ u p j. holds_dissolved_if u row.name old (base_named bs row.name) (provider_of u.sessions p) j) (present (state_in row.list)) t h) rows s k
+
+no_put_note : (s : Core) (bs : List Base) (u : Subscription) → puts_of (entering_note s bs u) ≡ 0
+unfolding entering_note base_note note_of
+no_put_note s bs u = by (bytes_eq u.group host_membership)
+  where
+    at : (o : Option Base) → puts_of (base_note s u o) ≡ 0
+    at None = refl
+    at (Some b) = refl
+
+    by : (b : Bool) → puts_of (elim b [ true ↦ happened.Noted s.views.me (subscriber_name s.sessions u) s.views.view None (told.Hosts s.views.view s.views.members) ∷ [] | false ↦ base_note s u (base_named bs u.group) ]) ≡ 0
+    by true = refl
+    by false = at (base_named bs u.group)
+
+no_put_entering : (s : Core) (bs : List Base) (us : List Subscription) → puts_of (flat_map (entering_note s bs) us) ≡ 0
+no_put_entering s bs [] = refl
+no_put_entering s bs (u ∷ us) =
+    omega (arith, puts_both (entering_note s bs u) (flat_map (entering_note s bs) us), no_put_note s bs u, no_put_entering s bs us)
+
+holds_noted : (s : Core) (bs : List Base) → Stands s → Holds 0 s (entering_noted s bs)
+unfolding entering_noted recorded_all
+holds_noted s bs k =
+    holds_goes s (recorded_all s (flat_map (entering_note s bs) s.sessions.subs.live)) refl (goes_recorded_all s (flat_map (entering_note s bs) s.sessions.subs.live) (no_put_entering s bs s.sessions.subs.live) k)
+
+holds_taken : (s : Core) → Stands s → Holds 1 s (taken_sent s)
+unfolding taken_sent
+holds_taken s k = by (s.views.view.coord == s.views.me)
+  where
+    t : Core
+    t = sent s s.views.view.coord (body.View (packet.Taken s.views.view))
+
+    g : Goes 1 s t
+    g = goes_sent s s.views.view.coord (body.View (packet.Taken s.views.view)) k
+
+    same : t.sessions ≡ s.sessions
+    same = sessions_same s t (sends_sent s s.views.view.coord (body.View (packet.Taken s.views.view)))
+
+    by : (b : Bool) → Holds 1 s (elim b [ true ↦ s | false ↦ t ])
+    by true = record { within = omega arith; stands = k }
+    by false = holds_by 1 s t same g
+
+-- ---- what is owed, and what is led
+
+goes_owed : (s : Core) → Stands s → Goes (length s.sessions.requests + length s.sessions.kept) s (owed_sent s)
+unfolding owed_sent
+goes_owed s k =
+    let t : Core = requests_sent s in
+    let a : Goes (length s.sessions.requests) s t = goes_requests_sent s k in
+    let kept : t.sessions.kept ≡ s.sessions.kept = kept_same s t (sends_requests s) in
+    let b : Goes (length s.sessions.kept) t (votes_sent_again t) = subst (λ z. Goes (length z) t (votes_sent_again t)) kept (goes_votes_again t a.stands) in
+    goes_then (length s.sessions.requests) (length s.sessions.kept) s t (votes_sent_again t) a b
+
+goes_reopened : (f : Answering) (s : Core) (g : List ℕ) (b : Bool) → Stands s → Goes 0 s (phase_reopened f s g b)
+unfolding phase_reopened
+goes_reopened f s g false k = goes_same s k
+goes_reopened f s g true k =
+    let t : Core = tally_opened s g in
+    let a : Goes 0 s t = goes_opened s g k in then_free 0 s t (closes f t g) a (goes_closes f t g a.stands)
+
+goes_group_led : (f : Answering) (s : Core) (g : List ℕ) → Stands s → Goes 0 s (group_led f s g)
+unfolding group_led failed_wait
+goes_group_led f s g k =
+    let st : GroupState = state_of s g in
+    let ps : List ProviderId = filter (among st.members) st.failed in
+    let t : Core = fold (λ t p. with_waiting t g (waits_failure p Died)) s ps in
+    let a : Goes 0 s t = fold_free (λ t p. with_waiting t g (waits_failure p Died)) (λ t p h. goes_waits_failure t g p Died h) ps s k in
+    then_free 0 s t (phase_reopened f t g (is_some st.running)) a (goes_reopened f t g (is_some st.running) a.stands)
+
+goes_groups_led : (f : Answering) (s : Core) → Stands s → Goes 0 s (groups_led f s)
+unfolding groups_led
+goes_groups_led f s k = fold_free (group_led f) (goes_group_led f) (led_groups s) s k
+
+-- ---- the whole
+
+moves_entered : (f : Answering) (s : Core) (i : Install) (xs : List Lacking) → Fine s.views.view i → lacking s i ≡ Some xs → Stands s → Moves (1 + length s.sessions.requests + length s.sessions.kept) s (entered f s i xs)
+unfolding entered lacking
+moves_entered f s i xs fine e k =
+    let t : Core = lists_filled f s xs in
+    let ft : FilledAll s t = filled f s (parts_from i s.views.view) xs fine.apart e k in
+    let bs : List Base = bases_of i in
+    let u : Core = view_entered t i bs in
+    let hu : Holds 0 t u = holds_entered s.views.view t i fine in
+    let w : Core = sides_dissolved u (held_rows t) t.views.view bs in
+    let hw : Holds 0 u w = holds_sides u (held_rows t) t.views.view bs hu.stands in
+    let x : Core = entering_noted w bs in
+    let hx : Holds 0 w x = holds_noted w bs hw.stands in
+    let y : Core = taken_sent x in
+    let hy : Holds 1 x y = holds_taken x hx.stands in
+    let z : Core = owed_sent y in
+    let gz : Goes (length y.sessions.requests + length y.sessions.kept) y z = goes_owed y hy.stands in
+    let gl : Goes 0 z (groups_led f z) = goes_groups_led f z gz.stands in
+    let su : Holds 0 s u = holds_free s t u ft.holds hu in
+    let sw : Holds 0 s w = holds_free s u w su hw in
+    let sx : Holds 0 s x = holds_free s w x sw hx in
+    let sy : Holds 1 s y = holds_then 0 1 s x y sx hy in
+    record { within = omega (arith, sy.within, gz.within, gl.within); stands = gl.stands }
+
+moves_applied : (f : Answering) (s : Core) (o : Option Install) → FineIf s.views.view o → Stands s → Moves (1 + length s.sessions.requests + length s.sessions.kept) s (install_applied f s o)
+unfolding install_applied entered_if
+moves_applied f s None fine k = record { within = omega arith; stands = k }
+moves_applied f s (Some i) fine k = by (lacking s i) refl
+  where
+    by : (o : Option (List Lacking)) → lacking s i ≡ o → Moves (1 + length s.sessions.requests + length s.sessions.kept) s (entered_if f s i o)
+    by None e = record { within = omega arith; stands = k }
+    by (Some xs) e = moves_entered f s i xs fine e k
+
+stands_views : (s : Core) (v : Views) → v.members ≡ s.views.members → Stands s → Stands (record s { views = v })
+unfolding state_of list_of row_of
+stands_views s v e k = record { few = subst (λ ms. length ms ≤ 32) (sym e) k.few; order = k.order; room = k.room }
+
+-- what a row of views sends, and the install that it applies
+pub moves_taken : (c : ℕ) (f : Answering) (s : Core) (w : ViewWork) → Works c (views_at_work s.views) w → FineIf s.views.view w.install → Stands s → Moves (c + 1 + length s.sessions.requests + length s.sessions.kept) s (views_taken f s w)
+unfolding views_taken
+moves_taken c f s w works fine k =
+    let a : Core = record s { views = w.views } in
+    let ka : Stands a = stands_views s w.views works.members k in
+    let step : Core → ViewSend → Core = λ t (x : ViewSend). sent t x.to (body.View x.packet) in
+    let t : Core = fold step a w.sends in
+    let gt : Goes (length w.sends) a t = fold_each step (λ t x h. goes_sent t x.to (body.View x.packet) h) w.sends a ka in
+    let same : t.sessions ≡ s.sessions = sessions_same a t (sends_fold step (λ t x. sends_sent t x.to (body.View x.packet)) w.sends a) in
+    let view : t.views.view ≡ s.views.view = ap (λ (v : Views). v.view) gt.views ∙ works.view in
+    let r : length t.sessions.requests ≡ length s.sessions.requests = ap (λ (x : SessionState). length x.requests) same in
+    let q : length t.sessions.kept ≡ length s.sessions.kept = ap (λ (x : SessionState). length x.kept) same in
+    let m : Moves (1 + length t.sessions.requests + length t.sessions.kept) t (install_applied f t w.install) = moves_applied f t w.install (subst (λ v. FineIf v w.install) (sym view) fine) gt.stands in
+    record { within = omega (arith, gt.within, m.within, works.sends, r, q); stands = m.stands }
