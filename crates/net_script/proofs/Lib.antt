@@ -1,4 +1,9 @@
-pub mod WordLaws
-pub mod ReadLaws
-pub mod FlowLaws
+pub mod CutLaws
 pub mod TextLaws
+pub mod StageLaws
+pub mod EventLaws
+pub mod FlowLaws
+pub mod ListLaws
+pub mod RoundLaws
+pub mod LineLaws
+pub mod PlayLaws

@@ -1,2 +1,4 @@
-pub mod Reading
-pub mod Played
+pub mod Cuts
+pub mod Faults
+pub mod Stage
+pub mod Rounds

@@ -1,13 +1,18 @@
-//! Scripts: their bytes, and their play.
+//! The play of scripts: lines become plain events, and the records of these are written as they come.
 #![tactic(auto)]
 
+mod cuts;
+mod faults;
+mod flowing;
+mod happening;
+mod lines;
 mod playing;
-mod reading;
-mod transcript;
-mod words;
-mod world;
+mod rounds;
+mod stage;
+mod writing;
 
-pub use playing::{PlayFault, play};
-pub use reading::{MAX_GROUPS, MAX_LINES, ReadFault, read};
-pub use transcript::line_of;
-pub use world::FLOW_LIMIT;
+pub use cuts::Cuts;
+pub use faults::PlayFault;
+pub use flowing::FLOW_LIMIT;
+pub use playing::play;
+pub use stage::Stage;

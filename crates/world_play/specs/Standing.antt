@@ -24,6 +24,9 @@ use Rattle.world_play.specs.declared.stepping.Left.{Left}
 abbrev pub is_me : ℕ → NodeView ScriptClient → Bool
 is_me n x = x.core.views.me == n
 
+abbrev pub number_in : NodeView ScriptClient → ℕ
+number_in x = x.core.views.me
+
 -- ---- clients
 
 abbrev pub votes_of : ScriptClient → Option (List (Option VoteItem))

@@ -1,10 +1,10 @@
 //! The nodes of a world that are up, ascending.
-ghost use Rattle.std.specs.Prelude.{◌≡◌, ◌<◌, ◌≤◌, [], ℕ, length, IfSome, IfOk, OnOk, IsTrue, find, is_some, option_copied};
+ghost use Rattle.std.specs.Prelude.{◌≡◌, ◌<◌, ◌≤◌, [], ℕ, length, IfSome, IfOk, OnOk, IsTrue, find, is_some, option_copied, map};
 ghost use Rattle.rsct_packet.specs.Search.{place_where, front_len, insert_before};
 ghost use Rattle.rsct_packet.specs.Lists.{drop_where};
 ghost use Rattle.node_state.specs.Step.{Calls};
 ghost use Rattle.node_step.specs.Event.{event_in, is_taken};
-ghost use Rattle.world_play.specs.Standing.{is_me, comes_before, StepsIn, with_scripts};
+ghost use Rattle.world_play.specs.Standing.{is_me, comes_before, number_in, StepsIn, with_scripts};
 
 use crate::calling::call_node;
 use crate::stepping::{Left, step_node};
@@ -95,6 +95,18 @@ impl Nodes {
         ensures { result ≡ is_some (find (is_me n) self.now) }
     {
         self.get(n).is_some()
+    }
+
+    /// The numbers of the nodes that are up, ascending.
+    #[tactic(auto, using(std::proofs::lemmas::List::map_more))]
+    pub fn numbers(&self, alloc: Global) -> Result<Vec<u8>, NoMemory>
+        ensures { IfOk result (λ ns. ns.items ≡ map number_in self.now) }
+    {
+        let mut ns = Vec::new(alloc);
+        for x in self.rows.as_slice() {
+            ns.push(x.core().views.me)?;
+        }
+        Ok(ns)
     }
 
     /// A node that starts stands before those of greater numbers.

@@ -1,0 +1,69 @@
+//! Packets that flow.
+ghost use Rattle.std.specs.Prelude.{◌≡◌, ◌≤◌, ◌∷◌, ◌&&◌, not, List, is_some, find};
+ghost use Rattle.std.specs.List.{list_any};
+ghost use Rattle.hags_io.specs.Edges.{Rose};
+ghost use Rattle.world_model.specs.World.{Sent, node_at};
+ghost use Rattle.world_model.specs.World as world;
+ghost use Rattle.world_model.specs.Play.{Played, is_cut_of, is_cut, flows_to, flows, flow_limit};
+ghost use Rattle.world_packets.specs.Packets.{waits_as};
+ghost use Rattle.world_play.specs.Standing.{is_me};
+ghost use Rattle.net_script.specs.Stage.{At, Outcome};
+
+use crate::faults::PlayFault;
+use crate::happening::happen;
+use crate::stage::Stage;
+use hags_io::Sink;
+use std::alloc::Global;
+use transcript::Kinds;
+use world_model::Event;
+use world_packets::Waiting;
+
+/// How many packets one flow takes at most.
+pub const FLOW_LIMIT: u32 = 100_000;
+
+/// Is a packet given, since its receiver is up and not cut off from its sender?
+fn is_given(stage: &Stage, x: Waiting) -> bool
+    ensures { result ≡ (is_some (find (is_me x.to) stage.now.world.nodes) && not (list_any (is_cut_of x.from x.to x.network) stage.now.cuts)) }
+{
+    stage.world.nodes.is_up(x.to) && !stage.cuts.has(x.from, x.to, x.network)
+}
+
+/// The packet that waits longest is given, or lost where its receiver is down or cut off from its sender.
+fn pass<K: Sink>(
+    alloc: Global,
+    stage: &mut Stage,
+    kinds: Kinds,
+    x: Waiting,
+    out: &mut K,
+) -> Result<(), PlayFault>
+    ensures outcome { (p : Played) → (v : world.World) → At stage.old p v → (y : Sent) → (ys : List Sent) → p.world.queue ≡ y ∷ ys → waits_as y ≡ x → Outcome result kinds (K.held out.old) (K.held out.new) stage.old stage.new p (flows_to p y ys (is_some (node_at p.world y.packet.to)) (is_cut p.cuts y.packet)) v }
+    ensures later { K.faults out.old ≤ K.faults out.new }
+    ensures fault { result ≡ Err PlayFault.WriteFault → Rose (K.faults out.old) (K.faults out.new) }
+{
+    if is_given(stage, x) {
+        happen(alloc, stage, kinds, &Event::Deliver(x.from, x.to, x.k), out)
+    } else {
+        stage.world.packets.skip_first();
+        Ok(())
+    }
+}
+
+/// The packet that waits longest is taken again and again, until none is left or so many were.
+pub fn flow<K: Sink>(
+    alloc: Global,
+    stage: &mut Stage,
+    kinds: Kinds,
+    out: &mut K,
+) -> Result<(), PlayFault>
+    ensures outcome { (p : Played) → (v : world.World) → At stage.old p v → Outcome result kinds (K.held out.old) (K.held out.new) stage.old stage.new p (flows flow_limit p) v }
+    ensures later { K.faults out.old ≤ K.faults out.new }
+    ensures fault { result ≡ Err PlayFault.WriteFault → Rose (K.faults out.old) (K.faults out.new) }
+{
+    for _i in 0..FLOW_LIMIT {
+        let Some(x) = stage.world.packets.first() else {
+            return Ok(());
+        };
+        pass(alloc, stage, kinds, x, out)?;
+    }
+    Ok(())
+}

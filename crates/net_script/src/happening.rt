@@ -1,0 +1,34 @@
+//! A plain event of a play.
+ghost use Rattle.std.specs.Prelude.{◌≡◌, ◌≤◌};
+ghost use Rattle.hags_io.specs.Edges.{Rose};
+ghost use Rattle.world_model.specs.World as world;
+ghost use Rattle.world_model.specs.Play.{Played, with_event};
+ghost use Rattle.net_script.specs.Stage.{At, Outcome};
+
+use crate::faults::PlayFault;
+use crate::stage::Stage;
+use crate::writing::write_records;
+use hags_io::Sink;
+use node_state::Records;
+use rsct_packet::List;
+use std::alloc::Global;
+use transcript::Kinds;
+use world_model::Event;
+
+/// A plain event happens, and what it records is written.
+pub fn happen<K: Sink>(
+    alloc: Global,
+    stage: &mut Stage,
+    kinds: Kinds,
+    e: &Event,
+    out: &mut K,
+) -> Result<(), PlayFault>
+    ensures outcome { (p : Played) → (v : world.World) → At stage.old p v → Outcome result kinds (K.held out.old) (K.held out.new) stage.old stage.new p (with_event p e.now) v }
+    ensures later { K.faults out.old ≤ K.faults out.new }
+    ensures fault { result ≡ Err PlayFault.WriteFault → Rose (K.faults out.old) (K.faults out.new) }
+{
+    let mut records: Records = List::new(alloc);
+    stage.world.event(alloc, e, &mut records)?;
+    write_records(alloc, kinds, records.as_slice(), out)?;
+    Ok(())
+}

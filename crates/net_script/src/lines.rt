@@ -1,0 +1,66 @@
+//! The lines of a script.
+ghost use Rattle.std.specs.Prelude.{◌≡◌, ◌≤◌, fold, OnOk};
+ghost use Rattle.hags_io.specs.Edges.{Rose};
+ghost use Rattle.world_model.specs.World as world;
+ghost use Rattle.world_model.specs.Play.{Played, in_world, drops, healed, with_cuts, networks_in, plays};
+ghost use Rattle.net_script.specs.Stage.{At, Outcome};
+
+use crate::faults::PlayFault;
+use crate::flowing::flow;
+use crate::happening::happen;
+use crate::rounds::run;
+use crate::stage::Stage;
+use hags_io::Sink;
+use std::alloc::Global;
+use transcript::Kinds;
+use world_model::Line;
+
+/// A line is played.
+#[tactic(auto, unfolding(world_model::specs::Play::plays))]
+fn play_line<K: Sink>(
+    alloc: Global,
+    stage: &mut Stage,
+    kinds: Kinds,
+    line: &Line,
+    out: &mut K,
+) -> Result<(), PlayFault>
+    ensures outcome { (p : Played) → (v : world.World) → At stage.old p v → Outcome result kinds (K.held out.old) (K.held out.new) stage.old stage.new p (plays p line.now) v }
+    ensures later { K.faults out.old ≤ K.faults out.new }
+    ensures fault { result ≡ Err PlayFault.WriteFault → Rose (K.faults out.old) (K.faults out.new) }
+{
+    match line {
+        Line::Plain(e) => happen(alloc, stage, kinds, e, out),
+        Line::Drop(a, b) => {
+            stage.world.packets.lose(alloc, *a, *b)?;
+            Ok(())
+        }
+        Line::Flow => flow(alloc, stage, kinds, out),
+        Line::Run(count) => run(alloc, stage, kinds, *count, out),
+        Line::Cut(a, b, network) => {
+            stage.cuts.cut(*a, *b, *network)?;
+            Ok(())
+        }
+        Line::Heal(a, b, network) => {
+            stage.cuts.heal(*a, *b, *network);
+            Ok(())
+        }
+    }
+}
+
+/// Lines are played, in this order.
+pub fn play_lines<K: Sink>(
+    alloc: Global,
+    stage: &mut Stage,
+    kinds: Kinds,
+    lines: &[Line],
+    out: &mut K,
+) -> Result<(), PlayFault>
+    ensures outcome { (p : Played) → (v : world.World) → At stage.old p v → Outcome result kinds (K.held out.old) (K.held out.new) stage.old stage.new p (fold plays p lines.now) v }
+    ensures later { K.faults out.old ≤ K.faults out.new }
+    ensures fault { result ≡ Err PlayFault.WriteFault → Rose (K.faults out.old) (K.faults out.new) }
+{
+    for line in lines {
+        play_line(alloc, stage, kinds, line, out)?;
+    }
+    Ok(())
+}

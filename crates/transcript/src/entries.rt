@@ -1,0 +1,184 @@
+//! Votes and entries.
+ghost use Rattle.std.specs.Prelude.{◌≡◌, ◌++◌, OnOk, codes, flat_map};
+ghost use Rattle.node_state.specs.Wording.{word, joined};
+ghost use Rattle.world_model.specs.Text.{value_option_text, vote_text, default_letter, row_vote_text, row_text, phase_text, closed_text, entry_text, what_text};
+
+use crate::proposals::put_proposal;
+use group_attr::DefaultVote;
+use proposal_core::{Closed, Entry, Row, RowVote, Vote};
+use rsct_packet::{NoMemory, ProtoId, Text};
+use status_lines::{
+    kind_of, put_number_word, put_proto, put_provider, put_providers, put_text, put_value,
+};
+use std::alloc::Global;
+
+#[tactic(auto, unfolding(world_model::specs::Text::value_option_text))]
+fn put_value_option(out: &mut Vec<u8>, value: &Option<Text>) -> Result<(), NoMemory>
+    ensures { OnOk result (out.new.items ≡ out.old.items ++ value_option_text value.now) }
+{
+    match value {
+        None => put_text(out, b"-"),
+        Some(value) => put_value(out, value.bytes()),
+    }
+}
+
+#[tactic(auto, unfolding(world_model::specs::Text::vote_text))]
+pub fn vote_text(vote: Vote) -> &'static [u8]
+    ensures { result.now ≡ vote_text vote }
+{
+    match vote {
+        Vote::Approve => b"A",
+        Vote::Continue => b"C",
+        Vote::Reject => b"R",
+    }
+}
+
+#[tactic(auto, unfolding(world_model::specs::Text::default_letter))]
+fn default_letter(vote: DefaultVote) -> &'static [u8]
+    ensures { result.now ≡ default_letter vote }
+{
+    match vote {
+        DefaultVote::Approve => b"A",
+        DefaultVote::Reject => b"R",
+    }
+}
+
+#[tactic(auto, unfolding(world_model::specs::Text::row_vote_text))]
+fn put_row_vote(out: &mut Vec<u8>, vote: RowVote) -> Result<(), NoMemory>
+    ensures { OnOk result (out.new.items ≡ out.old.items ++ row_vote_text vote) }
+{
+    match vote {
+        RowVote::Cast(vote) => put_text(out, vote_text(vote)),
+        RowVote::Late(vote) => {
+            put_text(out, b"L")?;
+            put_text(out, default_letter(vote))
+        }
+        RowVote::Failed(vote) => {
+            put_text(out, b"F")?;
+            put_text(out, default_letter(vote))
+        }
+    }
+}
+
+#[tactic(auto, unfolding(world_model::specs::Text::row_text))]
+fn put_row(alloc: Global, out: &mut Vec<u8>, row: Row) -> Result<(), NoMemory>
+    ensures { OnOk result (out.new.items ≡ out.old.items ++ row_text row) }
+{
+    put_provider(alloc, out, row.p)?;
+    put_text(out, b"=")?;
+    put_row_vote(out, row.vote)
+}
+
+/// Rows, each behind a comma.
+fn put_more_rows(alloc: Global, out: &mut Vec<u8>, rows: &[Row]) -> Result<(), NoMemory>
+    ensures { OnOk result (out.new.items ≡ out.old.items ++ flat_map (λ y. codes "," ++ row_text y) rows.now) }
+{
+    for row in rows {
+        put_text(out, b",")?;
+        put_row(alloc, out, *row)?;
+    }
+    Ok(())
+}
+
+/// Rows between commas, `-` for none.
+#[tactic(auto, unfolding(node_state::specs::Wording::joined))]
+fn put_rows(alloc: Global, out: &mut Vec<u8>, rows: &[Row]) -> Result<(), NoMemory>
+    ensures { OnOk result (out.new.items ≡ out.old.items ++ joined row_text rows.now) }
+{
+    match rows {
+        [] => put_text(out, b"-"),
+        [first, others @ ..] => {
+            put_row(alloc, out, *first)?;
+            put_more_rows(alloc, out, others)
+        }
+    }
+}
+
+/// The protocol and the phase, each with the space behind it.
+#[tactic(auto, unfolding(world_model::specs::Text::phase_text, node_state::specs::Wording::word))]
+pub fn put_phase(
+    alloc: Global,
+    out: &mut Vec<u8>,
+    proto: ProtoId,
+    phase: u16,
+) -> Result<(), NoMemory>
+    ensures { OnOk result (out.new.items ≡ out.old.items ++ phase_text proto phase) }
+{
+    put_proto(alloc, out, proto)?;
+    put_text(out, b" ")?;
+    put_number_word(alloc, out, u32::from(phase))
+}
+
+#[tactic(auto, unfolding(world_model::specs::Text::closed_text))]
+fn put_closed(alloc: Global, out: &mut Vec<u8>, c: &Closed) -> Result<(), NoMemory>
+    ensures { OnOk result (out.new.items ≡ out.old.items ++ closed_text c.now) }
+{
+    put_phase(alloc, out, c.proto, c.phase)?;
+    put_rows(alloc, out, c.rows.as_slice())
+}
+
+#[tactic(auto, unfolding(world_model::specs::Text::entry_text))]
+pub fn put_entry(alloc: Global, out: &mut Vec<u8>, e: &Entry) -> Result<(), NoMemory>
+    ensures { OnOk result (out.new.items ≡ out.old.items ++ entry_text e.now) }
+{
+    match e {
+        Entry::Once(x) => {
+            put_text(out, b"once ")?;
+            put_proposal(alloc, out, x)
+        }
+        Entry::Begin(x) => {
+            put_text(out, b"begin ")?;
+            put_proposal(alloc, out, x)
+        }
+        Entry::Phase(c) => {
+            put_text(out, b"phase ")?;
+            put_closed(alloc, out, c)?;
+            put_text(out, b" ")?;
+            put_value_option(out, &c.value)
+        }
+        Entry::Approve(c) => {
+            put_text(out, b"approve ")?;
+            put_closed(alloc, out, c)?;
+            put_text(out, b" ")?;
+            put_value_option(out, &c.value)
+        }
+        Entry::Reject(c) => {
+            put_text(out, b"reject ")?;
+            put_closed(alloc, out, c)
+        }
+        Entry::Late { proto, phase, ps } => {
+            put_text(out, b"late ")?;
+            put_phase(alloc, out, *proto, *phase)?;
+            put_providers(alloc, out, ps.as_slice())
+        }
+    }
+}
+
+/// What a provider hears of an entry.
+#[tactic(auto, unfolding(world_model::specs::Text::what_text))]
+fn put_what(out: &mut Vec<u8>, e: &Entry) -> Result<(), NoMemory>
+    ensures { OnOk result (out.new.items ≡ out.old.items ++ what_text e.now) }
+{
+    match e {
+        Entry::Once(x) => {
+            put_text(out, b"once-")?;
+            put_text(out, kind_of(x))
+        }
+        Entry::Begin(x) => {
+            put_text(out, b"begin-")?;
+            put_text(out, kind_of(x))
+        }
+        Entry::Phase(_) => put_text(out, b"phase"),
+        Entry::Approve(_) => put_text(out, b"approve"),
+        Entry::Reject(_) => put_text(out, b"reject"),
+        Entry::Late { .. } => put_text(out, b"late"),
+    }
+}
+
+#[tactic(auto, unfolding(node_state::specs::Wording::word))]
+pub fn put_what_word(out: &mut Vec<u8>, e: &Entry) -> Result<(), NoMemory>
+    ensures { OnOk result (out.new.items ≡ out.old.items ++ word (what_text e.now)) }
+{
+    put_what(out, e)?;
+    put_text(out, b" ")
+}

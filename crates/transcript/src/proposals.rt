@@ -1,0 +1,134 @@
+//! Proposals.
+ghost use Rattle.std.specs.Prelude.{◌≡◌, ◌++◌, OnOk, codes, flat_map};
+ghost use Rattle.world_model.specs.Text.{source_len_text, cause_text, failure_text, asker_text, proposal_text};
+ghost use Rattle.node_state.specs.Wording.{joined};
+
+use crate::attrs::put_attrs;
+use proposal_core::{Cause, Failure, Proposal};
+use rsct_packet::{NoMemory, ProviderId};
+use status_lines::{put_number, put_provider, put_providers, put_text, put_value, put_view};
+use std::alloc::Global;
+
+#[tactic(auto, unfolding(world_model::specs::Text::source_len_text))]
+fn put_source_len(alloc: Global, out: &mut Vec<u8>, len: Option<u32>) -> Result<(), NoMemory>
+    ensures { OnOk result (out.new.items ≡ out.old.items ++ source_len_text len) }
+{
+    match len {
+        None => Ok(()),
+        Some(n) => {
+            put_text(out, b" src=")?;
+            put_number(alloc, out, n)
+        }
+    }
+}
+
+#[tactic(auto, unfolding(world_model::specs::Text::cause_text))]
+fn cause_text(cause: Cause) -> &'static [u8]
+    ensures { result.now ≡ cause_text cause }
+{
+    match cause {
+        Cause::Died => b":died",
+        Cause::Gone => b":gone",
+        Cause::Cast => b":cast",
+    }
+}
+
+#[tactic(auto, unfolding(world_model::specs::Text::failure_text))]
+fn put_failure(alloc: Global, out: &mut Vec<u8>, f: Failure) -> Result<(), NoMemory>
+    ensures { OnOk result (out.new.items ≡ out.old.items ++ failure_text f) }
+{
+    put_provider(alloc, out, f.p)?;
+    put_text(out, cause_text(f.cause))
+}
+
+/// Those that failed, each behind a comma.
+fn put_more_failures(alloc: Global, out: &mut Vec<u8>, fs: &[Failure]) -> Result<(), NoMemory>
+    ensures { OnOk result (out.new.items ≡ out.old.items ++ flat_map (λ y. codes "," ++ failure_text y) fs.now) }
+{
+    for f in fs {
+        put_text(out, b",")?;
+        put_failure(alloc, out, *f)?;
+    }
+    Ok(())
+}
+
+/// Those that failed between commas, `-` for none.
+#[tactic(auto, unfolding(node_state::specs::Wording::joined))]
+fn put_failures(alloc: Global, out: &mut Vec<u8>, fs: &[Failure]) -> Result<(), NoMemory>
+    ensures { OnOk result (out.new.items ≡ out.old.items ++ joined failure_text fs.now) }
+{
+    match fs {
+        [] => put_text(out, b"-"),
+        [first, others @ ..] => {
+            put_failure(alloc, out, *first)?;
+            put_more_failures(alloc, out, others)
+        }
+    }
+}
+
+/// Who asks, and with which number.
+#[tactic(auto, unfolding(world_model::specs::Text::asker_text))]
+fn put_asker(alloc: Global, out: &mut Vec<u8>, p: ProviderId, r: u32) -> Result<(), NoMemory>
+    ensures { OnOk result (out.new.items ≡ out.old.items ++ asker_text p r) }
+{
+    put_provider(alloc, out, p)?;
+    put_text(out, b"/")?;
+    put_number(alloc, out, r)
+}
+
+#[tactic(auto, unfolding(world_model::specs::Text::proposal_text))]
+pub fn put_proposal(alloc: Global, out: &mut Vec<u8>, x: &Proposal) -> Result<(), NoMemory>
+    ensures { OnOk result (out.new.items ≡ out.old.items ++ proposal_text x.now) }
+{
+    match x {
+        Proposal::Join {
+            ps,
+            attrs,
+            source_len,
+        } => {
+            put_text(out, b"join ")?;
+            put_providers(alloc, out, ps.as_slice())?;
+            put_attrs(alloc, out, attrs)?;
+            put_source_len(alloc, out, *source_len)
+        }
+        Proposal::Leave { p, r } => {
+            put_text(out, b"leave ")?;
+            put_asker(alloc, out, *p, *r)
+        }
+        Proposal::Fail { out: fallen } => {
+            put_text(out, b"fail ")?;
+            put_failures(alloc, out, fallen.as_slice())
+        }
+        Proposal::Expel { p, r, out: targets } => {
+            put_text(out, b"expel ")?;
+            put_asker(alloc, out, *p, *r)?;
+            put_text(out, b" ")?;
+            put_providers(alloc, out, targets.as_slice())
+        }
+        Proposal::State { p, r, value } => {
+            put_text(out, b"state ")?;
+            put_asker(alloc, out, *p, *r)?;
+            put_text(out, b" ")?;
+            put_value(out, value.bytes())
+        }
+        Proposal::Message { p, r, bytes } => {
+            put_text(out, b"message ")?;
+            put_asker(alloc, out, *p, *r)?;
+            put_text(out, b" ")?;
+            put_value(out, bytes.bytes())
+        }
+        Proposal::Attributes { p, r, attrs } => {
+            put_text(out, b"attrs ")?;
+            put_asker(alloc, out, *p, *r)?;
+            put_attrs(alloc, out, attrs)
+        }
+        Proposal::Reflect { view, place, value } => {
+            put_text(out, b"reflect ")?;
+            put_view(alloc, out, *view)?;
+            put_text(out, b"/")?;
+            put_number(alloc, out, *place)?;
+            put_text(out, b" ")?;
+            put_value(out, value.bytes())
+        }
+    }
+}
