@@ -1,66 +1,100 @@
--- What the bytes of an input are, and what a run leaves.
-use Rattle.std.specs.Prelude.{◌≡◌, ℕ, Bool, true, false, ◌==◌, ◌&&◌, nat_lt, List, [], ◌∷◌, length, take, map, codes, Option, Some, None, ◌⊎◌, string_bytes, slice_get, is_some, ◌++◌, if◌then◌else◌}
+-- How an input is read, and what a run leaves.
+use Rattle.std.specs.Prelude.{◌≡◌, ℕ, Bool, false, ◌==◌, ◌&&◌, List, [], ◌∷◌, length, codes, Option, Some, None, ◌⊎◌, slice_get, IfSome, ◌++◌, if◌then◌else◌}
 use Rattle.std.specs.Str.{bytes_eq}
 use Rattle.std.specs.Io.KnownBytes.{Appends, Keeps}
 use Rattle.hags_io.specs.Edges.{GrowsByFront}
-use Rattle.world_model.specs.declared.one_node.OneNodeScript.{OneNodeScript}
-use Rattle.world_model.specs.OneNodeScript.{script_in}
-use Rattle.world_model.specs.OneNode.{run_text, run_of}
-use Rattle.run_safety.specs.Safe.{Safe}
+use Rattle.world_model.specs.declared.script.LineWhy.{LineWhy}
+use Rattle.world_model.specs.declared.script.Script.{Script}
+use Rattle.world_model.specs.Reading.{IsScript, IsNone, script_of}
+use Rattle.world_model.specs.Play.{script_records, lines_text, written}
+use Rattle.world_model.specs.Kept.{kept_past, kept_records, most_kept}
+use Rattle.world_safety.specs.Scripts.{ScriptIsSafe, KeptRunIsSafe}
 use Rattle.hags_cli.specs.declared.running.Ending.{Ending}
 use Rattle.hags_cli.specs.declared.running.Ending.TheVariants as ending
 
--- bytes at the front of an input of at most so many are all; else more stand past them
-abbrev pub IsFrontOf : ℕ → List ℕ → Bool → List ℕ → Type 0
-IsFrontOf limit front more b = (front ≡ take limit b) × (more ≡ nat_lt limit (length b))
+-- an input is read as this front of it is
+abbrev pub ReadsAs : List ℕ → List ℕ → Type 0
+ReadsAs front b = script_of b ≡ script_of front
 
--- the input is of the grammar, the text of its run's trace was written, and that run is safe
-pub record PlaysAll (limit : ℕ) (old new : Option (List ℕ)) (b : List ℕ) : Type 0 where
-  pub script : OneNodeScript
-  pub spelled : script_in limit b ≡ Some script
-  pub written : Appends old new (run_text (run_of script))
-  pub safe : Safe (run_of script)
+-- the input is a script, its packets are within the limit, and the text of its records was written, which are those of a safe run
+pub record PlaysAll (old new : Option (List ℕ)) (b : List ℕ) : Type 0 where
+  pub script : Script
+  pub spelled : script_of b ≡ IsScript script
+  pub within : kept_past most_kept script ≡ None
+  pub written : Appends old new (lines_text [] (script_records script))
+  pub safe : ScriptIsSafe script
 
--- the input is of the grammar, and a front of that text was written
-pub record PlaysFront (limit : ℕ) (old new : Option (List ℕ)) (b : List ℕ) : Type 0 where
-  pub script : OneNodeScript
-  pub spelled : script_in limit b ≡ Some script
-  pub written : GrowsByFront old new (run_text (run_of script))
+-- the input is a script, its packets pass the limit, and the text of what is recorded before that was written: the
+-- records of a safe run
+pub record PlaysPast (old new : Option (List ℕ)) (b : List ℕ) : Type 0 where
+  pub script : Script
+  pub spelled : script_of b ≡ IsScript script
+  pub sum : ℕ
+  pub past : kept_past most_kept script ≡ Some sum
+  pub written : Appends old new (lines_text [] (kept_records most_kept script))
+  pub safe : KeptRunIsSafe most_kept script
 
--- the source tells what is left, and it is of the grammar
-abbrev pub IsScript : ℕ → Option (List ℕ) → Type 0
-IsScript limit None = ⊥
-IsScript limit (Some b) = is_some (script_in limit b) ≡ true
+-- the input is a script, and a front of the text of what it records within the limit was written: the records of a
+-- safe run
+pub record PlaysFront (old new : Option (List ℕ)) (b : List ℕ) : Type 0 where
+  pub script : Script
+  pub spelled : script_of b ≡ IsScript script
+  pub written : GrowsByFront old new (lines_text [] (kept_records most_kept script))
+  pub safe : KeptRunIsSafe most_kept script
 
--- the input is not of the grammar
-abbrev pub IsOutside : ℕ → List ℕ → Type 0
-IsOutside limit b = script_in limit b ≡ None
+-- nothing was written, or the input is a script and a front of its text was
+abbrev pub MayHavePlayed : Option (List ℕ) → Option (List ℕ) → List ℕ → Type 0
+MayHavePlayed old new b = Keeps old new ⊎ PlaysFront old new b
 
--- nothing was written, or the input is of the grammar and a front of what it writes was
-abbrev pub MayHavePlayed : ℕ → Option (List ℕ) → Option (List ℕ) → List ℕ → Type 0
-MayHavePlayed limit old new b = Keeps old new ⊎ PlaysFront limit old new b
+-- the input has a line that is in no script
+pub record IsOutside (b : List ℕ) : Type 0 where
+  pub line : ℕ
+  pub why : LineWhy
+  pub fault : script_of b ≡ IsNone line why
+
+-- a front of the line that names the first bad line, that of the input where the source tells it, was said
+pub record SaysLine (left old new : Option (List ℕ)) : Type 0 where
+  pub line : ℕ
+  pub why : LineWhy
+  pub fault : IfSome left (λ b. script_of b ≡ IsNone line why)
+  pub said : GrowsByFront old new (written [] (IsNone line why))
+
+-- the source tells what is left, and it is a script
+abbrev pub SpellsScript : Option (List ℕ) → Type 0
+SpellsScript None = ⊥
+SpellsScript (Some b) = (s : Script) × (script_of b ≡ IsScript s)
+
+-- what holds of a bad line
+abbrev pub OnBadLine : Ending → (ℕ → LineWhy → Type 0) → Type 0
+OnBadLine (ending.BadLine n why) P = P n why
+OnBadLine _ P = Unit {0}
 
 abbrev pub status_of : Ending → ℕ
 status_of ending.Done = 0
 status_of ending.Usage = 1
-status_of ending.NotTaken = 2
+status_of (ending.BadLine n why) = 2
 status_of ending.NoMemory = 3
 status_of ending.ReadFault = 4
 status_of ending.WriteFault = 5
+status_of ending.TooMuchKept = 7
 
 abbrev pub line_of : List ℕ → List ℕ
 line_of text = text ++ 10 ∷ []
 
--- what is said on err, by status
+-- what is said on err, by status; that of a bad line is its own
 abbrev pub said_of : ℕ → List ℕ
 said_of status =
     if status == 1
     then line_of (codes "hags: usage: hags run [--kinds LIST] / load N / daemon --node N [--inc I] [--turns T] / status WHAT --node N [--turns T]")
-    else if status == 2 then line_of (codes "hags: script not taken")
     else if status == 3 then line_of (codes "hags: no memory")
     else if status == 4 then line_of (codes "hags: read fault")
     else if status == 5 then line_of (codes "hags: write fault")
+    else if status == 7 then line_of (codes "hags: too much kept")
     else []
+
+abbrev pub ending_text : Ending → List ℕ
+ending_text (ending.BadLine n why) = written [] (IsNone n why)
+ending_text e = said_of (status_of e)
 
 abbrev pub equals : List ℕ → Option (List ℕ) → Bool
 equals w None = false

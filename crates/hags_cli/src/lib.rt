@@ -5,8 +5,7 @@ mod input;
 mod running;
 mod status;
 
-pub use input::LIMIT;
-pub use running::{Ending, run};
+pub use running::{Ending, MOST_KEPT, run};
 pub use status::hags;
 
 #[cfg(test)]
