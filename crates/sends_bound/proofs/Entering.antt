@@ -246,7 +246,7 @@ moves_applied f s (Some i) fine k = by (lacking s i) refl
     by None e = record { within = omega arith; stands = k }
     by (Some xs) e = moves_entered f s i xs fine e k
 
-stands_views : (s : Core) (v : Views) → v.members ≡ s.views.members → Stands s → Stands (record s { views = v })
+pub stands_views : (s : Core) (v : Views) → v.members ≡ s.views.members → Stands s → Stands (record s { views = v })
 unfolding state_of list_of row_of
 stands_views s v e k = record { few = subst (λ ms. length ms ≤ 32) (sym e) k.few; order = k.order; room = k.room }
 

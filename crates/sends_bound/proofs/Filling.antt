@@ -22,6 +22,7 @@ use Rattle.view_exchange.specs.declared.install.Part.{Part}
 use Rattle.view_exchange.specs.Parts.{part_len}
 use Rattle.view_exchange.specs.Cut.{all_fit, lacking_if, lacking_of}
 use Rattle.view_exchange.specs.Longest.{NamesDiffer}
+use Rattle.view_exchange.proofs.CutLaws.{fit_ends}
 use Rattle.view_core.specs.declared.views.Views.{Views}
 use Rattle.node_state.specs.declared.group.GroupRow.{GroupRow}
 use Rattle.node_state.specs.declared.state.Core.{Core}
@@ -246,10 +247,6 @@ fill_all f (x ∷ xs) s h a k =
     let r : FilledAll t (lists_filled f t xs) = fill_all f xs t (fit_still s t x.name o.views o.there xs a.0 h.1) a.1 o.holds.stands in
     record { holds = holds_free s t (lists_filled f t xs) o.holds r.holds; views = r.views ∙ o.views }
 
-nothing_fits : (v : ViewId) (l : GroupView) → all_fit v l [] ≡ true
-unfolding all_fit
-nothing_fits v l = refl
-
 lacking_fit : (v : ViewId) (l : GroupView) (p : Part) (es : List Entry) → lacking_of v l p ≡ Some es → all_fit v l es ≡ true
 unfolding lacking_of lacking_if
 lacking_fit v l p es q = by (nat_le (part_len p) l.len) (nat_lt l.len p.start) q
@@ -262,7 +259,7 @@ lacking_fit v l p es q = by (nat_le (part_len p) l.len) (nat_lt l.len p.start) q
     at false e q = absurd cc
 
     by : (b c : Bool) → elim b as (λ _. Option (List Entry)) [ true ↦ Some [] | false ↦ elim c as (λ _. Option (List Entry)) [ true ↦ None | false ↦ lacking_if (all_fit v l rest) rest ] ] ≡ Some es → all_fit v l es ≡ true
-    by true c q = let z : [] ≡ es = cc in subst (λ x. all_fit v l x ≡ true) z (nothing_fits v l)
+    by true c q = let z : [] ≡ es = cc in subst (λ x. all_fit v l x ≡ true) z (fit_ends v l)
     by false true q = absurd cc
     by false false q = at (all_fit v l rest) refl q
 

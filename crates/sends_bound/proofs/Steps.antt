@@ -47,7 +47,7 @@ use Rattle.sends_bound.proofs.Ticks.{goes_ring_row, goes_report, goes_rings_part
 use Rattle.sends_bound.proofs.Owed.{Sends, goes_owed_part, sends_then, sends_fold, sends_sent, sends_requests, sends_lost, sends_votes}
 use Rattle.sends_bound.proofs.ViewSends.{Works, works_ask, works_prepare, works_answer, works_refuse, works_install, works_taken, works_ticks, works_install_again}
 use Rattle.sends_bound.proofs.Asking.{asks_fine}
-use Rattle.sends_bound.proofs.Entering.{Moves, moves_goes, moves_more, moves_taken}
+use Rattle.sends_bound.proofs.Entering.{Moves, stands_views, moves_goes, moves_more, moves_taken}
 
 -- ---- rows
 
@@ -219,10 +219,6 @@ led_same s t a =
     ap (λ n. led_in n t.config.mode t.views.view.coord t.groups) a.me ∙ ap (λ (c : Config). led_in s.views.me c.mode t.views.view.coord t.groups) a.config ∙ ap (λ (v : ViewId). led_in s.views.me s.config.mode v.coord t.groups) a.view ∙ ap (λ rows. led_in s.views.me s.config.mode s.views.view.coord rows) a.groups
 
 -- ---- the parts of a tick
-
-stands_views : (s : Core) (v : Views) → v.members ≡ s.views.members → Stands s → Stands (record s { views = v })
-unfolding state_of list_of row_of
-stands_views s v e k = record { few = subst (λ ms. length ms ≤ 32) (sym e) k.few; order = k.order; room = k.room }
 
 moves_quiet : (c : ℕ) (f : Answering) (s : Core) (w : ViewWork) → Works c (views_at_work s.views) w → w.install ≡ None → Stands s → Moves c s (views_taken f s w)
 unfolding views_taken install_applied
