@@ -3,8 +3,6 @@
 
 mod attrs;
 mod codec;
-#[cfg(test)]
-mod tests;
 
 pub use attrs::{AttrFault, Attrs, Batch, DefaultVote, HOST_MEMBERSHIP, MAX_LIMIT, Phases};
 pub use codec::{AttrsRef, phases_number, read_attrs, read_phases};

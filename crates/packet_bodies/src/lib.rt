@@ -17,6 +17,3 @@ pub use writing::{
     put_ack, put_death, put_gone, put_leader, put_prepare, put_query, put_refuse, put_report,
     put_ring_mask,
 };
-
-#[cfg(test)]
-mod tests;

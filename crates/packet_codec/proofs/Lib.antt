@@ -1,3 +1,2 @@
 pub mod WholeLaws
 pub mod BodyFormats
-pub mod Samples

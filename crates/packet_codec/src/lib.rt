@@ -11,6 +11,3 @@ mod writing;
 pub use laws::packets_are_read_again;
 pub use packet::{BodyRef, PacketRef};
 pub use writing::{head_of, write_packet};
-
-#[cfg(test)]
-mod tests;

@@ -12,8 +12,6 @@ mod limits;
 mod queue;
 mod refusing;
 mod sources;
-#[cfg(test)]
-mod tests;
 
 use client_callbacks::Callbacks;
 use group_attr::Phases;

@@ -52,6 +52,3 @@ pub struct Datagram {
 
 /// Datagrams in the order of sending.
 pub type Sends = List<Datagram>;
-
-#[cfg(test)]
-mod tests;

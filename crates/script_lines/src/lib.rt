@@ -14,6 +14,3 @@ mod settings;
 
 pub use faults::ScriptFault;
 pub use script::{INPUT_LIMIT, read_script};
-
-#[cfg(test)]
-mod tests;

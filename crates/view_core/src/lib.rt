@@ -15,6 +15,3 @@ pub use lists::OwnLists;
 pub use packet::{ViewPacket, ViewSend, ViewSends};
 pub use step::{ViewEvent, ViewOut};
 pub use views::{RingAsk, ViewWork, Views};
-
-#[cfg(test)]
-mod tests;

@@ -24,6 +24,3 @@ pub use install::{Base, Install, Part, Parts, Source, Sources};
 pub use install_codec::InstallRef;
 pub use laws::{first_answers_count, longest_lists_are_carried};
 pub use sides::{Kept, KeptParts, Side, Sides};
-
-#[cfg(test)]
-mod tests;

@@ -1,0 +1,73 @@
+//! How a phase closes.
+use batch_rules::Waiting;
+use group_attr::DefaultVote;
+use node_state::{Led, Table};
+use phase_closing::{closing_entry, is_phase};
+use proposal_core::{Proposal, Running, Vote};
+use rsct_packet::{List, NoMemory, ProtoId, ProviderId, ViewId};
+use std::alloc::Global;
+use std::test::Fail;
+use vote_phases::Tally;
+
+// 1.1.1.1
+fn provider() -> ProviderId {
+    ProviderId {
+        node: 1,
+        inc: 1,
+        instance: 1,
+        join: 1,
+    }
+}
+
+// its last vote is CONTINUE
+fn led(alloc: Global) -> Led {
+    let mut tally = Tally::new(&[provider()], DefaultVote::Approve, 0);
+    let _ = tally.cast(provider(), Vote::Continue);
+    Led {
+        acked: Table {
+            rows: Vec::new(alloc),
+        },
+        waiting: Waiting::new(),
+        join_attrs: List::new(alloc),
+        tally: Some(tally),
+        given: List::new(alloc),
+        gone: List::new(alloc),
+        decided: Table {
+            rows: Vec::new(alloc),
+        },
+    }
+}
+
+// its own leave, in this phase
+fn running(phase: u16) -> Running {
+    Running {
+        proto: ProtoId {
+            view: ViewId {
+                number: 1,
+                coord: 1,
+                inc: 1,
+            },
+            place: 0,
+        },
+        proposal: Proposal::Leave {
+            p: provider(),
+            r: 2,
+        },
+        phase,
+        proposed: None,
+    }
+}
+
+fn goes_on(alloc: Global, phase: u16) -> Result<Option<bool>, NoMemory> {
+    match closing_entry(alloc, &led(alloc), &Some(running(phase)))? {
+        None => Ok(None),
+        Some(e) => Ok(Some(is_phase(&e))),
+    }
+}
+
+#[test]
+fn last_phase_does_not_go_on(rt: HostRuntime) -> Result<(), Fail> {
+    assert_eq!(rt; goes_on(rt.alloc(), 199)?, Some(true));
+    assert_eq!(rt; goes_on(rt.alloc(), 200)?, Some(false));
+    Ok(())
+}

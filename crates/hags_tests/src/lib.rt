@@ -1,0 +1,7 @@
+//! Tests of the top call: whole scripts in memory, with their transcripts, statuses and faults.
+#![tactic(auto)]
+
+#[cfg(test)]
+mod one_node;
+#[cfg(test)]
+mod runs;
