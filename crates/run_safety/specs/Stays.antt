@@ -19,7 +19,7 @@ use Rattle.world_model.specs.declared.event.Event.{Event}
 use Rattle.world_model.specs.declared.event.Event.TheVariants.{Call}
 use Rattle.node_state.specs.declared.call.CallLine.{CallLine}
 use Rattle.node_state.specs.declared.call.CallLine.TheVariants.{Join, Goodbye}
-use Rattle.run_safety.specs.Past.{History}
+use Rattle.run_safety.specs.Past.{History, records_of, inc_now}
 
 -- a node's stay in a view, for one group: the base there, and what it put
 pub record Stay : Type 0 where
@@ -132,20 +132,20 @@ abbrev pub is_refused : Happened → Bool
 is_refused (Refused n c fault) = true
 is_refused _ = false
 
--- the provider is told that its group was dissolved, or its node goes down
 abbrev pub is_dissolved : Why → Bool
 is_dissolved Dissolved = true
 is_dissolved _ = false
 
-abbrev pub ends : ProviderId → Happened → Bool
-ends p (Told q r why) = same_provider q p && is_dissolved why
-ends p (Down m) = m == p.node
-ends p _ = false
+-- the provider is told that its group was dissolved, or its node goes down in the provider's incarnation
+abbrev pub ends : ProviderId → ℕ → Happened → Bool
+ends p inc (Told q r why) = same_provider q p && is_dissolved why
+ends p inc (Down m) = m == p.node && inc == p.inc
+ends p inc _ = false
 
 -- the event lets the provider go: its client says goodbye, it is told DISSOLVED, or its node goes down
 abbrev pub lets_go : ProviderId → Happening → History → Bool
 lets_go p e before =
-    list_any (ends p) e.records || (goodbye_of p.node (client_of p before) e.event && not (list_any is_refused e.records))
+    list_any (ends p (inc_now p.node (records_of before))) e.records || (goodbye_of p.node (client_of p before) e.event && not (list_any is_refused e.records))
 
 abbrev pub was_let_go : ProviderId → History → Bool
 was_let_go p [] = false
