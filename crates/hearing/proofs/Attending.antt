@@ -31,10 +31,9 @@ use Rattle.run_safety.specs.Past.{History, Within, earlier, is_list, records_of}
 use Rattle.run_safety.specs.SafeHeard.{latest_put}
 use Rattle.run_safety.proofs.Order.{lt_not_same}
 use Rattle.node_groups.proofs.NameOrder.{cases_text, text_same, text_self}
-use Rattle.step_ties.proofs.SessionLaws.{Later, handed_later, cast_has}
+use Rattle.step_ties.proofs.SessionLaws.{provider_same, provider_self, Later, handed_later, cast_has}
 use Rattle.hearing.specs.Hearing.{last_heard, next_place, Follows, AtPut}
 use Rattle.hearing.specs.Changes.{Aside, Fewer}
-use Rattle.hearing.proofs.Sessions.{same_is, same_own}
 use Rattle.hearing.proofs.Handing.{Kept, handed_kept, handed_begun, handed_present, hearer_found, present_hears, new_hears}
 
 -- what stands of a provider of this node that heard place j of view u and group g last: it is of an incarnation or a view that
@@ -96,11 +95,11 @@ aside_last p u g (happened.Refused n c fault) a rs = refl
 aside_last p u g (happened.Shown n line) a rs = refl
 
 -- what is heard changes nothing of others
-heard_other : (p : ProviderId) (u : ViewId) (g : List ℕ) (q : ProviderId) (v : ViewId) (h : List ℕ) (i : ℕ) (e : Entry) (ms : List ProviderId) (value : List ℕ) (rs : List Happened) → (p ≡ q → ⊥) → last_heard p u g (happened.Heard q v h i e ms value ∷ rs) ≡ last_heard p u g rs
+pub heard_other : (p : ProviderId) (u : ViewId) (g : List ℕ) (q : ProviderId) (v : ViewId) (h : List ℕ) (i : ℕ) (e : Entry) (ms : List ProviderId) (value : List ℕ) (rs : List Happened) → (p ≡ q → ⊥) → last_heard p u g (happened.Heard q v h i e ms value ∷ rs) ≡ last_heard p u g rs
 heard_other p u g q v h i e ms value rs ne = by (same_provider q p) refl
   where
     by : (b : Bool) → same_provider q p ≡ b → (if b && (same_view v u && bytes_eq h g) then Some i else last_heard p u g rs) ≡ last_heard p u g rs
-    by true k = absurd (ne (sym (same_is q p k)))
+    by true k = absurd (ne (sym (provider_same q p k)))
     by false k = refl
 
 -- nor of other groups
@@ -121,13 +120,13 @@ heard_cases p u g q v h i e ms value rs j k = by (same_provider q p) (same_view 
     view_is a b z = grind (arith, nat_tests)
 
     by : (a b c : Bool) → same_provider q p ≡ a → same_view v u ≡ b → bytes_eq h g ≡ c → (if a && (b && c) then Some i else last_heard p u g rs) ≡ Some j → (last_heard p u g rs ≡ Some j) ⊎ ((p ≡ q) × (u ≡ v) × (g ≡ h) × (j ≡ i))
-    by true true true x y z k = let s : j ≡ i = cc in inr (sym (same_is q p x), sym (view_is v u y), sym (text_same h g z), s)
+    by true true true x y z k = let s : j ≡ i = cc in inr (sym (provider_same q p x), sym (view_is v u y), sym (text_same h g z), s)
     by false b c x y z k = inl k
     by true false c x y z k = inl k
     by true true false x y z k = inl k
 
 pub heard_own : (q : ProviderId) (v : ViewId) (h : List ℕ) (i : ℕ) (e : Entry) (ms : List ProviderId) (value : List ℕ) (rs : List Happened) → last_heard q v h (happened.Heard q v h i e ms value ∷ rs) ≡ Some i
-heard_own q v h i e ms value rs = λ k. if same_own q k && (same_view_own v k && text_self h k) then Some i else last_heard q v h rs
+heard_own q v h i e ms value rs = λ k. if provider_self q k && (same_view_own v k && text_self h k) then Some i else last_heard q v h rs
   where
     same_view_own : (a : ViewId) → same_view a a ≡ true
     same_view_own a = grind (arith, nat_tests)
@@ -150,26 +149,27 @@ module _ (n inc : ℕ) (before : History) (v : ViewId) (t : SessionState) (now :
 
   -- ---- sessions
 
-  pub attends_fewer : (s : SessionState) → Fewer t s → Attending n inc before v t now lens states → Attending n inc before v s now lens states
-  attends_fewer s f k =
+  -- no provider comes in or changes, whatever else does
+  pub attends_less : (s : SessionState) → s.me ≡ t.me → s.inc ≡ t.inc → t.last_request ≤ s.last_request → ((p : ProviderId) (x : Provider) → provider_of s p ≡ Some x → provider_of t p ≡ Some x) → Attending n inc before v t now lens states → Attending n inc before v s now lens states
+  attends_less s me inc_of last providers k =
       record {
-        me = f.me ∙ k.me;
-        inc_is = f.inc ∙ k.inc_is;
+        me = me ∙ k.me;
+        inc_is = inc_of ∙ k.inc_is;
         law = k.law;
         others = k.others;
         began = k.began;
-        own = λ p x q. let a = k.own p x (f.providers p x q) in (a.0, a.1, on p a.2);
-        here = λ p x q part. k.here p x (f.providers p x q) part;
+        own = λ p x q. let a = k.own p x (providers p x q) in (a.0, a.1, on p a.2);
+        here = λ p x q part. k.here p x (providers p x q) part;
         heard = λ p u g j m q. stance p u g j (k.heard p u g j m q);
-        upto = λ p x q part. k.upto p x (f.providers p x q) part;
+        upto = λ p x q part. k.upto p x (providers p x q) part;
       }
     where
       on : (p : ProviderId) → p.join ≤ t.last_request → p.join ≤ s.last_request
-      on p le = let z = f.last in omega arith
+      on p le = omega arith
 
       none : (p : ProviderId) → provider_of t p ≡ None → (o : Option Provider) → provider_of s p ≡ o → o ≡ None
       none p e None q = refl
-      none p e (Some y) q = absurd (let z : Some y ≡ None = sym (f.providers p y q) ∙ e in cc)
+      none p e (Some y) q = absurd (let z : Some y ≡ None = sym (providers p y q) ∙ e in cc)
 
       stance : (p : ProviderId) (u : ViewId) (g : List ℕ) (j : ℕ) → Stance inc v t lens p u g j → Stance inc v s lens p u g j
       stance p u g j (Before a) = Before a
@@ -180,8 +180,11 @@ module _ (n inc : ℕ) (before : History) (v : ViewId) (t : SessionState) (now :
           by : (o : Option Provider) → provider_of s p ≡ o → Stance inc v s lens p u g j
           by None q = Gone q (on p (k.own p x c).2)
           by (Some y) q =
-              let same : y ≡ x = some_is (sym (f.providers p y q) ∙ c) in
+              let same : y ≡ x = some_is (sym (providers p y q) ∙ c) in
               Attends a b y q (ap (λ (z : Provider). z.takes_part) same ∙ d) (ap (λ (z : Provider). z.group) same ∙ e)
+
+  pub attends_fewer : (s : SessionState) → Fewer t s → Attending n inc before v t now lens states → Attending n inc before v s now lens states
+  attends_fewer s f k = attends_less s f.me f.inc f.last f.providers k
 
   -- a provider more, under a number that none has
   pub attends_joined : (c : ClientToken) (h : List ℕ) (instance : ℕ) (attrs : Attrs) → Attending n inc before v t now lens states → Attending n inc before v (join_asked t c h instance attrs) now lens states
@@ -206,7 +209,7 @@ module _ (n inc : ℕ) (before : History) (v : ViewId) (t : SessionState) (now :
       found p [] x e = last (is_provider p y) refl e
         where
           last : (b : Bool) → is_provider p y ≡ b → (if b then Some y else None) ≡ Some x → (find (is_provider p) [] ≡ Some x) ⊎ ((x ≡ y) × (p ≡ y.p))
-          last true q e = let z : x ≡ y = cc in inr (z, sym (same_is y.p p q))
+          last true q e = let z : x ≡ y = cc in inr (z, sym (provider_same y.p p q))
           last false q e = absurd (cc)
       found p (z ∷ xs) x e = by (is_provider p z) e (found p xs x)
         where
@@ -245,7 +248,7 @@ pushed_reverse [] xs = ap reverse (append-nil xs)
 pushed_reverse (r ∷ rs) xs =
     ap reverse (sym (append_assoc xs (r ∷ []) rs)) ∙ pushed_reverse rs (xs ++ r ∷ []) ∙ ap (pushed rs) (reverse-append xs (r ∷ []))
 
-pushed_append : (xs ys now : List Happened) → pushed (xs ++ ys) now ≡ pushed ys (pushed xs now)
+pub pushed_append : (xs ys now : List Happened) → pushed (xs ++ ys) now ≡ pushed ys (pushed xs now)
 pushed_append [] ys now = refl
 pushed_append (x ∷ xs) ys now = pushed_append xs ys (x ∷ now)
 
@@ -254,7 +257,7 @@ abbrev pub heard_at : ViewId → List ℕ → ℕ → Entry → GroupState → C
 heard_at v g i e after c = happened.Heard c.p v g i e after.members after.value ∷ cast_records c.p c.cast
 
 -- each who hears casts
-has_cast : (e : Entry) (after : GroupState) (level : ℕ) (ps : List ProviderId) (bs : List (Option Filled)) (p : ProviderId) → Has p ps → (c : Cast) × Has c (casts_of e after level ps bs) × (c.p ≡ p)
+pub has_cast : (e : Entry) (after : GroupState) (level : ℕ) (ps : List ProviderId) (bs : List (Option Filled)) (p : ProviderId) → Has p ps → (c : Cast) × Has c (casts_of e after level ps bs) × (c.p ≡ p)
 unfolding cast_of
 has_cast e after level [] bs p h = absurd h
 has_cast e after level (q ∷ ps) [] p (inl k) = (cast_of e after level q None, inl refl, sym k)

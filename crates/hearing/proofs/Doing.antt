@@ -21,6 +21,7 @@ use Rattle.client_callbacks.specs.declared.told.Why.TheVariants.{Dissolved}
 use Rattle.session_state.specs.declared.state.Provider.{Provider}
 use Rattle.session_state.specs.declared.state.SessionState.{SessionState}
 use Rattle.session_state.specs.State.{provider_of, outstanding, without_providers}
+use Rattle.session_state.specs.Calls.{keeps}
 use Rattle.session_state.specs.HandOn.{casts_out, handed_on, takes_telling, told_of, telling_taken, is_numbered, is_join_request}
 use Rattle.view_exchange.specs.declared.install.Install.{Install}
 use Rattle.view_exchange.specs.declared.install.Base.{Base}
@@ -41,11 +42,12 @@ use Rattle.node_groups.specs.Places.{InNameOrder, has_name}
 use Rattle.node_groups.proofs.NameOrder.{row_here, row_there, text_same, text_self}
 use Rattle.step_ties.proofs.BaseOrder.{row_of_base}
 use Rattle.hearing.specs.Hearing.{last_heard, next_place}
-use Rattle.hearing.specs.Changes.{Same, Aside, handing, Does, Stays, Then, Records, Hands, Loses, Joins, Enters}
+use Rattle.hearing.specs.Changes.{Same, Aside, handing, Does, Stays, Then, Records, Hands, Loses, Joins, Votes, Enters}
+use Rattle.hearing.proofs.Changes.{inner_aside}
 use Rattle.hearing.proofs.Sessions.{found_is, fewer_same, fewer_told}
 use Rattle.hearing.proofs.Handing.{among_is, has_among, left_stays}
 use Rattle.hearing.proofs.Viewing.{Stands, sides_stand}
-use Rattle.hearing.proofs.Attending.{Stance, Before, Left, Gone, Attends, Attending, attends_aside, attends_fewer, attends_joined, attends_handed, pushed, pushed_reverse, heard_at}
+use Rattle.hearing.proofs.Attending.{Stance, Before, Left, Gone, Attends, Attending, attends_aside, attends_fewer, attends_less, attends_joined, attends_handed, pushed, pushed_reverse, heard_at}
 
 -- node n in incarnation inc, in the middle of an event that came after `before`
 pub record Hearing (n inc : ℕ) (before : History) (s : Core) : Type 0 where
@@ -95,14 +97,14 @@ module _ (n inc : ℕ) (before : History) (v : ViewId) (lens : List ℕ → ℕ)
       held_fold (group_dissolved old bs) (λ t row j. held_fold (λ (u : Core) p. dissolved_if u row.name old (base_named bs row.name) (provider_of u.sessions p)) (λ u p i. held_dissolved u row.name old (base_named bs row.name) (provider_of u.sessions p) i) (present (state_in row.list)) t j) rows c k
 
 -- who is found after some were dissolved was found before
-abbrev Back : Core → Core → Type 0
+abbrev pub Back : Core → Core → Type 0
 Back c d = (p : ProviderId) (x : Provider) → provider_of d.sessions p ≡ Some x → provider_of c.sessions p ≡ Some x
 
-back_fold : {A : Type 0} (f : Core → A → Core) → ((c : Core) (x : A) → Back c (f c x)) → (xs : List A) (c : Core) → Back c (fold f c xs)
+pub back_fold : {A : Type 0} (f : Core → A → Core) → ((c : Core) (x : A) → Back c (f c x)) → (xs : List A) (c : Core) → Back c (fold f c xs)
 back_fold f one [] c p x q = q
 back_fold f one (y ∷ ys) c p x q = one c y p x (back_fold f one ys (f c y) p x q)
 
-dissolved_back : (c : Core) (h : List ℕ) (old : ViewId) (b : Option Base) (o : Option Provider) → Back c (dissolved_if c h old b o)
+pub dissolved_back : (c : Core) (h : List ℕ) (old : ViewId) (b : Option Base) (o : Option Provider) → Back c (dissolved_if c h old b o)
 unfolding dissolved_if dissolved recorded with_sessions
 dissolved_back c h old b None p x q = q
 dissolved_back c h old b (Some y) p x q = by (y.takes_part && bytes_eq y.group h && not (is_in_base old y.p b)) q
@@ -166,7 +168,7 @@ module _ (old : ViewId) (bs : List Base) (p : ProviderId) (x : Provider) (part :
       let e : provider_of d.sessions p ≡ Some x = back_fold f (λ u z. dissolved_back u h old (base_named bs h) (provider_of u.sessions z)) ps d p x q in
       turn_stays c h old (base_named bs h) p x (subst (λ z. provider_of (dissolved_if c h old (base_named bs h) (provider_of c.sessions z)).sessions p ≡ Some x) (sym k) e) part group
 
-  rows_stay : (rows : List GroupRow) (c : Core) (row : GroupRow) → Has row rows → x.group ≡ row.name → Has p (present (state_in row.list)) → provider_of (sides_dissolved c rows old bs).sessions p ≡ Some x → is_in_base old p (base_named bs row.name) ≡ true
+  pub rows_stay : (rows : List GroupRow) (c : Core) (row : GroupRow) → Has row rows → x.group ≡ row.name → Has p (present (state_in row.list)) → provider_of (sides_dissolved c rows old bs).sessions p ≡ Some x → is_in_base old p (base_named bs row.name) ≡ true
   unfolding sides_dissolved group_dissolved
   rows_stay [] c row k group h q = absurd k
   rows_stay (y ∷ rows) c row (inr k) group h q = rows_stay rows (group_dissolved old bs c y) row k group h q
@@ -178,7 +180,7 @@ module _ (old : ViewId) (bs : List Base) (p : ProviderId) (x : Provider) (part :
       row_stays row.name group (present (state_in row.list)) c h e
 
 -- who is present in a group is so in a row with a list
-present_row : (s : Core) (g : List ℕ) (p : ProviderId) → Has p (present (state_of s g)) → (row : GroupRow) × Has row (held_rows s) × (row.name ≡ g) × Has p (present (state_in row.list))
+pub present_row : (s : Core) (g : List ℕ) (p : ProviderId) → Has p (present (state_of s g)) → (row : GroupRow) × Has row (held_rows s) × (row.name ≡ g) × Has p (present (state_in row.list))
 unfolding state_of list_of row_of held_rows
 present_row s g p h = by (find (has_name g) s.groups) refl h
   where
@@ -195,13 +197,13 @@ present_row s g p h = by (find (has_name g) s.groups) refl h
             (row, filter_has (λ (row : GroupRow). is_some row.list) row s.groups there.0 (ap (λ (o : Option GroupView). is_some o) q), text_same row.name g there.1, subst (λ (o : Option GroupView). Has p (present (list_or_new o).state)) (sym q) h)
 
 -- the state of a group with a base is that of the base
-base_state : (c : Core) (bs : List Base) → c.groups ≡ map base_row bs → (g : List ℕ) (b : Base) → base_named bs g ≡ Some b → state_of c g ≡ b.state
+pub base_state : (c : Core) (bs : List Base) → c.groups ≡ map base_row bs → (g : List ℕ) (b : Base) → base_named bs g ≡ Some b → state_of c g ≡ b.state
 unfolding state_of list_of row_of base_row
 base_state c bs e g b q =
     ap (λ (rows : List GroupRow). (list_or_new (row_found g (find (has_name g) rows)).list).state) e ∙ ap (λ (o : Option GroupRow). (list_or_new (row_found g o).list).state) (row_of_base g bs ∙ ap (option_map base_row) q)
 
 -- and its list is empty, as any other
-base_len : (c : Core) (bs : List Base) → c.groups ≡ map base_row bs → (g : List ℕ) → len_of c g ≡ 0
+pub base_len : (c : Core) (bs : List Base) → c.groups ≡ map base_row bs → (g : List ℕ) → len_of c g ≡ 0
 unfolding len_of list_of row_of base_row
 base_len c bs e g = ap (λ (rows : List GroupRow). len_in (row_found g (find (has_name g) rows)).list) e ∙ by (find (has_name g) (map base_row bs)) (base_named bs g) (row_of_base g bs)
   where
@@ -209,7 +211,7 @@ base_len c bs e g = ap (λ (rows : List GroupRow). len_in (row_found g (find (ha
     by o None q = ap (λ (z : Option GroupRow). len_in (row_found g z).list) q
     by o (Some b) q = ap (λ (z : Option GroupRow). len_in (row_found g z).list) q
 
-entered_groups : (s : Core) (i : Install) (bs : List Base) → (view_entered s i bs).groups ≡ map base_row bs
+pub entered_groups : (s : Core) (i : Install) (bs : List Base) → (view_entered s i bs).groups ≡ map base_row bs
 unfolding view_entered recorded_all
 entered_groups s i bs = refl
 
@@ -300,7 +302,7 @@ module _ (n inc : ℕ) (before : History) where
       aside r (inr h) = let q = has_map (base_record t) r bs h in subst Aside (sym q.2) tt
 
       levelled : Attending n inc before i.view (level_set s i.members) (reverse s.records) (len_of e) (state_of s)
-      levelled = attends_fewer n inc before i.view s.sessions (reverse s.records) (len_of e) (state_of s) (level_set s i.members) (fewer_same s.sessions (level_set s i.members) refl refl (omega arith) refl) left
+      levelled = attends_fewer n inc before i.view s.sessions (reverse s.records) (len_of e) (state_of s) (level_set s i.members) (fewer_same s.sessions (level_set s i.members) refl refl (omega arith) refl refl) left
 
       entered : Attending n inc before i.view d.sessions (reverse d.records) (len_of e) (state_of s)
       entered = held_records n inc before i.view (len_of e) (state_of s) (happened.In s.views.me i.view i.members ∷ map (base_record t) bs) t aside levelled
@@ -375,13 +377,17 @@ module _ (n inc : ℕ) (before : History) where
       }
 
   pub hearing_does : (s t : Core) → Does s t → Hearing n inc before s → Hearing n inc before t
-  unfolding recorded with_sessions len_of state_of list_of row_of
+  unfolding recorded with_sessions len_of state_of list_of row_of provider_of
   hearing_does _ _ (Stays s t same) k = hearing_same s t same k
   hearing_does _ _ (Then s t u a b) k = hearing_does t u b (hearing_does s t a k)
-  hearing_does _ _ (Records s r a) k = record { me = k.me; inc_of = k.inc_of; at = held_record n inc before s.views.view (len_of s) (state_of s) s r a k.at }
+  hearing_does _ _ (Records s r a) k = record { me = k.me; inc_of = k.inc_of; at = held_record n inc before s.views.view (len_of s) (state_of s) s r (inner_aside r a) k.at }
   hearing_does _ _ (Hands s c h e bs o same) k = hearing_hands s c h e bs o same k
   hearing_does _ _ (Loses s t f) k =
       record { me = k.me; inc_of = k.inc_of; at = attends_fewer n inc before s.views.view s.sessions (reverse s.records) (len_of s) (state_of s) t f k.at }
-  hearing_does _ _ (Joins s t g instance attrs) k =
+  hearing_does _ _ (Joins s t g instance attrs none) k =
       record { me = k.me; inc_of = k.inc_of; at = attends_joined n inc before s.views.view s.sessions (reverse s.records) (len_of s) (state_of s) t g instance attrs k.at }
-  hearing_does _ _ (Enters s i lt) k = hearing_enters s i lt k
+  hearing_does _ _ (Votes s x o b found opened unkept) k =
+      let t : Core = with_sessions s (keeps s.sessions x o b) in
+      let a : Attending n inc before s.views.view (keeps s.sessions x o b) (reverse s.records) (len_of s) (state_of s) = attends_less n inc before s.views.view s.sessions (reverse s.records) (len_of s) (state_of s) (keeps s.sessions x o b) refl refl (omega arith) (λ p y q. q) k.at in
+      record { me = k.me; inc_of = k.inc_of; at = held_record n inc before s.views.view (len_of s) (state_of s) t (happened.Cast x.p o.proto o.phase b.vote b.value b.message) tt a }
+  hearing_does _ _ (Enters s i lt none) k = hearing_enters s i lt k

@@ -20,7 +20,7 @@ use Rattle.session_state.specs.declared.state.SessionState.{SessionState}
 use Rattle.session_state.specs.State.{is_provider, provider_of, with_provider, request_ended, without_providers}
 use Rattle.session_state.specs.HandOn.{kept_ended, kept_after, hears, hearers_in, brought_by, beginners, hearers, taking_part, part_taken, opened_after, phases_opened, casts_kept, proposal_begun, requests_after, is_present, removed_from, casts_out, heard, handed_on}
 use Rattle.node_groups.proofs.NameOrder.{text_same, text_self}
-use Rattle.hearing.proofs.Sessions.{same_is, same_own}
+use Rattle.step_ties.proofs.SessionLaws.{provider_same, provider_self}
 
 -- ---- who is among some
 
@@ -29,12 +29,12 @@ among_is [] p e = absurd (cc)
 among_is (x ∷ xs) p e = by (same_provider x p) refl e (among_is xs p)
   where
     by : (b : Bool) → same_provider x p ≡ b → (b || among xs p) ≡ true → (among xs p ≡ true → Has p xs) → Has p (x ∷ xs)
-    by true q e rest = inl (sym (same_is x p q))
+    by true q e rest = inl (sym (provider_same x p q))
     by false q e rest = inr (rest e)
 
 pub has_among : (xs : List ProviderId) (p : ProviderId) → Has p xs → among xs p ≡ true
 has_among [] p h = absurd h
-has_among (x ∷ xs) p (inl e) = ap (λ b. b || among xs p) (ap (λ z. same_provider z p) (sym e) ∙ same_own p)
+has_among (x ∷ xs) p (inl e) = ap (λ b. b || among xs p) (ap (λ z. same_provider z p) (sym e) ∙ provider_self p)
 has_among (x ∷ xs) p (inr h) = by (same_provider x p) (has_among xs p h)
   where
     by : (b : Bool) → among xs p ≡ true → (b || among xs p) ≡ true
@@ -64,7 +64,7 @@ some_is : {a b : Provider} → Some a ≡ Some b → a ≡ b
 some_is e = cc
 
 -- who is found after an edit
-edit_back : (q : ProviderId) (f : Provider → Provider) → ((x : Provider) → (f x).p ≡ x.p) → (p : ProviderId) (xs : List Provider) (y : Provider) → find (is_provider p) (edit_where (is_provider q) f xs) ≡ Some y → (x : Provider) × (find (is_provider p) xs ≡ Some x) × ((y ≡ x) ⊎ ((y ≡ f x) × (p ≡ q)))
+pub edit_back : (q : ProviderId) (f : Provider → Provider) → ((x : Provider) → (f x).p ≡ x.p) → (p : ProviderId) (xs : List Provider) (y : Provider) → find (is_provider p) (edit_where (is_provider q) f xs) ≡ Some y → (x : Provider) × (find (is_provider p) xs ≡ Some x) × ((y ≡ x) ⊎ ((y ≡ f x) × (p ≡ q)))
 edit_back q f keeps p [] y e = absurd (cc)
 edit_back q f keeps p (x ∷ xs) y e = by (is_provider q x) (is_provider p x) refl refl e (edit_back q f keeps p xs y)
   where
@@ -72,7 +72,7 @@ edit_back q f keeps p (x ∷ xs) y e = by (is_provider q x) (is_provider p x) re
     by true true k m e rest =
         let g : is_provider p (f x) ≡ true = ap (λ z. same_provider z p) (keeps x) ∙ m in
         let z : f x ≡ y = some_is (subst (λ c. (if c then Some (f x) else find (is_provider p) xs) ≡ Some y) g e) in
-        (x, refl, inr (sym z, sym (same_is x.p p m) ∙ same_is x.p q k))
+        (x, refl, inr (sym z, sym (provider_same x.p p m) ∙ provider_same x.p q k))
     by true false k m e rest =
         let g : is_provider p (f x) ≡ false = ap (λ z. same_provider z p) (keeps x) ∙ m in
         (y, subst (λ c. (if c then Some (f x) else find (is_provider p) xs) ≡ Some y) g e, inl refl)
@@ -80,7 +80,7 @@ edit_back q f keeps p (x ∷ xs) y e = by (is_provider q x) (is_provider p x) re
     by false false k m e rest = rest (subst (λ c. (if c then Some x else find (is_provider p) (edit_where (is_provider q) f xs)) ≡ Some y) m e)
 
 -- the provider itself is found as the edit makes it
-edit_own : (p : ProviderId) (f : Provider → Provider) → ((x : Provider) → (f x).p ≡ x.p) → (xs : List Provider) (y : Provider) → find (is_provider p) (edit_where (is_provider p) f xs) ≡ Some y → (x : Provider) × (y ≡ f x)
+pub edit_own : (p : ProviderId) (f : Provider → Provider) → ((x : Provider) → (f x).p ≡ x.p) → (xs : List Provider) (y : Provider) → find (is_provider p) (edit_where (is_provider p) f xs) ≡ Some y → (x : Provider) × (y ≡ f x)
 edit_own p f keeps [] y e = absurd (cc)
 edit_own p f keeps (x ∷ xs) y e = by (is_provider p x) refl e (edit_own p f keeps xs y)
   where
@@ -180,11 +180,11 @@ find_left out p [] y e = absurd (cc)
 find_left out p (x ∷ xs) y e = by (not (among out x.p)) (is_provider p x) refl refl e (find_left out p xs y)
   where
     by : (b c : Bool) → not (among out x.p) ≡ b → is_provider p x ≡ c → find (is_provider p) (if b then x ∷ filter (λ (x : Provider). not (among out x.p)) xs else filter (λ (x : Provider). not (among out x.p)) xs) ≡ Some y → (find (is_provider p) (filter (λ (x : Provider). not (among out x.p)) xs) ≡ Some y → (find (is_provider p) xs ≡ Some y) × (not (among out p) ≡ true)) → ((if c then Some x else find (is_provider p) xs) ≡ Some y) × (not (among out p) ≡ true)
-    by true true k m e rest = (subst (λ c. (if c then Some x else find (is_provider p) (filter (λ (x : Provider). not (among out x.p)) xs)) ≡ Some y) m e, subst (λ z. not (among out z) ≡ true) (same_is x.p p m) k)
+    by true true k m e rest = (subst (λ c. (if c then Some x else find (is_provider p) (filter (λ (x : Provider). not (among out x.p)) xs)) ≡ Some y) m e, subst (λ z. not (among out z) ≡ true) (provider_same x.p p m) k)
     by true false k m e rest = rest (subst (λ c. (if c then Some x else find (is_provider p) (filter (λ (x : Provider). not (among out x.p)) xs)) ≡ Some y) m e)
     by false true k m e rest =
         let r = rest e in
-        let z : not (among out p) ≡ false = subst (λ z. not (among out z) ≡ false) (same_is x.p p m) k in
+        let z : not (among out p) ≡ false = subst (λ z. not (among out z) ≡ false) (provider_same x.p p m) k in
         absurd (let u : true ≡ false = sym r.1 ∙ z in cc)
     by false false k m e rest = rest e
 

@@ -5,9 +5,10 @@ use Rattle.std.proofs.lemmas.List.{append-nil, reverse-append}
 use Rattle.std.proofs.lemmas.Bool.{cases_eq}
 use Rattle.rsct_packet.specs.declared.ids.ViewId.{ViewId}
 use Rattle.rsct_packet.specs.declared.ids.ProviderId.{ProviderId}
+use Rattle.rsct_packet.specs.declared.ids.Member.{Member}
 use Rattle.rsct_packet.specs.Mask.{nodes_of}
 use Rattle.rsct_packet.specs.Search.{Has}
-use Rattle.rsct_packet.proofs.HasLaws.{has_append}
+use Rattle.rsct_packet.proofs.HasLaws.{has_append, has_map}
 use Rattle.adapter_ring.specs.declared.ring.Ring.{Ring}
 use Rattle.session_state.specs.State.{is_provider, provider_of}
 use Rattle.session_state.specs.declared.state.Provider.{Provider}
@@ -33,13 +34,13 @@ use Rattle.step_ties.proofs.RunLaw.{reached_rests}
 use Rattle.hearing.specs.Hearing.{last_heard, next_place, TakersHearAll, AtPut, HeardInARow, ProvidersHearInARow}
 use Rattle.hearing.specs.Changes.{Aside, StepsAreChanges}
 use Rattle.hearing.proofs.Rows.{OneOwner}
-use Rattle.hearing.proofs.Viewing.{Fit, Makes, step_comes}
+use Rattle.hearing.proofs.Viewing.{Fit, Makes, once_does, step_comes}
 use Rattle.hearing.proofs.Attending.{Before, Attending, aside_law, aside_last}
 use Rattle.hearing.proofs.Doing.{Hearing, hearing_does}
 
 -- ---- records of neither kind
 
-within_asides : (rs now : List Happened) (before : History) → ((r : Happened) → Has r rs → Aside r) → Within AtPut now before → Within AtPut (rs ++ now) before
+pub within_asides : (rs now : List Happened) (before : History) → ((r : Happened) → Has r rs → Aside r) → Within AtPut now before → Within AtPut (rs ++ now) before
 within_asides [] now before aside k = k
 within_asides (r ∷ rs) now before aside k = (aside_law (rs ++ now) before r (aside r (inl refl)), within_asides rs now before (λ q i. aside q (inr i)) k)
 
@@ -47,7 +48,7 @@ last_asides : (p : ProviderId) (u : ViewId) (g : List ℕ) (rs xs : List Happene
 last_asides p u g [] xs aside = refl
 last_asides p u g (r ∷ rs) xs aside = aside_last p u g r (aside r (inl refl)) (rs ++ xs) ∙ last_asides p u g rs xs (λ q i. aside q (inr i))
 
-reverse_has : (r : Happened) (xs : List Happened) → Has r (reverse xs) → Has r xs
+pub reverse_has : (r : Happened) (xs : List Happened) → Has r (reverse xs) → Has r xs
 reverse_has r [] h = h
 reverse_has r (x ∷ xs) h = ⊎_elim (λ (a : Has r (reverse xs)). inr (reverse_has r xs a)) (λ (a : Has r (x ∷ [])). last a) (has_append r (reverse xs) (x ∷ []) (subst (Has r) (reverse-append (x ∷ []) xs) h))
   where
@@ -58,16 +59,16 @@ reverse_has r (x ∷ xs) h = ⊎_elim (λ (a : Has r (reverse xs)). inr (reverse
 -- ---- between events
 
 -- node m is up, in incarnation inc
-record Rested (inc : ℕ) (before : History) (m : ℕ) (c : Core) : Type 0 where
-  fit : Fit c
-  me : c.views.me ≡ m
-  inc_of : c.views.inc ≡ inc
-  at : Attending m inc before c.views.view c.sessions [] (len_of c) (state_of c)
+pub record Rested (inc : ℕ) (before : History) (m : ℕ) (c : Core) : Type 0 where
+  pub fit : Fit c
+  pub me : c.views.me ≡ m
+  pub inc_of : c.views.inc ≡ inc
+  pub at : Attending m inc before c.views.view c.sessions [] (len_of c) (state_of c)
 
-record Listens (cores : ℕ → Option Core) (incs : ℕ → ℕ) (before : History) : Type 0 where
-  law : HeardInARow before
-  began : (p : ProviderId) (u : ViewId) (g : List ℕ) (j : ℕ) → last_heard p u g (records_of before) ≡ Some j → p.inc ≤ incs p.node
-  up : (m : ℕ) (c : Core) → cores m ≡ Some c → Rested (incs m) before m c
+pub record Listens (cores : ℕ → Option Core) (incs : ℕ → ℕ) (before : History) : Type 0 where
+  pub law : HeardInARow before
+  pub began : (p : ProviderId) (u : ViewId) (g : List ℕ) (j : ℕ) → last_heard p u g (records_of before) ≡ Some j → p.inc ≤ incs p.node
+  pub up : (m : ℕ) (c : Core) → cores m ≡ Some c → Rested (incs m) before m c
 
 -- nothing of this node was heard since
 rested_on : (inc : ℕ) (before after : History) (m : ℕ) (c : Core) → ((p : ProviderId) (u : ViewId) (g : List ℕ) → p.node ≡ m → last_heard p u g (records_of after) ≡ last_heard p u g (records_of before)) → Rested inc before m c → Rested inc after m c
@@ -90,7 +91,7 @@ rested_on inc before after m c same k =
     }
 
 -- a node that starts has no providers
-rested_start : (c : Config) (n j : ℕ) (before : History) → ((p : ProviderId) (u : ViewId) (g : List ℕ) (i : ℕ) → p.node ≡ n → last_heard p u g (records_of before) ≡ Some i → p.inc < j) → Rested j before n (started c n j)
+pub rested_start : (c : Config) (n j : ℕ) (before : History) → ((p : ProviderId) (u : ViewId) (g : List ℕ) (i : ℕ) → p.node ≡ n → last_heard p u g (records_of before) ≡ Some i → p.inc < j) → Rested j before n (started c n j)
 unfolding started with_sessions level_set views_new provider_of
 rested_start c n j before old =
     record {
@@ -122,21 +123,20 @@ rested_start c n j before old =
         none : None ≡ Some x → ⊥
         none e = cc
 
--- what is recorded at a start
-start_asides : (c : Config) (n j : ℕ) (r : Happened) → Has r (started c n j).records → Aside r
-unfolding started with_sessions ring_record
-start_asides c n j r (inl e) = subst Aside (sym e) tt
-start_asides c n j r (inr h) =
-    ⊎_elim (λ (a : Has r (map (ring_record n) (own_rings c c.mode n j))). rings (own_rings c c.mode n j) a) (λ (a : Has r (happened.In n (first_view c c.mode n j) (first_members c c.mode n j) ∷ [])). last a) (has_append r (map (ring_record n) (own_rings c c.mode n j)) (happened.In n (first_view c c.mode n j) (first_members c c.mode n j) ∷ []) h)
+-- what is recorded at a start: that the node is up, its rings, and its view
+pub start_each : (P : Happened → Type 0) → ((n j : ℕ) → P (happened.Up n j)) → ((n : ℕ) (x : Ring) → P (ring_record n x)) → ((n : ℕ) (v : ViewId) (ms : List Member) → P (happened.In n v ms)) → (c : Config) (n j : ℕ) (r : Happened) → Has r (started c n j).records → P r
+unfolding started with_sessions
+start_each P up ring enters c n j r (inl e) = subst P (sym e) (up n j)
+start_each P up ring enters c n j r (inr h) =
+    ⊎_elim (λ (a : Has r (map (ring_record n) (own_rings c c.mode n j))). let q = has_map (ring_record n) r (own_rings c c.mode n j) a in subst P (sym q.2) (ring n q.0)) (λ (a : Has r (happened.In n (first_view c c.mode n j) (first_members c c.mode n j) ∷ [])). last a) (has_append r (map (ring_record n) (own_rings c c.mode n j)) (happened.In n (first_view c c.mode n j) (first_members c c.mode n j) ∷ []) h)
   where
-    rings : (xs : List Ring) → Has r (map (ring_record n) xs) → Aside r
-    rings [] a = absurd a
-    rings (x ∷ xs) (inl e) = subst Aside (sym e) tt
-    rings (x ∷ xs) (inr a) = rings xs a
-
-    last : Has r (happened.In n (first_view c c.mode n j) (first_members c c.mode n j) ∷ []) → Aside r
-    last (inl e) = subst Aside (sym e) tt
+    last : Has r (happened.In n (first_view c c.mode n j) (first_members c c.mode n j) ∷ []) → P r
+    last (inl e) = subst P (sym e) (enters n (first_view c c.mode n j) (first_members c c.mode n j))
     last (inr z) = absurd z
+
+pub start_asides : (c : Config) (n j : ℕ) (r : Happened) → Has r (started c n j).records → Aside r
+unfolding ring_record
+start_asides c n j r h = start_each Aside (λ n j. tt) (λ n x. tt) (λ n v ms. tt) c n j r h
 
 -- ---- the events
 
@@ -193,7 +193,7 @@ listens_steps cores incs before n f s e v is owner k =
     makes = step_comes f s e owner rested.fit
 
     h : Hearing n (incs n) before t
-    h = hearing_does n (incs n) before (at_work s) t makes.does (record { me = rested.me; inc_of = rested.inc_of; at = rested.at })
+    h = hearing_does n (incs n) before (at_work s) t (once_does (at_work s) t makes.once) (record { me = rested.me; inc_of = rested.inc_of; at = rested.at })
 
     new : (d : Core) → Some t ≡ Some d → Rested (incs n) (event ∷ before) n d
     new d q =
@@ -205,7 +205,7 @@ listens_steps cores incs before n f s e v is owner k =
 
 -- ---- every scene
 
-abbrev Attentive : Scene → Type 0
+abbrev pub Attentive : Scene → Type 0
 Attentive w = Listens w.cores w.incs w.before
 
 with_law : (before : History) (rs : List Happened) → ((r : Happened) → Has r rs → Aside r) → HeardInARow before → HeardInARow (with_records before rs)
@@ -230,7 +230,7 @@ start_attends (n ∷ ns) w k = start_attends ns (starts_too w n (w.cores n)) (by
         let rs : List Happened = (started w.config n (w.incs n + 1)).records in
         listens_starts w.config w.cores w.incs w.before (with_records w.before rs) n (λ p u g. with_last p u g w.before rs (start_asides w.config n (w.incs n + 1))) (with_law w.before rs (start_asides w.config n (w.incs n + 1)) k.law) k
 
-note_aside : (r : Happened) → IsNote r → Aside r
+pub note_aside : (r : Happened) → IsNote r → Aside r
 note_aside (happened.Up n j) a = tt
 note_aside (happened.Down n) a = tt
 note_aside (happened.Ring n k i ms m) a = tt
@@ -245,7 +245,7 @@ note_aside (happened.Noted n c v i told) a = tt
 note_aside (happened.Refused n c fault) a = tt
 note_aside (happened.Shown n line) a = tt
 
-reached_attends : (c : Config) (w : Scene) → Reached c w → Attentive w
+pub reached_attends : (c : Config) (w : Scene) → Reached c w → Attentive w
 reached_attends c _ Nothing = nothing_attends c
 reached_attends c _ (AllStart fixed) =
     start_attends (nodes_of c.nodes) (record (nothing_yet c) { before = record { event = None; records = [] } ∷ [] }) (record { law = (tt, tt); began = λ p u g j q. absurd (cc); up = λ m d q. absurd (cc) })
@@ -272,4 +272,5 @@ pub takers_hear : TakersHearAll
 takers_hear c w k n s up p x found part = ((reached_attends c w k).up n s up).at.upto p x found part
 
 pub steps_change : StepsAreChanges
-steps_change c w k n s up f e = (step_comes f s e ((reached_rests c w k []).turns n s up).owner ((reached_attends c w k).up n s up).fit).does
+steps_change c w k n s up f e =
+    once_does (at_work s) (stepped f s e) (step_comes f s e ((reached_rests c w k []).turns n s up).owner ((reached_attends c w k).up n s up).fit).once

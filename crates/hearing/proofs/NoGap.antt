@@ -13,7 +13,7 @@ use Rattle.node_state.specs.declared.happened.Happened.TheVariants as happened
 use Rattle.run_safety.specs.Past.{History, Within, records_of}
 use Rattle.hearing.specs.Hearing.{last_heard, Follows, InARow, AtPut, HeardInARow, HeardPlace, HeardLeavesNoGap}
 use Rattle.node_groups.proofs.NameOrder.{text_same}
-use Rattle.hearing.proofs.Sessions.{same_is}
+use Rattle.step_ties.proofs.SessionLaws.{provider_same}
 use Rattle.hearing.proofs.Attending.{heard_own}
 use Rattle.hearing.proofs.Listening.{providers_hear}
 
@@ -89,7 +89,7 @@ module _ (p : ProviderId) (v : ViewId) (g : List ℕ) where
       still z = other i r rs (ap (λ b. if b then Some m else last_heard p v g rs) z) c
 
       by : (a b d : Bool) → same_provider q p ≡ a → same_view u v ≡ b → bytes_eq h g ≡ d → Covers i (r ∷ rs)
-      by true true true x y z = next (same_is q p x) (view_is u v y) (text_same h g z)
+      by true true true x y z = next (provider_same q p x) (view_is u v y) (text_same h g z)
       by false b d x y z = still (λ i. x i && (y i && z i))
       by true false d x y z = still (λ i. x i && (y i && z i))
       by true true false x y z = still (λ i. x i && (y i && z i))

@@ -1,5 +1,5 @@
 -- What the rows of a step do, change by change, where the view stays.
-use Rattle.std.proofs.Common.{◌≡◌, ℕ, ◌+◌, ◌-◌, List, [], ◌∷◌, take, drop, Option, Some, None, Bool, true, false, refl, sym, subst, inl, inr, arith}
+use Rattle.std.proofs.Common.{◌≡◌, ℕ, ◌+◌, ◌-◌, List, [], ◌∷◌, ◌++◌, take, drop, Option, Some, None, Bool, true, false, refl, sym, subst, inl, inr, arith}
 use Rattle.std.specs.Prelude.{not, ◌==◌, ◌&&◌, filter, find, fold, nat_lt, nat_le, Result, Ok, Err}
 use Rattle.std.specs.Option.{unwrap_or}
 use Rattle.std.specs.List.{last_or}
@@ -42,7 +42,7 @@ use Rattle.session_state.specs.declared.state.Request.{Request}
 use Rattle.session_state.specs.declared.state.KeptBallot.{KeptBallot}
 use Rattle.session_state.specs.declared.state.SessionState.{SessionState}
 use Rattle.session_state.specs.State.{is_member_of, client_token, outstanding}
-use Rattle.session_state.specs.Calls.{join_asked, joined, is_empty, inited, session_added, request_made, left, expelled, state_changed, message_sent, attributes_changed, voted, subscribe_taken, unsubscribe_taken, session_ended, goodbye_taken}
+use Rattle.session_state.specs.Calls.{join_asked, joined, is_empty, inited, session_added, ballot_of, keeps, request_made, left, expelled, state_changed, message_sent, attributes_changed, voted, subscribe_taken, unsubscribe_taken, session_ended, goodbye_taken}
 use Rattle.subscribe_core.specs.Subs.{subscribed, unsubscribed}
 use Rattle.session_state.specs.HandOn.{is_numbered, telling_taken}
 use Rattle.node_state.specs.declared.call.CallLine.{CallLine}
@@ -63,10 +63,10 @@ use Rattle.node_state.specs.Deciding.{decision_kept, join_refusal, is_idle_empty
 use Rattle.node_state.specs.Following.{lookup_row, told_if, tell_row, requests_of, named, is_name_used, name_row, told_again, request_new, request_after, request_at, is_group_refused, request_row, entry_next, entry_elsewhere, entry_row, acked, ack_row, vote_cast, vote_row, tally_failed, gone_waits, marked, gone_present, gone_of, gone_row}
 use Rattle.node_state.specs.Ticks.{ring_put, set_records, ring_taken, ring_row_of, ring_row, report_row, rings_union, report_of, report_sent, rings_tick, rings_part, is_lost, lost_told, owed_part, late_appended, announced, ticked_in, tally_ticks, entries_sent, list_sent_again, sent_again, group_ticks, led_part}
 use Rattle.node_state.specs.Calls.{caller, subscriber, call_refused, changed, last_asked, proposed, ballot_recorded, ballot_sent_if, last_cast, ballot_given, gone_sent, all_gone_sent, goodbye_said, call_row}
-use Rattle.hearing.specs.Changes.{Records, Loses, Joins, Aside, Fewer}
-use Rattle.hearing.proofs.Changes.{Sends, sends_nothing, sends_then, sends_fold, sends_on, sends_one, sends_all, sends_known, Onward, onward_same, onward_then, onward_sends, onward_row, onward_led, onward_records, put_handed_onward}
+use Rattle.hearing.specs.Changes.{Records, Loses, Joins, Votes, Inner, Fewer, voting, Unentered}
+use Rattle.hearing.proofs.Changes.{inner_unentered, calm_same, calm_all, Sends, sends_nothing, sends_then, sends_fold, sends_on, sends_one, sends_all, sends_known, Onward, onward_same, onward_then, onward_sends, onward_row, onward_led, onward_records, put_handed_onward}
 use Rattle.hearing.proofs.Leading.{forgets_onward, appended_onward, closes_onward, begins_onward, refused_onward, waits_onward}
-use Rattle.hearing.proofs.Sessions.{fewer_same, fewer_told, fewer_ended, unless_is, fewer_unless, fewer_if, fewer_asks, fewer_changes, fewer_votes}
+use Rattle.hearing.proofs.Sessions.{fewer_same, fewer_told, fewer_ended, unless_is, fewer_unless, fewer_if, fewer_asks, fewer_changes, Casts, casts_voted}
 
 -- ---- what is owed is sent
 
@@ -132,11 +132,15 @@ owed_part_onward c = by (frozen c)
 
 pub onward_loses : (c : Core) (t : SessionState) → Fewer c.sessions t → Onward c (with_sessions c t)
 unfolding with_sessions
-onward_loses c t k o = record { order = o; views = refl; does = Loses c t k }
+onward_loses c t k o = record { order = o; views = refl; does = Loses c t k; calm = calm_same c (with_sessions c t) refl }
 
-pub onward_record : (c : Core) (r : Happened) → Aside r → Onward c (recorded c r)
-unfolding recorded
-onward_record c r a o = record { order = o; views = refl; does = Records c r a }
+pub onward_record : (c : Core) (r : Happened) → Inner r → Onward c (recorded c r)
+unfolding recorded recorded_all
+onward_record c r a o = record { order = o; views = refl; does = Records c r a; calm = calm_all (r ∷ []) c (one r a) }
+  where
+    one : (r : Happened) → Inner r → (q : Happened) → Has q (r ∷ []) → Unentered q
+    one r a q (inl e) = subst Unentered (sym e) (inner_unentered r a)
+    one r a q (inr z) = absurd z
 
 pub onward_fold : {A : Type 0} (f : Core → A → Core) → ((c : Core) (x : A) → Onward c (f c x)) → (xs : List A) (c : Core) → Onward c (fold f c xs)
 onward_fold f one [] c = onward_same c
@@ -339,9 +343,9 @@ ring_taken_onward c x =
     let sends : Sends c d = record { groups = refl; views = refl; sessions = refl; records = refl } in
     onward_then c e (recorded_all e (set_records c.views.me x.ring.net x.set)) (onward_sends c e (sends_then c d e sends (sends_fold (λ u (y : RingSend). sent_on u y.network y.to (body.Ring y.packet)) (λ u y. sends_on u _ _ _) x.sends d))) (onward_records (set_records c.views.me x.ring.net x.set) e (aside x.set))
   where
-    aside : (o : Option RingSet) (r : Happened) → Has r (set_records c.views.me x.ring.net o) → Aside r
+    aside : (o : Option RingSet) (r : Happened) → Has r (set_records c.views.me x.ring.net o) → Inner r
     aside None r h = absurd h
-    aside (Some y) r (inl e) = subst Aside (sym e) tt
+    aside (Some y) r (inl e) = subst Inner (sym e) tt
     aside (Some y) r (inr z) = absurd z
 
 pub ring_onward : (c : Core) (network from inc : ℕ) (p : RingPacket) → Onward c (ring_row c network from inc p)
@@ -446,26 +450,33 @@ proposed_onward c client (Ok u) k =
     let d : Core = with_sessions c u in onward_then c d (last_asked d (last_or None u.requests)) (k u refl) (last_asked_onward d (last_or None u.requests))
 proposed_onward c client (Err fault) k = onward_record c (happened.Refused c.views.me client fault) tt
 
-last_cast_onward : (c : Core) (o : Option KeptBallot) → Onward c (last_cast c o)
-unfolding last_cast ballot_recorded ballot_sent_if
-last_cast_onward c None = onward_same c
-last_cast_onward c (Some k) =
-    let d : Core = ballot_recorded c k k.ballot.filled in
-    onward_then c d (ballot_sent_if d k (frozen c)) (by k.ballot.filled) (sends d (frozen c))
-  where
-    by : (o : Option Filled) → Onward c (ballot_recorded c k o)
-    by None = onward_same c
-    by (Some b) = onward_record c (happened.Cast k.p k.proto k.phase b.vote b.value b.message) tt
+last_is : (xs : List KeptBallot) (k : KeptBallot) (o : Option KeptBallot) → last_or o (xs ++ k ∷ []) ≡ Some k
+last_is [] k o = refl
+last_is (x ∷ xs) k o = last_is xs k (Some x)
 
-    sends : (d : Core) (b : Bool) → Onward d (ballot_sent_if d k b)
-    sends d true = onward_same d
-    sends d false = onward_sends d _ (kept_sends d k)
-
-given_onward : (c : Core) (client : List ℕ) (r : Result SessionState GsFault) → ((u : SessionState) → r ≡ Ok u → Fewer c.sessions u) → Onward c (ballot_given c client r)
-unfolding ballot_given call_refused
-given_onward c client (Ok u) k =
-    let d : Core = with_sessions c u in onward_then c d (last_cast d (last_or None u.kept)) (onward_loses c u (k u refl)) (last_cast_onward d (last_or None u.kept))
+-- a ballot that is kept is recorded, and sent
+given_onward : (c : Core) (client : List ℕ) (r : Result SessionState GsFault) → ((u : SessionState) → r ≡ Ok u → Casts c.sessions u) → Onward c (ballot_given c client r)
+unfolding ballot_given call_refused last_cast ballot_recorded ballot_sent_if with_sessions recorded recorded_all
 given_onward c client (Err fault) k = onward_record c (happened.Refused c.views.me client fault) tt
+given_onward c client (Ok u) k =
+    let v : Casts c.sessions u = k u refl in
+    let one : KeptBallot = record { p = (v.by).p; group = (v.by).group; proto = (v.phase).proto; phase = (v.phase).phase; ballot = ballot_of c.sessions.level v.ballot } in
+    let t : Core = voting c v.by v.phase v.ballot in
+    subst (λ (z : SessionState). Onward c (last_cast (with_sessions c z) (last_or None z.kept))) (sym v.is) (subst (λ o. Onward c (last_cast (with_sessions c (keeps c.sessions v.by v.phase v.ballot)) o)) (sym (last_is c.sessions.kept one None)) (onward_then c t (ballot_sent_if t one (frozen (with_sessions c (keeps c.sessions v.by v.phase v.ballot)))) (voted_onward v) (sends t one (frozen (with_sessions c (keeps c.sessions v.by v.phase v.ballot))))))
+  where
+    told : {u : SessionState} → Casts c.sessions u → Happened
+    told v = happened.Cast (v.by).p (v.phase).proto (v.phase).phase (v.ballot).vote (v.ballot).value (v.ballot).message
+
+    one : {u : SessionState} (v : Casts c.sessions u) (q : Happened) → Has q (told v ∷ []) → Unentered q
+    one v q (inl e) = subst Unentered (sym e) tt
+    one v q (inr z) = absurd z
+
+    voted_onward : {u : SessionState} (v : Casts c.sessions u) → Onward c (voting c v.by v.phase v.ballot)
+    voted_onward v o = record { order = o; views = refl; does = Votes c v.by v.phase v.ballot v.found v.opened v.unkept; calm = calm_all (told v ∷ []) c (λ q h. one v q h) }
+
+    sends : (d : Core) (k : KeptBallot) (b : Bool) → Onward d (ballot_sent_if d k b)
+    sends d k true = onward_same d
+    sends d k false = onward_sends d _ (kept_sends d k)
 
 said_onward : (c : Core) (client : List ℕ) (ended : List Provider) (r : Result SessionState GsFault) → ((u : SessionState) → r ≡ Ok u → Fewer c.sessions u) → Onward c (goodbye_said c client ended r)
 unfolding goodbye_said call_refused gone_sent all_gone_sent frozen
@@ -481,27 +492,27 @@ said_onward c client ended (Err fault) k = onward_record c (happened.Refused c.v
 abbrev pub OneOwner : SessionState → Type 0
 OneOwner s = (a b : Provider) → Has a s.providers → Has b s.providers → a.p ≡ b.p → a.client ≡ b.client
 
-pub call_onward : (c : Core) (x : CallLine) → OneOwner c.sessions → Onward c (call_row c x)
+pub call_onward : (c : Core) (x : CallLine) → OneOwner c.sessions → c.records ≡ [] → Onward c (call_row c x)
 unfolding call_row inited session_added joined left expelled state_changed message_sent request_made attributes_changed voted subscribe_taken unsubscribe_taken goodbye_taken with_sessions
-call_onward c (call.Init node name votes) own =
-    changed_onward c name _ (λ u e. fewer_unless c.sessions _ (session_added c.sessions name) u (fewer_same c.sessions (session_added c.sessions name) refl refl (omega arith) refl) e)
-call_onward c (call.Join client h instance attrs) own =
-    proposed_onward c client _ (λ u e. subst (λ z. Onward c (with_sessions c z)) (sym (unless_is _ (join_asked c.sessions (client_token c.sessions client) h instance attrs) u e)) (λ o. record { order = o; views = refl; does = Joins c (client_token c.sessions client) h instance attrs }))
-call_onward c (call.Leave client h phases) own =
+call_onward c (call.Init node name votes) own none =
+    changed_onward c name _ (λ u e. fewer_unless c.sessions _ (session_added c.sessions name) u (fewer_same c.sessions (session_added c.sessions name) refl refl (omega arith) refl refl) e)
+call_onward c (call.Join client h instance attrs) own none =
+    proposed_onward c client _ (λ u e. subst (λ z. Onward c (with_sessions c z)) (sym (unless_is _ (join_asked c.sessions (client_token c.sessions client) h instance attrs) u e)) (λ o. record { order = o; views = refl; does = Joins c (client_token c.sessions client) h instance attrs none; calm = calm_same c (with_sessions c (join_asked c.sessions (client_token c.sessions client) h instance attrs)) refl }))
+call_onward c (call.Leave client h phases) own none =
     proposed_onward c client _ (λ u e. onward_loses c u (fewer_if c.sessions (is_empty c.sessions.sessions) _ u (λ u e. fewer_asks c.sessions (find (is_member_of (caller c.sessions client h)) c.sessions.providers) phases _ _ u e) e))
-call_onward c (call.Expel client h phases out) own =
+call_onward c (call.Expel client h phases out) own none =
     proposed_onward c client _ (λ u e. onward_loses c u (fewer_if c.sessions (is_empty c.sessions.sessions) _ u (λ u e. fewer_asks c.sessions (find (is_member_of (caller c.sessions client h)) c.sessions.providers) phases _ _ u e) e))
-call_onward c (call.ChangeState client h phases value) own =
+call_onward c (call.ChangeState client h phases value) own none =
     proposed_onward c client _ (λ u e. onward_loses c u (fewer_if c.sessions (is_empty c.sessions.sessions) _ u (λ u e. fewer_asks c.sessions (find (is_member_of (caller c.sessions client h)) c.sessions.providers) phases _ _ u e) e))
-call_onward c (call.SendMessage client h phases bytes) own =
+call_onward c (call.SendMessage client h phases bytes) own none =
     proposed_onward c client _ (λ u e. onward_loses c u (fewer_if c.sessions (is_empty c.sessions.sessions) _ u (λ u e. fewer_asks c.sessions (find (is_member_of (caller c.sessions client h)) c.sessions.providers) phases _ _ u e) e))
-call_onward c (call.ChangeAttributes client h phases attrs) own =
+call_onward c (call.ChangeAttributes client h phases attrs) own none =
     proposed_onward c client _ (λ u e. onward_loses c u (fewer_if c.sessions (is_empty c.sessions.sessions) _ u (λ u e. fewer_changes c.sessions (find (is_member_of (caller c.sessions client h)) c.sessions.providers) phases attrs u e) e))
-call_onward c (call.Vote client h v value) own =
-    given_onward c client _ (λ u e. fewer_if c.sessions (is_empty c.sessions.sessions) _ u (λ u e. fewer_votes c.sessions (find (is_member_of (caller c.sessions client h)) c.sessions.providers) v value u e) e)
-call_onward c (call.Subscribe client h) own =
-    changed_onward c client _ (λ u e. let t : SessionState = record (c.sessions) { subs = subscribed (client_token c.sessions client) h c.sessions.subs } in fewer_unless c.sessions _ t u (fewer_same c.sessions t refl refl (omega arith) refl) e)
-call_onward c (call.Unsubscribe client h) own =
-    changed_onward c client _ (λ u e. let t : SessionState = record (c.sessions) { subs = unsubscribed (subscriber c.sessions client h) c.sessions.subs } in fewer_unless c.sessions _ t u (fewer_same c.sessions t refl refl (omega arith) refl) e)
-call_onward c (call.Goodbye client) own =
+call_onward c (call.Vote client h v value) own none =
+    given_onward c client _ (λ u e. casts_voted c.sessions (caller c.sessions client h) v value u e)
+call_onward c (call.Subscribe client h) own none =
+    changed_onward c client _ (λ u e. let t : SessionState = record (c.sessions) { subs = subscribed (client_token c.sessions client) h c.sessions.subs } in fewer_unless c.sessions _ t u (fewer_same c.sessions t refl refl (omega arith) refl refl) e)
+call_onward c (call.Unsubscribe client h) own none =
+    changed_onward c client _ (λ u e. let t : SessionState = record (c.sessions) { subs = unsubscribed (subscriber c.sessions client h) c.sessions.subs } in fewer_unless c.sessions _ t u (fewer_same c.sessions t refl refl (omega arith) refl refl) e)
+call_onward c (call.Goodbye client) own none =
     said_onward c client _ _ (λ u e. fewer_unless c.sessions _ (session_ended c.sessions (client_token c.sessions client)) u (fewer_ended c.sessions (client_token c.sessions client) own) e)

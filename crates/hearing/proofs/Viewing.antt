@@ -1,5 +1,5 @@
 -- What the rows of views do, change by change; and a whole step.
-use Rattle.std.proofs.Common.{◌≡◌, ℕ, List, [], ◌∷◌, Option, Some, None, Bool, true, false, refl, sym, ◌∙◌, subst, inl, inr, ⊎_elim}
+use Rattle.std.proofs.Common.{◌≡◌, ℕ, List, [], ◌∷◌, Option, Some, None, Bool, true, false, refl, sym, ap, ◌∙◌, subst, inl, inr, ⊎_elim}
 use Rattle.std.specs.Prelude.{not, ◌==◌, ◌&&◌, filter, fold, flat_map, is_some}
 use Rattle.std.specs.Str.{bytes_eq}
 use Rattle.rsct_packet.specs.declared.ids.ViewId.{ViewId}
@@ -27,7 +27,7 @@ use Rattle.view_core.specs.declared.packet.ViewPacket.TheVariants as packet
 use Rattle.view_core.specs.declared.packet.ViewSend.{ViewSend}
 use Rattle.view_core.specs.declared.step.ViewEvent.TheVariants as event
 use Rattle.view_core.specs.declared.views.ViewWork.{ViewWork}
-use Rattle.view_core.specs.Views.{views_at_work, ask_row, prepare_row, answer_row, refuse_row, install_row, taken_row, gathering_ticks, install_again}
+use Rattle.view_core.specs.Views.{views_entered, is_coordinator, is_frozen, install_again_of, view_sent_all, views_at_work, ask_row, prepare_row, answer_row, refuse_row, install_row, taken_row, gathering_ticks, install_again}
 use Rattle.view_core.specs.Steps.{view_stepped}
 use Rattle.view_core.specs.Steps as steps
 use Rattle.view_core.specs.Laws.{AreViews, IsNext, AppliesNext, Goes}
@@ -53,7 +53,7 @@ use Rattle.node_state.specs.Step.{NodeEvent, Ticks, Asks, Given, Calls, Garbage,
 use Rattle.run_safety.specs.ViewOrder.{is_before, Lt}
 use Rattle.node_groups.specs.Places.{InNameOrder}
 use Rattle.step_ties.proofs.BaseOrder.{bases_ordered}
-use Rattle.hearing.specs.Changes.{Same, Does, Stays, Then, Enters, Aside}
+use Rattle.hearing.specs.Changes.{Same, Does, Stays, Then, Enters, Inner, entering, Unentered}
 use Rattle.hearing.proofs.Changes.{Sends, sends_nothing, sends_fold, sends_on, sends_one, Keeps, Onward, onward_same, onward_then, onward_sends, onward_records, put_handed_onward}
 use Rattle.hearing.proofs.Leading.{waits_onward, opened_onward, end_onward}
 use Rattle.hearing.proofs.Rows.{OneOwner, onward_fold, owed_sends, owed_part_onward, lookup_onward, tell_onward, name_onward, request_onward, entry_onward, ack_onward, closes_on, vote_onward, gone_onward, ring_onward, report_onward, rings_onward, led_part_onward, call_onward}
@@ -64,24 +64,64 @@ pub record Fit (c : Core) : Type 0 where
   pub order : InNameOrder c.groups
   pub views : AreViews c.views
 
+-- no view was entered in the event
+abbrev pub NoneEntered : Core → Type 0
+NoneEntered c = (r : Happened) → Has r c.records → Unentered r
+
+-- what comes of it all, where a view is entered at most once
+pub data Once (c d : Core) : Type 0 where
+  Stayed : Does c d → d.views.view ≡ c.views.view → Once c d
+  Entered : (t : Core) (i : Install) → Does c t → t.views.view ≡ c.views.view → Lt t.views.view i.view → NoneEntered t → Does (entering t i) d → d.views.view ≡ i.view → Once c d
+
 pub record Makes (c d : Core) : Type 0 where
   pub fit : Fit d
-  pub does : Does c d
+  pub once : Once c d
 
 -- what a row makes of a state that fits
 abbrev pub Comes : Core → Core → Type 0
 Comes c d = Fit c → Makes c d
 
+pub once_does : (c d : Core) → Once c d → Does c d
+once_does c d (Stayed a e) = a
+once_does c d (Entered t i a e lt none b q) = Then c t d a (Then t (entering t i) d (Enters t i lt none) b)
+
+once_before : (a b c : Core) → Does a b → b.views.view ≡ a.views.view → Once b c → Once a c
+once_before a b c d e (Stayed x q) = Stayed (Then a b c d x) (q ∙ e)
+once_before a b c d e (Entered t i x q lt none y r) = Entered t i (Then a b t d x) (q ∙ e) lt none y r
+
+once_after : (a b c : Core) → Once a b → Does b c → c.views.view ≡ b.views.view → Once a c
+once_after a b c (Stayed x q) d e = Stayed (Then a b c x d) (e ∙ q)
+once_after a b c (Entered t i x q lt none y r) d e = Entered t i x q lt none (Then (entering t i) b c y d) (e ∙ r)
+
+-- no view is entered
+record Remains (c d : Core) : Type 0 where
+  fit : Fit d
+  does : Does c d
+  view : d.views.view ≡ c.views.view
+
+remains : (c d : Core) → Onward c d → Fit c → Remains c d
+remains c d k h =
+    let x = k h.order in
+    record { fit = record { order = x.order; views = subst AreViews (sym x.views) h.views }; does = x.does; view = ap (λ z. z.view) x.views }
+
 pub comes_keeps : (c d : Core) → Onward c d → Comes c d
-comes_keeps c d k h = let x = k h.order in record { fit = record { order = x.order; views = subst AreViews (sym x.views) h.views }; does = x.does }
+comes_keeps c d k h = let x = remains c d k h in record { fit = x.fit; once = Stayed x.does x.view }
 
 pub comes_same : (c : Core) → Comes c c
 comes_same c = comes_keeps c c (onward_same c)
 
-pub comes_then : (a b c : Core) → Comes a b → Comes b c → Comes a c
-comes_then a b c p q h =
+comes_before : (a b c : Core) → Onward a b → Comes b c → Comes a c
+comes_before a b c p q h =
+    let x = remains a b p h in
+    let y = q x.fit in record { fit = y.fit; once = once_before a b c x.does x.view y.once }
+
+comes_remains : (a b c : Core) → Comes a b → (Fit b → Remains b c) → Comes a c
+comes_remains a b c p q h =
     let x = p h in
-    let y = q x.fit in record { fit = y.fit; does = Then a b c x.does y.does }
+    let y = q x.fit in record { fit = y.fit; once = once_after a b c x.once y.does y.view }
+
+comes_after : (a b c : Core) → Comes a b → Onward b c → Comes a c
+comes_after a b c p q = comes_remains a b c p (remains b c q)
 
 -- ---- entering a view
 
@@ -119,17 +159,17 @@ noted_onward : (c : Core) (bs : List Base) → Onward c (entering_noted c bs)
 unfolding entering_noted base_note note_of entering_note
 noted_onward c bs = onward_records (flat_map (entering_note c bs) c.sessions.subs.live) c (all c.sessions.subs.live)
   where
-    of_base : (u : Subscription) (o : Option Base) (r : Happened) → Has r (base_note c u o) → Aside r
+    of_base : (u : Subscription) (o : Option Base) (r : Happened) → Has r (base_note c u o) → Inner r
     of_base u None r k = absurd k
-    of_base u (Some b) r (inl e) = subst Aside (sym e) tt
+    of_base u (Some b) r (inl e) = subst Inner (sym e) tt
     of_base u (Some b) r (inr z) = absurd z
 
-    one : (u : Subscription) (t : Bool) (r : Happened) → Has r (elim t as (λ _. List Happened) [ true ↦ happened.Noted c.views.me (subscriber_name c.sessions u) c.views.view None (told.Hosts c.views.view c.views.members) ∷ [] | false ↦ base_note c u (base_named bs u.group) ]) → Aside r
-    one u true r (inl e) = subst Aside (sym e) tt
+    one : (u : Subscription) (t : Bool) (r : Happened) → Has r (elim t as (λ _. List Happened) [ true ↦ happened.Noted c.views.me (subscriber_name c.sessions u) c.views.view None (told.Hosts c.views.view c.views.members) ∷ [] | false ↦ base_note c u (base_named bs u.group) ]) → Inner r
+    one u true r (inl e) = subst Inner (sym e) tt
     one u true r (inr z) = absurd z
     one u false r k = of_base u (base_named bs u.group) r k
 
-    all : (us : List Subscription) (r : Happened) → Has r (flat_map (entering_note c bs) us) → Aside r
+    all : (us : List Subscription) (r : Happened) → Has r (flat_map (entering_note c bs) us) → Inner r
     all [] r k = absurd k
     all (u ∷ us) r k =
         ⊎_elim (λ (a : Has r (entering_note c bs u)). one u (bytes_eq u.group host_membership) r a) (λ (b : Has r (flat_map (entering_note c bs) us)). all us r b) (has_append r (entering_note c bs u) (flat_map (entering_note c bs) us) k)
@@ -153,15 +193,15 @@ group_led_onward f c h =
     by d false = onward_same d
     by d true = onward_then d (tally_opened d h) (closes f (tally_opened d h) h) (opened_onward d h) (closes_on f (tally_opened d h) h)
 
-entered_comes : (f : Answering) (c : Core) (i : Install) (xs : List Lacking) → IsNext c.views i.view → Comes c (entered f c i xs)
-unfolding entered owed_sent groups_led view_entered recorded_all is_before
-entered_comes f c i xs next h =
+entered_comes : (f : Answering) (c : Core) (i : Install) (xs : List Lacking) → NoneEntered c → IsNext c.views i.view → Comes c (entered f c i xs)
+unfolding entered owed_sent groups_led view_entered views_entered recorded_all is_before
+entered_comes f c i xs none next h =
     let filled : Keeps c t = filled_onward f xs c h.order in
     let here : IsNext t.views i.view = subst (λ v. IsNext v i.view) (sym filled.views) next in
     let stands = sides_stand (view_entered t i bs) (held_rows t) t.views.view bs in
     let fit : Fit e = record { order = subst InNameOrder (sym stands.groups) now_order; views = subst AreViews (sym stands.views) (now_views here) } in
-    let rest : Makes e last = comes_keeps e last (onward_then e n last (noted_onward e bs) (onward_then n k last (onward_sends n k (taken_sends n)) (onward_then k o last (onward_sends k o (owed_sends k)) (onward_fold (group_led f) (group_led_onward f) (led_groups o) o)))) fit in
-    record { fit = rest.fit; does = Then c t last filled.does (Then t e last (Enters t i (lt here)) rest.does) }
+    let rest : Remains e last = remains e last (onward_then e n last (noted_onward e bs) (onward_then n k last (onward_sends n k (taken_sends n)) (onward_then k o last (onward_sends k o (owed_sends k)) (onward_fold (group_led f) (group_led_onward f) (led_groups o) o)))) fit in
+    record { fit = rest.fit; once = Entered t i filled.does (ap (λ z. z.view) filled.views) (lt here) (λ r k. ⊎_elim (λ (a : Has r c.records). none r a) (λ (a : Unentered r). a) (filled.calm r k)) rest.does (rest.view ∙ ap (λ z. z.view) stands.views ∙ now_view) }
   where
     t : Core
     t = lists_filled f c xs
@@ -190,19 +230,22 @@ entered_comes f c i xs next h =
     now_views : IsNext t.views i.view → AreViews (view_entered t i bs).views
     now_views here = (views_rise t.views i here).views
 
+    now_view : (view_entered t i bs).views.view ≡ i.view
+    now_view = refl
+
     lt : IsNext t.views i.view → Lt t.views.view i.view
     lt here = here.above
 
 -- ---- what a row of views leaves
 
-taken_comes : (f : Answering) (c : Core) (w : ViewWork) → (AreViews c.views → Goes c.views w) → w.views.me ≡ c.views.me → w.views.inc ≡ c.views.inc → Comes c (views_taken f c w)
+taken_comes : (f : Answering) (c : Core) (w : ViewWork) → NoneEntered c → (AreViews c.views → Goes c.views w) → w.views.me ≡ c.views.me → w.views.inc ≡ c.views.inc → Comes c (views_taken f c w)
 unfolding views_taken len_of state_of list_of row_of entered_if install_applied
-taken_comes f c w goes me inc h =
+taken_comes f c w none goes me inc h =
     let k = goes h.views in
     let a : Fit d = record { order = h.order; views = k.views } in
     let sends : Sends d u = sends_fold (λ t (x : ViewSend). sent t x.to (body.View x.packet)) (λ t x. sends_one t _ _) w.sends d in
-    let rest : Makes d (install_applied f u w.install) = comes_then d u (install_applied f u w.install) (comes_keeps d u (onward_sends d u sends)) (by w.install (subst (λ v. AppliesNext v w.install) (sym sends.views) k.applies)) a in
-    record { fit = rest.fit; does = Then c d (install_applied f u w.install) (Stays c d (same k.view)) rest.does }
+    let rest : Makes d (install_applied f u w.install) = comes_before d u (install_applied f u w.install) (onward_sends d u sends) (by w.install (subst (λ v. AppliesNext v w.install) (sym sends.views) k.applies)) a in
+    record { fit = rest.fit; once = once_before c d (install_applied f u w.install) (Stays c d (same k.view)) k.view rest.once }
   where
     d : Core
     d = record c { views = w.views }
@@ -213,21 +256,41 @@ taken_comes f c w goes me inc h =
     same : w.views.view ≡ c.views.view → Same c d
     same view = record { me = me; inc = inc; view = view; sessions = refl; records = refl; lens = λ j. refl; states = λ j. refl }
 
+    calm : Sends d u
+    calm = sends_fold (λ t (x : ViewSend). sent t x.to (body.View x.packet)) (λ t x. sends_one t _ _) w.sends d
+
     if_lacking : (i : Install) (o : Option (List Lacking)) → IsNext u.views i.view → Comes u (entered_if f u i o)
     if_lacking i None next = comes_same u
-    if_lacking i (Some xs) next = entered_comes f u i xs next
+    if_lacking i (Some xs) next = entered_comes f u i xs (λ r k. none r (subst (Has r) calm.records k)) next
 
     by : (o : Option Install) → AppliesNext u.views o → Comes u (install_applied f u o)
     by None next = comes_same u
     by (Some i) next = if_lacking i (lacking u i) next
 
+-- where no install is to be applied, the view stays
+taken_remains : (f : Answering) (c : Core) (w : ViewWork) → (AreViews c.views → Goes c.views w) → w.views.me ≡ c.views.me → w.views.inc ≡ c.views.inc → w.install ≡ None → Fit c → Remains c (views_taken f c w)
+unfolding views_taken len_of state_of list_of row_of install_applied
+taken_remains f c w goes me inc none h =
+    let k = goes h.views in
+    let x = remains d u (onward_sends d u sends) (record { order = h.order; views = k.views }) in
+    subst (λ o. Remains c (install_applied f u o)) (sym none) (record { fit = x.fit; does = Then c d u (Stays c d (record { me = me; inc = inc; view = k.view; sessions = refl; records = refl; lens = λ j. refl; states = λ j. refl })) x.does; view = x.view ∙ k.view })
+  where
+    d : Core
+    d = record c { views = w.views }
+
+    u : Core
+    u = fold (λ t (x : ViewSend). sent t x.to (body.View x.packet)) d w.sends
+
+    sends : Sends d u
+    sends = sends_fold (λ t (x : ViewSend). sent t x.to (body.View x.packet)) (λ t x. sends_one t _ _) w.sends d
+
 -- the rows of views: their promise stands, and what is to be applied comes next
-module _ (f : Answering) (c : Core) where
+module _ (f : Answering) (c : Core) (none : NoneEntered c) where
   ask_comes : (mask : Mask) → Comes c (views_taken f c (ask_row (views_at_work c.views) mask (own_parts c)))
   unfolding view_stepped steps.view_row
   ask_comes mask =
       let k = whose_asks (views_at_work c.views) mask (own_parts c) in
-      taken_comes f c (ask_row (views_at_work c.views) mask (own_parts c)) (λ a. promises_stand c.views (event.Ask mask) (own_parts c) a) k.0 k.1
+      taken_comes f c (ask_row (views_at_work c.views) mask (own_parts c)) none (λ a. promises_stand c.views (event.Ask mask) (own_parts c) a) k.0 k.1
 
   pub order_comes : (mask : Mask) → Comes c (order_row f c mask)
   unfolding order_row
@@ -241,38 +304,54 @@ module _ (f : Answering) (c : Core) where
   unfolding view_row view_stepped steps.view_row
   view_comes from inc (packet.Prepare v mask) =
       let k = whose_prepares (views_at_work c.views) from inc v mask (own_parts c) in
-      taken_comes f c (prepare_row (views_at_work c.views) from inc v mask (own_parts c)) (λ a. promises_stand c.views (event.Prepare from inc v mask) (own_parts c) a) k.0 k.1
+      taken_comes f c (prepare_row (views_at_work c.views) from inc v mask (own_parts c)) none (λ a. promises_stand c.views (event.Prepare from inc v mask) (own_parts c) a) k.0 k.1
   view_comes from inc (packet.Answer v old parts) =
       let x : Answer = record { node = from; inc = inc; view = old; parts = parts } in
       let k = whose_answers (views_at_work c.views) v x in
-      taken_comes f c (answer_row (views_at_work c.views) v x) (λ a. promises_stand c.views (event.Answer from inc v (record { view = old; parts = parts })) (own_parts c) a) k.0 k.1
+      taken_comes f c (answer_row (views_at_work c.views) v x) none (λ a. promises_stand c.views (event.Answer from inc v (record { view = old; parts = parts })) (own_parts c) a) k.0 k.1
   view_comes from inc (packet.Refuse v n) =
       let k = whose_refuses (views_at_work c.views) v n in
-      taken_comes f c (refuse_row (views_at_work c.views) v n) (λ a. promises_stand c.views (event.Refuse v n) (own_parts c) a) k.0 k.1
+      taken_comes f c (refuse_row (views_at_work c.views) v n) none (λ a. promises_stand c.views (event.Refuse v n) (own_parts c) a) k.0 k.1
   view_comes from inc (packet.Install i) =
       let k = whose_installs (views_at_work c.views) i in
-      taken_comes f c (install_row (views_at_work c.views) i) (λ a. promises_stand c.views (event.Install i) (own_parts c) a) k.0 k.1
+      taken_comes f c (install_row (views_at_work c.views) i) none (λ a. promises_stand c.views (event.Install i) (own_parts c) a) k.0 k.1
   view_comes from inc (packet.Taken v) =
       let k = whose_takes (views_at_work c.views) from v in
-      taken_comes f c (taken_row (views_at_work c.views) from v) (λ a. promises_stand c.views (event.Taken from v) (own_parts c) a) k.0 k.1
+      taken_comes f c (taken_row (views_at_work c.views) from v) none (λ a. promises_stand c.views (event.Taken from v) (own_parts c) a) k.0 k.1
 
   tick_comes : Comes c (views_taken f c (gathering_ticks (views_at_work c.views) (ring_ask c) (own_parts c)))
   unfolding view_stepped steps.view_row
   tick_comes =
       let k = whose_ticks (views_at_work c.views) (ring_ask c) (own_parts c) in
-      taken_comes f c (gathering_ticks (views_at_work c.views) (ring_ask c) (own_parts c)) (λ a. promises_stand c.views (event.Tick (ring_ask c)) (own_parts c) a) k.0 k.1
+      taken_comes f c (gathering_ticks (views_at_work c.views) (ring_ask c) (own_parts c)) none (λ a. promises_stand c.views (event.Tick (ring_ask c)) (own_parts c) a) k.0 k.1
 
-  remind_comes : Comes c (views_taken f c (install_again (views_at_work c.views)))
+module _ (f : Answering) (c : Core) where
+  reminds_only : (install_again (views_at_work c.views)).install ≡ None
+  unfolding install_again install_again_of view_sent_all
+  reminds_only = by (is_coordinator c.views && not (is_frozen c.views))
+    where
+      w : ViewWork
+      w = views_at_work c.views
+
+      at : (o : Option Install) → (install_again_of w o).install ≡ None
+      at None = refl
+      at (Some i) = refl
+
+      by : (b : Bool) → (elim b as (λ _. ViewWork) [ true ↦ install_again_of w c.views.install | false ↦ w ]).install ≡ None
+      by true = at c.views.install
+      by false = refl
+
+  remind_remains : Fit c → Remains c (views_taken f c (install_again (views_at_work c.views)))
   unfolding view_stepped steps.view_row
-  remind_comes =
+  remind_remains =
       let k = whose_reminds (views_at_work c.views) in
-      taken_comes f c (install_again (views_at_work c.views)) (λ a. promises_stand c.views event.Remind (own_parts c) a) k.0 k.1
+      taken_remains f c (install_again (views_at_work c.views)) (λ a. promises_stand c.views event.Remind (own_parts c) a) k.0 k.1 reminds_only
 
-pub views_part_comes : (f : Answering) (c : Core) → Comes c (views_part f c)
+pub views_part_comes : (f : Answering) (c : Core) → NoneEntered c → Comes c (views_part f c)
 unfolding views_part
-views_part_comes f c =
+views_part_comes f c none =
     let t : Core = views_taken f c (gathering_ticks (views_at_work c.views) (ring_ask c) (own_parts c)) in
-    comes_then c t (views_taken f t (install_again (views_at_work t.views))) (tick_comes f c) (remind_comes f t)
+    comes_remains c t (views_taken f t (install_again (views_at_work t.views))) (tick_comes f c none) (remind_remains f t)
 
 -- ---- a whole step
 
@@ -281,12 +360,12 @@ unfolding used_if
 used_comes c d true k = k
 used_comes c d false k = comes_same c
 
-module _ (f : Answering) (c : Core) where
+module _ (f : Answering) (c : Core) (none : NoneEntered c) where
   body_comes : (p : Packet) (b : Body) → Comes c (body_row f c p b)
   unfolding body_row
   body_comes p (body.Ring x) = comes_keeps c _ (ring_onward c p.network p.from p.inc x)
   body_comes p (body.Report rows) = comes_keeps c _ (report_onward c rows)
-  body_comes p (body.View x) = view_comes f c p.from p.inc x
+  body_comes p (body.View x) = view_comes f c none p.from p.inc x
   body_comes p (body.Lookup v g) = used_comes c _ (is_used c p v) (comes_keeps c _ (lookup_onward c p.from g))
   body_comes p (body.Name v g n) = used_comes c _ (is_used c p v) (comes_keeps c _ (name_onward c g n))
   body_comes p (body.Request v g q r phases x) = used_comes c _ (is_used c p v) (comes_keeps c _ (request_onward f c p.from g q r phases x))
@@ -307,22 +386,22 @@ module _ (f : Answering) (c : Core) where
       by false = comes_same c
 
   ended_comes : (d : Core) → Comes c d → Comes c (step_ended f d)
-  ended_comes d k = comes_then c d (step_ended f d) k (comes_keeps d (step_ended f d) (end_onward f d))
+  ended_comes d k = comes_after c d (step_ended f d) k (end_onward f d)
 
-  event_comes : (e : NodeEvent) → OneOwner c.sessions → Comes c (event_row f c e)
+  event_comes : (e : NodeEvent) → OneOwner c.sessions → c.records ≡ [] → InNameOrder c.groups → Comes c (event_row f c e)
   unfolding event_row tick_row
-  event_comes Ticks own =
+  event_comes Ticks own empty order =
       let a : Core = rings_part c in
       let b : Core = views_part f a in
       let d : Core = owed_part b in
       let e : Core = led_part f d in
-      ended_comes e (comes_then c a e (comes_keeps c a (rings_onward c)) (comes_then a b e (views_part_comes f a) (comes_then b d e (comes_keeps b d (owed_part_onward b)) (comes_keeps d e (led_part_onward f d)))))
-  event_comes (Asks mask) own = ended_comes (order_row f c mask) (order_comes f c mask)
-  event_comes (Given p) own = ended_comes (packet_row f c p) (packet_comes p)
-  event_comes (Calls x) own = ended_comes (call_row c x) (comes_keeps c (call_row c x) (call_onward c x own))
-  event_comes Garbage own = ended_comes c (comes_same c)
+      ended_comes e (comes_before c a e (rings_onward c) (comes_after a b e (views_part_comes f a (λ r k. ⊎_elim (λ (i : Has r c.records). none r i) (λ (u : Unentered r). u) ((rings_onward c order).calm r k))) (onward_then b d e (owed_part_onward b) (led_part_onward f d))))
+  event_comes (Asks mask) own empty order = ended_comes (order_row f c mask) (order_comes f c none mask)
+  event_comes (Given p) own empty order = ended_comes (packet_row f c p) (packet_comes p)
+  event_comes (Calls x) own empty order = ended_comes (call_row c x) (comes_keeps c (call_row c x) (call_onward c x own empty))
+  event_comes Garbage own empty order = ended_comes c (comes_same c)
 
 -- a step, from a state that fits
 pub step_comes : (f : Answering) (c : Core) (e : NodeEvent) → OneOwner c.sessions → Fit c → Makes (at_work c) (stepped f c e)
 unfolding stepped
-step_comes f c e own h = event_comes f (at_work c) e own (record { order = h.order; views = h.views })
+step_comes f c e own h = event_comes f (at_work c) (λ r k. absurd k) e own refl h.order (record { order = h.order; views = h.views })

@@ -1,15 +1,19 @@
 -- What a node does in a step, change by change: what it records of puts and of what is heard, and what it makes of its clients.
-use Rattle.std.specs.Prelude.{◌≡◌, ◌≤◌, ℕ, List, flat_map, Option, Some}
+use Rattle.std.specs.Prelude.{◌≡◌, ◌≤◌, ℕ, Bool, false, List, [], filter, flat_map, Option, Some}
+use Rattle.std.specs.List.{list_any}
 use Rattle.rsct_packet.specs.declared.ids.ProviderId.{ProviderId}
+use Rattle.rsct_packet.specs.Search.{Has}
 use Rattle.group_attr.specs.declared.attrs.Attrs.{Attrs}
 use Rattle.group_entry.specs.declared.entry.Entry.{Entry}
 use Rattle.proposal_core.specs.declared.group_state.GroupState.{GroupState}
 use Rattle.subscribe_core.specs.declared.subs.ClientToken.{ClientToken}
 use Rattle.client_callbacks.specs.declared.ballot.Filled.{Filled}
+use Rattle.session_state.specs.declared.state.OpenPhase.{OpenPhase}
 use Rattle.session_state.specs.declared.state.Provider.{Provider}
+use Rattle.session_state.specs.declared.state.KeptBallot.{KeptBallot}
 use Rattle.session_state.specs.declared.state.SessionState.{SessionState}
-use Rattle.session_state.specs.State.{provider_of}
-use Rattle.session_state.specs.Calls.{join_asked}
+use Rattle.session_state.specs.State.{is_kept_for, provider_of}
+use Rattle.session_state.specs.Calls.{join_asked, keeps}
 use Rattle.session_state.specs.HandOn.{casts_out}
 use Rattle.session_state.specs.HandOn as session
 use Rattle.view_exchange.specs.declared.install.Install.{Install}
@@ -44,27 +48,55 @@ Aside (happened.Put n v g i e) = ⊥
 Aside (happened.Heard p v g i e ms value) = ⊥
 Aside _ = Unit {0}
 
--- no provider comes in or changes, and numbers that were given are not given again
+-- nor is anything cast, and no node starts, stops, enters a view or takes a base
+abbrev pub Inner : Happened → Type 0
+Inner (happened.Up n j) = ⊥
+Inner (happened.Down n) = ⊥
+Inner (happened.In n v ms) = ⊥
+Inner (happened.Base n v g u len s) = ⊥
+Inner (happened.Put n v g i e) = ⊥
+Inner (happened.Heard p v g i e ms value) = ⊥
+Inner (happened.Cast p proto phase vote value message) = ⊥
+Inner _ = Unit {0}
+
+-- no provider comes in or changes, and numbers that were given are not given again; no ballot comes in, and of whoever is
+-- still there none goes
 pub record Fewer (s t : SessionState) : Type 0 where
   pub me : t.me ≡ s.me
   pub inc : t.inc ≡ s.inc
   pub last : s.last_request ≤ t.last_request
   pub providers : (p : ProviderId) (x : Provider) → provider_of t p ≡ Some x → provider_of s p ≡ Some x
+  pub rest : (keep : KeptBallot → Bool) × (t.kept ≡ filter keep s.kept)
+  pub still : (x : Provider) (k : KeptBallot) → provider_of t k.p ≡ Some x → Has k s.kept → Has k t.kept
+
+-- no view is entered
+abbrev pub Unentered : Happened → Type 0
+Unentered (happened.In n v ms) = ⊥
+Unentered _ = Unit {0}
 
 -- an entry that was put is handed on, where clients fill bs
 abbrev pub handing : Core → List ℕ → ℕ → GroupState → GroupState → Entry → List (Option Filled) → Core
 handing c h i before after e bs =
     with_sessions (recorded_all c (flat_map (heard c h i e after) (casts_out c.sessions h before after e bs))) (session.handed_on c.sessions h before after e bs)
 
+-- a view is entered, and those who do not live in the new bases are dissolved
+abbrev pub entering : Core → Install → Core
+entering s i = sides_dissolved (view_entered s i (bases_of i)) (held_rows s) s.views.view (bases_of i)
+
+-- a provider votes by a call: its ballot is kept, and recorded
+abbrev pub voting : Core → Provider → OpenPhase → Filled → Core
+voting c x o b = recorded (with_sessions c (keeps c.sessions x o b)) (happened.Cast x.p o.proto o.phase b.vote b.value b.message)
+
 -- what a step makes of a node, change by change
 pub data Does : Core → Core → Type 0 where
   Stays : (s t : Core) → Same s t → Does s t
   Then : (s t u : Core) → Does s t → Does t u → Does s u
-  Records : (s : Core) (r : Happened) → Aside r → Does s (recorded s r)
+  Records : (s : Core) (r : Happened) → Inner r → Does s (recorded s r)
   Hands : (s c : Core) (h : List ℕ) (e : Entry) (bs : List (Option Filled)) → InNameOrder s.groups → Same (put s h e) c → Does s (handing c h (len_of s h) (state_of s h) (state_of (put s h e) h) e bs)
   Loses : (s : Core) (t : SessionState) → Fewer s.sessions t → Does s (with_sessions s t)
-  Joins : (s : Core) (t : ClientToken) (g : List ℕ) (instance : ℕ) (attrs : Attrs) → Does s (with_sessions s (join_asked s.sessions t g instance attrs))
-  Enters : (s : Core) (i : Install) → Lt s.views.view i.view → Does s (sides_dissolved (view_entered s i (bases_of i)) (held_rows s) s.views.view (bases_of i))
+  Joins : (s : Core) (t : ClientToken) (g : List ℕ) (instance : ℕ) (attrs : Attrs) → s.records ≡ [] → Does s (with_sessions s (join_asked s.sessions t g instance attrs))
+  Votes : (s : Core) (x : Provider) (o : OpenPhase) (b : Filled) → provider_of s.sessions x.p ≡ Some x → x.opened ≡ Some o → list_any (is_kept_for x.p o.proto o.phase) s.sessions.kept ≡ false → Does s (voting s x o b)
+  Enters : (s : Core) (i : Install) → Lt s.views.view i.view → ((r : Happened) → Has r s.records → Unentered r) → Does s (entering s i)
 
 -- so is each step of a node in each scene that events lead to: at each put of it just those hear, each in its turn and directly
 -- after it, whom the sessions of that moment name for the entry

@@ -3,6 +3,7 @@ use Rattle.std.proofs.Common.{◌≡◌, ◌⊎◌, ℕ, List, [], ◌∷◌, �
 use Rattle.std.specs.Prelude.{fold, find, reverse}
 use Rattle.std.specs.Str.{bytes_eq}
 use Rattle.std.proofs.lemmas.List.{reverse-append}
+use Rattle.rsct_packet.specs.Providers.{differ}
 use Rattle.rsct_packet.specs.Search.{Has}
 use Rattle.rsct_packet.specs.Text.{name_lt}
 use Rattle.rsct_packet.proofs.HasLaws.{has_append, append_has_left, append_has_right}
@@ -38,6 +39,10 @@ leads_is s g = refl
 abbrev pub RowIs : List Happened → Bool → GroupRow → Type 0
 RowIs rs led row = (row.led.tally ≡ None) ⊎ ((led ≡ true) × TallyCast rs row.led.tally (state_in row.list).running)
 
+-- the joins that wait differ
+abbrev pub RowApart : GroupRow → Type 0
+RowApart row = differ row.led.waiting.joins ≡ true
+
 -- T: the groups whose tally is of the phase that runs; G: those that the node leads
 pub record At (h : History) (T G : List ℕ → Type 0) (s : Core) : Type 0 where
   pub sends : (p : Packet) → Has p s.sends → BodyCast (s.records ++ records_of h) p.body
@@ -48,6 +53,7 @@ pub record At (h : History) (T G : List ℕ → Type 0) (s : Core) : Type 0 wher
   pub order : InNameOrder s.groups
   pub tallies : (g : List ℕ) → T g → RowIs (s.records ++ records_of h) (leads_row s (found s g)) (found s g)
   pub led : (g : List ℕ) → G g → leads_row s (found s g) ≡ true
+  pub apart : (g : List ℕ) → RowApart (found s g)
 
 pub row_is_on : (rs ts : List Happened) → ((r : Happened) → Has r rs → Has r ts) → (b : Bool) (row : GroupRow) → RowIs rs b row → RowIs ts b row
 row_is_on rs ts more b row (inl e) = inl e
@@ -78,7 +84,7 @@ module _ (h : History) where
   -- other groups
   pub at_for : (T G U V : List ℕ → Type 0) (s : Core) → ((g : List ℕ) → U g → T g) → ((g : List ℕ) → V g → leads_row s (found s g) ≡ true) → At h T G s → At h U V s
   at_for T G U V s less led a =
-      record { sends = a.sends; kept = a.kept; lists = a.lists; views = a.views; puts = a.puts; order = a.order; tallies = λ g t. a.tallies g (less g t); led = led }
+      record { sends = a.sends; kept = a.kept; lists = a.lists; views = a.views; puts = a.puts; order = a.order; tallies = λ g t. a.tallies g (less g t); led = led; apart = a.apart }
 
   module _ (T G : List ℕ → Type 0) where
     pub at_fold : {A : Type 0} (f : Core → A → Core) (xs : List A) → ((s : Core) (x : A) → Has x xs → At h T G s → At h T G (f s x)) → (s : Core) → At h T G s → At h T G (fold f s xs)
@@ -88,7 +94,7 @@ module _ (h : History) where
     pub at_sent_on : (s : Core) (network to : ℕ) (b : Body) → BodyCast (s.records ++ records_of h) b → At h T G s → At h T G (sent_on s network to b)
     unfolding sent_on packet_on
     at_sent_on s network to b ok a =
-        record { sends = λ p i. by p (has_append p s.sends (packet_on s network to b ∷ []) i); kept = a.kept; lists = a.lists; views = a.views; puts = a.puts; order = a.order; tallies = a.tallies; led = a.led }
+        record { sends = λ p i. by p (has_append p s.sends (packet_on s network to b ∷ []) i); kept = a.kept; lists = a.lists; views = a.views; puts = a.puts; order = a.order; tallies = a.tallies; led = a.led; apart = a.apart }
       where
         by : (p : Packet) → Has p s.sends ⊎ Has p (packet_on s network to b ∷ []) → BodyCast (s.records ++ records_of h) p.body
         by p (inl i) = a.sends p i
@@ -118,6 +124,7 @@ module _ (h : History) where
           order = a.order;
           tallies = λ g t. row_is_on rs ts more (leads_row s (found s g)) (found s g) (a.tallies g t);
           led = a.led;
+          apart = a.apart;
         }
 
     -- records that put nothing
@@ -133,7 +140,7 @@ module _ (h : History) where
     pub at_sessions : (s : Core) (t : SessionState) → ((k : KeptBallot) → Has k t.kept → KeptCast (s.records ++ records_of h) k) → At h T G s → At h T G (with_sessions s t)
     unfolding with_sessions
     at_sessions s t ok a =
-        record { sends = a.sends; kept = ok; lists = a.lists; views = a.views; puts = a.puts; order = a.order; tallies = a.tallies; led = a.led }
+        record { sends = a.sends; kept = ok; lists = a.lists; views = a.views; puts = a.puts; order = a.order; tallies = a.tallies; led = a.led; apart = a.apart }
 
     pub at_views : (s : Core) (v : Views) → ViewsCast (s.records ++ records_of h) v → v.me ≡ s.views.me → v.view ≡ s.views.view → At h T G s → At h T G (record s { views = v })
     at_views s v ok me at a =
@@ -146,6 +153,7 @@ module _ (h : History) where
           order = a.order;
           tallies = λ g t. subst (λ b. RowIs (s.records ++ records_of h) b (found s g)) (same g) (a.tallies g t);
           led = λ g t. sym (same g) ∙ a.led g t;
+          apart = a.apart;
         }
       where
         same : (g : List ℕ) → leads_row s (found s g) ≡ leads_row (record s { views = v }) (found s g)
@@ -153,9 +161,9 @@ module _ (h : History) where
 
     -- a row changes
     module _ (U : List ℕ → Type 0) where
-      pub at_row_for : (s : Core) (g : List ℕ) (f : GroupRow → GroupRow) → KeepsName f → ((x : GroupRow) → (f x).leader ≡ x.leader) → ((x : GroupRow) → ListCast (s.records ++ records_of h) x.list → ListCast (s.records ++ records_of h) (f x).list) → ((k : List ℕ) → U k → (g ≡ k → ⊥) → T k) → (U g → RowIs (s.records ++ records_of h) (leads_row s (found s g)) (f (found s g))) → At h T G s → At h U G (with_row s g f)
+      pub at_row_for : (s : Core) (g : List ℕ) (f : GroupRow → GroupRow) → KeepsName f → ((x : GroupRow) → (f x).leader ≡ x.leader) → ((x : GroupRow) → ListCast (s.records ++ records_of h) x.list → ListCast (s.records ++ records_of h) (f x).list) → (RowApart (found s g) → RowApart (f (found s g))) → ((k : List ℕ) → U k → (g ≡ k → ⊥) → T k) → (U g → RowIs (s.records ++ records_of h) (leads_row s (found s g)) (f (found s g))) → At h T G s → At h U G (with_row s g f)
       unfolding with_row row_of
-      at_row_for s g f keeps leader lists others own a =
+      at_row_for s g f keeps leader lists waits others own a =
           record {
             sends = a.sends;
             kept = a.kept;
@@ -165,6 +173,7 @@ module _ (h : History) where
             order = rows_ordered g f keeps s a.order;
             tallies = λ k u. tally k u (cases_text g k);
             led = λ k i. leads k i (cases_text g k);
+            apart = λ k. still k (cases_text g k);
           }
         where
           by : (row : GroupRow) → Has row s.groups ⊎ ((x : GroupRow) × (Has x s.groups ⊎ (x ≡ new_row g)) × (row ≡ f x)) → ListCast (s.records ++ records_of h) row.list
@@ -193,5 +202,9 @@ module _ (h : History) where
           leads k i (inl e) = subst (λ z. leads_row s (found (with_row s g f) z) ≡ true) e (ap (leads_row s) here ∙ lead ∙ a.led g (subst G (sym e) i))
           leads k i (inr ne) = ap (leads_row s) (there k ne) ∙ a.led k i
 
-    pub at_row : (s : Core) (g : List ℕ) (f : GroupRow → GroupRow) → KeepsName f → ((x : GroupRow) → (f x).leader ≡ x.leader) → ((x : GroupRow) → ListCast (s.records ++ records_of h) x.list → ListCast (s.records ++ records_of h) (f x).list) → (T g → RowIs (s.records ++ records_of h) (leads_row s (found s g)) (f (found s g))) → At h T G s → At h T G (with_row s g f)
-    at_row s g f keeps leader lists own a = at_row_for T s g f keeps leader lists (λ k t ne. t) own a
+          still : (k : List ℕ) → (g ≡ k) ⊎ (g ≡ k → ⊥) → RowApart (found (with_row s g f) k)
+          still k (inl e) = subst (λ z. RowApart (found (with_row s g f) z)) e (subst RowApart (sym here) (waits (a.apart g)))
+          still k (inr ne) = subst RowApart (sym (there k ne)) (a.apart k)
+
+    pub at_row : (s : Core) (g : List ℕ) (f : GroupRow → GroupRow) → KeepsName f → ((x : GroupRow) → (f x).leader ≡ x.leader) → ((x : GroupRow) → ListCast (s.records ++ records_of h) x.list → ListCast (s.records ++ records_of h) (f x).list) → (RowApart (found s g) → RowApart (f (found s g))) → (T g → RowIs (s.records ++ records_of h) (leads_row s (found s g)) (f (found s g))) → At h T G s → At h T G (with_row s g f)
+    at_row s g f keeps leader lists waits own a = at_row_for T s g f keeps leader lists waits (λ k t ne. t) own a

@@ -6,7 +6,7 @@ use Rattle.std.specs.Str.{bytes_eq}
 use Rattle.rsct_packet.specs.declared.ids.ViewId.{ViewId}
 use Rattle.rsct_packet.specs.declared.ids.ProviderId.{ProviderId}
 use Rattle.rsct_packet.specs.Ids.{same_view}
-use Rattle.rsct_packet.specs.Providers.{among}
+use Rattle.rsct_packet.specs.Providers.{among, differ}
 use Rattle.rsct_packet.specs.Search.{Has}
 use Rattle.rsct_packet.proofs.HasLaws.{has_append, append_has_left, append_has_right, has_map, has_filter, find_has}
 use Rattle.group_attr.specs.Attrs.{host_membership}
@@ -51,7 +51,7 @@ use Rattle.honest_votes.proofs.At.{found, At, at_for, at_fold, at_sent, at_recor
 use Rattle.honest_votes.proofs.Sends.{at_requests_sent, at_votes_again}
 use Rattle.honest_votes.proofs.Keeps.{told_no_more}
 use Rattle.honest_votes.proofs.Hands.{Longer, handed_longer}
-use Rattle.honest_votes.proofs.Leading.{has_dropped, at_put_and_handed_for, at_waits, at_opened_anew, at_closes}
+use Rattle.honest_votes.proofs.Leading.{has_dropped, at_put_and_handed_for, at_fails, at_opened_anew, at_closes}
 use Rattle.honest_votes.proofs.Ending.{Every, NoGroup, at_led_groups}
 use Rattle.honest_votes.proofs.Gathers.{WorkIs}
 
@@ -170,6 +170,13 @@ module _ (h : History) where
           by None = refl
           by (Some b) = refl
 
+      idle : (g : List ℕ) → (found t g).led.waiting.joins ≡ []
+      idle g = ap (λ o. (row_found g o).led.waiting.joins) (row_of_base g bs) ∙ by (base_named bs g)
+        where
+          by : (o : Option Base) → (row_found g (option_map base_row o)).led.waiting.joins ≡ []
+          by None = refl
+          by (Some b) = refl
+
       first : Full t
       first =
           record {
@@ -181,6 +188,7 @@ module _ (h : History) where
             order = bases_ordered i;
             tallies = λ g u. inl (tally g);
             led = λ g z. absurd z;
+            apart = λ g. ap differ (idle g);
           }
 
   -- (3)
@@ -254,7 +262,7 @@ module _ (h : History) where
 
       waits : At h Every G t
       waits =
-          at_fold h Every G (λ t p. with_waiting t g (waits_failure p Died)) (filter (among (state_of s g).members) (state_of s g).failed) (λ t p i k. at_waits h Every G t g (waits_failure p Died) k) s a
+          at_fold h Every G (λ t p. with_waiting t g (waits_failure p Died)) (filter (among (state_of s g).members) (state_of s g).failed) (λ t p i k. at_fails h Every G t g p Died k) s a
 
       by : (b : Bool) → At h Every G (phase_reopened f t g b)
       by false = waits

@@ -1,10 +1,10 @@
 -- The rows of packets keep that votes were cast.
 use Rattle.std.proofs.Common.{◌≡◌, ◌⊎◌, ℕ, List, ◌++◌, Option, Some, None, Bool, true, false, refl, sym, ap, ◌∙◌, subst, inl, inr}
-use Rattle.std.specs.Prelude.{◌==◌, ◌&&◌, ◌||◌, find, nat_le, nat_lt, is_none}
+use Rattle.std.specs.Prelude.{not, ◌==◌, ◌&&◌, ◌||◌, find, nat_le, nat_lt, is_none}
 use Rattle.std.specs.Option.{unwrap_or}
 use Rattle.rsct_packet.specs.declared.ids.ProviderId.{ProviderId}
 use Rattle.rsct_packet.specs.declared.ids.ProtoId.{ProtoId}
-use Rattle.rsct_packet.specs.Providers.{among}
+use Rattle.rsct_packet.specs.Providers.{among, same_provider, differ}
 use Rattle.rsct_packet.specs.Search.{Has}
 use Rattle.group_attr.specs.declared.attrs.Phases.{Phases}
 use Rattle.group_entry.specs.declared.proposal.Cause.TheVariants.{Gone}
@@ -14,7 +14,7 @@ use Rattle.group_entry.specs.declared.entry.Vote.{Vote}
 use Rattle.proposal_core.specs.declared.group_state.Running.{Running}
 use Rattle.proposal_core.specs.Fold.{runs, present}
 use Rattle.proposal_core.specs.Lists.{state_in}
-use Rattle.batch_rules.specs.Waiting.{waits_failure, join_dropped}
+use Rattle.batch_rules.specs.Waiting.{WaitingView, waits_failure, join_dropped}
 use Rattle.name_server.specs.Names as names
 use Rattle.name_server.specs.declared.names.Leader.{Leader}
 use Rattle.vote_phases.specs.Tally.{TallyView, tally_fail}
@@ -25,6 +25,7 @@ use Rattle.session_state.specs.State.{outstanding}
 use Rattle.session_state.specs.HandOn.{is_numbered, telling_taken}
 use Rattle.node_state.specs.declared.group.Decision.{Decision}
 use Rattle.node_state.specs.declared.group.GroupRow.{GroupRow}
+use Rattle.node_state.specs.declared.group.Led.{Led}
 use Rattle.node_state.specs.declared.happened.Happened.{Happened}
 use Rattle.node_state.specs.declared.happened.Happened.TheVariants as happened
 use Rattle.node_state.specs.declared.packet.Body.TheVariants as body
@@ -41,11 +42,12 @@ use Rattle.node_groups.specs.Places.{InNameOrder, has_name}
 use Rattle.node_groups.proofs.NameOrder.{cases_text, row_here, row_there, rows_ordered}
 use Rattle.step_ties.proofs.Appending.{handed_rows}
 use Rattle.honest_votes.specs.Casts.{IsCast, EntryCast, ListCast, TallyCast}
-use Rattle.honest_votes.proofs.At.{found, leads_row, leads_is, RowIs, At, at_for, at_fold, at_sent, at_recorded, at_sessions, at_row, rows_has}
+use Rattle.honest_votes.proofs.At.{found, leads_row, leads_is, RowIs, RowApart, At, at_for, at_fold, at_sent, at_recorded, at_sessions, at_row, rows_has}
 use Rattle.honest_votes.proofs.Sends.{at_request_sent}
 use Rattle.honest_votes.proofs.Keeps.{told_no_more}
+use Rattle.honest_votes.proofs.Differing.{filter_differs}
 use Rattle.honest_votes.proofs.Closes.{failed_cast, voted_cast, runs_is}
-use Rattle.honest_votes.proofs.Leading.{put_row, at_put_and_handed_for, at_led, at_waits, at_forgets, at_forgets_least, at_closes}
+use Rattle.honest_votes.proofs.Leading.{put_row, at_put_and_handed_for, at_led, at_waits, at_fails, at_forgets, at_forgets_least, at_closes}
 use Rattle.honest_votes.proofs.Ending.{Every, NoGroup, at_decided}
 
 -- a vote is counted
@@ -61,12 +63,17 @@ row_voted rs led row p v value message ok k = by row.led.tally refl k
     by (Some t) e (inl none) = let z : Some t ≡ None = sym e ∙ none in absurd (cc)
     by (Some t) e (inr j) = inr (j.0, voted_cast rs p v t run ok (subst (λ z. TallyCast rs z run) e j.1))
 
+waiting_stays : (l : Led) (p : ProviderId) (v : Vote) (value message : Option (List ℕ)) (o : Option TallyView) → (vote_cast l p v value message o).waiting ≡ l.waiting
+unfolding vote_cast
+waiting_stays l p v value message None = refl
+waiting_stays l p v value message (Some t) = refl
+
 module _ (h : History) where
   abbrev Full : Core → Type 0
   Full s = At h Every NoGroup s
 
   at_names : (s : Core) (ns : List Leader) → Full s → Full (record s { names = ns })
-  at_names s ns a = record { sends = a.sends; kept = a.kept; lists = a.lists; views = a.views; puts = a.puts; order = a.order; tallies = a.tallies; led = a.led }
+  at_names s ns a = record { sends = a.sends; kept = a.kept; lists = a.lists; views = a.views; puts = a.puts; order = a.order; tallies = a.tallies; led = a.led; apart = a.apart }
 
   -- a leader is known
   at_led_by : (s : Core) (g : List ℕ) (n : ℕ) → RowIs (s.records ++ records_of h) (leads_row s (record (found s g) { leader = Some n })) (record (found s g) { leader = Some n }) → Full s → Full (led_by s g n)
@@ -81,6 +88,7 @@ module _ (h : History) where
         order = rows_ordered g f (λ x. refl) s a.order;
         tallies = λ k u. tally k (cases_text g k);
         led = λ k z. absurd z;
+        apart = λ k. still k (cases_text g k);
       }
     where
       f : GroupRow → GroupRow
@@ -98,6 +106,10 @@ module _ (h : History) where
       tally k (inl e) =
           subst (λ z. RowIs (s.records ++ records_of h) (leads_row s (found (with_row s g f) z)) (found (with_row s g f) z)) e (subst (λ z. RowIs (s.records ++ records_of h) (leads_row s z) z) (sym (row_here g f (λ x. refl) s a.order)) own)
       tally k (inr ne) = subst (λ z. RowIs (s.records ++ records_of h) (leads_row s z) z) (sym (row_there g f (λ x. refl) s k ne)) (a.tallies k tt)
+
+      still : (k : List ℕ) → (g ≡ k) ⊎ (g ≡ k → ⊥) → RowApart (found (with_row s g f) k)
+      still k (inl e) = subst (λ z. RowApart (found (with_row s g f) z)) e (subst RowApart (sym (row_here g f (λ x. refl) s a.order)) (a.apart g))
+      still k (inr ne) = subst RowApart (sym (row_there g f (λ x. refl) s k ne)) (a.apart k)
 
   -- one group that the node leads
   abbrev Only : List ℕ → List ℕ → Type 0
@@ -252,7 +264,7 @@ module _ (h : History) where
   unfolding acked
   at_acked s from g n a =
       let t : Core = with_led s g (λ l. record l { acked = acked_raised from n l.acked }) in
-      at_forgets_least h Every NoGroup t g (at_led h Every NoGroup s g (λ l. record l { acked = acked_raised from n l.acked }) (λ l. refl) a)
+      at_forgets_least h Every NoGroup t g (at_led h Every NoGroup s g (λ l. record l { acked = acked_raised from n l.acked }) (λ l. refl) (λ z. z) a)
 
   pub at_ack : (s : Core) (from : ℕ) (g : List ℕ) (n : ℕ) → Full s → Full (ack_row s from g n)
   unfolding ack_row
@@ -271,7 +283,7 @@ module _ (h : History) where
       counted : leads s g ≡ true → runs proto phase (state_in (found s g).list).running ≡ true → At h Every (Only g) (with_led s g (λ l. vote_cast l p v value message l.tally))
       counted led runs_it =
           let b : At h Every (Only g) s = only_led s g led a in
-          at_row h Every (Only g) s g (λ row. record row { led = vote_cast row.led p v value message row.led.tally }) (λ x. refl) (λ x. refl) (λ x all. all) (λ t. row_voted (s.records ++ records_of h) (leads_row s (found s g)) (found s g) p v value message now (b.tallies g t)) b
+          at_row h Every (Only g) s g (λ row. record row { led = vote_cast row.led p v value message row.led.tally }) (λ x. refl) (λ x. refl) (λ x all. all) (λ z. ap (λ (w : WaitingView). differ w.joins) (waiting_stays (found s g).led p v value message (found s g).led.tally) ∙ z) (λ t. row_voted (s.records ++ records_of h) (leads_row s (found s g)) (found s g) p v value message now (b.tallies g t)) b
         where
           now : (r : Running) → (state_in (found s g).list).running ≡ Some r → IsCast (s.records ++ records_of h) p r.proto r.phase v
           now r e =
@@ -289,7 +301,7 @@ module _ (h : History) where
   unfolding tally_failed with_tally with_led
   at_failed f s g p None e a = a
   at_failed f s g p (Some t) e a =
-      at_closes h Every (Only g) f (with_tally s g (Some (tally_fail p t))) g tt refl (at_row h Every (Only g) s g (λ row. record row { led = record (row.led) { tally = Some (tally_fail p t) } }) (λ x. refl) (λ x. refl) (λ x all. all) (λ u. own (a.tallies g u)) a)
+      at_closes h Every (Only g) f (with_tally s g (Some (tally_fail p t))) g tt refl (at_row h Every (Only g) s g (λ row. record row { led = record (row.led) { tally = Some (tally_fail p t) } }) (λ x. refl) (λ x. refl) (λ x all. all) (λ z. z) (λ u. own (a.tallies g u)) a)
     where
       own : RowIs (s.records ++ records_of h) (leads_row s (found s g)) (found s g) → RowIs (s.records ++ records_of h) (leads_row s (found s g)) (record (found s g) { led = record ((found s g).led) { tally = Some (tally_fail p t) } })
       own (inl none) = let z : Some t ≡ None = sym e ∙ none in absurd (cc)
@@ -300,20 +312,20 @@ module _ (h : History) where
   at_gone_waits s g p a = by (among (state_of s g).members p)
     where
       by : (b : Bool) → Full (elim b as (λ _. Core) [ true ↦ with_waiting s g (waits_failure p Gone) | false ↦ s ])
-      by true = at_waits h Every NoGroup s g (waits_failure p Gone) a
+      by true = at_fails h Every NoGroup s g p Gone a
       by false = a
 
   at_gone_present : (f : Answering) (s : Core) (g : List ℕ) (p : ProviderId) → leads s g ≡ true → Full s → Full (gone_present f s g p)
   unfolding gone_present led_of row_of
   at_gone_present f s g p led a =
       let t : Core = with_led s g (λ l. record l { gone = marked l.gone p }) in
-      let b : At h Every (Only g) t = at_led h Every (Only g) s g (λ l. record l { gone = marked l.gone p }) (λ l. refl) (only_led s g led a) in
+      let b : At h Every (Only g) t = at_led h Every (Only g) s g (λ l. record l { gone = marked l.gone p }) (λ l. refl) (λ z. z) (only_led s g led a) in
       at_gone_waits (tally_failed f t g p (found t g).led.tally) g p (all_again (tally_failed f t g p (found t g).led.tally) g (at_failed f t g p (found t g).led.tally refl b))
 
   at_gone_of : (f : Answering) (s : Core) (g : List ℕ) (p : ProviderId) (b c : Bool) → leads s g ≡ true → Full s → Full (gone_of f s g p b c)
   unfolding gone_of
   at_gone_of f s g p true c led a = at_gone_present f s g p led a
-  at_gone_of f s g p false true led a = at_waits h Every NoGroup s g (join_dropped p) a
+  at_gone_of f s g p false true led a = at_waits h Every NoGroup s g (join_dropped p) (λ x z. filter_differs (λ q. not (same_provider q p)) x.joins z) a
   at_gone_of f s g p false false led a = a
 
   pub at_gone : (f : Answering) (s : Core) (g : List ℕ) (p : ProviderId) → Full s → Full (gone_row f s g p)

@@ -32,7 +32,7 @@ use Rattle.step_ties.proofs.Turns.{has_turned}
 use Rattle.honest_votes.specs.Casts.{RecordCast, BodyCast, KeptCast, ListCast, ViewsCast, TallyCast, VotesWereCast}
 use Rattle.honest_votes.specs.Scenes.{RecordedVotesAreCast, SentVotesAreCast, KeptVotesAreCast, ListedVotesAreCast, CountedVotesAreCast, GatheredVotesAreCast}
 use Rattle.honest_votes.proofs.More.{body_on, ballot_on, entries_on, views_on}
-use Rattle.honest_votes.proofs.At.{found, leads_row, RowIs, row_is_on, At}
+use Rattle.honest_votes.proofs.At.{found, leads_row, RowIs, RowApart, row_is_on, At}
 use Rattle.honest_votes.proofs.Ending.{Every, NoGroup}
 use Rattle.honest_votes.proofs.Steps.{at_stepped}
 
@@ -43,6 +43,7 @@ record CoreCast (rs : List Happened) (s : Core) : Type 0 where
   views : ViewsCast rs s.views
   order : InNameOrder s.groups
   tallies : (g : List ℕ) → RowIs rs (leads_row s (found s g)) (found s g)
+  apart : (g : List ℕ) → RowApart (found s g)
 
 abbrev CoreIfCast : List Happened → Option Core → Type 0
 CoreIfCast rs None = Unit {0}
@@ -62,6 +63,7 @@ module _ (rs ts : List Happened) (more : (r : Happened) → Has r rs → Has r t
         views = views_on rs ts more s.views k.views;
         order = k.order;
         tallies = λ g. row_is_on rs ts more (leads_row s (found s g)) (found s g) (k.tallies g);
+        apart = k.apart;
       }
 
   core_if_on : (o : Option Core) → CoreIfCast rs o → CoreIfCast ts o
@@ -71,7 +73,7 @@ module _ (rs ts : List Happened) (more : (r : Happened) → Has r rs → Has r t
 -- a node that starts
 started_cast : (rs : List Happened) (c : Config) (n j : ℕ) → CoreCast rs (started c n j)
 unfolding started with_sessions level_set views_new
-started_cast rs c n j = record { kept = λ k i. absurd i; lists = λ row i. absurd i; views = (tt, tt); order = tt; tallies = λ g. inl refl }
+started_cast rs c n j = record { kept = λ k i. absurd i; lists = λ row i. absurd i; views = (tt, tt); order = tt; tallies = λ g. inl refl; apart = λ g. refl }
 
 started_no_put : (h : History) (c : Config) (n j : ℕ) (r : Happened) → Has r (started c n j).records → (now : List Happened) → RecordCast now h r
 unfolding started with_sessions ring_record
@@ -185,7 +187,7 @@ fold_honest (n ∷ ns) w k = fold_honest ns (starts_too w n (w.cores n)) (too_ho
 step_honest : (w : Scene) (n : ℕ) (f : Answering) (s : Core) (e : NodeEvent) (v : Event) → w.cores n ≡ Some s → ((g : List ℕ) → Rests g w) → Arises w e → Honest w → Honest (ended w n v (stepped f s e))
 step_honest w n f s e v up rests arises k =
     let a : At w.before Every NoGroup (stepped f s e) = at_stepped w n f s e k.sent (λ h. begin_tied h w n s up (rests h)) arises (begin (subst (CoreIfCast (records_of w.before)) up (k.nodes n))) in
-    ended_honest w n v (stepped f s e) a.sends (record { kept = a.kept; lists = a.lists; views = a.views; order = a.order; tallies = λ g. a.tallies g tt }) a.puts k
+    ended_honest w n v (stepped f s e) a.sends (record { kept = a.kept; lists = a.lists; views = a.views; order = a.order; tallies = λ g. a.tallies g tt; apart = a.apart }) a.puts k
   where
     begin : CoreCast (records_of w.before) s → At w.before Every NoGroup (at_work s)
     begin c =
@@ -198,6 +200,7 @@ step_honest w n f s e v up rests arises k =
           order = c.order;
           tallies = λ g t. c.tallies g;
           led = λ g z. absurd z;
+          apart = c.apart;
         }
 
 reached_honest : (c : Config) (w : Scene) → Reached c w → Honest w

@@ -4,11 +4,12 @@ use Rattle.std.specs.Prelude.{not, filter, nat_le, reverse, if◌then◌else◌}
 use Rattle.std.proofs.lemmas.Bool.{and_parts}
 use Rattle.rsct_packet.specs.declared.ids.ViewId.{ViewId}
 use Rattle.rsct_packet.specs.declared.ids.ProviderId.{ProviderId}
-use Rattle.rsct_packet.specs.Providers.{among}
+use Rattle.rsct_packet.specs.Providers.{among, differ}
 use Rattle.rsct_packet.specs.Search.{Has}
 use Rattle.rsct_packet.proofs.HasLaws.{has_append}
 use Rattle.group_attr.specs.declared.attrs.Phases.{Phases}
 use Rattle.group_attr.specs.declared.attrs.Phases.TheVariants.{One, Many}
+use Rattle.group_entry.specs.declared.proposal.Cause.{Cause}
 use Rattle.group_entry.specs.declared.proposal.Cause.TheVariants.{Died, Gone}
 use Rattle.group_entry.specs.declared.proposal.Proposal.{Proposal}
 use Rattle.group_entry.specs.declared.entry.Entry.{Entry}
@@ -19,7 +20,7 @@ use Rattle.proposal_core.specs.Fold.{max_phases, fits, begun, approved, applied,
 use Rattle.proposal_core.proofs.FoldLaws.{idle_approved}
 use Rattle.proposal_core.specs.GroupView.{GroupView}
 use Rattle.proposal_core.specs.Lists.{list_or_new, state_in, has_room, entry_fits, with_entry, forgotten}
-use Rattle.batch_rules.specs.Waiting.{WaitingView, waits_failure}
+use Rattle.batch_rules.specs.Waiting.{WaitingView, takes_failure, waits_failure}
 use Rattle.vote_phases.specs.Tally.{TallyView}
 use Rattle.node_state.specs.declared.group.GroupRow.{GroupRow}
 use Rattle.node_state.specs.declared.group.Led.{Led}
@@ -33,7 +34,7 @@ use Rattle.node_state.specs.HandOn.{Answering, handed_on}
 use Rattle.node_state.specs.Leading.{put, put_and_handed, forgets_least, with_waiting, waits_if, new_members_wait, appended, appended_if, tally_for, tally_set, tally_opened, closing_entry, is_phase, closes_from, closes, begun_many, begins}
 use Rattle.run_safety.specs.Past.{History, records_of}
 use Rattle.step_ties.proofs.Turns.{has_turned}
-use Rattle.honest_votes.specs.Casts.{EntryCast, EntriesCast, ListCast, TallyCast}
+use Rattle.honest_votes.specs.Casts.{NamesOnce, EntryCast, EntriesCast, ListCast, TallyCast}
 use Rattle.honest_votes.proofs.More.{entry_on}
 use Rattle.honest_votes.proofs.At.{found, leads_row, RowIs, At, at_fold, at_recorded, at_row, at_row_for, more_pushed}
 use Rattle.honest_votes.proofs.Sends.{at_sent_all}
@@ -115,7 +116,7 @@ module _ (h : History) where
         let f : GroupRow → GroupRow = λ row. put_row s row e in
         let r : Happened = happened.Put s.views.me s.views.view g (len_of s g) e in
         let before : EntryCast (reverse s.records ++ records_of h) e = entry_on (s.records ++ records_of h) (reverse s.records ++ records_of h) (λ x i. has_turned x s.records (records_of h) i) e ok in
-        at_recorded h U G (with_row s g f) r before (at_row_for h T G U s g f (λ x. refl) (λ x. refl) (λ x all. entry_pushed (s.records ++ records_of h) (list_or_new x.list) s.views.view e ok all) others own a)
+        at_recorded h U G (with_row s g f) r before (at_row_for h T G U s g f (λ x. refl) (λ x. refl) (λ x all. entry_pushed (s.records ++ records_of h) (list_or_new x.list) s.views.view e ok all) (λ z. z) others own a)
 
     pub at_put_and_handed_for : (f : Answering) (s : Core) (to : Option ℕ) (g : List ℕ) (e : Entry) → EntryCast (s.records ++ records_of h) e → ((k : List ℕ) → U k → (g ≡ k → ⊥) → T k) → (U g → RowIs (s.records ++ records_of h) (leads_row s (found s g)) (put_row s (found s g) e)) → At h T G s → At h U G (put_and_handed f s to g e)
     unfolding put_and_handed
@@ -124,19 +125,27 @@ module _ (h : History) where
 
   module _ (T G : List ℕ → Type 0) where
     -- what a leader keeps changes, and the tally does not
-    pub at_led : (s : Core) (g : List ℕ) (f : Led → Led) → ((l : Led) → (f l).tally ≡ l.tally) → At h T G s → At h T G (with_led s g f)
+    pub at_led : (s : Core) (g : List ℕ) (f : Led → Led) → ((l : Led) → (f l).tally ≡ l.tally) → (differ (found s g).led.waiting.joins ≡ true → differ (f (found s g).led).waiting.joins ≡ true) → At h T G s → At h T G (with_led s g f)
     unfolding with_led
-    at_led s g f same a =
-        at_row h T G s g (λ row. record row { led = f row.led }) (λ x. refl) (λ x. refl) (λ x all. all) (λ t. row_is_same (s.records ++ records_of h) (leads_row s (found s g)) (found s g) (record (found s g) { led = f (found s g).led }) (same (found s g).led) refl (a.tallies g t)) a
+    at_led s g f same waits a =
+        at_row h T G s g (λ row. record row { led = f row.led }) (λ x. refl) (λ x. refl) (λ x all. all) waits (λ t. row_is_same (s.records ++ records_of h) (leads_row s (found s g)) (found s g) (record (found s g) { led = f (found s g).led }) (same (found s g).led) refl (a.tallies g t)) a
 
-    pub at_waits : (s : Core) (g : List ℕ) (change : WaitingView → WaitingView) → At h T G s → At h T G (with_waiting s g change)
+    pub at_waits : (s : Core) (g : List ℕ) (change : WaitingView → WaitingView) → ((x : WaitingView) → differ x.joins ≡ true → differ (change x).joins ≡ true) → At h T G s → At h T G (with_waiting s g change)
     unfolding with_waiting
-    at_waits s g change a = at_led s g (λ l. record l { waiting = change l.waiting }) (λ l. refl) a
+    at_waits s g change waits a = at_led s g (λ l. record l { waiting = change l.waiting }) (λ l. refl) (λ z. waits (found s g).led.waiting z) a
+
+    -- a failure that waits leaves the joins as they are
+    pub at_fails : (s : Core) (g : List ℕ) (p : ProviderId) (why : Cause) → At h T G s → At h T G (with_waiting s g (waits_failure p why))
+    at_fails s g p why a = at_waits s g (waits_failure p why) (λ x z. ap differ (joins_stay x (takes_failure p x)) ∙ z) a
+      where
+        joins_stay : (x : WaitingView) (b : Bool) → (if b then record x { failures = x.failures ++ record { p = p; cause = why } ∷ [] } else x).joins ≡ x.joins
+        joins_stay x true = refl
+        joins_stay x false = refl
 
     pub at_forgets : (s : Core) (g : List ℕ) (n : ℕ) → At h T G s → At h T G (forgets_below s g n)
     unfolding forgets_below
     at_forgets s g n a =
-        at_row h T G s g (λ row. record row { list = list_forgotten n row.list }) (λ x. refl) (λ x. refl) (λ x all. forgotten_cast (s.records ++ records_of h) x.list n all) (λ t. row_is_same (s.records ++ records_of h) (leads_row s (found s g)) (found s g) (record (found s g) { list = list_forgotten n (found s g).list }) refl (ap (λ (st : GroupState). st.running) (forgotten_state (found s g).list n)) (a.tallies g t)) a
+        at_row h T G s g (λ row. record row { list = list_forgotten n row.list }) (λ x. refl) (λ x. refl) (λ x all. forgotten_cast (s.records ++ records_of h) x.list n all) (λ z. z) (λ t. row_is_same (s.records ++ records_of h) (leads_row s (found s g)) (found s g) (record (found s g) { list = list_forgotten n (found s g).list }) refl (ap (λ (st : GroupState). st.running) (forgotten_state (found s g).list n)) (a.tallies g t)) a
 
     pub at_forgets_least : (s : Core) (g : List ℕ) → At h T G s → At h T G (forgets_least s g)
     unfolding forgets_least
@@ -144,8 +153,8 @@ module _ (h : History) where
 
     at_waits_if : (s : Core) (g : List ℕ) (p : ProviderId) (a b : Bool) → At h T G s → At h T G (waits_if s g p a b)
     unfolding waits_if
-    at_waits_if s g p true b k = at_waits s g (waits_failure p Died) k
-    at_waits_if s g p false true k = at_waits s g (waits_failure p Gone) k
+    at_waits_if s g p true b k = at_fails s g p Died k
+    at_waits_if s g p false true k = at_fails s g p Gone k
     at_waits_if s g p false false k = k
 
     at_new_members : (s : Core) (g : List ℕ) (before after : GroupState) → At h T G s → At h T G (new_members_wait s g before after)
@@ -176,7 +185,7 @@ module _ (h : History) where
     pub at_tally_set : (s : Core) (g : List ℕ) (t : Option TallyView) → (T g → RowIs (s.records ++ records_of h) (leads_row s (found s g)) (record (found s g) { led = record ((found s g).led) { tally = t; given = [] } })) → At h (But g T) G s → At h T G (tally_set s g t)
     unfolding tally_set with_led
     at_tally_set s g t own a =
-        at_row_for h (But g T) G T s g (λ row. record row { led = record (row.led) { tally = t; given = [] } }) (λ x. refl) (λ x. refl) (λ x all. all) (λ k u ne. (u, ne)) own a
+        at_row_for h (But g T) G T s g (λ row. record row { led = record (row.led) { tally = t; given = [] } }) (λ x. refl) (λ x. refl) (λ x all. all) (λ z. z) (λ k u ne. (u, ne)) own a
 
     pub at_tally_opened : (s : Core) (g : List ℕ) → G g → At h (But g T) G s → At h T G (tally_opened s g)
     unfolding tally_opened
@@ -185,7 +194,7 @@ module _ (h : History) where
 
     pub at_opened_anew : (s : Core) (g : List ℕ) → G g → At h T G s → At h T G (tally_opened s g)
     at_opened_anew s g led a =
-        at_tally_opened s g led (record { sends = a.sends; kept = a.kept; lists = a.lists; views = a.views; puts = a.puts; order = a.order; tallies = λ k t. a.tallies k t.0; led = a.led })
+        at_tally_opened s g led (record { sends = a.sends; kept = a.kept; lists = a.lists; views = a.views; puts = a.puts; order = a.order; tallies = λ k t. a.tallies k t.0; led = a.led; apart = a.apart })
 
     at_appended_loose : (f : Answering) (s : Core) (g : List ℕ) (e : Entry) → EntryCast (s.records ++ records_of h) e → At h T G s → At h (But g T) G (appended f s g e)
     at_appended_loose f s g e ok a = at_appended_for T G (But g T) f s g e ok (λ k u ne. u.0) (λ u. absurd (u.1 refl)) a
@@ -223,16 +232,16 @@ module _ (h : History) where
     unfolding closes
     at_closes f s g t led a = at_closes_from max_phases f s g t led a
 
-    at_begun_many : (f : Answering) (s : Core) (g : List ℕ) (x : Proposal) (b : Bool) → T g → G g → At h T G s → At h T G (begun_many f s g x b)
+    at_begun_many : (f : Answering) (s : Core) (g : List ℕ) (x : Proposal) (b : Bool) → NamesOnce x → T g → G g → At h T G s → At h T G (begun_many f s g x b)
     unfolding begun_many
-    at_begun_many f s g x false t led a = a
-    at_begun_many f s g x true t led a =
-        at_closes f (tally_opened (appended f s g (Begin x)) g) g t led (at_tally_opened (appended f s g (Begin x)) g led (at_appended_loose f s g (Begin x) tt a))
+    at_begun_many f s g x false once t led a = a
+    at_begun_many f s g x true once t led a =
+        at_closes f (tally_opened (appended f s g (Begin x)) g) g t led (at_tally_opened (appended f s g (Begin x)) g led (at_appended_loose f s g (Begin x) once a))
 
-    pub at_begins : (f : Answering) (s : Core) (g : List ℕ) (x : Proposal) (phases : Phases) → T g → G g → At h T G s → At h T G (begins f s g x phases)
+    pub at_begins : (f : Answering) (s : Core) (g : List ℕ) (x : Proposal) (phases : Phases) → NamesOnce x → T g → G g → At h T G s → At h T G (begins f s g x phases)
     unfolding begins appended_if fits_at_end entry_fits list_of row_of with_entry
-    at_begins f s g x Many t led a = at_begun_many f s g x (fits_at_end s g (Begin x)) t led a
-    at_begins f s g x One t led a = by (fits_at_end s g (Once x)) refl
+    at_begins f s g x Many once t led a = at_begun_many f s g x (fits_at_end s g (Begin x)) once t led a
+    at_begins f s g x One once t led a = by (fits_at_end s g (Once x)) refl
       where
         idle : fits_at_end s g (Once x) ≡ true → (state_in (put_row s (found s g) (Once x)).list).running ≡ None
         idle e = once_idle (state_in (found s g).list) s.views.view (list_or_new (found s g).list).len x (and_parts (fits (state_in (found s g).list) (Once x)) (has_room (list_or_new (found s g).list) (Once x)) e).0
@@ -240,7 +249,7 @@ module _ (h : History) where
         by : (b : Bool) → fits_at_end s g (Once x) ≡ b → At h T G (appended_if f s g (Once x) b)
         by false e = a
         by true e =
-            at_appended_for T G T f s g (Once x) tt (λ k u ne. u) (λ u. row_is_idle (s.records ++ records_of h) (leads_row s (found s g)) (found s g) (put_row s (found s g) (Once x)) refl (idle e) (a.tallies g u)) a
+            at_appended_for T G T f s g (Once x) once (λ k u ne. u) (λ u. row_is_idle (s.records ++ records_of h) (leads_row s (found s g)) (found s g) (put_row s (found s g) (Once x)) refl (idle e) (a.tallies g u)) a
 
     -- who is late is announced
     pub at_announces : (f : Answering) (s : Core) (g : List ℕ) (e : Entry) → EntryCast (s.records ++ records_of h) e → ((st : GroupState) (v : ViewId) (i : ℕ) → applied st v i e ≡ st) → (b : Bool) → At h T G s → At h T G (appended_if f s g e b)

@@ -1,4 +1,5 @@
 pub mod More
+pub mod Differing
 pub mod At
 pub mod Sends
 pub mod Keeps

@@ -32,8 +32,8 @@ module _ (rs ts : List Happened) (more : (r : Happened) → Has r rs → Has r t
   row_on proto phase p (row_vote.Failed d) k = tt
 
   pub entry_on : (e : Entry) → EntryCast rs e → EntryCast ts e
-  entry_on (Once x) k = tt
-  entry_on (Begin x) k = tt
+  entry_on (Once x) k = k
+  entry_on (Begin x) k = k
   entry_on (Phase c) k = λ r i. row_on c.proto c.phase r.p r.vote (k r i)
   entry_on (Approve c) k = λ r i. row_on c.proto c.phase r.p r.vote (k r i)
   entry_on (Reject c) k = λ r i. row_on c.proto c.phase r.p r.vote (k r i)

@@ -67,10 +67,10 @@ module _ (h : History) where
   -- ---- rings and reach
 
   at_rings : (s : Core) (rs : List Ring) → Full s → Full (record s { rings = rs })
-  at_rings s rs a = record { sends = a.sends; kept = a.kept; lists = a.lists; views = a.views; puts = a.puts; order = a.order; tallies = a.tallies; led = a.led }
+  at_rings s rs a = record { sends = a.sends; kept = a.kept; lists = a.lists; views = a.views; puts = a.puts; order = a.order; tallies = a.tallies; led = a.led; apart = a.apart }
 
   at_reach : (s : Core) (r : Reach) → Full s → Full (record s { reach = r })
-  at_reach s r a = record { sends = a.sends; kept = a.kept; lists = a.lists; views = a.views; puts = a.puts; order = a.order; tallies = a.tallies; led = a.led }
+  at_reach s r a = record { sends = a.sends; kept = a.kept; lists = a.lists; views = a.views; puts = a.puts; order = a.order; tallies = a.tallies; led = a.led; apart = a.apart }
 
   set_no_put : (n network : ℕ) (o : Option RingSet) (r : Happened) → Has r (set_records n network o) → (now : List Happened) → RecordCast now h r
   unfolding set_records
@@ -161,7 +161,7 @@ module _ (h : History) where
     at_ticked : (s : Core) (g : List ℕ) → At h Every G s → At h Every G (with_tally s g (ticked_in (led_of s g).tally))
     unfolding with_tally with_led led_of row_of
     at_ticked s g a =
-        at_row h Every G s g (λ row. record row { led = record (row.led) { tally = ticked_in (found s g).led.tally } }) (λ x. refl) (λ x. refl) (λ x all. all) (λ t. row_ticked (s.records ++ records_of h) (leads_row s (found s g)) (found s g) (a.tallies g t)) a
+        at_row h Every G s g (λ row. record row { led = record (row.led) { tally = ticked_in (found s g).led.tally } }) (λ x. refl) (λ x. refl) (λ x all. all) (λ z. z) (λ t. row_ticked (s.records ++ records_of h) (leads_row s (found s g)) (found s g) (a.tallies g t)) a
 
     at_tally_ticks : (s : Core) (g : List ℕ) (o : Option TallyView) → G g → At h Every G s → At h Every G (tally_ticks f s g o)
     unfolding tally_ticks

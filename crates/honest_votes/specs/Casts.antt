@@ -1,16 +1,19 @@
 -- That votes which are recorded, sent, kept or counted were cast.
-use Rattle.std.specs.Prelude.{ℕ, List, Option, Some, None}
+use Rattle.std.specs.Prelude.{◌≡◌, true, ℕ, List, Option, Some, None}
 use Rattle.rsct_packet.specs.declared.ids.ProviderId.{ProviderId}
 use Rattle.rsct_packet.specs.declared.ids.ProtoId.{ProtoId}
+use Rattle.rsct_packet.specs.Providers.{differ}
 use Rattle.rsct_packet.specs.Search.{Has}
 use Rattle.group_entry.specs.declared.entry.Vote.{Vote}
 use Rattle.group_entry.specs.declared.entry.RowVote.{RowVote}
 use Rattle.group_entry.specs.declared.entry.RowVote.TheVariants as row_vote
 use Rattle.group_entry.specs.declared.entry.Row.{Row}
 use Rattle.group_entry.specs.declared.entry.Closed.{Closed}
+use Rattle.group_entry.specs.declared.proposal.Proposal.{Proposal}
 use Rattle.group_entry.specs.declared.entry.Entry.{Entry}
 use Rattle.group_entry.specs.declared.entry.Entry.TheVariants.{Once, Begin, Phase, Approve, Reject, Late}
 use Rattle.proposal_core.specs.GroupView.{GroupView}
+use Rattle.proposal_core.specs.Fold.{joins_of}
 use Rattle.proposal_core.specs.Lists.{list_or_new}
 use Rattle.proposal_core.specs.declared.group_state.Running.{Running}
 use Rattle.vote_phases.specs.declared.voter.Voter.{Voter}
@@ -47,10 +50,14 @@ RowCast rs proto phase p (row_vote.Failed d) = Unit {0}
 abbrev pub RowsCast : List Happened → Closed → Type 0
 RowsCast rs c = (r : Row) → Has r c.rows → RowCast rs c.proto c.phase r.p r.vote
 
--- the rows of an entry that closes a phase
+-- the providers of a join differ
+abbrev pub NamesOnce : Proposal → Type 0
+NamesOnce x = differ (joins_of x) ≡ true
+
+-- the rows of an entry that closes a phase; and an entry that begins names no joiner twice
 abbrev pub EntryCast : List Happened → Entry → Type 0
-EntryCast rs (Once x) = Unit {0}
-EntryCast rs (Begin x) = Unit {0}
+EntryCast rs (Once x) = NamesOnce x
+EntryCast rs (Begin x) = NamesOnce x
 EntryCast rs (Phase c) = RowsCast rs c
 EntryCast rs (Approve c) = RowsCast rs c
 EntryCast rs (Reject c) = RowsCast rs c
@@ -67,7 +74,8 @@ RecordCast now before (happened.Put n v g i e) = EntryCast (earlier now before) 
 RecordCast now before _ = Unit {0}
 
 -- The votes that entries record were really cast: for each entry that closes a phase, where a node puts it, each row that
--- stands for a vote of a provider has an earlier record that the provider cast this vote, in that phase of that protocol.
+-- stands for a vote of a provider has an earlier record that the provider cast this vote, in that phase of that protocol. And an
+-- entry that begins names no joiner twice.
 abbrev pub VotesWereCast : History → Type 0
 VotesWereCast h = EachRecord RecordCast h
 
