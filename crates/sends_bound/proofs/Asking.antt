@@ -1,40 +1,50 @@
 -- The install of a node that asks itself alone is made of its own lists, so it may be entered.
-use Rattle.std.proofs.Common.{◌≡◌, ℕ, List, [], ◌∷◌, length, map, filter, Some, None, Option, Bool, true, false, cond, refl, sym, ap, ◌∙◌, subst, inl, inr, arith}
-use Rattle.std.specs.Prelude.{not, ◌==◌, find, is_some, nat_le}
+use Rattle.std.proofs.Common.{◌≡◌, ◌≤◌, ℕ, List, [], ◌∷◌, length, map, filter, Some, None, Option, Bool, true, false, cond, refl, sym, ap, ◌∙◌, subst, inl, inr, arith}
+use Rattle.std.specs.Prelude.{IsTrue, not, ◌==◌, ◌||◌, find, is_some, nat_le}
 use Rattle.std.specs.Str.{bytes_eq}
+use Rattle.std.proofs.lemmas.Bool.{and_parts}
 use Rattle.std.proofs.lemmas.Bool.Decides.{nat_tests}
 use Rattle.rsct_packet.specs.declared.ids.ViewId.{ViewId}
 use Rattle.rsct_packet.specs.declared.mask.Mask.{Mask}
 use Rattle.rsct_packet.specs.Mask.{nodes_of}
+use Rattle.rsct_packet.specs.Lists.{is_empty}
 use Rattle.view_core.specs.declared.packet.ViewPacket.TheVariants as packet
 use Rattle.rsct_packet.specs.Ids.{same_view}
 use Rattle.rsct_packet.specs.Text.{name_lt}
 use Rattle.rsct_packet.specs.Search.{Has}
 use Rattle.rsct_packet.proofs.HasLaws.{has_map, has_filter}
+use Rattle.proposal_core.specs.Fold.{present}
 use Rattle.proposal_core.specs.Lists.{list_or_new, state_in}
 use Rattle.view_exchange.specs.declared.exchange.Exchange.{Exchange}
 use Rattle.view_exchange.specs.declared.sides.Kept.{Kept}
 use Rattle.view_exchange.specs.declared.install.Part.{Part}
 use Rattle.view_exchange.specs.declared.install.Source.{Source}
+use Rattle.view_exchange.specs.declared.install.Install.{Install}
+use Rattle.view_exchange.specs.declared.install.Base.{Base}
 use Rattle.view_exchange.specs.Answers.{max_parts, opened, kept_of, side_from, with_side, with_answer, all_answered, source_of, install_of, is_spelled}
-use Rattle.view_exchange.specs.Bases.{parts_in, source_at, parts_from}
+use Rattle.view_exchange.specs.Bases.{IsBaseOf, is_candidate, parts_in, source_at, parts_from, bases_of}
+use Rattle.view_exchange.specs.Codec.{views_ascend}
 use Rattle.view_exchange.specs.Longest.{NamesDiffer}
+use Rattle.view_exchange.proofs.Bases.{base_is}
+use Rattle.view_core.specs.declared.views.RingAsk.{RingAsk}
 use Rattle.view_core.specs.declared.views.ViewWork.{ViewWork}
-use Rattle.view_core.specs.Views.{view_sent_all, gathering_set, promised, installs, gathered, gathers, own_answer, asks_view, next_view, may_ask, ask_if, ask_row, views_at_work}
+use Rattle.view_core.specs.Views.{view_sent_all, gathering_set, promised, installs, gathered, gathers, own_answer, asks_view, next_view, may_ask, ask_if, ask_row, prepared_again, stuck_noted, tick_asks, asks_or_ages, gathering_ticks, views_at_work}
 use Rattle.node_state.specs.declared.group.GroupRow.{GroupRow}
 use Rattle.node_state.specs.declared.state.Core.{Core}
 use Rattle.node_state.specs.State.{row_found, row_of, list_of, state_of, held_rows}
 use Rattle.node_state.specs.Applying.{part_of_list, own_parts}
 use Rattle.node_groups.specs.Places.{has_name, AllAfter, InNameOrder}
 use Rattle.node_groups.proofs.NameOrder.{text_same, text_self, lt_self}
+use Rattle.step_ties.proofs.Parts.{own_differ}
 use Rattle.sends_bound.specs.Bound.{Room, Stands, Fine, FineIf}
+use Rattle.sends_bound.proofs.BaseRooms.{bases_room, base_by_name}
 
-after_has : (h : List ℕ) (rows : List GroupRow) (row : GroupRow) → AllAfter h rows → Has row rows → name_lt h row.name ≡ true
+pub after_has : (h : List ℕ) (rows : List GroupRow) (row : GroupRow) → AllAfter h rows → Has row rows → name_lt h row.name ≡ true
 after_has h [] row a k = absurd k
 after_has h (r ∷ rows) row a (inl q) = subst (λ (z : GroupRow). name_lt h z.name ≡ true) (sym q) a.0
 after_has h (r ∷ rows) row a (inr k) = after_has h rows row a.1 k
 
-not_before : (a b : List ℕ) → a ≡ b → name_lt a b ≡ true → ⊥
+pub not_before : (a b : List ℕ) → a ≡ b → name_lt a b ≡ true → ⊥
 not_before a b q l = let f : name_lt a a ≡ true = subst (λ z. name_lt a z ≡ true) (sym q) l in let k = lt_self a in cc
 
 -- a row of the table is that of its name
@@ -48,42 +58,32 @@ found_itself (r ∷ rows) row o (inr k) = by (bytes_eq r.name row.name) refl (fo
     by true e h = absurd (not_before r.name row.name (text_same r.name row.name e) (after_has r.name rows row o.0 k))
     by false e h = h
 
+-- a row of the table is that of its name
+pub row_itself : (s : Core) (row : GroupRow) → InNameOrder s.groups → Has row s.groups → row_of s row.name ≡ row
+unfolding row_of
+row_itself s row o h = ap (row_found row.name) (found_itself s.groups row o h)
+
 row_has_room : (s : Core) (row : GroupRow) → Stands s → Has row s.groups → Room (state_in row.list)
-unfolding state_of list_of row_of
-row_has_room s row k h =
-    subst (λ (o : Option GroupRow). Room (state_in (row_found row.name o).list)) (found_itself s.groups row k.order h) (k.room row.name)
+unfolding state_of list_of
+row_has_room s row k h = subst (λ (z : GroupRow). Room (state_in z.list)) (row_itself s row k.order h) (k.room row.name)
 
 abbrev held : List GroupRow → List GroupRow
 held rows = filter (λ (row : GroupRow). is_some row.list) rows
 
-abbrev part_in : GroupRow → Part
+abbrev pub part_in : GroupRow → Part
 part_in row = part_of_list row (list_or_new row.list)
 
-parts_room : (s : Core) (p : Part) → Stands s → Has p (own_parts s) → Room p.state
-unfolding own_parts held_rows part_of_list
-parts_room s p k h =
-    let a = has_map part_in p (held s.groups) h in
-    let b = has_filter (λ (row : GroupRow). is_some row.list) a.0 s.groups a.1 in
-    subst (λ (z : Part). Room z.state) (sym a.2) (row_has_room s a.0 k b.0)
-
-parts_differ : (rows : List GroupRow) → InNameOrder rows → NamesDiffer (map part_in (held rows))
-unfolding part_of_list
-parts_differ [] o = tt
-parts_differ (row ∷ rows) o = by (is_some row.list) (parts_differ rows o.1)
-  where
-    apart : (q : Part) → Has q (map part_in (held rows)) → q.name ≡ row.name → ⊥
-    apart q h e =
-        let a = has_map part_in q (held rows) h in
-        let b = has_filter (λ (r : GroupRow). is_some r.list) a.0 rows a.1 in
-        let same : row.name ≡ a.0.name = sym e ∙ ap (λ (z : Part). z.name) a.2 in not_before row.name a.0.name same (after_has row.name rows a.0 o.0 b.0)
-
-    by : (b : Bool) → NamesDiffer (map part_in (held rows)) → NamesDiffer (map part_in (cond b (row ∷ held rows) (held rows)))
-    by true k = (apart, k)
-    by false k = k
-
-own_differ : (s : Core) → Stands s → NamesDiffer (own_parts s)
+-- an own part is that of a row
+pub own_part : (s : Core) (p : Part) → Has p (own_parts s) → (row : GroupRow) × Has row s.groups × (p ≡ part_in row)
 unfolding own_parts held_rows
-own_differ s k = parts_differ s.groups k.order
+own_part s p h =
+    let a = has_map part_in p (held s.groups) h in
+    let b = has_filter (λ (row : GroupRow). is_some row.list) a.0 s.groups a.1 in (a.0, b.0, a.2)
+
+parts_room : (s : Core) (p : Part) → Stands s → Has p (own_parts s) → Room p.state
+unfolding part_of_list
+parts_room s p k h =
+    let a = own_part s p h in subst (λ (z : Part). Room z.state) (sym a.2) (row_has_room s a.0 k a.1)
 
 parts_again : (n : ℕ) (ps : List Part) → map (λ (x : Kept). x.part) (map (kept_of n) ps) ≡ ps
 parts_again n [] = refl
@@ -92,31 +92,65 @@ parts_again n (p ∷ ps) = ap (λ qs. p ∷ qs) (parts_again n ps)
 view_self : (v : ViewId) → same_view v v ≡ true
 view_self v = grind (arith, nat_tests)
 
--- who asked alone answered alone
-abbrev alone : Core → ViewId → Mask → Exchange
-alone s v mask = with_answer (opened v mask) (own_answer s.views (own_parts s))
+-- ---- who asked alone answered alone
+
+abbrev pub alone : Core → ViewId → Mask → Install
+alone s v mask = install_of (with_answer (opened v mask) (own_answer s.views (own_parts s)))
 
 own_source : (s : Core) → Source
 own_source s = source_of (side_from (own_answer s.views (own_parts s)))
 
-alone_fine : (s : Core) (v : ViewId) (mask : Mask) → Stands s → Fine s.views.view (install_of (alone s v mask))
+-- it carries the own lists
+alone_parts : (s : Core) (v : ViewId) (mask : Mask) (x : Source) → Has x (alone s v mask).sources → (p : Part) → Has p x.parts → Has p (own_parts s)
+unfolding install_of with_answer opened with_side side_from own_source
+alone_parts s v mask x h p j = at h
+  where
+    at : Has x (own_source s ∷ []) → Has p (own_parts s)
+    at (inl q) =
+        subst (Has p) (parts_again s.views.me (own_parts s)) (subst (λ (y : Source). Has p y.parts) q j)
+    at (inr z) = absurd z
+
+pub alone_from : (s : Core) (v : ViewId) (mask : Mask) → parts_from (alone s v mask) s.views.view ≡ own_parts s
 unfolding install_of with_answer opened with_side side_from own_source parts_from source_at
+alone_from s v mask =
+    ap (λ b. parts_in (cond b (Some (own_source s)) None)) (view_self s.views.view) ∙ parts_again s.views.me (own_parts s)
+
+alone_ascends : (s : Core) (v : ViewId) (mask : Mask) → IsTrue (views_ascend (alone s v mask).sources)
+unfolding install_of with_answer opened with_side
+alone_ascends s v mask = refl
+
+alone_few : (s : Core) (v : ViewId) (mask : Mask) → length (alone s v mask).members ≤ 32
+unfolding install_of with_answer opened
+alone_few s v mask = omega arith
+
+pub alone_fine : (s : Core) (v : ViewId) (mask : Mask) → Stands s → Fine s.views.view (alone s v mask)
 alone_fine s v mask k =
     record {
-      few = omega arith;
-      ascend = refl;
-      room = λ x h p j. at x h p j;
-      apart = subst NamesDiffer (sym (ap (λ b. parts_in (cond b (Some (own_source s)) None)) (view_self s.views.view) ∙ parts_again s.views.me (own_parts s))) differs;
+      few = alone_few s v mask;
+      room = bases_room (alone s v mask) (alone_ascends s v mask) (λ x h p j. parts_room s p k (alone_parts s v mask x h p j));
+      apart = subst NamesDiffer (sym (alone_from s v mask)) (own_differ s k.order);
     }
-  where
-    at : (x : Source) → Has x (own_source s ∷ []) → (p : Part) → Has p x.parts → Room p.state
-    at x (inl q) p j =
-        let z : Has p (own_source s).parts = subst (λ (y : Source). Has p y.parts) q j in
-        parts_room s p k (subst (Has p) (parts_again s.views.me (own_parts s)) z)
-    at x (inr z) p j = absurd z
 
-    differs : NamesDiffer (own_parts s)
-    differs = own_differ s k
+-- a base is that of an own list
+pub alone_base : (s : Core) (v : ViewId) (mask : Mask) (b : Base) → Has b (bases_of (alone s v mask)) → (row : GroupRow) × Has row s.groups × (row.name ≡ b.name) × (present b.state ≡ present (state_in row.list))
+unfolding part_of_list is_candidate
+alone_base s v mask b h =
+    let i : Install = alone s v mask in
+    let k : IsBaseOf i b.name b = base_is i b.name (Some b) (alone_ascends s v mask) (sym (base_by_name i b h)) in
+    let c = k.wins.candidate in
+    let a = own_part s k.part (alone_parts s v mask k.source c.0 k.part c.1.0) in
+    let named : bytes_eq k.part.name b.name ≡ true = (and_parts (bytes_eq k.part.name b.name) (not (is_empty k.part.state.members) || is_some k.part.state.running) c.1.1).0 in
+    (a.0, a.1, sym (ap (λ (z : Part). z.name) a.2) ∙ text_same k.part.name b.name named, ap present k.state ∙ ap (λ (z : Part). present z.state) a.2)
+
+-- ---- the install of a node that asks
+
+abbrev pub AloneIf : Core → Option Install → Type 0
+AloneIf s None = Unit {0}
+AloneIf s (Some i) = (v : ViewId) × (mask : Mask) × (i ≡ alone s v mask)
+
+pub alone_fine_if : (s : Core) (o : Option Install) → Stands s → AloneIf s o → FineIf s.views.view o
+alone_fine_if s None k z = tt
+alone_fine_if s (Some i) k z = subst (Fine s.views.view) (sym z.2) (alone_fine s z.0 z.1 k)
 
 -- an order to ask, by whether it may and whether it is spelled
 asked_if : ViewWork → Core → Mask → Bool → Bool → ViewWork
@@ -128,28 +162,54 @@ unfolding ask_if asked_if
 asked_is w s mask true = refl
 asked_is w s mask false = refl
 
-pub asks_fine : (s : Core) (mask : Mask) → Stands s → FineIf s.views.view (ask_row (views_at_work s.views) mask (own_parts s)).install
+-- it is made of its own answer
+asks_alone : (w : ViewWork) (s : Core) (mask : Mask) → w.install ≡ None → own_answer w.views (own_parts s) ≡ own_answer s.views (own_parts s) → AloneIf s (ask_row w mask (own_parts s)).install
 unfolding ask_row asked_if asks_view gathers gathered installs view_sent_all gathering_set promised
-asks_fine s mask k = subst (λ (z : ViewWork). FineIf s.views.view z.install) (sym (asked_is (views_at_work s.views) s mask (may_ask s.views mask))) (by (may_ask s.views mask) (nat_le (length (own_parts s)) max_parts))
+asks_alone w s mask none same = subst (λ (z : ViewWork). AloneIf s z.install) (sym (asked_is w s mask (may_ask w.views mask))) (by (may_ask w.views mask) (nat_le (length (own_parts s)) max_parts))
   where
-    w : ViewWork
-    w = views_at_work s.views
-
     g : Exchange
-    g = alone s (next_view s.views) mask
+    g = with_answer (opened (next_view w.views) mask) (own_answer w.views (own_parts s))
 
     x : ViewWork
-    x = view_sent_all (promised w (next_view s.views)) (filter (λ n. not (n == s.views.me)) (nodes_of mask)) (packet.Prepare (next_view s.views) mask)
+    x = view_sent_all (promised w (next_view w.views)) (filter (λ n. not (n == w.views.me)) (nodes_of mask)) (packet.Prepare (next_view w.views) mask)
 
-    spelled : (b : Bool) → FineIf s.views.view (installs (gathering_set x None) (install_of g) b).install
-    spelled false = tt
-    spelled true = alone_fine s (next_view s.views) mask k
+    nothing : AloneIf s w.install
+    nothing = subst (AloneIf s) (sym none) tt
 
-    all : (b : Bool) → FineIf s.views.view (gathered x g b).install
-    all false = tt
+    spelled : (b : Bool) → AloneIf s (installs (gathering_set x None) (install_of g) b).install
+    spelled false = nothing
+    spelled true = (next_view w.views, mask, ap (λ a. install_of (with_answer (opened (next_view w.views) mask) a)) same)
+
+    all : (b : Bool) → AloneIf s (gathered x g b).install
+    all false = nothing
     all true = spelled (is_spelled (install_of g))
 
-    by : (b c : Bool) → FineIf s.views.view (asked_if w s mask b c).install
-    by false c = tt
-    by true false = tt
+    by : (b c : Bool) → AloneIf s (asked_if w s mask b c).install
+    by false c = nothing
+    by true false = nothing
     by true true = all (all_answered g)
+
+pub asks_fine : (s : Core) (mask : Mask) → Stands s → FineIf s.views.view (ask_row (views_at_work s.views) mask (own_parts s)).install
+asks_fine s mask k =
+    alone_fine_if s (ask_row (views_at_work s.views) mask (own_parts s)).install k (asks_alone (views_at_work s.views) s mask refl refl)
+
+-- in a tick
+pub ticks_alone : (s : Core) (o : Option RingAsk) → AloneIf s (gathering_ticks (views_at_work s.views) o (own_parts s)).install
+unfolding gathering_ticks asks_or_ages stuck_noted prepared_again view_sent_all gathering_set
+ticks_alone s None = again (views_at_work s.views) s.views.gathering refl
+  where
+    again : (w : ViewWork) (g : Option Exchange) → w.install ≡ None → AloneIf s (prepared_again w g).install
+    again w None e = subst (AloneIf s) (sym e) tt
+    again w (Some g) e = subst (AloneIf s) (sym e) tt
+ticks_alone s (Some a) = by (tick_asks s.views a)
+  where
+    w : ViewWork
+    w = stuck_noted (views_at_work s.views)
+
+    again : (g : Option Exchange) → AloneIf s (prepared_again w g).install
+    again None = tt
+    again (Some g) = tt
+
+    by : (b : Bool) → AloneIf s (asks_or_ages w a (own_parts s) b).install
+    by true = asks_alone w s a.mask refl refl
+    by false = again w.views.gathering

@@ -24,12 +24,12 @@ use Rattle.sends_bound.proofs.Rows.{nothing_of, goes_request_sent}
 
 -- a ballot, if it is filled
 pub goes_kept_sent : (s : Core) (x : KeptBallot) → Stands s → Goes 1 s (kept_sent s x)
-unfolding kept_sent kept_sent_to
+unfolding kept_sent kept_sent_to vote_of
 goes_kept_sent s x k = by x.ballot.filled
   where
     by : (b : Option Filled) → Goes 1 s (kept_sent_to s x (leader_of s x.group) b)
     by None = nothing_of 1 s k
-    by (Some b) = goes_sent_if s (leader_of s x.group) (vote_of s x.group x.proto x.phase x.p b) k
+    by (Some b) = goes_sent_if s (leader_of s x.group) (vote_of s x.group x.proto x.phase x.p b) tt k
 
 goes_call_refused : (c : ℕ) (s : Core) (client : List ℕ) (fault : GsFault) → Stands s → Goes c s (call_refused s client fault)
 unfolding call_refused
@@ -82,7 +82,7 @@ goes_all_gone s xs k = by (frozen s)
   where
     by : (b : Bool) → Goes (length xs) s (elim b [ true ↦ s | false ↦ fold gone_sent s xs ])
     by true = nothing_of (length xs) s k
-    by false = fold_each gone_sent (λ t x h. goes_sent_if t (leader_of t x.group) (body.Gone t.views.view x.group x.p) h) xs s k
+    by false = fold_each gone_sent (λ t x h. goes_sent_if t (leader_of t x.group) (body.Gone t.views.view x.group x.p) tt h) xs s k
 
 goes_goodbye : (s : Core) (client : List ℕ) (xs : List Provider) (r : Result SessionState GsFault) → Stands s → Goes (length xs) s (goodbye_said s client xs r)
 unfolding goodbye_said

@@ -99,6 +99,7 @@ goes_left_out s g b source out few k =
       stands = r.stands;
       views = r.views ∙ a.views;
       config = r.config ∙ a.config;
+      lasts = λ h. r.lasts (a.lasts h);
     }
 
 goes_joins : (n : ℕ) (f : Answering) (s : Core) (g : List ℕ) → Stands s → Goes 0 s (joins_begin n f s g).core

@@ -1,5 +1,5 @@
 -- What a node sends as it enters a view: what it owes, TAKEN, and a hundred packets for each put.
-use Rattle.std.proofs.Common.{◌≡◌, ◌≤◌, ℕ, ◌+◌, List, [], ◌∷◌, length, map, filter, fold, flat_map, Some, None, Option, Bool, true, false, cond, refl, sym, ap, ◌∙◌, subst, inl, inr, arith}
+use Rattle.std.proofs.Common.{◌≡◌, ◌≤◌, ℕ, ◌+◌, List, [], ◌∷◌, length, map, filter, fold, flat_map, Some, None, Option, Bool, true, false, cond, refl, sym, ap, ◌∙◌, subst, inl, inr, arith, length-append}
 use Rattle.std.specs.Prelude.{not, ◌&&◌, ◌==◌, find, is_some}
 use Rattle.std.specs.Str.{bytes_eq}
 use Rattle.rsct_packet.specs.declared.ids.ProviderId.{ProviderId}
@@ -21,65 +21,53 @@ use Rattle.session_state.specs.State.{provider_of, outstanding}
 use Rattle.session_state.specs.HandOn.{telling_taken}
 use Rattle.view_exchange.specs.declared.install.Install.{Install}
 use Rattle.view_exchange.specs.declared.install.Base.{Base}
-use Rattle.view_exchange.specs.Bases.{IsBaseOf, parts_from, base_of, bases_for, bases_of, names_in, base_named}
-use Rattle.view_exchange.proofs.Bases.{base_is}
+use Rattle.view_exchange.specs.Bases.{parts_from, bases_of, base_named}
 use Rattle.view_core.specs.declared.packet.ViewPacket.TheVariants as packet
 use Rattle.view_core.specs.declared.packet.ViewSend.{ViewSend}
 use Rattle.view_core.specs.declared.views.Views.{Views}
 use Rattle.view_core.specs.declared.views.ViewWork.{ViewWork}
-use Rattle.view_core.specs.Views.{views_at_work, views_entered}
+use Rattle.view_core.specs.Views.{own_install, views_at_work, views_entered}
 use Rattle.node_state.specs.declared.group.GroupRow.{GroupRow}
 use Rattle.node_state.specs.declared.happened.Happened.{Happened}
 use Rattle.node_state.specs.declared.happened.Happened.TheVariants as happened
 use Rattle.node_state.specs.declared.packet.Body.TheVariants as body
+use Rattle.node_state.specs.declared.packet.Packet.{Packet}
 use Rattle.node_state.specs.declared.state.Core.{Core}
 use Rattle.node_state.specs.State.{row_found, row_of, list_of, state_of, held_rows, led_groups, recorded, recorded_all, with_sessions}
-use Rattle.node_state.specs.Sending.{sent, requests_sent, votes_sent_again}
+use Rattle.node_state.specs.Sending.{network_to, packet_on, sent_on, sent, requests_sent, votes_sent_again}
 use Rattle.node_state.specs.HandOn.{Answering, subscriber_name, note_of}
 use Rattle.node_state.specs.Leading.{with_waiting, tally_opened, closes}
 use Rattle.node_state.specs.Applying.{Lacking, lacking, lists_filled, level_set, base_row, base_leader, base_record, view_entered, is_in_base, number_of, dissolved, dissolved_if, group_dissolved, sides_dissolved, base_note, entering_note, entering_noted, taken_sent, owed_sent, failed_wait, phase_reopened, group_led, groups_led, entered, entered_if, install_applied, views_taken}
 use Rattle.node_groups.specs.Places.{has_name}
 use Rattle.step_ties.proofs.BaseOrder.{bases_ordered}
 use Rattle.sends_bound.specs.Bound.{puts_of, waits_of, Room, Stands, Within, Fine, FineIf}
+use Rattle.sends_bound.specs.Lasting.{WaitsFew, FewIn, FewIf, FewView, FewSent, FewViews, Lasting}
 use Rattle.sends_bound.proofs.Counts.{puts_both}
-use Rattle.sends_bound.proofs.Parts.{Goes, goes_same, goes_then, then_free, fold_free, fold_each, goes_sent, goes_recorded_all, goes_recorded, goes_sessions}
+use Rattle.sends_bound.proofs.Parts.{Goes, goes_same, goes_then, then_free, fold_free, sent_few, goes_sent, goes_recorded_all, goes_recorded, goes_sessions}
 use Rattle.sends_bound.proofs.Leads.{goes_waits_failure, goes_opened, goes_closes}
 use Rattle.sends_bound.proofs.Ticks.{goes_requests_sent, goes_votes_again}
-use Rattle.sends_bound.proofs.Owed.{sends_fold, sends_sent, sends_requests, kept_same, sessions_same}
+use Rattle.sends_bound.proofs.Owed.{Sends, sends_none, sends_then, sends_sent, sends_requests, groups_same, records_same, views_same, kept_same, sessions_same}
 use Rattle.sends_bound.proofs.Sessions.{Less, less_told}
 use Rattle.sends_bound.proofs.Filling.{Holds, holds_same, holds_then, holds_free, holds_fold, holds_goes, holds_by, FilledAll, filled}
 use Rattle.sends_bound.proofs.ViewSends.{Works}
+use Rattle.sends_bound.proofs.ViewKeeps.{FewWork}
 
 -- from one state to another, maybe in another view
 pub record Moves (c : ℕ) (s t : Core) : Type 0 where
   pub within : Within c s t
   pub stands : Stands t
+  pub lasts : Lasting s → Lasting t
 
 pub moves_goes : (c : ℕ) (s t : Core) → Goes c s t → Moves c s t
-moves_goes c s t g = record { within = g.within; stands = g.stands }
+moves_goes c s t g = record { within = g.within; stands = g.stands; lasts = g.lasts }
 
 pub moves_then : (a b : ℕ) (s t u : Core) → Moves a s t → Moves b t u → Moves (a + b) s u
-moves_then a b s t u x y = record { within = omega (arith, x.within, y.within); stands = y.stands }
+moves_then a b s t u x y = record { within = omega (arith, x.within, y.within); stands = y.stands; lasts = λ h. y.lasts (x.lasts h) }
 
 pub moves_more : (a b : ℕ) (s t : Core) → a ≤ b → Moves a s t → Moves b s t
-moves_more a b s t le x = record { within = omega (arith, x.within, le); stands = x.stands }
+moves_more a b s t le x = record { within = omega (arith, x.within, le); stands = x.stands; lasts = x.lasts }
 
 -- ---- the bases
-
-base_room : (v : ViewId) (i : Install) (g : List ℕ) (b : Base) → Fine v i → base_of i g ≡ Some b → Room b.state
-base_room v i g b fine e =
-    let k : IsBaseOf i g b = base_is i g (Some b) fine.ascend (sym e) in
-    subst Room (sym k.state) (fine.room k.source k.wins.candidate.0 k.part k.wins.candidate.1.0)
-
-bases_room : (v : ViewId) (i : Install) → Fine v i → (ns : List (List ℕ)) (b : Base) → Has b (bases_for i ns) → Room b.state
-unfolding bases_for
-bases_room v i fine [] b h = absurd h
-bases_room v i fine (n ∷ ns) b h = by (base_of i n) refl (bases_room v i fine ns b) h
-  where
-    by : (o : Option Base) → base_of i n ≡ o → (Has b (bases_for i ns) → Room b.state) → Has b (elim o as (λ _. List Base) [ None ↦ bases_for i ns | Some x ↦ x ∷ bases_for i ns ]) → Room b.state
-    by None e on h = on h
-    by (Some x) e on (inl q) = subst (λ (z : Base). Room z.state) (sym q) (base_room v i n x fine e)
-    by (Some x) e on (inr k) = on k
 
 found_room : (g : List ℕ) (bs : List Base) → ((b : Base) → Has b bs → Room b.state) → Room (state_in (row_found g (find (has_name g) (map base_row bs))).list)
 unfolding base_row
@@ -89,6 +77,23 @@ found_room g (b ∷ bs) h = by (bytes_eq b.name g) (found_room g bs (λ x k. h x
     by : (t : Bool) → Room (state_in (row_found g (find (has_name g) (map base_row bs))).list) → Room (state_in (row_found g (cond t (Some (base_row b)) (find (has_name g) (map base_row bs)))).list)
     by true k = h b (inl refl)
     by false k = k
+
+found_waits : (g : List ℕ) (bs : List Base) → WaitsFew (row_found g (find (has_name g) (map base_row bs)))
+unfolding base_row
+found_waits g [] = record { few = omega arith; known = inl refl }
+found_waits g (b ∷ bs) = by (bytes_eq b.name g) (found_waits g bs)
+  where
+    by : (t : Bool) → WaitsFew (row_found g (find (has_name g) (map base_row bs))) → WaitsFew (row_found g (cond t (Some (base_row b)) (find (has_name g) (map base_row bs))))
+    by true k = record { few = omega arith; known = inl refl }
+    by false k = k
+
+own_few : (v : Views) (i : Install) → FewIn i → FewIf (own_install v i)
+unfolding own_install
+own_few v i few = by (i.view.coord == v.me && i.view.inc == v.inc)
+  where
+    by : (b : Bool) → FewIf (elim b [ true ↦ Some i | false ↦ None ])
+    by true = few
+    by false = tt
 
 no_waits : (bs : List Base) → waits_of (map base_row bs) ≡ 0
 unfolding base_row
@@ -103,7 +108,7 @@ no_put_bases s (b ∷ bs) = let h : puts_of (map (base_record s) bs) ≡ 0 = no_
 abbrev entered_at : Core → Install → List Base → Core
 entered_at s i bs = record s { views = views_entered s.views i; sessions = level_set s i.members; groups = map base_row bs; names = map base_leader bs }
 
-holds_entered : (v : ViewId) (s : Core) (i : Install) → Fine v i → Holds 0 s (view_entered s i (bases_of i))
+pub holds_entered : (v : ViewId) (s : Core) (i : Install) → Fine v i → Holds 0 s (view_entered s i (bases_of i))
 unfolding view_entered recorded_all views_entered level_set state_of list_of row_of bases_of
 holds_entered v s i fine =
     let bs : List Base = bases_of i in
@@ -111,7 +116,8 @@ holds_entered v s i fine =
     let rs : List Happened = map (base_record (entered_at s i bs)) bs in
     record {
       within = omega (arith, puts_both s.records (happened.In (entered_at s i bs).views.me i.view i.members ∷ rs), no_put_bases (entered_at s i bs) bs, no_waits bs);
-      stands = record { few = fine.few; order = bases_ordered i; room = λ g. found_room g bs (bases_room v i fine (names_in i.sources)) };
+      stands = record { few = fine.few; order = bases_ordered i; room = λ g. found_room g bs fine.room };
+      lasts = λ h. record { rings = h.rings; waits = λ g. found_waits g bs; views = record { gathering = tt; install = own_few s.views i fine.few }; sent = h.sent };
     }
 
 -- ---- who is dissolved, and who is told
@@ -126,7 +132,7 @@ holds_dissolved s p r k =
     told_holds s u (then_free 0 s t u a b) (less_told s.sessions p r Dissolved)
   where
     told_holds : (s u : Core) → Goes 0 s u → Less 0 s.sessions u.sessions → Holds 0 s u
-    told_holds s u g l = record { within = omega (arith, g.within, l.kept, l.requests); stands = g.stands }
+    told_holds s u g l = record { within = omega (arith, g.within, l.kept, l.requests); stands = g.stands; lasts = g.lasts }
 
 holds_dissolved_if : (s : Core) (g : List ℕ) (old : ViewId) (b : Option Base) (o : Option Provider) → Stands s → Holds 0 s (dissolved_if s g old b o)
 unfolding dissolved_if
@@ -137,7 +143,7 @@ holds_dissolved_if s g old b (Some x) k = by (x.takes_part && bytes_eq x.group g
     by true = holds_dissolved s x.p (number_of (outstanding s.sessions x.p)) k
     by false = holds_same s k
 
-holds_sides : (s : Core) (rows : List GroupRow) (old : ViewId) (bs : List Base) → Stands s → Holds 0 s (sides_dissolved s rows old bs)
+pub holds_sides : (s : Core) (rows : List GroupRow) (old : ViewId) (bs : List Base) → Stands s → Holds 0 s (sides_dissolved s rows old bs)
 unfolding sides_dissolved group_dissolved
 holds_sides s rows old bs k =
     holds_fold (group_dissolved old bs) (λ t row h. holds_fold (λ (u : Core) p. dissolved_if u row.name old (base_named bs row.name) (provider_of u.sessions p)) (λ u p j. holds_dissolved_if u row.name old (base_named bs row.name) (provider_of u.sessions p) j) (present (state_in row.list)) t h) rows s k
@@ -159,12 +165,12 @@ no_put_entering s bs [] = refl
 no_put_entering s bs (u ∷ us) =
     omega (arith, puts_both (entering_note s bs u) (flat_map (entering_note s bs) us), no_put_note s bs u, no_put_entering s bs us)
 
-holds_noted : (s : Core) (bs : List Base) → Stands s → Holds 0 s (entering_noted s bs)
+pub holds_noted : (s : Core) (bs : List Base) → Stands s → Holds 0 s (entering_noted s bs)
 unfolding entering_noted recorded_all
 holds_noted s bs k =
     holds_goes s (recorded_all s (flat_map (entering_note s bs) s.sessions.subs.live)) refl (goes_recorded_all s (flat_map (entering_note s bs) s.sessions.subs.live) (no_put_entering s bs s.sessions.subs.live) k)
 
-holds_taken : (s : Core) → Stands s → Holds 1 s (taken_sent s)
+pub holds_taken : (s : Core) → Stands s → Holds 1 s (taken_sent s)
 unfolding taken_sent
 holds_taken s k = by (s.views.view.coord == s.views.me)
   where
@@ -172,18 +178,18 @@ holds_taken s k = by (s.views.view.coord == s.views.me)
     t = sent s s.views.view.coord (body.View (packet.Taken s.views.view))
 
     g : Goes 1 s t
-    g = goes_sent s s.views.view.coord (body.View (packet.Taken s.views.view)) k
+    g = goes_sent s s.views.view.coord (body.View (packet.Taken s.views.view)) tt k
 
     same : t.sessions ≡ s.sessions
     same = sessions_same s t (sends_sent s s.views.view.coord (body.View (packet.Taken s.views.view)))
 
     by : (b : Bool) → Holds 1 s (elim b [ true ↦ s | false ↦ t ])
-    by true = record { within = omega arith; stands = k }
+    by true = record { within = omega arith; stands = k; lasts = λ h. h }
     by false = holds_by 1 s t same g
 
 -- ---- what is owed, and what is led
 
-goes_owed : (s : Core) → Stands s → Goes (length s.sessions.requests + length s.sessions.kept) s (owed_sent s)
+pub goes_owed : (s : Core) → Stands s → Goes (length s.sessions.requests + length s.sessions.kept) s (owed_sent s)
 unfolding owed_sent
 goes_owed s k =
     let t : Core = requests_sent s in
@@ -214,7 +220,7 @@ goes_groups_led f s k = fold_free (group_led f) (goes_group_led f) (led_groups s
 
 -- ---- the whole
 
-moves_entered : (f : Answering) (s : Core) (i : Install) (xs : List Lacking) → Fine s.views.view i → lacking s i ≡ Some xs → Stands s → Moves (1 + length s.sessions.requests + length s.sessions.kept) s (entered f s i xs)
+pub moves_entered : (f : Answering) (s : Core) (i : Install) (xs : List Lacking) → Fine s.views.view i → lacking s i ≡ Some xs → Stands s → Moves (1 + length s.sessions.requests + length s.sessions.kept) s (entered f s i xs)
 unfolding entered lacking
 moves_entered f s i xs fine e k =
     let t : Core = lists_filled f s xs in
@@ -235,33 +241,93 @@ moves_entered f s i xs fine e k =
     let sw : Holds 0 s w = holds_free s u w su hw in
     let sx : Holds 0 s x = holds_free s w x sw hx in
     let sy : Holds 1 s y = holds_then 0 1 s x y sx hy in
-    record { within = omega (arith, sy.within, gz.within, gl.within); stands = gl.stands }
+    record { within = omega (arith, sy.within, gz.within, gl.within); stands = gl.stands; lasts = λ h. gl.lasts (gz.lasts (sy.lasts h)) }
 
 moves_applied : (f : Answering) (s : Core) (o : Option Install) → FineIf s.views.view o → Stands s → Moves (1 + length s.sessions.requests + length s.sessions.kept) s (install_applied f s o)
 unfolding install_applied entered_if
-moves_applied f s None fine k = record { within = omega arith; stands = k }
+moves_applied f s None fine k = record { within = omega arith; stands = k; lasts = λ h. h }
 moves_applied f s (Some i) fine k = by (lacking s i) refl
   where
     by : (o : Option (List Lacking)) → lacking s i ≡ o → Moves (1 + length s.sessions.requests + length s.sessions.kept) s (entered_if f s i o)
-    by None e = record { within = omega arith; stands = k }
+    by None e = record { within = omega arith; stands = k; lasts = λ h. h }
     by (Some xs) e = moves_entered f s i xs fine e k
 
 pub stands_views : (s : Core) (v : Views) → v.members ≡ s.views.members → Stands s → Stands (record s { views = v })
 unfolding state_of list_of row_of
 stands_views s v e k = record { few = subst (λ ms. length ms ≤ 32) (sym e) k.few; order = k.order; room = k.room }
 
--- what a row of views sends, and the install that it applies
-pub moves_taken : (c : ℕ) (f : Answering) (s : Core) (w : ViewWork) → Works c (views_at_work s.views) w → FineIf s.views.view w.install → Stands s → Moves (c + 1 + length s.sessions.requests + length s.sessions.kept) s (views_taken f s w)
-unfolding views_taken
-moves_taken c f s w works fine k =
+lasts_views : (s : Core) (v : Views) → FewViews v → Lasting s → Lasting (record s { views = v })
+unfolding row_of
+lasts_views s v few h = record { rings = h.rings; waits = h.waits; views = few; sent = h.sent }
+
+stands_sends : (s t : Core) → Sends s t → Stands s → Stands t
+unfolding Sends state_of list_of row_of
+stands_sends s t a k = subst Stands (sym a.1) (record { few = k.few; order = k.order; room = k.room })
+
+lasts_sends : (s t : Core) → Sends s t → Lasting s → FewSent t.sends → Lasting t
+unfolding Sends row_of
+lasts_sends s t a h few =
+    subst Lasting (sym a.1) (record { rings = h.rings; waits = h.waits; views = h.views; sent = subst FewSent (ap (λ (z : Core). z.sends) a.1) few })
+
+-- ---- what a row of views sends
+
+-- packets of views are sent one after another
+record SentViews (ws : List ViewSend) (s t : Core) : Type 0 where
+  long : length t.sends ≡ length s.sends + length ws
+  sends : Sends s t
+  few : ((x : ViewSend) → Has x ws → FewView x.packet) → FewSent s.sends → FewSent t.sends
+
+abbrev pub view_step : Core → ViewSend → Core
+view_step t x = sent t x.to (body.View x.packet)
+
+sent_views : (ws : List ViewSend) (s : Core) → SentViews ws s (fold view_step s ws)
+unfolding sent sent_on packet_on
+sent_views [] s = record { long = omega arith; sends = sends_none s; few = λ a b. b }
+sent_views (x ∷ ws) s =
+    let t : Core = view_step s x in
+    let r : SentViews ws t (fold view_step t ws) = sent_views ws t in
+    let p : Packet = packet_on s (network_to s x.to) x.to (body.View x.packet) in
+    record {
+      long = omega (arith, r.long, length-append s.sends (p ∷ []));
+      sends = sends_then s t (fold view_step t ws) (sends_sent s x.to (body.View x.packet)) r.sends;
+      few = λ a b. r.few (λ y i. a y (inr i)) (sent_few s.sends p (a x (inl refl)) b);
+    }
+
+-- a row of views, up to the install that it applies
+pub record Viewed (c : ℕ) (s t : Core) (v : Views) : Type 0 where
+  pub within : Within c s t
+  pub stands : Stands t
+  pub lasts : Lasting s → Lasting t
+  pub sends : Sends (record s { views = v }) t
+
+pub row_viewed : (c : ℕ) (s : Core) (w : ViewWork) → Works c (views_at_work s.views) w → (FewWork (views_at_work s.views) → FewWork w) → Stands s → Viewed c s (fold view_step (record s { views = w.views }) w.sends) w.views
+row_viewed c s w works few k =
     let a : Core = record s { views = w.views } in
-    let ka : Stands a = stands_views s w.views works.members k in
-    let step : Core → ViewSend → Core = λ t (x : ViewSend). sent t x.to (body.View x.packet) in
-    let t : Core = fold step a w.sends in
-    let gt : Goes (length w.sends) a t = fold_each step (λ t x h. goes_sent t x.to (body.View x.packet) h) w.sends a ka in
-    let same : t.sessions ≡ s.sessions = sessions_same a t (sends_fold step (λ t x. sends_sent t x.to (body.View x.packet)) w.sends a) in
-    let view : t.views.view ≡ s.views.view = ap (λ (v : Views). v.view) gt.views ∙ works.view in
+    let t : Core = fold view_step a w.sends in
+    let z : SentViews w.sends a t = sent_views w.sends a in
+    record {
+      within = by t z.sends z.long works.sends;
+      stands = stands_sends a t z.sends (stands_views s w.views works.members k);
+      lasts = λ h. let y = few (record { views = h.views; sends = λ x i. absurd i }) in lasts_sends a t z.sends (lasts_views s w.views y.views h) (z.few y.sends h.sent);
+      sends = z.sends;
+    }
+  where
+    by : (t : Core) → Sends (record s { views = w.views }) t → length t.sends ≡ length s.sends + length w.sends → length w.sends ≤ 0 + c → Within c s t
+    by t e long few =
+        let g : waits_of t.groups ≡ waits_of s.groups = ap waits_of (groups_same (record s { views = w.views }) t e) in
+        let r : puts_of t.records ≡ puts_of s.records = ap puts_of (records_same (record s { views = w.views }) t e) in
+        omega (arith, long, few, g, r)
+
+-- a row of views, with the install that it applies
+pub moves_taken : (c : ℕ) (f : Answering) (s : Core) (w : ViewWork) → Works c (views_at_work s.views) w → (FewWork (views_at_work s.views) → FewWork w) → FineIf s.views.view w.install → Stands s → Moves (c + 1 + length s.sessions.requests + length s.sessions.kept) s (views_taken f s w)
+unfolding views_taken
+moves_taken c f s w works few fine k =
+    let a : Core = record s { views = w.views } in
+    let t : Core = fold view_step a w.sends in
+    let gt : Viewed c s t w.views = row_viewed c s w works few k in
+    let same : t.sessions ≡ s.sessions = sessions_same a t gt.sends in
+    let view : t.views.view ≡ s.views.view = ap (λ (v : Views). v.view) (views_same a t gt.sends) ∙ works.view in
     let r : length t.sessions.requests ≡ length s.sessions.requests = ap (λ (x : SessionState). length x.requests) same in
     let q : length t.sessions.kept ≡ length s.sessions.kept = ap (λ (x : SessionState). length x.kept) same in
     let m : Moves (1 + length t.sessions.requests + length t.sessions.kept) t (install_applied f t w.install) = moves_applied f t w.install (subst (λ v. FineIf v w.install) (sym view) fine) gt.stands in
-    record { within = omega (arith, gt.within, m.within, works.sends, r, q); stands = m.stands }
+    record { within = omega (arith, gt.within, m.within, r, q); stands = m.stands; lasts = λ h. m.lasts (gt.lasts h) }

@@ -33,6 +33,7 @@ use Rattle.node_state.specs.Leading.{put, put_and_handed}
 use Rattle.node_state.specs.Applying.{Lacking, lacking_in, lists_filled}
 use Rattle.node_groups.proofs.NameOrder.{row_here, row_there}
 use Rattle.sends_bound.specs.Bound.{puts_of, waits_of, Room, Stands}
+use Rattle.sends_bound.specs.Lasting.{Lasting}
 use Rattle.sends_bound.proofs.Parts.{Goes, free_then, goes_recorded_all, goes_sessions}
 use Rattle.sends_bound.proofs.Hands.{hearers_few, casts_long, no_put_heard, goes_noted}
 use Rattle.sends_bound.proofs.Leads.{Puts, puts_put, fit_state}
@@ -47,15 +48,16 @@ pot s = length s.sends + waits_of s.groups + length s.sessions.requests + length
 pub record Holds (c : ℕ) (s t : Core) : Type 0 where
   pub within : pot t + 100 * puts_of s.records ≤ pot s + 100 * puts_of t.records + c
   pub stands : Stands t
+  pub lasts : Lasting s → Lasting t
 
 pub holds_same : (s : Core) → Stands s → Holds 0 s s
-holds_same s k = record { within = omega arith; stands = k }
+holds_same s k = record { within = omega arith; stands = k; lasts = λ h. h }
 
 pub holds_then : (a b : ℕ) (s t u : Core) → Holds a s t → Holds b t u → Holds (a + b) s u
-holds_then a b s t u x y = record { within = omega (arith, x.within, y.within); stands = y.stands }
+holds_then a b s t u x y = record { within = omega (arith, x.within, y.within); stands = y.stands; lasts = λ h. y.lasts (x.lasts h) }
 
 pub holds_free : (s t u : Core) → Holds 0 s t → Holds 0 t u → Holds 0 s u
-holds_free s t u x y = record { within = omega (arith, x.within, y.within); stands = y.stands }
+holds_free s t u x y = record { within = omega (arith, x.within, y.within); stands = y.stands; lasts = λ h. y.lasts (x.lasts h) }
 
 pub holds_fold : {A : Type 0} (f : Core → A → Core) → ((s : Core) (x : A) → Stands s → Holds 0 s (f s x)) → (xs : List A) (s : Core) → Stands s → Holds 0 s (fold f s xs)
 holds_fold f one [] s k = holds_same s k
@@ -67,7 +69,7 @@ pub holds_by : (c : ℕ) (s t : Core) → t.sessions ≡ s.sessions → Goes c s
 holds_by c s t e g =
     let r : length t.sessions.requests ≡ length s.sessions.requests = ap (λ (x : SessionState). length x.requests) e in
     let k : length t.sessions.kept ≡ length s.sessions.kept = ap (λ (x : SessionState). length x.kept) e in
-    record { within = omega (arith, g.within, r, k); stands = g.stands }
+    record { within = omega (arith, g.within, r, k); stands = g.stands; lasts = g.lasts }
 
 pub holds_goes : (s t : Core) → t.sessions ≡ s.sessions → Goes 0 s t → Holds 0 s t
 holds_goes s t e g = holds_by 0 s t e g
@@ -95,7 +97,7 @@ casts_still s g cs = by (frozen s)
     by true = refl
     by false = fold_still (λ t (c : Cast). cast_sent_of t g None c.p c.cast) (λ t c. cast_still t g c.p c.cast) cs s
 
-noted_groups : (s : Core) (g : List ℕ) (i : ℕ) (before after : GroupState) → (noted s g i before after).groups ≡ s.groups
+pub noted_groups : (s : Core) (g : List ℕ) (i : ℕ) (before after : GroupState) → (noted s g i before after).groups ≡ s.groups
 unfolding noted notes recorded_all
 noted_groups s g i before after = by (differs before after)
   where
@@ -144,7 +146,7 @@ handed_still f s g i before after e fit room k = subst (Handed s) (sym (casts_st
     less = less_handed s.sessions g before after e bs
 
     here : Handed s u
-    here = record { goes = free_then 0 s a u ga (free_then 0 a t u gt gu); groups = noted_groups a g i before after; less = record { kept = omega (arith, few, less.kept); requests = less.requests } }
+    here = record { goes = free_then 0 s a u ga (free_then 0 a t u gt gu); groups = noted_groups a g i before after; less = record { kept = omega (arith, few, less.kept); requests = less.requests; providers = less.providers } }
 
 -- ---- one entry
 
@@ -154,7 +156,7 @@ pub record FilledOne (g : List ℕ) (s t : Core) (l : GroupView) : Type 0 where
   pub here : list_of t g ≡ l
   pub there : (h : List ℕ) → (g ≡ h → ⊥) → list_of t h ≡ list_of s h
 
-put_sessions : (s : Core) (g : List ℕ) (e : Entry) → (put s g e).sessions ≡ s.sessions
+pub put_sessions : (s : Core) (g : List ℕ) (e : Entry) → (put s g e).sessions ≡ s.sessions
 unfolding put recorded with_row
 put_sessions s g e = refl
 
@@ -184,7 +186,7 @@ fill_one f s g e h k =
     let r : length t.sessions.requests ≡ length s.sessions.requests = ap (λ (x : SessionState). length x.requests) (put_sessions s g e) in
     let q : length t.sessions.kept ≡ length s.sessions.kept = ap (λ (x : SessionState). length x.kept) (put_sessions s g e) in
     record {
-      holds = record { within = omega (arith, p.within, d.goes.within, d.less.kept, d.less.requests, r, q); stands = d.goes.stands };
+      holds = record { within = omega (arith, p.within, d.goes.within, d.less.kept, d.less.requests, r, q); stands = d.goes.stands; lasts = λ h. d.goes.lasts (p.lasts h) };
       views = d.goes.views ∙ p.views;
       here = row_by t u g d.groups ∙ put_here s g e k;
       there = λ h ne. row_by t u h d.groups ∙ put_there s g e h ne;

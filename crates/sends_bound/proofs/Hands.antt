@@ -101,13 +101,13 @@ goes_noted s g i before after k = by (differs before after)
 -- ---- what is sent
 
 goes_cast : (s : Core) (g : List ℕ) (to : Option ℕ) (p : ProviderId) (o : Option (ProtoId × ℕ × BallotView)) → Stands s → Goes 1 s (cast_sent_of s g to p o)
-unfolding cast_sent_of ballot_sent
+unfolding cast_sent_of ballot_sent vote_of
 goes_cast s g to p None k = goes_more 0 1 s s (omega arith) (goes_same s k)
 goes_cast s g to p (Some c) k = by (c.2).filled
   where
     by : (b : Option Filled) → Goes 1 s (ballot_sent s g to p c.0 c.1 b)
     by None = goes_more 0 1 s s (omega arith) (goes_same s k)
-    by (Some b) = goes_sent_if s to (vote_of s g c.0 c.1 p b) k
+    by (Some b) = goes_sent_if s to (vote_of s g c.0 c.1 p b) tt k
 
 goes_casts : (s : Core) (g : List ℕ) (to : Option ℕ) (cs : List Cast) → Stands s → Goes (length cs) s (casts_sent s g to cs)
 unfolding casts_sent

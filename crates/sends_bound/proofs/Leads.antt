@@ -27,6 +27,7 @@ use Rattle.node_state.specs.Sending.{sent_all}
 use Rattle.node_state.specs.HandOn.{Answering, handed_on}
 use Rattle.node_state.specs.Leading.{put, put_and_handed, forgets_least, with_waiting, waits_if, new_members_wait, appended, appended_if, tally_set, tally_for, tally_opened, with_tally, closing_entry, is_phase, closes_from, closes, begun_many, begins}
 use Rattle.sends_bound.specs.Bound.{puts_of, waits_of, Room, Stands}
+use Rattle.sends_bound.specs.Lasting.{Lasting}
 use Rattle.sends_bound.proofs.Counts.{kept_few, mapped_long, puts_both}
 use Rattle.sends_bound.proofs.Rooms.{both, room_after}
 use Rattle.sends_bound.proofs.Parts.{Goes, goes_same, goes_then, then_free, fold_free, goes_row, goes_led, goes_sent_all}
@@ -39,21 +40,24 @@ pub record Puts (s t : Core) : Type 0 where
   pub stands : Stands t
   pub views : t.views ≡ s.views
   pub config : t.config ≡ s.config
+  pub lasts : Lasting s → Lasting t
 
 pub put_then : (c : ℕ) (s t u : Core) → c ≤ 100 → Puts s t → Goes c t u → Goes 0 s u
-put_then c s t u le x y = record { within = omega (arith, x.within, y.within, le); stands = y.stands; views = y.views ∙ x.views; config = y.config ∙ x.config }
+put_then c s t u le x y =
+    record { within = omega (arith, x.within, y.within, le); stands = y.stands; views = y.views ∙ x.views; config = y.config ∙ x.config; lasts = λ h. y.lasts (x.lasts h) }
 
 pub puts_put : (s : Core) (g : List ℕ) (e : Entry) → Stands s → Puts s (put s g e)
 unfolding put recorded with_entry state_of list_of row_of
 puts_put s g e k =
     let f : GroupRow → GroupRow = λ row. record row { list = Some (with_entry (list_or_new row.list) s.views.view e) } in
     let l : GroupView = list_of s g in
-    let m : Goes 0 s (with_row s g f) = goes_row 0 s g f (λ x. refl) k (omega arith) (room_after l.state s.views.view l.len e (k.room g)) in
+    let m : Goes 0 s (with_row s g f) = goes_row 0 s g f (λ x. refl) k (omega arith) (room_after l.state s.views.view l.len e (k.room g)) (λ w. record { few = w.few; known = w.known }) in
     record {
       within = omega (arith, m.within, puts_both (with_row s g f).records (happened.Put s.views.me s.views.view g (len_of s g) e ∷ []));
       stands = record { few = m.stands.few; order = m.stands.order; room = m.stands.room };
       views = m.views;
       config = m.config;
+      lasts = λ h. let z = m.lasts h in record { rings = z.rings; waits = z.waits; views = z.views; sent = z.sent };
     }
 
 pub fit_state : (s : Core) (g : List ℕ) (e : Entry) → fits_at_end s g e ≡ true → fits (state_of s g) e ≡ true
@@ -81,13 +85,13 @@ forgot_room n (Some l) h = by (nat_le n l.len)
 pub goes_forgets : (s : Core) (g : List ℕ) (n : ℕ) → Stands s → Goes 0 s (forgets_below s g n)
 unfolding forgets_below state_of list_of
 goes_forgets s g n k =
-    goes_row 0 s g (λ row. record row { list = list_forgotten n row.list }) (λ x. refl) k (omega arith) (forgot_room n (row_of s g).list (k.room g))
+    goes_row 0 s g (λ row. record row { list = list_forgotten n row.list }) (λ x. refl) k (omega arith) (forgot_room n (row_of s g).list (k.room g)) (λ w. record { few = w.few; known = w.known })
 
 pub goes_forgets_least : (s : Core) (g : List ℕ) → Stands s → Goes 0 s (forgets_least s g)
 unfolding forgets_least
 goes_forgets_least s g k = goes_forgets s g (least_acked s g) k
 
-failure_joins : (p : ProviderId) (c : Cause) (w : WaitingView) → (waits_failure p c w).joins ≡ w.joins
+pub failure_joins : (p : ProviderId) (c : Cause) (w : WaitingView) → (waits_failure p c w).joins ≡ w.joins
 failure_joins p c w = by (takes_failure p w)
   where
     by : (b : Bool) → (if b then record w { failures = w.failures ++ record { p = p; cause = c } ∷ [] } else w).joins ≡ w.joins
@@ -96,7 +100,7 @@ failure_joins p c w = by (takes_failure p w)
 
 pub goes_waits : (s : Core) (g : List ℕ) (change : WaitingView → WaitingView) → ((w : WaitingView) → length (change w).joins ≤ length w.joins) → Stands s → Goes 0 s (with_waiting s g change)
 unfolding with_waiting
-goes_waits s g change few k = goes_led 0 s g (λ l. record l { waiting = change l.waiting }) k (omega (arith, few (led_of s g).waiting))
+goes_waits s g change few k = goes_led s g (λ l. record l { waiting = change l.waiting }) k (few (led_of s g).waiting)
 
 pub goes_waits_failure : (s : Core) (g : List ℕ) (p : ProviderId) (c : Cause) → Stands s → Goes 0 s (with_waiting s g (waits_failure p c))
 goes_waits_failure s g p c k = goes_waits s g (waits_failure p c) (λ w. let e = failure_joins p c w in subst (λ z. length z ≤ length w.joins) (sym e) (omega arith)) k
@@ -125,7 +129,7 @@ goes_appended f s g e h k =
     let t : Core = put s g e in
     let p : Puts s t = puts_put s g e k in
     let u : Core = sent_all t (others t) (body.Entry t.views.view g (len_of s g) (least_acked t g) e) in
-    let gu : Goes (length (others t)) t u = goes_sent_all (others t) t (body.Entry t.views.view g (len_of s g) (least_acked t g) e) p.stands in
+    let gu : Goes (length (others t)) t u = goes_sent_all (others t) t (body.Entry t.views.view g (len_of s g) (least_acked t g) e) tt p.stands in
     let w : Core = handed_on f u (leader_of u g) g (len_of s g) (state_of s g) (state_of t g) e in
     let gw : Goes 64 u w = goes_handed f u (leader_of u g) g (len_of s g) (state_of s g) (state_of t g) e (fit_state s g e h) (k.room g) gu.stands in
     let x : Core = forgets_least w g in
@@ -147,11 +151,11 @@ goes_appended_if f s g e k = by (fits_at_end s g e) refl
 
 pub goes_tally_set : (s : Core) (g : List ℕ) (t : Option TallyView) → Stands s → Goes 0 s (tally_set s g t)
 unfolding tally_set
-goes_tally_set s g t k = goes_led 0 s g (λ l. record l { tally = t; given = [] }) k (omega arith)
+goes_tally_set s g t k = goes_led s g (λ l. record l { tally = t; given = [] }) k (omega arith)
 
 pub goes_with_tally : (s : Core) (g : List ℕ) (t : Option TallyView) → Stands s → Goes 0 s (with_tally s g t)
 unfolding with_tally
-goes_with_tally s g t k = goes_led 0 s g (λ l. record l { tally = t }) k (omega arith)
+goes_with_tally s g t k = goes_led s g (λ l. record l { tally = t }) k (omega arith)
 
 pub goes_opened : (s : Core) (g : List ℕ) → Stands s → Goes 0 s (tally_opened s g)
 unfolding tally_opened

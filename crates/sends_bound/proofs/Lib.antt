@@ -12,8 +12,13 @@ pub mod Owed
 pub mod Sessions
 pub mod Filling
 pub mod ViewSends
+pub mod ViewKeeps
+pub mod BaseRooms
 pub mod Entering
 pub mod Reopened
 pub mod Asking
+pub mod Purse
+pub mod Alone
+pub mod TickMoves
 pub mod Steps
 pub mod RowLaws

@@ -18,6 +18,7 @@ use Rattle.node_state.specs.State.{state_of, held_rows, frozen, leader_of}
 use Rattle.node_state.specs.Sending.{sent_on, sent, sent_if_known, request_to, request_sent, requests_sent, vote_of, kept_sent_to, kept_sent, kept_sent_if, kept_sent_again, votes_sent_again}
 use Rattle.node_state.specs.Ticks.{is_lost, lost_told, owed_part}
 use Rattle.sends_bound.specs.Bound.{is_own, owned_of, owed_count, Stands}
+use Rattle.sends_bound.proofs.Counts.{own_in}
 use Rattle.sends_bound.proofs.Rooms.{both}
 use Rattle.sends_bound.proofs.Parts.{Goes, goes_same, goes_then, goes_more, fold_each, goes_sent_if}
 use Rattle.sends_bound.proofs.Rows.{nothing_of}
@@ -74,13 +75,21 @@ pub sessions_same : (s t : Core) → Sends s t → t.sessions ≡ s.sessions
 unfolding Sends
 sessions_same s t a = ap (λ (z : Core). z.sessions) a.1
 
+pub views_same : (s t : Core) → Sends s t → t.views ≡ s.views
+unfolding Sends
+views_same s t a = ap (λ (z : Core). z.views) a.1
+
+pub records_same : (s t : Core) → Sends s t → t.records ≡ s.records
+unfolding Sends
+records_same s t a = ap (λ (z : Core). z.records) a.1
+
 pub kept_same : (s t : Core) → Sends s t → t.sessions.kept ≡ s.sessions.kept
 unfolding Sends
 kept_same s t a = ap (λ (z : Core). z.sessions.kept) a.1
 
 -- ---- who is lost
 
-fewer : {A : Type 0} (p q : A → Bool) → ((x : A) → p x ≡ true → q x ≡ true) → (xs : List A) → length (filter p xs) ≤ length (filter q xs)
+pub fewer : {A : Type 0} (p q : A → Bool) → ((x : A) → p x ≡ true → q x ≡ true) → (xs : List A) → length (filter p xs) ≤ length (filter q xs)
 fewer p q more [] = omega arith
 fewer p q more (x ∷ xs) = by (p x) (q x) (more x) (fewer p q more xs)
   where
@@ -94,15 +103,12 @@ lost_own : (s : Core) (p : ProviderId) → is_lost s p ≡ true → is_own s.vie
 unfolding is_lost
 lost_own s p e = (both (p.node == s.views.me && p.inc == s.views.inc) (is_none (provider_of s.sessions p)) e).0
 
-own_in : ℕ → ℕ → GroupRow → ℕ
-own_in n inc row = length (filter (is_own n inc) (present (state_in row.list)))
-
 goes_lost : (s : Core) (row : GroupRow) → Stands s → Goes (own_in s.views.me s.views.inc row) s (lost_told s row)
-unfolding lost_told own_in
+unfolding lost_told
 goes_lost s row k =
     let ps : List ProviderId = filter (is_lost s) (present (state_in row.list)) in
     let f : Core → ProviderId → Core = λ t p. sent_if_known t (leader_of t row.name) (body.Gone t.views.view row.name p) in
-    goes_more (length ps) (own_in s.views.me s.views.inc row) s (fold f s ps) (fewer (is_lost s) (is_own s.views.me s.views.inc) (lost_own s) (present (state_in row.list))) (fold_each f (λ t p h. goes_sent_if t (leader_of t row.name) (body.Gone t.views.view row.name p) h) ps s k)
+    goes_more (length ps) (own_in s.views.me s.views.inc row) s (fold f s ps) (fewer (is_lost s) (is_own s.views.me s.views.inc) (lost_own s) (present (state_in row.list))) (fold_each f (λ t p h. goes_sent_if t (leader_of t row.name) (body.Gone t.views.view row.name p) tt h) ps s k)
 
 pub sends_lost : (s : Core) (row : GroupRow) → Sends s (lost_told s row)
 unfolding lost_told
@@ -110,7 +116,6 @@ sends_lost s row =
     sends_fold (λ t p. sent_if_known t (leader_of t row.name) (body.Gone t.views.view row.name p)) (λ t p. sends_if t (leader_of t row.name) (body.Gone t.views.view row.name p)) (filter (is_lost s) (present (state_in row.list))) s
 
 goes_all_lost : (n inc : ℕ) (rows : List GroupRow) (s : Core) → s.views.me ≡ n → s.views.inc ≡ inc → Stands s → Goes (owned_of n inc rows) s (fold lost_told s rows)
-unfolding own_in
 goes_all_lost n inc [] s e i k = goes_same s k
 goes_all_lost n inc (row ∷ rows) s e i k =
     let t : Core = lost_told s row in

@@ -64,7 +64,7 @@ pub end_sends : EndSends
 end_sends f s k = (goes_ended f s k).within
 
 pub step_sends : StepSends
-step_sends f s e r q = step_few f s e r q
+step_sends f s e r = step_few f s e r
 
 pub no_phase_follows : ReopenedEnds
 no_phase_follows st gone q = reopened_ends st gone q

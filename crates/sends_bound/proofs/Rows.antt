@@ -1,7 +1,8 @@
 -- What the rows of the packets of a view send: a fixed number, beside a hundred for each put, and for a name the
 -- outstanding requests.
-use Rattle.std.proofs.Common.{◌≡◌, ◌≤◌, ℕ, ◌+◌, List, [], ◌∷◌, length, filter, Some, None, Option, Bool, true, false, refl, sym, subst, arith, length-append}
-use Rattle.std.specs.Prelude.{nat_le, nat_lt, ◌&&◌, ◌==◌}
+use Rattle.std.proofs.Common.{◌≡◌, ◌≤◌, ◌<◌, ℕ, ◌+◌, List, [], ◌∷◌, ◌++◌, length, filter, Some, None, Option, Bool, true, false, inr, refl, sym, subst, arith, length-append}
+use Rattle.std.specs.Prelude.{nat_le, nat_lt, not, is_some, is_none, ◌&&◌, ◌==◌}
+use Rattle.std.proofs.lemmas.Bool.Decides.{nat_tests}
 use Rattle.std.specs.Option.{unwrap_or}
 use Rattle.std.specs.Str.{bytes_eq}
 use Rattle.rsct_packet.specs.declared.ids.ProviderId.{ProviderId}
@@ -9,22 +10,27 @@ use Rattle.rsct_packet.specs.declared.ids.ProtoId.{ProtoId}
 use Rattle.rsct_packet.specs.Providers.{among}
 use Rattle.group_attr.specs.declared.attrs.Attrs.{Attrs}
 use Rattle.group_attr.specs.declared.attrs.Phases.{Phases}
+use Rattle.group_attr.specs.Agree.{agree}
 use Rattle.group_entry.specs.declared.proposal.Cause.TheVariants.{Gone}
 use Rattle.group_entry.specs.declared.proposal.Proposal.{Proposal}
 use Rattle.group_entry.specs.declared.proposal.Proposal.TheVariants.{Join, Leave, Fail, Expel, State, Message, Attributes, Reflect}
 use Rattle.group_entry.specs.declared.entry.Vote.{Vote}
 use Rattle.group_entry.specs.declared.entry.Entry.{Entry}
-use Rattle.proposal_core.specs.Fold.{runs, present}
+use Rattle.proposal_core.specs.declared.group_state.GroupState.{GroupState}
+use Rattle.proposal_core.specs.Fold.{max_providers, runs, present}
+use Rattle.proposal_core.specs.Lists.{is_at_limit}
 use Rattle.vote_phases.specs.Tally.{TallyView, tally_fail}
-use Rattle.batch_rules.specs.Waiting.{WaitingView, waits_join, waits_failure, join_dropped}
+use Rattle.batch_rules.specs.Waiting.{WaitingView, has_instance, waits_join, waits_failure, join_dropped}
 use Rattle.name_server.specs.Names as names
 use Rattle.name_server.specs.declared.names.Leader.{Leader}
 use Rattle.client_callbacks.specs.declared.told.Why.{Why}
 use Rattle.client_callbacks.specs.declared.told.Why.TheVariants.{GroupsFull}
+use Rattle.client_callbacks.specs.declared.told.Why.TheVariants as why
 use Rattle.session_state.specs.declared.state.Request.{Request}
 use Rattle.session_state.specs.State.{outstanding}
 use Rattle.session_state.specs.HandOn.{is_numbered, telling_taken}
 use Rattle.node_state.specs.declared.group.Decision.{Decision}
+use Rattle.node_state.specs.declared.group.GroupRow.{GroupRow}
 use Rattle.node_state.specs.declared.group.Led.{Led}
 use Rattle.node_state.specs.declared.happened.Happened.TheVariants as happened
 use Rattle.node_state.specs.declared.packet.Body.{Body}
@@ -34,11 +40,12 @@ use Rattle.node_state.specs.State.{row_of, led_of, with_led, list_of, state_of, 
 use Rattle.node_state.specs.Sending.{sent, request_to, request_sent}
 use Rattle.node_state.specs.HandOn.{Answering}
 use Rattle.node_state.specs.Leading.{put_and_handed, forgets_least, with_waiting, with_tally, closes, begins}
-use Rattle.node_state.specs.Deciding.{decision_kept, refused, is_idle_empty, join_refusal, attrs_kept, join_waits, decided_join, other_refusal, decided_other, decided}
+use Rattle.node_state.specs.Deciding.{decision_kept, refused, lacks_source, source_len, is_idle_empty, meant_attrs, join_refusal, attrs_kept, join_waits, decided_join, other_refusal, decided_other, decided}
 use Rattle.node_state.specs.Following.{lookup_row, told_if, tell_row, requests_of, named, is_name_used, name_row, told_again, request_new, request_after, request_at, is_group_refused, request_row, entry_next, entry_elsewhere, entry_row, acked, ack_row, vote_cast, vote_row, tally_failed, gone_waits, marked, gone_present, gone_of, gone_row}
+use Rattle.node_groups.proofs.NameOrder.{row_here}
 use Rattle.sends_bound.specs.Bound.{Stands}
 use Rattle.sends_bound.proofs.Counts.{kept_few}
-use Rattle.sends_bound.proofs.Parts.{Goes, goes_same, goes_more, then_free, free_then, fold_free, fold_each, goes_row, goes_led, goes_sent, goes_recorded, goes_sessions}
+use Rattle.sends_bound.proofs.Parts.{Goes, goes_same, goes_more, then_free, free_then, fold_free, fold_each, goes_row, goes_led, goes_joined, goes_sent, goes_recorded, goes_sessions}
 use Rattle.sends_bound.proofs.Leads.{goes_put_and_handed, goes_forgets, goes_forgets_least, goes_waits, goes_waits_failure, goes_with_tally, goes_closes, goes_begins}
 
 -- nothing, where one packet may be sent
@@ -49,7 +56,14 @@ nothing_of c s k = goes_more 0 c s s (omega arith) (goes_same s k)
 
 goes_names : (s : Core) (ls : List Leader) → Stands s → Goes 0 s (record s { names = ls })
 unfolding state_of list_of row_of
-goes_names s ls k = record { within = omega arith; stands = record { few = k.few; order = k.order; room = k.room }; views = refl; config = refl }
+goes_names s ls k =
+    record {
+      within = omega arith;
+      stands = record { few = k.few; order = k.order; room = k.room };
+      views = refl;
+      config = refl;
+      lasts = λ h. record { rings = h.rings; waits = h.waits; views = h.views; sent = h.sent };
+    }
 
 pub goes_lookup : (s : Core) (from : ℕ) (g : List ℕ) → Stands s → Goes 1 s (lookup_row s from g)
 unfolding lookup_row
@@ -63,7 +77,7 @@ goes_lookup s from g k = by (coordinates s)
 
     by : (c : Bool) → Goes 1 s (elim c [ false ↦ s | true ↦ sent t from b ])
     by false = nothing_of 1 s k
-    by true = let a : Goes 0 s t = goes_names s (names.names_after g from s.names) k in free_then 1 s t (sent t from b) a (goes_sent t from b a.stands)
+    by true = let a : Goes 0 s t = goes_names s (names.names_after g from s.names) k in free_then 1 s t (sent t from b) a (goes_sent t from b tt a.stands)
 
 pub goes_tell : (s : Core) (p : ProviderId) (r : ℕ) (y : Why) → Stands s → Goes 0 s (tell_row s p r y)
 unfolding tell_row told_if
@@ -82,8 +96,8 @@ unfolding request_sent request_to
 goes_request_sent s q k = by (frozen s)
   where
     to : (n : Option ℕ) → Goes 1 s (request_to s q n)
-    to None = goes_sent s s.views.view.coord (body.Lookup s.views.view q.group) k
-    to (Some n) = goes_sent s n (body.Request s.views.view q.group q.p q.r q.phases q.proposal) k
+    to None = goes_sent s s.views.view.coord (body.Lookup s.views.view q.group) tt k
+    to (Some n) = goes_sent s n (body.Request s.views.view q.group q.p q.r q.phases q.proposal) tt k
 
     by : (b : Bool) → Goes 1 s (elim b [ true ↦ s | false ↦ request_to s q (leader_of s q.group) ])
     by true = nothing_of 1 s k
@@ -91,7 +105,7 @@ goes_request_sent s q k = by (frozen s)
 
 pub goes_led_by : (s : Core) (g : List ℕ) (n : ℕ) → Stands s → Goes 0 s (led_by s g n)
 unfolding led_by state_of list_of
-goes_led_by s g n k = goes_row 0 s g (λ row. record row { leader = Some n }) (λ x. refl) k (omega arith) (k.room g)
+goes_led_by s g n k = goes_row 0 s g (λ row. record row { leader = Some n }) (λ x. refl) k (omega arith) (k.room g) (λ w. record { few = w.few; known = inr refl })
 
 pub goes_name : (s : Core) (g : List ℕ) (n : ℕ) → Stands s → Goes (length s.sessions.requests) s (name_row s g n)
 unfolding name_row named requests_of
@@ -115,22 +129,58 @@ goes_name s g n k = by (is_name_used s g n) (n == 0)
 
 goes_decision : (s : Core) (g : List ℕ) (p : ProviderId) (r : ℕ) (y : Option Why) → Stands s → Goes 0 s (decision_kept s g p r y)
 unfolding decision_kept
-goes_decision s g p r y k = goes_led 0 s g (λ l. record l { decided = decisions_with (record { p = p; r = r; why = y }) l.decided }) k (omega arith)
+goes_decision s g p r y k = goes_led s g (λ l. record l { decided = decisions_with (record { p = p; r = r; why = y }) l.decided }) k (omega arith)
 
 pub goes_refused : (s : Core) (g : List ℕ) (p : ProviderId) (r : ℕ) (y : Why) → Stands s → Goes 1 s (refused s g p r y)
 unfolding refused
 goes_refused s g p r y k =
     let t : Core = decision_kept s g p r (Some y) in
     let a : Goes 0 s t = goes_decision s g p r (Some y) k in
-    let b : Body = body.Tell s.views.view g p r y in free_then 1 s t (sent t p.node b) a (goes_sent t p.node b a.stands)
+    let b : Body = body.Tell s.views.view g p r y in free_then 1 s t (sent t p.node b) a (goes_sent t p.node b tt a.stands)
 
-goes_join_waits : (s : Core) (g : List ℕ) (p : ProviderId) (r : ℕ) (a : Attrs) (idle : Bool) → Stands s → Goes 1 s (join_waits s g p r a idle)
-unfolding join_waits
-goes_join_waits s g p r a idle k =
+-- a decision is kept in what is led alone
+decision_row : (s : Core) (g : List ℕ) (p : ProviderId) (r : ℕ) (y : Option Why) → Stands s → row_of (decision_kept s g p r y) g ≡ record (row_of s g) { led = record ((row_of s g).led) { decided = decisions_with (record { p = p; r = r; why = y }) (row_of s g).led.decided } }
+unfolding decision_kept with_led
+decision_row s g p r y k =
+    row_here g (λ row. record row { led = record (row.led) { decided = decisions_with (record { p = p; r = r; why = y }) row.led.decided } }) (λ x. refl) s k.order
+
+goes_join_waits : (s : Core) (g : List ℕ) (p : ProviderId) (r : ℕ) (a : Attrs) (idle : Bool) → length (row_of s g).led.waiting.joins < 64 → is_some (row_of s g).leader ≡ true → Stands s → Goes 1 s (join_waits s g p r a idle)
+unfolding join_waits led_of
+goes_join_waits s g p r a idle less known k =
     let t : Core = decision_kept s g p r None in
     let x : Goes 0 s t = goes_decision s g p r None k in
     let change : Led → Led = λ l. record l { waiting = waits_join p l.waiting; join_attrs = attrs_kept l.join_attrs p a idle } in
-    free_then 1 s t (with_led t g change) x (goes_led 1 t g change x.stands (omega (arith, length-append (led_of t g).waiting.joins (p ∷ []))))
+    let is = decision_row s g p r None k in
+    let now : length (row_of t g).led.waiting.joins < 64 = subst (λ (z : GroupRow). length z.led.waiting.joins < 64) (sym is) less in
+    let led : is_some (row_of t g).leader ≡ true = subst (λ (z : GroupRow). is_some z.leader ≡ true) (sym is) known in
+    free_then 1 s t (with_led t g change) x (goes_joined t g change x.stands (omega (arith, length-append (led_of t g).waiting.joins (p ∷ []))) now led)
+
+-- a join that is not refused finds room
+join_room : (s : Core) (g : List ℕ) (p : ProviderId) (a : Attrs) → join_refusal s g p a ≡ None → length (row_of s g).led.waiting.joins < 64
+unfolding join_refusal led_of
+join_room s g p a e = by (not (is_idle_empty st) && not (agree a st.attrs)) (has_instance here p) (lacks_source s source p.node) (nat_le max_providers (length here)) refl (is_none st.running && is_at_limit (list_of s g)) e
+  where
+    st : GroupState
+    st = state_of s g
+
+    joins : List ProviderId
+    joins = (row_of s g).led.waiting.joins
+
+    here : List ProviderId
+    here = present st ++ joins
+
+    source : Option (List ℕ)
+    source = (meant_attrs st a (is_idle_empty st)).source
+
+    few : nat_le max_providers (length here) ≡ false → length joins < 64
+    few q = let l : length here < 64 = grind (arith, nat_tests) in omega (arith, l, length-append (present st) joins)
+
+    by : (b c d m : Bool) → nat_le max_providers (length here) ≡ m → (n : Bool) → elim b as (λ _. Option Why) [ true ↦ Some why.BadAttributes | false ↦ elim c as (λ _. Option Why) [ true ↦ Some why.DuplicateInstance | false ↦ elim d as (λ _. Option Why) [ true ↦ Some (why.NoSource (source_len s source)) | false ↦ elim m as (λ _. Option Why) [ true ↦ Some (why.GroupFull 64) | false ↦ elim n as (λ _. Option Why) [ true ↦ Some (why.ListFull (list_of s g).len (list_of s g).bytes) | false ↦ None ] ] ] ] ] ≡ None → length joins < 64
+    by true c d m r n q = absurd cc
+    by false true d m r n q = absurd cc
+    by false false true m r n q = absurd cc
+    by false false false true r n q = absurd cc
+    by false false false false r n q = few r
 
 goes_decided_other : (f : Answering) (s : Core) (g : List ℕ) (p : ProviderId) (r : ℕ) (phases : Phases) (x : Proposal) (y : Option Why) → Stands s → Goes 1 s (decided_other f s g p r phases x y)
 unfolding decided_other
@@ -140,26 +190,28 @@ goes_decided_other f s g p r phases x None k =
     let a : Goes 0 s t = goes_decision s g p r None k in
     goes_more 0 1 s (begins f t g x phases) (omega arith) (then_free 0 s t (begins f t g x phases) a (goes_begins f t g x phases a.stands))
 
-goes_decided : (f : Answering) (s : Core) (g : List ℕ) (p : ProviderId) (r : ℕ) (phases : Phases) (x : Proposal) → Stands s → Goes 1 s (decided f s g p r phases x)
+goes_decided : (f : Answering) (s : Core) (g : List ℕ) (p : ProviderId) (r : ℕ) (phases : Phases) (x : Proposal) → is_some (row_of s g).leader ≡ true → Stands s → Goes 1 s (decided f s g p r phases x)
 unfolding decided decided_join
-goes_decided f s g p r phases (Join ps a n) k = by (join_refusal s g p a)
+goes_decided f s g p r phases (Join ps a n) known k = by (join_refusal s g p a) refl
   where
-    by : (o : Option Why) → Goes 1 s (decided_join s g p r a o)
-    by None = goes_join_waits s g p r a (is_idle_empty (state_of s g)) k
-    by (Some y) = goes_refused s g p r y k
-goes_decided f s g p r phases (Leave q i) k = goes_decided_other f s g p r phases (Leave q i) (other_refusal s g p (Leave q i)) k
-goes_decided f s g p r phases (Fail out) k = goes_decided_other f s g p r phases (Fail out) (other_refusal s g p (Fail out)) k
-goes_decided f s g p r phases (Expel q i out) k = goes_decided_other f s g p r phases (Expel q i out) (other_refusal s g p (Expel q i out)) k
-goes_decided f s g p r phases (State q i value) k = goes_decided_other f s g p r phases (State q i value) (other_refusal s g p (State q i value)) k
-goes_decided f s g p r phases (Message q i bytes) k = goes_decided_other f s g p r phases (Message q i bytes) (other_refusal s g p (Message q i bytes)) k
-goes_decided f s g p r phases (Attributes q i attrs) k = goes_decided_other f s g p r phases (Attributes q i attrs) (other_refusal s g p (Attributes q i attrs)) k
-goes_decided f s g p r phases (Reflect v i value) k = goes_decided_other f s g p r phases (Reflect v i value) (other_refusal s g p (Reflect v i value)) k
+    by : (o : Option Why) → join_refusal s g p a ≡ o → Goes 1 s (decided_join s g p r a o)
+    by None q = goes_join_waits s g p r a (is_idle_empty (state_of s g)) (join_room s g p a q) known k
+    by (Some y) q = goes_refused s g p r y k
+goes_decided f s g p r phases (Leave q i) known k = goes_decided_other f s g p r phases (Leave q i) (other_refusal s g p (Leave q i)) k
+goes_decided f s g p r phases (Fail out) known k = goes_decided_other f s g p r phases (Fail out) (other_refusal s g p (Fail out)) k
+goes_decided f s g p r phases (Expel q i out) known k = goes_decided_other f s g p r phases (Expel q i out) (other_refusal s g p (Expel q i out)) k
+goes_decided f s g p r phases (State q i value) known k = goes_decided_other f s g p r phases (State q i value) (other_refusal s g p (State q i value)) k
+goes_decided f s g p r phases (Message q i bytes) known k = goes_decided_other f s g p r phases (Message q i bytes) (other_refusal s g p (Message q i bytes)) k
+goes_decided f s g p r phases (Attributes q i attrs) known k = goes_decided_other f s g p r phases (Attributes q i attrs) (other_refusal s g p (Attributes q i attrs)) k
+goes_decided f s g p r phases (Reflect v i value) known k = goes_decided_other f s g p r phases (Reflect v i value) (other_refusal s g p (Reflect v i value)) k
 
 goes_request_new : (f : Answering) (s : Core) (g : List ℕ) (p : ProviderId) (r : ℕ) (phases : Phases) (x : Proposal) → Stands s → Goes 1 s (request_new f s g p r phases x)
-unfolding request_new
+unfolding request_new led_by
 goes_request_new f s g p r phases x k =
     let t : Core = led_by s g s.views.me in
-    let a : Goes 0 s t = goes_led_by s g s.views.me k in free_then 1 s t (decided f t g p r phases x) a (goes_decided f t g p r phases x a.stands)
+    let a : Goes 0 s t = goes_led_by s g s.views.me k in
+    let known : is_some (row_of t g).leader ≡ true = subst (λ (z : GroupRow). is_some z.leader ≡ true) (sym (row_here g (λ row. record row { leader = Some s.views.me }) (λ x. refl) s k.order)) refl in
+    free_then 1 s t (decided f t g p r phases x) a (goes_decided f t g p r phases x known a.stands)
 
 pub goes_request : (f : Answering) (s : Core) (from : ℕ) (g : List ℕ) (p : ProviderId) (r : ℕ) (phases : Phases) (x : Proposal) → Stands s → Goes 1 s (request_row f s from g p r phases x)
 unfolding request_row request_at request_after told_again
@@ -167,7 +219,7 @@ goes_request f s from g p r phases x k = by (is_group_refused s g)
   where
     again : (y : Option Why) → Goes 1 s (told_again s g p r y)
     again None = nothing_of 1 s k
-    again (Some y) = goes_sent s p.node (body.Tell s.views.view g p r y) k
+    again (Some y) = goes_sent s p.node (body.Tell s.views.view g p r y) tt k
 
     after : (d : Decision) (b c : Bool) → Goes 1 s (request_after f s g p r phases x d b c)
     after d true c = nothing_of 1 s k
@@ -179,7 +231,7 @@ goes_request f s from g p r phases x k = by (is_group_refused s g)
     at (Some d) = after d (nat_lt r d.r) (r == d.r)
 
     by : (b : Bool) → Goes 1 s (elim b [ true ↦ sent s from (body.Name s.views.view g 0) | false ↦ request_at f s g p r phases x (decision_of (led_of s g) p) ])
-    by true = goes_sent s from (body.Name s.views.view g 0) k
+    by true = goes_sent s from (body.Name s.views.view g 0) tt k
     by false = at (decision_of (led_of s g) p)
 
 -- ---- ENTRY and ACK
@@ -195,7 +247,7 @@ goes_next f s from g stable e k = by (fits_at_end s g e) refl
         let a : Goes 0 s t = goes_put_and_handed f s (Some from) g e q k in
         let b : Body = body.Ack t.views.view g (len_of t g) in
         let u : Core = sent t from b in
-        let gu : Goes 1 t u = goes_sent t from b a.stands in
+        let gu : Goes 1 t u = goes_sent t from b tt a.stands in
         let w : Core = led_by u g from in
         let gw : Goes 0 u w = goes_led_by u g from gu.stands in
         let x : Core = forgets_below w g stable in
@@ -205,7 +257,7 @@ goes_elsewhere : (s : Core) (from : ℕ) (g : List ℕ) (stable : ℕ) (b : Bool
 unfolding entry_elsewhere
 goes_elsewhere s from g stable true k =
     let b : Body = body.Ack s.views.view g (len_of s g) in
-    let a : Goes 1 s (sent s from b) = goes_sent s from b k in
+    let a : Goes 1 s (sent s from b) = goes_sent s from b tt k in
     then_free 1 s (sent s from b) (forgets_below (sent s from b) g stable) a (goes_forgets (sent s from b) g stable a.stands)
 goes_elsewhere s from g stable false k = by (holds s g)
   where
@@ -228,7 +280,7 @@ goes_ack s from g n k = by (leads s g && nat_le n (len_of s g))
     by : (b : Bool) → Goes 0 s (elim b [ true ↦ acked s from g n | false ↦ s ])
     by true =
         let change : Led → Led = λ l. record l { acked = acked_raised from n l.acked } in
-        let a : Goes 0 s (with_led s g change) = goes_led 0 s g change k (omega arith) in
+        let a : Goes 0 s (with_led s g change) = goes_led s g change k (omega arith) in
         then_free 0 s (with_led s g change) (forgets_least (with_led s g change) g) a (goes_forgets_least (with_led s g change) g a.stands)
     by false = goes_same s k
 
@@ -245,10 +297,10 @@ goes_vote f s g proto phase p v value message k = by (leads s g && runs proto ph
   where
     by : (b : Bool) → Goes 0 s (elim b [ true ↦ closes f (with_led s g (λ l. vote_cast l p v value message l.tally)) g | false ↦ s ])
     by true =
-        let few : length (vote_cast (led_of s g) p v value message (led_of s g).tally).waiting.joins ≤ length (led_of s g).waiting.joins + 0 =
-        subst (λ (w : WaitingView). length w.joins ≤ length (led_of s g).waiting.joins + 0) (sym (cast_joins (led_of s g) p v value message (led_of s g).tally)) (omega arith) in
+        let few : length (vote_cast (led_of s g) p v value message (led_of s g).tally).waiting.joins ≤ length (led_of s g).waiting.joins =
+        subst (λ (w : WaitingView). length w.joins ≤ length (led_of s g).waiting.joins) (sym (cast_joins (led_of s g) p v value message (led_of s g).tally)) (omega arith) in
         let t : Core = with_led s g (λ l. vote_cast l p v value message l.tally) in
-        let a : Goes 0 s t = goes_led 0 s g (λ l. vote_cast l p v value message l.tally) k few in then_free 0 s t (closes f t g) a (goes_closes f t g a.stands)
+        let a : Goes 0 s t = goes_led s g (λ l. vote_cast l p v value message l.tally) k few in then_free 0 s t (closes f t g) a (goes_closes f t g a.stands)
     by false = goes_same s k
 
 goes_tally_failed : (f : Answering) (s : Core) (g : List ℕ) (p : ProviderId) (t : Option TallyView) → Stands s → Goes 0 s (tally_failed f s g p t)
@@ -270,7 +322,7 @@ goes_present : (f : Answering) (s : Core) (g : List ℕ) (p : ProviderId) → St
 unfolding gone_present
 goes_present f s g p k =
     let t : Core = with_led s g (λ l. record l { gone = marked l.gone p }) in
-    let a : Goes 0 s t = goes_led 0 s g (λ l. record l { gone = marked l.gone p }) k (omega arith) in
+    let a : Goes 0 s t = goes_led s g (λ l. record l { gone = marked l.gone p }) k (omega arith) in
     let u : Core = tally_failed f t g p (led_of t g).tally in
     let b : Goes 0 t u = goes_tally_failed f t g p (led_of t g).tally a.stands in
     then_free 0 s t (gone_waits u g p) a (then_free 0 t u (gone_waits u g p) b (goes_gone_waits u g p b.stands))

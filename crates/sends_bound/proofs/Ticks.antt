@@ -39,13 +39,36 @@ use Rattle.sends_bound.proofs.RingSends.{nodes_few, ring_tick_few, ring_packet_f
 
 -- ---- rings and reach
 
-goes_rings : (s : Core) (rs : List Ring) → Stands s → Goes 0 s (record s { rings = rs })
+goes_rings : (s : Core) (rs : List Ring) → length rs ≤ length s.rings → Stands s → Goes 0 s (record s { rings = rs })
 unfolding state_of list_of row_of
-goes_rings s rs k = record { within = omega arith; stands = record { few = k.few; order = k.order; room = k.room }; views = refl; config = refl }
+goes_rings s rs few k =
+    record {
+      within = omega arith;
+      stands = record { few = k.few; order = k.order; room = k.room };
+      views = refl;
+      config = refl;
+      lasts = λ h. record { rings = omega (arith, few, h.rings); waits = h.waits; views = h.views; sent = h.sent };
+    }
+
+put_long : (rs : List Ring) (r : Ring) → length (ring_put rs r) ≤ length rs
+unfolding ring_put
+put_long [] r = omega arith
+put_long (x ∷ xs) r = by (x.net == r.net) (put_long xs r)
+  where
+    by : (b : Bool) → length (ring_put xs r) ≤ length xs → length (elim b as (λ _. List Ring) [ true ↦ r ∷ xs | false ↦ x ∷ ring_put xs r ]) ≤ length (x ∷ xs)
+    by true h = omega arith
+    by false h = omega (arith, h)
 
 goes_reach : (s : Core) (r : Reach) → Stands s → Goes 0 s (record s { reach = r })
 unfolding state_of list_of row_of
-goes_reach s r k = record { within = omega arith; stands = record { few = k.few; order = k.order; room = k.room }; views = refl; config = refl }
+goes_reach s r k =
+    record {
+      within = omega arith;
+      stands = record { few = k.few; order = k.order; room = k.room };
+      views = refl;
+      config = refl;
+      lasts = λ h. record { rings = h.rings; waits = h.waits; views = h.views; sent = h.sent };
+    }
 
 no_put_set : (n network : ℕ) (o : Option RingSet) → puts_of (set_records n network o) ≡ 0
 unfolding set_records
@@ -56,10 +79,10 @@ goes_ring_taken : (c : ℕ) (s : Core) (w : RingWork) → length w.sends ≤ c �
 unfolding ring_taken
 goes_ring_taken c s w few k =
     let r : Core = record s { rings = ring_put s.rings w.ring } in
-    let gr : Goes 0 s r = goes_rings s (ring_put s.rings w.ring) k in
+    let gr : Goes 0 s r = goes_rings s (ring_put s.rings w.ring) (put_long s.rings w.ring) k in
     let f : Core → RingSend → Core = λ u (x : RingSend). sent_on u x.network x.to (body.Ring x.packet) in
     let t : Core = fold f r w.sends in
-    let gt : Goes (length w.sends) r t = fold_each f (λ u x h. goes_sent_on u x.network x.to (body.Ring x.packet) h) w.sends r gr.stands in
+    let gt : Goes (length w.sends) r t = fold_each f (λ u x h. goes_sent_on u x.network x.to (body.Ring x.packet) tt h) w.sends r gr.stands in
     let z : Core = recorded_all t (set_records s.views.me w.ring.net w.set) in
     let gz : Goes 0 t z = goes_recorded_all t (set_records s.views.me w.ring.net w.set) (no_put_set s.views.me w.ring.net w.set) gt.stands in
     goes_more (length w.sends) c s z few (free_then (length w.sends) s r z gr (then_free (length w.sends) r t z gt gz))
@@ -85,7 +108,7 @@ goes_report_sent s m k =
     let ns : List ℕ = filter (λ n. not (n == s.views.me)) (nodes_of m) in
     let b : Body = body.Report (report_of t.reach) in
     let few : length ns ≤ 32 = omega (arith, kept_few (λ n. not (n == s.views.me)) (nodes_of m), nodes_few m) in
-    goes_more (length ns) 32 s (sent_all t ns b) few (free_then (length ns) s t (sent_all t ns b) a (goes_sent_all ns t b a.stands))
+    goes_more (length ns) 32 s (sent_all t ns b) few (free_then (length ns) s t (sent_all t ns b) a (goes_sent_all ns t b tt a.stands))
 
 times_97 : {A : Type 0} (xs : List A) → times 97 xs ≡ 97 * length xs
 times_97 [] = refl
@@ -140,7 +163,7 @@ unfolding announced
 goes_announced f s g t false k = goes_same s k
 goes_announced f s g t true k = goes_late f s g t (state_of s g).running k
 
-goes_tally_ticks : (f : Answering) (s : Core) (g : List ℕ) (o : Option TallyView) → Stands s → Goes 0 s (tally_ticks f s g o)
+pub goes_tally_ticks : (f : Answering) (s : Core) (g : List ℕ) (o : Option TallyView) → Stands s → Goes 0 s (tally_ticks f s g o)
 unfolding tally_ticks
 goes_tally_ticks f s g None k = goes_same s k
 goes_tally_ticks f s g (Some t) k =
@@ -155,7 +178,7 @@ unfolding entries_sent
 goes_entries to g i stable [] s k = goes_same s k
 goes_entries to g i stable (e ∷ es) s k =
     let t : Core = sent s to (body.Entry s.views.view g i stable e) in
-    let a : Goes 1 s t = goes_sent s to (body.Entry s.views.view g i stable e) k in
+    let a : Goes 1 s t = goes_sent s to (body.Entry s.views.view g i stable e) tt k in
     let b : Goes (length es) t (entries_sent to g (i + 1) stable es t) = goes_entries to g (i + 1) stable es t a.stands in
     goes_more (1 + length es) (length (e ∷ es)) s (entries_sent to g (i + 1) stable es t) (omega arith) (goes_then 1 (length es) s t (entries_sent to g (i + 1) stable es t) a b)
 

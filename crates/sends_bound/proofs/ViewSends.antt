@@ -134,7 +134,7 @@ works_prepare w from inc v mask parts =
     let asked : Bool = v.coord == from && v.inc == inc && has_node mask w.views.me in
     prepared_few w v parts (asked && view_lt w.views.promise v) (asked && same_view v w.views.promise && not (same_view v w.views.view)) (view_lt v w.views.promise)
 
-inserted_long : {A : Type 0} (test : A → Bool) (y : A) (xs : List A) → length (insert_before test y xs) ≡ 1 + length xs
+pub inserted_long : {A : Type 0} (test : A → Bool) (y : A) (xs : List A) → length (insert_before test y xs) ≡ 1 + length xs
 inserted_long test y [] = refl
 inserted_long test y (x ∷ xs) = by (test x) (inserted_long test y xs)
   where

@@ -1,17 +1,16 @@
 -- How many packets a step of a node sends at most.
-use Rattle.std.specs.Prelude.{◌≡◌, true, false, IsTrue, Option, Some, None, ℕ, Bool, ◌==◌, ◌&&◌, ◌+◌, ◌*◌, ◌≤◌, List, [], ◌∷◌, length, filter}
+use Rattle.std.specs.Prelude.{◌≡◌, true, false, Option, Some, None, ℕ, Bool, ◌==◌, ◌&&◌, ◌+◌, ◌*◌, ◌≤◌, List, [], ◌∷◌, length, filter}
 use Rattle.rsct_packet.specs.declared.ids.ProviderId.{ProviderId}
 use Rattle.proposal_core.specs.declared.group_state.GroupState.{GroupState}
 use Rattle.proposal_core.specs.Fold.{joiners_in, present}
+use Rattle.proposal_core.specs.GroupView.{GroupView}
 use Rattle.proposal_core.specs.Lists.{state_in}
 use Rattle.rsct_packet.specs.declared.ids.ViewId.{ViewId}
 use Rattle.rsct_packet.specs.Search.{Has}
 use Rattle.view_exchange.specs.declared.exchange.Exchange.{Exchange}
-use Rattle.view_exchange.specs.declared.install.Part.{Part}
-use Rattle.view_exchange.specs.declared.install.Source.{Source}
 use Rattle.view_exchange.specs.declared.install.Install.{Install}
-use Rattle.view_exchange.specs.Bases.{parts_from}
-use Rattle.view_exchange.specs.Codec.{views_ascend}
+use Rattle.view_exchange.specs.declared.install.Base.{Base}
+use Rattle.view_exchange.specs.Bases.{parts_from, bases_of}
 use Rattle.view_exchange.specs.Longest.{NamesDiffer}
 use Rattle.node_groups.specs.Places.{InNameOrder}
 use Rattle.node_state.specs.declared.group.GroupRow.{GroupRow}
@@ -20,7 +19,6 @@ use Rattle.node_state.specs.declared.happened.Happened.TheVariants as happened
 use Rattle.node_state.specs.declared.state.Core.{Core}
 use Rattle.node_state.specs.State.{state_of, leads_in, led_groups}
 use Rattle.node_state.specs.Applying.{own_parts}
-use Rattle.node_state.specs.Ticks.{rings_part, ring_ask}
 use Rattle.node_state.specs.Step.{NodeEvent}
 use Rattle.node_state.specs.Step.NodeEvent.{Ticks, Asks, Given, Calls, Garbage}
 use Rattle.node_state.specs.declared.packet.Body.{Body}
@@ -28,7 +26,7 @@ use Rattle.node_state.specs.declared.packet.Body.TheVariants as body
 use Rattle.node_state.specs.declared.packet.Packet.{Packet}
 use Rattle.view_core.specs.declared.packet.ViewPacket.{ViewPacket}
 use Rattle.view_core.specs.declared.packet.ViewPacket.TheVariants as packet
-use Rattle.view_core.specs.Views.{views_at_work, prepare_row, answer_row, refuse_row, install_row, taken_row, gathering_ticks}
+use Rattle.view_core.specs.Views.{views_at_work, prepare_row, answer_row, refuse_row, install_row, taken_row}
 
 -- ---- what is counted
 
@@ -76,12 +74,11 @@ pub record Stands (s : Core) : Type 0 where
   pub order : InNameOrder s.groups
   pub room : (g : List ℕ) → Room (state_of s g)
 
--- an install that a node of this view may enter: members are few, the old views ascend, each list has room for its
--- providers, and those of the node's own view are of groups that differ
+-- an install that a node of this view may enter: members are few, each base has room for its providers, and the lists of
+-- the node's own view are of groups that differ
 pub record Fine (v : ViewId) (i : Install) : Type 0 where
   pub few : length i.members ≤ 32
-  pub ascend : IsTrue (views_ascend i.sources)
-  pub room : (x : Source) → Has x i.sources → (p : Part) → Has p x.parts → Room p.state
+  pub room : (b : Base) → Has b (bases_of i) → Room b.state
   pub apart : NamesDiffer (parts_from i v)
 
 abbrev pub FineIf : ViewId → Option Install → Type 0
@@ -117,13 +114,17 @@ brought s (Given p) = brought_to s p
 brought s (Calls c) = None
 brought s Garbage = None
 
--- the install of a node that asks itself alone in a tick
-unfoldable pub founded : Core → Option Install
-founded s = let t : Core = rings_part s in (gathering_ticks (views_at_work t.views) (ring_ask t) (own_parts t)).install
-
 -- joins wait where the node leads, at most 64 of them
 abbrev pub WaitsAtLed : Core → Type 0
 WaitsAtLed s = (row : GroupRow) → Has row s.groups → (length row.led.waiting.joins ≤ 64) × (leads_in s row ≡ false → row.led.waiting.joins ≡ [])
+
+-- a list ends where its entries do
+abbrev pub EndsAt : Option GroupView → Type 0
+EndsAt None = Unit {0}
+EndsAt (Some l) = l.len ≡ l.start + length l.entries
+
+abbrev pub ListsEnd : Core → Type 0
+ListsEnd s = (row : GroupRow) → Has row s.groups → EndsAt row.list
 
 -- what is needed of a state and of an event in it
 pub record Ready (s : Core) (e : NodeEvent) : Type 0 where
@@ -132,11 +133,7 @@ pub record Ready (s : Core) (e : NodeEvent) : Type 0 where
   pub waits : WaitsAtLed s
   pub answers : FewAnswers s.views.gathering
   pub fine : FineIf s.views.view (brought s e)
-
--- a tick in which the node enters no view, which it could only alone
-abbrev pub TicksInView : Core → NodeEvent → Type 0
-TicksInView s Ticks = founded s ≡ None
-TicksInView s _ = Unit {0}
+  pub ends : ListsEnd s
 
 -- ---- what is sent
 

@@ -23,7 +23,7 @@ use Rattle.node_state.specs.Ticks.{ring_row, report_row, rings_part, owed_part, 
 use Rattle.node_state.specs.Ending.{step_ended}
 use Rattle.node_state.specs.Calls.{call_row}
 use Rattle.node_state.specs.Step.{NodeEvent, at_work, stepped}
-use Rattle.sends_bound.specs.Bound.{puts_of, led_count, owed_count, Stands, Within, Ready, TicksInView}
+use Rattle.sends_bound.specs.Bound.{puts_of, led_count, owed_count, Stands, Within, Ready}
 
 -- an entry is appended by the leader, phases close, and a protocol begins: a hundred packets for each put
 abbrev pub AppendSends : Type 0
@@ -89,11 +89,10 @@ LedPartSends = (f : Answering) (s : Core) → Stands s → Within (512 * length 
 abbrev pub EndSends : Type 0
 EndSends = (f : Answering) (s : Core) → Stands s → Within 0 s (step_ended f s)
 
--- A whole step, but for a tick in which the node enters a view alone: what stands before it is what `at_work` says of s,
--- which is s with nothing sent or recorded.
+-- A whole step: what stands before it is what `at_work` says of s, which is s with nothing sent or recorded.
 abbrev pub StepSends : Type 0
 StepSends =
-    (f : Answering) (s : Core) (e : NodeEvent) → Ready (at_work s) e → TicksInView (at_work s) e →
+    (f : Answering) (s : Core) (e : NodeEvent) → Ready (at_work s) e →
     length (stepped f s e).sends ≤ 600 + 600 * led_count s + 100 * puts_of (stepped f s e).records + 2 * owed_count s
 
 -- A phase that is opened anew closes at once only where all its voters failed, and no other phase follows it.

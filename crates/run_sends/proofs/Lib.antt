@@ -1,0 +1,5 @@
+pub mod Bases
+pub mod Nodes
+pub mod Brought
+pub mod Small
+pub mod Law
