@@ -1,0 +1,14 @@
+pub mod Alone
+pub mod Bases
+pub mod States
+pub mod Turns
+pub mod Doing
+pub mod Law
+pub mod Parts
+pub mod Staying
+pub mod Handed
+pub mod Entering
+pub mod Ordering
+pub mod Fresh
+pub mod Living
+pub mod OrderLaw
