@@ -1,0 +1,14 @@
+pub mod Slots
+pub mod More
+pub mod At
+pub mod Sends
+pub mod Keeps
+pub mod Hands
+pub mod Leading
+pub mod Ending
+pub mod Entering
+pub mod Ticking
+pub mod Following
+pub mod Calling
+pub mod Steps
+pub mod Law

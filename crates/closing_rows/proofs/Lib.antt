@@ -1,0 +1,17 @@
+pub mod Orders
+pub mod Told
+pub mod Lists
+pub mod Evident
+pub mod Entered
+pub mod At
+pub mod Calms
+pub mod Tallies
+pub mod Leading
+pub mod Ending
+pub mod Works
+pub mod Entering
+pub mod Ticking
+pub mod Following
+pub mod Steps
+pub mod Law
+pub mod Places

@@ -1,0 +1,68 @@
+-- The rows of an entry that closes a phase: one for each voter.
+use Rattle.std.specs.Prelude.{ℕ, ◌≡◌, List, map, Option, Some, None}
+use Rattle.group_entry.specs.declared.entry.Row.{Row}
+use Rattle.group_entry.specs.declared.entry.Entry.{Entry}
+use Rattle.group_entry.specs.declared.entry.Entry.TheVariants.{Once, Begin, Phase, Approve, Reject, Late}
+use Rattle.proposal_core.specs.declared.group_state.GroupState.{GroupState}
+use Rattle.proposal_core.specs.Fold.{voters}
+use Rattle.vote_phases.specs.declared.voter.Voter.{Voter}
+use Rattle.vote_phases.specs.Tally.{TallyView}
+use Rattle.node_state.specs.declared.config.Config.{Config}
+use Rattle.node_state.specs.declared.state.Core.{Core}
+use Rattle.node_state.specs.State.{led_of, state_of}
+use Rattle.node_state.specs.declared.happened.Happened.{Happened}
+use Rattle.node_state.specs.declared.happened.Happened.TheVariants as happened
+use Rattle.run_safety.specs.Past.{History, earlier, EachRecord, state_at}
+use Rattle.run_safety.specs.SafeLists.{NextPlace, Fitting, Each}
+use Rattle.step_ties.specs.Tied.{Scene}
+use Rattle.step_ties.specs.Runs.{Reached}
+
+-- one row for each voter of the state, in the voters' order
+abbrev pub AreOfVoters : GroupState → List Row → Type 0
+AreOfVoters s rows = map (λ (r : Row). r.p) rows ≡ voters s
+
+-- the rows of an entry that closes a phase, where the state before it is this
+abbrev pub HasRows : GroupState → Entry → Type 0
+HasRows s (Once x) = Unit {0}
+HasRows s (Begin x) = Unit {0}
+HasRows s (Phase c) = AreOfVoters s c.rows
+HasRows s (Approve c) = AreOfVoters s c.rows
+HasRows s (Reject c) = AreOfVoters s c.rows
+HasRows s (Late proto phase ps) = Unit {0}
+
+-- the state before is that of the node's list up to the place
+abbrev pub RecordRows : List Happened → History → Happened → Type 0
+RecordRows now before (happened.Put n v g i e) = HasRows (state_at n v g i (earlier now before)) e
+RecordRows now before _ = Unit {0}
+
+-- Each entry that closes a phase, where a node puts it, has rows that are one for each voter of the state before it, in the
+-- voters' order.
+abbrev pub RowsAreVoters : History → Type 0
+RowsAreVoters h = EachRecord RecordRows h
+
+-- so in every scene that events lead to
+abbrev pub RowsAreAlwaysVoters : Type 0
+RowsAreAlwaysVoters = (c : Config) (w : Scene) → Reached c w → RowsAreVoters w.before
+
+-- ---- the leader's tally
+
+-- a slot for each voter of the state, in order
+abbrev pub TallyFits : Option TallyView → GroupState → Type 0
+TallyFits None st = Unit {0}
+TallyFits (Some t) st = map (λ (x : Voter). x.p) t.voters ≡ voters st
+
+-- each tally that a node keeps of a group is of the voters of its list's state
+abbrev pub TalliesAreOfVoters : Type 0
+TalliesAreOfVoters =
+    (c : Config) (w : Scene) → Reached c w → (n : ℕ) (s : Core) → w.cores n ≡ Some s → (g : List ℕ) → TallyFits (led_of s g).tally (state_of s g)
+
+-- ---- the records of one node
+
+-- the places of a node's puts of one view and group are 0, 1, 2 and on
+abbrev pub PutsAreInOrder : Type 0
+PutsAreInOrder = (c : Config) (w : Scene) → Reached c w → Each NextPlace w.before
+
+-- each entry fits the state that the node's records make before it: what closes a phase names the protocol and the phase
+-- that run there
+abbrev pub PutsFit : Type 0
+PutsFit = (c : Config) (w : Scene) → Reached c w → Each Fitting w.before
