@@ -1,0 +1,17 @@
+pub mod At
+pub mod Puts
+pub mod Hands
+pub mod Laters
+pub mod Tallies
+pub mod Leading
+pub mod Rows
+pub mod Ending
+pub mod Brought
+pub mod ViewWorks
+pub mod Entering
+pub mod Ticking
+pub mod Tellings
+pub mod Following
+pub mod Calling
+pub mod Steps
+pub mod Law
