@@ -1,0 +1,4 @@
+pub mod Grows
+pub mod Ended
+pub mod Bases
+pub mod Law

@@ -1,0 +1,19 @@
+//! Who fails as gone without a goodbye: it did not pass into the view.
+#![tactic(auto)]
+
+ghost use Rattle.failed_causes.specs.Passed.{WhoIsOverDidNotPass, BasesComeFirst};
+
+/// Whatever starts, stops and steps, in any order: where a node notes a base, it put nothing of that group since it entered the
+/// view.
+#[tactic(auto, using(crate::proofs::Bases::bases_come_first))]
+pub fn bases_come_first()
+    ensures { BasesComeFirst }
+{}
+
+/// Whoever its own node held in a view although it was over is of the base there, did not pass into the view, and is named by no
+/// join that the node put there; unless its node put its join, and it was over only since it was not asked for yet, or by a
+/// telling, or since it was taken off a list in which it did not take part.
+#[tactic(auto, using(crate::proofs::Law::over_did_not_pass))]
+pub fn who_is_over_did_not_pass()
+    ensures { WhoIsOverDidNotPass }
+{}

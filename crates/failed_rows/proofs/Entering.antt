@@ -1,0 +1,328 @@
+-- Entering a view, and what a row of views leaves.
+use Rattle.std.proofs.Common.{◌≡◌, ℕ, List, [], ◌∷◌, ◌++◌, Option, Some, None, Bool, true, false, refl, sym, ap, ◌∙◌, subst, inl, inr, ⊎_elim, append_assoc}
+use Rattle.std.specs.Prelude.{◌==◌, ◌&&◌, not, map, filter, fold, find, flat_map, is_some, reverse}
+use Rattle.std.specs.Str.{bytes_eq}
+use Rattle.std.specs.Option.{option_map}
+use Rattle.std.proofs.lemmas.Bool.{and_parts}
+use Rattle.std.proofs.lemmas.List.{reverse-append}
+use Rattle.rsct_packet.specs.declared.ids.ViewId.{ViewId}
+use Rattle.rsct_packet.specs.declared.ids.ProviderId.{ProviderId}
+use Rattle.rsct_packet.specs.Providers.{among, none_among}
+use Rattle.rsct_packet.specs.Search.{Has}
+use Rattle.rsct_packet.proofs.HasLaws.{has_append, append_has_right, has_map, has_filter, all_has, find_has}
+use Rattle.group_attr.specs.Attrs.{host_membership}
+use Rattle.group_entry.specs.declared.proposal.Cause.TheVariants.{Died}
+use Rattle.group_entry.specs.declared.proposal.Proposal.{Proposal}
+use Rattle.group_entry.specs.declared.proposal.Proposal.TheVariants.{Join, Leave, Fail, Expel, State, Message, Attributes, Reflect}
+use Rattle.group_entry.specs.declared.entry.Entry.{Entry}
+use Rattle.proposal_core.specs.declared.group_state.GroupState.{GroupState}
+use Rattle.proposal_core.specs.declared.group_state.Running.{Running}
+use Rattle.proposal_core.specs.Fold.{present, joins_of, joiners_in, can_begin, joiners_fit_at, joiners_fit}
+use Rattle.proposal_core.specs.Lists.{state_in, len_in}
+use Rattle.batch_rules.specs.Waiting.{waits_failure}
+use Rattle.subscribe_core.specs.declared.subs.Subscription.{Subscription}
+use Rattle.client_callbacks.specs.declared.told.Told.TheVariants as told
+use Rattle.client_callbacks.specs.declared.told.Why.TheVariants.{Dissolved}
+use Rattle.session_state.specs.declared.state.Provider.{Provider}
+use Rattle.session_state.specs.State.{provider_of, outstanding}
+use Rattle.view_exchange.specs.declared.install.Install.{Install}
+use Rattle.view_exchange.specs.declared.install.Base.{Base}
+use Rattle.view_exchange.specs.Bases.{bases_of, base_named}
+use Rattle.view_core.specs.declared.packet.ViewPacket.TheVariants as packet
+use Rattle.view_core.specs.declared.packet.ViewSend.{ViewSend}
+use Rattle.view_core.specs.declared.views.ViewWork.{ViewWork}
+use Rattle.view_core.specs.Views.{views_entered}
+use Rattle.node_state.specs.declared.group.GroupRow.{GroupRow}
+use Rattle.node_state.specs.declared.happened.Happened.{Happened}
+use Rattle.node_state.specs.declared.happened.Happened.TheVariants as happened
+use Rattle.node_state.specs.declared.packet.Body.TheVariants as body
+use Rattle.node_state.specs.declared.state.Core.{Core}
+use Rattle.node_state.specs.State.{row_found, row_of, list_of, state_of, held_rows, recorded_all, with_row, with_led}
+use Rattle.node_state.specs.Sending.{sent, requests_sent}
+use Rattle.node_state.specs.HandOn.{Answering, subscriber_name, note_of}
+use Rattle.node_state.specs.Leading.{put_and_handed, with_waiting, tally_opened}
+use Rattle.node_state.specs.Applying.{Lacking, lacking, lists_filled, level_set, base_row, base_record, view_entered, is_in_base, number_of, dissolved, dissolved_if, group_dissolved, sides_dissolved, base_note, entering_note, entering_noted, taken_sent, owed_sent, failed_wait, phase_reopened, group_led, groups_led, entered, entered_if, install_applied, views_taken}
+use Rattle.run_safety.specs.Past.{History, records_of}
+use Rattle.run_safety.specs.Stays.{asks_join, is_refused, stays}
+use Rattle.node_groups.specs.Places.{has_name}
+use Rattle.node_groups.proofs.NameOrder.{row_here}
+use Rattle.step_ties.proofs.BaseOrder.{bases_ordered, row_of_base, base_noted}
+use Rattle.hearing.proofs.Handing.{among_is, has_among}
+use Rattle.honest_votes.proofs.At.{found}
+use Rattle.honest_votes.proofs.Ending.{Every, NoGroup}
+use Rattle.failed_rows.specs.Failures.{EachPut}
+use Rattle.failed_rows.proofs.Queues.{Stays, failed_stays}
+use Rattle.failed_rows.proofs.Bases.{bases_put, bases_track}
+use Rattle.failed_rows.proofs.Facts.{Quiet, BasesFit, Of, BodyFails, body_on, Track, own_pushed}
+use Rattle.failed_rows.proofs.Living.{slim_same}
+use Rattle.failed_rows.proofs.Origin.{Origin, slim_more, slim_on}
+use Rattle.failed_rows.proofs.At.{At, at_fold, at_sent, at_recorded_all, at_views, at_told}
+use Rattle.failed_rows.proofs.Sends.{at_requests_sent, at_votes_again}
+use Rattle.failed_rows.proofs.Puts.{at_put_and_handed_for}
+use Rattle.failed_rows.proofs.Leading.{at_waits, at_opened_anew, at_closes}
+use Rattle.failed_rows.proofs.Ending.{at_led_groups}
+
+-- a member is no joiner
+no_joiner : (st : GroupState) (p : ProviderId) → joiners_fit st ≡ true → among st.members p ≡ true → among (joiners_in st.running) p ≡ false
+unfolding joiners_fit joiners_fit_at can_begin
+no_joiner st p fit m = by st.running fit
+  where
+    of : (x : Proposal) → can_begin st x ≡ true → among (joins_of x) p ≡ false
+    of (Join ps attrs n) k = at (among ps p) refl
+      where
+        at : (b : Bool) → among ps p ≡ b → b ≡ false
+        at false e = refl
+        at true e =
+            let out : not (among st.members p) ≡ true = all_has (λ q. not (among st.members q)) ps p (and_parts (none_among st.members ps) _ k).0 (among_is ps p e) in
+            let z : not true ≡ true = ap not (sym m) ∙ out in absurd (cc)
+    of (Leave q r) k = refl
+    of (Fail out) k = refl
+    of (Expel q r out) k = refl
+    of (State q r value) k = refl
+    of (Message q r bytes) k = refl
+    of (Attributes q r attrs) k = refl
+    of (Reflect v i value) k = refl
+
+    by : (run : Option Running) → joiners_fit_at st run ≡ true → among (joiners_in run) p ≡ false
+    by None k = refl
+    by (Some run) k = of run.proposal k
+
+module _ (h : History) (said : ProviderId → Type 0) (origin : Origin) (P L M : Type 0) (live : L) where
+  abbrev Full : Core → Type 0
+  Full s = At h said origin P L M Every NoGroup Every s
+
+  -- while the old lists are filled, nothing is said of what is put
+  abbrev Loose : Core → Type 0
+  Loose s = At h said origin ⊥ L M NoGroup NoGroup NoGroup s
+
+  loosened : (s : Core) → Full s → Loose s
+  loosened s a =
+      record {
+        inc = a.inc;
+        own = a.own;
+        slim = a.slim;
+        sends = a.sends;
+        puts = λ z. absurd z;
+        accepted = a.accepted;
+        whose = a.whose;
+        order = a.order;
+        tracks = a.tracks;
+        marks = a.marks;
+        tallies = λ g z. absurd z;
+        queues = λ fit g z. absurd z;
+        apart = a.apart;
+        led = λ g z. absurd z;
+      }
+
+  -- (1)
+  entries_filled : (f : Answering) (g : List ℕ) (es : List Entry) (s : Core) → Loose s → Loose (fold (λ u e. put_and_handed f u None g e) s es)
+  entries_filled f g [] s a = a
+  entries_filled f g (e ∷ es) s a =
+      entries_filled f g es (put_and_handed f s None g e) (at_put_and_handed_for h said origin ⊥ L M NoGroup NoGroup NoGroup NoGroup NoGroup f s None g e live (λ z. absurd z) (λ k u ne. u) (λ k u ne. u) (λ u. absurd u) (λ fit u. absurd u) a)
+
+  all_filled : (f : Answering) (xs : List Lacking) (s : Core) → Loose s → Loose (fold (λ t (x : Lacking). fold (λ u e. put_and_handed f u None x.name e) t x.entries) s xs)
+  all_filled f [] s a = a
+  all_filled f (x ∷ xs) s a = all_filled f xs (fold (λ u e. put_and_handed f u None x.name e) s x.entries) (entries_filled f x.name x.entries s a)
+
+  -- (2) in a view that is entered nothing is counted yet, and nobody waits
+  at_view_entered : (s : Core) (i : Install) → Loose s → Full (view_entered s i (bases_of i))
+  unfolding view_entered level_set base_record base_row base_named views_entered recorded_all joiners_fit joiners_fit_at
+  at_view_entered s i a =
+      record {
+        inc = a.inc;
+        own = own_pushed h said origin.born s.sessions s rs unasked a.own;
+        slim = slim_on origin.root s.sessions (level_set s i.members) (s.records ++ rs) (slim_same s.sessions (level_set s i.members) refl refl refl) (slim_more origin.root s.sessions s.records rs unasked a.slim);
+        sends = λ p j. subst (λ z. BodyFails said z p.body) (sym turned) (body_on said (reverse rs) (reverse s.records ++ records_of h) p.body (a.sends p j));
+        puts = λ l fit. subst (λ z. EachPut (reverse z) h) (append_assoc s.records (entering ∷ []) (map (base_noted me i.view) bs)) (bases_put h me i.view bs (s.records ++ entering ∷ []) (subst (λ z. EachPut z h) (sym (reverse-append s.records (entering ∷ []))) tt));
+        accepted = λ m r j. ⊎_elim (λ (k : Has r s.records). a.accepted m r k) (λ (k : Has r rs). plain r k) (has_append r s.records rs j);
+        whose = λ r j. ⊎_elim (λ (k : Has r s.records). a.whose r k) (λ (k : Has r rs). mine r k) (has_append r s.records rs j);
+        order = bases_ordered i;
+        tracks = λ l g. subst (λ z. Track (stays me g (reverse z ++ records_of h)) i.view (len_in (row_found g (find (has_name g) (map base_row bs))).list) (state_in (row_found g (find (has_name g) (map base_row bs))).list)) (append_assoc s.records (entering ∷ []) (map (base_noted me i.view) bs)) (bases_track me i.view i.members g bs s.records (records_of h) (bases_ordered i));
+        marks = λ l g p j. absurd (unmarked g (base_named bs g) p (ap (λ (x : GroupRow). among x.led.gone p) (sym (row_is g)) ∙ j));
+        tallies = λ g u. inl (ap (λ (x : GroupRow). x.led.tally) (row_is g) ∙ uncounted g (base_named bs g));
+        queues = λ fit g u. inl (ap (λ (x : GroupRow). x.led.waiting.failures) (row_is g) ∙ unqueued g (base_named bs g));
+        apart = λ l fit g. ap (λ (x : GroupRow). joiners_fit (state_in x.list)) (row_is g) ∙ fitted fit g;
+        led = λ g z. absurd z;
+      }
+    where
+      bs : List Base
+      bs = bases_of i
+
+      me : ℕ
+      me = s.views.me
+
+      entering : Happened
+      entering = happened.In me i.view i.members
+
+      rs : List Happened
+      rs = entering ∷ map (base_noted me i.view) bs
+
+      turned : reverse (s.records ++ rs) ++ records_of h ≡ reverse rs ++ (reverse s.records ++ records_of h)
+      turned = ap (λ z. z ++ records_of h) (reverse-append s.records rs) ∙ append_assoc (reverse rs) (reverse s.records) (records_of h)
+
+      plain : (r : Happened) → Has r rs → is_refused r ≡ false
+      plain r (inl e) = ap is_refused e
+      plain r (inr j) = let k = has_map (base_noted me i.view) r bs j in ap is_refused k.2
+
+      unasked : (r : Happened) → Has r rs → (p : ProviderId) → asks_join p r ≡ false
+      unasked r (inl e) p = ap (asks_join p) e
+      unasked r (inr j) p = let k = has_map (base_noted me i.view) r bs j in ap (asks_join p) k.2
+
+      mine : (r : Happened) → Has r rs → Of me r
+      mine r (inl e) = subst (Of me) (sym e) refl
+      mine r (inr j) = let k = has_map (base_noted me i.view) r bs j in subst (Of me) (sym k.2) refl
+
+      row_is : (g : List ℕ) → row_found g (find (has_name g) (map base_row bs)) ≡ row_found g (option_map base_row (base_named bs g))
+      row_is g = ap (row_found g) (row_of_base g bs)
+
+      unmarked : (g : List ℕ) (o : Option Base) (p : ProviderId) → among (row_found g (option_map base_row o)).led.gone p ≡ true → ⊥
+      unmarked g None p e = cc
+      unmarked g (Some b) p e = cc
+
+      uncounted : (g : List ℕ) (o : Option Base) → (row_found g (option_map base_row o)).led.tally ≡ None
+      uncounted g None = refl
+      uncounted g (Some b) = refl
+
+      unqueued : (g : List ℕ) (o : Option Base) → (row_found g (option_map base_row o)).led.waiting.failures ≡ []
+      unqueued g None = refl
+      unqueued g (Some b) = refl
+
+      fitted : BasesFit (s.records ++ rs) → (g : List ℕ) → joiners_fit (state_in (row_found g (option_map base_row (base_named bs g))).list) ≡ true
+      fitted fit g = by (base_named bs g) refl
+        where
+          map_has : {A B : Type 0} (f : A → B) (x : A) (xs : List A) → Has x xs → Has (f x) (map f xs)
+          map_has f x [] k = absurd k
+          map_has f x (y ∷ ys) (inl q) = inl (ap f q)
+          map_has f x (y ∷ ys) (inr k) = inr (map_has f x ys k)
+
+          named_there : (xs : List Base) (b : Base) → base_named xs g ≡ Some b → Has b xs
+          named_there xs b e = (find_has (λ (b : Base). bytes_eq b.name g) xs b e).0
+
+          noted_there : (b : Base) → base_named bs g ≡ Some b → Has (base_noted me i.view b) (s.records ++ rs)
+          noted_there b e = append_has_right (base_noted me i.view b) s.records rs (inr (map_has (base_noted me i.view) b bs (named_there bs b e)))
+
+          by : (o : Option Base) → base_named bs g ≡ o → joiners_fit (state_in (row_found g (option_map base_row o)).list) ≡ true
+          by None e = refl
+          by (Some b) e = fit (base_noted me i.view b) (noted_there b e)
+
+  -- (3)
+  at_dissolved : (s : Core) (p : ProviderId) (r : ℕ) → Full s → Full (dissolved s p r)
+  unfolding dissolved
+  at_dissolved s p r a = at_told h said origin P L M Every NoGroup Every s p r Dissolved (λ j. inr refl) a
+
+  at_dissolved_if : (s : Core) (g : List ℕ) (old : ViewId) (b : Option Base) (o : Option Provider) → Full s → Full (dissolved_if s g old b o)
+  unfolding dissolved_if
+  at_dissolved_if s g old b None a = a
+  at_dissolved_if s g old b (Some x) a = by (x.takes_part && bytes_eq x.group g && not (is_in_base old x.p b))
+    where
+      by : (c : Bool) → Full (elim c as (λ _. Core) [ true ↦ dissolved s x.p (number_of (outstanding s.sessions x.p)) | false ↦ s ])
+      by true = at_dissolved s x.p (number_of (outstanding s.sessions x.p)) a
+      by false = a
+
+  at_group_dissolved : (old : ViewId) (bs : List Base) (s : Core) (row : GroupRow) → Full s → Full (group_dissolved old bs s row)
+  unfolding group_dissolved
+  at_group_dissolved old bs s row a =
+      at_fold h said origin P L M Every NoGroup Every (λ (t : Core) p. dissolved_if t row.name old (base_named bs row.name) (provider_of t.sessions p)) (present (state_in row.list)) (λ t p i k. at_dissolved_if t row.name old (base_named bs row.name) (provider_of t.sessions p) k) s a
+
+  at_sides : (s : Core) (rows : List GroupRow) (old : ViewId) (bs : List Base) → Full s → Full (sides_dissolved s rows old bs)
+  unfolding sides_dissolved
+  at_sides s rows old bs a = at_fold h said origin P L M Every NoGroup Every (group_dissolved old bs) rows (λ t row i k. at_group_dissolved old bs t row k) s a
+
+  -- (4)
+  note_quiet : (s : Core) (bs : List Base) (u : Subscription) (r : Happened) → Has r (entering_note s bs u) → Quiet r
+  unfolding entering_note base_note note_of
+  note_quiet s bs u r i = by (bytes_eq u.group host_membership) i
+    where
+      base : (o : Option Base) → Has r (base_note s u o) → Quiet r
+      base None j = absurd j
+      base (Some b) (inl e) = subst Quiet (sym e) tt
+      base (Some b) (inr z) = absurd z
+
+      by : (b : Bool) → Has r (elim b as (λ _. List Happened) [ true ↦ happened.Noted s.views.me (subscriber_name s.sessions u) s.views.view None (told.Hosts s.views.view s.views.members) ∷ [] | false ↦ base_note s u (base_named bs u.group) ]) → Quiet r
+      by true (inl e) = subst Quiet (sym e) tt
+      by true (inr z) = absurd z
+      by false j = base (base_named bs u.group) j
+
+  notes_quiet : (s : Core) (bs : List Base) (us : List Subscription) (r : Happened) → Has r (flat_map (entering_note s bs) us) → Quiet r
+  notes_quiet s bs [] r i = absurd i
+  notes_quiet s bs (u ∷ us) r i =
+      ⊎_elim (λ (j : Has r (entering_note s bs u)). note_quiet s bs u r j) (λ (j : Has r (flat_map (entering_note s bs) us)). notes_quiet s bs us r j) (has_append r (entering_note s bs u) (flat_map (entering_note s bs) us) i)
+
+  at_entering_noted : (s : Core) (bs : List Base) → Full s → Full (entering_noted s bs)
+  unfolding entering_noted
+  at_entering_noted s bs a = at_recorded_all h said origin P L M Every NoGroup Every (flat_map (entering_note s bs) s.sessions.subs.live) s (notes_quiet s bs s.sessions.subs.live) a
+
+  -- (5) and (6)
+  at_taken_sent : (s : Core) → Full s → Full (taken_sent s)
+  unfolding taken_sent
+  at_taken_sent s a = by (s.views.view.coord == s.views.me)
+    where
+      by : (b : Bool) → Full (elim b as (λ _. Core) [ true ↦ s | false ↦ sent s s.views.view.coord (body.View (packet.Taken s.views.view)) ])
+      by true = a
+      by false = at_sent h said origin P L M Every NoGroup Every s s.views.view.coord (body.View (packet.Taken s.views.view)) tt a
+
+  at_owed_sent : (s : Core) → Full s → Full (owed_sent s)
+  unfolding owed_sent
+  at_owed_sent s a = at_votes_again h said origin P L M Every NoGroup Every (requests_sent s) (at_requests_sent h said origin P L M Every NoGroup Every s a)
+
+  -- (7)
+  failed_waits : (G : List ℕ → Type 0) (g : List ℕ) (st : GroupState) (ps : List ProviderId) (s : Core) → G g → state_in (found s g).list ≡ st → ((p : ProviderId) → Has p ps → (among st.members p ≡ true) × (among st.failed p ≡ true)) → At h said origin P L M Every G Every s → At h said origin P L M Every G Every (fold (λ t p. with_waiting t g (waits_failure p Died)) s ps)
+  unfolding with_waiting with_led with_row row_of
+  failed_waits G g st [] s led is all a = a
+  failed_waits G g st (p ∷ ps) s led is all a =
+      failed_waits G g st ps (with_waiting s g (waits_failure p Died)) led (ap (λ (z : GroupRow). state_in z.list) (row_here g (λ row. record row { led = record (row.led) { waiting = waits_failure p Died row.led.waiting } }) (λ x. refl) s a.order) ∙ is) (λ q i. all q (inr i)) (at_waits h said origin P L M Every G Every s g p Died led (λ fit w. new fit) a)
+    where
+      new : BasesFit s.records → Stays (state_in (found s g).list) p ≡ true
+      new fit =
+          let k = all p (inl refl) in
+          failed_stays (state_in (found s g).list) p (ap (λ (z : GroupState). among z.failed p) is ∙ k.1) (no_joiner (state_in (found s g).list) p (a.apart live fit g) (ap (λ (z : GroupState). among z.members p) is ∙ k.0))
+
+  at_group_led : (f : Answering) (G : List ℕ → Type 0) (s : Core) (g : List ℕ) → G g → At h said origin P L M Every G Every s → At h said origin P L M Every G Every (group_led f s g)
+  unfolding group_led failed_wait phase_reopened state_of list_of row_of
+  at_group_led f G s g led a = by (is_some st.running)
+    where
+      st : GroupState
+      st = state_in (found s g).list
+
+      t : Core
+      t = failed_wait s g (filter (among st.members) st.failed)
+
+      waits : At h said origin P L M Every G Every t
+      waits =
+          failed_waits G g st (filter (among st.members) st.failed) s led refl (λ p i. let k = has_filter (among st.members) p st.failed i in (k.1, has_among st.failed p k.0)) a
+
+      by : (b : Bool) → At h said origin P L M Every G Every (phase_reopened f t g b)
+      by false = waits
+      by true = at_closes h said origin P L M Every G Every f (tally_opened t g) g live tt led (at_opened_anew h said origin P L M Every G Every t g live led waits)
+
+  at_groups_led : (f : Answering) (s : Core) → Full s → Full (groups_led f s)
+  unfolding groups_led
+  at_groups_led f s a = at_led_groups h said origin P L M live (group_led f) (at_group_led f) s a
+
+  at_entered : (f : Answering) (s : Core) (i : Install) (xs : List Lacking) → Full s → Full (entered f s i xs)
+  unfolding entered lists_filled
+  at_entered f s i xs a =
+      let t : Core = lists_filled f s xs in
+      let bs : List Base = bases_of i in
+      let v : Core = view_entered t i bs in
+      let d : Core = sides_dissolved v (held_rows t) t.views.view bs in
+      let e : Full d = at_sides v (held_rows t) t.views.view bs (at_view_entered t i (all_filled f xs s (loosened s a))) in
+      at_groups_led f (owed_sent (taken_sent (entering_noted d bs))) (at_owed_sent (taken_sent (entering_noted d bs)) (at_taken_sent (entering_noted d bs) (at_entering_noted d bs e)))
+
+  at_applied : (f : Answering) (s : Core) (o : Option Install) → Full s → Full (install_applied f s o)
+  unfolding install_applied entered_if
+  at_applied f s None a = a
+  at_applied f s (Some i) a = by (lacking s i)
+    where
+      by : (o : Option (List Lacking)) → Full (entered_if f s i o)
+      by None = a
+      by (Some xs) = at_entered f s i xs a
+
+  -- ---- a row of views
+
+  pub at_views_taken : (f : Answering) (s : Core) (w : ViewWork) → w.views.me ≡ s.views.me → w.views.view ≡ s.views.view → w.views.inc ≡ s.views.inc → Full s → Full (views_taken f s w)
+  unfolding views_taken
+  at_views_taken f s w me view inc a =
+      let c : Core = record s { views = w.views } in
+      let d : Core = fold (λ t (x : ViewSend). sent t x.to (body.View x.packet)) c w.sends in
+      at_applied f d w.install (at_fold h said origin P L M Every NoGroup Every (λ t (x : ViewSend). sent t x.to (body.View x.packet)) w.sends (λ t x i k. at_sent h said origin P L M Every NoGroup Every t x.to (body.View x.packet) tt k) c (at_views h said origin P L M Every NoGroup Every s w.views me view inc a))

@@ -1,0 +1,271 @@
+-- What is said of rows, records and packets, and of who is over.
+use Rattle.std.proofs.Common.{◌≡◌, ◌⊎◌, ℕ, List, [], ◌∷◌, ◌++◌, length, Option, Some, None, Bool, true, false, refl, sym, ap, ◌∙◌, subst, inl, inr, append_assoc, ⊎_elim}
+use Rattle.std.specs.Prelude.{◌||◌, reverse}
+use Rattle.std.specs.List.{list_any}
+use Rattle.std.proofs.lemmas.List.{reverse-append}
+use Rattle.rsct_packet.specs.declared.ids.ViewId.{ViewId}
+use Rattle.rsct_packet.specs.declared.ids.ProviderId.{ProviderId}
+use Rattle.rsct_packet.specs.Search.{Has}
+use Rattle.rsct_packet.proofs.HasLaws.{has_append, append_has_right}
+use Rattle.group_entry.specs.declared.proposal.Cause.{Cause}
+use Rattle.group_entry.specs.declared.proposal.Cause.TheVariants.{Died, Gone, Cast}
+use Rattle.group_entry.specs.declared.proposal.Failure.{Failure}
+use Rattle.group_entry.specs.declared.entry.RowVote.{RowVote}
+use Rattle.proposal_core.specs.declared.group_state.GroupState.{GroupState}
+use Rattle.proposal_core.specs.declared.group_state.Running.{Running}
+use Rattle.proposal_core.specs.Fold.{joiners_fit}
+use Rattle.vote_phases.specs.declared.voter.Voter.{Voter}
+use Rattle.vote_phases.specs.Tally.{TallyView}
+use Rattle.session_state.specs.declared.state.SessionState.{SessionState}
+use Rattle.node_state.specs.declared.happened.Happened.{Happened}
+use Rattle.node_state.specs.declared.happened.Happened.TheVariants as happened
+use Rattle.node_state.specs.declared.packet.Body.{Body}
+use Rattle.node_state.specs.declared.packet.Body.TheVariants as body
+use Rattle.node_state.specs.declared.state.Core.{Core}
+use Rattle.run_safety.specs.Past.{History, records_of}
+use Rattle.run_safety.specs.Stays.{Stay, stays_after, asks_join, is_refused}
+use Rattle.failed_rows.specs.Failures.{state_of_stay, WasTold, TakenOff, StoodThere, RowFails, EachPut}
+use Rattle.failed_rows.proofs.Queues.{Stays}
+use Rattle.failed_rows.proofs.Living.{IsLive}
+
+-- ---- what is said of one row
+
+abbrev pub VoterFails : (ProviderId → Type 0) → GroupState → ProviderId → Option RowVote → Type 0
+VoterFails gone st p None = Unit {0}
+VoterFails gone st p (Some v) = RowFails gone st p v
+
+-- the default votes of a tally are the state's, and who failed in it has a cause
+pub record TallyRuns (gone : ProviderId → Type 0) (st : GroupState) (t : TallyView) : Type 0 where
+  pub default : t.default_vote ≡ st.attrs.default_vote
+  pub voters : (x : Voter) → Has x t.voters → VoterFails gone st x.p x.vote
+
+abbrev pub TallyWhile : (ProviderId → Type 0) → GroupState → TallyView → Option Running → Type 0
+TallyWhile gone st t None = Unit {0}
+TallyWhile gone st t (Some run) = TallyRuns gone st t
+
+abbrev pub TallyFails : (ProviderId → Type 0) → GroupState → Option TallyView → Type 0
+TallyFails gone st None = Unit {0}
+TallyFails gone st (Some t) = TallyWhile gone st t st.running
+
+-- there is no tally, or the node leads
+abbrev pub TallyIs : (ProviderId → Type 0) → Bool → Option TallyView → GroupState → Type 0
+TallyIs gone led t st = (t ≡ None) ⊎ ((led ≡ true) × TallyFails gone st t)
+
+-- who waits as a failure: who died goes on to be on the failed list as long as it is a member
+abbrev pub Waits : (ProviderId → Type 0) → GroupState → ProviderId → Cause → Type 0
+Waits gone st p Died = Stays st p ≡ true
+Waits gone st p Gone = gone p
+Waits gone st p Cast = ⊥
+
+abbrev pub AllWait : (ProviderId → Type 0) → GroupState → List Failure → Type 0
+AllWait gone st fs = (f : Failure) → Has f fs → Waits gone st f.p f.cause
+
+abbrev pub QueueIs : (ProviderId → Type 0) → Bool → List Failure → GroupState → Type 0
+QueueIs gone led fs st = (fs ≡ []) ⊎ ((led ≡ true) × AllWait gone st fs)
+
+-- the latest stay is the list that the node has
+pub record Track (xs : List Stay) (v : ViewId) (len : ℕ) (st : GroupState) : Type 0 where
+  pub stay : Stay
+  pub older : List Stay
+  pub is : xs ≡ stay ∷ older
+  pub view : stay.view ≡ v
+  pub len_is : length stay.entries ≡ len
+  pub state : state_of_stay stay ≡ st
+
+-- ---- records
+
+-- in a base no joiner is a member
+abbrev pub BaseFits : Happened → Type 0
+BaseFits (happened.Base n v g u len st) = joiners_fit st ≡ true
+BaseFits _ = Unit {0}
+
+abbrev pub BasesFit : List Happened → Type 0
+BasesFit rs = (r : Happened) → Has r rs → BaseFits r
+
+-- a record that is of no view and no list, and refuses nothing
+abbrev pub Quiet : Happened → Type 0
+Quiet (happened.Up n j) = ⊥
+Quiet (happened.Down n) = ⊥
+Quiet (happened.In n v ms) = ⊥
+Quiet (happened.Base n v g u len st) = ⊥
+Quiet (happened.Put n v g i e) = ⊥
+Quiet (happened.Asked p r g x) = ⊥
+Quiet (happened.Refused n c fault) = ⊥
+Quiet _ = Unit {0}
+
+pub quiet_stays : (n : ℕ) (g : List ℕ) (r : Happened) → Quiet r → (xs : List Stay) → stays_after n g r xs ≡ xs
+quiet_stays n g (happened.Up m j) q xs = absurd q
+quiet_stays n g (happened.Down m) q xs = absurd q
+quiet_stays n g (happened.Ring m k i ms b) q xs = refl
+quiet_stays n g (happened.In m v ms) q xs = absurd q
+quiet_stays n g (happened.Base m v h u len st) q xs = absurd q
+quiet_stays n g (happened.Put m v h i e) q xs = absurd q
+quiet_stays n g (happened.Heard p v h i e ms value) q xs = refl
+quiet_stays n g (happened.Cast p proto phase vote value message) q xs = refl
+quiet_stays n g (happened.Asked p r h x) q xs = refl
+quiet_stays n g (happened.Told p r why) q xs = refl
+quiet_stays n g (happened.Noted m c v i told) q xs = refl
+quiet_stays n g (happened.Refused m c fault) q xs = absurd q
+quiet_stays n g (happened.Shown m line) q xs = refl
+
+pub quiet_puts : (r : Happened) → Quiet r → (now : List Happened) (h : History) → EachPut now h → EachPut (r ∷ now) h
+quiet_puts (happened.Up m j) q now h k = absurd q
+quiet_puts (happened.Down m) q now h k = absurd q
+quiet_puts (happened.Ring m j i ms b) q now h k = (tt, k)
+quiet_puts (happened.In m v ms) q now h k = absurd q
+quiet_puts (happened.Base m v g u len st) q now h k = absurd q
+quiet_puts (happened.Put m v g i e) q now h k = absurd q
+quiet_puts (happened.Heard p v g i e ms value) q now h k = (tt, k)
+quiet_puts (happened.Cast p proto phase vote value message) q now h k = (tt, k)
+quiet_puts (happened.Asked p r g x) q now h k = (tt, k)
+quiet_puts (happened.Told p r why) q now h k = (tt, k)
+quiet_puts (happened.Noted m c v i told) q now h k = (tt, k)
+quiet_puts (happened.Refused m c fault) q now h k = absurd q
+quiet_puts (happened.Shown m line) q now h k = (tt, k)
+
+pub quiet_accepted : (r : Happened) → Quiet r → is_refused r ≡ false
+quiet_accepted (happened.Up m j) q = absurd q
+quiet_accepted (happened.Down m) q = absurd q
+quiet_accepted (happened.Ring m j i ms b) q = refl
+quiet_accepted (happened.In m v ms) q = absurd q
+quiet_accepted (happened.Base m v g u len st) q = absurd q
+quiet_accepted (happened.Put m v g i e) q = absurd q
+quiet_accepted (happened.Heard p v g i e ms value) q = refl
+quiet_accepted (happened.Cast p proto phase vote value message) q = refl
+quiet_accepted (happened.Asked p r g x) q = refl
+quiet_accepted (happened.Told p r why) q = refl
+quiet_accepted (happened.Noted m c v i told) q = refl
+quiet_accepted (happened.Refused m c fault) q = absurd q
+quiet_accepted (happened.Shown m line) q = refl
+
+-- a record of this node, where it is of a view or a list
+abbrev pub Of : ℕ → Happened → Type 0
+Of n (happened.Up m j) = m ≡ n
+Of n (happened.Down m) = m ≡ n
+Of n (happened.In m v ms) = m ≡ n
+Of n (happened.Base m v g u len st) = m ≡ n
+Of n (happened.Put m v g i e) = m ≡ n
+Of n (happened.Asked p r g x) = p.node ≡ n
+Of n _ = Unit {0}
+
+pub quiet_of : (n : ℕ) (r : Happened) → Quiet r → Of n r
+quiet_of n (happened.Up m j) q = absurd q
+quiet_of n (happened.Down m) q = absurd q
+quiet_of n (happened.Ring m j i ms b) q = tt
+quiet_of n (happened.In m v ms) q = absurd q
+quiet_of n (happened.Base m v g u len st) q = absurd q
+quiet_of n (happened.Put m v g i e) q = absurd q
+quiet_of n (happened.Heard p v g i e ms value) q = tt
+quiet_of n (happened.Cast p proto phase vote value message) q = tt
+quiet_of n (happened.Asked p r g x) q = absurd q
+quiet_of n (happened.Told p r why) q = tt
+quiet_of n (happened.Noted m c v i told) q = tt
+quiet_of n (happened.Refused m c fault) q = absurd q
+quiet_of n (happened.Shown m line) q = tt
+
+-- ---- what is sent
+
+-- GONE has its cause: a goodbye of this event, or the node held the provider
+abbrev pub BodyFails : (ProviderId → Type 0) → List Happened → Body → Type 0
+BodyFails said rs (body.Gone v g p) = said p ⊎ StoodThere rs v g p
+BodyFails said rs _ = Unit {0}
+
+pub stood_on : (newer rs : List Happened) (v : ViewId) (g : List ℕ) (p : ProviderId) → StoodThere rs v g p → StoodThere (newer ++ rs) v g p
+stood_on newer rs v g p k =
+    record {
+      newer = newer ++ k.newer;
+      older = k.older;
+      moment = ap (λ z. newer ++ z) k.moment ∙ sym (append_assoc newer k.newer k.older);
+      stay = k.stay;
+      rest = k.rest;
+      stays_so = k.stays_so;
+      view = k.view;
+      holds = k.holds;
+      over = k.over;
+    }
+
+pub body_on : (said : ProviderId → Type 0) (newer rs : List Happened) (b : Body) → BodyFails said rs b → BodyFails said (newer ++ rs) b
+body_on said newer rs (body.Ring x) k = tt
+body_on said newer rs (body.Report rows) k = tt
+body_on said newer rs (body.View y) k = tt
+body_on said newer rs (body.Lookup v g) k = tt
+body_on said newer rs (body.Name v g n) k = tt
+body_on said newer rs (body.Request v g q r phases x) k = tt
+body_on said newer rs (body.Tell v g q r y) k = tt
+body_on said newer rs (body.Entry v g place stable e) k = tt
+body_on said newer rs (body.Ack v g n) k = tt
+body_on said newer rs (body.Vote v g proto phase p vote value message) k = tt
+body_on said newer rs (body.Gone v g p) (inl a) = inl a
+body_on said newer rs (body.Gone v g p) (inr a) = inr (stood_on newer rs v g p a)
+body_on said newer rs (body.Query question what) k = tt
+body_on said newer rs (body.Reply question text) k = tt
+
+-- ---- who is over
+
+pub quiet_unasked : (r : Happened) → Quiet r → (p : ProviderId) → asks_join p r ≡ false
+quiet_unasked (happened.Up m j) q p = absurd q
+quiet_unasked (happened.Down m) q p = absurd q
+quiet_unasked (happened.Ring m j i ms b) q p = refl
+quiet_unasked (happened.In m v ms) q p = absurd q
+quiet_unasked (happened.Base m v g u len st) q p = absurd q
+quiet_unasked (happened.Put m v g i e) q p = absurd q
+quiet_unasked (happened.Heard o v g i e ms value) q p = refl
+quiet_unasked (happened.Cast o proto phase vote value message) q p = refl
+quiet_unasked (happened.Asked o r g x) q p = absurd q
+quiet_unasked (happened.Told o r why) q p = refl
+quiet_unasked (happened.Noted m c v i told) q p = refl
+quiet_unasked (happened.Refused m c fault) q p = absurd q
+quiet_unasked (happened.Shown m line) q p = refl
+
+pub told_on : (newer rs : List Happened) (p : ProviderId) → WasTold rs p → WasTold (newer ++ rs) p
+told_on newer rs p k = record { number = k.number; why = k.why; told = append_has_right (happened.Told p k.number k.why) newer rs k.told; ends = k.ends }
+
+pub off_on : (newer rs : List Happened) (p : ProviderId) → TakenOff rs p → TakenOff (newer ++ rs) p
+off_on newer rs p k =
+    record {
+      group = k.group;
+      view = k.view;
+      place = k.place;
+      entry = k.entry;
+      newer = newer ++ k.newer;
+      older = k.older;
+      moment = ap (λ z. newer ++ z) k.moment ∙ sym (append_assoc newer k.newer (happened.Put p.node k.view k.group k.place k.entry ∷ k.older));
+      was = k.was;
+      off = k.off;
+    }
+
+-- the node has the provider, or it is recorded why not
+abbrev pub Lives : (ProviderId → Type 0) → SessionState → List Happened → ProviderId → Type 0
+Lives said t rs p = IsLive t p ⊎ (said p ⊎ (WasTold rs p ⊎ TakenOff rs p))
+
+pub lives_on : (said : ProviderId → Type 0) (t : SessionState) (newer rs : List Happened) (p : ProviderId) → Lives said t rs p → Lives said t (newer ++ rs) p
+lives_on said t newer rs p (inl k) = inl k
+lives_on said t newer rs p (inr (inl k)) = inr (inl k)
+lives_on said t newer rs p (inr (inr (inl k))) = inr (inr (inl (told_on newer rs p k)))
+lives_on said t newer rs p (inr (inr (inr k))) = inr (inr (inr (off_on newer rs p k)))
+
+-- of each provider of the node in this incarnation whose join was asked for
+abbrev pub OwnFor : History → (ProviderId → Type 0) → ℕ → SessionState → Core → Type 0
+OwnFor h said born t s =
+    (p : ProviderId) → p.node ≡ s.views.me → p.inc ≡ born → list_any (asks_join p) (reverse s.records ++ records_of h) ≡ true → Lives said t (reverse s.records ++ records_of h) p
+
+pub none_asked : (p : ProviderId) (rs xs : List Happened) → ((r : Happened) → Has r rs → asks_join p r ≡ false) → list_any (asks_join p) (rs ++ xs) ≡ list_any (asks_join p) xs
+none_asked p [] xs all = refl
+none_asked p (r ∷ rs) xs all = ap (λ b. b || list_any (asks_join p) (rs ++ xs)) (all r (inl refl)) ∙ none_asked p rs xs (λ q i. all q (inr i))
+
+pub reverse_has : (r : Happened) (xs : List Happened) → Has r (reverse xs) → Has r xs
+reverse_has r [] i = i
+reverse_has r (x ∷ xs) i =
+    ⊎_elim (λ (a : Has r (reverse xs)). inr (reverse_has r xs a)) (λ (a : Has r (x ∷ [])). last a) (has_append r (reverse xs) (x ∷ []) (subst (Has r) (reverse-append (x ∷ []) xs) i))
+  where
+    last : Has r (x ∷ []) → Has r (x ∷ xs)
+    last (inl e) = inl e
+    last (inr z) = absurd z
+
+-- more is recorded, and nobody asks
+pub own_pushed : (h : History) (said : ProviderId → Type 0) (born : ℕ) (t : SessionState) (s : Core) (rs : List Happened) → ((r : Happened) → Has r rs → (p : ProviderId) → asks_join p r ≡ false) → OwnFor h said born t s → OwnFor h said born t (record s { records = s.records ++ rs })
+own_pushed h said born t s rs none k p node inc asked =
+    subst (λ z. Lives said t z p) (sym turned) (lives_on said t (reverse rs) (reverse s.records ++ records_of h) p (k p node inc (sym (none_asked p (reverse rs) (reverse s.records ++ records_of h) (λ r i. none r (reverse_has r rs i) p)) ∙ ap (list_any (asks_join p)) (sym turned) ∙ asked)))
+  where
+    turned : reverse (s.records ++ rs) ++ records_of h ≡ reverse rs ++ (reverse s.records ++ records_of h)
+    turned = ap (λ z. z ++ records_of h) (reverse-append s.records rs) ∙ append_assoc (reverse rs) (reverse s.records) (records_of h)

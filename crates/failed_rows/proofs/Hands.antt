@@ -1,0 +1,99 @@
+-- An entry is handed on: what is recorded of that is neither put nor of a view.
+use Rattle.std.proofs.Common.{◌≡◌, ◌⊎◌, ℕ, List, [], ◌∷◌, length, Option, Some, None, Bool, true, false, sym, subst, inl, inr, ⊎_elim, ◌++◌}
+use Rattle.std.specs.Prelude.{map, filter, flat_map, reverse}
+use Rattle.rsct_packet.specs.declared.ids.ProviderId.{ProviderId}
+use Rattle.rsct_packet.specs.declared.ids.ProtoId.{ProtoId}
+use Rattle.rsct_packet.specs.Search.{Has}
+use Rattle.rsct_packet.proofs.HasLaws.{has_append}
+use Rattle.group_entry.specs.declared.entry.Entry.{Entry}
+use Rattle.proposal_core.specs.declared.group_state.GroupState.{GroupState}
+use Rattle.subscribe_core.specs.declared.subs.Subscription.{Subscription}
+use Rattle.subscribe_core.specs.Subs.{is_of_group, differs}
+use Rattle.client_callbacks.specs.declared.ballot.Filled.{Filled}
+use Rattle.client_callbacks.specs.Ballots.{BallotView}
+use Rattle.session_state.specs.declared.casts.Cast.{Cast}
+use Rattle.session_state.specs.declared.state.SessionState.{SessionState}
+use Rattle.session_state.specs.HandOn.{hearers, casts_out, is_present}
+use Rattle.session_state.specs.HandOn as session
+use Rattle.node_state.specs.declared.happened.Happened.{Happened}
+use Rattle.node_state.specs.declared.state.Core.{Core}
+use Rattle.node_state.specs.State.{recorded_all, with_sessions}
+use Rattle.node_state.specs.HandOn.{Answering, fills, cast_record, cast_records, heard, note_of, notes, noted, handed_on}
+use Rattle.run_safety.specs.Past.{History, records_of}
+use Rattle.failed_rows.specs.Failures.{TakenOff}
+use Rattle.failed_rows.proofs.Living.{IsLive, handed_lives, handed_slim}
+use Rattle.failed_rows.proofs.Facts.{Quiet, quiet_unasked, Lives, OwnFor, own_pushed}
+use Rattle.failed_rows.proofs.Origin.{Origin, SlimIf, slim_more, slim_on}
+use Rattle.failed_rows.proofs.At.{At, at_recorded_all, at_sessions}
+use Rattle.failed_rows.proofs.Sends.{at_casts_sent}
+
+abbrev AllQuiet : List Happened → Type 0
+AllQuiet rs = (r : Happened) → Has r rs → Quiet r
+
+cast_quiet : (p : ProviderId) (proto : ProtoId) (phase : ℕ) (b : Option Filled) → AllQuiet (cast_record p proto phase b)
+unfolding cast_record
+cast_quiet p proto phase None r i = absurd i
+cast_quiet p proto phase (Some b) r (inl e) = subst Quiet (sym e) tt
+cast_quiet p proto phase (Some b) r (inr z) = absurd z
+
+casts_quiet : (p : ProviderId) (c : Option (ProtoId × ℕ × BallotView)) → AllQuiet (cast_records p c)
+unfolding cast_records
+casts_quiet p None r i = absurd i
+casts_quiet p (Some x) r i = cast_quiet p x.0 x.1 (x.2).filled r i
+
+heard_quiet : (s : Core) (g : List ℕ) (i : ℕ) (e : Entry) (after : GroupState) (c : Cast) → AllQuiet (heard s g i e after c)
+unfolding heard
+heard_quiet s g i e after c r (inl q) = subst Quiet (sym q) tt
+heard_quiet s g i e after c r (inr j) = casts_quiet c.p c.cast r j
+
+all_quiet : (s : Core) (g : List ℕ) (i : ℕ) (e : Entry) (after : GroupState) (cs : List Cast) → AllQuiet (flat_map (heard s g i e after) cs)
+all_quiet s g i e after [] r j = absurd j
+all_quiet s g i e after (c ∷ cs) r j =
+    ⊎_elim (λ (k : Has r (heard s g i e after c)). heard_quiet s g i e after c r k) (λ (k : Has r (flat_map (heard s g i e after) cs)). all_quiet s g i e after cs r k) (has_append r (heard s g i e after c) (flat_map (heard s g i e after) cs) j)
+
+notes_quiet : (s : Core) (g : List ℕ) (place : Option ℕ) (st : GroupState) (us : List Subscription) → AllQuiet (map (note_of s g place st) us)
+unfolding note_of
+notes_quiet s g place st [] r j = absurd j
+notes_quiet s g place st (u ∷ us) r (inl q) = subst Quiet (sym q) tt
+notes_quiet s g place st (u ∷ us) r (inr j) = notes_quiet s g place st us r j
+
+module _ (h : History) (said : ProviderId → Type 0) (origin : Origin) (P L M : Type 0) (T G Q : List ℕ → Type 0) where
+  -- with sessions that come later, of which it is said already who is over
+  record Pending (u : SessionState) (s : Core) : Type 0 where
+    at : At h said origin P L M T G Q s
+    next : OwnFor h said origin.born u s
+    slim : SlimIf origin.root u s.records
+
+  pending_all : (u : SessionState) (rs : List Happened) (s : Core) → AllQuiet rs → Pending u s → Pending u (recorded_all s rs)
+  unfolding recorded_all
+  pending_all u rs s quiet k =
+      record { at = at_recorded_all h said origin P L M T G Q rs s quiet k.at; next = own_pushed h said origin.born u s rs (λ r i p. quiet_unasked r (quiet r i) p) k.next; slim = slim_more origin.root u s.records rs (λ r i p. quiet_unasked r (quiet r i) p) k.slim }
+
+  pending_noted : (u : SessionState) (s : Core) (g : List ℕ) (i : ℕ) (before after : GroupState) → Pending u s → Pending u (noted s g i before after)
+  unfolding noted notes
+  pending_noted u s g i before after k = by (differs before after)
+    where
+      by : (b : Bool) → Pending u (elim b as (λ _. Core) [ true ↦ recorded_all s (map (note_of s g (Some i) after) (filter (is_of_group g) s.sessions.subs.live)) | false ↦ s ])
+      by true = pending_all u (map (note_of s g (Some i) after) (filter (is_of_group g) s.sessions.subs.live)) s (notes_quiet s g (Some i) after (filter (is_of_group g) s.sessions.subs.live)) k
+      by false = k
+
+  pub at_handed : (f : Answering) (s : Core) (to : Option ℕ) (g : List ℕ) (i : ℕ) (before after : GroupState) (e : Entry) → ((p : ProviderId) → p.node ≡ s.views.me → Has p (hearers s.sessions g before e) → is_present after p ≡ false → TakenOff (reverse s.records ++ records_of h) p) → At h said origin P L M T G Q s → At h said origin P L M T G Q (handed_on f s to g i before after e)
+  unfolding handed_on
+  at_handed f s to g i before after e off a =
+      let bs : List (Option Filled) = fills f (length s.records) s.sessions e after (hearers s.sessions g before e) in
+      let cs : List Cast = casts_out s.sessions g before after e bs in
+      let t : Core = noted (recorded_all s (flat_map (heard s g i e after) cs)) g i before after in
+      let u : SessionState = session.handed_on s.sessions g before after e bs in
+      let k : Pending u t = pending_noted u (recorded_all s (flat_map (heard s g i e after) cs)) g i before after (pending_all u (flat_map (heard s g i e after) cs) s (all_quiet s g i e after cs) (record { at = a; next = own bs; slim = slim_on origin.root s.sessions u s.records (handed_slim s.sessions g before after e bs) a.slim })) in
+      at_casts_sent h said origin P L M T G Q (with_sessions t u) g to cs (at_sessions h said origin P L M T G Q t u k.slim k.next k.at)
+    where
+      own : (bs : List (Option Filled)) → OwnFor h said origin.born (session.handed_on s.sessions g before after e bs) s
+      own bs p node inc asked = by (a.own p node inc asked)
+        where
+          live : IsLive (session.handed_on s.sessions g before after e bs) p ⊎ (Has p (hearers s.sessions g before e) × (is_present after p ≡ false)) → Lives said (session.handed_on s.sessions g before after e bs) (reverse s.records ++ records_of h) p
+          live (inl k) = inl k
+          live (inr k) = inr (inr (inr (off p node k.0 k.1)))
+
+          by : Lives said s.sessions (reverse s.records ++ records_of h) p → Lives said (session.handed_on s.sessions g before after e bs) (reverse s.records ++ records_of h) p
+          by (inl k) = live (handed_lives s.sessions g before after e bs p k)
+          by (inr k) = inr k

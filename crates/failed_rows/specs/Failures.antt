@@ -1,0 +1,161 @@
+-- Why entries say that providers failed: the default rows of those who failed, and what failure leaves name.
+use Rattle.std.specs.Prelude.{◌≡◌, ◌⊎◌, ℕ, true, false, List, [], ◌∷◌, ◌++◌, Some}
+use Rattle.std.specs.List.{list_any}
+use Rattle.rsct_packet.specs.declared.ids.ViewId.{ViewId}
+use Rattle.rsct_packet.specs.declared.ids.ProviderId.{ProviderId}
+use Rattle.rsct_packet.specs.Providers.{among}
+use Rattle.rsct_packet.specs.Search.{Has}
+use Rattle.group_entry.specs.declared.entry.RowVote.{RowVote}
+use Rattle.group_entry.specs.declared.entry.RowVote.TheVariants as row_vote
+use Rattle.group_entry.specs.declared.entry.Row.{Row}
+use Rattle.group_entry.specs.declared.entry.Closed.{Closed}
+use Rattle.group_entry.specs.declared.entry.Entry.{Entry}
+use Rattle.group_entry.specs.declared.entry.Entry.TheVariants.{Once, Begin, Phase, Approve, Reject, Late}
+use Rattle.group_entry.specs.declared.proposal.Cause.{Cause}
+use Rattle.group_entry.specs.declared.proposal.Cause.TheVariants.{Died, Gone, Cast}
+use Rattle.group_entry.specs.declared.proposal.Failure.{Failure}
+use Rattle.group_entry.specs.declared.proposal.Proposal.{Proposal}
+use Rattle.group_entry.specs.declared.proposal.Proposal.TheVariants.{Join, Leave, Fail, Expel, State, Message, Attributes, Reflect}
+use Rattle.proposal_core.specs.declared.group_state.GroupState.{GroupState}
+use Rattle.proposal_core.specs.Fold.{empty_state, present}
+use Rattle.source_target.specs.Due.{allowed}
+use Rattle.client_callbacks.specs.declared.told.Why.{Why}
+use Rattle.session_state.specs.HandOn.{is_dissolved}
+use Rattle.node_state.specs.declared.happened.Happened.{Happened}
+use Rattle.node_state.specs.declared.happened.Happened.TheVariants.{In, Put, Told}
+use Rattle.world_model.specs.Run.{Happening}
+use Rattle.run_safety.specs.Past.{History, records_of, earlier, fold_from, EachEvent}
+use Rattle.run_safety.specs.Stays.{Stay, stays, is_join_of, asks_join, is_refused, client_of, goodbye_of, was_let_go}
+
+-- ---- the group's state at a node, by its records
+
+-- from the base of the view by what the node put since it entered it
+abbrev pub state_of_stay : Stay → GroupState
+state_of_stay x = fold_from x.view x.base 0 x.entries
+
+abbrev pub state_in_stays : List Stay → GroupState
+state_in_stays [] = empty_state
+state_in_stays (x ∷ older) = state_of_stay x
+
+abbrev pub state_held : ℕ → List ℕ → List Happened → GroupState
+state_held n g rs = state_in_stays (stays n g rs)
+
+-- ---- who is gone
+
+-- in an earlier event its own client, whose call joined it, said goodbye at its node, and the call was taken
+pub record SaidGoodbye (before : History) (p : ProviderId) : Type 0 where
+  pub event : Happening
+  pub newer : History
+  pub older : History
+  pub moment : before ≡ newer ++ event ∷ older
+  pub said : goodbye_of p.node (client_of p older) event.event ≡ true
+  pub taken : list_any is_refused event.records ≡ false
+
+-- and so it was let go
+abbrev pub GoodbyesLetGo : Type 0
+GoodbyesLetGo = (before : History) (p : ProviderId) → SaidGoodbye before p → was_let_go p before ≡ true
+
+-- it was told that its join was refused, or that its group was dissolved
+pub record WasTold (rs : List Happened) (p : ProviderId) : Type 0 where
+  pub number : ℕ
+  pub why : Why
+  pub told : Has (Told p number why) rs
+  pub ends : (number ≡ p.join) ⊎ (is_dissolved why ≡ true)
+
+-- its own node put an entry after which it is neither member nor running joiner, as it was before, or was by that entry
+pub record TakenOff (rs : List Happened) (p : ProviderId) : Type 0 where
+  pub group : List ℕ
+  pub view : ViewId
+  pub place : ℕ
+  pub entry : Entry
+  pub newer : List Happened
+  pub older : List Happened
+  pub moment : rs ≡ newer ++ Put p.node view group place entry ∷ older
+  pub was : (among (present (state_held p.node group older)) p ≡ true) ⊎ (is_join_of p entry ≡ true)
+  pub off : among (present (state_held p.node group (Put p.node view group place entry ∷ older))) p ≡ false
+
+-- a provider whose join was asked for at its node is none of it any more, and so it is recorded why
+abbrev pub IsOver : List Happened → ProviderId → Type 0
+IsOver rs p = (list_any (asks_join p) rs ≡ false) ⊎ (WasTold rs p ⊎ TakenOff rs p)
+
+-- at some moment the provider's own node was in the view and held it as a member or a running joiner, although it was over
+pub record StoodThere (rs : List Happened) (v : ViewId) (g : List ℕ) (p : ProviderId) : Type 0 where
+  pub newer : List Happened
+  pub older : List Happened
+  pub moment : rs ≡ newer ++ older
+  pub stay : Stay
+  pub rest : List Stay
+  pub stays_so : stays p.node g older ≡ stay ∷ rest
+  pub view : stay.view ≡ v
+  pub holds : among (present (state_of_stay stay)) p ≡ true
+  pub over : IsOver older p
+
+-- its own node gave it up
+abbrev pub GoneCause : History → ViewId → List ℕ → ProviderId → Type 0
+GoneCause before v g p = SaidGoodbye before p ⊎ StoodThere (records_of before) v g p
+
+-- ---- what entries say
+
+-- a row of who failed has the default vote of the state's attributes, and the provider failed in the state or is gone
+abbrev pub RowFails : (ProviderId → Type 0) → GroupState → ProviderId → RowVote → Type 0
+RowFails gone s p (row_vote.Cast v) = Unit {0}
+RowFails gone s p (row_vote.Late d) = Unit {0}
+RowFails gone s p (row_vote.Failed d) = (d ≡ s.attrs.default_vote) × ((among s.failed p ≡ true) ⊎ gone p)
+
+abbrev pub RowsFail : (ProviderId → Type 0) → GroupState → Closed → Type 0
+RowsFail gone s c = (r : Row) → Has r c.rows → RowFails gone s r.p r.vote
+
+-- a node without a member of the source, where the node that puts the entry has the source in these states
+pub record CastOut (source : List ℕ → GroupState) (s : GroupState) (p : ProviderId) : Type 0 where
+  pub group : List ℕ
+  pub named : s.attrs.source ≡ Some group
+  pub lacks : allowed (Some (source group)) p.node ≡ false
+
+abbrev pub CauseHolds : (ProviderId → Type 0) → (List ℕ → GroupState) → GroupState → ProviderId → Cause → Type 0
+CauseHolds gone source s p Died = among s.failed p ≡ true
+CauseHolds gone source s p Gone = gone p
+CauseHolds gone source s p Cast = CastOut source s p
+
+-- a failure leave names members alone, each with a cause that holds
+abbrev pub LeavesFail : (ProviderId → Type 0) → (List ℕ → GroupState) → GroupState → Proposal → Type 0
+LeavesFail gone source s (Fail out) =
+    (f : Failure) → Has f out → (among s.members f.p ≡ true) × CauseHolds gone source s f.p f.cause
+LeavesFail gone source s (Join ps attrs n) = Unit {0}
+LeavesFail gone source s (Leave p r) = Unit {0}
+LeavesFail gone source s (Expel p r out) = Unit {0}
+LeavesFail gone source s (State p r value) = Unit {0}
+LeavesFail gone source s (Message p r bytes) = Unit {0}
+LeavesFail gone source s (Attributes p r attrs) = Unit {0}
+LeavesFail gone source s (Reflect v i value) = Unit {0}
+
+abbrev pub EntryFails : (ProviderId → Type 0) → (List ℕ → GroupState) → GroupState → Entry → Type 0
+EntryFails gone source s (Once x) = LeavesFail gone source s x
+EntryFails gone source s (Begin x) = LeavesFail gone source s x
+EntryFails gone source s (Phase c) = RowsFail gone s c
+EntryFails gone source s (Approve c) = RowsFail gone s c
+EntryFails gone source s (Reject c) = RowsFail gone s c
+EntryFails gone source s (Late proto phase ps) = Unit {0}
+
+-- no node put that place before
+abbrev pub IsFirst : List Happened → ViewId → List ℕ → ℕ → Type 0
+IsFirst rs v g i = (m : ℕ) (e : Entry) → Has (Put m v g i e) rs → ⊥
+
+-- who puts a place first has the causes, in its state before it
+abbrev pub PutHolds : List Happened → History → Happened → Type 0
+PutHolds now before (Put n v g i e) =
+    IsFirst (earlier now before) v g i → EntryFails (GoneCause before v g) (λ h. state_held n h (earlier now before)) (state_held n g (earlier now before)) e
+PutHolds now before _ = Unit {0}
+
+-- what is put in an event before a view is entered there was put by others before: that is not spoken of here
+abbrev pub Since : Happened → Type 0 → Type 0
+Since (In n v ms) rest = Unit {0}
+Since _ rest = rest
+
+abbrev pub EachPut : List Happened → History → Type 0
+EachPut [] before = Unit {0}
+EachPut (r ∷ now) before = Since r (PutHolds now before r × EachPut now before)
+
+-- Who is said to have failed did: where a place is put first, a row of who failed has the default vote, and the provider is on
+-- the failed list or gone; and a failure leave names members alone, each with its cause.
+abbrev pub FailuresHaveCauses : History → Type 0
+FailuresHaveCauses h = EachEvent (λ e before. EachPut e.records before) h

@@ -1,0 +1,19 @@
+//! Why entries say that providers failed, in every run.
+#![tactic(auto)]
+
+ghost use Rattle.failed_rows.specs.Failures.{GoodbyesLetGo};
+ghost use Rattle.failed_rows.specs.Scenes.{FailuresAreHonest};
+
+/// Where a place of a list is put first: a default row of who failed has the default vote of the state's attributes, and its
+/// provider is on the failed list of that state, or its own node gave it up; and a failure leave names members of that state
+/// alone, each with a cause that holds there.
+#[tactic(auto, using(crate::proofs::Law::failures_are_honest))]
+pub fn failures_are_honest()
+    ensures { FailuresAreHonest }
+{}
+
+/// Whoever is gone by a goodbye was let go by its own client.
+#[tactic(auto, using(crate::proofs::LetGo::goodbyes_let_go))]
+pub fn goodbyes_let_go()
+    ensures { GoodbyesLetGo }
+{}

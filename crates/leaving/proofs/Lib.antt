@@ -1,0 +1,10 @@
+pub mod Walk
+pub mod Rows
+pub mod Walking
+pub mod Left
+pub mod Calling
+pub mod Comes
+pub mod Events
+pub mod Keeping
+pub mod Stepping
+pub mod Law
