@@ -1,0 +1,10 @@
+pub mod Stepping
+pub mod Leading
+pub mod Rows
+pub mod Viewing
+pub mod Finding
+pub mod Playing
+pub mod Ticking
+pub mod Starting
+pub mod Law
+pub mod Settings
