@@ -1,0 +1,16 @@
+pub mod LineRules
+pub mod BareLines
+pub mod LineFacts
+pub mod LastViews
+pub mod LineLaws
+pub mod Sights
+pub mod Froms
+pub mod Shown
+pub mod Steps
+pub mod Nodes
+pub mod Starting
+pub mod Scenes
+pub mod Pairs
+pub mod Folds
+pub mod Law
+pub mod Rings
