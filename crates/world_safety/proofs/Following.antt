@@ -1,4 +1,4 @@
--- Each event of the world is one of the scene.
+-- Each event of the world is one of the scene, whatever the clients answer.
 use Rattle.std.proofs.Common.{◌≡◌, ◌≢◌, ℕ, ◌==◌, ◌+◌, List, [], ◌∷◌, ◌++◌, Option, Some, None, Bool, true, false, refl, sym, ap, ◌∙◌, subst, inl, inr}
 use Rattle.std.specs.Prelude.{find, map, reverse}
 use Rattle.rsct_packet.specs.Ids.{last_u32}
@@ -14,28 +14,35 @@ use Rattle.node_state.specs.declared.happened.Happened.TheVariants as happened
 use Rattle.node_state.specs.declared.packet.Packet.{Packet}
 use Rattle.node_state.specs.declared.state.Core.{Core}
 use Rattle.node_state.specs.Calls.{caller_of}
+use Rattle.node_state.specs.HandOn.{Answering}
 use Rattle.node_state.specs.Settings.{is_fixed}
 use Rattle.node_state.specs.Status.{status_of}
 use Rattle.node_state.specs.Step.{NodeEvent, Ticks, Asks, Given, Calls, stepped, started}
 use Rattle.node_state.specs.Step as step
 use Rattle.world_model.specs.declared.event.Event.{Event}
 use Rattle.world_model.specs.declared.event.Event.TheVariants as event
-use Rattle.world_model.specs.World.{Script, Node, World, by_scripts, is_node, node_at, kth_between, handled, traced, after_step, steps, steps_if, node_steps, started_at, starts_if, node_starts, stops_if, shows_if, scripts_after, calls_if, delivers_if, delivers, happens}
+use Rattle.world_model.specs.World.{Script, Node, World, is_node, node_at, kth_between, handled, traced, after_step, started_at, starts_if, node_starts, stops_if, shows_if, scripts_after}
 use Rattle.world_runs.proofs.Traces.{after_records}
 use Rattle.step_ties.specs.Tied.{Scene, NodeIsIf, Rests}
 use Rattle.step_ties.specs.Rows.{over, stopped, start_with, ended, Arises}
+use Rattle.late_rows.specs.Runs.{NotedAs, TicksAreNoted}
+use Rattle.failed_rows.specs.Scenes.{Names, Played}
+use Rattle.failed_rows.specs.Scenes as played
 use Rattle.step_ties.specs.Runs.{IsNote, noted, Reached, Starts, Stops, Steps, Notes}
 use Rattle.step_ties.proofs.Changed.{set_here}
 use Rattle.step_ties.proofs.RunLaw.{reached_rests}
+use Rattle.world_answers.specs.Answers.{step_by, step_by_if, calls_by_if, delivers_by_if, happens_by}
 use Rattle.world_safety.specs.Events.{MayHappen}
 use Rattle.world_safety.specs.Mirrors.{core_in, inc_at, Mirrors}
 use Rattle.world_safety.proofs.Mirroring.{later_mirrors, handled_mirrors, step_mirrors, stop_mirrors, same_start, start_mirrors}
 use Rattle.world_safety.proofs.Posting.{kth_is}
 
 -- after the event the scene stands for the world, and both have these records more
-pub record Follows (c : Config) (s : Scene) (e : Event) (old : List Happened) (w : World) : Type 0 where
+pub record Follows (c : Config) (s : Scene) (k : Reached c s) (e : Event) (old : List Happened) (w : World) : Type 0 where
   pub scene : Scene
   pub reached : Reached c scene
+  pub noted : TicksAreNoted c s k → TicksAreNoted c scene reached
+  pub played : Played c s → Played c scene
   pub mirrors : Mirrors c w scene
   pub records : List Happened
   pub before : scene.before ≡ record { event = Some e; records = reverse records } ∷ s.before
@@ -47,30 +54,34 @@ module _ (c : Config) (w : World) (s : Scene) (k : Reached c s) (m : Mirrors c w
 
   -- ---- no node changes
 
-  noted_follows : (e : Event) (rs : List Happened) → ((r : Happened) → Has r rs → IsNote r) → Follows c s e w.trace (traced w rs)
+  noted_follows : (e : Event) (rs : List Happened) → ((r : Happened) → Has r rs → IsNote r) → Follows c s k e w.trace (traced w rs)
   unfolding traced
   noted_follows e rs notes =
       record {
         scene = noted s e rs;
         reached = Notes s e rs k notes;
+        noted = λ z. z;
+        played = λ z. played.Notes s e rs z notes;
         mirrors = record { config = m.config; scene_config = m.scene_config; cores = m.cores; incs = m.incs; once = m.once; sent = m.sent; paired = m.paired };
         records = rs;
         before = refl;
         trace = refl;
       }
 
-  nothing_follows : (e : Event) → Follows c s e w.trace w
+  nothing_follows : (e : Event) → Follows c s k e w.trace w
   nothing_follows e =
-      record { scene = noted s e []; reached = Notes s e [] k (λ r h. absurd h); mirrors = later_mirrors c w s m (noted s e []).before; records = []; before = refl; trace = refl }
+      record { scene = noted s e []; reached = Notes s e [] k (λ r h. absurd h); noted = λ z. z; played = λ z. played.Notes s e [] z (λ r h. absurd h); mirrors = later_mirrors c w s m (noted s e []).before; records = []; before = refl; trace = refl }
 
   module _ (n : ℕ) where
     -- ---- a step
 
-    step_follows : (x : Node) → find (is_node n) w.nodes ≡ Some x → (scripts : List Script) (e : NodeEvent) (v : Event) → Arises s e → Follows c s v w.trace (after_step w scripts (stepped (by_scripts scripts) x.core e))
-    step_follows x up scripts e v arises =
+    step_follows : (x : Node) → find (is_node n) w.nodes ≡ Some x → (scripts : List Script) (f : Answering) (e : NodeEvent) (v : Event) → NotedAs n e v → Names n e v → Arises s e → Follows c s k v w.trace (after_step w scripts (stepped f x.core e))
+    step_follows x up scripts f e v named called arises =
         record {
           scene = ended s n v y;
           reached = reached;
+          noted = λ z. (named, z);
+          played = λ z. played.Steps s n f x.core e v z (m.cores n ∙ ap core_in up) arises called;
           mirrors = step_mirrors c w s m n x up scripts y me (over v y ∷ s.before);
           records = y.records;
           before = refl;
@@ -78,10 +89,10 @@ module _ (c : Config) (w : World) (s : Scene) (k : Reached c s) (m : Mirrors c w
         }
       where
         y : Core
-        y = stepped (by_scripts scripts) x.core e
+        y = stepped f x.core e
 
         reached : Reached c (ended s n v y)
-        reached = Steps s n (by_scripts scripts) x.core e v k (m.cores n ∙ ap core_in up) arises
+        reached = Steps s n f x.core e v k (m.cores n ∙ ap core_in up) arises
 
         me : y.views.me ≡ n
         me =
@@ -89,23 +100,21 @@ module _ (c : Config) (w : World) (s : Scene) (k : Reached c s) (m : Mirrors c w
             let is : NodeIsIf s.config t.ghost [] n (s.incs n) (Some y) = subst (λ o. NodeIsIf s.config t.ghost [] n (s.incs n) o) (set_here s.cores n (Some y)) (t.nodes n) in
             is.0.stands.me
 
-    steps_follow : (o : Option Node) → find (is_node n) w.nodes ≡ o → (e : NodeEvent) (v : Event) → Arises s e → Follows c s v w.trace (steps_if w e o)
-    unfolding steps_if steps
-    steps_follow None at e v arises = nothing_follows v
-    steps_follow (Some x) at e v arises = step_follows x at x.scripts e v arises
-
-    node_follows : (e : NodeEvent) (v : Event) → Arises s e → Follows c s v w.trace (node_steps w n e)
-    unfolding node_steps node_at
-    node_follows e v arises = steps_follow (find (is_node n) w.nodes) refl e v arises
+    steps_follow : (f : Answering) (o : Option Node) → find (is_node n) w.nodes ≡ o → (e : NodeEvent) (v : Event) → NotedAs n e v → Names n e v → Arises s e → Follows c s k v w.trace (step_by_if f w e o)
+    unfolding step_by_if step_by
+    steps_follow f None at e v named called arises = nothing_follows v
+    steps_follow f (Some x) at e v named called arises = step_follows x at x.scripts f e v named called arises
 
     -- ---- a start and a stop
 
-    start_follows : (v : Event) → is_fixed c.mode ≡ false → n ≢ 0 → find (is_node n) w.nodes ≡ None → Follows c s v w.trace (started_at w n (inc_at w.starts n + 1))
+    start_follows : (v : Event) → is_fixed c.mode ≡ false → n ≢ 0 → find (is_node n) w.nodes ≡ None → Follows c s k v w.trace (started_at w n (inc_at w.starts n + 1))
     unfolding started_at traced
     start_follows v free real down =
         record {
           scene = start_with s n v y;
           reached = Starts s n v k (free_there free) real (m.cores n ∙ ap core_in down);
+          noted = λ z. z;
+          played = λ z. played.Starts s n v z (free_there free) real (m.cores n ∙ ap core_in down);
           mirrors = start_mirrors c w s m n down (y.sends ++ s.sent) (over v y ∷ s.before) (λ p h. append_has_right p y.sends s.sent h);
           records = y.records;
           before = refl;
@@ -115,22 +124,24 @@ module _ (c : Config) (w : World) (s : Scene) (k : Reached c s) (m : Mirrors c w
         y : Core
         y = started s.config n (s.incs n + 1)
 
-    starts_follow : (v : Event) → is_fixed c.mode ≡ false → n ≢ 0 → (o : Option Node) → find (is_node n) w.nodes ≡ o → Follows c s v w.trace (starts_if w n (inc_at w.starts n) o)
+    starts_follow : (v : Event) → is_fixed c.mode ≡ false → n ≢ 0 → (o : Option Node) → find (is_node n) w.nodes ≡ o → Follows c s k v w.trace (starts_if w n (inc_at w.starts n) o)
     unfolding starts_if
     starts_follow v free real (Some x) at = nothing_follows v
     starts_follow v free real None at = by (inc_at w.starts n == last_u32)
       where
-        by : (b : Bool) → Follows c s v w.trace (elim b [ true ↦ w | false ↦ started_at w n (inc_at w.starts n + 1) ])
+        by : (b : Bool) → Follows c s k v w.trace (elim b [ true ↦ w | false ↦ started_at w n (inc_at w.starts n + 1) ])
         by true = nothing_follows v
         by false = start_follows v free real at
 
-    stops_follow : (v : Event) (o : Option Node) → find (is_node n) w.nodes ≡ o → Follows c s v w.trace (stops_if w n o)
+    stops_follow : (v : Event) (o : Option Node) → find (is_node n) w.nodes ≡ o → Follows c s k v w.trace (stops_if w n o)
     unfolding stops_if traced
     stops_follow v None at = nothing_follows v
     stops_follow v (Some x) at =
         record {
           scene = stopped s n v;
           reached = Stops s n v x.core k (m.cores n ∙ ap core_in at);
+          noted = λ z. z;
+          played = λ z. played.Stops s n v x.core z (m.cores n ∙ ap core_in at);
           mirrors = stop_mirrors c w s m n (happened.Down n ∷ []) (stopped s n v).before;
           records = happened.Down n ∷ [];
           before = refl;
@@ -139,7 +150,7 @@ module _ (c : Config) (w : World) (s : Scene) (k : Reached c s) (m : Mirrors c w
 
     -- ---- what is shown, and calls
 
-    shows_follow : (v : Event) (what : What) (o : Option Node) → Follows c s v w.trace (shows_if w n what o)
+    shows_follow : (v : Event) (what : What) (o : Option Node) → Follows c s k v w.trace (shows_if w n what o)
     unfolding shows_if
     shows_follow v what None = nothing_follows v
     shows_follow v what (Some x) = noted_follows v (map (happened.Shown n) (status_of x.core what)) (λ r h. shown r (has_map (happened.Shown n) r (status_of x.core what) h).2)
@@ -147,33 +158,36 @@ module _ (c : Config) (w : World) (s : Scene) (k : Reached c s) (m : Mirrors c w
         shown : (r : Happened) {line : List ℕ} → r ≡ happened.Shown n line → IsNote r
         shown r e = subst IsNote (sym e) tt
 
-    calls_follow : (v : Event) (x : CallLine) (o : Option Node) → find (is_node n) w.nodes ≡ o → Follows c s v w.trace (calls_if w n x o)
-    unfolding calls_if steps
-    calls_follow v x None at = noted_follows v (happened.Refused n (caller_of x) NoInit ∷ []) refused
+    calls_follow : (f : Answering) (v : Event) (x : CallLine) → v ≡ event.Call n x → (o : Option Node) → find (is_node n) w.nodes ≡ o → Follows c s k v w.trace (calls_by_if f w n x o)
+    unfolding calls_by_if step_by
+    calls_follow f v x is None at = noted_follows v (happened.Refused n (caller_of x) NoInit ∷ []) refused
       where
         refused : (r : Happened) → Has r (happened.Refused n (caller_of x) NoInit ∷ []) → IsNote r
         refused r (inl e) = subst IsNote (sym e) tt
         refused r (inr h) = absurd h
-    calls_follow v x (Some y) at = step_follows y at (scripts_after x y.core y.scripts) (Calls x) v tt
+    calls_follow f v x is (Some y) at = step_follows y at (scripts_after x y.core y.scripts) f (Calls x) v tt (λ c e. is ∙ ap (event.Call n) (called x c e)) tt
+      where
+        called : (x c : CallLine) → Calls x ≡ Calls c → x ≡ c
+        called x c e = cc
 
 -- ---- a delivery
 
-delivers_follow : (c : Config) (w : World) (s : Scene) → Reached c s → Mirrors c w s → (a b i : ℕ) (v : Event) → (o : Option Node) → find (is_node b) w.nodes ≡ o → (p : Option Packet) → kth_between w a b i ≡ p → Follows c s v w.trace (delivers_if w a b i o p)
-unfolding delivers_if steps handled
-delivers_follow c w s k m a b i v None at p q = nothing_follows c w s k m v
-delivers_follow c w s k m a b i v (Some x) at None q = nothing_follows c w s k m v
-delivers_follow c w s k m a b i v (Some x) at (Some p) q =
-    step_follows c (handled w a b i) s k (handled_mirrors c w s m a b i) b x at x.scripts (Given p) v (kth_is (λ z. Has z s.sent) w a b i p m.paired q)
+delivers_follow : (f : Answering) (c : Config) (w : World) (s : Scene) (k : Reached c s) → Mirrors c w s → (a b i : ℕ) (v : Event) → (o : Option Node) → find (is_node b) w.nodes ≡ o → (p : Option Packet) → kth_between w a b i ≡ p → Follows c s k v w.trace (delivers_by_if f w a b i o p)
+unfolding delivers_by_if step_by handled
+delivers_follow f c w s k m a b i v None at p q = nothing_follows c w s k m v
+delivers_follow f c w s k m a b i v (Some x) at None q = nothing_follows c w s k m v
+delivers_follow f c w s k m a b i v (Some x) at (Some p) q =
+    step_follows c (handled w a b i) s k (handled_mirrors c w s m a b i) b x at x.scripts f (Given p) v tt (λ c e. absurd (cc)) (kth_is (λ z. Has z s.sent) w a b i p m.paired q)
 
 -- ---- each event
 
-pub event_follows : (c : Config) (w : World) (s : Scene) (e : Event) → MayHappen c e → Reached c s → Mirrors c w s → Follows c s e w.trace (happens w e)
-unfolding happens node_starts node_at delivers
-event_follows c w s (event.Start n) may k m = starts_follow c w s k m n (event.Start n) may.0 may.1 (find (is_node n) w.nodes) refl
-event_follows c w s (event.Stop n) may k m = stops_follow c w s k m n (event.Stop n) (find (is_node n) w.nodes) refl
-event_follows c w s (event.Tick n) may k m = node_follows c w s k m n Ticks (event.Tick n) tt
-event_follows c w s (event.Ask n mask) may k m = node_follows c w s k m n (Asks mask) (event.Ask n mask) tt
-event_follows c w s (event.Call n x) may k m = calls_follow c w s k m n (event.Call n x) x (find (is_node n) w.nodes) refl
-event_follows c w s (event.Show n what) may k m = shows_follow c w s k m n (event.Show n what) what (find (is_node n) w.nodes)
-event_follows c w s (event.Deliver a b i) may k m = delivers_follow c w s k m a b i (event.Deliver a b i) (find (is_node b) w.nodes) refl (kth_between w a b i) refl
-event_follows c w s (event.Garbage n bytes) may k m = node_follows c w s k m n step.Garbage (event.Garbage n bytes) tt
+pub event_follows : (f : Answering) (c : Config) (w : World) (s : Scene) (e : Event) → MayHappen c e → (k : Reached c s) → Mirrors c w s → Follows c s k e w.trace (happens_by f w e)
+unfolding happens_by node_starts node_at
+event_follows f c w s (event.Start n) may k m = starts_follow c w s k m n (event.Start n) may.0 may.1 (find (is_node n) w.nodes) refl
+event_follows f c w s (event.Stop n) may k m = stops_follow c w s k m n (event.Stop n) (find (is_node n) w.nodes) refl
+event_follows f c w s (event.Tick n) may k m = steps_follow c w s k m n f (find (is_node n) w.nodes) refl Ticks (event.Tick n) refl (λ c e. absurd (cc)) tt
+event_follows f c w s (event.Ask n mask) may k m = steps_follow c w s k m n f (find (is_node n) w.nodes) refl (Asks mask) (event.Ask n mask) tt (λ c e. absurd (cc)) tt
+event_follows f c w s (event.Call n x) may k m = calls_follow c w s k m n f (event.Call n x) x refl (find (is_node n) w.nodes) refl
+event_follows f c w s (event.Show n what) may k m = shows_follow c w s k m n (event.Show n what) what (find (is_node n) w.nodes)
+event_follows f c w s (event.Deliver a b i) may k m = delivers_follow f c w s k m a b i (event.Deliver a b i) (find (is_node b) w.nodes) refl (kth_between w a b i) refl
+event_follows f c w s (event.Garbage n bytes) may k m = steps_follow c w s k m n f (find (is_node n) w.nodes) refl step.Garbage (event.Garbage n bytes) tt (λ c e. absurd (cc)) tt

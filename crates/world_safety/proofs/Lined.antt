@@ -9,26 +9,16 @@ use Rattle.rsct_packet.specs.Mask.{has_node}
 use Rattle.rsct_packet.proofs.HasLaws.{all_has}
 use Rattle.node_state.specs.declared.config.Config.{Config}
 use Rattle.node_state.specs.declared.config.Mode.{Mode}
-use Rattle.node_state.specs.Settings.{is_fixed}
 use Rattle.world_model.specs.declared.event.Event.TheVariants as event
 use Rattle.world_model.specs.declared.script.Line.{Line}
 use Rattle.world_model.specs.declared.script.Line.TheVariants as line
 use Rattle.world_model.specs.declared.script.LineWhy.{LineWhy}
 use Rattle.world_model.specs.declared.script.LineWhy.TheVariants.{BadByte, MissingWord, ExtraWord, UnknownNode, UnknownClient, OutOfPlace}
-use Rattle.world_model.specs.declared.script.Script.{Script}
 use Rattle.world_model.specs.Words.{split_on, chosen}
 use Rattle.world_model.specs.Lines.{Form, forms, Boxed, Scripted, Votes, Said, SaysMode, SaysNode, SaysAdapter, SaysHb, SaysPort, SaysLevel, SaysDomain, SaysBegin, SaysLine, SaysClient, SaysCall, said}
 use Rattle.world_model.specs.Reading.{Reading, Read, Good, Bad, nothing_read, settled_if, settled, nodes_said, is_known_client, event_misplaced, line_misplaced, misplaced, last_reason, reason, with_line, with_client, with_config, with_address, taken, taken_unless, said_line, is_extra, counted_line, formed_line, skipped_line, worded_line, is_comment, words_in, is_bad_byte, read_line, ScriptRead, IsScript, IsNone, finished, input_limit, read_from, script_of}
+use Rattle.world_safety.specs.Plays.{LineMay, LinesMay, ScriptsMayPlay}
 use Rattle.world_safety.proofs.Saying.{StartsOf, SaidWell, SaysWell, said_well}
-
--- what a line of a script has of the settings
-abbrev pub LineMay : Mode → Line → Type 0
-LineMay m (line.Plain (event.Start n)) = (is_fixed m ≡ false) × (n ≢ 0)
-LineMay m _ = Unit {0}
-
-abbrev pub LinesMay : Mode → List Line → Type 0
-LinesMay m [] = Unit {0}
-LinesMay m (l ∷ ls) = LineMay m l × LinesMay m ls
 
 lines_turned : (m : Mode) (xs ys : List Line) → LinesMay m xs → LinesMay m ys → LinesMay m (reverse_onto xs ys)
 lines_turned m [] ys a b = b
@@ -182,6 +172,6 @@ none_fine : Fine nothing_read
 unfolding nothing_read
 none_fine = record { lines = tt; first = λ e. refl }
 
-pub script_lines_may : (bytes : List ℕ) (s : Script) → script_of bytes ≡ IsScript s → LinesMay s.config.mode s.lines
+pub scripts_may_play : ScriptsMayPlay
 unfolding script_of
-script_lines_may bytes s e = subst ScriptFine e (from_fine (split_on 10 bytes) nothing_read 1 0 none_fine)
+scripts_may_play bytes s e = subst ScriptFine e (from_fine (split_on 10 bytes) nothing_read 1 0 none_fine)

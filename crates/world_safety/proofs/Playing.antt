@@ -4,7 +4,6 @@ use Rattle.std.specs.Prelude.{fold, is_some}
 use Rattle.std.proofs.lemmas.List.Sums.{fold-append}
 use Rattle.rsct_packet.specs.Lists.{reverse_onto}
 use Rattle.node_state.specs.declared.config.Config.{Config}
-use Rattle.node_state.specs.Settings.{is_fixed}
 use Rattle.world_model.specs.declared.event.Event.{Event}
 use Rattle.world_model.specs.declared.event.Event.TheVariants as event
 use Rattle.world_model.specs.declared.script.Line.{Line}
@@ -15,7 +14,7 @@ use Rattle.world_model.specs.Kept.{Bytes, with_packet, sent_since, Ended, runs_f
 use Rattle.world_runs.specs.Runs.{SameRun}
 use Rattle.world_runs.proofs.Queue.{same_happens}
 use Rattle.world_safety.specs.Events.{MayHappen, AllMayHappen}
-use Rattle.world_safety.proofs.Lined.{LineMay, LinesMay}
+use Rattle.world_safety.specs.Plays.{LineMay, LinesMay}
 use Rattle.world_safety.proofs.Turned.{onto_more}
 
 all_turned : (c : Config) (xs ys : List Event) → AllMayHappen c xs → AllMayHappen c ys → AllMayHappen c (reverse_onto xs ys)

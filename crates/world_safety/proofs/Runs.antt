@@ -3,15 +3,17 @@ use Rattle.std.proofs.Common.{◌≡◌, List, [], ◌∷◌, ◌++◌, Some, sy
 use Rattle.std.specs.Prelude.{fold, map, reverse}
 use Rattle.std.proofs.lemmas.List.{reverse-append, map-append}
 use Rattle.node_state.specs.declared.config.Config.{Config}
-use Rattle.world_model.specs.declared.event.Event.{Event}
 use Rattle.world_model.specs.Run.{Happening, Run}
-use Rattle.world_model.specs.World.{World, happens, world_new, world_after}
+use Rattle.world_model.specs.World.{World, world_new}
 use Rattle.run_safety.specs.Past.{turned, history_of}
 use Rattle.run_safety.specs.SafeLists.{OneEntry}
 use Rattle.run_safety.specs.SafeGroups.{SafeGroups}
 use Rattle.step_ties.specs.Tied.{Scene, opening_of}
+use Rattle.late_rows.specs.Runs.{TicksAreNoted}
+use Rattle.failed_rows.specs.Scenes.{Played}
 use Rattle.step_ties.specs.Runs.{Reached}
 use Rattle.step_ties.proofs.RunLaw.{reached_runs}
+use Rattle.world_answers.specs.Answers.{Answered, goes_on, events_in, answered_after}
 use Rattle.world_safety.specs.Events.{happening, events_from, beginning, AllMayHappen}
 use Rattle.world_safety.specs.Mirrors.{Mirrors}
 use Rattle.world_safety.specs.Safety.{EveryRunIsReached, EveryRunIsSafe}
@@ -27,35 +29,39 @@ history_on run h = ap reverse (map-append turned run (h ∷ [])) ∙ reverse-app
 record Stands (c : Config) (w : World) (run : Run) : Type 0 where
   scene : Scene
   reached : Reached c scene
+  noted : TicksAreNoted c scene reached
+  played : Played c scene
   mirrors : Mirrors c w scene
   before : scene.before ≡ history_of run
 
-stands_on : (c : Config) (w : World) (run : Run) (e : Event) (s : Scene) → s.before ≡ history_of run → Follows c s e w.trace (happens w e) → Stands c (happens w e) (run ++ happening w e ∷ [])
-stands_on c w run e s is f =
-    let now : f.records ≡ _ = sym (since_is w (happens w e) f.records f.trace) in
+stands_on : (c : Config) (w : World) (run : Run) (e : Answered) (s : Scene) (k : Reached c s) → TicksAreNoted c s k → Played c s → s.before ≡ history_of run → Follows c s k e.event w.trace (goes_on w e) → Stands c (goes_on w e) (run ++ happening w e ∷ [])
+stands_on c w run e s k noted played is f =
+    let now : f.records ≡ _ = sym (since_is w (goes_on w e) f.records f.trace) in
     record {
       scene = f.scene;
       reached = f.reached;
+      noted = f.noted noted;
+      played = f.played played;
       mirrors = f.mirrors;
-      before = f.before ∙ ap (λ rs. record { event = Some e; records = reverse rs } ∷ s.before) now ∙ ap (λ b. turned (happening w e) ∷ b) is ∙ sym (history_on run (happening w e));
+      before = f.before ∙ ap (λ rs. record { event = Some e.event; records = reverse rs } ∷ s.before) now ∙ ap (λ b. turned (happening w e) ∷ b) is ∙ sym (history_on run (happening w e));
     }
 
-all_stand : (c : Config) (es : List Event) (w : World) (run : Run) → AllMayHappen c es → Stands c w run → Stands c (fold happens w es) (run ++ events_from w es)
+all_stand : (c : Config) (es : List Answered) (w : World) (run : Run) → AllMayHappen c (events_in es) → Stands c w run → Stands c (fold goes_on w es) (run ++ events_from w es)
 all_stand c [] w run may t = subst (Stands c w) (sym (append-nil run)) t
 all_stand c (e ∷ es) w run may t =
-    let one : Stands c (happens w e) (run ++ happening w e ∷ []) = stands_on c w run e t.scene t.before (event_follows c w t.scene e may.0 t.reached t.mirrors) in
-    subst (Stands c (fold happens (happens w e) es)) (append_assoc run (happening w e ∷ []) (events_from (happens w e) es)) (all_stand c es (happens w e) (run ++ happening w e ∷ []) may.1 one)
+    let one : Stands c (goes_on w e) (run ++ happening w e ∷ []) = stands_on c w run e t.scene t.reached t.noted t.played t.before (event_follows e.answers c w t.scene e.event may.0 t.reached t.mirrors) in
+    subst (Stands c (fold goes_on (goes_on w e) es)) (append_assoc run (happening w e ∷ []) (events_from (goes_on w e) es)) (all_stand c es (goes_on w e) (run ++ happening w e ∷ []) may.1 one)
 
 pub every_run_is_reached : EveryRunIsReached
-unfolding world_after
+unfolding answered_after
 every_run_is_reached c es may =
     let b : Begun c (world_new c) c.mode = run_begun c in
-    let t = all_stand c es (world_new c) (beginning (world_new c) c.mode) may (record { scene = b.scene; reached = b.reached; mirrors = b.mirrors; before = b.before }) in
-    (t.scene, t.reached, t.mirrors, t.before)
+    let t = all_stand c es (world_new c) (beginning (world_new c) c.mode) may (record { scene = b.scene; reached = b.reached; noted = b.noted; played = b.played; mirrors = b.mirrors; before = b.before }) in
+    (t.scene, t.reached, t.noted, t.played, t.mirrors, t.before)
 
 pub every_run_is_safe : EveryRunIsSafe
 every_run_is_safe c es may =
     let t = every_run_is_reached c es may in
     let safe : SafeGroups (opening_of t.0.config) t.0.before × OneEntry t.0.before = reached_runs c t.0 t.1 in
-    let safe' : SafeGroups (opening_of c) t.0.before × OneEntry t.0.before = subst (λ (z : Config). SafeGroups (opening_of z) t.0.before × OneEntry t.0.before) t.2.scene_config safe in
-    subst (λ h. SafeGroups (opening_of c) h × OneEntry h) t.3 safe'
+    let safe' : SafeGroups (opening_of c) t.0.before × OneEntry t.0.before = subst (λ (z : Config). SafeGroups (opening_of z) t.0.before × OneEntry t.0.before) t.4.scene_config safe in
+    subst (λ h. SafeGroups (opening_of c) h × OneEntry h) t.5 safe'

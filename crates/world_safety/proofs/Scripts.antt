@@ -1,5 +1,5 @@
--- Every run of a script is safe.
-use Rattle.std.proofs.Common.{◌≡◌, List, [], Bool, true, false, None, sym, ap, ◌∙◌, subst}
+-- Every run is safe, whatever its clients answer, and so every run of a script.
+use Rattle.std.proofs.Common.{◌≡◌, List, [], Bool, true, false, None, refl, sym, ap, ◌∙◌, subst}
 use Rattle.rsct_packet.specs.Lists.{reverse_onto}
 use Rattle.node_state.specs.declared.config.Config.{Config}
 use Rattle.node_state.specs.declared.happened.Happened.{Happened}
@@ -8,7 +8,9 @@ use Rattle.world_model.specs.World.{World, world_new, world_after, records_of}
 use Rattle.world_model.specs.Play.{events_of, played_records, script_records}
 use Rattle.world_model.specs.Kept.{Ended, runs_from, runs_within, ended, kept_records}
 use Rattle.world_safety.specs.Events.{AllMayHappen}
-use Rattle.world_safety.specs.Scripts.{IsSafeRun, EveryScriptIsSafe, EveryKeptRunIsSafe}
+use Rattle.world_answers.specs.Answers.{Answered, events_in, answered_after, answered_records, all_worded}
+use Rattle.world_answers.proofs.Words.{all_events, worded_after}
+use Rattle.world_safety.specs.Scripts.{IsSafe, IsSafeRun, EveryScriptIsSafe, EveryKeptRunIsSafe}
 use Rattle.world_safety.proofs.Traces.{run_has_the_records}
 use Rattle.world_safety.proofs.Runs.{every_run_is_safe, every_run_is_reached}
 use Rattle.hearing.specs.Hearing.{HeardInARow, NoGap}
@@ -16,38 +18,97 @@ use Rattle.hearing.proofs.Listening.{providers_hear}
 use Rattle.hearing.proofs.NoGap.{no_gap}
 use Rattle.honest_votes.specs.Casts.{VotesWereCast}
 use Rattle.honest_votes.proofs.Law.{recorded_votes}
-use Rattle.world_safety.proofs.Lined.{script_lines_may}
+use Rattle.closing_rows.specs.Rows.{RowsAreVoters}
+use Rattle.closing_rows.proofs.Law.{rows_are_voters}
+use Rattle.late_rows.specs.Late.{LateHadTime}
+use Rattle.late_rows.specs.Announced.{LateWereAnnounced}
+use Rattle.attending.specs.Places.{PlacesHeardOnce, PutNamed}
+use Rattle.attending.proofs.Law.{places_once}
+use Rattle.attending.proofs.States.{entries_named}
+use Rattle.single_casts.specs.Single.{CastsOnce, CastsAfterNotice}
+use Rattle.single_casts.proofs.Law.{cast_after_notice}
+use Rattle.single_casts.proofs.Once.{cast_once}
+use Rattle.carried_values.specs.Carried.{FirstBallotsCarry}
+use Rattle.carried_values.proofs.Law.{first_ballots_carry}
+use Rattle.failed_rows.specs.Failures.{FailuresHaveCauses}
+use Rattle.failed_rows.proofs.Law.{failures_are_honest}
+use Rattle.source_order.specs.Sources.{ReflectionsRise, ReflectionsClimb, JoinsCarryLengths, FirstsFollowSources, JoinsOverSources}
+use Rattle.source_order.proofs.Law.{reflections_rise, reflections_climb, joins_carry_lengths, firsts_follow_sources, joins_over_sources}
+use Rattle.late_rows.proofs.Law.{who_is_late_had_time, who_is_late_was_announced}
+use Rattle.ring_runs.specs.Rings.{AddressesFit, NetworkAgrees}
+use Rattle.ring_runs.proofs.Law.{rings_agree_in_runs}
+use Rattle.seen_runs.specs.Seen.{Seen}
+use Rattle.seen_runs.proofs.Law.{traces_seen}
+use Rattle.seen_runs.specs.Rings.{RingsSeen}
+use Rattle.seen_runs.proofs.Rings.{every_ring_seen}
+use Rattle.run_safety.specs.SafeLists.{Each}
+use Rattle.run_safety.specs.SafeHeard.{InOrder}
+use Rattle.attending.proofs.OrderLaw.{heard_in_order}
+use Rattle.run_safety.specs.Past.{EachRecord}
+use Rattle.run_safety.specs.Past as past
+use Rattle.world_safety.specs.Plays.{EveryAnswerIsSafe, EventsAreSafe, EveryPlayIsSafe, EveryKeptPlayIsSafe}
+use Rattle.world_safety.proofs.Lined.{scripts_may_play}
 use Rattle.world_safety.proofs.Playing.{all_front, events_may, events_come, Front, limited_front}
 
-safe_run : (c : Config) (es : List Event) → AllMayHappen c es → (trace : List Happened) → (world_after c es).trace ≡ trace → IsSafeRun c es (reverse_onto trace [])
-unfolding records_of
-safe_run c es may trace e =
+answers_safe : (c : Config) (es : List Answered) → AllMayHappen c (events_in es) → (trace : List Happened) → (answered_after c es).trace ≡ trace → IsSafe c es (reverse_onto trace [])
+unfolding answered_records
+answers_safe c es may trace e =
     let safe = every_run_is_safe c es may in
     let run = every_run_is_reached c es may in
     record {
       records = run_has_the_records c es ∙ ap (λ z. reverse_onto z []) e;
       safe = safe.0;
       one = safe.1;
-      hears = subst HeardInARow run.3 (providers_hear c run.0 run.1);
-      no_gap = subst NoGap run.3 (no_gap c run.0 run.1);
-      cast = subst VotesWereCast run.3 (recorded_votes c run.0 run.1);
+      hears = subst HeardInARow run.5 (providers_hear c run.0 run.1);
+      no_gap = subst NoGap run.5 (no_gap c run.0 run.1);
+      heard_once = subst PlacesHeardOnce run.5 (places_once c run.0 run.1);
+      in_order = subst (Each InOrder) run.5 (heard_in_order c run.0 run.1);
+      named = subst (EachRecord PutNamed) run.5 (entries_named c run.0 run.1);
+      cast = subst VotesWereCast run.5 (recorded_votes c run.0 run.1);
+      cast_once = subst CastsOnce run.5 (cast_once c run.0 run.1);
+      noticed = subst CastsAfterNotice run.5 (cast_after_notice c run.0 run.1);
+      rows = subst RowsAreVoters run.5 (rows_are_voters c run.0 run.1);
+      late = subst LateHadTime run.5 (who_is_late_had_time c run.0 run.1 run.2);
+      announced = subst (LateWereAnnounced c) run.5 (subst (λ z. LateWereAnnounced z run.0.before) run.4.scene_config (who_is_late_was_announced c run.0 run.1 run.2));
+      carried = subst FirstBallotsCarry run.5 (first_ballots_carry c run.0 run.1);
+      failed = subst FailuresHaveCauses run.5 (failures_are_honest c run.0 run.3);
+      rises = subst ReflectionsRise run.5 (reflections_rise c run.0 run.1);
+      climbs = subst ReflectionsClimb run.5 (reflections_climb c run.0 run.1);
+      lengths = subst JoinsCarryLengths run.5 (joins_carry_lengths c run.0 run.1);
+      sources = subst FirstsFollowSources run.5 (firsts_follow_sources c run.0 run.1);
+      over = subst JoinsOverSources run.5 (joins_over_sources c run.0 run.1);
+      rings = λ net fit. subst (NetworkAgrees c net) run.5 (rings_agree_in_runs c run.0 run.1 net fit);
+      seen = subst (λ h. Seen (past.records_of h)) run.5 (traces_seen c run.0 run.1);
+      rings_seen = λ net fit. subst (λ h. RingsSeen net (past.records_of h)) run.5 (every_ring_seen c run.0 run.1 net fit);
     }
 
+pub every_answer_is_safe : EveryAnswerIsSafe
+unfolding answered_records
+every_answer_is_safe c es may = answers_safe c es may _ refl
+
+-- ---- where the clients vote by the words of a script
+
+safe_run : (c : Config) (es : List Event) → AllMayHappen c es → (trace : List Happened) → (world_after c es).trace ≡ trace → IsSafeRun c es (reverse_onto trace [])
+safe_run c es may trace e =
+    answers_safe c (all_worded c es) (subst (AllMayHappen c) (sym (all_events c es)) may) trace (ap (λ (z : World). z.trace) (worded_after c es) ∙ e)
+
+pub events_are_safe : EventsAreSafe
+unfolding records_of
+events_are_safe c es may = safe_run c es may _ refl
+
 -- an input without `begin` has no run
-abbrev if_begun : {A : Type 0} → A → A → Bool → A
+if_begun : {A : Type 0} → A → A → Bool → A
 if_begun x y true = x
 if_begun x y false = y
 
-pub every_script_is_safe : EveryScriptIsSafe
-unfolding script_records played_records
-every_script_is_safe bytes s e begun =
-    let may = script_lines_may bytes s e in
+pub every_play_is_safe : EveryPlayIsSafe
+unfolding script_records played_records if_begun
+every_play_is_safe s may begun =
     subst (λ b. IsSafeRun s.config (events_of s.config s.lines) (if_begun (played_records s.config s.lines) [] b)) (sym begun) (safe_run s.config (events_of s.config s.lines) (events_may s.config s.lines may) _ (sym (events_come s.config s.lines may)))
 
-pub every_kept_run_is_safe : EveryKeptRunIsSafe
-unfolding kept_records ended runs_within world_after
-every_kept_run_is_safe limit bytes s e begun =
-    let may = script_lines_may bytes s e in
+pub every_kept_play_is_safe : EveryKeptPlayIsSafe
+unfolding kept_records ended runs_within world_after if_begun runs_from
+every_kept_play_is_safe limit s may begun =
     let es : List Event = events_of s.config s.lines in
     let f : Front (world_new s.config) es (runs_from limit 0 (world_new s.config) es).world = limited_front limit 0 (world_new s.config) es in
     let front : AllMayHappen s.config f.front = all_front s.config f.front f.rest (subst (AllMayHappen s.config) f.whole (events_may s.config s.lines may)) in
@@ -55,3 +116,10 @@ every_kept_run_is_safe limit bytes s e begun =
     let z : Ended = runs_from limit 0 (world_new s.config) es in
     let none : Ended = record { world = world_new s.config; passed = None } in
     (f.front, f.rest, f.whole, subst (λ b. IsSafeRun s.config f.front (if_begun (reverse_onto (if_begun z none b).world.trace []) [] b)) (sym begun) here)
+
+-- a script that is read may play
+pub every_script_is_safe : EveryScriptIsSafe
+every_script_is_safe bytes s e = every_play_is_safe s (scripts_may_play bytes s e)
+
+pub every_kept_run_is_safe : EveryKeptRunIsSafe
+every_kept_run_is_safe limit bytes s e = every_kept_play_is_safe limit s (scripts_may_play bytes s e)

@@ -2,3 +2,4 @@ pub mod Events
 pub mod Mirrors
 pub mod Safety
 pub mod Scripts
+pub mod Plays

@@ -1,27 +1,28 @@
--- Every run of the world is safe.
+-- Every run of the world is safe, whatever its clients answer.
 use Rattle.std.specs.Prelude.{◌≡◌, List}
 use Rattle.node_state.specs.declared.config.Config.{Config}
-use Rattle.world_model.specs.declared.event.Event.{Event}
 use Rattle.world_model.specs.Run.{trace_of}
-use Rattle.world_model.specs.World.{world_after, records_of}
 use Rattle.run_safety.specs.Past.{history_of}
 use Rattle.run_safety.specs.SafeLists.{OneEntry}
 use Rattle.run_safety.specs.SafeGroups.{SafeGroups}
 use Rattle.step_ties.specs.Tied.{Scene, opening_of}
 use Rattle.step_ties.specs.Runs.{Reached}
+use Rattle.late_rows.specs.Runs.{TicksAreNoted}
+use Rattle.failed_rows.specs.Scenes.{Played}
+use Rattle.world_answers.specs.Answers.{Answered, events_in, answered_after, answered_records}
 use Rattle.world_safety.specs.Events.{run_of_events, AllMayHappen}
 use Rattle.world_safety.specs.Mirrors.{Mirrors}
 
 -- the run of events has the records of the world, in order
 abbrev pub RunHasTheRecords : Type 0
-RunHasTheRecords = (c : Config) (es : List Event) → trace_of (run_of_events c es) ≡ records_of c es
+RunHasTheRecords = (c : Config) (es : List Answered) → trace_of (run_of_events c es) ≡ answered_records c es
 
--- what starts, stops and steps make comes to the world, by the same history
+-- what starts, stops and steps make comes to the world, by the same history, in which each tick and each call is noted
 abbrev pub EveryRunIsReached : Type 0
 EveryRunIsReached =
-    (c : Config) (es : List Event) → AllMayHappen c es → (s : Scene) × Reached c s × Mirrors c (world_after c es) s × (s.before ≡ history_of (run_of_events c es))
+    (c : Config) (es : List Answered) → AllMayHappen c (events_in es) → (s : Scene) × (k : Reached c s) × TicksAreNoted c s k × Played c s × Mirrors c (answered_after c es) s × (s.before ≡ history_of (run_of_events c es))
 
 -- what each group sees of the run is safe, and each view and group has one list
 abbrev pub EveryRunIsSafe : Type 0
 EveryRunIsSafe =
-    (c : Config) (es : List Event) → AllMayHappen c es → SafeGroups (opening_of c) (history_of (run_of_events c es)) × OneEntry (history_of (run_of_events c es))
+    (c : Config) (es : List Answered) → AllMayHappen c (events_in es) → SafeGroups (opening_of c) (history_of (run_of_events c es)) × OneEntry (history_of (run_of_events c es))

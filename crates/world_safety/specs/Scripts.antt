@@ -8,23 +8,65 @@ use Rattle.world_model.specs.Run.{trace_of}
 use Rattle.world_model.specs.Reading.{IsScript, script_of}
 use Rattle.world_model.specs.Play.{events_of, script_records}
 use Rattle.world_model.specs.Kept.{kept_records}
-use Rattle.run_safety.specs.Past.{history_of}
+use Rattle.run_safety.specs.Past.{EachRecord, history_of}
+use Rattle.run_safety.specs.Past as past
 use Rattle.run_safety.specs.SafeLists.{OneEntry}
 use Rattle.run_safety.specs.SafeGroups.{SafeGroups}
 use Rattle.step_ties.specs.Tied.{opening_of}
 use Rattle.hearing.specs.Hearing.{HeardInARow, NoGap}
 use Rattle.honest_votes.specs.Casts.{VotesWereCast}
+use Rattle.closing_rows.specs.Rows.{RowsAreVoters}
+use Rattle.late_rows.specs.Late.{LateHadTime}
+use Rattle.late_rows.specs.Announced.{LateWereAnnounced}
+use Rattle.attending.specs.Places.{PlacesHeardOnce, PutNamed}
+use Rattle.single_casts.specs.Single.{CastsOnce, CastsAfterNotice}
+use Rattle.carried_values.specs.Carried.{FirstBallotsCarry}
+use Rattle.failed_rows.specs.Failures.{FailuresHaveCauses}
+use Rattle.source_order.specs.Sources.{ReflectionsRise, ReflectionsClimb, JoinsCarryLengths, FirstsFollowSources, JoinsOverSources}
+use Rattle.ring_runs.specs.Rings.{AddressesFit, NetworkAgrees}
+use Rattle.seen_runs.specs.Seen.{Seen}
+use Rattle.seen_runs.specs.Rings.{RingsSeen}
+use Rattle.run_safety.specs.SafeLists.{Each}
+use Rattle.run_safety.specs.SafeHeard.{InOrder}
+use Rattle.world_answers.specs.Answers.{Answered, all_worded}
 use Rattle.world_safety.specs.Events.{run_of_events}
 
--- these are the records of the run of these events, and it is safe: what each group sees of it, and that each view and group has
--- one list; each provider hears in a row, at the puts of its node, without a gap; and the votes that entries record were cast
-pub record IsSafeRun (c : Config) (es : List Event) (rs : List Happened) : Type 0 where
+-- These are the records of the run of these events with these answers, and it is safe: what each group sees of it, and that each view
+-- and group has one list; each provider hears in a row, at the puts of its node, each place once, without a gap, from its first place
+-- to its last, and no entry names a joiner twice; what closes a phase has a row for each voter, the votes among them were cast, once in
+-- each phase and after its notice, who was late had its time, and was announced in a view of level 2; what such an entry carries is of
+-- the earliest ballot that has it; who is said to have failed did; reflections rise, and they and joins into a group with a source are as
+-- the source is; the rings of each network whose addresses differ agree; and the
+-- records show that by themselves, as far as records can.
+pub record IsSafe (c : Config) (es : List Answered) (rs : List Happened) : Type 0 where
   pub records : trace_of (run_of_events c es) ≡ rs
   pub safe : SafeGroups (opening_of c) (history_of (run_of_events c es))
   pub one : OneEntry (history_of (run_of_events c es))
   pub hears : HeardInARow (history_of (run_of_events c es))
   pub no_gap : NoGap (history_of (run_of_events c es))
+  pub heard_once : PlacesHeardOnce (history_of (run_of_events c es))
+  pub in_order : Each InOrder (history_of (run_of_events c es))
+  pub named : EachRecord PutNamed (history_of (run_of_events c es))
   pub cast : VotesWereCast (history_of (run_of_events c es))
+  pub cast_once : CastsOnce (history_of (run_of_events c es))
+  pub noticed : CastsAfterNotice (history_of (run_of_events c es))
+  pub rows : RowsAreVoters (history_of (run_of_events c es))
+  pub late : LateHadTime (history_of (run_of_events c es))
+  pub announced : LateWereAnnounced c (history_of (run_of_events c es))
+  pub carried : FirstBallotsCarry (history_of (run_of_events c es))
+  pub failed : FailuresHaveCauses (history_of (run_of_events c es))
+  pub rises : ReflectionsRise (history_of (run_of_events c es))
+  pub climbs : ReflectionsClimb (history_of (run_of_events c es))
+  pub lengths : JoinsCarryLengths (history_of (run_of_events c es))
+  pub sources : FirstsFollowSources (history_of (run_of_events c es))
+  pub over : JoinsOverSources (history_of (run_of_events c es))
+  pub rings : (net : ℕ) → AddressesFit c net → NetworkAgrees c net (history_of (run_of_events c es))
+  pub seen : Seen (past.records_of (history_of (run_of_events c es)))
+  pub rings_seen : (net : ℕ) → AddressesFit c net → RingsSeen net (past.records_of (history_of (run_of_events c es)))
+
+-- where the clients vote by the words of a script
+abbrev pub IsSafeRun : Config → List Event → List Happened → Type 0
+IsSafeRun c es rs = IsSafe c (all_worded c es) rs
 
 -- the records of a script that has a `begin` are those of a safe run
 abbrev pub ScriptIsSafe : Script → Type 0

@@ -3,6 +3,7 @@
 
 ghost use Rattle.world_safety.specs.Safety.{RunHasTheRecords, EveryRunIsReached, EveryRunIsSafe};
 ghost use Rattle.world_safety.specs.Scripts.{EveryScriptIsSafe, EveryKeptRunIsSafe};
+ghost use Rattle.world_safety.specs.Plays.{ScriptsMayPlay, EveryAnswerIsSafe, EventsAreSafe, EveryPlayIsSafe, EveryKeptPlayIsSafe};
 
 /// The run of a list of plain events has the records of the world after them.
 #[tactic(auto, using(crate::proofs::Traces::run_has_the_records))]
@@ -29,4 +30,31 @@ pub fn every_script_is_safe()
 /// So are the records of a script up to the event whose packets pass a number of bytes.
 pub fn every_kept_run_is_safe()
     ensures { EveryKeptRunIsSafe }
+{}
+
+/// Whatever kind of clients there are, and whatever they answer: the records of events that may happen, in any order,
+/// are those of a safe run.
+pub fn every_answer_is_safe()
+    ensures { EveryAnswerIsSafe }
+{}
+
+/// So where the clients vote by the words of a script.
+pub fn events_are_safe()
+    ensures { EventsAreSafe }
+{}
+
+/// The lines of each script that is read may happen: they name no node 0 that starts, and start none in mode fixed.
+#[tactic(auto, using(crate::proofs::Lined::scripts_may_play))]
+pub fn scripts_may_play()
+    ensures { ScriptsMayPlay }
+{}
+
+/// Where the lines of a script may happen, however it was made, its records are those of a safe run.
+pub fn every_play_is_safe()
+    ensures { EveryPlayIsSafe }
+{}
+
+/// So are those up to the event whose packets pass a number of bytes.
+pub fn every_kept_play_is_safe()
+    ensures { EveryKeptPlayIsSafe }
 {}

@@ -1,0 +1,4 @@
+pub mod Answers
+pub mod Plays
+pub mod Limits
+pub mod Laws
