@@ -12,7 +12,8 @@ use Rattle.world_model.specs.Kept.{kept_past, kept_records, most_kept}
 use Rattle.transcript.specs.declared.kinds.Kinds.{Kinds}
 use Rattle.transcript.specs.Kinds.{all_kinds, kinds_text}
 use Rattle.transcript.proofs.KindLaws.{all_lines}
-use Rattle.world_safety.proofs.Scripts.{every_script_is_safe, every_kept_run_is_safe}
+use Rattle.net_script.specs.Safe.{ScriptIsSafe, KeptRunIsSafe, MayPlay}
+use Rattle.net_script.proofs.SafeLaws.{scripts_may_play}
 use Rattle.hags_cli.specs.declared.running.Ending.{Ending}
 use Rattle.hags_cli.specs.declared.running.Ending.TheVariants as ending
 use Rattle.hags_cli.specs.Run.{ReadsAs, PlaysAll, PlaysPast, PlaysFront, MayHavePlayed, IsOutside, SaysLine, SpellsScript, OnBadLine, status_of, ending_text}
@@ -23,36 +24,36 @@ all_text : (k : Kinds) (rs : List Happened) → k ≡ all_kinds → kinds_text k
 all_text k rs e = subst (λ (j : Kinds). kinds_text j rs ≡ lines_text [] rs) (sym e) (all_lines rs)
 
 pub plays_all : (left old new : Option (List ℕ)) (front : List ℕ) (s : Script) (k : Kinds) → IfSome left (ReadsAs front) → script_of front ≡ IsScript s → k ≡ all_kinds
-    → kept_past most_kept s ≡ None → Appends old new (kinds_text k (script_records s)) → IfSome left (PlaysAll old new)
-plays_all None old new front s k h e all within w = tt
-plays_all (Some b) old new front s k h e all within w = record {
+    → kept_past most_kept s ≡ None → Appends old new (kinds_text k (script_records s)) → (MayPlay s → ScriptIsSafe s) → IfSome left (PlaysAll old new)
+plays_all None old new front s k h e all within w safe = tt
+plays_all (Some b) old new front s k h e all within w safe = record {
   script = s;
   spelled = h ∙ e;
   within = within;
   written = subst (Appends old new) (all_text k (script_records s) all) w;
-  safe = every_script_is_safe b s (h ∙ e);
+  safe = safe (scripts_may_play b s (h ∙ e));
 }
 
 pub plays_past : (left old new : Option (List ℕ)) (front : List ℕ) (s : Script) (k : Kinds) (n : ℕ) → IfSome left (ReadsAs front) → script_of front ≡ IsScript s → k ≡ all_kinds
-    → kept_past most_kept s ≡ Some n → Appends old new (kinds_text k (kept_records most_kept s)) → IfSome left (PlaysPast old new)
-plays_past None old new front s k n h e all past w = tt
-plays_past (Some b) old new front s k n h e all past w = record {
+    → kept_past most_kept s ≡ Some n → Appends old new (kinds_text k (kept_records most_kept s)) → (MayPlay s → KeptRunIsSafe most_kept s) → IfSome left (PlaysPast old new)
+plays_past None old new front s k n h e all past w safe = tt
+plays_past (Some b) old new front s k n h e all past w safe = record {
   script = s;
   spelled = h ∙ e;
   sum = n;
   past = past;
   written = subst (Appends old new) (all_text k (kept_records most_kept s) all) w;
-  safe = every_kept_run_is_safe most_kept b s (h ∙ e);
+  safe = safe (scripts_may_play b s (h ∙ e));
 }
 
 pub plays_front : (left old new : Option (List ℕ)) (front : List ℕ) (s : Script) (k : Kinds) → IfSome left (ReadsAs front) → script_of front ≡ IsScript s → k ≡ all_kinds
-    → GrowsByFront old new (kinds_text k (kept_records most_kept s)) → IfSome left (PlaysFront old new)
-plays_front None old new front s k h e all w = tt
-plays_front (Some b) old new front s k h e all w = record {
+    → GrowsByFront old new (kinds_text k (kept_records most_kept s)) → (MayPlay s → KeptRunIsSafe most_kept s) → IfSome left (PlaysFront old new)
+plays_front None old new front s k h e all w safe = tt
+plays_front (Some b) old new front s k h e all w safe = record {
   script = s;
   spelled = h ∙ e;
   written = subst (GrowsByFront old new) (all_text k (kept_records most_kept s) all) w;
-  safe = every_kept_run_is_safe most_kept b s (h ∙ e);
+  safe = safe (scripts_may_play b s (h ∙ e));
 }
 
 pub may_have_played : (left old new : Option (List ℕ)) → IfSome left (PlaysFront old new) → IfSome left (MayHavePlayed old new)

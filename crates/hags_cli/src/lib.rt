@@ -7,6 +7,3 @@ mod status;
 
 pub use running::{Ending, MOST_KEPT, run};
 pub use status::hags;
-
-#[cfg(test)]
-mod tests;

@@ -7,3 +7,4 @@ pub mod ListLaws
 pub mod RoundLaws
 pub mod LineLaws
 pub mod PlayLaws
+pub mod SafeLaws

@@ -5,6 +5,7 @@ ghost use Rattle.hags_io.specs.Edges.{GrowsByFront, Rose};
 ghost use Rattle.world_model.specs.Play.{script_records};
 ghost use Rattle.world_model.specs.Kept.{kept_past, kept_records};
 ghost use Rattle.transcript.specs.Kinds.{kinds_text};
+ghost use Rattle.world_play.specs.Safe.{ScriptIsSafe, KeptRunIsSafe, MayPlay};
 
 use crate::cuts::Cuts;
 use crate::faults::PlayFault;
@@ -50,6 +51,9 @@ fn play_begun<K: Sink>(
 /// The packets of the run may have as many bytes as `limit` says: `Kept` comes exactly where they pass it, with their
 /// sum at that packet, and then the records before the event that sends it are written. `WriteFault` comes only where
 /// the sink's count of faults rose. After it, and where memory runs out, a front of that text is written.
+///
+/// Where the lines of the script may happen, as those of each script that is read, the run that it played is safe: the
+/// whole one, and up to the event whose packets pass the limit.
 pub fn play<K: Sink>(
     alloc: Global,
     script: &Script,
@@ -60,6 +64,8 @@ pub fn play<K: Sink>(
     ensures done { OnOk result ((kept_past limit script.now ≡ None) × Appends (K.held out.old) (K.held out.new) (kinds_text kinds (script_records script.now))) }
     ensures kept { (n : ℕ) → IsErrOf result (PlayFault.Kept n) → (kept_past limit script.now ≡ Some n) × Appends (K.held out.old) (K.held out.new) (kinds_text kinds (kept_records limit script.now)) }
     ensures front { GrowsByFront (K.held out.old) (K.held out.new) (kinds_text kinds (kept_records limit script.now)) }
+    ensures safe { OnOk result (MayPlay script.now → ScriptIsSafe script.now) }
+    ensures safe_front { MayPlay script.now → KeptRunIsSafe limit script.now }
     ensures later { K.faults out.old ≤ K.faults out.new }
     ensures fault { result ≡ Err PlayFault.WriteFault → Rose (K.faults out.old) (K.faults out.new) }
 {

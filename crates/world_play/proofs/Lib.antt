@@ -8,3 +8,4 @@ pub mod ComingLaws
 pub mod GivingLaws
 pub mod CallLaws
 pub mod BeginLaws
+pub mod SafeLaws

@@ -1,9 +1,10 @@
 //! How a world begins.
-ghost use Rattle.std.specs.Prelude.{◌≡◌, IfOk, OnOk};
+ghost use Rattle.std.specs.Prelude.{◌≡◌, [], IfOk, OnOk};
 ghost use Rattle.std.specs.List.{fold};
 ghost use Rattle.world_model.specs.World.{empty_world, node_starts, world_new};
 ghost use Rattle.world_model.specs.World as world;
 ghost use Rattle.world_play.specs.Standing.{Stands, Goes, kept_empty};
+ghost use Rattle.world_play.specs.Safe.{SafeOn};
 
 use crate::nodes::Nodes;
 use crate::starts::Starts;
@@ -41,9 +42,8 @@ impl World {
         Ok(())
     }
 
-    /// A world of this domain, whose packets may have as many bytes as the limit says. In mode fixed every node
-    /// starts: what that records comes behind what is in `out`.
-    pub fn new(
+    /// No node has started, or in mode fixed every one.
+    fn begun(
         alloc: Global,
         config: Config,
         limit: u64,
@@ -60,5 +60,19 @@ impl World {
             }
             Mode::Asked | Mode::Rings => Ok(world),
         }
+    }
+
+    /// A world of this domain, whose packets may have as many bytes as the limit says. In mode fixed every node
+    /// starts: what that records comes behind what is in `out`, and is a safe run.
+    pub fn new(
+        alloc: Global,
+        config: Config,
+        limit: u64,
+        out: &mut Records,
+    ) -> Result<World, NoMemory>
+        ensures goes { IfOk result (λ c. Goes (kept_empty config limit) c out.old out.new (empty_world config) (world_new config)) }
+        ensures safe { IfOk result (λ c. SafeOn c config [] [] out.old out.new) }
+    {
+        World::begun(alloc, config, limit, out)
     }
 }

@@ -4,6 +4,7 @@ ghost use Rattle.node_state.specs.Step.{Garbage};
 ghost use Rattle.world_model.specs.World.{node_steps, happens};
 ghost use Rattle.world_model.specs.World as world;
 ghost use Rattle.world_play.specs.Standing.{Stands, Goes, Passes};
+ghost use Rattle.world_play.specs.Safe.{GoesSafely};
 
 use crate::fault::WorldFault;
 use crate::world::World;
@@ -22,10 +23,9 @@ impl World {
         self.step(alloc, n, NodeEvent::Datagram(b""), out)
     }
 
-    /// A plain event happens: what it records comes behind what is in `out`. Where its packets pass the limit, `out` is
-    /// as it was. After an error nothing is said of the world.
+    /// A plain event happens, each kind by its own call.
     #[tactic(auto, unfolding(world_model::specs::World::happens))]
-    pub fn event(&mut self, alloc: Global, e: &Event, out: &mut Records) -> Result<(), WorldFault>
+    fn happen(&mut self, alloc: Global, e: &Event, out: &mut Records) -> Result<(), WorldFault>
         ensures goes { OnOk result ((w : world.World) → Stands self.old w → Goes self.old self.new out.old out.new w (happens w e.now)) }
         ensures passes { (k : ℕ) → IsErrOf result (WorldFault.TooMuchKept k) → (w : world.World) → Stands self.old w → Passes k self.old w (happens w e.now) }
         ensures kept { (k : ℕ) → IsErrOf result (WorldFault.TooMuchKept k) → out.new ≡ out.old }
@@ -40,5 +40,17 @@ impl World {
             Event::Deliver(a, b, k) => self.give(alloc, *a, *b, *k, out),
             Event::Garbage(n, _) => self.give_garbage(alloc, *n, out),
         }
+    }
+
+    /// A plain event happens: what it records comes behind what is in `out`, and the run with this event is safe,
+    /// wherever the world stands after events that may happen. Where its packets pass the limit, `out` is as it was.
+    /// After an error nothing is said of the world.
+    pub fn event(&mut self, alloc: Global, e: &Event, out: &mut Records) -> Result<(), WorldFault>
+        ensures goes { OnOk result ((w : world.World) → Stands self.old w → Goes self.old self.new out.old out.new w (happens w e.now)) }
+        ensures safe { OnOk result (GoesSafely self.old self.new out.old out.new e.now) }
+        ensures passes { (k : ℕ) → IsErrOf result (WorldFault.TooMuchKept k) → (w : world.World) → Stands self.old w → Passes k self.old w (happens w e.now) }
+        ensures kept { (k : ℕ) → IsErrOf result (WorldFault.TooMuchKept k) → out.new ≡ out.old }
+    {
+        self.happen(alloc, e, out)
     }
 }

@@ -1,0 +1,7 @@
+-- A safe run speaks of all groups, for any number, so the law is named here.
+use Rattle.std.proofs.lemmas.Result.{on_ok_weaker}
+use Rattle.world_play.proofs.SafeLaws.{goes_safely}
+use Rattle.world_play.proofs.world.World.event.Goals as goal
+
+pub returns-clause-safe : goal.returns-clause-safe
+returns-clause-safe c = on_ok_weaker c.happen.result (goes_safely c.args.self.now c.happen.new.self c.args.out.now c.happen.new.out c.args.e.now) c.happen.ensures.goes
