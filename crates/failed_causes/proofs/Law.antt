@@ -35,15 +35,15 @@ firsts_now : (now : List Happened) (before : History) → Within (λ now before 
 firsts_now [] before k old = old
 firsts_now (r ∷ now) before k old = (k.0, firsts_now now before k.1 old)
 
-firsts_of : (h : History) → EachRecord (λ now before r. BaseFirst (earlier now before) r) h → Firsts (records_of h)
+pub firsts_of : (h : History) → EachRecord (λ now before r. BaseFirst (earlier now before) r) h → Firsts (records_of h)
 firsts_of [] k = tt
 firsts_of (e ∷ before) k = firsts_now e.records before k.0 (firsts_of before k.1)
 
-firsts_after : (newer older : List Happened) → Firsts (newer ++ older) → Firsts older
+pub firsts_after : (newer older : List Happened) → Firsts (newer ++ older) → Firsts older
 firsts_after [] older k = k
 firsts_after (r ∷ newer) older k = firsts_after newer older k.1
 
-seen_after : (newer older : List Happened) → Seen (newer ++ older) → Seen older
+pub seen_after : (newer older : List Happened) → Seen (newer ++ older) → Seen older
 seen_after [] older k = k
 seen_after (r ∷ newer) older k = seen_after newer older k.1
 
@@ -214,7 +214,7 @@ module _ (rs : List Happened) (v : ViewId) (g : List ℕ) (p : ProviderId) (seen
   firsts_then : Firsts st.older
   firsts_then = firsts_after st.newer st.older (subst Firsts st.moment firsts)
 
-  abbrev Says : Type 0
+  abbrev pub Says : Type 0
   Says = DidNotPass rs v g p ⊎ JoinedAndOver rs g p
 
   abbrev Joined : Type 0
@@ -276,7 +276,7 @@ module _ (rs : List Happened) (v : ViewId) (g : List ℕ) (p : ProviderId) (seen
         by true e None first = (off, inr first)
         by true e (Some f) first = absurd (let z : true ≡ false = sym (its_join f first e) ∙ q in cc)
 
-  says : Says
+  pub says : Says
   says = by (list_any (puts_join p g) st.newer) refl (list_any (puts_join p g) st.older) refl st.over
     where
       by : (a : Bool) → list_any (puts_join p g) st.newer ≡ a → (b : Bool) → list_any (puts_join p g) st.older ≡ b → (list_any (asks_join p) st.older ≡ false) ⊎ (WasTold st.older p ⊎ TakenOff st.older p) → Says

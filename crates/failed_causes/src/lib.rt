@@ -1,6 +1,7 @@
 //! Who fails as gone without a goodbye: it did not pass into the view.
 #![tactic(auto)]
 
+ghost use Rattle.failed_causes.specs.Causes.{FailuresAreExact};
 ghost use Rattle.failed_causes.specs.Passed.{WhoIsOverDidNotPass, BasesComeFirst};
 
 /// Whatever starts, stops and steps, in any order: where a node notes a base, it put nothing of that group since it entered the
@@ -16,4 +17,12 @@ pub fn bases_come_first()
 #[tactic(auto, using(crate::proofs::Law::over_did_not_pass))]
 pub fn who_is_over_did_not_pass()
     ensures { WhoIsOverDidNotPass }
+{}
+
+/// So where a place of a list is put first, each default row of who failed and each failure leave has its cause: the provider is on
+/// the failed list, or its own client said goodbye, or it did not pass into the view; or its join was put though it was over, as
+/// above.
+#[tactic(auto, using(crate::proofs::Causes::failures_are_exact))]
+pub fn failures_are_exact()
+    ensures { FailuresAreExact }
 {}
