@@ -18,6 +18,8 @@ use Rattle.step_ties.specs.Rows.{at_node, nothing_yet, with_records, starts_too,
 use Rattle.late_rows.specs.Runs.{TicksAreNoted}
 use Rattle.failed_rows.specs.Scenes.{Played}
 use Rattle.failed_rows.specs.Scenes as played
+use Rattle.leaving.specs.Scenes.{Recounted}
+use Rattle.leaving.specs.Scenes as recounted
 use Rattle.step_ties.specs.Runs.{Reached, Nothing, AllStart}
 use Rattle.step_ties.proofs.Changed.{set_there, each_set}
 use Rattle.world_safety.specs.Events.{beginning}
@@ -81,6 +83,7 @@ pub record Begun (c : Config) (w : World) (mode : Mode) : Type 0 where
   pub reached : Reached c scene
   pub noted : TicksAreNoted c scene reached
   pub played : Played c scene
+  pub recounted : Recounted c scene
   pub mirrors : Mirrors c w scene
   pub before : scene.before ≡ history_of (beginning w mode)
 
@@ -89,8 +92,8 @@ empty_begun c = record { config = refl; scene_config = refl; cores = λ n. refl;
 
 begun_in : (c : Config) (mode : Mode) → c.mode ≡ mode → Begun c (world_of c mode) mode
 unfolding world_of
-begun_in c Asked e = record { scene = nothing_yet c; reached = Nothing; noted = tt; played = played.Nothing; mirrors = empty_begun c; before = refl }
-begun_in c Rings e = record { scene = nothing_yet c; reached = Nothing; noted = tt; played = played.Nothing; mirrors = empty_begun c; before = refl }
+begun_in c Asked e = record { scene = nothing_yet c; reached = Nothing; noted = tt; played = played.Nothing; recounted = recounted.Nothing; mirrors = empty_begun c; before = refl }
+begun_in c Rings e = record { scene = nothing_yet c; reached = Nothing; noted = tt; played = played.Nothing; recounted = recounted.Nothing; mirrors = empty_begun c; before = refl }
 begun_in c Fixed e =
     let o : Opens c (fold node_starts (empty_world c) (nodes_of c.nodes)) (all_started c) = all_open c (nodes_of c.nodes) (empty_world c) (record (nothing_yet c) { before = at_first [] }) (none_open c) in
     record {
@@ -98,6 +101,7 @@ begun_in c Fixed e =
       reached = AllStart (ap is_fixed e);
       noted = tt;
       played = played.AllStart (ap is_fixed e);
+      recounted = recounted.AllStart (ap is_fixed e);
       mirrors = o.mirrors;
       before = o.before ∙ ap at_first (sym (back_again (fold node_starts (empty_world c) (nodes_of c.nodes)).trace));
     }

@@ -28,6 +28,8 @@ use Rattle.step_ties.specs.Rows.{over, stopped, start_with, ended, Arises}
 use Rattle.late_rows.specs.Runs.{NotedAs, TicksAreNoted}
 use Rattle.failed_rows.specs.Scenes.{Names, Played}
 use Rattle.failed_rows.specs.Scenes as played
+use Rattle.leaving.specs.Scenes.{IsCall, NoCall, IsDown, Recounted}
+use Rattle.leaving.specs.Scenes as recounted
 use Rattle.step_ties.specs.Runs.{IsNote, noted, Reached, Starts, Stops, Steps, Notes}
 use Rattle.step_ties.proofs.Changed.{set_here}
 use Rattle.step_ties.proofs.RunLaw.{reached_rests}
@@ -43,10 +45,18 @@ pub record Follows (c : Config) (s : Scene) (k : Reached c s) (e : Event) (old :
   pub reached : Reached c scene
   pub noted : TicksAreNoted c s k → TicksAreNoted c scene reached
   pub played : Played c s → Played c scene
+  pub recounted : Recounted c s → Recounted c scene
   pub mirrors : Mirrors c w scene
   pub records : List Happened
   pub before : scene.before ≡ record { event = Some e; records = reverse records } ∷ s.before
   pub trace : w.trace ≡ reverse_onto records old
+
+-- a call names its node and what is called
+same_node : (n a : ℕ) (x y : CallLine) → event.Call n x ≡ event.Call a y → n ≡ a
+same_node n a x y e = cc
+
+same_call : (n a : ℕ) (x y : CallLine) → event.Call n x ≡ event.Call a y → x ≡ y
+same_call n a x y e = cc
 
 module _ (c : Config) (w : World) (s : Scene) (k : Reached c s) (m : Mirrors c w s) where
   free_there : is_fixed c.mode ≡ false → is_fixed s.config.mode ≡ false
@@ -54,34 +64,49 @@ module _ (c : Config) (w : World) (s : Scene) (k : Reached c s) (m : Mirrors c w
 
   -- ---- no node changes
 
-  noted_follows : (e : Event) (rs : List Happened) → ((r : Happened) → Has r rs → IsNote r) → Follows c s k e w.trace (traced w rs)
+  no_down : (e : Event) → NoCall e → IsDown s e
+  no_down e uncalled n x is = absurd (uncalled n x is)
+
+  noted_follows : (e : Event) (rs : List Happened) → ((r : Happened) → Has r rs → IsNote r) → IsDown s e → Follows c s k e w.trace (traced w rs)
   unfolding traced
-  noted_follows e rs notes =
+  noted_follows e rs notes down =
       record {
         scene = noted s e rs;
         reached = Notes s e rs k notes;
         noted = λ z. z;
         played = λ z. played.Notes s e rs z notes;
+        recounted = λ z. recounted.Notes s e rs z notes down;
         mirrors = record { config = m.config; scene_config = m.scene_config; cores = m.cores; incs = m.incs; once = m.once; sent = m.sent; paired = m.paired };
         records = rs;
         before = refl;
         trace = refl;
       }
 
-  nothing_follows : (e : Event) → Follows c s k e w.trace w
-  nothing_follows e =
-      record { scene = noted s e []; reached = Notes s e [] k (λ r h. absurd h); noted = λ z. z; played = λ z. played.Notes s e [] z (λ r h. absurd h); mirrors = later_mirrors c w s m (noted s e []).before; records = []; before = refl; trace = refl }
+  nothing_follows : (e : Event) → NoCall e → Follows c s k e w.trace w
+  nothing_follows e uncalled =
+      record {
+        scene = noted s e [];
+        reached = Notes s e [] k (λ r h. absurd h);
+        noted = λ z. z;
+        played = λ z. played.Notes s e [] z (λ r h. absurd h);
+        recounted = λ z. recounted.Notes s e [] z (λ r h. absurd h) (no_down e uncalled);
+        mirrors = later_mirrors c w s m (noted s e []).before;
+        records = [];
+        before = refl;
+        trace = refl;
+      }
 
   module _ (n : ℕ) where
     -- ---- a step
 
-    step_follows : (x : Node) → find (is_node n) w.nodes ≡ Some x → (scripts : List Script) (f : Answering) (e : NodeEvent) (v : Event) → NotedAs n e v → Names n e v → Arises s e → Follows c s k v w.trace (after_step w scripts (stepped f x.core e))
-    step_follows x up scripts f e v named called arises =
+    step_follows : (x : Node) → find (is_node n) w.nodes ≡ Some x → (scripts : List Script) (f : Answering) (e : NodeEvent) (v : Event) → NotedAs n e v → Names n e v → IsCall n e v → Arises s e → Follows c s k v w.trace (after_step w scripts (stepped f x.core e))
+    step_follows x up scripts f e v named called only arises =
         record {
           scene = ended s n v y;
           reached = reached;
           noted = λ z. (named, z);
           played = λ z. played.Steps s n f x.core e v z (m.cores n ∙ ap core_in up) arises called;
+          recounted = λ z. recounted.Steps s n f x.core e v z (m.cores n ∙ ap core_in up) arises called only;
           mirrors = step_mirrors c w s m n x up scripts y me (over v y ∷ s.before);
           records = y.records;
           before = refl;
@@ -100,21 +125,22 @@ module _ (c : Config) (w : World) (s : Scene) (k : Reached c s) (m : Mirrors c w
             let is : NodeIsIf s.config t.ghost [] n (s.incs n) (Some y) = subst (λ o. NodeIsIf s.config t.ghost [] n (s.incs n) o) (set_here s.cores n (Some y)) (t.nodes n) in
             is.0.stands.me
 
-    steps_follow : (f : Answering) (o : Option Node) → find (is_node n) w.nodes ≡ o → (e : NodeEvent) (v : Event) → NotedAs n e v → Names n e v → Arises s e → Follows c s k v w.trace (step_by_if f w e o)
+    steps_follow : (f : Answering) (o : Option Node) → find (is_node n) w.nodes ≡ o → (e : NodeEvent) (v : Event) → NotedAs n e v → Names n e v → NoCall v → Arises s e → Follows c s k v w.trace (step_by_if f w e o)
     unfolding step_by_if step_by
-    steps_follow f None at e v named called arises = nothing_follows v
-    steps_follow f (Some x) at e v named called arises = step_follows x at x.scripts f e v named called arises
+    steps_follow f None at e v named called uncalled arises = nothing_follows v uncalled
+    steps_follow f (Some x) at e v named called uncalled arises = step_follows x at x.scripts f e v named called (λ a b is. absurd (uncalled a b is)) arises
 
     -- ---- a start and a stop
 
-    start_follows : (v : Event) → is_fixed c.mode ≡ false → n ≢ 0 → find (is_node n) w.nodes ≡ None → Follows c s k v w.trace (started_at w n (inc_at w.starts n + 1))
+    start_follows : (v : Event) → NoCall v → is_fixed c.mode ≡ false → n ≢ 0 → find (is_node n) w.nodes ≡ None → Follows c s k v w.trace (started_at w n (inc_at w.starts n + 1))
     unfolding started_at traced
-    start_follows v free real down =
+    start_follows v uncalled free real down =
         record {
           scene = start_with s n v y;
           reached = Starts s n v k (free_there free) real (m.cores n ∙ ap core_in down);
           noted = λ z. z;
           played = λ z. played.Starts s n v z (free_there free) real (m.cores n ∙ ap core_in down);
+          recounted = λ z. recounted.Starts s n v z (free_there free) real (m.cores n ∙ ap core_in down) uncalled;
           mirrors = start_mirrors c w s m n down (y.sends ++ s.sent) (over v y ∷ s.before) (λ p h. append_has_right p y.sends s.sent h);
           records = y.records;
           before = refl;
@@ -124,24 +150,25 @@ module _ (c : Config) (w : World) (s : Scene) (k : Reached c s) (m : Mirrors c w
         y : Core
         y = started s.config n (s.incs n + 1)
 
-    starts_follow : (v : Event) → is_fixed c.mode ≡ false → n ≢ 0 → (o : Option Node) → find (is_node n) w.nodes ≡ o → Follows c s k v w.trace (starts_if w n (inc_at w.starts n) o)
+    starts_follow : (v : Event) → NoCall v → is_fixed c.mode ≡ false → n ≢ 0 → (o : Option Node) → find (is_node n) w.nodes ≡ o → Follows c s k v w.trace (starts_if w n (inc_at w.starts n) o)
     unfolding starts_if
-    starts_follow v free real (Some x) at = nothing_follows v
-    starts_follow v free real None at = by (inc_at w.starts n == last_u32)
+    starts_follow v uncalled free real (Some x) at = nothing_follows v uncalled
+    starts_follow v uncalled free real None at = by (inc_at w.starts n == last_u32)
       where
         by : (b : Bool) → Follows c s k v w.trace (elim b [ true ↦ w | false ↦ started_at w n (inc_at w.starts n + 1) ])
-        by true = nothing_follows v
-        by false = start_follows v free real at
+        by true = nothing_follows v uncalled
+        by false = start_follows v uncalled free real at
 
-    stops_follow : (v : Event) (o : Option Node) → find (is_node n) w.nodes ≡ o → Follows c s k v w.trace (stops_if w n o)
+    stops_follow : (v : Event) → NoCall v → (o : Option Node) → find (is_node n) w.nodes ≡ o → Follows c s k v w.trace (stops_if w n o)
     unfolding stops_if traced
-    stops_follow v None at = nothing_follows v
-    stops_follow v (Some x) at =
+    stops_follow v uncalled None at = nothing_follows v uncalled
+    stops_follow v uncalled (Some x) at =
         record {
           scene = stopped s n v;
           reached = Stops s n v x.core k (m.cores n ∙ ap core_in at);
           noted = λ z. z;
           played = λ z. played.Stops s n v x.core z (m.cores n ∙ ap core_in at);
+          recounted = λ z. recounted.Stops s n v x.core z (m.cores n ∙ ap core_in at) uncalled;
           mirrors = stop_mirrors c w s m n (happened.Down n ∷ []) (stopped s n v).before;
           records = happened.Down n ∷ [];
           before = refl;
@@ -150,44 +177,47 @@ module _ (c : Config) (w : World) (s : Scene) (k : Reached c s) (m : Mirrors c w
 
     -- ---- what is shown, and calls
 
-    shows_follow : (v : Event) (what : What) (o : Option Node) → Follows c s k v w.trace (shows_if w n what o)
+    shows_follow : (v : Event) → NoCall v → (what : What) (o : Option Node) → Follows c s k v w.trace (shows_if w n what o)
     unfolding shows_if
-    shows_follow v what None = nothing_follows v
-    shows_follow v what (Some x) = noted_follows v (map (happened.Shown n) (status_of x.core what)) (λ r h. shown r (has_map (happened.Shown n) r (status_of x.core what) h).2)
+    shows_follow v uncalled what None = nothing_follows v uncalled
+    shows_follow v uncalled what (Some x) = noted_follows v (map (happened.Shown n) (status_of x.core what)) (λ r h. shown r (has_map (happened.Shown n) r (status_of x.core what) h).2) (no_down v uncalled)
       where
         shown : (r : Happened) {line : List ℕ} → r ≡ happened.Shown n line → IsNote r
         shown r e = subst IsNote (sym e) tt
 
     calls_follow : (f : Answering) (v : Event) (x : CallLine) → v ≡ event.Call n x → (o : Option Node) → find (is_node n) w.nodes ≡ o → Follows c s k v w.trace (calls_by_if f w n x o)
     unfolding calls_by_if step_by
-    calls_follow f v x is None at = noted_follows v (happened.Refused n (caller_of x) NoInit ∷ []) refused
+    calls_follow f v x is None at = noted_follows v (happened.Refused n (caller_of x) NoInit ∷ []) refused down
       where
+        down : IsDown s v
+        down a y e = subst (λ i. s.cores i ≡ None) (same_node n a x y (sym is ∙ e)) (m.cores n ∙ ap core_in at)
+
         refused : (r : Happened) → Has r (happened.Refused n (caller_of x) NoInit ∷ []) → IsNote r
         refused r (inl e) = subst IsNote (sym e) tt
         refused r (inr h) = absurd h
-    calls_follow f v x is (Some y) at = step_follows y at (scripts_after x y.core y.scripts) f (Calls x) v tt (λ c e. is ∙ ap (event.Call n) (called x c e)) tt
+    calls_follow f v x is (Some y) at = step_follows y at (scripts_after x y.core y.scripts) f (Calls x) v tt (λ c e. is ∙ ap (event.Call n) (called x c e)) (λ a z e. (sym (same_node n a x z (sym is ∙ e)), ap Calls (same_call n a x z (sym is ∙ e)))) tt
       where
         called : (x c : CallLine) → Calls x ≡ Calls c → x ≡ c
         called x c e = cc
 
 -- ---- a delivery
 
-delivers_follow : (f : Answering) (c : Config) (w : World) (s : Scene) (k : Reached c s) → Mirrors c w s → (a b i : ℕ) (v : Event) → (o : Option Node) → find (is_node b) w.nodes ≡ o → (p : Option Packet) → kth_between w a b i ≡ p → Follows c s k v w.trace (delivers_by_if f w a b i o p)
+delivers_follow : (f : Answering) (c : Config) (w : World) (s : Scene) (k : Reached c s) → Mirrors c w s → (a b i : ℕ) (v : Event) → NoCall v → (o : Option Node) → find (is_node b) w.nodes ≡ o → (p : Option Packet) → kth_between w a b i ≡ p → Follows c s k v w.trace (delivers_by_if f w a b i o p)
 unfolding delivers_by_if step_by handled
-delivers_follow f c w s k m a b i v None at p q = nothing_follows c w s k m v
-delivers_follow f c w s k m a b i v (Some x) at None q = nothing_follows c w s k m v
-delivers_follow f c w s k m a b i v (Some x) at (Some p) q =
-    step_follows c (handled w a b i) s k (handled_mirrors c w s m a b i) b x at x.scripts f (Given p) v tt (λ c e. absurd (cc)) (kth_is (λ z. Has z s.sent) w a b i p m.paired q)
+delivers_follow f c w s k m a b i v uncalled None at p q = nothing_follows c w s k m v uncalled
+delivers_follow f c w s k m a b i v uncalled (Some x) at None q = nothing_follows c w s k m v uncalled
+delivers_follow f c w s k m a b i v uncalled (Some x) at (Some p) q =
+    step_follows c (handled w a b i) s k (handled_mirrors c w s m a b i) b x at x.scripts f (Given p) v tt (λ c e. absurd (cc)) (λ y z is. absurd (uncalled y z is)) (kth_is (λ z. Has z s.sent) w a b i p m.paired q)
 
 -- ---- each event
 
 pub event_follows : (f : Answering) (c : Config) (w : World) (s : Scene) (e : Event) → MayHappen c e → (k : Reached c s) → Mirrors c w s → Follows c s k e w.trace (happens_by f w e)
 unfolding happens_by node_starts node_at
-event_follows f c w s (event.Start n) may k m = starts_follow c w s k m n (event.Start n) may.0 may.1 (find (is_node n) w.nodes) refl
-event_follows f c w s (event.Stop n) may k m = stops_follow c w s k m n (event.Stop n) (find (is_node n) w.nodes) refl
-event_follows f c w s (event.Tick n) may k m = steps_follow c w s k m n f (find (is_node n) w.nodes) refl Ticks (event.Tick n) refl (λ c e. absurd (cc)) tt
-event_follows f c w s (event.Ask n mask) may k m = steps_follow c w s k m n f (find (is_node n) w.nodes) refl (Asks mask) (event.Ask n mask) tt (λ c e. absurd (cc)) tt
+event_follows f c w s (event.Start n) may k m = starts_follow c w s k m n (event.Start n) (λ y z is. absurd (cc)) may.0 may.1 (find (is_node n) w.nodes) refl
+event_follows f c w s (event.Stop n) may k m = stops_follow c w s k m n (event.Stop n) (λ y z is. absurd (cc)) (find (is_node n) w.nodes) refl
+event_follows f c w s (event.Tick n) may k m = steps_follow c w s k m n f (find (is_node n) w.nodes) refl Ticks (event.Tick n) refl (λ c e. absurd (cc)) (λ y z is. absurd (cc)) tt
+event_follows f c w s (event.Ask n mask) may k m = steps_follow c w s k m n f (find (is_node n) w.nodes) refl (Asks mask) (event.Ask n mask) tt (λ c e. absurd (cc)) (λ y z is. absurd (cc)) tt
 event_follows f c w s (event.Call n x) may k m = calls_follow c w s k m n f (event.Call n x) x refl (find (is_node n) w.nodes) refl
-event_follows f c w s (event.Show n what) may k m = shows_follow c w s k m n (event.Show n what) what (find (is_node n) w.nodes)
-event_follows f c w s (event.Deliver a b i) may k m = delivers_follow f c w s k m a b i (event.Deliver a b i) (find (is_node b) w.nodes) refl (kth_between w a b i) refl
-event_follows f c w s (event.Garbage n bytes) may k m = steps_follow c w s k m n f (find (is_node n) w.nodes) refl step.Garbage (event.Garbage n bytes) tt (λ c e. absurd (cc)) tt
+event_follows f c w s (event.Show n what) may k m = shows_follow c w s k m n (event.Show n what) (λ y z is. absurd (cc)) what (find (is_node n) w.nodes)
+event_follows f c w s (event.Deliver a b i) may k m = delivers_follow f c w s k m a b i (event.Deliver a b i) (λ y z is. absurd (cc)) (find (is_node b) w.nodes) refl (kth_between w a b i) refl
+event_follows f c w s (event.Garbage n bytes) may k m = steps_follow c w s k m n f (find (is_node n) w.nodes) refl step.Garbage (event.Garbage n bytes) tt (λ c e. absurd (cc)) (λ y z is. absurd (cc)) tt

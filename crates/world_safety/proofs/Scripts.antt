@@ -32,18 +32,21 @@ use Rattle.carried_values.specs.Carried.{FirstBallotsCarry}
 use Rattle.carried_values.proofs.Law.{first_ballots_carry}
 use Rattle.failed_rows.specs.Failures.{FailuresHaveCauses}
 use Rattle.failed_rows.proofs.Law.{failures_are_honest}
+use Rattle.failed_causes.specs.Causes.{FailuresHaveExactCauses}
+use Rattle.failed_causes.proofs.Causes.{failures_are_exact}
 use Rattle.source_order.specs.Sources.{ReflectionsRise, ReflectionsClimb, JoinsCarryLengths, FirstsFollowSources, JoinsOverSources}
 use Rattle.source_order.proofs.Law.{reflections_rise, reflections_climb, joins_carry_lengths, firsts_follow_sources, joins_over_sources}
 use Rattle.late_rows.proofs.Law.{who_is_late_had_time, who_is_late_was_announced}
-use Rattle.ring_runs.specs.Rings.{AddressesFit, NetworkAgrees}
+use Rattle.ring_runs.specs.Rings.{NetworkAgrees}
 use Rattle.ring_runs.proofs.Law.{rings_agree_in_runs}
 use Rattle.seen_runs.specs.Seen.{Seen}
 use Rattle.seen_runs.proofs.Law.{traces_seen}
 use Rattle.seen_runs.specs.Rings.{RingsSeen}
 use Rattle.seen_runs.proofs.Rings.{every_ring_seen}
 use Rattle.run_safety.specs.SafeLists.{Each}
-use Rattle.run_safety.specs.SafeHeard.{InOrder}
+use Rattle.run_safety.specs.SafeHeard.{InOrder, NotLetGo}
 use Rattle.attending.proofs.OrderLaw.{heard_in_order}
+use Rattle.leaving.proofs.Law.{who_is_let_go}
 use Rattle.run_safety.specs.Past.{EachRecord}
 use Rattle.run_safety.specs.Past as past
 use Rattle.world_safety.specs.Plays.{EveryAnswerIsSafe, EventsAreSafe, EveryPlayIsSafe, EveryKeptPlayIsSafe}
@@ -63,6 +66,7 @@ answers_safe c es may trace e =
       no_gap = subst NoGap run.5 (no_gap c run.0 run.1);
       heard_once = subst PlacesHeardOnce run.5 (places_once c run.0 run.1);
       in_order = subst (Each InOrder) run.5 (heard_in_order c run.0 run.1);
+      not_let_go = subst (EachRecord NotLetGo) run.5 (who_is_let_go c run.0 run.6);
       named = subst (EachRecord PutNamed) run.5 (entries_named c run.0 run.1);
       cast = subst VotesWereCast run.5 (recorded_votes c run.0 run.1);
       cast_once = subst CastsOnce run.5 (cast_once c run.0 run.1);
@@ -72,6 +76,7 @@ answers_safe c es may trace e =
       announced = subst (LateWereAnnounced c) run.5 (subst (λ z. LateWereAnnounced z run.0.before) run.4.scene_config (who_is_late_was_announced c run.0 run.1 run.2));
       carried = subst FirstBallotsCarry run.5 (first_ballots_carry c run.0 run.1);
       failed = subst FailuresHaveCauses run.5 (failures_are_honest c run.0 run.3);
+      causes = subst FailuresHaveExactCauses run.5 (failures_are_exact c run.0 run.3);
       rises = subst ReflectionsRise run.5 (reflections_rise c run.0 run.1);
       climbs = subst ReflectionsClimb run.5 (reflections_climb c run.0 run.1);
       lengths = subst JoinsCarryLengths run.5 (joins_carry_lengths c run.0 run.1);

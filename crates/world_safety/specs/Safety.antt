@@ -9,6 +9,7 @@ use Rattle.step_ties.specs.Tied.{Scene, opening_of}
 use Rattle.step_ties.specs.Runs.{Reached}
 use Rattle.late_rows.specs.Runs.{TicksAreNoted}
 use Rattle.failed_rows.specs.Scenes.{Played}
+use Rattle.leaving.specs.Scenes.{Recounted}
 use Rattle.world_answers.specs.Answers.{Answered, events_in, answered_after, answered_records}
 use Rattle.world_safety.specs.Events.{run_of_events, AllMayHappen}
 use Rattle.world_safety.specs.Mirrors.{Mirrors}
@@ -17,10 +18,10 @@ use Rattle.world_safety.specs.Mirrors.{Mirrors}
 abbrev pub RunHasTheRecords : Type 0
 RunHasTheRecords = (c : Config) (es : List Answered) → trace_of (run_of_events c es) ≡ answered_records c es
 
--- what starts, stops and steps make comes to the world, by the same history, in which each tick and each call is noted
+-- what starts, stops and steps make comes to the world, by the same history, in which each tick and each call is noted, and nothing else as a call
 abbrev pub EveryRunIsReached : Type 0
 EveryRunIsReached =
-    (c : Config) (es : List Answered) → AllMayHappen c (events_in es) → (s : Scene) × (k : Reached c s) × TicksAreNoted c s k × Played c s × Mirrors c (answered_after c es) s × (s.before ≡ history_of (run_of_events c es))
+    (c : Config) (es : List Answered) → AllMayHappen c (events_in es) → (s : Scene) × (k : Reached c s) × TicksAreNoted c s k × Played c s × Mirrors c (answered_after c es) s × (s.before ≡ history_of (run_of_events c es)) × Recounted c s
 
 -- what each group sees of the run is safe, and each view and group has one list
 abbrev pub EveryRunIsSafe : Type 0

@@ -22,22 +22,23 @@ use Rattle.attending.specs.Places.{PlacesHeardOnce, PutNamed}
 use Rattle.single_casts.specs.Single.{CastsOnce, CastsAfterNotice}
 use Rattle.carried_values.specs.Carried.{FirstBallotsCarry}
 use Rattle.failed_rows.specs.Failures.{FailuresHaveCauses}
+use Rattle.failed_causes.specs.Causes.{FailuresHaveExactCauses}
 use Rattle.source_order.specs.Sources.{ReflectionsRise, ReflectionsClimb, JoinsCarryLengths, FirstsFollowSources, JoinsOverSources}
 use Rattle.ring_runs.specs.Rings.{AddressesFit, NetworkAgrees}
 use Rattle.seen_runs.specs.Seen.{Seen}
 use Rattle.seen_runs.specs.Rings.{RingsSeen}
 use Rattle.run_safety.specs.SafeLists.{Each}
-use Rattle.run_safety.specs.SafeHeard.{InOrder}
+use Rattle.run_safety.specs.SafeHeard.{InOrder, NotLetGo}
 use Rattle.world_answers.specs.Answers.{Answered, all_worded}
 use Rattle.world_safety.specs.Events.{run_of_events}
 
 -- These are the records of the run of these events with these answers, and it is safe: what each group sees of it, and that each view
 -- and group has one list; each provider hears in a row, at the puts of its node, each place once, without a gap, from its first place
--- to its last, and no entry names a joiner twice; what closes a phase has a row for each voter, the votes among them were cast, once in
--- each phase and after its notice, who was late had its time, and was announced in a view of level 2; what such an entry carries is of
--- the earliest ballot that has it; who is said to have failed did; reflections rise, and they and joins into a group with a source are as
--- the source is; the rings of each network whose addresses differ agree; and the
--- records show that by themselves, as far as records can.
+-- to its last, and nothing once it was let go, and no entry names a joiner twice; what closes a phase has a row for each voter, the
+-- votes among them were cast, once in each phase and after its notice, who was late had its time, and was announced in a view of
+-- level 2; what such an entry carries is of the earliest ballot that has it; who is said to have failed did, and where it is gone
+-- without a goodbye it did not pass; reflections rise, and they and joins into a group with a source are as the source is; the rings
+-- of each network whose addresses differ agree; and the records show that by themselves, as far as records can.
 pub record IsSafe (c : Config) (es : List Answered) (rs : List Happened) : Type 0 where
   pub records : trace_of (run_of_events c es) ≡ rs
   pub safe : SafeGroups (opening_of c) (history_of (run_of_events c es))
@@ -46,6 +47,7 @@ pub record IsSafe (c : Config) (es : List Answered) (rs : List Happened) : Type 
   pub no_gap : NoGap (history_of (run_of_events c es))
   pub heard_once : PlacesHeardOnce (history_of (run_of_events c es))
   pub in_order : Each InOrder (history_of (run_of_events c es))
+  pub not_let_go : EachRecord NotLetGo (history_of (run_of_events c es))
   pub named : EachRecord PutNamed (history_of (run_of_events c es))
   pub cast : VotesWereCast (history_of (run_of_events c es))
   pub cast_once : CastsOnce (history_of (run_of_events c es))
@@ -55,6 +57,7 @@ pub record IsSafe (c : Config) (es : List Answered) (rs : List Happened) : Type 
   pub announced : LateWereAnnounced c (history_of (run_of_events c es))
   pub carried : FirstBallotsCarry (history_of (run_of_events c es))
   pub failed : FailuresHaveCauses (history_of (run_of_events c es))
+  pub causes : FailuresHaveExactCauses (history_of (run_of_events c es))
   pub rises : ReflectionsRise (history_of (run_of_events c es))
   pub climbs : ReflectionsClimb (history_of (run_of_events c es))
   pub lengths : JoinsCarryLengths (history_of (run_of_events c es))
