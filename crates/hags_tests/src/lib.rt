@@ -2,6 +2,4 @@
 #![tactic(auto)]
 
 #[cfg(test)]
-mod one_node;
-#[cfg(test)]
 mod runs;

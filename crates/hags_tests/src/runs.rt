@@ -57,7 +57,7 @@ fn said(alloc: Global, words: &[String], script: &[u8]) -> Result<(u8, MemSink),
 }
 
 /// Whether the script gives this transcript.
-pub(crate) fn gives(alloc: Global, script: &[u8], transcript: &[u8]) -> Result<bool, AllocError> {
+fn gives(alloc: Global, script: &[u8], transcript: &[u8]) -> Result<bool, AllocError> {
     let (status, out) = ran(alloc, script, &[], &[])?;
     Ok(status == 0 && out.held() == transcript)
 }
