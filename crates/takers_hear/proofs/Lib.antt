@@ -7,3 +7,6 @@ pub mod Walk
 pub mod Rows
 pub mod Walking
 pub mod Keeping
+pub mod Calls
+pub mod Adding
+pub mod Resting
