@@ -10,3 +10,5 @@ pub mod Keeping
 pub mod Calls
 pub mod Adding
 pub mod Resting
+pub mod Stepping
+pub mod Law
