@@ -221,9 +221,13 @@ module _ (c : Config) (w : Scene) (n : ℕ) (f : Answering) (s : Core) (e : Node
 
   -- ---- a provider of this node
 
-  module _ (p : ProviderId) (node : p.node ≡ n) (spared : was_let_go p after ≡ false) where
+  -- the provider's client does not say goodbye in the event, or the call is refused
+  abbrev pub Stays : ProviderId → Type 0
+  Stays p = (goodbye_of p.node (client_of p w.before) (Some v) && not (list_any is_refused (reverse t.records))) ≡ false
+
+  module _ (p : ProviderId) (node : p.node ≡ n) (spared : was_let_go p w.before ≡ false) (stays_on : Stays p) where
     was : Known p w.before s
-    was = subst (KnownIf p w.before) (ap w.cores node ∙ up) (k.known p (spared_before p (over v t) w.before spared).1)
+    was = subst (KnownIf p w.before) (ap w.cores node ∙ up) (k.known p spared)
 
     -- its client did not say goodbye
     remains : (d : CallLine) → e ≡ Calls d → (x : Provider) → provider_of s.sessions p ≡ Some x → Leaves d (at_work s) (call_row (at_work s) d) x → ⊥
@@ -236,9 +240,8 @@ module _ (c : Config) (w : Scene) (n : ℕ) (f : Answering) (s : Core) (e : Node
         let bye : goodbye_of p.node (client_of p w.before) (Some v) ≡ true = ap (λ z. goodbye_of p.node (client_of p w.before) (Some z)) event_is ∙ (λ i. eq-eqb n p.node (sym node) i && of_p i) in
         let none : root.records ≡ [] = ap (λ z. (root_of (at_work s) z).records) q ∙ l.3 in
         let taken : list_any is_refused (reverse t.records) ≡ false = any_none is_refused (reverse t.records) (λ r i. not_refused none r (added.all r (reverse_has r t.records i))) in
-        let z = (or_false (list_any (ends p (inc_now p.node (records_of w.before))) (reverse t.records)) (goodbye_of p.node (client_of p w.before) (Some v) && not (list_any is_refused (reverse t.records))) (spared_before p (over v t) w.before spared).0).1 in
         let y : (goodbye_of p.node (client_of p w.before) (Some v) && not (list_any is_refused (reverse t.records))) ≡ true = (λ i. bye i && not (taken i)) in
-        let u : true ≡ false = sym y ∙ z in cc
+        let u : true ≡ false = sym y ∙ stays_on in cc
       where
         not_refused : root.records ≡ [] → (r : Happened) → Has r root.records ⊎ Walked n r → is_refused r ≡ false
         not_refused none r (inl i) = absurd (subst (Has r) none i)
@@ -316,7 +319,11 @@ module _ (c : Config) (w : Scene) (n : ℕ) (f : Answering) (s : Core) (e : Node
     root_now Garbage q = begun
     root_now (Calls d) q = called d q
 
-    -- what stands of the provider after the call of the event, or before any other
+    -- what stands of the provider between two events
+    pub first_stands : Standing n w.before p node t.records (at_work s)
+    first_stands = record { order = here.0.order; me = here.0.stands.me; inv = λ h. begun }
+
+    -- after the call of the event, or before any other
     pub root_stands : Standing n w.before p node t.records root
     root_stands = let a = added_root e in record { order = a.order; me = a.me; inv = λ h. root_now e refl }
 
@@ -324,8 +331,17 @@ module _ (c : Config) (w : Scene) (n : ℕ) (f : Answering) (s : Core) (e : Node
     pub at_end : Now t
     at_end = (on_stepped (Standing n w.before p node t.records) (standing_keeps n w.before p node t.records seen) f s e root_stands).inv ([], append-nil t.records)
 
+  -- whom the event does not let go
+  stays_of : (p : ProviderId) → was_let_go p after ≡ false → Stays p
+  stays_of p spared =
+      (or_false (list_any (ends p (inc_now p.node (records_of w.before))) (reverse t.records)) (goodbye_of p.node (client_of p w.before) (Some v) && not (list_any is_refused (reverse t.records))) (spared_before p (over v t) w.before spared).0).1
+
+  module _ (p : ProviderId) (node : p.node ≡ n) (spared : was_let_go p after ≡ false) where
+    last : Inv_at n w.before p node t.records t
+    last = at_end p node (spared_before p (over v t) w.before spared).1 (stays_of p spared)
+
     known_own : Known p after t
-    known_own = record { waits = λ g a. subst (λ m. Stood t.sessions p g false ⊎ Over m g p (records_of after)) (sym node) (at_end.waits g a); takes = λ g a. takes g (at_end.takes g (subst (λ m. Taker p (stays m g (records_of after))) node a)) }
+    known_own = record { waits = λ g a. subst (λ m. Stood t.sessions p g false ⊎ Over m g p (records_of after)) (sym node) (last.waits g a); takes = λ g a. takes g (last.takes g (subst (λ m. Taker p (stays m g (records_of after))) node a)) }
       where
         takes : (g : List ℕ) → Stood t.sessions p g true ⊎ Dissolving p (records_of after) → Stood t.sessions p g true
         takes g (inl x) = x
@@ -392,5 +408,5 @@ module _ (c : Config) (w : Scene) (n : ℕ) (f : Answering) (s : Core) (e : Node
       record {
         known = λ p spared. each_set (λ m o. p.node ≡ m → KnownIf p after o) w.cores n (Some t) (λ q. known_own p q spared) (λ m ne q. subst (λ z. KnownIf p after (w.cores z)) q (away p (λ z. ne (sym q ∙ z)) spared)) p.node refl;
         joins = each_set (λ m o. WaitsIf o) w.cores n (Some t) added.joins (λ m ne. k.joins m);
-        law = (all_hear [] (reverse t.records) refl (λ p node spared. (at_end p node spared).law), k.law);
+        law = (all_hear [] (reverse t.records) refl (λ p node spared. (last p node spared).law), k.law);
       }
