@@ -40,15 +40,15 @@ use Rattle.attending.proofs.Fresh.{fresh_now}
 use Rattle.attending.proofs.Living.{lively_now}
 
 -- node m stands in these records where its stays have it
-abbrev Placed : List Happened → ℕ → Core → Type 0
+abbrev pub Placed : List Happened → ℕ → Core → Type 0
 Placed rs m c = Place m c.views.view c.sessions (λ n g. stays n g rs) (λ p u g. heard_count p u g rs) (len_of c) (state_of c)
 
-abbrev Own : ℕ → Core → Type 0
+abbrev pub Own : ℕ → Core → Type 0
 Own m c = (p : ProviderId) (y : Provider) → provider_of c.sessions p ≡ Some y → p.node ≡ m
 
-record Orderly (cores : ℕ → Option Core) (before : History) : Type 0 where
-  law : EachRecord Order before
-  up : (m : ℕ) (c : Core) → cores m ≡ Some c → Placed (records_of before) m c × Own m c
+pub record Orderly (cores : ℕ → Option Core) (before : History) : Type 0 where
+  pub law : EachRecord Order before
+  pub up : (m : ℕ) (c : Core) → cores m ≡ Some c → Placed (records_of before) m c × Own m c
 
 -- what the records say of the node is as before
 placed_on : (rs xs : List Happened) (m : ℕ) (c : Core) → ((g : List ℕ) → stays m g xs ≡ stays m g rs) → ((p : ProviderId) (u : ViewId) (g : List ℕ) → p.node ≡ m → heard_count p u g xs ≡ heard_count p u g rs) → Own m c → Placed rs m c → Placed xs m c
@@ -243,7 +243,7 @@ orderly_steps c w n f s e v k up arises old =
         let z = old.up m d q in
         (placed_on (records_of w.before) (records_of after) m d (λ g. o.others m g ne) (λ p u g node. o.counts p u g (λ a. ne (sym node ∙ a))) z.1 z.0, z.1)
 
-reached_orderly : (c : Config) (w : Scene) → Reached c w → Orderly w.cores w.before
+pub reached_orderly : (c : Config) (w : Scene) → Reached c w → Orderly w.cores w.before
 reached_orderly c _ Nothing = record { law = tt; up = λ m d q. absurd (cc) }
 reached_orderly c _ (AllStart fixed) =
     all_orderly (nodes_of c.nodes) (record (nothing_yet c) { before = record { event = None; records = [] } ∷ [] }) (record { law = (tt, tt); up = λ m d q. absurd (cc) })

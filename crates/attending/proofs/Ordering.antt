@@ -236,14 +236,14 @@ module _ (n inc : ℕ) (before : History) (v : ViewId) (last : ℕ) where
   hands_some : (s c : Core) (h : List ℕ) (e : Entry) (bs : List (Option Filled)) → Same (put s h e) c → (handing c h (len_of s h) (state_of s h) (state_of (put s h e) h) e bs).records ≡ [] → ⊥
   hands_some s c h e bs same q = subst (Has (happened.Put s.views.me s.views.view h (len_of s h) e)) q (put_recorded n inc before s c h e bs same)
 
-  entering_recorded : (s : Core) (i : Install) → Has (happened.In s.views.me i.view i.members) (entered_core before s i).records
+  pub entering_recorded : (s : Core) (i : Install) → Has (happened.In s.views.me i.view i.members) (entered_core before s i).records
   unfolding view_entered recorded_all views_entered base_record
   entering_recorded s i =
       let told = sides_add (view_entered s i (bases_of i)) (held_rows s) s.views.view (bases_of i) in
       let r : Happened = happened.In s.views.me i.view i.members in
       subst (Has r) (sym told.is) (append_has_left r (view_entered s i (bases_of i)).records told.more (append_has_right r s.records (r ∷ map (base_record (view_entered s i (bases_of i))) (bases_of i)) (inl refl)))
 
-  base_recorded_at : (s : Core) (i : Install) (b : Base) → Has b (bases_of i) → Has (happened.Base s.views.me i.view b.name b.from b.len b.state) (entered_core before s i).records
+  pub base_recorded_at : (s : Core) (i : Install) (b : Base) → Has b (bases_of i) → Has (happened.Base s.views.me i.view b.name b.from b.len b.state) (entered_core before s i).records
   unfolding view_entered recorded_all views_entered base_record
   base_recorded_at s i b h =
       let told = sides_add (view_entered s i (bases_of i)) (held_rows s) s.views.view (bases_of i) in
