@@ -1,0 +1,10 @@
+pub mod Walk
+pub mod Rows
+pub mod Walking
+pub mod Fair
+pub mod Tellings
+pub mod Moving
+pub mod Spoken
+pub mod Stayed
+pub mod Entered
+pub mod Law
