@@ -84,7 +84,7 @@ module _ (c : Config) (n j : ℕ) where
   rings : List Happened
   rings = map (ring_record n) (own_rings c c.mode n j)
 
-  seat : ViewId
+  pub seat : ViewId
   seat = first_view c c.mode n j
 
   entry : Happened
@@ -102,12 +102,12 @@ module _ (c : Config) (n j : ℕ) where
   started_turned xs =
       ap (λ z. reverse z ++ xs) started_now ∙ ap (λ z. z ++ xs) (reverse-append (happened.Up n j ∷ []) (rings ++ entry ∷ []) ∙ ap (λ z. z ++ happened.Up n j ∷ []) (reverse-append rings (entry ∷ []))) ∙ ap (λ z. entry ∷ z) (append_assoc (reverse rings) (happened.Up n j ∷ []) xs)
 
-  started_stays : (g : List ℕ) (xs : List Happened) → stays n g (reverse (started c n j).records ++ xs) ≡ new_stay seat empty_state ∷ []
+  pub started_stays : (g : List ℕ) (xs : List Happened) → stays n g (reverse (started c n j).records ++ xs) ≡ new_stay seat empty_state ∷ []
   unfolding entry
   started_stays g xs =
       ap (stays n g) (started_turned xs) ∙ ap (λ b. if b then new_stay seat empty_state ∷ stays n g (reverse rings ++ happened.Up n j ∷ xs) else stays n g (reverse rings ++ happened.Up n j ∷ xs)) (eq-eqb n n refl) ∙ ap (λ z. new_stay seat empty_state ∷ z) (inner_all n g (reverse rings) (happened.Up n j ∷ xs) (λ r h. rings_inner r (reverse_has r rings h)) ∙ ap (λ b. if b then [] else stays n g xs) (eq-eqb n n refl))
 
-  others_stay : (m : ℕ) (g : List ℕ) (xs : List Happened) → m ≢ n → stays m g (reverse (started c n j).records ++ xs) ≡ stays m g xs
+  pub others_stay : (m : ℕ) (g : List ℕ) (xs : List Happened) → m ≢ n → stays m g (reverse (started c n j).records ++ xs) ≡ stays m g xs
   unfolding entry
   others_stay m g xs ne =
       ap (stays m g) (started_turned xs) ∙ first (n == m) refl (stays m g (reverse rings ++ happened.Up n j ∷ xs)) ∙ inner_all m g (reverse rings) (happened.Up n j ∷ xs) (λ r h. rings_inner r (reverse_has r rings h)) ∙ last (n == m) refl

@@ -34,7 +34,7 @@ use Rattle.node_state.specs.Applying.{level_set, base_record, view_entered, is_i
 use Rattle.node_state.specs.Step.{NodeEvent, at_work, stepped}
 use Rattle.world_model.specs.declared.event.Event.{Event}
 use Rattle.run_safety.specs.ViewOrder.{Lt}
-use Rattle.run_safety.specs.Past.{earlier}
+use Rattle.run_safety.specs.Past.{History, earlier}
 use Rattle.run_safety.specs.SafeHeard.{is_left_behind, enters}
 use Rattle.run_safety.specs.Stays.{stays, Part, part, passes, was_let_go}
 use Rattle.run_safety.proofs.Tests.{any_has, has_any}
@@ -87,6 +87,11 @@ pub record WasLeft (n : ℕ) (rs : List Happened) (p : ProviderId) : Type 0 wher
   pub node : p.node ≡ n
   pub group : List ℕ
   pub left : is_left_behind p (stays n group rs) ≡ true
+
+-- where the provider goes on taking part by the records, and was not let go before, it is a provider of the node that takes part
+abbrev pub TakesIn : ℕ → History → Core → ProviderId → Type 0
+TakesIn n before t p =
+    (g : List ℕ) (first : ℕ) → (part p (stays n g (earlier (reverse t.records) before))).first ≡ Some first → (part p (stays n g (earlier (reverse t.records) before))).last ≡ None → was_let_go p before ≡ false → (x : Provider) × (provider_of t.sessions p ≡ Some x) × (x.takes_part ≡ true) × (x.group ≡ g)
 
 view_same : (a b : ViewId) → same_view a b ≡ true → a ≡ b
 view_same a b z = grind (arith, nat_tests)
@@ -230,7 +235,7 @@ module _ (c : Config) (w : Scene) (n : ℕ) (f : Answering) (s : Core) (e : Node
   -- ---- left behind, so told
 
   -- in the event just this node enters a view
-  entered_own : (p : ProviderId) → list_any (enters p.node) now ≡ true → p.node ≡ n
+  pub entered_own : (p : ProviderId) → list_any (enters p.node) now ≡ true → p.node ≡ n
   unfolding view_entered recorded_all views_entered base_record
   entered_own p k = let z = any_has (enters p.node) now k in by z.0 z.1 z.2
     where
@@ -291,24 +296,16 @@ module _ (c : Config) (w : Scene) (n : ℕ) (f : Answering) (s : Core) (e : Node
           let lives : among b.state.failed p ≡ false = lively_now c w n f s e v reached up arises i.view i.members b.name b.len b.state in_there based later p node inc in
           (λ j. a.1 j && not (lives j))
 
-  -- whoever goes on taking part by the records is a provider, unless it was let go
-  abbrev pub Takers : Type 0
-  Takers =
-      (p : ProviderId) (g : List ℕ) (first : ℕ) → p.node ≡ n → (part p (stays n g (earlier (reverse t.records) w.before))).first ≡ Some first → (part p (stays n g (earlier (reverse t.records) w.before))).last ≡ None → was_let_go p w.before ≡ false → (x : Provider) × (provider_of t.sessions p ≡ Some x) × (x.takes_part ≡ true) × (x.group ≡ g)
-
-  pub is_told : Takers → (p : ProviderId) (g : List ℕ) → list_any (enters p.node) now ≡ true → is_left_behind p (stays p.node g (earlier now w.before)) ≡ true → was_let_go p w.before ≡ false → (r : ℕ) × Has (happened.Told p r Dissolved) now
+  pub is_told : (p : ProviderId) → p.node ≡ n → TakesIn n w.before t p → (g : List ℕ) → is_left_behind p (stays p.node g (earlier now w.before)) ≡ true → was_let_go p w.before ≡ false → (r : ℕ) × Has (happened.Told p r Dissolved) now
   unfolding view_entered recorded_all level_set provider_of
-  is_told takers p g enters_it left lives = by (stays_or_told p t.views.view bs (held_rows t) inside live)
+  is_told p node takes g left lives = by (stays_or_told p t.views.view bs (held_rows t) inside live)
     where
-      node : p.node ≡ n
-      node = entered_own p enters_it
-
       out : LeftOut p (base_is (base_named bs g)) (part p (stays n g (earlier (reverse t.records) w.before)))
       out =
           left_out p (base_is (base_named bs g)) (part p (stays n g (earlier (reverse t.records) w.before))) (sym (left_is p g) ∙ subst (λ m. is_left_behind p (stays m g (earlier now w.before)) ≡ true) node left)
 
       taker : (x : Provider) × (provider_of t.sessions p ≡ Some x) × (x.takes_part ≡ true) × (x.group ≡ g)
-      taker = takers p g out.first node out.is out.last lives
+      taker = takes g out.first out.is out.last lives
 
       x : Provider
       x = taker.0

@@ -8,3 +8,5 @@ pub mod Spoken
 pub mod Stayed
 pub mod Entered
 pub mod Law
+pub mod Others
+pub mod Reverse
