@@ -1,5 +1,5 @@
 -- A step: whoever is left behind is told DISSOLVED, where up to the view those who take part by the records are providers that do.
-use Rattle.std.proofs.Common.{◌≡◌, ℕ, Some, true, subst}
+use Rattle.std.proofs.Common.{◌≡◌, ℕ, List, ◌++◌, Some, true, sym, ap, ◌∙◌, subst, append_assoc}
 use Rattle.std.specs.Prelude.{reverse}
 use Rattle.std.specs.List.{list_any}
 use Rattle.rsct_packet.specs.declared.ids.ProviderId.{ProviderId}
@@ -16,6 +16,7 @@ use Rattle.step_ties.specs.Tied.{Scene}
 use Rattle.step_ties.specs.Rows.{over, Arises}
 use Rattle.step_ties.specs.Runs.{Reached}
 use Rattle.hearing.proofs.Listening.{reverse_has}
+use Rattle.attending.proofs.Doing.{enters_add}
 use Rattle.left_behind.proofs.Fair.{Fair}
 use Rattle.left_behind.proofs.Moving.{Carries, Moves, Remains, Enters, NotCall}
 use Rattle.left_behind.proofs.Spoken.{Nought, nought_carries, spoken_moves, reached_spoken}
@@ -38,10 +39,11 @@ module _ (c : Config) (w : Scene) (n : ℕ) (f : Answering) (s : Core) (e : Node
       by (Remains fair) = absurd (remained fair k.entered)
       by (Enters calm t i does fair q same lt rest) = entered_own c w n f s e v reached up arises t i does fair same lt rest p k.entered
 
-  pub left_told : p.node ≡ n → (Q : Core → Type 0) → Carries Q f → Q (at_work s) → (NotCall e → (t : Core) → Fair (at_work s) t → Q t → TakesIn n w.before t p) → LeftBehind p (over v d) w.before → (r : ℕ) × Has (happened.Told p r Dissolved) (reverse d.records)
+  pub left_told : p.node ≡ n → (Q : Core → Type 0) → Carries Q f → Q (at_work s) → (NotCall e → (t : Core) → Fair (at_work s) t → (more : List Happened) → t.records ++ more ≡ d.records → Q t → TakesIn n w.before t p) → LeftBehind p (over v d) w.before → (r : ℕ) × Has (happened.Told p r Dissolved) (reverse d.records)
   left_told node Q carries holds takes k = by (spoken_moves Q c w n f s e reached up arises (reached_spoken c w reached) carries holds)
     where
       by : Moves Q (NotCall e) (at_work s) d → (r : ℕ) × Has (happened.Told p r Dissolved) (reverse d.records)
       by (Remains fair) = absurd (remained fair k.entered)
       by (Enters calm t i does fair q same lt rest) =
-          is_told c w n f s e v reached up arises t i does fair same lt rest p node (takes calm t fair q) k.group k.left k.lives
+          let a = enters_add t i in
+          is_told c w n f s e v reached up arises t i does fair same lt rest p node (takes calm t fair (a.more ++ rest.more) (sym (append_assoc t.records a.more rest.more) ∙ ap (λ z. z ++ rest.more) (sym a.is) ∙ sym rest.is) q) k.group k.left k.lives
