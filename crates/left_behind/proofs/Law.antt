@@ -114,9 +114,9 @@ step_told c w n f s e v k up arises p r h =
 
 -- ---- every node starts, in one event
 
-record Begun (w : Scene) : Type 0 where
-  records : List Happened
-  is : w.before ≡ record { event = None; records = records } ∷ []
+pub record Begun (w : Scene) : Type 0 where
+  pub records : List Happened
+  pub is : w.before ≡ record { event = None; records = records } ∷ []
   untold : (r : Happened) → Has r records → Untold r
 
 too_begun : (w : Scene) (n : ℕ) (o : Option Core) → Begun w → Begun (starts_too w n o)
@@ -127,9 +127,12 @@ too_begun w n None k =
     rs : List Happened
     rs = (started w.config n (w.incs n + 1)).records
 
-fold_begun : (ns : List ℕ) (w : Scene) → Begun w → Begun (fold (λ (w : Scene) n. starts_too w n (w.cores n)) w ns)
+pub fold_begun : (ns : List ℕ) (w : Scene) → Begun w → Begun (fold (λ (w : Scene) n. starts_too w n (w.cores n)) w ns)
 fold_begun [] w k = k
 fold_begun (n ∷ ns) w k = fold_begun ns (starts_too w n (w.cores n)) (too_begun w n (w.cores n) k)
+
+pub begun_first : {c : Config} → Begun (record (nothing_yet c) { before = record { event = None; records = [] } ∷ [] })
+begun_first = record { records = []; is = refl; untold = λ r i. absurd i }
 
 -- ---- every scene
 

@@ -10,3 +10,4 @@ pub mod Entered
 pub mod Law
 pub mod Others
 pub mod Reverse
+pub mod Just

@@ -88,6 +88,10 @@ fold_none (n ∷ ns) w k = fold_none ns (starts_too w n (w.cores n)) (by (w.core
     by None =
         subst NoneLeft (sym (with_is w.before (started w.config n (w.incs n + 1)).records)) (start_none w.config n (w.incs n + 1) (records_of w.before) k)
 
+pub none_left : (rs : List Happened) → NoneLeft rs → (p : ProviderId) (m : ℕ) (g : List ℕ) → is_left_behind p (stays m g rs) ≡ false
+unfolding NoneLeft
+none_left rs k p m g = k p m g
+
 pub none_at_first : NoneLeft []
 unfolding NoneLeft
 none_at_first p m g = refl
