@@ -68,7 +68,7 @@ abbrev pub with_state : Option Base → Stay → Stay
 with_state None x = x
 with_state (Some b) x = record x { base = b.state }
 
-bases_stay : (n : ℕ) (v : ViewId) (g : List ℕ) (before : History) (bs : List Base) (now : List Happened) (x : Stay) (older : List Stay) → InNameOrder (map base_row bs) → stays n g (earlier now before) ≡ x ∷ older → stays n g (earlier (pushed (map (base_noted n v) bs) now) before) ≡ with_state (base_named bs g) x ∷ older
+pub bases_stay : (n : ℕ) (v : ViewId) (g : List ℕ) (before : History) (bs : List Base) (now : List Happened) (x : Stay) (older : List Stay) → InNameOrder (map base_row bs) → stays n g (earlier now before) ≡ x ∷ older → stays n g (earlier (pushed (map (base_noted n v) bs) now) before) ≡ with_state (base_named bs g) x ∷ older
 unfolding base_named base_row
 bases_stay n v g before [] now x older o q = q
 bases_stay n v g before (b ∷ bs) now x older o q =
@@ -97,7 +97,7 @@ base_is (Some b) = b.state
 abbrev pub new_stay : ViewId → GroupState → Stay
 new_stay v s = record { view = v; base = s; entries = [] }
 
-state_named : (c : Core) (bs : List Base) → c.groups ≡ map base_row bs → (g : List ℕ) → state_of c g ≡ base_is (base_named bs g)
+pub state_named : (c : Core) (bs : List Base) → c.groups ≡ map base_row bs → (g : List ℕ) → state_of c g ≡ base_is (base_named bs g)
 unfolding state_of list_of row_of base_row
 state_named c bs e g =
     ap (λ (rows : List GroupRow). (list_or_new (row_found g (find (has_name g) rows)).list).state) e ∙ ap (λ (o : Option GroupRow). (list_or_new (row_found g o).list).state) (row_of_base g bs) ∙ by (base_named bs g)

@@ -66,7 +66,7 @@ order_asides (r ∷ rs) now before aside k = (aside_order (rs ++ now) before r (
 order_turned : (rs : List Happened) (before : History) → ((r : Happened) → Has r rs → Aside r) → Within Order (reverse rs) before
 order_turned rs before aside = subst (λ z. Within Order z before) (append-nil (reverse rs)) (order_asides (reverse rs) [] before (λ r h. aside r (reverse_has r rs h)) tt)
 
-inner_all : (m : ℕ) (g : List ℕ) (rs xs : List Happened) → ((r : Happened) → Has r rs → Inner r) → stays m g (rs ++ xs) ≡ stays m g xs
+pub inner_all : (m : ℕ) (g : List ℕ) (rs xs : List Happened) → ((r : Happened) → Has r rs → Inner r) → stays m g (rs ++ xs) ≡ stays m g xs
 inner_all m g [] xs all = refl
 inner_all m g (r ∷ rs) xs all = inner_stays m g r (rs ++ xs) (all r (inl refl)) ∙ inner_all m g rs xs (λ q h. all q (inr h))
 
@@ -187,7 +187,7 @@ all_orderly (n ∷ ns) w k = all_orderly ns (starts_too w n (w.cores n)) (by (w.
         let rs : List Happened = (started w.config n (w.incs n + 1)).records in
         orderly_starts w.config w.cores w.before (with_records w.before rs) n (w.incs n + 1) (with_is w.before rs) (with_order w.before rs (start_asides w.config n (w.incs n + 1)) k.law) k
 
-note_inner : (r : Happened) → IsNote r → Inner r
+pub note_inner : (r : Happened) → IsNote r → Inner r
 note_inner (happened.Up n j) a = absurd a
 note_inner (happened.Down n) a = absurd a
 note_inner (happened.Ring n k i ms m) a = tt
