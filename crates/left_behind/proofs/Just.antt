@@ -1,32 +1,35 @@
 -- In each scene whose history names calls, and calls alone, as calls: just who is left behind is told DISSOLVED.
-use Rattle.std.proofs.Common.{◌≡◌, ◌⊎◌, ℕ, ◌+◌, List, [], ◌∷◌, Some, None, Bool, true, false, refl, sym, ap, ◌∙◌, subst, inl, inr}
-use Rattle.std.specs.Prelude.{◌&&◌, ◌||◌, map, reverse}
-use Rattle.std.specs.List.{list_any}
+use Rattle.std.proofs.Common.{◌≡◌, ◌⊎◌, ℕ, ◌+◌, List, [], ◌∷◌, Some, None, true, false, sym, ap, ◌∙◌, subst, inl, inr}
+use Rattle.std.specs.Prelude.{map, reverse}
 use Rattle.std.proofs.lemmas.Bool.{eqb-true}
 use Rattle.rsct_packet.specs.declared.ids.ProviderId.{ProviderId}
 use Rattle.rsct_packet.specs.Mask.{nodes_of}
 use Rattle.rsct_packet.specs.Search.{Has}
 use Rattle.rsct_packet.proofs.HasLaws.{has_append, has_map}
-use Rattle.client_callbacks.specs.declared.told.Why.{Why}
 use Rattle.node_state.specs.declared.config.Config.{Config}
 use Rattle.node_state.specs.declared.happened.Happened.{Happened}
 use Rattle.node_state.specs.declared.happened.Happened.TheVariants as happened
 use Rattle.node_state.specs.declared.state.Core.{Core}
 use Rattle.node_state.specs.State.{with_sessions}
 use Rattle.node_state.specs.HandOn.{Answering}
-use Rattle.node_state.specs.Step.{NodeEvent, first_view, first_members, own_rings, ring_record, started, stepped}
+use Rattle.node_state.specs.HandOn.{Answering}
+use Rattle.node_state.specs.Step.{NodeEvent, first_view, first_members, own_rings, ring_record, at_work, started, stepped}
 use Rattle.world_model.specs.declared.event.Event.{Event}
 use Rattle.world_model.specs.Run.{Happening}
-use Rattle.run_safety.specs.Past.{History, EachEvent, earlier, records_of, inc_now}
+use Rattle.run_safety.specs.Past.{History, EachEvent, earlier, records_of}
 use Rattle.run_safety.specs.SafeHeard.{Dissolves, is_left_behind, enters}
-use Rattle.run_safety.specs.Stays.{stays, is_dissolved, ends, lets_go, was_let_go}
-use Rattle.run_safety.proofs.Tests.{any_has, same_self}
+use Rattle.run_safety.specs.Stays.{stays, was_let_go}
+use Rattle.run_safety.proofs.Tests.{any_has}
 use Rattle.step_ties.specs.Tied.{Scene}
 use Rattle.step_ties.specs.Rows.{over, nothing_yet, Arises}
+use Rattle.step_ties.specs.Runs.{Reached}
 use Rattle.hearing.proofs.Listening.{reverse_has}
 use Rattle.leaving.specs.Scenes.{Recounted, Nothing, AllStart, Starts, Stops, Steps, Notes}
-use Rattle.leaving.proofs.Events.{any_one}
+use Rattle.leaving.proofs.Law.{reached}
+use Rattle.takers_hear.proofs.Keeping.{Standing}
 use Rattle.left_behind.specs.Left.{ToldWereLeft, LeftAreTold, JustTheLeftBehindAreTold}
+use Rattle.left_behind.proofs.Reverse.{left_own, left_told}
+use Rattle.left_behind.proofs.Takers.{Stands, carries, stands_takes}
 use Rattle.left_behind.proofs.Others.{none_entered, note_mild, NoneLeft, none_left, one_started, fold_none, none_at_first}
 use Rattle.left_behind.proofs.Law.{fold_begun, begun_first, told_were_left}
 
@@ -54,34 +57,19 @@ start_left c n j v before p l =
 
 -- ---- a step
 
--- who was told was let go
-told_let_go : (p : ProviderId) (r : ℕ) (y : Why) → is_dissolved y ≡ true → (h : History) → Has (happened.Told p r y) (records_of h) → was_let_go p h ≡ true
-told_let_go p r y d [] h = absurd h
-told_let_go p r y d (e ∷ before) h = by (has_append (happened.Told p r y) e.records (records_of before) h) (told_let_go p r y d before)
-  where
-    inc : ℕ
-    inc = inc_now p.node (records_of before)
+-- between two events the provider stands at its node as the records have it
+abbrev pub StandsFirst : Type 0
+StandsFirst =
+    (c : Config) (w : Scene) → Recounted c w → (n : ℕ) (s : Core) → w.cores n ≡ Some s → (p : ProviderId) (node : p.node ≡ n) → was_let_go p w.before ≡ false → (final : List Happened) → Standing n w.before p node final (at_work s)
 
-    first : (a b c : Bool) → a ≡ true → ((a || b) || c) ≡ true
-    first true b c e = refl
-    first false b c e = absurd (cc)
+module _ (starts : StandsFirst) where
+  step_left : (c : Config) (w : Scene) (n : ℕ) (f : Answering) (s : Core) (e : NodeEvent) (v : Event) → Recounted c w → w.cores n ≡ Some s → Arises w e → LeftAreTold (over v (stepped f s e)) w.before
+  step_left c w n f s e v k up arises p l =
+      let r : Reached c w = reached c w k in
+      let node : p.node ≡ n = left_own c w n f s e v r up arises p l in
+      left_told c w n f s e v r up arises p node (Stands c w n f s e v r up arises p node) (carries c w n f s e v r up arises p node) (starts c w k n s up p node l.lives (stepped f s e).records) (λ calm t fair more is q. stands_takes c w n f s e v r up arises p node t fair more is q) l
 
-    second : (a b : Bool) → b ≡ true → (a || b) ≡ true
-    second true b e = refl
-    second false b e = e
-
-    it : ends p inc (happened.Told p r y) ≡ true
-    it = λ i. same_self p i && d i
-
-    by : Has (happened.Told p r y) e.records ⊎ Has (happened.Told p r y) (records_of before) → (Has (happened.Told p r y) (records_of before) → was_let_go p before ≡ true) → (lets_go p e before || was_let_go p before) ≡ true
-    by (inl i) rest = first (list_any (ends p inc) e.records) _ (was_let_go p before) (any_one (ends p inc) (happened.Told p r y) e.records i it)
-    by (inr i) rest = second (lets_go p e before) (was_let_go p before) (rest i)
-
-abbrev StepLeft : Type 0
-StepLeft = (c : Config) (w : Scene) (n : ℕ) (f : Answering) (s : Core) (e : NodeEvent) (v : Event) → Recounted c w → w.cores n ≡ Some s → Arises w e → LeftAreTold (over v (stepped f s e)) w.before
-
-module _ (step_left : StepLeft) where
--- ---- every scene
+  -- ---- every scene
 
   none_left_told : (event : Happening) (before : History) → ((p : ProviderId) (g : List ℕ) → is_left_behind p (stays p.node g (earlier event.records before)) ≡ false) → LeftAreTold event before
   none_left_told event before none p l = absurd (let y : true ≡ false = sym l.left ∙ none p l.group in cc)

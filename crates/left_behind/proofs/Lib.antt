@@ -10,4 +10,5 @@ pub mod Entered
 pub mod Law
 pub mod Others
 pub mod Reverse
+pub mod Takers
 pub mod Just

@@ -64,7 +64,7 @@ use Rattle.takers_hear.proofs.Rows.{on_requests, on_votes, on_owed_part, on_look
 module _ (P : Core → Type 0) (k : Keeps P) where
   -- ---- entering a view
 
-  on_filled : (f : Answering) {s : Core} (xs : List Lacking) → P s → P (lists_filled f s xs)
+  pub on_filled : (f : Answering) {s : Core} (xs : List Lacking) → P s → P (lists_filled f s xs)
   unfolding lists_filled
   on_filled f xs p =
       on_fold P k (λ t (x : Lacking). fold (λ u e. put_and_handed f u None x.name e) t x.entries) (λ t x h. on_fold P k (λ u (e : Entry). put_and_handed f u None x.name e) (λ u e q. on_put_handed P k f None x.name e q) x.entries h) xs p
@@ -201,7 +201,7 @@ module _ (P : Core → Type 0) (k : Keeps P) where
       by None = p
       by (Some r) = on_taken (ring_stepped r (ring_event.Packet from inc x)) p
 
-  on_rings : {s : Core} → P s → P (rings_part s)
+  pub on_rings : {s : Core} → P s → P (rings_part s)
   unfolding rings_part rings_tick report_sent
   on_rings {s} p =
       let t : Core = fold (λ u (r : Ring). ring_taken u (ring_stepped r ring_event.Tick)) s s.rings in
