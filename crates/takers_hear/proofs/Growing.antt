@@ -45,7 +45,7 @@ over_more n g p r rs (inr (inr k)) = inr (inr (dissolving_more p r rs k))
 
 -- ---- records that leave the stays of every node
 
--- neither start, stop, entering, base, put, nor a request
+-- neither start, stop, entering, base, put, a request, nor a refusal
 abbrev pub Inert : Happened → Type 0
 Inert (happened.Up n j) = ⊥
 Inert (happened.Down n) = ⊥
@@ -53,6 +53,7 @@ Inert (happened.In n v ms) = ⊥
 Inert (happened.Base n v g u len s) = ⊥
 Inert (happened.Put n v g i e) = ⊥
 Inert (happened.Asked p r g x) = ⊥
+Inert (happened.Refused n c fault) = ⊥
 Inert _ = Unit {0}
 
 pub inert_unasked : (r : Happened) → Inert r → Unasked r
@@ -67,7 +68,7 @@ inert_unasked (happened.Cast p proto phase vote value message) a = tt
 inert_unasked (happened.Asked p r g x) a = absurd a
 inert_unasked (happened.Told p r why) a = tt
 inert_unasked (happened.Noted n c v i told) a = tt
-inert_unasked (happened.Refused n c fault) a = tt
+inert_unasked (happened.Refused n c fault) a = absurd a
 inert_unasked (happened.Shown n line) a = tt
 
 pub inert_stays : (m : ℕ) (g : List ℕ) (r : Happened) (rs : List Happened) → Inert r → stays m g (r ∷ rs) ≡ stays m g rs
@@ -82,7 +83,7 @@ inert_stays m g (happened.Cast p proto phase vote value message) rs a = refl
 inert_stays m g (happened.Asked p r h x) rs a = absurd a
 inert_stays m g (happened.Told p r why) rs a = refl
 inert_stays m g (happened.Noted n c v i told) rs a = refl
-inert_stays m g (happened.Refused n c fault) rs a = refl
+inert_stays m g (happened.Refused n c fault) rs a = absurd a
 inert_stays m g (happened.Shown n line) rs a = refl
 
 -- ---- the view of the latest stay is that of the node

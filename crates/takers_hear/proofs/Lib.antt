@@ -7,3 +7,8 @@ pub mod Walk
 pub mod Rows
 pub mod Walking
 pub mod Keeping
+pub mod Calls
+pub mod Adding
+pub mod Resting
+pub mod Stepping
+pub mod Law

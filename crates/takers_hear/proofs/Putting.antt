@@ -39,7 +39,7 @@ use Rattle.takers_hear.specs.Takers.{Taker, Stood, WasPut, AskedJoin, Dissolving
 use Rattle.takers_hear.proofs.Firsts.{taker_present, taker_came, part_came}
 use Rattle.takers_hear.proofs.Forward.{begins_group, stood_takes, stood_begins, stood_waits}
 use Rattle.takers_hear.proofs.Growing.{asked_back, Over, over_more, dissolving_more, Inert}
-use Rattle.takers_hear.proofs.Standing.{JoinWaits, Heard_at, Law, Inv, inv_records}
+use Rattle.takers_hear.proofs.Standing.{handed_joins, Heard_at, Law, Inv, inv_records}
 
 join_named : (p : ProviderId) (e : Entry) (y : Proposal) → proposal_of e ≡ Some y → is_join_of p e ≡ true → among (joins_of y) p ≡ true
 join_named p (Once x) y q j = ap (λ z. among (joins_of z) p) (some_was q) ∙ j
@@ -56,7 +56,7 @@ join_named p (Reject c) y q j = absurd (cc)
 join_named p (Late proto phase ps) y q j = absurd (cc)
 
 -- what is heard and cast
-heards_inert : (v : ViewId) (h : List ℕ) (i : ℕ) (e : Entry) (st : GroupState) (cs : List Cast) (r : Happened) → Has r (flat_map (heard_at v h i e st) cs) → Inert r
+pub heards_inert : (v : ViewId) (h : List ℕ) (i : ℕ) (e : Entry) (st : GroupState) (cs : List Cast) (r : Happened) → Has r (flat_map (heard_at v h i e st) cs) → Inert r
 unfolding cast_records cast_record
 heards_inert v h i e st [] r k = absurd k
 heards_inert v h i e st (x ∷ cs) r (inl q) = subst Inert (sym q) tt
@@ -220,16 +220,6 @@ module _ (n : ℕ) (before : History) (p : ProviderId) (node : p.node ≡ n) (fi
       by (inl q) = subst (λ z. Stood w p z true ⊎ Dissolving p (put_r ∷ rs)) q (takes_here (subst (Taker p) (ap (λ z. stays n z (put_r ∷ rs)) (sym q) ∙ here) a))
       by (inr ne) = on ne (k.takes g (subst (Taker p) (put_there n n v h g i e rs (λ x y. ne y)) a))
 
-  joins : JoinWaits w
-  joins q there j =
-      let a = k.joins q ((handed_later t h (states h) st e bs).requests q there) j in (a.0, λ y f. not_yet a.0 a.1 y f y.takes_part refl)
-    where
-      not_yet : q.r ≡ q.p.join → ((y : Provider) → provider_of t q.p ≡ Some y → y.takes_part ≡ false) → (y : Provider) → provider_of w q.p ≡ Some y → (b : Bool) → y.takes_part ≡ b → y.takes_part ≡ false
-      not_yet number none y f false z = z
-      not_yet number none y f true z =
-          let b = (handed_kept t h (states h) st e bs).back q.p y f in
-          absurd (⊎_elim (λ (u : (b.0).takes_part ≡ true). let x : true ≡ false = sym u ∙ none b.0 b.1 in cc) (λ (u : Has q.p (beginners t h e)). handed_gone t h (states h) st e bs q there (subst (λ r. Has {A = ProviderId × ℕ} (q.p, r) (carried e)) (sym number) (join_carried q.p e (begins_by_join t h e q.p u)))) (b.4 z))
-
   -- who hears is recorded
   heard_of : ((r : Happened) → Has r put_heards → Has r final) → Has p (hearers t h (states h) e) → Heard_at n before p node final v h i e
   heard_of all a =
@@ -255,7 +245,7 @@ module _ (n : ℕ) (before : History) (p : ProviderId) (node : p.node ≡ n) (fi
       by (inr a) = starts a.1 (joiner a.1)
 
   pub inv_put : ((r : Happened) → Has r put_heards → Has r final) → Inv n before p node final v w (put_r ∷ now) lens' states'
-  inv_put all = record { stay = stay; waits = waits; takes = takes; joins = joins; law = (law all, k.law) }
+  inv_put all = record { stay = stay; waits = waits; takes = takes; joins = handed_joins t h (states h) st e bs k.joins; law = (law all, k.law) }
 
   pub inv_handed : (recs : List Happened) → reverse recs ≡ now → ((r : Happened) → Has r put_heards → Has r final) → Inv n before p node final v w (reverse ((recs ++ put_r ∷ []) ++ put_heards)) lens' states'
   inv_handed recs q all =

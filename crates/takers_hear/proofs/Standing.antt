@@ -49,6 +49,19 @@ use Rattle.takers_hear.proofs.Growing.{Unasked, asked_back, Over, over_more, dis
 abbrev pub JoinWaits : SessionState → Type 0
 JoinWaits t = (q : Request) → Has q t.requests → is_join q.proposal ≡ true → (q.r ≡ q.p.join) × ((y : Provider) → provider_of t q.p ≡ Some y → y.takes_part ≡ false)
 
+pub told_joins : (t : SessionState) (q : ProviderId) (r : ℕ) (y : Why) → JoinWaits t → JoinWaits (telling_taken t q r y)
+told_joins t q r y k z i j = let a = k z ((told_kept t q r y).1 z i) j in (a.0, λ x f. a.1 x ((fewer_told t q r y).providers z.p x f))
+
+pub handed_joins : (t : SessionState) (h : List ℕ) (before after : GroupState) (e : Entry) (bs : List (Option Filled)) → JoinWaits t → JoinWaits (handed_on t h before after e bs)
+handed_joins t h before after e bs k q there j =
+    let a = k q ((handed_later t h before after e bs).requests q there) j in (a.0, λ y f. not_yet a.0 a.1 y f y.takes_part refl)
+  where
+    not_yet : q.r ≡ q.p.join → ((y : Provider) → provider_of t q.p ≡ Some y → y.takes_part ≡ false) → (y : Provider) → provider_of (handed_on t h before after e bs) q.p ≡ Some y → (b : Bool) → y.takes_part ≡ b → y.takes_part ≡ false
+    not_yet number none y f false z = z
+    not_yet number none y f true z =
+        let b = (handed_kept t h before after e bs).back q.p y f in
+        absurd (⊎_elim (λ (u : (b.0).takes_part ≡ true). let x : true ≡ false = sym u ∙ none b.0 b.1 in cc) (λ (u : Has q.p (beginners t h e)). handed_gone t h before after e bs q there (subst (λ r. Has {A = ProviderId × ℕ} (q.p, r) (carried e)) (sym number) (join_carried q.p e (begins_by_join t h e q.p u)))) (b.4 z))
+
 dissolved_so : (y : Why) → is_dissolved y ≡ true → stay.is_dissolved y ≡ true
 dissolved_so (why.Collide a) e = absurd (cc)
 dissolved_so why.DuplicateInstance e = absurd (cc)
@@ -117,7 +130,7 @@ module _ (n : ℕ) (before : History) (p : ProviderId) (node : p.node ≡ n) (fi
     -- a provider is told
     pub inv_told : (t : SessionState) (now : List Happened) (q : ProviderId) (r : ℕ) (y : Why) → Inv v t now lens states → Inv v (telling_taken t q r y) (happened.Told q r y ∷ now) lens states
     inv_told t now q r y k =
-        record { stay = k.stay; waits = λ g a. waits g (k.waits g (asked_back g p told (earlier now before) tt a)); takes = λ g a. takes g (k.takes g a); joins = joins; law = (tt, k.law) }
+        record { stay = k.stay; waits = λ g a. waits g (k.waits g (asked_back g p told (earlier now before) tt a)); takes = λ g a. takes g (k.takes g a); joins = told_joins t q r y k.joins; law = (tt, k.law) }
       where
         told : Happened
         told = happened.Told q r y
@@ -150,6 +163,3 @@ module _ (n : ℕ) (before : History) (p : ProviderId) (node : p.node ≡ n) (fi
                 let own = asked_own t q d.0 d.1 in
                 let no_part : s.provider.takes_part ≡ false = (k.joins d.0 own.0 d.3).1 s.provider (ap (provider_of t) (own.1 ∙ same) ∙ s.found) in
                 absurd (let z : true ≡ false = sym s.part_is ∙ no_part in cc)
-
-        joins : JoinWaits (telling_taken t q r y)
-        joins z i j = let a = k.joins z ((told_kept t q r y).1 z i) j in (a.0, λ x f. a.1 x ((fewer_told t q r y).providers z.p x f))

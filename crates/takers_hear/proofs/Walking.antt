@@ -75,7 +75,7 @@ module _ (P : Core → Type 0) (k : Keeps P) where
   on_dissolved_if {s} g old b (Some x) p =
       on_either P k (x.takes_part && bytes_eq x.group g && not (is_in_base old x.p b)) (k.tells s x.p (number_of (outstanding s.sessions x.p)) Dissolved p) p
 
-  on_sides : {s : Core} (rows : List GroupRow) (old : ViewId) (bs : List Base) → P s → P (sides_dissolved s rows old bs)
+  pub on_sides : {s : Core} (rows : List GroupRow) (old : ViewId) (bs : List Base) → P s → P (sides_dissolved s rows old bs)
   unfolding sides_dissolved group_dissolved
   on_sides rows old bs p =
       on_fold P k (group_dissolved old bs) (λ t row h. on_fold P k (λ (u : Core) q. dissolved_if u row.name old (base_named bs row.name) (provider_of u.sessions q)) (λ u q j. on_dissolved_if row.name old (base_named bs row.name) (provider_of u.sessions q) j) (present (state_in row.list)) h) rows p
@@ -139,7 +139,7 @@ module _ (P : Core → Type 0) (k : Keeps P) where
 
   -- ---- what a row of views leaves
 
-  on_views_taken : (f : Answering) {s : Core} (w : ViewWork) → InView (views_at_work s.views) w → P s → P (views_taken f s w)
+  pub on_views_taken : (f : Answering) {s : Core} (w : ViewWork) → InView (views_at_work s.views) w → P s → P (views_taken f s w)
   unfolding views_taken len_of state_of list_of row_of
   on_views_taken f {s} w stays p =
       let t : Core = record s { views = w.views } in
