@@ -10,7 +10,7 @@ use Rattle.node_state.specs.declared.config.Config.{Config}
 use Rattle.node_state.specs.declared.happened.Happened.{Happened}
 use Rattle.node_state.specs.declared.happened.Happened.TheVariants as happened
 use Rattle.node_state.specs.declared.state.Core.{Core}
-use Rattle.node_state.specs.State.{with_sessions}
+use Rattle.node_state.specs.State.{row_of, list_of, state_of, len_of, with_sessions}
 use Rattle.node_state.specs.HandOn.{Answering}
 use Rattle.node_state.specs.HandOn.{Answering}
 use Rattle.node_state.specs.Step.{NodeEvent, first_view, first_members, own_rings, ring_record, at_work, started, stepped}
@@ -23,10 +23,16 @@ use Rattle.run_safety.proofs.Tests.{any_has}
 use Rattle.step_ties.specs.Tied.{Scene}
 use Rattle.step_ties.specs.Rows.{over, nothing_yet, Arises}
 use Rattle.step_ties.specs.Runs.{Reached}
-use Rattle.hearing.proofs.Listening.{reverse_has}
+use Rattle.hearing.proofs.Listening.{reverse_has, reached_attends}
+use Rattle.hearing.proofs.Listening as listening
+use Rattle.attending.proofs.OrderLaw.{Placed, reached_orderly}
 use Rattle.leaving.specs.Scenes.{Recounted, Nothing, AllStart, Starts, Stops, Steps, Notes}
 use Rattle.leaving.proofs.Law.{reached}
+use Rattle.takers_hear.specs.Takers.{Taker, Stood}
+use Rattle.takers_hear.proofs.Growing.{Over}
 use Rattle.takers_hear.proofs.Keeping.{Standing}
+use Rattle.takers_hear.proofs.Resting.{Known, KnownIf, WaitsIf, Rested}
+use Rattle.takers_hear.proofs.Law.{rested}
 use Rattle.left_behind.specs.Left.{ToldWereLeft, LeftAreTold, JustTheLeftBehindAreTold}
 use Rattle.left_behind.proofs.Reverse.{left_own, left_told}
 use Rattle.left_behind.proofs.Takers.{Stands, carries, stands_takes}
@@ -58,38 +64,63 @@ start_left c n j v before p l =
 -- ---- a step
 
 -- between two events the provider stands at its node as the records have it
-abbrev pub StandsFirst : Type 0
-StandsFirst =
-    (c : Config) (w : Scene) → Recounted c w → (n : ℕ) (s : Core) → w.cores n ≡ Some s → (p : ProviderId) (node : p.node ≡ n) → was_let_go p w.before ≡ false → (final : List Happened) → Standing n w.before p node final (at_work s)
+stands_first : (c : Config) (w : Scene) → Recounted c w → (n : ℕ) (s : Core) → w.cores n ≡ Some s → (p : ProviderId) (node : p.node ≡ n) → was_let_go p w.before ≡ false → (final : List Happened) → Standing n w.before p node final (at_work s)
+unfolding len_of state_of list_of row_of
+stands_first c w k n s up p node lives final =
+    record {
+      order = here.fit.order;
+      me = here.me;
+      inv = λ h. record {
+        stay = λ g. placed.stay g;
+        waits = λ g a. subst (λ m. Stood s.sessions p g false ⊎ Over m g p (records_of w.before)) node (known.waits g a);
+        takes = λ g a. inl (known.takes g (subst (λ m. Taker p (stays m g (records_of w.before))) (sym node) a));
+        joins = subst WaitsIf up (rest.joins n);
+        law = tt;
+      };
+    }
+  where
+    r : Reached c w
+    r = reached c w k
 
-module _ (starts : StandsFirst) where
-  step_left : (c : Config) (w : Scene) (n : ℕ) (f : Answering) (s : Core) (e : NodeEvent) (v : Event) → Recounted c w → w.cores n ≡ Some s → Arises w e → LeftAreTold (over v (stepped f s e)) w.before
-  step_left c w n f s e v k up arises p l =
-      let r : Reached c w = reached c w k in
-      let node : p.node ≡ n = left_own c w n f s e v r up arises p l in
-      left_told c w n f s e v r up arises p node (Stands c w n f s e v r up arises p node) (carries c w n f s e v r up arises p node) (starts c w k n s up p node l.lives (stepped f s e).records) (λ calm t fair more is q. stands_takes c w n f s e v r up arises p node t fair more is q) l
+    rest : Rested w
+    rest = rested c w k
 
-  -- ---- every scene
+    here : listening.Rested (w.incs n) w.before n s
+    here = (reached_attends c w r).up n s up
 
-  none_left_told : (event : Happening) (before : History) → ((p : ProviderId) (g : List ℕ) → is_left_behind p (stays p.node g (earlier event.records before)) ≡ false) → LeftAreTold event before
-  none_left_told event before none p l = absurd (let y : true ≡ false = sym l.left ∙ none p l.group in cc)
+    placed : Placed (records_of w.before) n s
+    placed = ((reached_orderly c w r).up n s up).0
 
-  left_are_told : (c : Config) (w : Scene) → Recounted c w → EachEvent LeftAreTold w.before
-  left_are_told c _ Nothing = tt
-  left_are_told c _ (AllStart fixed) =
-      let w : Scene = record (nothing_yet c) { before = record { event = None; records = [] } ∷ [] } in
-      let k = fold_begun (nodes_of c.nodes) w begun_first in
-      let none : NoneLeft (records_of (record { event = None; records = k.records } ∷ [])) = subst (λ h. NoneLeft (records_of h)) k.is (fold_none (nodes_of c.nodes) w none_at_first) in
-      subst (EachEvent LeftAreTold) (sym k.is) (none_left_told (record { event = None; records = k.records }) [] (λ p g. none_left (records_of (record { event = None; records = k.records } ∷ [])) none p p.node g), tt)
-  left_are_told c _ (Starts w n e k free real down none) = (start_left w.config n (w.incs n + 1) e w.before, left_are_told c w k)
-  left_are_told c _ (Stops w n e s k up none) = (λ p l. absurd (let z : false ≡ true = l.entered in cc), left_are_told c w k)
-  left_are_told c _ (Steps w n f s e v k up arises says is) = (step_left c w n f s e v k up arises, left_are_told c w k)
-  left_are_told c _ (Notes w e rs k notes down) =
-      (λ p l. absurd (none_entered p.node (reverse rs) (λ r h. note_mild r (notes r (reverse_has r rs h))) l.entered), left_are_told c w k)
+    known : Known p w.before s
+    known = subst (KnownIf p w.before) (ap w.cores node ∙ up) (rest.known p lives)
 
-  each_just : (h : History) → EachEvent ToldWereLeft h → EachEvent LeftAreTold h → EachEvent Dissolves h
-  each_just [] a b = tt
-  each_just (e ∷ h) a b = (λ p. (b.0 p, a.0 p), each_just h a.1 b.1)
+step_left : (c : Config) (w : Scene) (n : ℕ) (f : Answering) (s : Core) (e : NodeEvent) (v : Event) → Recounted c w → w.cores n ≡ Some s → Arises w e → LeftAreTold (over v (stepped f s e)) w.before
+step_left c w n f s e v k up arises p l =
+    let r : Reached c w = reached c w k in
+    let node : p.node ≡ n = left_own c w n f s e v r up arises p l in
+    left_told c w n f s e v r up arises p node (Stands c w n f s e v r up arises p node) (carries c w n f s e v r up arises p node) (stands_first c w k n s up p node l.lives (stepped f s e).records) (λ calm t fair more is q. stands_takes c w n f s e v r up arises p node t fair more is q) l
 
-  pub just_the_left : JustTheLeftBehindAreTold
-  just_the_left c w k = each_just w.before (told_were_left c w k) (left_are_told c w k)
+-- ---- every scene
+
+none_left_told : (event : Happening) (before : History) → ((p : ProviderId) (g : List ℕ) → is_left_behind p (stays p.node g (earlier event.records before)) ≡ false) → LeftAreTold event before
+none_left_told event before none p l = absurd (let y : true ≡ false = sym l.left ∙ none p l.group in cc)
+
+left_are_told : (c : Config) (w : Scene) → Recounted c w → EachEvent LeftAreTold w.before
+left_are_told c _ Nothing = tt
+left_are_told c _ (AllStart fixed) =
+    let w : Scene = record (nothing_yet c) { before = record { event = None; records = [] } ∷ [] } in
+    let k = fold_begun (nodes_of c.nodes) w begun_first in
+    let none : NoneLeft (records_of (record { event = None; records = k.records } ∷ [])) = subst (λ h. NoneLeft (records_of h)) k.is (fold_none (nodes_of c.nodes) w none_at_first) in
+    subst (EachEvent LeftAreTold) (sym k.is) (none_left_told (record { event = None; records = k.records }) [] (λ p g. none_left (records_of (record { event = None; records = k.records } ∷ [])) none p p.node g), tt)
+left_are_told c _ (Starts w n e k free real down none) = (start_left w.config n (w.incs n + 1) e w.before, left_are_told c w k)
+left_are_told c _ (Stops w n e s k up none) = (λ p l. absurd (let z : false ≡ true = l.entered in cc), left_are_told c w k)
+left_are_told c _ (Steps w n f s e v k up arises says is) = (step_left c w n f s e v k up arises, left_are_told c w k)
+left_are_told c _ (Notes w e rs k notes down) =
+    (λ p l. absurd (none_entered p.node (reverse rs) (λ r h. note_mild r (notes r (reverse_has r rs h))) l.entered), left_are_told c w k)
+
+each_just : (h : History) → EachEvent ToldWereLeft h → EachEvent LeftAreTold h → EachEvent Dissolves h
+each_just [] a b = tt
+each_just (e ∷ h) a b = (λ p. (b.0 p, a.0 p), each_just h a.1 b.1)
+
+pub just_the_left : JustTheLeftBehindAreTold
+just_the_left c w k = each_just w.before (told_were_left c w k) (left_are_told c w k)
