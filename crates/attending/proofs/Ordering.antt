@@ -143,7 +143,7 @@ pub order_pushed : (rs now : List Happened) (before : History) → ((r : Happene
 order_pushed [] now before aside k = k
 order_pushed (r ∷ rs) now before aside k = order_pushed rs (r ∷ now) before (λ q h. aside q (inr h)) (aside_order now before r (aside r (inl refl)), k)
 
-view_same : (a b : ViewId) → same_view a b ≡ true → a ≡ b
+pub view_same : (a b : ViewId) → same_view a b ≡ true → a ≡ b
 view_same a b z = grind (arith, nat_tests)
 
 -- the node that entered is in the view

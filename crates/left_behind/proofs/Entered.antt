@@ -3,7 +3,6 @@
 use Rattle.std.proofs.Common.{◌≡◌, ◌⊎◌, ℕ, List, [], ◌∷◌, Option, Some, None, Bool, true, false, refl, sym, ap, ◌∙◌, subst, inl, inr, ⊎_elim, arith, append-nil}
 use Rattle.std.specs.Prelude.{not, ◌&&◌, reverse, map, is_some, is_none, IsTrue}
 use Rattle.std.specs.List.{list_any}
-use Rattle.std.specs.Str.{bytes_eq}
 use Rattle.std.proofs.lemmas.Bool.{and_parts, eq-eqb, eqb-true}
 use Rattle.std.proofs.lemmas.Bool.Decides.{nat_tests}
 use Rattle.rsct_packet.specs.declared.ids.ViewId.{ViewId}
@@ -12,13 +11,13 @@ use Rattle.rsct_packet.specs.declared.ids.Member.{Member}
 use Rattle.rsct_packet.specs.Ids.{same_view}
 use Rattle.rsct_packet.specs.Providers.{among}
 use Rattle.rsct_packet.specs.Search.{Has}
-use Rattle.rsct_packet.proofs.HasLaws.{has_append, append_has_left, has_map, find_has}
+use Rattle.rsct_packet.proofs.HasLaws.{has_append, append_has_left, has_map}
 use Rattle.proposal_core.specs.declared.group_state.GroupState.{GroupState}
 use Rattle.proposal_core.specs.Fold.{present}
 use Rattle.proposal_core.specs.Lists.{state_in}
 use Rattle.client_callbacks.specs.declared.told.Why.TheVariants.{Dissolved}
 use Rattle.session_state.specs.declared.state.Provider.{Provider}
-use Rattle.session_state.specs.State.{provider_of, is_provider}
+use Rattle.session_state.specs.State.{provider_of}
 use Rattle.view_exchange.specs.declared.install.Install.{Install}
 use Rattle.view_exchange.specs.declared.install.Base.{Base}
 use Rattle.view_exchange.specs.Bases.{bases_of, base_named}
@@ -46,18 +45,18 @@ use Rattle.hearing.specs.Changes.{Inner, Does, entering}
 use Rattle.hearing.proofs.Attending.{pushed_reverse}
 use Rattle.hearing.proofs.Handing.{among_is}
 use Rattle.hearing.proofs.Listening.{reverse_has}
-use Rattle.hearing.proofs.Sessions.{found_is}
 use Rattle.hearing.proofs.Doing.{present_row, rows_stay}
 use Rattle.failed_rows.proofs.Living.{IsLive}
 use Rattle.attending.proofs.Doing.{Adds, sides_add, enters_add}
 use Rattle.attending.proofs.Law.{incs_of, begin_strict, step_fine}
-use Rattle.attending.proofs.Ordering.{Ordered, entering_recorded, base_recorded_at, ordered_does}
+use Rattle.attending.proofs.Ordering.{view_same, Ordered, entering_recorded, base_recorded_at, ordered_does}
 use Rattle.attending.proofs.OrderLaw.{reached_orderly}
-use Rattle.attending.proofs.Entering.{base_is, new_stay, entered_stays}
+use Rattle.attending.proofs.Entering.{named_has, base_is, new_stay, entered_stays}
 use Rattle.attending.proofs.Fresh.{fresh_now}
 use Rattle.attending.proofs.Living.{lively_now, failed_now}
 use Rattle.left_behind.proofs.Fair.{Fair, fair_grows}
-use Rattle.left_behind.proofs.Tellings.{Leaves, told_leaves, sides_back, live_found, Stayed, stays_or_told}
+use Rattle.takers_hear.proofs.Forward.{some_is, live_found, found_live}
+use Rattle.left_behind.proofs.Tellings.{Leaves, told_leaves, sides_back, Stayed, stays_or_told}
 use Rattle.left_behind.proofs.Stayed.{LastStay, mild_stays}
 
 -- ---- passing
@@ -93,21 +92,11 @@ abbrev pub TakesIn : ℕ → History → Core → ProviderId → Type 0
 TakesIn n before t p =
     (g : List ℕ) (first : ℕ) → (part p (stays n g (earlier (reverse t.records) before))).first ≡ Some first → (part p (stays n g (earlier (reverse t.records) before))).last ≡ None → was_let_go p before ≡ false → (x : Provider) × (provider_of t.sessions p ≡ Some x) × (x.takes_part ≡ true) × (x.group ≡ g)
 
-view_same : (a b : ViewId) → same_view a b ≡ true → a ≡ b
-view_same a b z = grind (arith, nat_tests)
-
 view_self : (a b : ViewId) → a ≡ b → same_view a b ≡ true
 view_self a b e = subst (λ z. same_view a z ≡ true) e (self a)
   where
     self : (a : ViewId) → same_view a a ≡ true
     self a = grind (arith, nat_tests)
-
-some_is : {a b : Provider} → Some a ≡ Some b → a ≡ b
-some_is e = cc
-
-named_has : (bs : List Base) (g : List ℕ) (b : Base) → base_named bs g ≡ Some b → Has b bs
-unfolding base_named
-named_has bs g b e = (find_has (λ (x : Base). bytes_eq x.name g) bs b e).0
 
 module _ (c : Config) (w : Scene) (n : ℕ) (f : Answering) (s : Core) (e : NodeEvent) (v : Event) (reached : Reached c w) (up : w.cores n ≡ Some s) (arises : Arises w e) (t : Core) (i : Install) (does : Does (at_work s) t) (fair : Fair (at_work s) t) (same : t.views.view ≡ s.views.view) (lt : Lt t.views.view i.view) (rest : Fair (entering t i) (stepped f s e)) where
   abbrev d : Core
@@ -314,7 +303,7 @@ module _ (c : Config) (w : Scene) (n : ℕ) (f : Answering) (s : Core) (e : Node
       found = taker.1
 
       live : IsLive inside.sessions p
-      live = (x, (find_has (is_provider p) t.sessions.providers x found).0, found_is t.sessions p x found)
+      live = found_live t.sessions p x found
 
       own : (p.node ≡ n) × (p.inc ≡ w.incs n)
       own = let z = o.strict.hearing.at.own p x found in (z.0, z.1)

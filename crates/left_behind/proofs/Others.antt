@@ -1,5 +1,5 @@
 -- In an event of no step, and in a step that enters no view, nobody is left behind.
-use Rattle.std.proofs.Common.{◌≡◌, ◌≢◌, ℕ, ◌+◌, List, [], ◌∷◌, ◌++◌, Option, Some, None, true, false, refl, sym, ap, ◌∙◌, subst, ⊎_elim, append_assoc}
+use Rattle.std.proofs.Common.{◌≡◌, ◌≢◌, ℕ, ◌+◌, List, [], ◌∷◌, ◌++◌, Option, Some, None, true, false, refl, sym, ap, ◌∙◌, subst, ⊎_elim}
 use Rattle.std.specs.Prelude.{fold, reverse}
 use Rattle.std.specs.List.{list_any}
 use Rattle.std.proofs.lemmas.Bool.{cases_eq}
@@ -10,14 +10,14 @@ use Rattle.node_state.specs.declared.happened.Happened.{Happened}
 use Rattle.node_state.specs.declared.happened.Happened.TheVariants as happened
 use Rattle.node_state.specs.declared.state.Core.{Core}
 use Rattle.node_state.specs.Step.{started}
-use Rattle.run_safety.specs.Past.{History, records_of}
+use Rattle.run_safety.specs.Past.{records_of}
 use Rattle.run_safety.specs.SafeHeard.{is_left_behind, enters}
 use Rattle.run_safety.specs.Stays.{stays}
 use Rattle.run_safety.proofs.Tests.{any_has}
 use Rattle.step_ties.specs.Tied.{Scene}
-use Rattle.step_ties.specs.Rows.{with_records, starts_too}
+use Rattle.step_ties.specs.Rows.{starts_too}
 use Rattle.step_ties.specs.Runs.{IsNote}
-use Rattle.attending.proofs.OrderLaw.{started_stays, others_stay}
+use Rattle.attending.proofs.OrderLaw.{with_is, started_stays, others_stay}
 use Rattle.left_behind.proofs.Walk.{Mild}
 
 -- no view is entered
@@ -60,10 +60,6 @@ note_mild (happened.Noted n c v i told) a = absurd a
 -- in the records nobody is left behind, at any node
 pub NoneLeft : List Happened → Type 0
 NoneLeft rs = (p : ProviderId) (m : ℕ) (g : List ℕ) → is_left_behind p (stays m g rs) ≡ false
-
-with_is : (before : History) (rs : List Happened) → records_of (with_records before rs) ≡ reverse rs ++ records_of before
-with_is [] rs = refl
-with_is (h ∷ before) rs = append_assoc (reverse rs) h.records (records_of before)
 
 start_none : (c : Config) (n j : ℕ) (xs : List Happened) → NoneLeft xs → NoneLeft (reverse (started c n j).records ++ xs)
 unfolding NoneLeft

@@ -1,11 +1,9 @@
 -- Up to where a step enters a view, whoever takes part by the records, and was not let go, is a provider of the node that takes part.
-use Rattle.std.proofs.Common.{◌≡◌, ◌⊎◌, ℕ, List, [], ◌∷◌, ◌++◌, Some, Bool, true, false, refl, sym, ◌∙◌, subst, inl, inr}
-use Rattle.std.specs.Prelude.{◌&&◌, ◌||◌, reverse}
-use Rattle.std.specs.List.{list_any}
+use Rattle.std.proofs.Common.{◌≡◌, ◌⊎◌, ℕ, List, ◌++◌, Some, true, false, sym, ◌∙◌, subst, inl, inr}
+use Rattle.std.specs.Prelude.{reverse}
 use Rattle.rsct_packet.specs.declared.ids.ProviderId.{ProviderId}
 use Rattle.rsct_packet.specs.Search.{Has}
 use Rattle.rsct_packet.proofs.HasLaws.{has_append}
-use Rattle.client_callbacks.specs.declared.told.Why.{Why}
 use Rattle.session_state.specs.declared.state.Provider.{Provider}
 use Rattle.session_state.specs.State.{provider_of}
 use Rattle.node_state.specs.declared.config.Config.{Config}
@@ -15,47 +13,23 @@ use Rattle.node_state.specs.declared.state.Core.{Core}
 use Rattle.node_state.specs.HandOn.{Answering}
 use Rattle.node_state.specs.Step.{NodeEvent, at_work, stepped}
 use Rattle.world_model.specs.declared.event.Event.{Event}
-use Rattle.run_safety.specs.Past.{History, earlier, records_of, inc_now}
-use Rattle.run_safety.specs.Stays.{is_dissolved, ends, lets_go, was_let_go}
-use Rattle.run_safety.proofs.Tests.{same_self}
+use Rattle.run_safety.specs.Past.{earlier, records_of}
 use Rattle.step_ties.specs.Tied.{Scene}
 use Rattle.step_ties.specs.Rows.{ended, Arises}
 use Rattle.step_ties.specs.Runs.{Reached, Steps}
 use Rattle.node_groups.specs.Places.{InNameOrder}
 use Rattle.hearing.proofs.Listening.{reverse_has}
-use Rattle.leaving.proofs.Events.{any_one, same_dissolved}
+use Rattle.leaving.proofs.Events.{same_dissolved}
 use Rattle.seen_runs.specs.Seen.{Seen}
 use Rattle.seen_runs.proofs.Law.{traces_seen}
 use Rattle.takers_hear.specs.Takers.{Stood, Dissolving}
 use Rattle.takers_hear.proofs.Walk as walk
 use Rattle.takers_hear.proofs.Walking as walking
 use Rattle.takers_hear.proofs.Keeping.{Standing, standing_keeps}
+use Rattle.takers_hear.proofs.Resting.{dissolving_gone}
 use Rattle.left_behind.proofs.Fair.{Fair}
 use Rattle.left_behind.proofs.Moving.{Carries}
 use Rattle.left_behind.proofs.Entered.{TakesIn}
-
--- who was told was let go
-told_let_go : (p : ProviderId) (r : ℕ) (y : Why) → is_dissolved y ≡ true → (h : History) → Has (happened.Told p r y) (records_of h) → was_let_go p h ≡ true
-told_let_go p r y d [] h = absurd h
-told_let_go p r y d (e ∷ before) h = by (has_append (happened.Told p r y) e.records (records_of before) h) (told_let_go p r y d before)
-  where
-    inc : ℕ
-    inc = inc_now p.node (records_of before)
-
-    first : (a b c : Bool) → a ≡ true → ((a || b) || c) ≡ true
-    first true b c e = refl
-    first false b c e = absurd (cc)
-
-    second : (a b : Bool) → b ≡ true → (a || b) ≡ true
-    second true b e = refl
-    second false b e = e
-
-    it : ends p inc (happened.Told p r y) ≡ true
-    it = λ i. same_self p i && d i
-
-    by : Has (happened.Told p r y) e.records ⊎ Has (happened.Told p r y) (records_of before) → (Has (happened.Told p r y) (records_of before) → was_let_go p before ≡ true) → (lets_go p e before || was_let_go p before) ≡ true
-    by (inl i) rest = first (list_any (ends p inc) e.records) _ (was_let_go p before) (any_one (ends p inc) (happened.Told p r y) e.records i it)
-    by (inr i) rest = second (lets_go p e before) (was_let_go p before) (rest i)
 
 module _ (c : Config) (w : Scene) (n : ℕ) (f : Answering) (s : Core) (e : NodeEvent) (v : Event) (reached : Reached c w) (up : w.cores n ≡ Some s) (arises : Arises w e) (p : ProviderId) (node : p.node ≡ n) where
   abbrev d : Core
@@ -89,7 +63,7 @@ module _ (c : Config) (w : Scene) (n : ℕ) (f : Answering) (s : Core) (e : Node
 
           at : Has it (reverse t.records) ⊎ Has it (records_of w.before) → ⊥
           at (inl i) = let x = fair.mild it (subst (Has it) fair.is (reverse_has it t.records i)) in let y : true ≡ false = sym (same_dissolved z.why z.is) ∙ x in cc
-          at (inr i) = let y : true ≡ false = sym (told_let_go p z.number z.why z.is w.before i) ∙ lives in cc
+          at (inr i) = dissolving_gone p w.before (record { number = z.number; why = z.why; told = i; is = z.is }) lives
 
       by : Stood t.sessions p g true ⊎ Dissolving p (earlier (reverse t.records) w.before) → (x : Provider) × (provider_of t.sessions p ≡ Some x) × (x.takes_part ≡ true) × (x.group ≡ g)
       by (inl x) = (x.provider, x.found, x.part_is, x.group)

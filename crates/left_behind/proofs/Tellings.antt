@@ -1,17 +1,17 @@
 -- As a view is entered, just those are told DISSOLVED who took part and do not live in the base.
 use Rattle.std.proofs.Common.{◌≡◌, ◌⊎◌, ℕ, List, [], ◌∷◌, ◌++◌, Option, Some, None, Bool, true, false, refl, sym, ap, ◌∙◌, subst, inl, inr, ⊎_elim}
-use Rattle.std.specs.Prelude.{not, ◌&&◌, fold, find, is_none}
+use Rattle.std.specs.Prelude.{not, ◌&&◌, fold}
 use Rattle.std.specs.Str.{bytes_eq}
 use Rattle.rsct_packet.specs.declared.ids.ProviderId.{ProviderId}
 use Rattle.rsct_packet.specs.declared.ids.ViewId.{ViewId}
 use Rattle.rsct_packet.specs.Search.{Has}
-use Rattle.rsct_packet.proofs.HasLaws.{has_append, append_has_left, append_has_right, find_none}
+use Rattle.rsct_packet.proofs.HasLaws.{has_append, append_has_left, append_has_right}
 use Rattle.proposal_core.specs.Fold.{present}
 use Rattle.proposal_core.specs.Lists.{state_in}
 use Rattle.client_callbacks.specs.declared.told.Why.TheVariants.{Dissolved}
 use Rattle.session_state.specs.declared.state.Provider.{Provider}
 use Rattle.session_state.specs.declared.state.SessionState.{SessionState}
-use Rattle.session_state.specs.State.{provider_of, is_provider, outstanding}
+use Rattle.session_state.specs.State.{provider_of, outstanding}
 use Rattle.session_state.specs.HandOn.{telling_taken}
 use Rattle.view_exchange.specs.declared.install.Base.{Base}
 use Rattle.view_exchange.specs.Bases.{base_named}
@@ -22,7 +22,6 @@ use Rattle.node_state.specs.declared.state.Core.{Core}
 use Rattle.node_state.specs.State.{recorded, with_sessions}
 use Rattle.node_state.specs.Applying.{is_in_base, number_of, dissolved, dissolved_if, group_dissolved, sides_dissolved}
 use Rattle.node_groups.proofs.NameOrder.{text_same}
-use Rattle.step_ties.proofs.SessionLaws.{provider_self}
 use Rattle.hearing.proofs.Sessions.{found_is, fewer_told}
 use Rattle.failed_rows.proofs.Living.{IsLive, told_lives}
 
@@ -119,15 +118,6 @@ module _ (root : Core) (old : ViewId) (bs : List Base) (rows : List GroupRow) wh
   sides_send = all_told.sends
 
 -- ---- who is there stays, or is told
-
--- who is a provider is found
-pub live_found : (t : SessionState) (p : ProviderId) → IsLive t p → (x : Provider) × (provider_of t p ≡ Some x)
-unfolding provider_of
-live_found t p k = by (find (is_provider p) t.providers) refl
-  where
-    by : (o : Option Provider) → find (is_provider p) t.providers ≡ o → (x : Provider) × (find (is_provider p) t.providers ≡ Some x)
-    by (Some x) e = (x, e)
-    by None e = absurd (find_none (is_provider p) t.providers k.0 (ap is_none e) k.1 (ap (λ z. is_provider p (record (k.0) { p = z })) k.2 ∙ provider_self p))
 
 -- it is there, or was told
 abbrev pub Stayed : ProviderId → Core → Type 0
