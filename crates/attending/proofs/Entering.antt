@@ -86,7 +86,7 @@ bases_stay n v g before (b ∷ bs) now x older o q =
         rest (record x { base = b.state }) older o.1 (at true e ∙ ap (with_base b.state) q) ∙ ap (λ z. with_state z (record x { base = b.state }) ∷ older) none
     by false e rest = rest x older o.1 (at false e ∙ q)
 
-named_has : (bs : List Base) (g : List ℕ) (b : Base) → base_named bs g ≡ Some b → Has b bs
+pub named_has : (bs : List Base) (g : List ℕ) (b : Base) → base_named bs g ≡ Some b → Has b bs
 unfolding base_named
 named_has bs g b e = (find_has (λ (x : Base). bytes_eq x.name g) bs b e).0
 

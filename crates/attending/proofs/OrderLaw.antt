@@ -169,7 +169,7 @@ orderly_starts c cores before after n j is law k =
         let z = k.up m d q in
         (placed_on (records_of before) (records_of after) m d (λ g. ap (stays m g) is ∙ others_stay c n j m g (records_of before) ne) (λ p u g node. ap (heard_count p u g) is ∙ started_count c n j p u g (records_of before)) z.1 z.0, z.1)
 
-with_is : (before : History) (rs : List Happened) → records_of (with_records before rs) ≡ reverse rs ++ records_of before
+pub with_is : (before : History) (rs : List Happened) → records_of (with_records before rs) ≡ reverse rs ++ records_of before
 with_is [] rs = refl
 with_is (h ∷ before) rs = append_assoc (reverse rs) h.records (records_of before)
 
