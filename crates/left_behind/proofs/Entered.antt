@@ -120,7 +120,7 @@ module _ (c : Config) (w : Scene) (n : ℕ) (f : Answering) (s : Core) (e : Node
   turned : (r : Happened) → Has r d.records → Has r now
   turned r h = subst (Has r) (append-nil now) (has_turned r d.records [] (append_has_left r d.records [] h))
 
-  o : Ordered n (w.incs n) w.before s.views.view s.sessions.last_request t
+  pub o : Ordered n (w.incs n) w.before s.views.view s.sessions.last_request t
   unfolding len_of state_of list_of row_of
   o =
       ordered_does n (w.incs n) w.before s.views.view s.sessions.last_request (at_work s) t does d.records before_it (step_fine c w n s reached up f e v arises) (lively_now c w n f s e v reached up arises) (fresh_now c w reached n s up) (record {
@@ -171,7 +171,7 @@ module _ (c : Config) (w : Scene) (n : ℕ) (f : Answering) (s : Core) (e : Node
       by j = let z : true ≡ false = fair.mild (happened.Told p r Dissolved) j in cc
 
   -- who is told leaves
-  told_left : (p : ProviderId) (r : ℕ) → Has (happened.Told p r Dissolved) now → Leaves inside.sessions t.views.view bs p
+  pub told_left : (p : ProviderId) (r : ℕ) → Has (happened.Told p r Dissolved) now → Leaves inside.sessions t.views.view bs p
   unfolding view_entered recorded_all base_record views_entered
   told_left p r h =
       ⊎_elim (λ (a : Has it inside.records). absurd (inner (has_append it t.records (happened.In t.views.me i.view i.members ∷ map (base_record inside) bs) a))) (λ (a : Leaves inside.sessions t.views.view bs p). a) (told_leaves inside t.views.view bs (held_rows t) p r (⊎_elim (λ (a : Has it (entering t i).records). a) (λ (a : Has it rest.more). absurd (mild a)) (has_append it (entering t i).records rest.more (subst (Has it) rest.is (reverse_has it d.records h)))))
@@ -193,7 +193,7 @@ module _ (c : Config) (w : Scene) (n : ℕ) (f : Answering) (s : Core) (e : Node
   -- ---- told, so left behind
 
   -- who does not live in the base of its group does not pass
-  not_passing : (p : ProviderId) (g : List ℕ) → p.node ≡ n → p.inc ≡ w.incs n → is_in_base t.views.view p (base_named bs g) ≡ false → (among (present (base_is (base_named bs g))) p && not (among (base_is (base_named bs g)).failed p)) ≡ false
+  pub not_passing : (p : ProviderId) (g : List ℕ) → p.node ≡ n → p.inc ≡ w.incs n → is_in_base t.views.view p (base_named bs g) ≡ false → (among (present (base_is (base_named bs g))) p && not (among (base_is (base_named bs g)).failed p)) ≡ false
   unfolding is_in_base
   not_passing p g node inc out = by (base_named bs g) refl out
     where

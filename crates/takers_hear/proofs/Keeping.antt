@@ -61,7 +61,7 @@ fine_inert (happened.Noted n c v i told) a = tt
 fine_inert (happened.Refused n c fault) a = absurd a
 fine_inert (happened.Shown n line) a = tt
 
-seen_back : (zs : List Happened) (r : Happened) (rs : List Happened) → Seen (zs ++ r ∷ rs) → SeenAt rs r
+pub seen_back : (zs : List Happened) (r : Happened) (rs : List Happened) → Seen (zs ++ r ∷ rs) → SeenAt rs r
 seen_back [] r rs k = k.0
 seen_back (z ∷ zs) r rs k = seen_back zs r rs k.1
 

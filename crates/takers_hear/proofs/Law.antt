@@ -48,7 +48,7 @@ use Rattle.takers_hear.proofs.Stepping.{step_rested}
 -- ---- records of no step
 
 -- nothing is put, and no join is asked for
-abbrev Calm : Happened → Type 0
+abbrev pub Calm : Happened → Type 0
 Calm (happened.Put n v g i e) = ⊥
 Calm (happened.Asked p r g x) = ⊥
 Calm _ = Unit {0}
@@ -87,11 +87,11 @@ calm_within : (x : Happening) (rs : List Happened) (h : History) → ((r : Happe
 calm_within x [] h all = tt
 calm_within x (r ∷ rs) h all = (calm_hears x rs h r (all r (inl refl)), calm_within x rs h (λ q i. all q (inr i)))
 
-start_calm : (c : Config) (n j : ℕ) (r : Happened) → Has r (started c n j).records → Calm r
+pub start_calm : (c : Config) (n j : ℕ) (r : Happened) → Has r (started c n j).records → Calm r
 unfolding ring_record
 start_calm c n j r i = start_each Calm (λ n j. tt) (λ n x. tt) (λ n v ms. tt) c n j r i
 
-note_calm : (r : Happened) → IsNote r → Calm r
+pub note_calm : (r : Happened) → IsNote r → Calm r
 note_calm (happened.Up n j) s = absurd s
 note_calm (happened.Down n) s = absurd s
 note_calm (happened.Ring n j i ms b) s = absurd s
@@ -224,10 +224,10 @@ note_rested w v rs notes k =
 
 -- ---- every node starts, in one event
 
-record Begins (w : Scene) : Type 0 where
-  records : List Happened
-  is : w.before ≡ record { event = None; records = records } ∷ []
-  calm : (r : Happened) → Has r records → Calm r
+pub record Begins (w : Scene) : Type 0 where
+  pub records : List Happened
+  pub is : w.before ≡ record { event = None; records = records } ∷ []
+  pub calm : (r : Happened) → Has r records → Calm r
 
 too_begins : (w : Scene) (n : ℕ) (o : Option Core) → Begins w → Begins (starts_too w n o)
 too_begins w n (Some s) k = k
@@ -241,7 +241,7 @@ too_begins w n None k =
     by r (inl i) = start_calm w.config n (w.incs n + 1) r (reverse_has r rs i)
     by r (inr i) = k.calm r i
 
-fold_begins : (ns : List ℕ) (w : Scene) → Begins w → Begins (fold (λ (w : Scene) n. starts_too w n (w.cores n)) w ns)
+pub fold_begins : (ns : List ℕ) (w : Scene) → Begins w → Begins (fold (λ (w : Scene) n. starts_too w n (w.cores n)) w ns)
 fold_begins [] w k = k
 fold_begins (n ∷ ns) w k = fold_begins ns (starts_too w n (w.cores n)) (too_begins w n (w.cores n) k)
 

@@ -41,7 +41,7 @@ use Rattle.takers_hear.proofs.Forward.{begins_group, stood_takes, stood_begins, 
 use Rattle.takers_hear.proofs.Growing.{asked_back, Over, over_more, dissolving_more, Inert}
 use Rattle.takers_hear.proofs.Standing.{handed_joins, Heard_at, Law, Inv, inv_records}
 
-join_named : (p : ProviderId) (e : Entry) (y : Proposal) → proposal_of e ≡ Some y → is_join_of p e ≡ true → among (joins_of y) p ≡ true
+pub join_named : (p : ProviderId) (e : Entry) (y : Proposal) → proposal_of e ≡ Some y → is_join_of p e ≡ true → among (joins_of y) p ≡ true
 join_named p (Once x) y q j = ap (λ z. among (joins_of z) p) (some_was q) ∙ j
   where
     some_was : {a b : Proposal} → Some a ≡ Some b → b ≡ a

@@ -66,7 +66,7 @@ use Rattle.takers_hear.proofs.Calls.{CallRecord, Leaves, Made, call_made}
 use Rattle.takers_hear.proofs.Adding.{Walked, Added, added_keeps}
 use Rattle.takers_hear.proofs.Resting.{Known, KnownIf, WaitsIf, Rested, or_false, spared_before, dissolving_gone, over_all, known_on}
 
-has_back : (r : Happened) (xs : List Happened) → Has r xs → Has r (reverse xs)
+pub has_back : (r : Happened) (xs : List Happened) → Has r xs → Has r (reverse xs)
 has_back r xs i = subst (Has r) (append-nil (reverse xs)) (has_turned r xs [] (subst (Has r) (sym (append-nil xs)) i))
 
 walked_taken : (n : ℕ) (r : Happened) → Walked n r → is_refused r ≡ false
@@ -156,7 +156,7 @@ module _ (c : Config) (w : Scene) (n : ℕ) (f : Answering) (s : Core) (e : Node
   next : Reached c (ended w n v t)
   next = runs.Steps w n f s e v reached up arises
 
-  seen : Seen (earlier (reverse t.records) w.before)
+  pub seen : Seen (earlier (reverse t.records) w.before)
   seen = traces_seen c (ended w n v t) next
 
   turn : InTurn s.views.view (records_of w.before) s.sessions
@@ -177,11 +177,11 @@ module _ (c : Config) (w : Scene) (n : ℕ) (f : Answering) (s : Core) (e : Node
       let m = made d in
       record { order = subst InNameOrder (sym m.groups) here.0.order; me = ap (λ (z : Views). z.me) m.views ∙ here.0.stands.me; joins = m.joins waiting; all = λ r i. inl i }
 
-  added : Added n root.records t
+  pub added : Added n root.records t
   added = on_stepped (Added n root.records) (added_keeps n root.records) f s e (added_root e)
 
   -- what the call records, if there is one
-  root_said : (e : NodeEvent) → (r : Happened) → Has r (root_of (at_work s) e).records → (u : SessionState) × CallRecord u r
+  pub root_said : (e : NodeEvent) → (r : Happened) → Has r (root_of (at_work s) e).records → (u : SessionState) × CallRecord u r
   root_said Ticks r i = absurd i
   root_said (Asks mask) r i = absurd i
   root_said (Given q) r i = absurd i
