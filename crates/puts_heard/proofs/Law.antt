@@ -1,21 +1,19 @@
 -- In each scene whose history names calls, and calls alone, as calls: each put is heard by whoever takes part.
-use Rattle.std.proofs.Common.{◌≡◌, ◌⊎◌, ℕ, ◌+◌, List, [], ◌∷◌, ◌++◌, Option, Some, None, Bool, true, false, refl, sym, ap, ◌∙◌, subst, inl, inr, append_assoc}
+use Rattle.std.proofs.Common.{◌≡◌, ◌⊎◌, ℕ, ◌+◌, List, [], ◌∷◌, ◌++◌, Some, None, false, refl, sym, ◌∙◌, subst, inl, inr, append_assoc}
 use Rattle.std.specs.Prelude.{reverse, IsTrue}
 use Rattle.rsct_packet.specs.declared.ids.ProviderId.{ProviderId}
-use Rattle.rsct_packet.specs.declared.ids.ViewId.{ViewId}
 use Rattle.rsct_packet.specs.Mask.{nodes_of}
 use Rattle.rsct_packet.specs.Search.{Has}
 use Rattle.rsct_packet.proofs.HasLaws.{append_has_right}
-use Rattle.group_entry.specs.declared.entry.Entry.{Entry}
 use Rattle.node_state.specs.declared.config.Config.{Config}
 use Rattle.node_state.specs.declared.happened.Happened.{Happened}
 use Rattle.node_state.specs.declared.happened.Happened.TheVariants as happened
 use Rattle.node_state.specs.declared.state.Core.{Core}
 use Rattle.node_state.specs.HandOn.{Answering}
-use Rattle.node_state.specs.Step.{NodeEvent, Ticks, Asks, Given, Calls, Garbage, at_work, started, stepped}
+use Rattle.node_state.specs.Step.{NodeEvent, at_work, started, stepped}
 use Rattle.world_model.specs.declared.event.Event.{Event}
 use Rattle.world_model.specs.Run.{Happening}
-use Rattle.run_safety.specs.Past.{History, Within, earlier, records_of}
+use Rattle.run_safety.specs.Past.{History, Within, earlier}
 use Rattle.run_safety.specs.Stays.{stays, part, takes_part, was_let_go}
 use Rattle.step_ties.specs.Tied.{Scene}
 use Rattle.step_ties.specs.Rows.{over, nothing_yet, Arises}
@@ -23,7 +21,7 @@ use Rattle.step_ties.specs.Runs.{Reached}
 use Rattle.failed_rows.specs.Scenes.{Names}
 use Rattle.failed_rows.proofs.Facts.{reverse_has}
 use Rattle.failed_rows.proofs.Origin.{root_of}
-use Rattle.leaving.specs.Scenes.{IsCall, Recounted, Nothing, AllStart, Starts, Stops, Steps, Notes}
+use Rattle.leaving.specs.Scenes.{IsCall, Nothing, AllStart, Starts, Stops, Steps, Notes}
 use Rattle.leaving.proofs.Keeping.{Clean}
 use Rattle.leaving.proofs.Law.{reached, clean}
 use Rattle.takers_hear.specs.Takers.{Dissolving}
@@ -31,7 +29,7 @@ use Rattle.takers_hear.proofs.Standing.{Heard_at, Law}
 use Rattle.takers_hear.proofs.Adding.{Walked}
 use Rattle.takers_hear.proofs.Resting.{Rested}
 use Rattle.takers_hear.proofs.Stepping as stepping
-use Rattle.takers_hear.proofs.Law.{Calm, start_calm, note_calm, Begins, fold_begins, rested}
+use Rattle.takers_hear.proofs.Law.{Calm, start_calm, note_calm, fold_begins, rested}
 use Rattle.puts_heard.specs.Heard.{leaves, AllHearUnlessLeaving, EachIsHeard, EachPutIsHeard}
 use Rattle.puts_heard.proofs.Told.{never}
 

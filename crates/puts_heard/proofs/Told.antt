@@ -7,8 +7,8 @@ use Rattle.std.proofs.lemmas.List.{reverse-append}
 use Rattle.rsct_packet.specs.declared.ids.ProviderId.{ProviderId}
 use Rattle.rsct_packet.specs.declared.ids.ViewId.{ViewId}
 use Rattle.rsct_packet.specs.Providers.{among}
-use Rattle.rsct_packet.specs.Search.{Has, place_where}
-use Rattle.rsct_packet.proofs.HasLaws.{has_append, append_has_left, append_has_right}
+use Rattle.rsct_packet.specs.Search.{Has}
+use Rattle.rsct_packet.proofs.HasLaws.{has_append, append_has_right}
 use Rattle.group_entry.specs.declared.entry.Entry.{Entry}
 use Rattle.group_entry.specs.declared.proposal.Proposal.{Proposal}
 use Rattle.proposal_core.specs.declared.group_state.GroupState.{GroupState}
@@ -28,7 +28,7 @@ use Rattle.node_state.specs.HandOn.{Answering}
 use Rattle.node_state.specs.Applying.{level_set, view_entered, is_in_base}
 use Rattle.node_state.specs.Step.{NodeEvent, Ticks, Asks, Given, Calls, Garbage, at_work, stepped}
 use Rattle.world_model.specs.declared.event.Event.{Event}
-use Rattle.run_safety.specs.Past.{History, Within, earlier, records_of}
+use Rattle.run_safety.specs.Past.{earlier, records_of}
 use Rattle.run_safety.specs.Requests.{IsJoin}
 use Rattle.run_safety.specs.Stays.{Stay, stays, is_join_of, is_dissolved, passes, first_in, last_in, part, from_first, up_to_last, takes_part, was_let_go}
 use Rattle.run_safety.specs.ViewOrder.{Lt}
@@ -45,11 +45,10 @@ use Rattle.failed_rows.proofs.Facts.{reverse_has}
 use Rattle.failed_rows.proofs.Origin.{root_of}
 use Rattle.leaving.specs.Scenes.{IsCall}
 use Rattle.leaving.proofs.Keeping.{Clean}
-use Rattle.takers_hear.specs.Takers.{Taker, Stood, WasPut, AskedJoin, Dissolving}
+use Rattle.takers_hear.specs.Takers.{Taker, Stood, AskedJoin, Dissolving}
 use Rattle.takers_hear.proofs.Firsts.{taker_passed}
 use Rattle.takers_hear.proofs.Forward.{some_is}
 use Rattle.takers_hear.proofs.Growing.{Over}
-use Rattle.takers_hear.proofs.Standing.{Law}
 use Rattle.takers_hear.proofs.Putting.{join_named}
 use Rattle.takers_hear.proofs.Keeping.{Inv_at, seen_back}
 use Rattle.takers_hear.proofs.Adding.{Walked}

@@ -23,6 +23,7 @@ AllHearUnlessLeaving event now before (Put n v g i e) =
     (p : ProviderId) → p.node ≡ n → IsTrue (takes_part i (part p (stays n g (Put n v g i e ∷ earlier now before)))) → was_let_go p before ≡ false → leaves p event before ≡ false → (ms : List ProviderId) × (value : List ℕ) × Has (Heard p v g i e ms value) event.records
 AllHearUnlessLeaving event now before _ = Unit {0}
 
+-- at each record of a history
 abbrev pub EachIsHeard : History → Type 0
 EachIsHeard h = EachEvent (λ event before. Within (AllHearUnlessLeaving event) event.records before) h
 

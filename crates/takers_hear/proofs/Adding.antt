@@ -1,5 +1,5 @@
 -- What a step records since its call: puts of its own node, and nothing that is started, stopped, asked or refused.
-use Rattle.std.proofs.Common.{◌≡◌, ◌⊎◌, ℕ, List, [], ◌∷◌, ◌++◌, Option, refl, sym, ap, ◌∙◌, subst, inl, inr, ⊎_elim}
+use Rattle.std.proofs.Common.{◌≡◌, ◌⊎◌, ℕ, List, [], ◌∷◌, ◌++◌, Option, sym, ◌∙◌, subst, inl, inr}
 use Rattle.std.specs.Prelude.{map, flat_map}
 use Rattle.rsct_packet.specs.declared.ids.ProviderId.{ProviderId}
 use Rattle.rsct_packet.specs.Search.{Has}

@@ -1,16 +1,16 @@
 -- What a call makes of providers and requests: who is there stays, but for a goodbye; and whose join is asked for waits.
 use Rattle.std.proofs.Common.{◌≡◌, ◌⊎◌, ◌≤◌, ℕ, ◌+◌, List, [], ◌∷◌, ◌++◌, Option, Some, None, Bool, true, false, refl, sym, ap, ◌∙◌, subst, inl, inr, ⊎_elim, arith}
-use Rattle.std.specs.Prelude.{not, find, filter, fold, is_some, if◌then◌else◌, Result, Ok, Err}
+use Rattle.std.specs.Prelude.{not, find, filter, fold, if◌then◌else◌, Result, Ok, Err}
 use Rattle.std.specs.List.{last_or}
 use Rattle.rsct_packet.specs.declared.ids.ProviderId.{ProviderId}
-use Rattle.rsct_packet.specs.Providers.{among, same_provider}
+use Rattle.rsct_packet.specs.Providers.{among}
 use Rattle.rsct_packet.specs.Search.{Has}
-use Rattle.rsct_packet.proofs.HasLaws.{has_append, has_filter, append_has_left, append_has_right, find_has}
+use Rattle.rsct_packet.proofs.HasLaws.{has_append, has_filter, append_has_right, find_has}
 use Rattle.group_attr.specs.declared.attrs.Attrs.{Attrs}
 use Rattle.group_attr.specs.declared.attrs.Phases.{Phases}
 use Rattle.group_attr.specs.declared.attrs.Phases.TheVariants.{One}
 use Rattle.group_entry.specs.declared.proposal.Proposal.{Proposal}
-use Rattle.group_entry.specs.declared.proposal.Proposal.TheVariants.{Join, Leave, Expel, State, Message, Attributes}
+use Rattle.group_entry.specs.declared.proposal.Proposal.TheVariants.{Join, Attributes}
 use Rattle.proposal_core.specs.Fold.{joins_of}
 use Rattle.client_callbacks.specs.declared.ballot.Filled.{Filled}
 use Rattle.subscribe_core.specs.declared.subs.ClientToken.{ClientToken}

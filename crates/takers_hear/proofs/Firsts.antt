@@ -1,19 +1,18 @@
 -- First and last places of a provider as an entry comes: who takes part after it did before, or joins by it, and is present.
-use Rattle.std.proofs.Common.{◌≡◌, ◌≤◌, ◌<◌, ◌⊎◌, ℕ, suc, ◌+◌, List, [], ◌∷◌, ◌++◌, length, Option, Some, None, Bool, true, false, refl, sym, ap, ◌∙◌, subst, inl, inr, arith}
+use Rattle.std.proofs.Common.{◌≡◌, ◌≤◌, ◌<◌, ◌⊎◌, ℕ, suc, ◌+◌, List, [], ◌∷◌, ◌++◌, length, Option, Some, None, Bool, true, false, refl, sym, ap, ◌∙◌, inl, inr, arith}
 use Rattle.std.specs.Prelude.{not, ◌&&◌, nat_le, is_some, is_none, IsTrue, if◌then◌else◌}
 use Rattle.std.specs.Option.{option_map}
 use Rattle.std.proofs.lemmas.Bool.{and_parts, leb-true, le-leb}
 use Rattle.rsct_packet.specs.declared.ids.ViewId.{ViewId}
 use Rattle.rsct_packet.specs.declared.ids.ProviderId.{ProviderId}
 use Rattle.rsct_packet.specs.Providers.{among}
-use Rattle.rsct_packet.specs.Search.{Has, place_where}
+use Rattle.rsct_packet.specs.Search.{place_where}
 use Rattle.group_entry.specs.declared.entry.Entry.{Entry}
 use Rattle.proposal_core.specs.declared.group_state.GroupState.{GroupState}
 use Rattle.proposal_core.specs.Fold.{after, present}
 use Rattle.run_safety.specs.Past.{fold_from}
-use Rattle.run_safety.specs.Stays.{Stay, Part, is_join_of, passes, first_in, last_from, last_in, part, from_first, up_to_last, takes_part}
-use Rattle.hearing.proofs.Handing.{among_is}
-use Rattle.attending.proofs.Parts.{first_stays, first_comes, last_comes, pushed_stay, part_goes, part_joins, zero_and}
+use Rattle.run_safety.specs.Stays.{Stay, is_join_of, passes, first_in, last_from, last_in, part, from_first, up_to_last, takes_part}
+use Rattle.attending.proofs.Parts.{first_stays, first_comes, pushed_stay}
 use Rattle.takers_hear.specs.Takers.{Taker}
 
 -- ---- the first place

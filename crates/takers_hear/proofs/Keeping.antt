@@ -1,5 +1,5 @@
 -- All that a step does keeps what stands of a provider at its node.
-use Rattle.std.proofs.Common.{◌≡◌, ◌⊎◌, ℕ, ◌+◌, List, [], ◌∷◌, ◌++◌, Option, Some, None, Bool, true, false, refl, sym, ap, ◌∙◌, subst, inl, inr, ⊎_elim, append_assoc}
+use Rattle.std.proofs.Common.{◌≡◌, ℕ, ◌+◌, List, [], ◌∷◌, ◌++◌, Option, Some, None, Bool, true, false, refl, sym, ap, ◌∙◌, subst, inl, inr, ⊎_elim, append_assoc}
 use Rattle.std.specs.Prelude.{reverse, flat_map, map, if◌then◌else◌}
 use Rattle.std.proofs.lemmas.Bool.{eq-eqb}
 use Rattle.std.proofs.lemmas.List.{reverse-append}
@@ -29,7 +29,7 @@ use Rattle.node_state.specs.HandOn.{heard}
 use Rattle.node_state.specs.Leading.{put}
 use Rattle.node_state.specs.Applying.{level_set, base_row, base_record, view_entered}
 use Rattle.run_safety.specs.Past.{History, Within, earlier, records_of}
-use Rattle.run_safety.specs.Stays.{Stay, stays}
+use Rattle.run_safety.specs.Stays.{stays}
 use Rattle.node_groups.specs.Places.{InNameOrder}
 use Rattle.node_groups.proofs.NameOrder.{row_here, row_there}
 use Rattle.step_ties.proofs.BaseOrder.{bases_ordered, base_noted}
@@ -37,12 +37,11 @@ use Rattle.hearing.specs.Changes.{Same, handing}
 use Rattle.hearing.proofs.Attending.{pushed, pushed_reverse, heard_at}
 use Rattle.hearing.proofs.Doing.{base_len, entered_groups}
 use Rattle.attending.proofs.Entering.{bases_stay, with_state, base_is, new_stay, state_named}
-use Rattle.attending.proofs.Staying.{InStay}
 use Rattle.seen_runs.specs.Seen.{Seen, SeenAt}
 use Rattle.takers_hear.specs.Takers.{Taker, Stood, AskedJoin, Dissolving}
 use Rattle.takers_hear.proofs.Firsts.{taker_passed}
 use Rattle.takers_hear.proofs.Growing.{Unasked, asked_back, Over, over_more, dissolving_more, Inert}
-use Rattle.takers_hear.proofs.Standing.{JoinWaits, Law, Inv, inv_record, inv_told}
+use Rattle.takers_hear.proofs.Standing.{Law, Inv, inv_record, inv_told}
 use Rattle.takers_hear.proofs.Putting.{inv_handed}
 use Rattle.takers_hear.proofs.Walk.{Fine, Alike, Keeps}
 

@@ -1,7 +1,6 @@
 -- In each scene whose history names calls, and calls alone, as calls: whoever takes part hears each put.
-use Rattle.std.proofs.Common.{◌≡◌, ◌≢◌, ◌⊎◌, ℕ, ◌+◌, List, [], ◌∷◌, ◌++◌, Option, Some, None, Bool, true, false, refl, sym, ap, ◌∙◌, subst, inl, inr, ⊎_elim}
+use Rattle.std.proofs.Common.{◌≡◌, ◌≢◌, ◌⊎◌, ℕ, ◌+◌, List, [], ◌∷◌, ◌++◌, Option, Some, None, Bool, true, false, refl, sym, ap, ◌∙◌, subst, inl, inr}
 use Rattle.std.specs.Prelude.{◌==◌, ◌&&◌, ◌||◌, not, fold, reverse, if◌then◌else◌}
-use Rattle.std.specs.List.{list_any}
 use Rattle.std.proofs.lemmas.Bool.{eqb-true, eq-eqb}
 use Rattle.rsct_packet.specs.declared.ids.ProviderId.{ProviderId}
 use Rattle.rsct_packet.specs.Mask.{nodes_of}
@@ -21,9 +20,9 @@ use Rattle.node_state.specs.Step.{started, ring_record}
 use Rattle.world_model.specs.declared.event.Event.{Event}
 use Rattle.world_model.specs.Run.{Happening}
 use Rattle.run_safety.specs.Past.{History, Within, records_of, inc_now}
-use Rattle.run_safety.specs.Stays.{Stay, stays, asks_join, client_of, goodbye_of, is_refused, ends, lets_go, was_let_go}
+use Rattle.run_safety.specs.Stays.{stays, asks_join, client_of, goodbye_of, was_let_go}
 use Rattle.step_ties.specs.Tied.{Scene, NodeIsIf}
-use Rattle.step_ties.specs.Rows.{at_node, over, nothing_yet, with_records, start_with, starts_too, stopped, all_started}
+use Rattle.step_ties.specs.Rows.{over, nothing_yet, with_records, start_with, starts_too, stopped, all_started}
 use Rattle.step_ties.specs.Runs.{IsNote, noted, Reached}
 use Rattle.step_ties.specs.Runs as runs
 use Rattle.step_ties.proofs.Changed.{each_set, set_here}
@@ -34,8 +33,8 @@ use Rattle.attending.proofs.Law.{incs_of}
 use Rattle.attending.proofs.Staying.{InStay}
 use Rattle.attending.proofs.OrderLaw.{inner_all, others_stay, note_inner, reached_orderly}
 use Rattle.failed_rows.proofs.Facts.{reverse_has}
-use Rattle.failed_rows.proofs.Starting.{Fresh, FreshIf, AllFresh, fold_fresh}
-use Rattle.leaving.specs.Scenes.{NoCall, IsDown, Recounted, Nothing, AllStart, Starts, Stops, Steps, Notes}
+use Rattle.failed_rows.proofs.Starting.{FreshIf, AllFresh, fold_fresh}
+use Rattle.leaving.specs.Scenes.{Recounted, Nothing, AllStart, Starts, Stops, Steps, Notes}
 use Rattle.leaving.proofs.Events.{any_one}
 use Rattle.leaving.proofs.Law.{reached, clean}
 use Rattle.takers_hear.specs.Takers.{Taker, Stood, AskedJoin, TakersTakePart}

@@ -1,12 +1,12 @@
 -- An entry is put and handed on: a provider that takes part hears it, and stands then where its node's stay has it.
-use Rattle.std.proofs.Common.{◌≡◌, ◌⊎◌, ℕ, ◌+◌, List, [], ◌∷◌, ◌++◌, length, Option, Some, None, Bool, true, false, refl, sym, ap, ◌∙◌, subst, inl, inr, ⊎_elim, append_assoc}
+use Rattle.std.proofs.Common.{◌≡◌, ◌⊎◌, ℕ, ◌+◌, List, [], ◌∷◌, ◌++◌, length, Option, Some, None, Bool, true, false, refl, sym, ap, ◌∙◌, subst, inl, inr, ⊎_elim}
 use Rattle.std.specs.Prelude.{reverse, flat_map, IsTrue}
 use Rattle.std.proofs.lemmas.List.{reverse-append}
 use Rattle.rsct_packet.specs.declared.ids.ViewId.{ViewId}
 use Rattle.rsct_packet.specs.declared.ids.ProviderId.{ProviderId}
 use Rattle.rsct_packet.specs.Providers.{among}
 use Rattle.rsct_packet.specs.Search.{Has}
-use Rattle.rsct_packet.proofs.HasLaws.{append_has_left, append_has_right}
+use Rattle.rsct_packet.proofs.HasLaws.{append_has_right}
 use Rattle.group_entry.specs.declared.entry.Entry.{Entry}
 use Rattle.group_entry.specs.declared.entry.Entry.TheVariants.{Once, Begin, Phase, Approve, Reject, Late}
 use Rattle.group_entry.specs.declared.proposal.Proposal.{Proposal}
@@ -14,28 +14,25 @@ use Rattle.proposal_core.specs.declared.group_state.GroupState.{GroupState}
 use Rattle.proposal_core.specs.Fold.{after, joins_of, present}
 use Rattle.client_callbacks.specs.declared.ballot.Filled.{Filled}
 use Rattle.session_state.specs.declared.casts.Cast.{Cast}
-use Rattle.session_state.specs.declared.state.Provider.{Provider}
 use Rattle.session_state.specs.declared.state.SessionState.{SessionState}
-use Rattle.session_state.specs.State.{provider_of}
-use Rattle.session_state.specs.HandOn.{is_join, beginners, hearers, casts_of, handed_on}
+use Rattle.session_state.specs.HandOn.{beginners, hearers, casts_of, handed_on}
 use Rattle.node_state.specs.declared.happened.Happened.{Happened}
 use Rattle.node_state.specs.declared.happened.Happened.TheVariants as happened
 use Rattle.node_state.specs.HandOn.{cast_record, cast_records}
 use Rattle.client_callbacks.specs.Ballots.{BallotView}
 use Rattle.rsct_packet.specs.declared.ids.ProtoId.{ProtoId}
-use Rattle.run_safety.specs.Past.{History, Within, earlier, records_of, fold_from}
-use Rattle.run_safety.specs.Requests.{carried, proposal_of, IsJoin}
+use Rattle.run_safety.specs.Past.{History, earlier, fold_from}
+use Rattle.run_safety.specs.Requests.{proposal_of, IsJoin}
 use Rattle.run_safety.specs.Stays.{Stay, stays, is_join_of, part, takes_part}
 use Rattle.node_groups.proofs.NameOrder.{cases_text}
-use Rattle.step_ties.proofs.SessionLaws.{handed_later, handed_gone}
 use Rattle.hearing.proofs.Attending.{heard_at, has_cast}
-use Rattle.hearing.proofs.Handing.{among_is, handed_kept, new_hears, present_hears}
+use Rattle.hearing.proofs.Handing.{among_is, new_hears, present_hears}
 use Rattle.attending.proofs.Fresh.{join_carried}
 use Rattle.attending.proofs.Parts.{pushed_stay}
 use Rattle.attending.proofs.Turns.{begins_by_join}
 use Rattle.attending.proofs.Staying.{InStay, join_begins, put_here, put_there, stay_pushed}
-use Rattle.seen_runs.specs.Seen.{Seen, SeenAt, BeginsOnce}
-use Rattle.takers_hear.specs.Takers.{Taker, Stood, WasPut, AskedJoin, Dissolving}
+use Rattle.seen_runs.specs.Seen.{SeenAt, BeginsOnce}
+use Rattle.takers_hear.specs.Takers.{Taker, Stood, AskedJoin, Dissolving}
 use Rattle.takers_hear.proofs.Firsts.{taker_present, taker_came, part_came}
 use Rattle.takers_hear.proofs.Forward.{begins_group, stood_takes, stood_begins, stood_waits}
 use Rattle.takers_hear.proofs.Growing.{asked_back, Over, over_more, dissolving_more, Inert}

@@ -1,26 +1,24 @@
 -- What is kept between events: whose join waits by the records, and was not let go, waits at its node; and who takes part does there.
-use Rattle.std.proofs.Common.{◌≡◌, ◌≢◌, ◌⊎◌, ℕ, List, [], ◌∷◌, ◌++◌, Option, Some, None, Bool, true, false, refl, sym, ap, ◌∙◌, subst, inl, inr, ⊎_elim}
-use Rattle.std.specs.Prelude.{◌==◌, ◌&&◌, ◌||◌, not}
+use Rattle.std.proofs.Common.{◌≡◌, ◌⊎◌, ℕ, List, [], ◌∷◌, ◌++◌, Option, Some, None, Bool, true, false, refl, sym, ap, ◌∙◌, subst, inl, inr, ⊎_elim}
+use Rattle.std.specs.Prelude.{◌&&◌, ◌||◌, not}
 use Rattle.std.specs.List.{list_any}
 use Rattle.rsct_packet.specs.declared.ids.ProviderId.{ProviderId}
-use Rattle.rsct_packet.specs.Providers.{among, same_provider}
+use Rattle.rsct_packet.specs.Providers.{among}
 use Rattle.rsct_packet.specs.Search.{Has}
-use Rattle.rsct_packet.proofs.HasLaws.{has_append, append_has_right}
+use Rattle.rsct_packet.proofs.HasLaws.{has_append}
 use Rattle.proposal_core.specs.declared.group_state.GroupState.{GroupState}
 use Rattle.proposal_core.specs.Fold.{empty_state, present}
 use Rattle.node_state.specs.declared.happened.Happened.{Happened}
 use Rattle.node_state.specs.declared.happened.Happened.TheVariants as happened
 use Rattle.node_state.specs.declared.state.Core.{Core}
 use Rattle.world_model.specs.Run.{Happening}
-use Rattle.world_model.specs.declared.event.Event.{Event}
 use Rattle.run_safety.specs.Past.{History, records_of, inc_now, fold_from}
-use Rattle.run_safety.specs.Stays.{Stay, stays, ends, is_dissolved, client_of, goodbye_of, is_refused, lets_go, was_let_go}
+use Rattle.run_safety.specs.Stays.{Stay, stays, ends, client_of, goodbye_of, is_refused, lets_go, was_let_go}
 use Rattle.step_ties.specs.Tied.{Scene}
 use Rattle.step_ties.proofs.SessionLaws.{provider_self}
 use Rattle.attending.proofs.Staying.{InStay}
-use Rattle.seen_runs.specs.Seen.{WasTold}
 use Rattle.leaving.proofs.Events.{any_one}
-use Rattle.takers_hear.specs.Takers.{Taker, Stood, WasPut, AskedJoin, Dissolving}
+use Rattle.takers_hear.specs.Takers.{Taker, Stood, AskedJoin, Dissolving}
 use Rattle.takers_hear.specs.Hears.{EachHears}
 use Rattle.takers_hear.proofs.Firsts.{taker_present}
 use Rattle.takers_hear.proofs.Growing.{Over, Unasked, asked_back, over_more}

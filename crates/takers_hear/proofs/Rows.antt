@@ -1,13 +1,10 @@
 -- The rows of a step, but for calls, keep what the walk keeps.
 use Rattle.std.proofs.Common.{ℕ, ◌+◌, ◌-◌, List, [], ◌∷◌, take, drop, Option, Some, None, Bool, true, false, refl}
-use Rattle.std.specs.Prelude.{◌==◌, ◌&&◌, filter, nat_lt, nat_le, find}
+use Rattle.std.specs.Prelude.{◌==◌, ◌&&◌, filter, nat_lt, nat_le}
 use Rattle.std.specs.Option.{unwrap_or}
 use Rattle.rsct_packet.specs.declared.ids.ProviderId.{ProviderId}
 use Rattle.rsct_packet.specs.declared.ids.ProtoId.{ProtoId}
 use Rattle.rsct_packet.specs.Providers.{among}
-use Rattle.rsct_packet.specs.Search.{Has}
-use Rattle.rsct_packet.proofs.HasLaws.{find_has}
-use Rattle.step_ties.proofs.SessionLaws.{provider_same}
 use Rattle.group_attr.specs.declared.attrs.Attrs.{Attrs}
 use Rattle.group_attr.specs.declared.attrs.Phases.{Phases}
 use Rattle.group_entry.specs.declared.proposal.Cause.TheVariants.{Gone}
@@ -28,8 +25,7 @@ use Rattle.client_callbacks.specs.declared.told.Why.TheVariants as why
 use Rattle.client_callbacks.specs.declared.ballot.Filled.{Filled}
 use Rattle.session_state.specs.declared.state.Request.{Request}
 use Rattle.session_state.specs.declared.state.KeptBallot.{KeptBallot}
-use Rattle.session_state.specs.declared.state.SessionState.{SessionState}
-use Rattle.session_state.specs.State.{outstanding, is_asked_by}
+use Rattle.session_state.specs.State.{outstanding}
 use Rattle.session_state.specs.HandOn.{is_numbered}
 use Rattle.node_state.specs.declared.group.Decision.{Decision}
 use Rattle.node_state.specs.declared.group.GroupRow.{GroupRow}

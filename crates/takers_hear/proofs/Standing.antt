@@ -1,49 +1,39 @@
 -- What stands of one provider at its node in the middle of a step: who waits by the records is a provider that waits, who takes part
 -- is one that takes part, and at each put that came so far it heard where it took part.
-use Rattle.std.proofs.Common.{◌≡◌, ◌⊎◌, ℕ, ◌+◌, List, [], ◌∷◌, ◌++◌, length, Option, Some, None, Bool, true, false, refl, sym, ap, ◌∙◌, subst, inl, inr, ⊎_elim, append_assoc}
-use Rattle.std.specs.Prelude.{reverse, flat_map, map, IsTrue}
+use Rattle.std.proofs.Common.{◌≡◌, ◌⊎◌, ℕ, List, [], ◌∷◌, ◌++◌, Option, Some, Bool, true, false, refl, sym, ap, ◌∙◌, subst, inl, inr, ⊎_elim, append_assoc}
+use Rattle.std.specs.Prelude.{reverse, IsTrue}
 use Rattle.std.proofs.lemmas.List.{reverse-append}
 use Rattle.rsct_packet.specs.declared.ids.ViewId.{ViewId}
 use Rattle.rsct_packet.specs.declared.ids.ProviderId.{ProviderId}
-use Rattle.rsct_packet.specs.Providers.{among}
 use Rattle.rsct_packet.specs.Search.{Has}
-use Rattle.rsct_packet.proofs.HasLaws.{append_has_left, append_has_right}
 use Rattle.group_entry.specs.declared.entry.Entry.{Entry}
-use Rattle.group_entry.specs.declared.entry.Entry.TheVariants.{Once, Begin, Phase, Approve, Reject, Late}
-use Rattle.group_entry.specs.declared.proposal.Proposal.{Proposal}
 use Rattle.proposal_core.specs.declared.group_state.GroupState.{GroupState}
-use Rattle.proposal_core.specs.Fold.{after, joins_of, present}
+use Rattle.proposal_core.specs.Fold.{after}
 use Rattle.client_callbacks.specs.declared.ballot.Filled.{Filled}
 use Rattle.client_callbacks.specs.declared.told.Why.{Why}
 use Rattle.client_callbacks.specs.declared.told.Why.TheVariants as why
-use Rattle.session_state.specs.declared.casts.Cast.{Cast}
 use Rattle.session_state.specs.declared.state.Provider.{Provider}
 use Rattle.session_state.specs.declared.state.Request.{Request}
 use Rattle.session_state.specs.declared.state.SessionState.{SessionState}
-use Rattle.session_state.specs.State.{provider_of, outstanding}
-use Rattle.session_state.specs.HandOn.{is_join, is_dissolved, telling_taken, beginners, hearers, casts_of, handed_on}
+use Rattle.session_state.specs.State.{provider_of}
+use Rattle.session_state.specs.HandOn.{is_join, is_dissolved, telling_taken, beginners, handed_on}
 use Rattle.node_state.specs.declared.happened.Happened.{Happened}
 use Rattle.node_state.specs.declared.happened.Happened.TheVariants as happened
-use Rattle.run_safety.specs.Past.{History, Within, earlier, records_of, fold_from, view_now}
-use Rattle.run_safety.specs.Requests.{carried, proposal_of, IsJoin}
+use Rattle.run_safety.specs.Past.{History, Within, earlier, view_now}
+use Rattle.run_safety.specs.Requests.{carried}
 use Rattle.run_safety.specs.Stays.{Stay, stays, is_join_of, part, takes_part}
 use Rattle.run_safety.specs.Stays as stay
-use Rattle.node_groups.proofs.NameOrder.{cases_text}
 use Rattle.step_ties.proofs.SessionLaws.{handed_later, handed_gone}
-use Rattle.hearing.proofs.Attending.{heard_at, has_cast}
-use Rattle.hearing.proofs.Handing.{among_is, handed_kept, new_hears, present_hears}
+use Rattle.hearing.proofs.Handing.{handed_kept}
 use Rattle.hearing.proofs.Sessions.{fewer_told}
 use Rattle.attending.proofs.Fresh.{join_carried}
-use Rattle.attending.proofs.Parts.{pushed_stay}
 use Rattle.attending.proofs.Turns.{begins_by_join}
-use Rattle.attending.proofs.Staying.{InStay, join_begins, put_here, put_there, stay_pushed}
-use Rattle.seen_runs.specs.Seen.{SeenAt, BeginsOnce, WasTold}
+use Rattle.attending.proofs.Staying.{InStay}
+use Rattle.seen_runs.specs.Seen.{WasTold}
 use Rattle.leaving.proofs.Left.{told_kept}
-use Rattle.leaving.proofs.Events.{same_dissolved}
-use Rattle.takers_hear.specs.Takers.{Taker, Stood, WasPut, AskedJoin, Dissolving}
-use Rattle.takers_hear.proofs.Firsts.{Came, taker_present, taker_came, part_came}
-use Rattle.takers_hear.proofs.Forward.{Drops, told_stands, asked_own, begins_group, stood_takes, stood_begins, stood_waits}
-use Rattle.takers_hear.proofs.Growing.{Unasked, asked_back, Over, over_more, dissolving_more, put_more, Inert, inert_unasked, inert_stays, stay_view}
+use Rattle.takers_hear.specs.Takers.{Taker, Stood, AskedJoin, Dissolving}
+use Rattle.takers_hear.proofs.Forward.{Drops, told_stands, asked_own}
+use Rattle.takers_hear.proofs.Growing.{asked_back, Over, over_more, dissolving_more, Inert, inert_unasked, inert_stays, stay_view}
 
 -- a request for a join has the number of its provider, which does not take part
 abbrev pub JoinWaits : SessionState → Type 0

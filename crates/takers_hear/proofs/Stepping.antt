@@ -1,18 +1,17 @@
 -- A step leaves whoever takes part by the records a provider that takes part, and lets it hear each put.
-use Rattle.std.proofs.Common.{◌≡◌, ◌≢◌, ◌⊎◌, ℕ, List, [], ◌∷◌, ◌++◌, Option, Some, None, Bool, true, false, refl, sym, ap, ◌∙◌, subst, inl, inr, ⊎_elim, append_assoc, append-nil, arith}
-use Rattle.std.specs.Prelude.{◌==◌, ◌&&◌, ◌||◌, not, reverse, IsTrue}
+use Rattle.std.proofs.Common.{◌≡◌, ◌≢◌, ◌⊎◌, ℕ, List, [], ◌∷◌, ◌++◌, Some, Bool, true, false, refl, sym, ap, ◌∙◌, subst, inl, inr, append_assoc, append-nil, arith}
+use Rattle.std.specs.Prelude.{◌&&◌, ◌||◌, not, reverse, IsTrue}
 use Rattle.std.specs.List.{list_any}
-use Rattle.std.proofs.lemmas.Bool.{cases_eq, eq-eqb}
+use Rattle.std.proofs.lemmas.Bool.{eq-eqb}
 use Rattle.rsct_packet.specs.declared.ids.ProviderId.{ProviderId}
 use Rattle.rsct_packet.specs.declared.ids.ViewId.{ViewId}
 use Rattle.rsct_packet.specs.Search.{Has}
-use Rattle.rsct_packet.proofs.HasLaws.{has_append, append_has_left, append_has_right, find_has}
-use Rattle.group_entry.specs.declared.entry.Entry.{Entry}
+use Rattle.rsct_packet.proofs.HasLaws.{has_append, append_has_right, find_has}
 use Rattle.group_entry.specs.declared.proposal.Proposal.{Proposal}
 use Rattle.proposal_core.specs.declared.group_state.GroupState.{GroupState}
 use Rattle.session_state.specs.declared.state.Provider.{Provider}
 use Rattle.session_state.specs.declared.state.SessionState.{SessionState}
-use Rattle.session_state.specs.State.{provider_of, is_provider, is_client_of, client_token}
+use Rattle.session_state.specs.State.{provider_of, is_provider}
 use Rattle.node_state.specs.declared.call.CallLine.{CallLine}
 use Rattle.node_state.specs.declared.call.CallLine.TheVariants as call
 use Rattle.node_state.specs.declared.config.Config.{Config}
@@ -30,8 +29,8 @@ use Rattle.world_model.specs.declared.event.Event.TheVariants as event
 use Rattle.run_safety.specs.Past.{History, Within, earlier, records_of, inc_now}
 use Rattle.run_safety.specs.Stays.{Stay, stays, part, takes_part, client_of, is_named, goodbye_of, is_refused, ends, lets_go, was_let_go}
 use Rattle.node_groups.specs.Places.{InNameOrder}
-use Rattle.step_ties.specs.Tied.{Scene, NodeIsIf, Rests, Tied, InTurn}
-use Rattle.step_ties.specs.Rows.{at_node, over, ended, Arises}
+use Rattle.step_ties.specs.Tied.{Scene, NodeIsIf, Rests, InTurn}
+use Rattle.step_ties.specs.Rows.{over, ended, Arises}
 use Rattle.step_ties.specs.Runs.{Reached}
 use Rattle.step_ties.specs.Runs as runs
 use Rattle.step_ties.proofs.Begins.{begin_tied}
@@ -52,14 +51,14 @@ use Rattle.seen_runs.proofs.Law.{traces_seen}
 use Rattle.failed_rows.specs.Scenes.{Names}
 use Rattle.failed_rows.proofs.Facts.{reverse_has}
 use Rattle.failed_rows.proofs.Origin.{root_of}
-use Rattle.failed_rows.proofs.Owners.{Owned, goodbye_named}
+use Rattle.failed_rows.proofs.Owners.{goodbye_named}
 use Rattle.leaving.specs.Scenes.{IsCall}
 use Rattle.leaving.proofs.Events.{any_none}
-use Rattle.leaving.proofs.Keeping.{Kept, KeptIf, Clean}
+use Rattle.leaving.proofs.Keeping.{KeptIf, Clean}
 use Rattle.takers_hear.specs.Takers.{Taker, Stood, AskedJoin, Dissolving}
-use Rattle.takers_hear.specs.Hears.{AllHearUnlessLetGo, EachHears}
+use Rattle.takers_hear.specs.Hears.{AllHearUnlessLetGo}
 use Rattle.takers_hear.proofs.Growing.{Over}
-use Rattle.takers_hear.proofs.Standing.{JoinWaits, Heard_at, Law, Inv}
+use Rattle.takers_hear.proofs.Standing.{JoinWaits, Heard_at, Law}
 use Rattle.takers_hear.proofs.Keeping.{Standing, Inv_at, standing_keeps}
 use Rattle.takers_hear.proofs.Walking.{on_stepped}
 use Rattle.takers_hear.proofs.Calls.{CallRecord, Leaves, Made, call_made}

@@ -18,8 +18,10 @@ AllHearUnlessLetGo event now before (Put n v g i e) =
     (p : ProviderId) → p.node ≡ n → IsTrue (takes_part i (part p (stays n g (Put n v g i e ∷ earlier now before)))) → was_let_go p before ≡ false → lets_go p event before ≡ false → (ms : List ProviderId) × (value : List ℕ) × Has (Heard p v g i e ms value) event.records
 AllHearUnlessLetGo event now before _ = Unit {0}
 
+-- at each record of a history
 abbrev pub EachHears : History → Type 0
 EachHears h = EachEvent (λ event before. Within (AllHearUnlessLetGo event) event.records before) h
 
+-- in every scene whose history names calls, and calls alone, as calls
 abbrev pub TakersHear : Type 0
 TakersHear = (c : Config) (w : Scene) → Recounted c w → EachHears w.before

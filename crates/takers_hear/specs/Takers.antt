@@ -1,5 +1,5 @@
 -- Who takes part by the records of its node, and how a provider stands in its node's sessions.
-use Rattle.std.specs.Prelude.{◌≡◌, ◌⊎◌, ℕ, Bool, true, false, List, Some, None}
+use Rattle.std.specs.Prelude.{◌≡◌, ℕ, Bool, true, false, List, Some, None}
 use Rattle.rsct_packet.specs.declared.ids.ViewId.{ViewId}
 use Rattle.rsct_packet.specs.declared.ids.ProviderId.{ProviderId}
 use Rattle.rsct_packet.specs.Providers.{among}
@@ -15,7 +15,7 @@ use Rattle.node_state.specs.declared.config.Config.{Config}
 use Rattle.node_state.specs.declared.happened.Happened.{Happened}
 use Rattle.node_state.specs.declared.happened.Happened.TheVariants.{Put, Asked, Told}
 use Rattle.node_state.specs.declared.state.Core.{Core}
-use Rattle.run_safety.specs.Past.{History, records_of}
+use Rattle.run_safety.specs.Past.{records_of}
 use Rattle.run_safety.specs.Stays.{Stay, stays, is_join_of, part, is_dissolved, was_let_go}
 use Rattle.step_ties.specs.Tied.{Scene}
 use Rattle.leaving.specs.Scenes.{Recounted}
