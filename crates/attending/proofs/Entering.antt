@@ -68,7 +68,7 @@ abbrev pub with_state : Option Base → Stay → Stay
 with_state None x = x
 with_state (Some b) x = record x { base = b.state }
 
-bases_stay : (n : ℕ) (v : ViewId) (g : List ℕ) (before : History) (bs : List Base) (now : List Happened) (x : Stay) (older : List Stay) → InNameOrder (map base_row bs) → stays n g (earlier now before) ≡ x ∷ older → stays n g (earlier (pushed (map (base_noted n v) bs) now) before) ≡ with_state (base_named bs g) x ∷ older
+pub bases_stay : (n : ℕ) (v : ViewId) (g : List ℕ) (before : History) (bs : List Base) (now : List Happened) (x : Stay) (older : List Stay) → InNameOrder (map base_row bs) → stays n g (earlier now before) ≡ x ∷ older → stays n g (earlier (pushed (map (base_noted n v) bs) now) before) ≡ with_state (base_named bs g) x ∷ older
 unfolding base_named base_row
 bases_stay n v g before [] now x older o q = q
 bases_stay n v g before (b ∷ bs) now x older o q =
@@ -86,7 +86,7 @@ bases_stay n v g before (b ∷ bs) now x older o q =
         rest (record x { base = b.state }) older o.1 (at true e ∙ ap (with_base b.state) q) ∙ ap (λ z. with_state z (record x { base = b.state }) ∷ older) none
     by false e rest = rest x older o.1 (at false e ∙ q)
 
-named_has : (bs : List Base) (g : List ℕ) (b : Base) → base_named bs g ≡ Some b → Has b bs
+pub named_has : (bs : List Base) (g : List ℕ) (b : Base) → base_named bs g ≡ Some b → Has b bs
 unfolding base_named
 named_has bs g b e = (find_has (λ (x : Base). bytes_eq x.name g) bs b e).0
 
@@ -97,7 +97,7 @@ base_is (Some b) = b.state
 abbrev pub new_stay : ViewId → GroupState → Stay
 new_stay v s = record { view = v; base = s; entries = [] }
 
-state_named : (c : Core) (bs : List Base) → c.groups ≡ map base_row bs → (g : List ℕ) → state_of c g ≡ base_is (base_named bs g)
+pub state_named : (c : Core) (bs : List Base) → c.groups ≡ map base_row bs → (g : List ℕ) → state_of c g ≡ base_is (base_named bs g)
 unfolding state_of list_of row_of base_row
 state_named c bs e g =
     ap (λ (rows : List GroupRow). (list_or_new (row_found g (find (has_name g) rows)).list).state) e ∙ ap (λ (o : Option GroupRow). (list_or_new (row_found g o).list).state) (row_of_base g bs) ∙ by (base_named bs g)

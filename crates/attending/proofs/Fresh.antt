@@ -41,10 +41,10 @@ use Rattle.attending.proofs.Ordering.{Fresh}
 
 -- ---- what stands in a stay was put
 
-Stands : ℕ → List ℕ → List Happened → Entry → Type 0
+pub Stands : ℕ → List ℕ → List Happened → Entry → Type 0
 Stands n g rs e = (v : ViewId) × (i : ℕ) × Has (happened.Put n v g i e) rs
 
-abbrev AllPut : ℕ → List ℕ → List Happened → List Stay → Type 0
+abbrev pub AllPut : ℕ → List ℕ → List Happened → List Stay → Type 0
 AllPut n g rs xs = (x : Stay) → Has x xs → (e : Entry) → Has e x.entries → Stands n g rs e
 
 put_on : (n : ℕ) (g : List ℕ) (r : Happened) (rs : List Happened) (xs : List Stay) → AllPut n g rs xs → AllPut n g (r ∷ rs) xs
@@ -55,7 +55,7 @@ if_none : (n : ℕ) (g : List ℕ) (rs : List Happened) (xs : List Stay) (b : Bo
 if_none n g rs xs true k x h e j = absurd h
 if_none n g rs xs false k x h e j = k x h e j
 
-all_put : (n : ℕ) (g : List ℕ) (rs : List Happened) → AllPut n g rs (stays n g rs)
+pub all_put : (n : ℕ) (g : List ℕ) (rs : List Happened) → AllPut n g rs (stays n g rs)
 unfolding Stands
 all_put n g [] = λ x h e j. absurd h
 all_put n g (happened.Up m j ∷ rs) = if_none n g (happened.Up m j ∷ rs) (stays n g rs) (m == n) (put_on n g (happened.Up m j) rs (stays n g rs) (all_put n g rs))
@@ -113,7 +113,7 @@ place_none : (p : ProviderId) (es : List Entry) → ((e : Entry) → Has e es �
 place_none p [] all = refl
 place_none p (e ∷ es) all = ap (λ b. if b then Some 0 else option_map suc (place_where (is_join_of p) es)) (all e (inl refl)) ∙ ap (option_map suc) (place_none p es (λ d h. all d (inr h)))
 
-none_first : (p : ProviderId) (xs : List Stay) → ((x : Stay) → Has x xs → (e : Entry) → Has e x.entries → is_join_of p e ≡ false) → (part p xs).first ≡ None
+pub none_first : (p : ProviderId) (xs : List Stay) → ((x : Stay) → Has x xs → (e : Entry) → Has e x.entries → is_join_of p e ≡ false) → (part p xs).first ≡ None
 none_first p [] all = refl
 none_first p (x ∷ older) all =
     ap (first_in p x.entries) (ap (λ (o : Option ℕ). is_some o && (is_none (part p older).last && (among (present x.base) p && not (among x.base.failed p)))) (none_first p older (λ y h. all y (inr h)))) ∙ place_none p x.entries (all x (inl refl))
@@ -135,7 +135,7 @@ names_carried p (Message q r bytes) h = absurd (cc)
 names_carried p (Attributes q r attrs) h = absurd (cc)
 names_carried p (Reflect v i value) h = absurd (cc)
 
-join_carried : (p : ProviderId) (e : Entry) → is_join_of p e ≡ true → Has {A = ProviderId × ℕ} (p, p.join) (carried e)
+pub join_carried : (p : ProviderId) (e : Entry) → is_join_of p e ≡ true → Has {A = ProviderId × ℕ} (p, p.join) (carried e)
 join_carried p (Once x) h = names_carried p x h
 join_carried p (Begin x) h = names_carried p x h
 join_carried p (Phase c) h = absurd (cc)

@@ -1,8 +1,9 @@
--- No provider of a node that enters a view is failed in a base that comes from the view that the node was in.
+-- A provider of a node that enters a view is failed in a base, where it is there, just if that base comes from another view than the
+-- one that the node was in.
 use Rattle.std.proofs.Common.{◌≡◌, ◌<◌, ◌⊎◌, ℕ, List, [], ◌∷◌, ◌++◌, Some, Bool, true, false, refl, sym, ap, ◌∙◌, subst, inl, inr, ⊎_elim, arith, append-nil}
 use Rattle.std.specs.Prelude.{not, ◌==◌, ◌&&◌, reverse, filter, if◌then◌else◌}
 use Rattle.std.specs.Str.{bytes_eq}
-use Rattle.std.proofs.lemmas.Bool.{eq-eqb}
+use Rattle.std.proofs.lemmas.Bool.{and_parts, eq-eqb, eqb-true}
 use Rattle.std.proofs.lemmas.Bool.Decides.{nat_tests}
 use Rattle.rsct_packet.specs.declared.ids.ViewId.{ViewId}
 use Rattle.rsct_packet.specs.declared.ids.Member.{Member}
@@ -10,7 +11,7 @@ use Rattle.rsct_packet.specs.declared.ids.ProviderId.{ProviderId}
 use Rattle.rsct_packet.specs.Ids.{same_view}
 use Rattle.rsct_packet.specs.Providers.{among}
 use Rattle.rsct_packet.specs.Search.{Has}
-use Rattle.rsct_packet.proofs.HasLaws.{has_append, append_has_left, append_has_right, has_filter, has_map}
+use Rattle.rsct_packet.proofs.HasLaws.{has_append, append_has_left, append_has_right, has_filter, filter_has, has_map}
 use Rattle.group_entry.specs.declared.entry.Entry.{Entry}
 use Rattle.proposal_core.specs.declared.group_state.GroupState.{GroupState}
 use Rattle.proposal_core.specs.Fold.{present}
@@ -31,7 +32,7 @@ use Rattle.run_safety.specs.Moves.{Opening, Alone, Together, Born}
 use Rattle.run_safety.specs.Sight.{inc_in, lines_at, lines_with, lines_of}
 use Rattle.run_safety.proofs.Order.{lt_not_same, le_antisym}
 use Rattle.run_safety.proofs.Parts.{member_parts, Entered}
-use Rattle.run_safety.proofs.Tests.{has_any}
+use Rattle.run_safety.proofs.Tests.{any_has, has_any}
 use Rattle.run_safety.proofs.Whole.{Whole}
 use Rattle.run_safety.proofs.Lives.{whole}
 use Rattle.step_ties.specs.Tied.{Scene, NodeIs, NodeIsIf, Rests, opening_of}
@@ -40,7 +41,7 @@ use Rattle.step_ties.specs.Runs.{Reached, Steps}
 use Rattle.step_ties.proofs.Changed.{set_here}
 use Rattle.step_ties.proofs.RunLaw.{reached_rests}
 use Rattle.step_ties.proofs.Turns.{has_turned}
-use Rattle.hearing.proofs.Handing.{among_is}
+use Rattle.hearing.proofs.Handing.{among_is, has_among}
 use Rattle.hearing.proofs.Listening.{reverse_has, steps_change}
 use Rattle.attending.proofs.Bases.{kept_line}
 use Rattle.attending.proofs.States.{none_told, line_later, base_in}
@@ -104,6 +105,13 @@ born_first : (o : Opening) (n j : ℕ) (v : ViewId) (ms : List Member) → Born 
 born_first Alone n j v ms k = ap (λ (z : ViewId). z.number) k.0
 born_first (Together w all) n j v ms k = ap (λ (z : ViewId). z.number) k.0 ∙ k.3
 
+same_is : (a b : ViewId) → is_same a b ≡ true → a ≡ b
+unfolding is_same
+same_is a b e = by a b e
+  where
+    by : (a b : ViewId) → same_view a b ≡ true → a ≡ b
+    by a b z = grind (arith, nat_tests)
+
 same_true : (a b : ViewId) → a ≡ b → is_same a b ≡ true
 unfolding is_same
 same_true a b e = subst (λ z. same_view a z ≡ true) e (self a)
@@ -121,6 +129,14 @@ live_lives rs u st side p is live = by (among st.failed p) refl
         let h : Has p (filter (λ p. not (is_live rs u p)) (present side)) = subst (λ (z : GroupState). Has p z.failed) is (among_is st.failed p q) in
         let k = (has_filter (λ p. not (is_live rs u p)) p (present side) h).1 in
         absurd (let z : not (is_live rs u p) ≡ false = ap not live in let y : true ≡ false = sym k ∙ z in cc)
+
+-- the answers of which the base of a view was made, one of which is the member's; and those are marked that are not live
+record Made (ps : List group.Packet) (u side : ViewId) (st : GroupState) (who : Member) : Type 0 where
+  replies : List Reply
+  carried : GroupState
+  state : st ≡ marked replies side carried
+  sent : (r : Reply) → Has r replies → Has (Answer u r) ps
+  own : Has who (members_of replies)
 
 module _ (c : Config) (w : Scene) (n : ℕ) (f : Answering) (s : Core) (e : NodeEvent) (v : Event) (k : Reached c w) (up : w.cores n ≡ Some s) (arises : Arises w e) where
   abbrev t : Core
@@ -175,9 +191,9 @@ module _ (c : Config) (w : Scene) (n : ℕ) (f : Answering) (s : Core) (e : Node
         let a : Has (Kept x) (lines_of g w.before) = subst (Has (Kept x)) r0.lines (kept_line x r0.ghost.all h) in
         line_kept x r1.ghost.all (subst (Has (Kept x)) (sym lines1) (line_later (Kept x) g (reverse t.records) w.before (lines_of g w.before) a))
 
-    module _ (u : ViewId) (ms : List Member) (len : ℕ) (st : GroupState) (entered : Has (happened.In n u ms) t.records) (based : Has (happened.Base n u g old len st) t.records) (later : Lt old u) where
+    module _ (u : ViewId) (ms : List Member) (side : ViewId) (len : ℕ) (st : GroupState) (entered : Has (happened.In n u ms) t.records) (based : Has (happened.Base n u g side len st) t.records) (later : Lt old u) where
       abbrev base : Origin
-      base = record { old = old; len = len; state = st }
+      base = record { old = side; len = len; state = st }
 
       has_turn : (r : Happened) → Has r t.records → Has r (reverse t.records)
       has_turn r h = subst (Has r) (append-nil (reverse t.records)) (has_turned r t.records [] (append_has_left r t.records [] h))
@@ -216,29 +232,60 @@ module _ (c : Config) (w : Scene) (n : ℕ) (f : Answering) (s : Core) (e : Node
 
       bases_is : r1.ghost.bases u ≡ Some base
       bases_is =
-          o1.based_ok.noted n u base (subst (Has (Noted (Based n u base))) (sym lines1) (base_in n u g old len st (reverse t.records) w.before (lines_of g w.before) (has_turn (happened.Base n u g old len st) based)))
+          o1.based_ok.noted n u base (subst (Has (Noted (Based n u base))) (sym lines1) (base_in n u g side len st (reverse t.records) w.before (lines_of g w.before) (has_turn (happened.Base n u g side len st) based)))
 
-      lives : (p : ProviderId) → p.node ≡ n → p.inc ≡ w.incs n → among st.failed p ≡ false
-      lives p node inc =
+      made : Made r1.ghost.ps u side st (member n (inc_in n ms))
+      made =
           let i = o1.based_ok.installed u base bases_is in
           let m = o1.based_ok.made u i.0 i.1 i.2 in
           let wins : Wins m.0 i.1 (λ x. side_state r1.ghost.bases i.1 x) base = subst (λ z. BaseIs m.0 i.1 (λ x. side_state r1.ghost.bases i.1 x) z) bases_is m.4 in
-          live_lives m.0 old st (side_state r1.ghost.bases i.1 old) p wins.state (live m.0 m.2 (subst (Has (member n (inc_in n ms))) m.1 (among_members i.0 i.1 i.2 (o1.good.past.origin n (inc_in n ms) u ms line))))
+          record {
+            replies = m.0;
+            carried = side_state r1.ghost.bases i.1 side;
+            state = wins.state;
+            sent = m.2;
+            own = subst (Has (member n (inc_in n ms))) m.1 (among_members i.0 i.1 i.2 (o1.good.past.origin n (inc_in n ms) u ms line));
+          }
         where
           among_members : (ns : List Member) (ss : ViewId → List Entry) → Has (Install u ns ss) r1.ghost.ps → Born (opening_of next.config) n (inc_in n ms) u ms ⊎ ((ss : ViewId → List Entry) × Has (Install u ms ss) r1.ghost.ps × Has (member n (inc_in n ms)) ms) → Has (member n (inc_in n ms)) ns
           among_members ns ss h (inl b) =
               absurd (let a = born_first (opening_of next.config) n (inc_in n ms) u ms b in let d = (o1.good.past.made u ns ss h).later in omega (arith, a, d))
           among_members ns ss h (inr b) = subst (Has (member n (inc_in n ms))) (sym (o1.good.inv.one u ns ms ss b.0 h b.1).0) b.2
 
-          test : (q : Reply) → q.node ≡ p.node → q.inc ≡ p.inc → q.view ≡ old → (q.node == p.node && (q.inc == p.inc && is_same q.view old)) ≡ true
-          test q a b d = λ j. eq-eqb q.node p.node a j && (eq-eqb q.inc p.inc b j && same_true q.view old d j)
+      -- each answer of the node is from where it was
+      reply_old : (r : Reply) → Has (Answer u r) r1.ghost.ps → r.node ≡ n → r.inc ≡ w.incs n → r.view ≡ old
+      reply_old r h a b =
+          from_old r.view (subst (λ (y : ℕ × ℕ). From (kept r1.ghost.all) y.0 y.1 u r.view) (λ j. (a j, b j)) (o1.good.past.answers u r h).0)
 
-          live : (rs : List Reply) → ((r : Reply) → Has r rs → Has (Answer u r) r1.ghost.ps) → Has (member n (inc_in n ms)) (members_of rs) → is_live rs old p ≡ true
-          live rs sent h =
-              let r = has_map (λ (r : Reply). member r.node r.inc) (member n (inc_in n ms)) rs h in
+      lives : side ≡ old → (p : ProviderId) → p.node ≡ n → p.inc ≡ w.incs n → among st.failed p ≡ false
+      lives same p node inc = live_lives made.replies side st made.carried p made.state live
+        where
+          test : (q : Reply) → q.node ≡ p.node → q.inc ≡ p.inc → q.view ≡ side → (q.node == p.node && (q.inc == p.inc && is_same q.view side)) ≡ true
+          test q a b d = λ j. eq-eqb q.node p.node a j && (eq-eqb q.inc p.inc b j && same_true q.view side d j)
+
+          live : is_live made.replies side p ≡ true
+          live =
+              let r = has_map (λ (r : Reply). member r.node r.inc) (member n (inc_in n ms)) made.replies made.own in
               let parts = member_parts n (r.0).node (inc_in n ms) (r.0).inc (ap (λ z. Some z) r.2) in
-              let fr : From (kept r1.ghost.all) n (w.incs n) u (r.0).view = subst (λ (y : ℕ × ℕ). From (kept r1.ghost.all) y.0 y.1 u (r.0).view) (λ j. (sym parts.0 j, (sym parts.1 ∙ inc_is) j)) (o1.good.past.answers u r.0 (sent r.0 r.1)).0 in
-              has_any (λ (q : Reply). q.node == p.node && (q.inc == p.inc && is_same q.view old)) rs r.0 r.1 (test (r.0) (sym parts.0 ∙ sym node) (sym parts.1 ∙ inc_is ∙ sym inc) (from_old (r.0).view fr))
+              has_any (λ (q : Reply). q.node == p.node && (q.inc == p.inc && is_same q.view side)) made.replies r.0 r.1 (test (r.0) (sym parts.0 ∙ sym node) (sym parts.1 ∙ inc_is ∙ sym inc) (reply_old (r.0) (made.sent r.0 r.1) (sym parts.0) (sym parts.1 ∙ inc_is) ∙ sym same))
+
+      fails : (side ≡ old → ⊥) → (p : ProviderId) → p.node ≡ n → p.inc ≡ w.incs n → Has p (present st) → among st.failed p ≡ true
+      fails other p node inc there = has_among st.failed p (subst (λ (z : GroupState). Has p z.failed) (sym made.state) (has_kept (is_live made.replies side p) refl))
+        where
+          away : is_live made.replies side p ≡ true → ⊥
+          away e =
+              let r = any_has (λ (q : Reply). q.node == p.node && (q.inc == p.inc && is_same q.view side)) made.replies e in
+              let a = and_parts ((r.0).node == p.node) ((r.0).inc == p.inc && is_same (r.0).view side) r.2 in
+              let b = and_parts ((r.0).inc == p.inc) (is_same (r.0).view side) a.1 in
+              other (sym (same_is (r.0).view side b.1) ∙ reply_old r.0 (made.sent r.0 r.1) (eqb-true (r.0).node p.node a.0 ∙ node) (eqb-true (r.0).inc p.inc b.0 ∙ inc))
+
+          has_kept : (b : Bool) → is_live made.replies side p ≡ b → Has p (filter (λ p. not (is_live made.replies side p)) (present made.carried))
+          has_kept true e = absurd (away e)
+          has_kept false e = filter_has (λ p. not (is_live made.replies side p)) p (present made.carried) (subst (λ (z : GroupState). Has p (present z)) made.state there) (ap not e)
 
   pub lively_now : Lively n (w.incs n) old t.records
-  lively_now u ms g len st entered based later p node inc = lives g u ms len st entered based later p node inc
+  lively_now u ms g len st entered based later p node inc = lives g u ms old len st entered based later refl p node inc
+
+  -- whoever is there in a base from elsewhere is failed
+  pub failed_now : (u : ViewId) (ms : List Member) (g : List ℕ) (side : ViewId) (len : ℕ) (st : GroupState) → Has (happened.In n u ms) t.records → Has (happened.Base n u g side len st) t.records → Lt old u → (side ≡ old → ⊥) → (p : ProviderId) → p.node ≡ n → p.inc ≡ w.incs n → Has p (present st) → among st.failed p ≡ true
+  failed_now u ms g side len st entered based later other p node inc there = fails g u ms side len st entered based later other p node inc there

@@ -40,15 +40,15 @@ use Rattle.attending.proofs.Fresh.{fresh_now}
 use Rattle.attending.proofs.Living.{lively_now}
 
 -- node m stands in these records where its stays have it
-abbrev Placed : List Happened → ℕ → Core → Type 0
+abbrev pub Placed : List Happened → ℕ → Core → Type 0
 Placed rs m c = Place m c.views.view c.sessions (λ n g. stays n g rs) (λ p u g. heard_count p u g rs) (len_of c) (state_of c)
 
-abbrev Own : ℕ → Core → Type 0
+abbrev pub Own : ℕ → Core → Type 0
 Own m c = (p : ProviderId) (y : Provider) → provider_of c.sessions p ≡ Some y → p.node ≡ m
 
-record Orderly (cores : ℕ → Option Core) (before : History) : Type 0 where
-  law : EachRecord Order before
-  up : (m : ℕ) (c : Core) → cores m ≡ Some c → Placed (records_of before) m c × Own m c
+pub record Orderly (cores : ℕ → Option Core) (before : History) : Type 0 where
+  pub law : EachRecord Order before
+  pub up : (m : ℕ) (c : Core) → cores m ≡ Some c → Placed (records_of before) m c × Own m c
 
 -- what the records say of the node is as before
 placed_on : (rs xs : List Happened) (m : ℕ) (c : Core) → ((g : List ℕ) → stays m g xs ≡ stays m g rs) → ((p : ProviderId) (u : ViewId) (g : List ℕ) → p.node ≡ m → heard_count p u g xs ≡ heard_count p u g rs) → Own m c → Placed rs m c → Placed xs m c
@@ -66,7 +66,7 @@ order_asides (r ∷ rs) now before aside k = (aside_order (rs ++ now) before r (
 order_turned : (rs : List Happened) (before : History) → ((r : Happened) → Has r rs → Aside r) → Within Order (reverse rs) before
 order_turned rs before aside = subst (λ z. Within Order z before) (append-nil (reverse rs)) (order_asides (reverse rs) [] before (λ r h. aside r (reverse_has r rs h)) tt)
 
-inner_all : (m : ℕ) (g : List ℕ) (rs xs : List Happened) → ((r : Happened) → Has r rs → Inner r) → stays m g (rs ++ xs) ≡ stays m g xs
+pub inner_all : (m : ℕ) (g : List ℕ) (rs xs : List Happened) → ((r : Happened) → Has r rs → Inner r) → stays m g (rs ++ xs) ≡ stays m g xs
 inner_all m g [] xs all = refl
 inner_all m g (r ∷ rs) xs all = inner_stays m g r (rs ++ xs) (all r (inl refl)) ∙ inner_all m g rs xs (λ q h. all q (inr h))
 
@@ -84,7 +84,7 @@ module _ (c : Config) (n j : ℕ) where
   rings : List Happened
   rings = map (ring_record n) (own_rings c c.mode n j)
 
-  seat : ViewId
+  pub seat : ViewId
   seat = first_view c c.mode n j
 
   entry : Happened
@@ -102,12 +102,12 @@ module _ (c : Config) (n j : ℕ) where
   started_turned xs =
       ap (λ z. reverse z ++ xs) started_now ∙ ap (λ z. z ++ xs) (reverse-append (happened.Up n j ∷ []) (rings ++ entry ∷ []) ∙ ap (λ z. z ++ happened.Up n j ∷ []) (reverse-append rings (entry ∷ []))) ∙ ap (λ z. entry ∷ z) (append_assoc (reverse rings) (happened.Up n j ∷ []) xs)
 
-  started_stays : (g : List ℕ) (xs : List Happened) → stays n g (reverse (started c n j).records ++ xs) ≡ new_stay seat empty_state ∷ []
+  pub started_stays : (g : List ℕ) (xs : List Happened) → stays n g (reverse (started c n j).records ++ xs) ≡ new_stay seat empty_state ∷ []
   unfolding entry
   started_stays g xs =
       ap (stays n g) (started_turned xs) ∙ ap (λ b. if b then new_stay seat empty_state ∷ stays n g (reverse rings ++ happened.Up n j ∷ xs) else stays n g (reverse rings ++ happened.Up n j ∷ xs)) (eq-eqb n n refl) ∙ ap (λ z. new_stay seat empty_state ∷ z) (inner_all n g (reverse rings) (happened.Up n j ∷ xs) (λ r h. rings_inner r (reverse_has r rings h)) ∙ ap (λ b. if b then [] else stays n g xs) (eq-eqb n n refl))
 
-  others_stay : (m : ℕ) (g : List ℕ) (xs : List Happened) → m ≢ n → stays m g (reverse (started c n j).records ++ xs) ≡ stays m g xs
+  pub others_stay : (m : ℕ) (g : List ℕ) (xs : List Happened) → m ≢ n → stays m g (reverse (started c n j).records ++ xs) ≡ stays m g xs
   unfolding entry
   others_stay m g xs ne =
       ap (stays m g) (started_turned xs) ∙ first (n == m) refl (stays m g (reverse rings ++ happened.Up n j ∷ xs)) ∙ inner_all m g (reverse rings) (happened.Up n j ∷ xs) (λ r h. rings_inner r (reverse_has r rings h)) ∙ last (n == m) refl
@@ -169,7 +169,7 @@ orderly_starts c cores before after n j is law k =
         let z = k.up m d q in
         (placed_on (records_of before) (records_of after) m d (λ g. ap (stays m g) is ∙ others_stay c n j m g (records_of before) ne) (λ p u g node. ap (heard_count p u g) is ∙ started_count c n j p u g (records_of before)) z.1 z.0, z.1)
 
-with_is : (before : History) (rs : List Happened) → records_of (with_records before rs) ≡ reverse rs ++ records_of before
+pub with_is : (before : History) (rs : List Happened) → records_of (with_records before rs) ≡ reverse rs ++ records_of before
 with_is [] rs = refl
 with_is (h ∷ before) rs = append_assoc (reverse rs) h.records (records_of before)
 
@@ -187,7 +187,7 @@ all_orderly (n ∷ ns) w k = all_orderly ns (starts_too w n (w.cores n)) (by (w.
         let rs : List Happened = (started w.config n (w.incs n + 1)).records in
         orderly_starts w.config w.cores w.before (with_records w.before rs) n (w.incs n + 1) (with_is w.before rs) (with_order w.before rs (start_asides w.config n (w.incs n + 1)) k.law) k
 
-note_inner : (r : Happened) → IsNote r → Inner r
+pub note_inner : (r : Happened) → IsNote r → Inner r
 note_inner (happened.Up n j) a = absurd a
 note_inner (happened.Down n) a = absurd a
 note_inner (happened.Ring n k i ms m) a = tt
@@ -243,7 +243,7 @@ orderly_steps c w n f s e v k up arises old =
         let z = old.up m d q in
         (placed_on (records_of w.before) (records_of after) m d (λ g. o.others m g ne) (λ p u g node. o.counts p u g (λ a. ne (sym node ∙ a))) z.1 z.0, z.1)
 
-reached_orderly : (c : Config) (w : Scene) → Reached c w → Orderly w.cores w.before
+pub reached_orderly : (c : Config) (w : Scene) → Reached c w → Orderly w.cores w.before
 reached_orderly c _ Nothing = record { law = tt; up = λ m d q. absurd (cc) }
 reached_orderly c _ (AllStart fixed) =
     all_orderly (nodes_of c.nodes) (record (nothing_yet c) { before = record { event = None; records = [] } ∷ [] }) (record { law = (tt, tt); up = λ m d q. absurd (cc) })

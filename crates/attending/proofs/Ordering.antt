@@ -143,7 +143,7 @@ pub order_pushed : (rs now : List Happened) (before : History) → ((r : Happene
 order_pushed [] now before aside k = k
 order_pushed (r ∷ rs) now before aside k = order_pushed rs (r ∷ now) before (λ q h. aside q (inr h)) (aside_order now before r (aside r (inl refl)), k)
 
-view_same : (a b : ViewId) → same_view a b ≡ true → a ≡ b
+pub view_same : (a b : ViewId) → same_view a b ≡ true → a ≡ b
 view_same a b z = grind (arith, nat_tests)
 
 -- the node that entered is in the view
@@ -236,14 +236,14 @@ module _ (n inc : ℕ) (before : History) (v : ViewId) (last : ℕ) where
   hands_some : (s c : Core) (h : List ℕ) (e : Entry) (bs : List (Option Filled)) → Same (put s h e) c → (handing c h (len_of s h) (state_of s h) (state_of (put s h e) h) e bs).records ≡ [] → ⊥
   hands_some s c h e bs same q = subst (Has (happened.Put s.views.me s.views.view h (len_of s h) e)) q (put_recorded n inc before s c h e bs same)
 
-  entering_recorded : (s : Core) (i : Install) → Has (happened.In s.views.me i.view i.members) (entered_core before s i).records
+  pub entering_recorded : (s : Core) (i : Install) → Has (happened.In s.views.me i.view i.members) (entered_core before s i).records
   unfolding view_entered recorded_all views_entered base_record
   entering_recorded s i =
       let told = sides_add (view_entered s i (bases_of i)) (held_rows s) s.views.view (bases_of i) in
       let r : Happened = happened.In s.views.me i.view i.members in
       subst (Has r) (sym told.is) (append_has_left r (view_entered s i (bases_of i)).records told.more (append_has_right r s.records (r ∷ map (base_record (view_entered s i (bases_of i))) (bases_of i)) (inl refl)))
 
-  base_recorded_at : (s : Core) (i : Install) (b : Base) → Has b (bases_of i) → Has (happened.Base s.views.me i.view b.name b.from b.len b.state) (entered_core before s i).records
+  pub base_recorded_at : (s : Core) (i : Install) (b : Base) → Has b (bases_of i) → Has (happened.Base s.views.me i.view b.name b.from b.len b.state) (entered_core before s i).records
   unfolding view_entered recorded_all views_entered base_record
   base_recorded_at s i b h =
       let told = sides_add (view_entered s i (bases_of i)) (held_rows s) s.views.view (bases_of i) in

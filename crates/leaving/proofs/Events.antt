@@ -111,7 +111,7 @@ dull_unasked p (happened.Refused n c fault) s = refl
 dull_unasked p (happened.Shown n line) s = refl
 
 -- what a goodbye is
-goodbye_is : (n : ℕ) (o : Option (List ℕ)) (v : Event) → goodbye_of n o (Some v) ≡ true → (m : ℕ) × (c : List ℕ) × (v ≡ event.Call m (call.Goodbye c)) × (m ≡ n) × (is_named c o ≡ true)
+pub goodbye_is : (n : ℕ) (o : Option (List ℕ)) (v : Event) → goodbye_of n o (Some v) ≡ true → (m : ℕ) × (c : List ℕ) × (v ≡ event.Call m (call.Goodbye c)) × (m ≡ n) × (is_named c o ≡ true)
 goodbye_is n o (event.Call m (call.Goodbye c)) e = (m, c, refl, eqb-true m n (first (m == n) (is_named c o) e), second (m == n) (is_named c o) e)
   where
     first : (a b : Bool) → (a && b) ≡ true → a ≡ true

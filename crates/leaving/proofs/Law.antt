@@ -228,7 +228,7 @@ begins_clean w k fresh =
 
 -- ---- every scene
 
-clean : (c : Config) (w : Scene) → Recounted c w → Clean w
+pub clean : (c : Config) (w : Scene) → Recounted c w → Clean w
 clean c _ Nothing = record { nodes = λ m. tt; unused = λ p un. refl; law = tt }
 clean c _ (AllStart fixed) =
     begins_clean (all_started c) (fold_begins (nodes_of c.nodes) (record (nothing_yet c) { before = record { event = None; records = [] } ∷ [] }) (record { records = []; is = refl; dull = λ r i. absurd i })) (fold_fresh (nodes_of c.nodes) (record (nothing_yet c) { before = record { event = None; records = [] } ∷ [] }) (record { sent = refl; nodes = λ m. tt; puts = (tt, tt); unasked = λ p. refl }))

@@ -1,0 +1,14 @@
+pub mod Walk
+pub mod Rows
+pub mod Walking
+pub mod Fair
+pub mod Tellings
+pub mod Moving
+pub mod Spoken
+pub mod Stayed
+pub mod Entered
+pub mod Law
+pub mod Others
+pub mod Reverse
+pub mod Takers
+pub mod Just

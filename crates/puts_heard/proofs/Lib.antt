@@ -1,0 +1,4 @@
+pub mod Later
+pub mod Told
+pub mod Law
+pub mod Quiet

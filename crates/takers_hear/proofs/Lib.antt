@@ -1,0 +1,14 @@
+pub mod Firsts
+pub mod Forward
+pub mod Growing
+pub mod Standing
+pub mod Putting
+pub mod Walk
+pub mod Rows
+pub mod Walking
+pub mod Keeping
+pub mod Calls
+pub mod Adding
+pub mod Resting
+pub mod Stepping
+pub mod Law
