@@ -1,0 +1,4 @@
+pub mod Takers
+pub mod Hears
+pub mod Left
+pub mod Heard

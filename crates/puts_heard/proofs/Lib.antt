@@ -1,4 +1,0 @@
-pub mod Later
-pub mod Told
-pub mod Law
-pub mod Quiet

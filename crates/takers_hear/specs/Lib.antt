@@ -1,2 +1,0 @@
-pub mod Takers
-pub mod Hears
