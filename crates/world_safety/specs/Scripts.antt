@@ -8,7 +8,7 @@ use Rattle.world_model.specs.Run.{trace_of}
 use Rattle.world_model.specs.Reading.{IsScript, script_of}
 use Rattle.world_model.specs.Play.{events_of, script_records}
 use Rattle.world_model.specs.Kept.{kept_records}
-use Rattle.run_safety.specs.Past.{EachRecord, history_of}
+use Rattle.run_safety.specs.Past.{EachEvent, EachRecord, history_of}
 use Rattle.run_safety.specs.Past as past
 use Rattle.run_safety.specs.SafeLists.{OneEntry}
 use Rattle.run_safety.specs.SafeGroups.{SafeGroups}
@@ -28,13 +28,15 @@ use Rattle.ring_runs.specs.Rings.{AddressesFit, NetworkAgrees}
 use Rattle.seen_runs.specs.Seen.{Seen}
 use Rattle.seen_runs.specs.Rings.{RingsSeen}
 use Rattle.run_safety.specs.SafeLists.{Each}
-use Rattle.run_safety.specs.SafeHeard.{InOrder, NotLetGo}
+use Rattle.run_safety.specs.SafeHeard.{InOrder, NotLetGo, Dissolves}
+use Rattle.gapless.specs.Heard.{EachIsHeard}
 use Rattle.world_answers.specs.Answers.{Answered, all_worded}
 use Rattle.world_safety.specs.Events.{run_of_events}
 
 -- These are the records of the run of these events with these answers, and it is safe: what each group sees of it, and that each view
 -- and group has one list; each provider hears in a row, at the puts of its node, each place once, without a gap, from its first place
--- to its last, and nothing once it was let go, and no entry names a joiner twice; what closes a phase has a row for each voter, the
+-- to its last, nothing once it was let go, and each put of its node at which it takes part; just who is left behind as its node
+-- enters a view is told that its group was dissolved; no entry names a joiner twice; what closes a phase has a row for each voter, the
 -- votes among them were cast, once in each phase and after its notice, who was late had its time, and was announced in a view of
 -- level 2; what such an entry carries is of the earliest ballot that has it; who is said to have failed did, and where it is gone
 -- without a goodbye it did not pass; reflections rise, and they and joins into a group with a source are as the source is; the rings
@@ -48,6 +50,8 @@ pub record IsSafe (c : Config) (es : List Answered) (rs : List Happened) : Type 
   pub heard_once : PlacesHeardOnce (history_of (run_of_events c es))
   pub in_order : Each InOrder (history_of (run_of_events c es))
   pub not_let_go : EachRecord NotLetGo (history_of (run_of_events c es))
+  pub all_hear : EachIsHeard (history_of (run_of_events c es))
+  pub dissolves : EachEvent Dissolves (history_of (run_of_events c es))
   pub named : EachRecord PutNamed (history_of (run_of_events c es))
   pub cast : VotesWereCast (history_of (run_of_events c es))
   pub cast_once : CastsOnce (history_of (run_of_events c es))
