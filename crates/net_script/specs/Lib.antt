@@ -1,5 +1,4 @@
 pub mod Cuts
 pub mod Faults
 pub mod Stage
-pub mod Rounds
-pub mod Safe
+pub mod Ends
