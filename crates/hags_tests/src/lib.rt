@@ -2,6 +2,8 @@
 #![tactic(auto)]
 
 #[cfg(test)]
+mod clients;
+#[cfg(test)]
 mod one_node;
 #[cfg(test)]
 mod runs;

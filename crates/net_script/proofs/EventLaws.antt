@@ -97,13 +97,16 @@ module _ {C : Type 0} {script : C → Option Items} {said : Items → Option Ite
   event_stops (world_fault.TooMuchKept n) k a s p v e h g =
       let comes : Comes script said s.world (Passes n s.world) (λ f w. happens_by f w e) (λ w. happens w e) = g n refl in
       let x : Answered = answered e comes.answers in
-      let b : Passes n s.world p.world (goes_on p.world x) = comes.comes p.world h.stands in
-      (with_answers p e comes.answers, event_played s p v e h comes, record {
-        events = x ∷ [];
-        records = [];
-        world = v;
-        happens = refl;
-        ends = one_ends s.world.limit s.world.kept n v x b.sent (sent_same p.world v x b.sent h.same b.sends) b.passed;
-        recorded = refl;
-        written = Appends-nil a;
-      })
+      let b : Passes n s.world p.world (goes_on p.world x) = comes.comes p.world h.stands in (
+        with_answers p e comes.answers,
+        event_played s p v e h comes,
+        record {
+          events = x ∷ [];
+          records = [];
+          world = v;
+          happens = refl;
+          ends = one_ends s.world.limit s.world.kept n v x b.sent (sent_same p.world v x b.sent h.same b.sends) b.passed;
+          recorded = refl;
+          written = Appends-nil a;
+        },
+      )

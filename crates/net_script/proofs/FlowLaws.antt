@@ -67,10 +67,10 @@ module _ {C : Type 0} {script : C → Option Items} {said : Items → Option Ite
       → (p : AnsweredPlay) → (v : World) → At script said s p v → (y : Sent) → (ys : List Sent) → p.world.queue ≡ y ∷ ys → waits_as y ≡ x → LeadsTo script said r k a b s t p (Takes said p y ys) v
   packet_given r k a b s t x is_given e g next p v h y ys q f =
       let same : (is_some (node_at p.world y.packet.to) ≡ is_some (find (is_me x.to) s.world.nodes)) × (is_cut p.cuts y.packet ≡ list_any (is_cut_of x.from x.to x.network) s.cuts) = given_same s p v x y h f in
-      let yes : (is_some (node_at p.world y.packet.to) && not (is_cut p.cuts y.packet)) ≡ true = rw (same.0, same.1) (sym e ∙ g) in
+      let given : (is_some (node_at p.world y.packet.to) && not (is_cut p.cuts y.packet)) ≡ true = rw (same.0, same.1) (sym e ∙ g) in
       let l : LeadsTo script said r k a b s t p (PlaysEvent said p (event.Deliver x.from x.to x.k)) v = next p v h in
       let made : PlaysEvent said p (event.Deliver y.packet.from y.packet.to y.k) l.play = subst (λ (z : Waiting). PlaysEvent said p (event.Deliver z.from z.to z.k) l.play) (sym f) l.made in
-      record { play = l.play; made = takes_given said p l.play y ys _ _ yes made; outcome = l.outcome }
+      record { play = l.play; made = takes_given said p l.play y ys _ _ given made; outcome = l.outcome }
 
   -- the packet that waits longest waits no more
   lost_stands : (s t : Stage C) (p : AnsweredPlay) (v : World) (y : Sent) (ys : List Sent) → At script said s p v → p.world.queue ≡ y ∷ ys
@@ -92,11 +92,11 @@ module _ {C : Type 0} {script : C → Option Items} {said : Items → Option Ite
       → (p : AnsweredPlay) → (v : World) → At script said s p v → (y : Sent) → (ys : List Sent) → p.world.queue ≡ y ∷ ys → waits_as y ≡ x → LeadsTo script said (Ok u) k a a s t p (Takes said p y ys) v
   packet_lost u k a s t x is_given e g left p v h y ys q f =
       let same : (is_some (node_at p.world y.packet.to) ≡ is_some (find (is_me x.to) s.world.nodes)) × (is_cut p.cuts y.packet ≡ list_any (is_cut_of x.from x.to x.network) s.cuts) = given_same s p v x y h f in
-      let no : (is_some (node_at p.world y.packet.to) && not (is_cut p.cuts y.packet)) ≡ false = rw (same.0, same.1) (sym e ∙ g) in
+      let lost : (is_some (node_at p.world y.packet.to) && not (is_cut p.cuts y.packet)) ≡ false = rw (same.0, same.1) (sym e ∙ g) in
       let to : AnsweredPlay = in_that_world p (record (p.world) { queue = ys }) in
       record {
         play = to;
-        made = takes_lost said p y ys _ _ no;
+        made = takes_lost said p y ys _ _ lost;
         outcome = went_still k a s t p to v (moved_still s t p to v refl (ap (λ (z : Stage C). z.world.limit) left) (ap (λ (z : Stage C). z.world.kept) left) (lost_stands s t p v y ys h q left));
       }
 

@@ -33,7 +33,7 @@ use Rattle.net_script.specs.declared.faults.PutFault.TheVariants as put_fault
 use Rattle.net_script.specs.Faults.{fault_of_put}
 use Rattle.net_script.specs.Stage.{At, Moved, Went, Passed, Broke, Stopped, LeadsTo}
 use Rattle.net_script.specs.Ends.{records_in, records_within, StopsAs, EndsAs, PlayedAs}
-use Rattle.net_script.proofs.SafePlays.{answered_play_is_safe}
+use Rattle.net_script.proofs.SafePlays.{answered_play_is_safe, answered_front_is_safe}
 use Rattle.net_script.proofs.TextLaws.{kinds_append, none_front}
 
 -- ---- the beginning
@@ -114,8 +114,7 @@ module _ {C : Type 0} {script : C → Option Items} {said : Items → Option Ite
       → Went script said kinds b c s t (starting f) p (world_new f) → EndsAs script said (Ok t.world) kinds limit f p a c
   play_done kinds a b c limit s t f p first o begun w =
       let runs : AnsweredRuns limit 0 (world_new f) w.events t.world.kept w.world = subst (λ k. AnsweredRuns limit k (world_new f) w.events t.world.kept w.world) o.kept (subst (λ l. AnsweredRuns l s.world.kept (world_new f) w.events t.world.kept w.world) o.limited w.moved.runs) in
-      let trace : p.world.trace ≡ reverse_onto w.records (world_new f).trace = sym (ap (λ (z : World). z.trace) w.moved.at.same) ∙ w.moved.recorded in
-      (
+      let trace : p.world.trace ≡ reverse_onto w.records (world_new f).trace = sym (ap (λ (z : World). z.trace) w.moved.at.same) ∙ w.moved.recorded in (
         ap (λ (z : Ended). z.passed) (whole_runs limit t.world.kept f p w.events w.world w.moved.happens runs),
         ap (λ (z : Ended). reverse_onto z.world.trace []) (whole_runs limit t.world.kept f p w.events w.world w.moved.happens runs) ∙ ap (λ (z : World). reverse_onto z.trace []) w.moved.at.same,
         text_on kinds a b c first w.records (records_in p) (all_so_far first w.records (world_new f) p.world.trace o.trace trace) begun w.written,
@@ -152,13 +151,13 @@ module _ {C : Type 0} {script : C → Option Items} {said : Items → Option Ite
       → ((p : AnsweredPlay) → (v : World) → At script said s p v → LeadsTo script said (Ok u) kinds b c s t p (PlaysLines said p x.lines) v) → PlayedAs script said (Ok t.world) kinds limit x a c
   played_done kinds a b c limit s t x first o begun next =
       let l = next (starting x.config) (world_new x.config) o.at in
-      record { play = l.play; lines = l.made; ends = play_done kinds a b c limit s t x.config l.play first o begun l.outcome; safe = answered_play_is_safe said x l.play l.made }
+      record { play = l.play; lines = l.made; ends = play_done kinds a b c limit s t x.config l.play first o begun l.outcome; safe = answered_play_is_safe said x l.play l.made; safe_front = answered_front_is_safe said limit x l.play l.made }
 
   pub played_stopped : {U : Type 0} (e : PlayFault) (kinds : Kinds) (a b c : Option (List ℕ)) (limit : ℕ) (s t : Stage C) (x : Script) (first : List Happened) → Opened script said limit s x.config first → Appends a b (kinds_text kinds first)
       → ((p : AnsweredPlay) → (v : World) → At script said s p v → LeadsTo {U = U} script said (Err e) kinds b c s t p (PlaysLines said p x.lines) v) → PlayedAs script said (Err e) kinds limit x a c
   played_stopped e kinds a b c limit s t x first o begun next =
       let l = next (starting x.config) (world_new x.config) o.at in
-      record { play = l.play; lines = l.made; ends = play_stopped e kinds a b c limit s x.config l.play first o begun l.outcome; safe = answered_play_is_safe said x l.play l.made }
+      record { play = l.play; lines = l.made; ends = play_stopped e kinds a b c limit s x.config l.play first o begun l.outcome; safe = answered_play_is_safe said x l.play l.made; safe_front = answered_front_is_safe said limit x l.play l.made }
 
 -- ---- it ended before the first line
 
@@ -176,11 +175,11 @@ pub starts_stopped : {C : Type 0} (script : C → Option Items) (said : Items �
     → PlayedAs script said r kinds limit x a a
 starts_stopped script said r kinds limit x a h =
     let p = lines_go said (starting x.config) x.lines in
-    record { play = p.0; lines = p.1; ends = ended_err script said r play_fault.NoMemory kinds limit x.config p.0 a a h (none_front a (kinds_text kinds (records_within limit x.config p.0))); safe = answered_play_is_safe said x p.0 p.1 }
+    record { play = p.0; lines = p.1; ends = ended_err script said r play_fault.NoMemory kinds limit x.config p.0 a a h (none_front a (kinds_text kinds (records_within limit x.config p.0))); safe = answered_play_is_safe said x p.0 p.1; safe_front = answered_front_is_safe said limit x p.0 p.1 }
 
 -- what they recorded could not be written
 pub starts_cut : {C : Type 0} (script : C → Option Items) (said : Items → Option Items) (r : Result (kept.World C) PlayFault) (f : PutFault) (kinds : Kinds) (limit : ℕ) (x : Script) (a b : Option (List ℕ)) (first : List Happened) → IsErr r × IsErrAnd r (λ e. e ≡ fault_of_put f)
     → (world_new x.config).trace ≡ reverse_onto first [] → GrowsByFront a b (kinds_text kinds first) → PlayedAs script said r kinds limit x a b
 starts_cut script said r f kinds limit x a b first h trace g =
     let p = first_front said kinds a b limit x.config x.lines first trace g in
-    record { play = p.0; lines = p.1; ends = ended_err script said r (fault_of_put f) kinds limit x.config p.0 a b h (front_stops f kinds limit x.config p.0 a b p.2); safe = answered_play_is_safe said x p.0 p.1 }
+    record { play = p.0; lines = p.1; ends = ended_err script said r (fault_of_put f) kinds limit x.config p.0 a b h (front_stops f kinds limit x.config p.0 a b p.2); safe = answered_play_is_safe said x p.0 p.1; safe_front = answered_front_is_safe said limit x p.0 p.1 }

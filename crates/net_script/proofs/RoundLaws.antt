@@ -75,8 +75,7 @@ module _ {C : Type 0} {script : C → Option Items} {said : Items → Option Ite
       let y = flow_goes said flow_limit x.play in
       let q = rounds_go said (count - (i + 1)) y.0 in
       let one = flow_adds flow_limit x.play y.0 y.1 in
-      let more = rounds_add (count - (i + 1)) y.0 q.0 q.1 in
-      (
+      let more = rounds_add (count - (i + 1)) y.0 q.0 q.1 in (
         q.0,
         f.rest q.0 (subst (λ n. PlaysRounds said n f.played q.0) less (rounds_next said (count - (i + 1)) f.played y.0 q.0 (x.play, x.made, y.1) q.1)),
         stopped_on e k a c s p y.0 q.0 v more.events (stopped_on e k a c s p x.play y.0 v one.events (then_stopped e k a b c s m p f.played x.play v f.went x.outcome) one.grew) more.grew,
@@ -93,8 +92,7 @@ module _ {C : Type 0} {script : C → Option Items} {said : Items → Option Ite
       let y : LeadsTo {U = V} script said (Err e) k c d o n x.play (PlaysFlow said flow_limit x.play) g.world = next x.play g.world g.moved.at in
       let less : suc (count - (i + 1)) ≡ count - i = omega arith in
       let q = rounds_go said (count - (i + 1)) y.play in
-      let more = rounds_add (count - (i + 1)) y.play q.0 q.1 in
-      (
+      let more = rounds_add (count - (i + 1)) y.play q.0 q.1 in (
         q.0,
         f.rest q.0 (subst (λ n. PlaysRounds said n f.played q.0) less (rounds_next said (count - (i + 1)) f.played y.play q.0 (x.play, x.made, y.made) q.1)),
         stopped_on e k a d s p y.play q.0 v more.events (then_stopped e k a c d s o p x.play y.play v g y.outcome) more.grew,

@@ -9,18 +9,19 @@ use Rattle.world_model.specs.declared.script.Line.{Line}
 use Rattle.world_model.specs.declared.script.Line.TheVariants as line
 use Rattle.world_model.specs.declared.script.Script.{Script}
 use Rattle.world_model.specs.World.{Sent, World, node_at, world_new}
+use Rattle.world_model.specs.Kept.{Bytes, with_packet, sent_since, Ended}
 use Rattle.world_model.specs.Play.{is_cut, flow_limit}
 use Rattle.world_runs.specs.Runs.{SameRun}
 use Rattle.world_runs.proofs.Backwards.{reversed_back}
 use Rattle.world_answers.specs.Answers.{Items, Answered, events_in, goes_on, answered_after, answered_records}
 use Rattle.world_answers.specs.Plays.{AnsweredPlay, starting, PlaysEvent, PlaysEach, TakesPacket, TakesNext, PlaysFlow, PlaysTick, PlaysTicks, numbers_up, PlaysRound, PlaysRounds, PlaysLine, PlaysLines}
-use Rattle.world_answers.specs.Limits.{answered_in}
+use Rattle.world_answers.specs.Limits.{answered_within, answered_in, limited}
 use Rattle.world_answers.proofs.Adding.{lines_add}
 use Rattle.world_safety.specs.Events.{MayHappen, AllMayHappen}
 use Rattle.world_safety.specs.Scripts.{IsSafe}
 use Rattle.world_safety.specs.Plays.{LineMay, LinesMay, MayPlay}
 use Rattle.world_safety.proofs.Scripts.{every_answer_is_safe}
-use Rattle.net_script.specs.Ends.{records_in}
+use Rattle.net_script.specs.Ends.{records_in, records_within, FrontIsSafe}
 
 event_may : (c : Config) (e : Event) → LineMay c.mode (line.Plain e) → MayHappen c e
 event_may c (event.Start n) may = may
@@ -78,9 +79,52 @@ same_records : (c : Config) (p : AnsweredPlay) (es : List Answered) → answered
 unfolding answered_records answered_after
 same_records c p es e same = ap (λ zs. reverse_onto (fold goes_on (world_new c) zs).trace []) e ∙ ap (λ (w : World). reverse_onto w.trace []) same
 
+-- the events of a play of lines that may happen, in order, may happen
+play_may : (said : Items → Option Items) (x : Script) (p : AnsweredPlay) → PlaysLines said (starting x.config) x.lines p → MayPlay x → AllMayHappen x.config (events_in (answered_in p))
+play_may said x p h may = all_turned x.config p.events [] (lines_fine said x.config (starting x.config) x.lines p may h tt) tt
+
 pub answered_play_is_safe : (said : Items → Option Items) (x : Script) (p : AnsweredPlay) → PlaysLines said (starting x.config) x.lines p → MayPlay x → IsSafe x.config (answered_in p) (records_in p)
 answered_play_is_safe said x p h may =
     let adds = lines_add (starting x.config) x.lines p h in
     let all : answered_in p ≡ adds.events = ap (λ zs. reverse_onto zs []) adds.grew ∙ reversed_back adds.events [] in
-    let fine : AllMayHappen x.config (events_in (answered_in p)) = all_turned x.config p.events [] (lines_fine said x.config (starting x.config) x.lines p may h tt) tt in
-    subst (IsSafe x.config (answered_in p)) (same_records x.config p adds.events all (adds.comes (world_new x.config) refl)) (every_answer_is_safe x.config (answered_in p) fine)
+    subst (IsSafe x.config (answered_in p)) (same_records x.config p adds.events all (adds.comes (world_new x.config) refl)) (every_answer_is_safe x.config (answered_in p) (play_may said x p h may))
+
+-- ---- up to the event that passes the limit
+
+-- a front of these events comes to this world
+record Front (w : World) (es : List Answered) (v : World) : Type 0 where
+  front : List Answered
+  rest : List Answered
+  whole : es ≡ front ++ rest
+  comes : v ≡ fold goes_on w front
+
+-- it ends before the event, or goes on
+abbrev ends_by : World → Ended → Option ℕ → Ended
+ends_by w z (Some n) = record { world = w; passed = Some n }
+ends_by w z None = z
+
+limited_front : (limit sum : ℕ) (w : World) (es : List Answered) → Front w es (answered_within limit sum w es).world
+unfolding answered_within
+limited_front limit sum w [] = record { front = []; rest = []; whole = refl; comes = refl }
+limited_front limit sum w (e ∷ es) =
+    let v : World = goes_on w e in
+    let b : Bytes = fold (with_packet limit) (record { sum = sum; passed = None }) (sent_since w v) in
+    by (answered_within limit b.sum v es) b.passed (limited_front limit b.sum v es)
+  where
+    by : (z : Ended) (o : Option ℕ) → Front (goes_on w e) es z.world → Front w (e ∷ es) (ends_by w z o).world
+    by z (Some n) f = record { front = []; rest = e ∷ es; whole = refl; comes = refl }
+    by z None f = record { front = e ∷ f.front; rest = f.rest; whole = ap (λ zs. e ∷ zs) f.whole; comes = f.comes }
+
+front_may : (c : Config) (xs ys : List Answered) → AllMayHappen c (events_in (xs ++ ys)) → AllMayHappen c (events_in xs)
+front_may c [] ys a = tt
+front_may c (x ∷ xs) ys a = (a.0, front_may c xs ys a.1)
+
+front_records : (c : Config) (es : List Answered) (v : World) → v ≡ fold goes_on (world_new c) es → answered_records c es ≡ reverse_onto v.trace []
+unfolding answered_records answered_after
+front_records c es v e = ap (λ (z : World). reverse_onto z.trace []) (sym e)
+
+pub answered_front_is_safe : (said : Items → Option Items) (limit : ℕ) (x : Script) (p : AnsweredPlay) → PlaysLines said (starting x.config) x.lines p → MayPlay x → FrontIsSafe limit x.config p
+answered_front_is_safe said limit x p h may =
+    let f : Front (world_new x.config) (answered_in p) (limited limit x.config p).world = limited_front limit 0 (world_new x.config) (answered_in p) in
+    let fine : AllMayHappen x.config (events_in f.front) = front_may x.config f.front f.rest (subst (λ es. AllMayHappen x.config (events_in es)) f.whole (play_may said x p h may)) in
+    (f.front, f.rest, f.whole, subst (IsSafe x.config f.front) (front_records x.config f.front (limited limit x.config p).world f.comes) (every_answer_is_safe x.config f.front fine))

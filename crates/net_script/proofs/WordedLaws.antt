@@ -89,13 +89,13 @@ stops_front play_fault.NoMemory kinds limit c p a b h = h
 module _ {C : Type 0} {script : C → Option Items} {said : Items → Option Items} where
   pub says_done : (all : AllWorded said) (w : kept.World C) (kinds : Kinds) (limit : ℕ) (x : Script) (a b : Option (List ℕ)) → (x.begun ≡ true → PlayedAs script said (Ok w) kinds limit x a b)
       → (x.begun ≡ false → (b ≡ a) × Stands script said w (world_new x.config)) → (kept_past limit x ≡ None) × Appends a b (kinds_text kinds (script_records x))
-  says_done all w kinds limit x a b yes no = by x.begun refl
+  says_done all w kinds limit x a b begun other = by x.begun refl
     where
       by : (t : Bool) → x.begun ≡ t → (kept_past limit x ≡ None) × Appends a b (kinds_text kinds (script_records x))
       by true e =
-          let p = yes e in
+          let p = begun e in
           (past_same said all limit x p.play None e p.lines p.ends.0, subst (λ rs. Appends a b (kinds_text kinds rs)) (sym (records_same said all x p.play e p.lines)) p.ends.2)
-      by false e = (unbegun_past limit x e, subst (λ z. Appends a z (kinds_text kinds (script_records x))) (sym (no e).0) (unbegun_text kinds a x e))
+      by false e = (unbegun_past limit x e, subst (λ z. Appends a z (kinds_text kinds (script_records x))) (sym (other e).0) (unbegun_text kinds a x e))
 
   done_front : (all : AllWorded said) (w : kept.World C) (kinds : Kinds) (limit : ℕ) (x : Script) (a b : Option (List ℕ)) → x.begun ≡ true → PlayedAs script said (Ok w) kinds limit x a b → GrowsByFront a b (kinds_text kinds (kept_records limit x))
   done_front all w kinds limit x a b e p =
@@ -103,14 +103,14 @@ module _ {C : Type 0} {script : C → Option Items} {said : Items → Option Ite
 
   pub says_kept : (all : AllWorded said) (f : PlayFault) (n : ℕ) (kinds : Kinds) (limit : ℕ) (x : Script) (a b : Option (List ℕ)) → f ≡ play_fault.Kept n → (x.begun ≡ true → PlayedAs script said (Err f) kinds limit x a b)
       → (x.begun ≡ false → ⊥) → (kept_past limit x ≡ Some n) × Appends a b (kinds_text kinds (kept_records limit x))
-  says_kept all f n kinds limit x a b is yes no = by x.begun refl
+  says_kept all f n kinds limit x a b is begun other = by x.begun refl
     where
       by : (t : Bool) → x.begun ≡ t → (kept_past limit x ≡ Some n) × Appends a b (kinds_text kinds (kept_records limit x))
       by true e =
-          let p = yes e in
+          let p = begun e in
           let ends : StopsAs (play_fault.Kept n) kinds limit x.config p.play a b = subst (λ z. StopsAs z kinds limit x.config p.play a b) is p.ends in
           (past_same said all limit x p.play (Some n) e p.lines ends.0, subst (λ rs. Appends a b (kinds_text kinds rs)) (sym (kept_same said all limit x p.play e p.lines)) ends.1)
-      by false e = absurd (no e)
+      by false e = absurd (other e)
 
   stopped_front : (all : AllWorded said) (f : PlayFault) (kinds : Kinds) (limit : ℕ) (x : Script) (a b : Option (List ℕ)) → x.begun ≡ true → PlayedAs script said (Err f) kinds limit x a b → GrowsByFront a b (kinds_text kinds (kept_records limit x))
   stopped_front all f kinds limit x a b e p =
@@ -122,8 +122,8 @@ module _ {C : Type 0} {script : C → Option Items} {said : Items → Option Ite
 
   pub says_front : (all : AllWorded said) (r : Result (kept.World C) PlayFault) (kinds : Kinds) (limit : ℕ) (x : Script) (a b : Option (List ℕ)) → (x.begun ≡ true → PlayedAs script said r kinds limit x a b) → (x.begun ≡ false → b ≡ a)
       → GrowsByFront a b (kinds_text kinds (kept_records limit x))
-  says_front all r kinds limit x a b yes no = by x.begun refl
+  says_front all r kinds limit x a b begun other = by x.begun refl
     where
       by : (t : Bool) → x.begun ≡ t → GrowsByFront a b (kinds_text kinds (kept_records limit x))
-      by true e = ended_front all r kinds limit x a b e (yes e)
-      by false e = front_same a b (kinds_text kinds (kept_records limit x)) (no e)
+      by true e = ended_front all r kinds limit x a b e (begun e)
+      by false e = front_same a b (kinds_text kinds (kept_records limit x)) (other e)

@@ -1,12 +1,12 @@
 -- How the play of a script ends whose clients are of any kind.
-use Rattle.std.specs.Prelude.{◌≡◌, ℕ, List, [], Option, Some, None, Result, Ok, Err}
+use Rattle.std.specs.Prelude.{◌≡◌, ℕ, List, [], ◌++◌, Option, Some, None, Result, Ok, Err}
 use Rattle.std.specs.Io.KnownBytes.{Appends}
 use Rattle.hags_io.specs.Edges.{GrowsByFront}
 use Rattle.rsct_packet.specs.Lists.{reverse_onto}
 use Rattle.node_state.specs.declared.config.Config.{Config}
 use Rattle.node_state.specs.declared.happened.Happened.{Happened}
 use Rattle.world_model.specs.declared.script.Script.{Script}
-use Rattle.world_answers.specs.Answers.{Items}
+use Rattle.world_answers.specs.Answers.{Items, Answered}
 use Rattle.world_answers.specs.Plays.{AnsweredPlay, starting, PlaysLines}
 use Rattle.world_answers.specs.Limits.{answered_in, limited}
 use Rattle.world_safety.specs.Scripts.{IsSafe}
@@ -37,10 +37,15 @@ EndsAs script said (Ok w) kinds limit c p old new =
     ((limited limit c p).passed ≡ None) × (records_within limit c p ≡ records_in p) × Appends old new (kinds_text kinds (records_in p)) × Stands script said w p.world
 EndsAs script said (Err e) kinds limit c p old new = StopsAs e kinds limit c p old new
 
--- the script was played: with what the clients answered, its lines come to this play, and it ended like this; the run
--- of the play is safe where the lines of the script may happen
+-- the records before its packets pass a number of bytes are those of a safe run: that of a front of its events
+abbrev pub FrontIsSafe : ℕ → Config → AnsweredPlay → Type 0
+FrontIsSafe limit c p = (es : List Answered) × (fs : List Answered) × (answered_in p ≡ es ++ fs) × IsSafe c es (records_within limit c p)
+
+-- the script was played: with what the clients answered, its lines come to this play, and it ended like this; where the
+-- lines of the script may happen the run of the play is safe, the whole one and up to the event that passes the limit
 pub record PlayedAs {C : Type 0} (script : C → Option Items) (said : Items → Option Items) (r : Result (World C) PlayFault) (kinds : Kinds) (limit : ℕ) (x : Script) (old new : Option (List ℕ)) : Type 0 where
   pub play : AnsweredPlay
   pub lines : PlaysLines said (starting x.config) x.lines play
   pub ends : EndsAs script said r kinds limit x.config play old new
   pub safe : MayPlay x → IsSafe x.config (answered_in play) (records_in play)
+  pub safe_front : MayPlay x → FrontIsSafe limit x.config play

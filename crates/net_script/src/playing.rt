@@ -54,11 +54,7 @@ fn play_begun<C: Made, K: Sink>(
 }
 
 /// The world with which the run of a script without a `begin` line would begin.
-fn play_nothing<C: Made>(
-    alloc: Global,
-    script: &Script,
-    limit: u64,
-) -> Result<World<C>, PlayFault>
+fn play_nothing<C: Made>(alloc: Global, script: &Script, limit: u64) -> Result<World<C>, PlayFault>
     ensures world { IfOk result (λ w. Stands C.script C.script_of w (world_new script.now.config)) }
     ensures kept { (n : ℕ) → IsErrOf result (PlayFault.Kept n) → ⊥ }
     ensures fault { result ≡ Err PlayFault.WriteFault → ⊥ }
@@ -72,9 +68,14 @@ fn play_nothing<C: Made>(
 
 /// Plays a script with clients of any kind that is made of votes words, and gives the world at its end.
 ///
-/// The records of its run are written as `play` says, with what the clients answer; where the packets pass the limit,
-/// and after other faults, what was written is as `play` says too. A client that is made of a word was handed nothing.
-/// Of a script without a `begin` line nothing is written, and the world is that with which its run would begin.
+/// With some answers of the clients, the run is that of the definitions: its records are written as `play` says of those
+/// where each client votes just as its word says, and so is what is written where the packets pass the limit, and after
+/// other faults. Where the lines of the script may happen the run is safe, whatever the clients answer: the whole one,
+/// and up to the event whose packets pass the limit. Of a script without a `begin` line nothing is written, and the world
+/// is that with which its run would begin.
+///
+/// Not said: that a client at the end stands for the list of what it was handed. Sessions say it of each client, but
+/// what hands entries on to them, up to the step of a node, says nothing of it.
 pub fn play_as<C: Made, K: Sink>(
     alloc: Global,
     script: &Script,
