@@ -1,5 +1,5 @@
 -- A plain event of a play.
-use Rattle.std.proofs.Common.{◌≡◌, ℕ, List, [], ◌∷◌, ◌++◌, Option, Some, None, Result, Ok, Err, refl, sym, ◌∙◌, ap, subst}
+use Rattle.std.proofs.Common.{◌≡◌, ℕ, List, [], ◌∷◌, ◌++◌, Option, Ok, refl, sym, ◌∙◌, ap, subst}
 use Rattle.std.specs.Io.KnownBytes.{Appends}
 use Rattle.std.proofs.KnownBytes.{Appends-nil}
 use Rattle.hags_io.specs.Edges.{GrowsByFront}
@@ -18,15 +18,14 @@ use Rattle.world_play.specs.declared.fault.WorldFault.TheVariants as world_fault
 use Rattle.node_state.specs.HandOn.{Answering}
 use Rattle.world_answers.specs.Answers.{Items, Answered, happens_by, goes_on}
 use Rattle.world_answers.specs.Plays.{AnsweredPlay, with_answers, PlaysEvent}
-use Rattle.world_play.specs.Standing.{Stands, Holds, Goes, Passes, Comes}
-use Rattle.world_play.proofs.WorldLaws.{stands_hold}
+use Rattle.world_play.specs.Standing.{Holds, Goes, Passes, Comes}
 use Rattle.transcript.specs.declared.kinds.Kinds.{Kinds}
 use Rattle.transcript.specs.Kinds.{kinds_text}
 use Rattle.net_script.specs.declared.stage.Stage.{Stage}
 use Rattle.net_script.specs.declared.faults.PutFault.{PutFault}
 use Rattle.net_script.specs.declared.faults.PutFault.TheVariants as put_fault
 use Rattle.net_script.specs.Faults.{fault_of_world, fault_of_put}
-use Rattle.net_script.specs.Stage.{At, Moved, Went, Broke, Stopped, LeadsTo}
+use Rattle.net_script.specs.Stage.{At, Moved, Broke, Stopped, LeadsTo}
 use Rattle.net_script.proofs.StageLaws.{broke_none}
 
 -- what is sent where nothing waits is sent where something does

@@ -1,11 +1,10 @@
 -- Packets that flow.
-use Rattle.std.proofs.Common.{◌≡◌, ℕ, zero, suc, ◌+◌, ◌-◌, ◌<◌, ◌≤◌, ◌==◌, ◌&&◌, not, Bool, true, false, List, [], ◌∷◌, map, drop, Option, Some, None, Result, Ok, Err, refl, sym, ◌∙◌, ap, subst, arith}
+use Rattle.std.proofs.Common.{◌≡◌, ℕ, suc, ◌+◌, ◌-◌, ◌<◌, ◌≤◌, ◌&&◌, not, Bool, true, false, List, [], ◌∷◌, map, drop, Option, Some, None, Result, Ok, Err, refl, sym, ◌∙◌, ap, subst, arith}
 use Rattle.std.specs.Prelude.{find, is_some}
 use Rattle.std.specs.List.{list_any}
 use Rattle.world_model.specs.declared.event.Event.TheVariants as event
 use Rattle.world_model.specs.World.{World, Sent, node_at, is_node}
 use Rattle.world_model.specs.Play.{is_cut_of, is_cut}
-use Rattle.world_runs.specs.Runs.{SameRun}
 use Rattle.world_packets.specs.declared.waiting.Waiting.{Waiting}
 use Rattle.world_packets.specs.Packets.{waits_as, first_of}
 use Rattle.world_answers.specs.Answers.{Items}
@@ -13,12 +12,12 @@ use Rattle.world_answers.specs.Plays.{AnsweredPlay, in_that_world, PlaysEvent, T
 use Rattle.world_answers.proofs.Adding.{flow_adds}
 use Rattle.world_answers.proofs.Going.{flow_goes, flow_none}
 use Rattle.world_answers.proofs.Going as going
-use Rattle.world_play.specs.Standing.{is_me, Stands}
+use Rattle.world_play.specs.Standing.{is_me}
 use Rattle.world_play.proofs.NodeLaws.{stands_found}
 use Rattle.transcript.specs.declared.kinds.Kinds.{Kinds}
 use Rattle.net_script.specs.declared.stage.Stage.{Stage}
 use Rattle.net_script.specs.declared.faults.PlayFault.{PlayFault}
-use Rattle.net_script.specs.Stage.{At, Moved, Went, Stopped, Outcome, LeadsTo}
+use Rattle.net_script.specs.Stage.{At, Went, Stopped, LeadsTo}
 use Rattle.net_script.proofs.StageLaws.{moved_still, went_still, went_none, then_went, then_stopped, stopped_on}
 
 takes_given : (said : Items → Option Items) (p q : AnsweredPlay) (y : Sent) (ys : List Sent) (up cut : Bool) → (up && not cut) ≡ true → PlaysEvent said p (event.Deliver y.packet.from y.packet.to y.k) q → TakesPacket said p y ys up cut q

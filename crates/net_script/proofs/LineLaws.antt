@@ -1,5 +1,5 @@
 -- Lines that are no plain events.
-use Rattle.std.proofs.Common.{◌≡◌, ℕ, not, List, [], map, Option, refl, sym, ◌∙◌, ap, subst}
+use Rattle.std.proofs.Common.{◌≡◌, ℕ, not, List, Option, refl, ◌∙◌, ap}
 use Rattle.std.specs.Prelude.{filter}
 use Rattle.world_model.specs.declared.script.Line.{Line}
 use Rattle.world_model.specs.World.{World}
@@ -11,8 +11,7 @@ use Rattle.world_answers.proofs.Adding.{line_adds}
 use Rattle.world_answers.proofs.Going.{line_goes}
 use Rattle.transcript.specs.declared.kinds.Kinds.{Kinds}
 use Rattle.net_script.specs.declared.stage.Stage.{Stage}
-use Rattle.net_script.specs.declared.faults.PlayFault.TheVariants as play_fault
-use Rattle.net_script.specs.Stage.{At, Moved, Went, Broke}
+use Rattle.net_script.specs.Stage.{At, Went, Broke}
 use Rattle.net_script.proofs.CutLaws.{kept_in}
 use Rattle.net_script.proofs.ListLaws.{Playable}
 use Rattle.net_script.proofs.StageLaws.{moved_still, went_still, broke_none}

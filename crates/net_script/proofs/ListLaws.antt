@@ -1,5 +1,5 @@
 -- A list of things to play, one after another: ticks or lines.
-use Rattle.std.proofs.Common.{◌≡◌, ℕ, ◌+◌, ◌<◌, ◌≤◌, List, ◌∷◌, length, drop, get_or, Option, Result, Ok, Err, refl, sym, ◌∙◌, ap, subst}
+use Rattle.std.proofs.Common.{◌≡◌, ℕ, ◌+◌, ◌<◌, ◌≤◌, List, length, drop, get_or, Option, Ok, Err, refl, sym, subst}
 use Rattle.world_model.specs.World.{World}
 use Rattle.world_answers.specs.Answers.{Items}
 use Rattle.world_answers.specs.Plays.{AnsweredPlay, PlaysEach}

@@ -1,5 +1,5 @@
 -- The play of a whole script, whatever its clients answer.
-use Rattle.std.proofs.Common.{◌≡◌, ℕ, List, [], ◌∷◌, ◌++◌, Option, Some, None, Result, Ok, Err, refl, sym, ◌∙◌, ap, subst, append-nil}
+use Rattle.std.proofs.Common.{◌≡◌, ℕ, List, [], ◌++◌, Option, Some, None, Result, Ok, Err, refl, sym, ◌∙◌, ap, subst, append-nil}
 use Rattle.std.specs.Result.{IsErr, IsErrAnd}
 use Rattle.std.specs.Io.KnownBytes.{Appends}
 use Rattle.std.proofs.KnownBytes.{Appends-nil, Appends-trans}
@@ -22,7 +22,7 @@ use Rattle.world_answers.proofs.Adding.{lines_add}
 use Rattle.world_answers.proofs.Going.{lines_go}
 use Rattle.world_answers.proofs.Limits.{tells_none}
 use Rattle.world_play.specs.declared.world.World as kept
-use Rattle.world_play.specs.Standing.{Stands, Goes, bytes_after, kept_empty}
+use Rattle.world_play.specs.Standing.{Goes, bytes_after, kept_empty}
 use Rattle.transcript.specs.declared.kinds.Kinds.{Kinds}
 use Rattle.transcript.specs.Kinds.{kinds_text}
 use Rattle.net_script.specs.declared.stage.Stage.{Stage}
@@ -31,7 +31,7 @@ use Rattle.net_script.specs.declared.faults.PlayFault.TheVariants as play_fault
 use Rattle.net_script.specs.declared.faults.PutFault.{PutFault}
 use Rattle.net_script.specs.declared.faults.PutFault.TheVariants as put_fault
 use Rattle.net_script.specs.Faults.{fault_of_put}
-use Rattle.net_script.specs.Stage.{At, Moved, Went, Passed, Broke, Stopped, LeadsTo}
+use Rattle.net_script.specs.Stage.{At, Went, Passed, Broke, Stopped, LeadsTo}
 use Rattle.net_script.specs.Ends.{records_in, records_within, StopsAs, EndsAs, PlayedAs}
 use Rattle.net_script.proofs.SafePlays.{answered_play_is_safe, answered_front_is_safe}
 use Rattle.net_script.proofs.TextLaws.{kinds_append, none_front}

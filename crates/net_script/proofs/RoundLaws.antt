@@ -1,12 +1,12 @@
 -- Rounds of ticks and flows.
-use Rattle.std.proofs.Common.{◌≡◌, ℕ, zero, suc, ◌+◌, ◌-◌, ◌<◌, ◌≤◌, List, [], ◌∷◌, map, Option, Result, Ok, Err, refl, sym, ◌∙◌, ap, subst, arith}
+use Rattle.std.proofs.Common.{◌≡◌, ℕ, suc, ◌+◌, ◌-◌, ◌<◌, ◌≤◌, List, [], ◌∷◌, map, Option, Result, Ok, Err, refl, ◌∙◌, ap, subst, arith}
 use Rattle.node_step.specs.Node.{NodeView}
 use Rattle.world_model.specs.World.{World}
 use Rattle.world_model.specs.World as world
 use Rattle.world_model.specs.declared.event.Event.TheVariants as event
 use Rattle.world_model.specs.Play.{flow_limit}
 use Rattle.world_answers.specs.Answers.{Items}
-use Rattle.world_answers.specs.Plays.{AnsweredPlay, PlaysEach, PlaysFlow, PlaysTick, PlaysTicks, numbers_up, PlaysRounds}
+use Rattle.world_answers.specs.Plays.{AnsweredPlay, PlaysEach, PlaysFlow, PlaysTick, PlaysTicks, PlaysRounds}
 use Rattle.world_answers.proofs.Adding.{event_adds, flow_adds, rounds_add}
 use Rattle.world_answers.proofs.Going.{tick_goes, flow_goes, rounds_go, rounds_next, rounds_over}
 use Rattle.world_play.specs.Standing.{NodesStand, number_in}

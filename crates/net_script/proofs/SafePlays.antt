@@ -1,5 +1,5 @@
 -- A play of lines that may happen is a safe run, whatever its clients answer.
-use Rattle.std.proofs.Common.{◌≡◌, ℕ, zero, suc, Bool, true, false, List, [], ◌∷◌, ◌++◌, fold, map, Option, Some, None, refl, sym, ◌∙◌, ap, subst}
+use Rattle.std.proofs.Common.{◌≡◌, ℕ, zero, suc, Bool, true, false, List, [], ◌∷◌, ◌++◌, fold, Option, Some, None, refl, sym, ◌∙◌, ap, subst}
 use Rattle.std.specs.Prelude.{is_some}
 use Rattle.rsct_packet.specs.Lists.{reverse_onto}
 use Rattle.node_state.specs.declared.config.Config.{Config}
@@ -14,14 +14,14 @@ use Rattle.world_model.specs.Play.{is_cut, flow_limit}
 use Rattle.world_runs.specs.Runs.{SameRun}
 use Rattle.world_runs.proofs.Backwards.{reversed_back}
 use Rattle.world_answers.specs.Answers.{Items, Answered, events_in, goes_on, answered_after, answered_records}
-use Rattle.world_answers.specs.Plays.{AnsweredPlay, starting, PlaysEvent, PlaysEach, TakesPacket, TakesNext, PlaysFlow, PlaysTick, PlaysTicks, numbers_up, PlaysRound, PlaysRounds, PlaysLine, PlaysLines}
+use Rattle.world_answers.specs.Plays.{AnsweredPlay, starting, PlaysEvent, PlaysEach, TakesPacket, TakesNext, PlaysFlow, PlaysTick, numbers_up, PlaysRounds, PlaysLine, PlaysLines}
 use Rattle.world_answers.specs.Limits.{answered_within, answered_in, limited}
 use Rattle.world_answers.proofs.Adding.{lines_add}
 use Rattle.world_safety.specs.Events.{MayHappen, AllMayHappen}
 use Rattle.world_safety.specs.Scripts.{IsSafe}
 use Rattle.world_safety.specs.Plays.{LineMay, LinesMay, MayPlay}
 use Rattle.world_safety.proofs.Scripts.{every_answer_is_safe}
-use Rattle.net_script.specs.Ends.{records_in, records_within, FrontIsSafe}
+use Rattle.net_script.specs.Ends.{records_in, FrontIsSafe}
 
 event_may : (c : Config) (e : Event) → LineMay c.mode (line.Plain e) → MayHappen c e
 event_may c (event.Start n) may = may

@@ -1,5 +1,5 @@
 -- The parts of a play one after another.
-use Rattle.std.proofs.Common.{◌≡◌, ℕ, List, [], ◌∷◌, ◌++◌, Option, Result, Ok, Err, refl, sym, ◌∙◌, ap, subst, append-nil}
+use Rattle.std.proofs.Common.{◌≡◌, ℕ, List, [], ◌++◌, Option, Result, Ok, Err, refl, sym, ◌∙◌, ap, subst, append-nil}
 use Rattle.std.specs.Result.{IsErr, IsErrAnd}
 use Rattle.std.specs.Io.KnownBytes.{Appends}
 use Rattle.std.proofs.KnownBytes.{Appends-nil, Appends-trans}
@@ -7,7 +7,6 @@ use Rattle.hags_io.specs.Edges.{GrowsByFront}
 use Rattle.hags_io.proofs.ByteLaws.{front_on}
 use Rattle.node_state.specs.declared.happened.Happened.{Happened}
 use Rattle.world_model.specs.World.{World}
-use Rattle.world_runs.specs.Runs.{SameRun, Recorded}
 use Rattle.world_answers.proofs.Limits.{runs_none, runs_then, runs_end, ends_on, tells_then, tells_on, tells_none}
 use Rattle.world_runs.proofs.Traces.{recorded_then}
 use Rattle.world_answers.proofs.Adding.{grew_then}
@@ -20,7 +19,7 @@ use Rattle.net_script.specs.declared.stage.Stage.{Stage}
 use Rattle.net_script.specs.declared.faults.PlayFault.{PlayFault}
 use Rattle.net_script.specs.declared.faults.PlayFault.TheVariants as play_fault
 use Rattle.net_script.specs.Stage.{At, Moved, Went, Passed, Broke, Stopped, Outcome, LeadsTo}
-use Rattle.net_script.proofs.TextLaws.{kinds_append, none_front, all_front}
+use Rattle.net_script.proofs.TextLaws.{kinds_append, none_front}
 
 appends_more : (k : Kinds) (a b c : Option (List ℕ)) (xs ys : List Happened) → Appends a b (kinds_text k xs) → Appends b c (kinds_text k ys) → Appends a c (kinds_text k (xs ++ ys))
 appends_more k a b c xs ys p q = subst (Appends a c) (sym (kinds_append k xs ys)) (Appends-trans a b c _ _ p q)

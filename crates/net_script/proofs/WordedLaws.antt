@@ -1,21 +1,18 @@
 -- Where each client votes just as its word says, the play is that of the definitions.
 use Rattle.std.proofs.Common.{◌≡◌, ℕ, Bool, true, false, List, [], ◌∷◌, map, Option, Some, None, Result, Ok, Err, refl, sym, ◌∙◌, ap, subst}
-use Rattle.std.specs.Prelude.{fold}
 use Rattle.std.specs.Io.KnownBytes.{Appends}
 use Rattle.std.proofs.KnownBytes.{Appends-nil}
 use Rattle.hags_io.specs.Edges.{GrowsByFront}
 use Rattle.rsct_packet.specs.Lists.{reverse_onto}
 use Rattle.node_state.specs.declared.config.Config.{Config}
-use Rattle.node_state.specs.declared.happened.Happened.{Happened}
-use Rattle.world_model.specs.declared.event.Event.{Event}
 use Rattle.world_model.specs.declared.script.Line.{Line}
 use Rattle.world_model.specs.declared.script.Script.{Script}
 use Rattle.world_model.specs.World.{World, world_new}
-use Rattle.world_model.specs.Play.{Played, plays, events_of, played, played_records, script_records}
+use Rattle.world_model.specs.Play.{Played, events_of, played, played_records, script_records}
 use Rattle.world_model.specs.Kept.{Ended, runs_from, runs_within, ended, kept_past, kept_records}
 use Rattle.world_answers.specs.Answers.{Items, AllWorded, Answered, events_in}
 use Rattle.world_answers.specs.Plays.{AnsweredPlay, starting, PlaysLines}
-use Rattle.world_answers.specs.Limits.{answered_within, answered_in, limited, WordedFrom}
+use Rattle.world_answers.specs.Limits.{answered_in, limited, WordedFrom}
 use Rattle.world_answers.proofs.Adding.{lines_add}
 use Rattle.world_answers.proofs.Limits.{within_worded}
 use Rattle.world_answers.proofs.Worded.{lines_same, worded_plays_are_one}

@@ -1,4 +1,4 @@
-use Rattle.std.proofs.Common.{sym, ap, ◌∙◌}
+use Rattle.std.proofs.Common.{ap}
 use Rattle.net_script.proofs.FlowLaws.{packet_given, packet_lost}
 use Rattle.net_script.proofs.flowing.pass.Goals as goal
 

@@ -1,7 +1,6 @@
-use Rattle.std.proofs.Common.{Ok, refl, sym, ap, subst}
-use Rattle.world_model.specs.declared.script.Line.{Line}
+use Rattle.std.proofs.Common.{refl, sym, ap, subst}
 use Rattle.world_model.specs.Play.{drops, with_cuts, healed, networks_in}
-use Rattle.world_answers.specs.Plays.{AnsweredPlay, in_that_world, PlaysLine}
+use Rattle.world_answers.specs.Plays.{in_that_world, PlaysLine}
 use Rattle.net_script.specs.declared.faults.PlayFault.TheVariants as play_fault
 use Rattle.net_script.specs.Stage.{LeadsTo}
 use Rattle.net_script.proofs.StageLaws.{leads_stopped}

@@ -1,5 +1,4 @@
-use Rattle.std.proofs.Common.{Ok, Err}
-use Rattle.net_script.proofs.PlayLaws.{opened, played_done, played_stopped, first_front, first_trace, starts_stopped, starts_cut}
+use Rattle.net_script.proofs.PlayLaws.{opened, played_done, played_stopped, first_trace, starts_stopped, starts_cut}
 use Rattle.net_script.proofs.playing.play_begun.Goals as goal
 
 pub returns-in_err-world-clause-played : goal.returns-in_err-world-clause-played
