@@ -1,5 +1,5 @@
 -- Calls of clients, whose sessions begin and end with some.
-use Rattle.std.proofs.Common.{◌≡◌, ℕ, zero, suc, ◌+◌, ◌==◌, ◌||◌, Bool, true, false, cond, List, [], ◌∷◌, ◌++◌, map, Option, Some, None, Result, Ok, Err, IsTrue, get_or, set, refl, sym, ap, ◌∙◌, subst, ne_eqb}
+use Rattle.std.proofs.Common.{◌≡◌, ℕ, zero, suc, ◌+◌, ◌==◌, Bool, true, false, cond, List, [], ◌∷◌, ◌++◌, map, Option, Some, None, Result, Ok, Err, IsTrue, get_or, set, refl, sym, ap, ◌∙◌, subst, ne_eqb}
 use Rattle.std.specs.Prelude.{fold, find, remove}
 use Rattle.std.specs.List.{list_any}
 use Rattle.std.specs.Option.{ForSome, unwrap_or}
@@ -36,7 +36,7 @@ use Rattle.world_play.specs.declared.stepping.Left.{Left}
 use Rattle.world_play.specs.declared.world.World.{World}
 use Rattle.world_answers.specs.Answers.{step_by, calls_by_if}
 use Rattle.world_answers.specs.Answers.{Items, AllWorded}
-use Rattle.world_play.specs.Standing.{is_me, silent_or, votes_by, votes_in, NodeStands, NodesStand, Leaves, StepDone, StepsAs, StepsNode, StepsSome, StepsIn, with_scripts, CallDone, bytes_after, Stands, Goes, Passes, Comes, Settled}
+use Rattle.world_play.specs.Standing.{is_me, silent_or, votes_by, votes_in, NodesStand, Leaves, StepDone, StepsAs, StepsNode, StepsSome, StepsIn, with_scripts, CallDone, bytes_after, Goes, Passes, Comes, Settled}
 use Rattle.world_play.proofs.NodeLaws.{steps_by}
 use Rattle.world_play.proofs.StepLaws.{same_lives, row_done}
 use Rattle.world_play.proofs.WorldLaws.{goes_recorded, after_goes, after_passes}
@@ -171,14 +171,16 @@ module _ {C : Type 0} {script : C → Option Items} {said : Items → Option Ite
       → Does (map script m.clients) (call_row (at_work n.core) (call.Init k name votes)) m.core (λ f. stepped f n.core (Calls (call.Init k name votes))) → Leaves m o l n.core.views.me → CallDone script said n o l (call.Init k name votes)
   unfolding scripts_after script_of inited call_row
   init_done fill n m o l c name votes k fresh items after d left =
-      let some : (f : Answering) × (m.core ≡ stepped f n.core (Calls (call.Init k name votes))) = does_some (map script m.clients) (call_row (at_work n.core) (call.Init k name votes)) m.core (λ f. stepped f n.core (Calls (call.Init k name votes))) d in
-      (some.0, λ x h.
-        let last : x.core.sessions.last_client ≡ n.core.sessions.last_client = ap (λ (s : Core). s.sessions.last_client) (sym h.core) in
-        let s : Script = record { token = record { n = x.core.sessions.last_client + 1 }; items = unwrap_or (votes_word votes) [] } in
-        row_done fill n m o l x (s ∷ x.scripts) (call_row (at_work n.core) (call.Init k name votes)) (Calls (call.Init k name votes)) some.0 h
-        (after ∙ begun_votes script said (init_fault n.core.sessions name) s x.scripts (at_work n.core) name c n.clients (ap (λ z. z + 1) last)
-        (ap (λ z. list_any (is_session (record { n = z + 1 })) n.core.sessions.sessions) last ∙ sym fresh) items (h.votes ∙ ap (votes_in said x.scripts) (sym (same_lives n x h))))
-        d some.1 left)
+      let some : (f : Answering) × (m.core ≡ stepped f n.core (Calls (call.Init k name votes))) = does_some (map script m.clients) (call_row (at_work n.core) (call.Init k name votes)) m.core (λ f. stepped f n.core (Calls (call.Init k name votes))) d in (
+        some.0,
+        λ x h.
+            let last : x.core.sessions.last_client ≡ n.core.sessions.last_client = ap (λ (s : Core). s.sessions.last_client) (sym h.core) in
+            let s : Script = record { token = record { n = x.core.sessions.last_client + 1 }; items = unwrap_or (votes_word votes) [] } in
+            row_done fill n m o l x (s ∷ x.scripts) (call_row (at_work n.core) (call.Init k name votes)) (Calls (call.Init k name votes)) some.0 h
+            (after ∙ begun_votes script said (init_fault n.core.sessions name) s x.scripts (at_work n.core) name c n.clients (ap (λ z. z + 1) last)
+            (ap (λ z. list_any (is_session (record { n = z + 1 })) n.core.sessions.sessions) last ∙ sym fresh) items (h.votes ∙ ap (votes_in said x.scripts) (sym (same_lives n x h))))
+            d some.1 left,
+      )
 
   -- ---- a session that ends
 
@@ -187,12 +189,14 @@ module _ {C : Type 0} {script : C → Option Items} {said : Items → Option Ite
   unfolding scripts_after call_row
   goodbye_done fill n m o l client after d left =
       let place : Option ℕ = client_place n.core.sessions (client_token n.core.sessions client) in
-      let some : (f : Answering) × (m.core ≡ stepped f n.core (Calls (call.Goodbye client))) = does_some (map script m.clients) (call_row (at_work n.core) (call.Goodbye client)) m.core (λ f. stepped f n.core (Calls (call.Goodbye client))) d in
-      (some.0, λ x h.
-        let votes : map script n.clients ≡ votes_in said x.scripts n.core.sessions.sessions = h.votes ∙ ap (votes_in said x.scripts) (sym (same_lives n x h)) in
-        row_done fill n m o l x x.scripts (call_row (at_work n.core) (call.Goodbye client)) (Calls (call.Goodbye client)) some.0 h
-        (after ∙ (map_left script place n.clients ∙ (ap (removed_at place) votes ∙ (sym (map_left (votes_by said x.scripts) place n.core.sessions.sessions) ∙ ap (votes_in said x.scripts) (sym (said_sessions (at_work n.core) client _ _ refl))))))
-        d some.1 left)
+      let some : (f : Answering) × (m.core ≡ stepped f n.core (Calls (call.Goodbye client))) = does_some (map script m.clients) (call_row (at_work n.core) (call.Goodbye client)) m.core (λ f. stepped f n.core (Calls (call.Goodbye client))) d in (
+        some.0,
+        λ x h.
+            let votes : map script n.clients ≡ votes_in said x.scripts n.core.sessions.sessions = h.votes ∙ ap (votes_in said x.scripts) (sym (same_lives n x h)) in
+            row_done fill n m o l x x.scripts (call_row (at_work n.core) (call.Goodbye client)) (Calls (call.Goodbye client)) some.0 h
+            (after ∙ (map_left script place n.clients ∙ (ap (removed_at place) votes ∙ (sym (map_left (votes_by said x.scripts) place n.core.sessions.sessions) ∙ ap (votes_in said x.scripts) (sym (said_sessions (at_work n.core) client _ _ refl))))))
+            d some.1 left,
+      )
 
   -- ---- other calls
 
@@ -216,8 +220,8 @@ module _ {C : Type 0} {script : C → Option Items} {said : Items → Option Ite
   call_refuses c d k call before after same missing out = record {
     answers = none;
     comes = λ w h.
-      subst (λ z. Goes script said c z before after w (called k call none w)) (sym same)
-      (subst (Goes script said c c before after w) (sym (called_down_by none k call w (missing w.nodes h.nodes))) (goes_recorded c before after (happened.Refused k (caller_of call) NoInit ∷ []) w h out));
+        subst (λ z. Goes script said c z before after w (called k call none w)) (sym same)
+        (subst (Goes script said c c before after w) (sym (called_down_by none k call w (missing w.nodes h.nodes))) (goes_recorded c before after (happened.Refused k (caller_of call) NoInit ∷ []) w h out));
     worded = λ all w h. called_down_by none k call w (missing w.nodes h.nodes) ∙ sym (called_down k call w (missing w.nodes h.nodes));
   }
     where
@@ -229,9 +233,9 @@ module _ {C : Type 0} {script : C → Option Items} {said : Items → Option Ite
   call_goes c m d k l call before after same stepping settled = record {
     answers = stepping.0;
     comes = λ w h.
-      let s : StepsNode script said stepping.0 m.nodes k l (with_scripts call) (Calls call) w.nodes = stepping.1 w.nodes h.nodes in
-      subst (Goes script said c d before after w) (sym (called_up_by stepping.0 k call w s.node s.found))
-      (after_goes c m d l _ (scripts_after call s.node.core s.node.scripts) before after w h same s.stands s.sends s.records settled);
+        let s : StepsNode script said stepping.0 m.nodes k l (with_scripts call) (Calls call) w.nodes = stepping.1 w.nodes h.nodes in
+        subst (Goes script said c d before after w) (sym (called_up_by stepping.0 k call w s.node s.found))
+        (after_goes c m d l _ (scripts_after call s.node.core s.node.scripts) before after w h same s.stands s.sends s.records settled);
     worded = λ all w h. called_worded stepping.0 m.nodes k l call w (stepping.1 w.nodes h.nodes) all;
   }
 
@@ -240,7 +244,7 @@ module _ {C : Type 0} {script : C → Option Items} {said : Items → Option Ite
   call_passes c m k sum l call same stepping passed = record {
     answers = stepping.0;
     comes = λ w h.
-      let s : StepsNode script said stepping.0 m.nodes k l (with_scripts call) (Calls call) w.nodes = stepping.1 w.nodes h.nodes in
-      subst (Passes sum c w) (sym (called_up_by stepping.0 k call w s.node s.found)) (after_passes c m sum l _ (scripts_after call s.node.core s.node.scripts) w same s.sends passed);
+        let s : StepsNode script said stepping.0 m.nodes k l (with_scripts call) (Calls call) w.nodes = stepping.1 w.nodes h.nodes in
+        subst (Passes sum c w) (sym (called_up_by stepping.0 k call w s.node s.found)) (after_passes c m sum l _ (scripts_after call s.node.core s.node.scripts) w same s.sends passed);
     worded = λ all w h. called_worded stepping.0 m.nodes k l call w (stepping.1 w.nodes h.nodes) all;
   }

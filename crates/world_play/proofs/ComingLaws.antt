@@ -1,8 +1,8 @@
 -- Nodes that start, stop and are shown.
-use Rattle.std.proofs.Common.{◌≡◌, ℕ, ◌+◌, ◌==◌, Bool, true, false, List, [], ◌∷◌, ◌++◌, map, Option, Some, None, refl, sym, ap, ◌∙◌, subst}
+use Rattle.std.proofs.Common.{◌≡◌, ℕ, ◌+◌, ◌==◌, true, false, List, [], ◌∷◌, ◌++◌, map, Option, Some, None, refl, sym, ap, ◌∙◌, subst}
 use Rattle.std.specs.Prelude.{find, is_some, flat_map}
 use Rattle.rsct_packet.specs.Ids.{last_u32}
-use Rattle.rsct_packet.specs.Lists.{reverse_onto, drop_where}
+use Rattle.rsct_packet.specs.Lists.{drop_where}
 use Rattle.rsct_packet.specs.Search.{insert_before}
 use Rattle.packet_bodies.specs.declared.body.What.{What}
 use Rattle.packet_bodies.specs.declared.body.What.TheVariants.{Hats, Hagsns, Hagsgr, Hagsvote}
@@ -20,11 +20,10 @@ use Rattle.node_state.specs.Step.{at_work, started}
 use Rattle.node_step.specs.Node.{NodeView}
 use Rattle.world_model.specs.World.{is_node, node_at, traced, inc_in, starts_with, started_at, starts_if, node_starts, stops_if, shows_if}
 use Rattle.world_model.specs.World as world
-use Rattle.world_play.specs.declared.starts.Started.{Started}
 use Rattle.world_play.specs.declared.world.World.{World}
 use Rattle.world_answers.specs.Answers.{Items}
 use Rattle.world_play.specs.Standing.{is_me, comes_before, is_start, started_in, NodeStands, NodesStand, Stands, Goes}
-use Rattle.world_play.proofs.NodeLaws.{StandsAt, node_before, is_same, same_me, stands_first, stands_inserted, stands_dropped, stands_found, stands_none}
+use Rattle.world_play.proofs.NodeLaws.{StandsAt, node_before, same_me, stands_first, stands_inserted, stands_dropped, stands_found, stands_none}
 use Rattle.world_play.proofs.WorldLaws.{goes_nowhere, goes_recorded}
 
 up_starts : (n last : ℕ) (w : world.World) (o : Option world.Node) → is_some o ≡ true → starts_if w n last o ≡ w

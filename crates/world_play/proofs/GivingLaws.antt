@@ -1,5 +1,5 @@
 -- Packets that are given to nodes.
-use Rattle.std.proofs.Common.{◌≡◌, ℕ, ◌==◌, ◌&&◌, Bool, true, false, cond, List, [], ◌∷◌, map, Option, Some, None, refl, sym, ap, ◌∙◌, subst}
+use Rattle.std.proofs.Common.{◌≡◌, ℕ, ◌&&◌, Bool, true, false, List, [], ◌∷◌, map, Option, Some, None, refl, sym, ap, ◌∙◌, subst}
 use Rattle.std.specs.Prelude.{find, is_some}
 use Rattle.rsct_packet.specs.Lists.{drop_where}
 use Rattle.rsct_packet.specs.Packet.{packet_at, front_at}
@@ -18,7 +18,7 @@ use Rattle.world_play.specs.declared.stepping.Left.{Left}
 use Rattle.world_play.specs.declared.world.World.{World}
 use Rattle.world_answers.specs.Answers.{step_by, delivers_by_if}
 use Rattle.world_answers.specs.Answers.{Items, AllWorded}
-use Rattle.world_play.specs.Standing.{is_me, NodesStand, PacketsStand, Stands, Holds, StepsNode, StepsSome, bytes_after, Goes, Passes, Comes, Settled}
+use Rattle.world_play.specs.Standing.{is_me, NodesStand, Stands, Holds, StepsNode, StepsSome, bytes_after, Goes, Passes, Comes, Settled}
 use Rattle.world_play.proofs.NodeLaws.{stands_found}
 use Rattle.world_play.proofs.WorldLaws.{stands_hold, goes_nowhere, after_goes, after_passes}
 
@@ -135,11 +135,11 @@ module _ {C : Type 0} {script : C → Option Items} {said : Items → Option Ite
   gives_goes c m n d a b k p l ev before after taken packet given same stepping settled = record {
     answers = stepping.0;
     comes = λ w h.
-      let u : world.World = handled w a b k in
-      let hm : Stands script said m u = taken_stands c m a b k w h taken in
-      let s : StepsNode script said stepping.0 n.nodes b l (λ x. x) ev w.nodes = stepping.1 w.nodes hm.nodes in
-      subst (Goes script said c d before after w) (sym (given_to_by stepping.0 w a b k s.node p s.found (kth_same c a b k w (stands_hold c w h) ∙ packet) ∙ ap (λ z. after_step u s.node.scripts (stepped stepping.0 s.node.core z)) (sym given)))
-      (handled_trace w _ a b k c m d before after (ap (λ (z : World C). z.kept) taken) (ap (λ (z : World C). z.limit) taken) (after_goes m n d l _ s.node.scripts before after u hm same s.stands s.sends s.records settled));
+        let u : world.World = handled w a b k in
+        let hm : Stands script said m u = taken_stands c m a b k w h taken in
+        let s : StepsNode script said stepping.0 n.nodes b l (λ x. x) ev w.nodes = stepping.1 w.nodes hm.nodes in
+        subst (Goes script said c d before after w) (sym (given_to_by stepping.0 w a b k s.node p s.found (kth_same c a b k w (stands_hold c w h) ∙ packet) ∙ ap (λ z. after_step u s.node.scripts (stepped stepping.0 s.node.core z)) (sym given)))
+        (handled_trace w _ a b k c m d before after (ap (λ (z : World C). z.kept) taken) (ap (λ (z : World C). z.limit) taken) (after_goes m n d l _ s.node.scripts before after u hm same s.stands s.sends s.records settled));
     worded = λ all w h. given_worded stepping.0 w a b k p n.nodes l ev given (kth_same c a b k w h ∙ packet) (stepping.1 w.nodes (subst (λ (z : World C). NodesStand script said z.nodes w.nodes) (sym taken) h.nodes)) all;
   }
 
@@ -151,11 +151,11 @@ module _ {C : Type 0} {script : C → Option Items} {said : Items → Option Ite
   gives_passes c m n a b k sum p l ev taken packet given same stepping passed = record {
     answers = stepping.0;
     comes = λ w h.
-      let u : world.World = handled w a b k in
-      let s : StepsNode script said stepping.0 n.nodes b l (λ x. x) ev w.nodes = stepping.1 w.nodes (taken_stands c m a b k w h taken).nodes in
-      let g : Passes sum m u (after_step u s.node.scripts (stepped stepping.0 s.node.core ev)) = after_passes m n sum l _ s.node.scripts u same s.sends passed in
-      subst (Passes sum c w) (sym (given_to_by stepping.0 w a b k s.node p s.found (kth_same c a b k w (stands_hold c w h) ∙ packet) ∙ ap (λ z. after_step u s.node.scripts (stepped stepping.0 s.node.core z)) (sym given)))
-      (record { sent = g.sent; sends = g.sends; passed = passed_from c m sum g.sent (ap (λ (z : World C). z.limit) taken) (ap (λ (z : World C). z.kept) taken) g.passed });
+        let u : world.World = handled w a b k in
+        let s : StepsNode script said stepping.0 n.nodes b l (λ x. x) ev w.nodes = stepping.1 w.nodes (taken_stands c m a b k w h taken).nodes in
+        let g : Passes sum m u (after_step u s.node.scripts (stepped stepping.0 s.node.core ev)) = after_passes m n sum l _ s.node.scripts u same s.sends passed in
+        subst (Passes sum c w) (sym (given_to_by stepping.0 w a b k s.node p s.found (kth_same c a b k w (stands_hold c w h) ∙ packet) ∙ ap (λ z. after_step u s.node.scripts (stepped stepping.0 s.node.core z)) (sym given)))
+        (record { sent = g.sent; sends = g.sends; passed = passed_from c m sum g.sent (ap (λ (z : World C). z.limit) taken) (ap (λ (z : World C). z.kept) taken) g.passed });
     worded = λ all w h. given_worded stepping.0 w a b k p n.nodes l ev given (kth_same c a b k w h ∙ packet) (stepping.1 w.nodes (subst (λ (z : World C). NodesStand script said z.nodes w.nodes) (sym taken) h.nodes)) all;
   }
 

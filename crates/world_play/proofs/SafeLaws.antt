@@ -1,5 +1,5 @@
 -- From what an event makes of a world to the safe run with it.
-use Rattle.std.proofs.Common.{◌≡◌, List, [], ◌∷◌, ◌++◌, fold, map, Option, refl, sym, ap, ◌∙◌, subst, ℕ}
+use Rattle.std.proofs.Common.{◌≡◌, List, [], ◌∷◌, ◌++◌, Option, refl, sym, ap, ◌∙◌, subst, ℕ}
 use Rattle.std.proofs.lemmas.List.Sums.{fold-append}
 use Rattle.rsct_packet.specs.Lists.{reverse_onto}
 use Rattle.node_state.specs.declared.config.Config.{Config}
@@ -18,7 +18,7 @@ use Rattle.world_safety.proofs.Turned.{onto_more}
 use Rattle.world_safety.proofs.Scripts.{every_answer_is_safe, events_are_safe}
 use Rattle.world_play.specs.declared.world.World.{World}
 use Rattle.world_answers.specs.Answers.{Items}
-use Rattle.world_play.specs.Standing.{Stands, Goes, Comes, kept_empty}
+use Rattle.world_play.specs.Standing.{Goes, Comes, kept_empty}
 use Rattle.world_play.specs.Safe.{SafeOn, AnswersSafely, GoesSafely}
 use Rattle.world_play.proofs.WorldLaws.{as_worded}
 
@@ -64,13 +64,15 @@ module _ {C : Type 0} {script : C → Option Items} {said : Items → Option Ite
       let w : world.World = s.world in
       let a : Answered = record { event = e; answers = goes.answers } in
       let g : Goes script said k d before after w (goes_on w a) = goes.comes w s.stands in
-      let same : SameRun (answered_after c (es ++ a ∷ [])) (goes_on w a) = subst (λ z. SameRun z (goes_on w a)) (sym (answered_last c es a)) (same_goes (answered_after c es) w a s.same) in
-      (goes.answers, record {
-        stands = record { world = goes_on w a; stands = g.stands; same = same };
-        records = g.records;
-        out = g.out;
-        safe = subst (IsSafe c (es ++ a ∷ [])) (answered_on c es (es ++ a ∷ []) g.records w (goes_on w a) s.same same g.trace) (every_answer_is_safe c (es ++ a ∷ []) (one_answered c es a may this));
-      })
+      let same : SameRun (answered_after c (es ++ a ∷ [])) (goes_on w a) = subst (λ z. SameRun z (goes_on w a)) (sym (answered_last c es a)) (same_goes (answered_after c es) w a s.same) in (
+        goes.answers,
+        record {
+          stands = record { world = goes_on w a; stands = g.stands; same = same };
+          records = g.records;
+          out = g.out;
+          safe = subst (IsSafe c (es ++ a ∷ [])) (answered_on c es (es ++ a ∷ []) g.records w (goes_on w a) s.same same g.trace) (every_answer_is_safe c (es ++ a ∷ []) (one_answered c es a may this));
+        },
+      )
 
   pub goes_safely : (k d : World C) (before after : List Happened) (e : Event) → Comes script said k (Goes script said k d before after) (λ f w. happens_by f w e) (λ w. happens w e) → GoesSafely script said k d before after e
   goes_safely k d before after e goes all c es may this s =

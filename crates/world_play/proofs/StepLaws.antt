@@ -49,16 +49,18 @@ module _ {C : Type 0} {script : C → Option Items} {said : Items → Option Ite
           me = ap (λ (s : Core). s.views.me) (sym is) ∙ (left.me ∙ ap (λ (s : Core). s.views.me) h.core);
         };
         worded = λ all.
-          let said' : m.core ≡ stepped (by_scripts scripts) n.core e =
-          does_by_scripts fill scripts a m.core (λ f. stepped f n.core e) (subst (λ vs. Does vs a m.core (λ f. stepped f n.core e)) (votes ∙ worded_votes said all scripts a.sessions.sessions) d)
-          in
-          sym is ∙ (said' ∙ from_work (by_scripts scripts) n.core x.core e h.core);
+            let said' : m.core ≡ stepped (by_scripts scripts) n.core e =
+            does_by_scripts fill scripts a m.core (λ f. stepped f n.core e) (subst (λ vs. Does vs a m.core (λ f. stepped f n.core e)) (votes ∙ worded_votes said all scripts a.sessions.sessions) d)
+            in
+            sym is ∙ (said' ∙ from_work (by_scripts scripts) n.core x.core e h.core);
       })
 
   -- a step that neither begins nor ends a session
   pub step_done : FillTheirScripts → (n m o : NodeView C) (l : Left) (e : NodeEvent) → map script m.clients ≡ map script n.clients → Does (map script n.clients) (at_work n.core) m.core (λ f. stepped f n.core e) → Leaves m o l n.core.views.me
       → StepsAs script said n o l e
   step_done fill n m o l e same d left =
-      let some : (f : Answering) × (m.core ≡ stepped f n.core e) = does_some (map script n.clients) (at_work n.core) m.core (λ f. stepped f n.core e) d in
-      (some.0, λ x h.
-        row_done fill n m o l x x.scripts (at_work n.core) e some.0 h (same ∙ (h.votes ∙ ap (votes_in said x.scripts) (sym (same_lives n x h)))) (subst (λ vs. Does vs (at_work n.core) m.core (λ f. stepped f n.core e)) (sym same) d) some.1 left)
+      let some : (f : Answering) × (m.core ≡ stepped f n.core e) = does_some (map script n.clients) (at_work n.core) m.core (λ f. stepped f n.core e) d in (
+        some.0,
+        λ x h.
+            row_done fill n m o l x x.scripts (at_work n.core) e some.0 h (same ∙ (h.votes ∙ ap (votes_in said x.scripts) (sym (same_lives n x h)))) (subst (λ vs. Does vs (at_work n.core) m.core (λ f. stepped f n.core e)) (sym same) d) some.1 left,
+      )

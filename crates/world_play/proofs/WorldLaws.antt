@@ -1,9 +1,7 @@
 -- What happens in a world, by what its functions leave.
-use Rattle.std.proofs.Common.{◌≡◌, ℕ, Bool, true, false, List, [], ◌∷◌, ◌++◌, map, append-nil, Option, Some, None, refl, sym, ap, ◌∙◌, subst}
+use Rattle.std.proofs.Common.{◌≡◌, ℕ, List, [], ◌++◌, map, append-nil, Option, Some, None, refl, sym, ap, ◌∙◌, subst}
 use Rattle.std.specs.Prelude.{fold, find}
-use Rattle.rsct_packet.specs.Lists.{reverse_onto}
 use Rattle.node_state.specs.declared.happened.Happened.{Happened}
-use Rattle.node_state.specs.declared.packet.Packet.{Packet}
 use Rattle.node_state.specs.declared.state.Core.{Core}
 use Rattle.node_state.specs.HandOn.{Answering}
 use Rattle.node_state.specs.Step.{NodeEvent, stepped}
@@ -101,8 +99,8 @@ module _ {C : Type 0} {script : C → Option Items} {said : Items → Option Ite
   step_goes c m d k l ev before after same stepping settled = record {
     answers = stepping.0;
     comes = λ w h.
-      let s : StepsNode script said stepping.0 m.nodes k l (λ x. x) ev w.nodes = stepping.1 w.nodes h.nodes in
-      subst (Goes script said c d before after w) (sym (step_found_by stepping.0 k ev w s.node s.found)) (after_goes c m d l _ s.node.scripts before after w h same s.stands s.sends s.records settled);
+        let s : StepsNode script said stepping.0 m.nodes k l (λ x. x) ev w.nodes = stepping.1 w.nodes h.nodes in
+        subst (Goes script said c d before after w) (sym (step_found_by stepping.0 k ev w s.node s.found)) (after_goes c m d l _ s.node.scripts before after w h same s.stands s.sends s.records settled);
     worded = λ all w h. step_worded stepping.0 m.nodes k l ev w (stepping.1 w.nodes h.nodes) all;
   }
 
@@ -111,8 +109,8 @@ module _ {C : Type 0} {script : C → Option Items} {said : Items → Option Ite
   step_passes c m k sum l ev same stepping passed = record {
     answers = stepping.0;
     comes = λ w h.
-      let s : StepsNode script said stepping.0 m.nodes k l (λ x. x) ev w.nodes = stepping.1 w.nodes h.nodes in
-      subst (Passes sum c w) (sym (step_found_by stepping.0 k ev w s.node s.found)) (after_passes c m sum l _ s.node.scripts w same s.sends passed);
+        let s : StepsNode script said stepping.0 m.nodes k l (λ x. x) ev w.nodes = stepping.1 w.nodes h.nodes in
+        subst (Passes sum c w) (sym (step_found_by stepping.0 k ev w s.node s.found)) (after_passes c m sum l _ s.node.scripts w same s.sends passed);
     worded = λ all w h. step_worded stepping.0 m.nodes k l ev w (stepping.1 w.nodes h.nodes) all;
   }
 
@@ -121,7 +119,7 @@ module _ {C : Type 0} {script : C → Option Items} {said : Items → Option Ite
   step_nowhere c d k ev out same missing = record {
     answers = λ n s e after p. None;
     comes = λ w h.
-      subst (λ z. Goes script said c z out out w (step_by_if (λ n s e after p. None) w ev (node_at w k))) (sym same)
-      (subst (Goes script said c c out out w) (sym (step_missing_by (λ n s e after p. None) k ev w (missing w.nodes h.nodes))) (goes_nowhere c out w h));
+        subst (λ z. Goes script said c z out out w (step_by_if (λ n s e after p. None) w ev (node_at w k))) (sym same)
+        (subst (Goes script said c c out out w) (sym (step_missing_by (λ n s e after p. None) k ev w (missing w.nodes h.nodes))) (goes_nowhere c out w h));
     worded = λ all w h. step_missing_by (λ n s e after p. None) k ev w (missing w.nodes h.nodes) ∙ sym (step_missing k ev w (missing w.nodes h.nodes));
   }

@@ -1,10 +1,9 @@
 -- A world as it is kept, and the definitions' worlds that it stands for: these also keep their trace, all packets
 -- sent, and what each client's votes word says. Its clients are of any kind that is made of votes words: `script` says
 -- by which items one votes, and `said` by which one votes that is made of the items of a word.
-use Rattle.std.specs.Prelude.{◌≡◌, ℕ, ◌==◌, Bool, true, false, List, [], ◌∷◌, ◌++◌, map, fold, find, nat_lt, Option, Some, None}
+use Rattle.std.specs.Prelude.{◌≡◌, ℕ, ◌==◌, Bool, List, [], ◌∷◌, ◌++◌, map, fold, find, nat_lt, Option, Some, None}
 use Rattle.rsct_packet.specs.Lists.{reverse_onto}
 use Rattle.session_state.specs.declared.state.Session.{Session}
-use Rattle.session_state.specs.declared.state.SessionState.{SessionState}
 use Rattle.node_state.specs.declared.call.CallLine.{CallLine}
 use Rattle.node_state.specs.declared.config.Config.{Config}
 use Rattle.node_state.specs.declared.happened.Happened.{Happened}

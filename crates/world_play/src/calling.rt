@@ -99,11 +99,7 @@ fn begin_session<C: Made>(
 }
 
 /// A client says goodbye.
-fn say_goodbye<C: Made>(
-    node: &mut Node<C>,
-    alloc: Global,
-    client: &[u8],
-) -> Result<Left, NoMemory>
+fn say_goodbye<C: Made>(node: &mut Node<C>, alloc: Global, client: &[u8]) -> Result<Left, NoMemory>
     ensures { IfOk result (λ l. CallDone C.script C.script_of node.old node.new l (call.Goodbye client.now)) }
 {
     scripted_clients_fill_their_scripts();
@@ -115,11 +111,7 @@ fn say_goodbye<C: Made>(
 }
 
 /// A client of the node calls.
-pub fn call_node<C: Made>(
-    node: &mut Node<C>,
-    alloc: Global,
-    c: &CallLine,
-) -> Result<Left, NoMemory>
+pub fn call_node<C: Made>(node: &mut Node<C>, alloc: Global, c: &CallLine) -> Result<Left, NoMemory>
     ensures { IfOk result (λ l. CallDone C.script C.script_of node.old node.new l c.now) }
 {
     match c {

@@ -18,11 +18,7 @@ pub struct Left {
 }
 
 /// Takes what a node's last step left. A node keeps its number: one that has another counts as want of memory.
-pub fn leave<C: Callbacks>(
-    node: &mut Node<C>,
-    alloc: Global,
-    me: u8,
-) -> Result<Left, NoMemory>
+pub fn leave<C: Callbacks>(node: &mut Node<C>, alloc: Global, me: u8) -> Result<Left, NoMemory>
     ensures { IfOk result (λ l. Leaves node.old node.new l me) }
 {
     if node.core().views.me != me {

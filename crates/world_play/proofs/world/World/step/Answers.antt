@@ -1,5 +1,5 @@
 -- The node that is up steps, or nothing happens.
-use Rattle.std.proofs.Common.{◌≡◌, refl, ap}
+use Rattle.std.proofs.Common.{refl, ap}
 use Rattle.std.proofs.lemmas.Result.{on_ok_weaker}
 use Rattle.node_step.specs.Event.{event_in}
 use Rattle.world_play.proofs.WorldLaws.{step_nowhere, step_goes, step_passes}

@@ -1,7 +1,6 @@
 -- A node that is up stops.
-use Rattle.std.proofs.Common.{refl, sym, ap, ◌∙◌}
+use Rattle.std.proofs.Common.{sym, ap}
 use Rattle.std.proofs.lemmas.Result.{on_ok_weaker}
-use Rattle.world_play.specs.declared.world.World.{World}
 use Rattle.world_play.proofs.ComingLaws.{stop_goes, stop_nothing}
 use Rattle.world_play.proofs.world.World.stop.Goals as goal
 
