@@ -120,8 +120,12 @@ pub fn play<K: Sink>(
     ensures later { K.faults out.old ≤ K.faults out.new }
     ensures fault { result ≡ Err PlayFault.WriteFault → Rose (K.faults out.old) (K.faults out.new) }
 {
-    match play_as::<ScriptClient, K>(alloc, script, kinds, limit, out) {
-        Ok(_) => Ok(()),
-        Err(e) => Err(e),
+    if script.begun {
+        match play_as::<ScriptClient, K>(alloc, script, kinds, limit, out) {
+            Ok(_) => Ok(()),
+            Err(e) => Err(e),
+        }
+    } else {
+        Ok(())
     }
 }
