@@ -19,12 +19,11 @@ use Rattle.world_answers.proofs.Worded.{lines_same, worded_plays_are_one}
 use Rattle.transcript.specs.declared.kinds.Kinds.{Kinds}
 use Rattle.transcript.specs.Kinds.{kinds_text}
 use Rattle.world_play.specs.declared.world.World as kept
-use Rattle.world_play.specs.Standing.{Stands}
 use Rattle.net_script.specs.declared.faults.PlayFault.{PlayFault}
 use Rattle.net_script.specs.declared.faults.PlayFault.TheVariants as play_fault
 use Rattle.net_script.specs.Ends.{records_in, records_within, StopsAs, PlayedAs}
 use Rattle.net_script.proofs.PlayLaws.{answered_all}
-use Rattle.net_script.proofs.TextLaws.{none_front, all_front}
+use Rattle.net_script.proofs.TextLaws.{all_front}
 
 map_onto : {A B : Type 0} (f : A → B) (xs ys : List A) → map f (reverse_onto xs ys) ≡ reverse_onto (map f xs) (map f ys)
 map_onto f [] ys = refl
@@ -75,52 +74,29 @@ unbegun_text kinds a x e = subst (λ rs. Appends a a (kinds_text kinds rs)) (sym
 
 -- ---- what a play says
 
-front_same : (a b : Option (List ℕ)) (text : List ℕ) → b ≡ a → GrowsByFront a b text
-front_same a b text e = subst (λ z. GrowsByFront a z text) (sym e) (none_front a text)
-
 stops_front : (f : PlayFault) (kinds : Kinds) (limit : ℕ) (c : Config) (p : AnsweredPlay) (a b : Option (List ℕ)) → StopsAs f kinds limit c p a b → GrowsByFront a b (kinds_text kinds (records_within limit c p))
 stops_front (play_fault.Kept n) kinds limit c p a b h = all_front a b (kinds_text kinds (records_within limit c p)) h.1
 stops_front play_fault.WriteFault kinds limit c p a b h = h
 stops_front play_fault.NoMemory kinds limit c p a b h = h
 
 module _ {C : Type 0} {script : C → Option Items} {said : Items → Option Items} where
-  pub says_done : (all : AllWorded said) (w : kept.World C) (kinds : Kinds) (limit : ℕ) (x : Script) (a b : Option (List ℕ)) → (x.begun ≡ true → PlayedAs script said (Ok w) kinds limit x a b)
-      → (x.begun ≡ false → (b ≡ a) × Stands script said w (world_new x.config)) → (kept_past limit x ≡ None) × Appends a b (kinds_text kinds (script_records x))
-  says_done all w kinds limit x a b begun other = by x.begun refl
-    where
-      by : (t : Bool) → x.begun ≡ t → (kept_past limit x ≡ None) × Appends a b (kinds_text kinds (script_records x))
-      by true e =
-          let p = begun e in
-          (past_same said all limit x p.play None e p.lines p.ends.0, subst (λ rs. Appends a b (kinds_text kinds rs)) (sym (records_same said all x p.play e p.lines)) p.ends.2)
-      by false e = (unbegun_past limit x e, subst (λ z. Appends a z (kinds_text kinds (script_records x))) (sym (other e).0) (unbegun_text kinds a x e))
+  pub says_done : (all : AllWorded said) (w : kept.World C) (kinds : Kinds) (limit : ℕ) (x : Script) (a b : Option (List ℕ)) → x.begun ≡ true → PlayedAs script said (Ok w) kinds limit x a b → (kept_past limit x ≡ None) × Appends a b (kinds_text kinds (script_records x))
+  says_done all w kinds limit x a b e p =
+      (past_same said all limit x p.play None e p.lines p.ends.0, subst (λ rs. Appends a b (kinds_text kinds rs)) (sym (records_same said all x p.play e p.lines)) p.ends.2)
+
+  pub says_kept : (all : AllWorded said) (f : PlayFault) (n : ℕ) (kinds : Kinds) (limit : ℕ) (x : Script) (a b : Option (List ℕ)) → f ≡ play_fault.Kept n → x.begun ≡ true → PlayedAs script said (Err f) kinds limit x a b → (kept_past limit x ≡ Some n) × Appends a b (kinds_text kinds (kept_records limit x))
+  says_kept all f n kinds limit x a b is e p =
+      let ends : StopsAs (play_fault.Kept n) kinds limit x.config p.play a b = subst (λ z. StopsAs z kinds limit x.config p.play a b) is p.ends in
+      (past_same said all limit x p.play (Some n) e p.lines ends.0, subst (λ rs. Appends a b (kinds_text kinds rs)) (sym (kept_same said all limit x p.play e p.lines)) ends.1)
 
   done_front : (all : AllWorded said) (w : kept.World C) (kinds : Kinds) (limit : ℕ) (x : Script) (a b : Option (List ℕ)) → x.begun ≡ true → PlayedAs script said (Ok w) kinds limit x a b → GrowsByFront a b (kinds_text kinds (kept_records limit x))
   done_front all w kinds limit x a b e p =
       all_front a b (kinds_text kinds (kept_records limit x)) (subst (λ rs. Appends a b (kinds_text kinds rs)) (sym (kept_same said all limit x p.play e p.lines ∙ p.ends.1)) p.ends.2)
 
-  pub says_kept : (all : AllWorded said) (f : PlayFault) (n : ℕ) (kinds : Kinds) (limit : ℕ) (x : Script) (a b : Option (List ℕ)) → f ≡ play_fault.Kept n → (x.begun ≡ true → PlayedAs script said (Err f) kinds limit x a b)
-      → (x.begun ≡ false → ⊥) → (kept_past limit x ≡ Some n) × Appends a b (kinds_text kinds (kept_records limit x))
-  says_kept all f n kinds limit x a b is begun other = by x.begun refl
-    where
-      by : (t : Bool) → x.begun ≡ t → (kept_past limit x ≡ Some n) × Appends a b (kinds_text kinds (kept_records limit x))
-      by true e =
-          let p = begun e in
-          let ends : StopsAs (play_fault.Kept n) kinds limit x.config p.play a b = subst (λ z. StopsAs z kinds limit x.config p.play a b) is p.ends in
-          (past_same said all limit x p.play (Some n) e p.lines ends.0, subst (λ rs. Appends a b (kinds_text kinds rs)) (sym (kept_same said all limit x p.play e p.lines)) ends.1)
-      by false e = absurd (other e)
-
   stopped_front : (all : AllWorded said) (f : PlayFault) (kinds : Kinds) (limit : ℕ) (x : Script) (a b : Option (List ℕ)) → x.begun ≡ true → PlayedAs script said (Err f) kinds limit x a b → GrowsByFront a b (kinds_text kinds (kept_records limit x))
   stopped_front all f kinds limit x a b e p =
       subst (λ rs. GrowsByFront a b (kinds_text kinds rs)) (sym (kept_same said all limit x p.play e p.lines)) (stops_front f kinds limit x.config p.play a b p.ends)
 
-  ended_front : (all : AllWorded said) (r : Result (kept.World C) PlayFault) (kinds : Kinds) (limit : ℕ) (x : Script) (a b : Option (List ℕ)) → x.begun ≡ true → PlayedAs script said r kinds limit x a b → GrowsByFront a b (kinds_text kinds (kept_records limit x))
-  ended_front all (Ok w) kinds limit x a b e p = done_front all w kinds limit x a b e p
-  ended_front all (Err f) kinds limit x a b e p = stopped_front all f kinds limit x a b e p
-
-  pub says_front : (all : AllWorded said) (r : Result (kept.World C) PlayFault) (kinds : Kinds) (limit : ℕ) (x : Script) (a b : Option (List ℕ)) → (x.begun ≡ true → PlayedAs script said r kinds limit x a b) → (x.begun ≡ false → b ≡ a)
-      → GrowsByFront a b (kinds_text kinds (kept_records limit x))
-  says_front all r kinds limit x a b begun other = by x.begun refl
-    where
-      by : (t : Bool) → x.begun ≡ t → GrowsByFront a b (kinds_text kinds (kept_records limit x))
-      by true e = ended_front all r kinds limit x a b e (begun e)
-      by false e = front_same a b (kinds_text kinds (kept_records limit x)) (other e)
+  pub says_front : (all : AllWorded said) (r : Result (kept.World C) PlayFault) (kinds : Kinds) (limit : ℕ) (x : Script) (a b : Option (List ℕ)) → x.begun ≡ true → PlayedAs script said r kinds limit x a b → GrowsByFront a b (kinds_text kinds (kept_records limit x))
+  says_front all (Ok w) kinds limit x a b e p = done_front all w kinds limit x a b e p
+  says_front all (Err f) kinds limit x a b e p = stopped_front all f kinds limit x a b e p

@@ -1,8 +1,7 @@
 -- A client that is made of a votes word votes just as it says. And a safe run speaks of all groups, for any number, so
 -- its laws are named here.
-use Rattle.std.proofs.Common.{◌≡◌, Err, refl, ap}
+use Rattle.std.proofs.Common.{refl}
 use Rattle.world_safety.proofs.Scripts.{every_play_is_safe, every_kept_play_is_safe}
-use Rattle.net_script.specs.declared.faults.PlayFault.TheVariants as play_fault
 use Rattle.net_script.proofs.SafeLaws.{always}
 use Rattle.net_script.proofs.WordedLaws.{says_done, says_kept, says_front, unbegun_past, unbegun_text}
 use Rattle.net_script.proofs.playing.play.Goals.{in-Ok, in-Err}
@@ -10,7 +9,7 @@ use Rattle.net_script.proofs.playing.play.Goals as goal
 
 pub returns-after-play_as-clause-done : goal.returns-after-play_as-clause-done
 returns-after-play_as-clause-done g c = elim c.match-play_as.branch [
-  | in-Ok w ↦ rw w.result-is (says_done (λ items. refl) w.in-Ok.field-0 c.args.kinds c.args.limit c.args.script.now _ _ w.in-Ok.ensures.played w.in-Ok.ensures.unbegun)
+  | in-Ok w ↦ rw w.result-is (says_done (λ items. refl) w.in-Ok.field-0 c.args.kinds c.args.limit c.args.script.now _ _ c.if-script.true (w.in-Ok.ensures.played c.if-script.true))
   | in-Err w ↦ rw w.result-is tt
 ]
 
@@ -19,12 +18,11 @@ returns-after-play_as-clause-kept g c n is = elim c.match-play_as.branch [
   | in-Ok w ↦ let ok = rw w.result-is at is in absurd (cc)
   | in-Err w ↦
       let err = rw w.result-is at is in
-      let same : w.in-Err.e ≡ play_fault.Kept n = cc in
-      says_kept (λ items. refl) w.in-Err.e n c.args.kinds c.args.limit c.args.script.now _ _ same w.in-Err.ensures.played (λ e. w.in-Err.ensures.not_kept e n (ap Err same))
+      says_kept (λ items. refl) w.in-Err.e n c.args.kinds c.args.limit c.args.script.now _ _ (cc) c.if-script.true (w.in-Err.ensures.played c.if-script.true)
 ]
 
 pub returns-after-play_as-clause-front : goal.returns-after-play_as-clause-front
-returns-after-play_as-clause-front g c = says_front (λ items. refl) c.play_as.result c.args.kinds c.args.limit c.args.script.now _ _ c.play_as.ensures.played (λ e. (c.play_as.ensures.unbegun e).0)
+returns-after-play_as-clause-front g c = says_front (λ items. refl) c.play_as.result c.args.kinds c.args.limit c.args.script.now _ _ c.if-script.true (c.play_as.ensures.played c.if-script.true)
 
 pub returns-after-play_as-clause-safe : goal.returns-after-play_as-clause-safe
 returns-after-play_as-clause-safe g c = always c.match-play_as.result (every_play_is_safe c.args.script.now)
