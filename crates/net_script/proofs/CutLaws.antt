@@ -1,8 +1,8 @@
 -- Cuts as they are kept, and those of the definitions.
-use Rattle.std.proofs.Common.{◌≡◌, ℕ, Bool, true, false, cond, not, ◌||◌, List, [], ◌∷◌, map, refl, sym, ap, ◌∙◌}
+use Rattle.std.proofs.Common.{◌≡◌, Bool, true, false, cond, ◌||◌, List, [], ◌∷◌, map, refl, ap}
 use Rattle.std.specs.Prelude.{filter}
 use Rattle.std.specs.List.{list_any}
-use Rattle.world_model.specs.Play.{Cut, is_cut_of}
+use Rattle.world_model.specs.Play.{Cut}
 use Rattle.net_script.specs.declared.cuts.Cut as declared
 use Rattle.net_script.specs.Cuts.{cut_in}
 

@@ -1,5 +1,5 @@
 -- A plain event of a play.
-use Rattle.std.proofs.Common.{◌≡◌, ℕ, List, [], ◌∷◌, ◌++◌, Option, Some, None, Result, Ok, Err, refl, sym, ◌∙◌, ap, subst}
+use Rattle.std.proofs.Common.{◌≡◌, ℕ, List, [], ◌∷◌, ◌++◌, Option, Ok, refl, sym, ◌∙◌, ap, subst}
 use Rattle.std.specs.Io.KnownBytes.{Appends}
 use Rattle.std.proofs.KnownBytes.{Appends-nil}
 use Rattle.hags_io.specs.Edges.{GrowsByFront}
@@ -8,69 +8,104 @@ use Rattle.node_state.specs.declared.happened.Happened.{Happened}
 use Rattle.node_state.specs.declared.packet.Packet.{Packet}
 use Rattle.world_model.specs.declared.event.Event.{Event}
 use Rattle.world_model.specs.World.{World, happens}
-use Rattle.world_model.specs.Play.{Played, with_event}
 use Rattle.world_runs.specs.Runs.{SameRun}
-use Rattle.world_runs.proofs.Queue.{same_happens}
-use Rattle.world_runs.proofs.Limited.{one_runs, one_ends, tells_of_runs}
+use Rattle.world_answers.proofs.Limits.{one_runs, one_ends, tells_of_runs}
+use Rattle.world_answers.proofs.Waits.{same_goes}
+use Rattle.world_answers.proofs.Adding.{event_adds}
+use Rattle.world_answers.proofs.Going.{event_goes}
 use Rattle.world_play.specs.declared.fault.WorldFault.{WorldFault}
 use Rattle.world_play.specs.declared.fault.WorldFault.TheVariants as world_fault
-use Rattle.world_play.specs.Standing.{Goes, Passes}
+use Rattle.node_state.specs.HandOn.{Answering}
+use Rattle.world_answers.specs.Answers.{Items, Answered, happens_by, goes_on}
+use Rattle.world_answers.specs.Plays.{AnsweredPlay, with_answers, PlaysEvent}
+use Rattle.world_play.specs.Standing.{Holds, Goes, Passes, Comes}
 use Rattle.transcript.specs.declared.kinds.Kinds.{Kinds}
 use Rattle.transcript.specs.Kinds.{kinds_text}
 use Rattle.net_script.specs.declared.stage.Stage.{Stage}
 use Rattle.net_script.specs.declared.faults.PutFault.{PutFault}
 use Rattle.net_script.specs.declared.faults.PutFault.TheVariants as put_fault
 use Rattle.net_script.specs.Faults.{fault_of_world, fault_of_put}
-use Rattle.net_script.specs.Stage.{At, Moved, Went, Broke, Stopped}
+use Rattle.net_script.specs.Stage.{At, Moved, Broke, Stopped, LeadsTo}
 use Rattle.net_script.proofs.StageLaws.{broke_none}
 
 -- what is sent where nothing waits is sent where something does
-sent_same : (w v : World) (e : Event) (ps : List Packet) → SameRun w v → (happens w e).sent ≡ reverse_onto ps w.sent → (happens v e).sent ≡ reverse_onto ps v.sent
-sent_same w v e ps h s = ap (λ (z : World). z.sent) (same_happens w v e h) ∙ (s ∙ ap (λ (z : World). reverse_onto ps z.sent) (sym h))
+sent_same : (w v : World) (e : Answered) (ps : List Packet) → SameRun w v → (goes_on w e).sent ≡ reverse_onto ps w.sent → (goes_on v e).sent ≡ reverse_onto ps v.sent
+sent_same w v e ps h s = ap (λ (z : World). z.sent) (same_goes w v e h) ∙ (s ∙ ap (λ (z : World). reverse_onto ps z.sent) (sym h))
 
-trace_same : (w v : World) (e : Event) (rs : List Happened) → SameRun w v → (happens w e).trace ≡ reverse_onto rs w.trace → (happens v e).trace ≡ reverse_onto rs v.trace
-trace_same w v e rs h s = ap (λ (z : World). z.trace) (same_happens w v e h) ∙ (s ∙ ap (λ (z : World). reverse_onto rs z.trace) (sym h))
+trace_same : (w v : World) (e : Answered) (rs : List Happened) → SameRun w v → (goes_on w e).trace ≡ reverse_onto rs w.trace → (goes_on v e).trace ≡ reverse_onto rs v.trace
+trace_same w v e rs h s = ap (λ (z : World). z.trace) (same_goes w v e h) ∙ (s ∙ ap (λ (z : World). reverse_onto rs z.trace) (sym h))
 
--- an event happened within the limit
-pub event_moved : (s t : Stage) (p : Played) (v : World) (e : Event) (none rs : List Happened) → none ≡ [] → At s p v → t ≡ record s { world = t.world } → Goes s.world t.world none rs p.world (happens p.world e)
-    → Moved s t p (with_event p e) v (happens v e) (e ∷ []) rs
-unfolding with_event
-event_moved s t p v e none rs empty h same g = record {
-  happens = refl;
-  runs = one_runs s.world.limit s.world.kept t.world.kept v e g.sent (sent_same p.world v e g.sent h.same g.sends) g.within;
-  limit = g.limit;
-  recorded = trace_same p.world v e rs h.same (g.trace ∙ ap (λ xs. reverse_onto xs p.world.trace) (ap (λ xs. xs ++ g.records) (sym empty) ∙ sym g.out));
-  at = record { stands = g.stands; cuts = h.cuts ∙ sym (ap (λ (z : Stage). z.cuts) same); same = same_happens p.world v e h.same };
-}
+abbrev answered : Event → Answering → Answered
+answered e a = record { event = e; answers = a }
 
--- and was written
-pub event_went : (k : Kinds) (a b : Option (List ℕ)) (s t : Stage) (p : Played) (v : World) (e : Event) (rs : List Happened) → Moved s t p (with_event p e) v (happens v e) (e ∷ []) rs → Appends a b (kinds_text k rs)
-    → Went k a b s t p (with_event p e) v
-event_went k a b s t p v e rs m w = record { events = e ∷ []; records = rs; world = happens v e; moved = m; written = w }
+module _ {C : Type 0} {script : C → Option Items} {said : Items → Option Items} where
+  holds_same : (s : Stage C) (p : AnsweredPlay) (v u : World) → At script said s p v → SameRun p.world u → Holds script said s.world u
+  holds_same s p v u h same = subst (Holds script said s.world) (sym same) (record { nodes = h.stands.nodes; pairs = h.stands.packets.0 })
 
-event_broke : (k : Kinds) (a b : Option (List ℕ)) (s t : Stage) (p : Played) (v : World) (e : Event) (rs : List Happened) → Moved s t p (with_event p e) v (happens v e) (e ∷ []) rs → GrowsByFront a b (kinds_text k rs)
-    → Broke k a b s p (with_event p e) v
-event_broke k a b s t p v e rs m w =
-    record { events = e ∷ []; records = rs; happens = m.happens; tells = tells_of_runs s.world.limit s.world.kept t.world.kept v (happens v e) (e ∷ []) rs m.runs m.recorded; front = w }
+  -- what comes of an event is played
+  pub event_played : {P : World → World → Type 0} (s : Stage C) (p : AnsweredPlay) (v : World) (e : Event) → At script said s p v → (g : Comes script said s.world P (λ f w. happens_by f w e) (λ w. happens w e)) → PlaysEvent said p e (with_answers p e g.answers)
+  event_played s p v e h g = record { answers = g.answers; made = refl; worded = λ all u same. g.worded all u (holds_same s p v u h same) }
 
-pub event_put_stops : (f : PutFault) (k : Kinds) (a b : Option (List ℕ)) (s t : Stage) (p : Played) (v : World) (e : Event) (rs : List Happened) → Moved s t p (with_event p e) v (happens v e) (e ∷ []) rs
-    → GrowsByFront a b (kinds_text k rs) → Stopped (fault_of_put f) k a b s p (with_event p e) v
-event_put_stops put_fault.WriteFault k a b s t p v e rs m w = event_broke k a b s t p v e rs m w
-event_put_stops put_fault.NoMemory k a b s t p v e rs m w = event_broke k a b s t p v e rs m w
+  -- an event happened within the limit
+  pub event_moved : (s t : Stage C) (p : AnsweredPlay) (v : World) (e : Event) (none rs : List Happened) → none ≡ [] → At script said s p v → t ≡ record s { world = t.world }
+      → (g : Comes script said s.world (Goes script said s.world t.world none rs) (λ f w. happens_by f w e) (λ w. happens w e))
+      → Moved script said s t p (with_answers p e g.answers) v (happens_by g.answers v e) (answered e g.answers ∷ []) rs
+  event_moved s t p v e none rs empty h same comes =
+      let x : Answered = answered e comes.answers in
+      let g : Goes script said s.world t.world none rs p.world (goes_on p.world x) = comes.comes p.world h.stands in
+      record {
+        happens = refl;
+        runs = one_runs s.world.limit s.world.kept t.world.kept v x g.sent (sent_same p.world v x g.sent h.same g.sends) g.within;
+        limit = g.limit;
+        recorded = trace_same p.world v x rs h.same (g.trace ∙ ap (λ xs. reverse_onto xs p.world.trace) (ap (λ xs. xs ++ g.records) (sym empty) ∙ sym g.out));
+        at = record { stands = g.stands; cuts = h.cuts ∙ sym (ap (λ (z : Stage C). z.cuts) same); same = same_goes p.world v x h.same };
+      }
 
--- an event did not happen
-pub event_stops : (f : WorldFault) (k : Kinds) (a : Option (List ℕ)) (s : Stage) (p : Played) (v : World) (e : Event) → At s p v
-    → ((n : ℕ) → f ≡ world_fault.TooMuchKept n → Passes n s.world p.world (happens p.world e)) → Stopped (fault_of_world f) k a a s p (with_event p e) v
-unfolding with_event kinds_text
-event_stops world_fault.NoMemory k a s p v e h g = broke_none k a s p (with_event p e) v (e ∷ []) refl
-event_stops (world_fault.TooMuchKept n) k a s p v e h g =
-    let b : Passes n s.world p.world (happens p.world e) = g n refl in
-    record {
-      events = e ∷ [];
-      records = [];
-      world = v;
-      happens = refl;
-      ends = one_ends s.world.limit s.world.kept n v e b.sent (sent_same p.world v e b.sent h.same b.sends) b.passed;
-      recorded = refl;
-      written = Appends-nil a;
-    }
+  -- and was written
+  pub event_went : {U : Type 0} (u : U) (k : Kinds) (a b : Option (List ℕ)) (s t : Stage C) (p : AnsweredPlay) (v : World) (e : Event) (none rs : List Happened) → none ≡ [] → At script said s p v → t ≡ record s { world = t.world }
+      → Comes script said s.world (Goes script said s.world t.world none rs) (λ f w. happens_by f w e) (λ w. happens w e) → Appends a b (kinds_text k rs)
+      → LeadsTo script said (Ok u) k a b s t p (PlaysEvent said p e) v
+  event_went u k a b s t p v e none rs empty h same g w = record {
+    play = with_answers p e g.answers;
+    made = event_played s p v e h g;
+    outcome = record { events = answered e g.answers ∷ []; records = rs; world = happens_by g.answers v e; moved = event_moved s t p v e none rs empty h same g; written = w };
+  }
+
+  event_broke : (k : Kinds) (a b : Option (List ℕ)) (s t : Stage C) (p q : AnsweredPlay) (v u : World) (es : List Answered) (rs : List Happened) → Moved script said s t p q v u es rs → GrowsByFront a b (kinds_text k rs) → Broke k a b s p q v
+  event_broke k a b s t p q v u es rs m w =
+      record { events = es; records = rs; happens = m.happens; tells = tells_of_runs s.world.limit s.world.kept t.world.kept v u es rs m.runs m.recorded; front = w }
+
+  put_broke : (f : PutFault) (k : Kinds) (a b : Option (List ℕ)) (s t : Stage C) (p q : AnsweredPlay) (v u : World) (es : List Answered) (rs : List Happened) → Moved script said s t p q v u es rs → GrowsByFront a b (kinds_text k rs) → Stopped (fault_of_put f) k a b s p q v
+  put_broke put_fault.WriteFault k a b s t p q v u es rs m w = event_broke k a b s t p q v u es rs m w
+  put_broke put_fault.NoMemory k a b s t p q v u es rs m w = event_broke k a b s t p q v u es rs m w
+
+  pub event_put_stops : (f : PutFault) (k : Kinds) (a b : Option (List ℕ)) (s t : Stage C) (p : AnsweredPlay) (v : World) (e : Event) (none rs : List Happened) → none ≡ [] → At script said s p v → t ≡ record s { world = t.world }
+      → Comes script said s.world (Goes script said s.world t.world none rs) (λ f w. happens_by f w e) (λ w. happens w e) → GrowsByFront a b (kinds_text k rs)
+      → (q : AnsweredPlay) × PlaysEvent said p e q × Stopped (fault_of_put f) k a b s p q v
+  event_put_stops f k a b s t p v e none rs empty h same g w =
+      (with_answers p e g.answers, event_played s p v e h g, put_broke f k a b s t p (with_answers p e g.answers) v (happens_by g.answers v e) (answered e g.answers ∷ []) rs (event_moved s t p v e none rs empty h same g) w)
+
+  -- an event did not happen
+  pub event_stops : (f : WorldFault) (k : Kinds) (a : Option (List ℕ)) (s : Stage C) (p : AnsweredPlay) (v : World) (e : Event) → At script said s p v
+      → ((n : ℕ) → f ≡ world_fault.TooMuchKept n → Comes script said s.world (Passes n s.world) (λ f w. happens_by f w e) (λ w. happens w e))
+      → (q : AnsweredPlay) × PlaysEvent said p e q × Stopped (fault_of_world f) k a a s p q v
+  unfolding kinds_text
+  event_stops world_fault.NoMemory k a s p v e h g =
+      let q = event_goes said p e in
+      (q.0, q.1, broke_none k a s p q.0 v (event_adds p e q.0 q.1).events (event_adds p e q.0 q.1).grew)
+  event_stops (world_fault.TooMuchKept n) k a s p v e h g =
+      let comes : Comes script said s.world (Passes n s.world) (λ f w. happens_by f w e) (λ w. happens w e) = g n refl in
+      let x : Answered = answered e comes.answers in
+      let b : Passes n s.world p.world (goes_on p.world x) = comes.comes p.world h.stands in (
+        with_answers p e comes.answers,
+        event_played s p v e h comes,
+        record {
+          events = x ∷ [];
+          records = [];
+          world = v;
+          happens = refl;
+          ends = one_ends s.world.limit s.world.kept n v x b.sent (sent_same p.world v x b.sent h.same b.sends) b.passed;
+          recorded = refl;
+          written = Appends-nil a;
+        },
+      )

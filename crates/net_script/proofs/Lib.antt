@@ -6,5 +6,7 @@ pub mod FlowLaws
 pub mod ListLaws
 pub mod RoundLaws
 pub mod LineLaws
-pub mod PlayLaws
 pub mod SafeLaws
+pub mod SafePlays
+pub mod PlayLaws
+pub mod WordedLaws

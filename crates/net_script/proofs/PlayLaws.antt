@@ -1,6 +1,6 @@
--- The play of a whole script.
-use Rattle.std.proofs.Common.{◌≡◌, ℕ, Bool, true, false, List, [], ◌∷◌, ◌++◌, fold, Option, Some, None, Result, Ok, Err, refl, sym, ◌∙◌, ap, subst, append-nil, append_assoc}
-use Rattle.std.specs.Result.{OnOk}
+-- The play of a whole script, whatever its clients answer.
+use Rattle.std.proofs.Common.{◌≡◌, ℕ, List, [], ◌++◌, Option, Some, None, Result, Ok, Err, refl, sym, ◌∙◌, ap, subst, append-nil}
+use Rattle.std.specs.Result.{IsErr, IsErrAnd}
 use Rattle.std.specs.Io.KnownBytes.{Appends}
 use Rattle.std.proofs.KnownBytes.{Appends-nil, Appends-trans}
 use Rattle.hags_io.specs.Edges.{GrowsByFront}
@@ -8,16 +8,19 @@ use Rattle.hags_io.proofs.ByteLaws.{front_on}
 use Rattle.rsct_packet.specs.Lists.{reverse_onto}
 use Rattle.node_state.specs.declared.happened.Happened.{Happened}
 use Rattle.node_state.specs.declared.config.Config.{Config}
-use Rattle.world_model.specs.declared.event.Event.{Event}
+use Rattle.world_model.specs.declared.script.Line.{Line}
 use Rattle.world_model.specs.declared.script.Script.{Script}
 use Rattle.world_model.specs.World.{World, empty_world, world_new}
-use Rattle.world_model.specs.Play.{Played, plays, events_of, played, played_records, script_records}
-use Rattle.world_model.specs.Kept.{Bytes, Ended, runs_within, ended, kept_past, kept_records}
-use Rattle.world_runs.specs.Runs.{Runs, Ends, Tells, Happens, Recorded, unplayed}
+use Rattle.world_model.specs.Kept.{Bytes, Ended}
+use Rattle.world_runs.specs.Runs.{Recorded}
 use Rattle.world_runs.proofs.Backwards.{reversed, reversed_back}
-use Rattle.world_runs.proofs.Whole.{new_sends_nothing, whole_runs, whole_ends, whole_tells}
-use Rattle.world_runs.proofs.Plays.{lines_happen}
-use Rattle.world_runs.proofs.Limited.{tells_none}
+use Rattle.world_runs.proofs.Whole.{new_sends_nothing}
+use Rattle.world_answers.specs.Answers.{Items, Answered}
+use Rattle.world_answers.specs.Plays.{AnsweredPlay, starting, PlaysLines}
+use Rattle.world_answers.specs.Limits.{answered_within, answered_in, limited, AnsweredRuns, AnsweredEnds, AnsweredTells, Grew}
+use Rattle.world_answers.proofs.Adding.{lines_add}
+use Rattle.world_answers.proofs.Going.{lines_go}
+use Rattle.world_answers.proofs.Limits.{tells_none}
 use Rattle.world_play.specs.declared.world.World as kept
 use Rattle.world_play.specs.Standing.{Goes, bytes_after, kept_empty}
 use Rattle.transcript.specs.declared.kinds.Kinds.{Kinds}
@@ -25,18 +28,19 @@ use Rattle.transcript.specs.Kinds.{kinds_text}
 use Rattle.net_script.specs.declared.stage.Stage.{Stage}
 use Rattle.net_script.specs.declared.faults.PlayFault.{PlayFault}
 use Rattle.net_script.specs.declared.faults.PlayFault.TheVariants as play_fault
-use Rattle.net_script.specs.Stage.{At, Moved, Went, Passed, Broke, Stopped, Outcome}
-use Rattle.net_script.proofs.TextLaws.{kinds_append, none_front, all_front}
+use Rattle.net_script.specs.declared.faults.PutFault.{PutFault}
+use Rattle.net_script.specs.declared.faults.PutFault.TheVariants as put_fault
+use Rattle.net_script.specs.Faults.{fault_of_put}
+use Rattle.net_script.specs.Stage.{At, Went, Passed, Broke, Stopped, LeadsTo}
+use Rattle.net_script.specs.Ends.{records_in, records_within, StopsAs, EndsAs, PlayedAs}
+use Rattle.net_script.proofs.SafePlays.{answered_play_is_safe, answered_front_is_safe}
+use Rattle.net_script.proofs.TextLaws.{kinds_append, none_front}
 
--- ---- a script that has begun
-
--- what the starts have recorded
-pub first_trace : (c : Config) (limit : ℕ) (k : kept.World) (none rs : List Happened) → none ≡ [] → Goes (kept_empty c limit) k none rs (empty_world c) (world_new c) → (world_new c).trace ≡ reverse_onto rs []
-first_trace c limit k none rs empty g = g.trace ∙ ap (λ xs. reverse_onto xs []) (ap (λ xs. xs ++ g.records) (sym empty) ∙ sym g.out)
+-- ---- the beginning
 
 -- the play stands at its beginning, where the starts of nodes have recorded this
-pub record Opened (limit : ℕ) (s : Stage) (c : Config) (rs : List Happened) : Type 0 where
-  pub at : At s (unplayed c) (world_new c)
+pub record Opened {C : Type 0} (script : C → Option Items) (said : Items → Option Items) (limit : ℕ) (s : Stage C) (c : Config) (rs : List Happened) : Type 0 where
+  pub at : At script said s (starting c) (world_new c)
   pub limited : s.world.limit ≡ limit
   pub kept : s.world.kept ≡ 0
   pub trace : (world_new c).trace ≡ reverse_onto rs []
@@ -44,35 +48,10 @@ pub record Opened (limit : ℕ) (s : Stage) (c : Config) (rs : List Happened) : 
 reversed_nothing : {A : Type 0} (xs : List A) → [] ≡ reverse_onto xs [] → xs ≡ []
 reversed_nothing xs e = sym (reversed_back xs []) ∙ ap (λ zs. reverse_onto zs []) (sym e)
 
-pub opened : (c : Config) (limit : ℕ) (s : Stage) (none rs : List Happened) → none ≡ [] → s.cuts ≡ [] → Goes (kept_empty c limit) s.world none rs (empty_world c) (world_new c) → Opened limit s c rs
-opened c limit s none rs empty uncut g =
-    let unsent : g.sent ≡ [] = reversed_nothing g.sent (sym (new_sends_nothing c) ∙ g.sends) in
-    record {
-      at = record { stands = g.stands; cuts = sym uncut; same = refl };
-      limited = g.limit;
-      kept = sym (ap (λ (b : Bytes). b.sum) (ap (bytes_after limit 0) (sym unsent) ∙ g.within));
-      trace = first_trace c limit s.world none rs empty g;
-    }
-
-begun_script : (x : Script) → x.begun ≡ true → script_records x ≡ reverse_onto (fold plays (unplayed x.config) x.lines).world.trace []
-unfolding script_records played_records played
-begun_script x e = ap (λ (t : Bool). elim t [ true ↦ played_records x.config x.lines | false ↦ [] ]) e
-
-begun_kept : (limit : ℕ) (x : Script) → x.begun ≡ true → kept_records limit x ≡ reverse_onto (ended limit x).world.trace []
-unfolding kept_records
-begun_kept limit x e = ap (λ (t : Bool). elim t [ true ↦ reverse_onto (ended limit x).world.trace [] | false ↦ [] ]) e
-
 -- all records so far
 all_so_far : (first rest : List Happened) (start : World) (trace : List Happened) → start.trace ≡ reverse_onto first [] → trace ≡ reverse_onto rest start.trace → reverse_onto trace [] ≡ first ++ rest
 all_so_far first rest start trace e f =
     ap (λ zs. reverse_onto zs []) (f ∙ (ap (reverse_onto rest) e ∙ reversed first rest [])) ∙ reversed_back (first ++ rest) []
-
--- how the play goes on from its beginning
-runs_whole : (kinds : Kinds) (b c : Option (List ℕ)) (limit : ℕ) (s t : Stage) (x : Script) (first : List Happened) → x.begun ≡ true → Opened limit s x.config first
-    → (w : Went kinds b c s t (unplayed x.config) (fold plays (unplayed x.config) x.lines) (world_new x.config)) → (kept_past limit x ≡ None) × ((ended limit x).world ≡ w.world)
-runs_whole kinds b c limit s t x first begun o w =
-    whole_runs limit t.world.kept x w.events w.world begun w.moved.happens
-    (subst (λ k. Runs limit k (world_new x.config) w.events t.world.kept w.world) o.kept (subst (λ l. Runs l s.world.kept (world_new x.config) w.events t.world.kept w.world) o.limited w.moved.runs))
 
 text_on : (kinds : Kinds) (a b c : Option (List ℕ)) (first rest all : List Happened) → all ≡ first ++ rest → Appends a b (kinds_text kinds first) → Appends b c (kinds_text kinds rest) → Appends a c (kinds_text kinds all)
 text_on kinds a b c first rest all e p q = subst (Appends a c) (sym (ap (kinds_text kinds) e ∙ kinds_append kinds first rest)) (Appends-trans a b c _ _ p q)
@@ -82,104 +61,125 @@ front_of kinds a b c first rest more all e p q =
     front_on a b c (kinds_text kinds first) (kinds_text kinds rest) (kinds_text kinds more) (kinds_text kinds all)
     (ap (λ t. kinds_text kinds first ++ t) (sym (kinds_append kinds rest more)) ∙ (sym (kinds_append kinds first (rest ++ more)) ∙ ap (kinds_text kinds) (sym e))) p q
 
--- ---- all was played
+-- ---- the run of the whole play
 
-play_done : (kinds : Kinds) (a b c : Option (List ℕ)) (limit : ℕ) (s t : Stage) (x : Script) (first : List Happened) → x.begun ≡ true → Opened limit s x.config first → Appends a b (kinds_text kinds first)
-    → Went kinds b c s t (unplayed x.config) (fold plays (unplayed x.config) x.lines) (world_new x.config) → (kept_past limit x ≡ None) × Appends a c (kinds_text kinds (script_records x))
-play_done kinds a b c limit s t x first begun o p w =
-    let q : Played = fold plays (unplayed x.config) x.lines in
-    let trace : q.world.trace ≡ reverse_onto w.records (world_new x.config).trace = sym (ap (λ (z : World). z.trace) w.moved.at.same) ∙ w.moved.recorded in
-    let all : script_records x ≡ first ++ w.records = begun_script x begun ∙ all_so_far first w.records (world_new x.config) q.world.trace o.trace trace in
-    ((runs_whole kinds b c limit s t x first begun o w).0, text_on kinds a b c first w.records (script_records x) all p w.written)
+-- its events, in order
+pub answered_all : (c : Config) (p : AnsweredPlay) (es : List Answered) → Grew (starting c) p es → answered_in p ≡ es
+answered_all c p es h = ap (λ zs. reverse_onto zs []) h ∙ reversed_back es []
 
-done_front : (kinds : Kinds) (a b c : Option (List ℕ)) (limit : ℕ) (s t : Stage) (x : Script) (first : List Happened) → x.begun ≡ true → Opened limit s x.config first → Appends a b (kinds_text kinds first)
-    → Went kinds b c s t (unplayed x.config) (fold plays (unplayed x.config) x.lines) (world_new x.config) → GrowsByFront a c (kinds_text kinds (kept_records limit x))
-done_front kinds a b c limit s t x first begun o p w =
-    let trace : (ended limit x).world.trace ≡ reverse_onto w.records (world_new x.config).trace = ap (λ (z : World). z.trace) (runs_whole kinds b c limit s t x first begun o w).1 ∙ w.moved.recorded in
-    let all : kept_records limit x ≡ first ++ w.records = begun_kept limit x begun ∙ all_so_far first w.records (world_new x.config) (ended limit x).world.trace o.trace trace in
-    all_front a c (kinds_text kinds (kept_records limit x)) (text_on kinds a b c first w.records (kept_records limit x) all p w.written)
+ended_by : (limit : ℕ) (c : Config) (p : AnsweredPlay) (es : List Answered) → Grew (starting c) p es → limited limit c p ≡ answered_within limit 0 (world_new c) (es ++ [])
+ended_by limit c p es h = ap (answered_within limit 0 (world_new c)) (answered_all c p es h ∙ sym (append-nil es))
 
--- ---- the limit was passed
+whole_runs : (limit total : ℕ) (c : Config) (p : AnsweredPlay) (es : List Answered) (v : World) → Grew (starting c) p es → AnsweredRuns limit 0 (world_new c) es total v → limited limit c p ≡ record { world = v; passed = None }
+unfolding answered_within
+whole_runs limit total c p es v h runs = ended_by limit c p es h ∙ runs []
 
-play_passed : (n : ℕ) (kinds : Kinds) (a b c : Option (List ℕ)) (limit : ℕ) (s : Stage) (x : Script) (first : List Happened) → x.begun ≡ true → Opened limit s x.config first → Appends a b (kinds_text kinds first)
-    → Passed n kinds b c s (unplayed x.config) (fold plays (unplayed x.config) x.lines) (world_new x.config) → (kept_past limit x ≡ Some n) × Appends a c (kinds_text kinds (kept_records limit x))
-play_passed n kinds a b c limit s x first begun o p w =
-    let ends : Ends limit 0 (world_new x.config) w.events n w.world =
-    subst (λ k. Ends limit k (world_new x.config) w.events n w.world) o.kept (subst (λ l. Ends l s.world.kept (world_new x.config) w.events n w.world) o.limited w.ends)
-    in
-    let whole : (kept_past limit x ≡ Some n) × ((ended limit x).world ≡ w.world) = whole_ends limit n x w.events w.world begun w.happens ends in
-    let trace : (ended limit x).world.trace ≡ reverse_onto w.records (world_new x.config).trace = ap (λ (z : World). z.trace) whole.1 ∙ w.recorded in
-    let all : kept_records limit x ≡ first ++ w.records = begun_kept limit x begun ∙ all_so_far first w.records (world_new x.config) (ended limit x).world.trace o.trace trace in
-    (whole.0, text_on kinds a b c first w.records (kept_records limit x) all p w.written)
+whole_ends : (limit n : ℕ) (c : Config) (p : AnsweredPlay) (es : List Answered) (v : World) → Grew (starting c) p es → AnsweredEnds limit 0 (world_new c) es n v → limited limit c p ≡ record { world = v; passed = Some n }
+whole_ends limit n c p es v h ends = ended_by limit c p es h ∙ ends []
 
--- ---- a front was written
-
-broke_front : (kinds : Kinds) (a b c : Option (List ℕ)) (limit : ℕ) (s : Stage) (x : Script) (first : List Happened) → x.begun ≡ true → Opened limit s x.config first → Appends a b (kinds_text kinds first)
-    → Broke kinds b c s (unplayed x.config) (fold plays (unplayed x.config) x.lines) (world_new x.config) → GrowsByFront a c (kinds_text kinds (kept_records limit x))
-broke_front kinds a b c limit s x first begun o p w =
-    let tells : Tells limit 0 (world_new x.config) w.events w.records =
-    subst (λ k. Tells limit k (world_new x.config) w.events w.records) o.kept (subst (λ l. Tells l s.world.kept (world_new x.config) w.events w.records) o.limited w.tells)
-    in
-    let more : (more : List Happened) × Recorded (world_new x.config) (ended limit x).world (w.records ++ more) = whole_tells limit x w.events w.records begun w.happens tells in
-    let all : kept_records limit x ≡ first ++ (w.records ++ more.0) = begun_kept limit x begun ∙ all_so_far first (w.records ++ more.0) (world_new x.config) (ended limit x).world.trace o.trace more.1 in
-    front_of kinds a b c first w.records more.0 (kept_records limit x) all p w.front
-
-play_front : {U : Type 0} (r : Result U PlayFault) (kinds : Kinds) (a b c : Option (List ℕ)) (limit : ℕ) (s t : Stage) (x : Script) (first : List Happened) → x.begun ≡ true → Opened limit s x.config first
-    → Appends a b (kinds_text kinds first) → Outcome r kinds b c s t (unplayed x.config) (fold plays (unplayed x.config) x.lines) (world_new x.config) → GrowsByFront a c (kinds_text kinds (kept_records limit x))
-play_front (Ok u) kinds a b c limit s t x first begun o p w = done_front kinds a b c limit s t x first begun o p w
-play_front (Err (play_fault.Kept n)) kinds a b c limit s t x first begun o p w =
-    all_front a c (kinds_text kinds (kept_records limit x)) (play_passed n kinds a b c limit s x first begun o p w).1
-play_front (Err play_fault.WriteFault) kinds a b c limit s t x first begun o p w = broke_front kinds a b c limit s x first begun o p w
-play_front (Err play_fault.NoMemory) kinds a b c limit s t x first begun o p w = broke_front kinds a b c limit s x first begun o p w
+whole_tells : (limit : ℕ) (c : Config) (p : AnsweredPlay) (es : List Answered) (rs : List Happened) → Grew (starting c) p es → AnsweredTells limit 0 (world_new c) es rs → (more : List Happened) × Recorded (world_new c) (limited limit c p).world (rs ++ more)
+whole_tells limit c p es rs h tells =
+    let t = tells [] in
+    (t.0, ap (λ (z : Ended). z.world.trace) (ended_by limit c p es h) ∙ (t.1 ∙ reversed rs t.0 (world_new c).trace))
 
 -- a front of what the starts record
-pub first_front : (kinds : Kinds) (a b : Option (List ℕ)) (limit : ℕ) (x : Script) (first : List Happened) → x.begun ≡ true → (world_new x.config).trace ≡ reverse_onto first [] → GrowsByFront a b (kinds_text kinds first)
-    → GrowsByFront a b (kinds_text kinds (kept_records limit x))
+pub first_front : (said : Items → Option Items) (kinds : Kinds) (a b : Option (List ℕ)) (limit : ℕ) (c : Config) (ls : List Line) (first : List Happened) → (world_new c).trace ≡ reverse_onto first [] → GrowsByFront a b (kinds_text kinds first)
+    → (p : AnsweredPlay) × PlaysLines said (starting c) ls p × GrowsByFront a b (kinds_text kinds (records_within limit c p))
 unfolding kinds_text
-first_front kinds a b limit x first begun trace g =
-    let es : (es : List Event) × Happens (unplayed x.config) (fold plays (unplayed x.config) x.lines) es = lines_happen x.lines (unplayed x.config) in
-    let more : (more : List Happened) × Recorded (world_new x.config) (ended limit x).world more = whole_tells limit x es.0 [] begun es.1 (tells_none limit 0 (world_new x.config) es.0) in
-    let all : kept_records limit x ≡ [] ++ (first ++ more.0) = begun_kept limit x begun ∙ all_so_far first more.0 (world_new x.config) (ended limit x).world.trace trace more.1 in
-    front_of kinds a a b [] first more.0 (kept_records limit x) all (Appends-nil a) g
+first_front said kinds a b limit c ls first trace g =
+    let p = lines_go said (starting c) ls in
+    let adds = lines_add (starting c) ls p.0 p.1 in
+    let more = whole_tells limit c p.0 adds.events [] adds.grew (tells_none limit 0 (world_new c) adds.events) in
+    let all : records_within limit c p.0 ≡ [] ++ (first ++ more.0) = all_so_far first more.0 (world_new c) (limited limit c p.0).world.trace trace more.1 in
+    (p.0, p.1, front_of kinds a a b [] first more.0 (records_within limit c p.0) all (Appends-nil a) g)
 
--- ---- as the play of the lines ended
+module _ {C : Type 0} {script : C → Option Items} {said : Items → Option Items} where
+  -- what the starts have recorded
+  pub first_trace : (c : Config) (limit : ℕ) (k : kept.World C) (none rs : List Happened) → none ≡ [] → Goes script said (kept_empty c limit) k none rs (empty_world c) (world_new c) → (world_new c).trace ≡ reverse_onto rs []
+  first_trace c limit k none rs empty g = g.trace ∙ ap (λ xs. reverse_onto xs []) (ap (λ xs. xs ++ g.records) (sym empty) ∙ sym g.out)
 
-abbrev pub Lines : {U : Type 0} → Result U PlayFault → Kinds → Option (List ℕ) → Option (List ℕ) → Stage → Stage → Script → Type 0
-Lines r kinds b c s t x = (p : Played) → (v : World) → At s p v → Outcome r kinds b c s t p (fold plays p x.lines) v
+  pub opened : (c : Config) (limit : ℕ) (s : Stage C) (none rs : List Happened) → none ≡ [] → s.cuts ≡ [] → Goes script said (kept_empty c limit) s.world none rs (empty_world c) (world_new c) → Opened script said limit s c rs
+  opened c limit s none rs empty uncut g =
+      let unsent : g.sent ≡ [] = reversed_nothing g.sent (sym (new_sends_nothing c) ∙ g.sends) in
+      record {
+        at = record { stands = g.stands; cuts = sym uncut; same = refl };
+        limited = g.limit;
+        kept = sym (ap (λ (b : Bytes). b.sum) (ap (bytes_after limit 0) (sym unsent) ∙ g.within));
+        trace = first_trace c limit s.world none rs empty g;
+      }
 
-pub outcome_done : {U : Type 0} (r : Result U PlayFault) (kinds : Kinds) (a b c : Option (List ℕ)) (limit : ℕ) (s t : Stage) (x : Script) (first : List Happened) → x.begun ≡ true → Opened limit s x.config first
-    → Appends a b (kinds_text kinds first) → Lines r kinds b c s t x → OnOk r ((kept_past limit x ≡ None) × Appends a c (kinds_text kinds (script_records x)))
-outcome_done (Ok u) kinds a b c limit s t x first begun o p w = play_done kinds a b c limit s t x first begun o p (w (unplayed x.config) (world_new x.config) o.at)
-outcome_done (Err e) kinds a b c limit s t x first begun o p w = tt
+  -- ---- all was played
 
-passed_at : (e : PlayFault) (n : ℕ) (kinds : Kinds) (b c : Option (List ℕ)) (s : Stage) (p q : Played) (v : World) → e ≡ play_fault.Kept n → Stopped e kinds b c s p q v → Passed n kinds b c s p q v
-passed_at e n kinds b c s p q v is g = subst (λ f. Stopped f kinds b c s p q v) is g
+  play_done : (kinds : Kinds) (a b c : Option (List ℕ)) (limit : ℕ) (s t : Stage C) (f : Config) (p : AnsweredPlay) (first : List Happened) → Opened script said limit s f first → Appends a b (kinds_text kinds first)
+      → Went script said kinds b c s t (starting f) p (world_new f) → EndsAs script said (Ok t.world) kinds limit f p a c
+  play_done kinds a b c limit s t f p first o begun w =
+      let runs : AnsweredRuns limit 0 (world_new f) w.events t.world.kept w.world = subst (λ k. AnsweredRuns limit k (world_new f) w.events t.world.kept w.world) o.kept (subst (λ l. AnsweredRuns l s.world.kept (world_new f) w.events t.world.kept w.world) o.limited w.moved.runs) in
+      let trace : p.world.trace ≡ reverse_onto w.records (world_new f).trace = sym (ap (λ (z : World). z.trace) w.moved.at.same) ∙ w.moved.recorded in (
+        ap (λ (z : Ended). z.passed) (whole_runs limit t.world.kept f p w.events w.world w.moved.happens runs),
+        ap (λ (z : Ended). reverse_onto z.world.trace []) (whole_runs limit t.world.kept f p w.events w.world w.moved.happens runs) ∙ ap (λ (z : World). reverse_onto z.trace []) w.moved.at.same,
+        text_on kinds a b c first w.records (records_in p) (all_so_far first w.records (world_new f) p.world.trace o.trace trace) begun w.written,
+        w.moved.at.stands,
+      )
 
-pub outcome_kept : {U : Type 0} (r : Result U PlayFault) (n : ℕ) (kinds : Kinds) (a b c : Option (List ℕ)) (limit : ℕ) (s t : Stage) (x : Script) (first : List Happened) → x.begun ≡ true → Opened limit s x.config first
-    → Appends a b (kinds_text kinds first) → Lines r kinds b c s t x → r ≡ Err (play_fault.Kept n) → (kept_past limit x ≡ Some n) × Appends a c (kinds_text kinds (kept_records limit x))
-outcome_kept (Ok u) n kinds a b c limit s t x first begun o p w is = absurd cc
-outcome_kept (Err e) n kinds a b c limit s t x first begun o p w is =
-    let same : e ≡ play_fault.Kept n = cc in
-    play_passed n kinds a b c limit s x first begun o p (passed_at e n kinds b c s _ _ _ same (w (unplayed x.config) (world_new x.config) o.at))
+  -- ---- it ended early
 
-pub outcome_front : {U : Type 0} (r : Result U PlayFault) (kinds : Kinds) (a b c : Option (List ℕ)) (limit : ℕ) (s t : Stage) (x : Script) (first : List Happened) → x.begun ≡ true → Opened limit s x.config first
-    → Appends a b (kinds_text kinds first) → Lines r kinds b c s t x → GrowsByFront a c (kinds_text kinds (kept_records limit x))
-outcome_front r kinds a b c limit s t x first begun o p w = play_front r kinds a b c limit s t x first begun o p (w (unplayed x.config) (world_new x.config) o.at)
+  play_passed : (n : ℕ) (kinds : Kinds) (a b c : Option (List ℕ)) (limit : ℕ) (s : Stage C) (f : Config) (p : AnsweredPlay) (first : List Happened) → Opened script said limit s f first → Appends a b (kinds_text kinds first)
+      → Passed n kinds b c s (starting f) p (world_new f) → StopsAs (play_fault.Kept n) kinds limit f p a c
+  play_passed n kinds a b c limit s f p first o begun w =
+      let ends : AnsweredEnds limit 0 (world_new f) w.events n w.world = subst (λ k. AnsweredEnds limit k (world_new f) w.events n w.world) o.kept (subst (λ l. AnsweredEnds l s.world.kept (world_new f) w.events n w.world) o.limited w.ends) in
+      let whole : limited limit f p ≡ record { world = w.world; passed = Some n } = whole_ends limit n f p w.events w.world w.happens ends in
+      let trace : (limited limit f p).world.trace ≡ reverse_onto w.records (world_new f).trace = ap (λ (z : Ended). z.world.trace) whole ∙ w.recorded in
+      (ap (λ (z : Ended). z.passed) whole, text_on kinds a b c first w.records (records_within limit f p) (all_so_far first w.records (world_new f) (limited limit f p).world.trace o.trace trace) begun w.written)
 
--- ---- a script that has not begun
+  broke_front : (kinds : Kinds) (a b c : Option (List ℕ)) (limit : ℕ) (s : Stage C) (f : Config) (p : AnsweredPlay) (first : List Happened) → Opened script said limit s f first → Appends a b (kinds_text kinds first)
+      → Broke kinds b c s (starting f) p (world_new f) → GrowsByFront a c (kinds_text kinds (records_within limit f p))
+  broke_front kinds a b c limit s f p first o begun w =
+      let tells : AnsweredTells limit 0 (world_new f) w.events w.records = subst (λ k. AnsweredTells limit k (world_new f) w.events w.records) o.kept (subst (λ l. AnsweredTells l s.world.kept (world_new f) w.events w.records) o.limited w.tells) in
+      let more = whole_tells limit f p w.events w.records w.happens tells in
+      let all : records_within limit f p ≡ first ++ (w.records ++ more.0) = all_so_far first (w.records ++ more.0) (world_new f) (limited limit f p).world.trace o.trace more.1 in
+      front_of kinds a b c first w.records more.0 (records_within limit f p) all begun w.front
 
-unbegun_ended : (limit : ℕ) (x : Script) → x.begun ≡ false → ended limit x ≡ record { world = world_new x.config; passed = None }
-unfolding ended
-unbegun_ended limit x e = ap (λ (t : Bool). elim t [ true ↦ runs_within limit x.config (events_of x.config x.lines) | false ↦ record { world = world_new x.config; passed = None } ]) e
+  play_stopped : (e : PlayFault) (kinds : Kinds) (a b c : Option (List ℕ)) (limit : ℕ) (s : Stage C) (f : Config) (p : AnsweredPlay) (first : List Happened) → Opened script said limit s f first → Appends a b (kinds_text kinds first)
+      → Stopped e kinds b c s (starting f) p (world_new f) → StopsAs e kinds limit f p a c
+  play_stopped (play_fault.Kept n) kinds a b c limit s f p first o begun w = play_passed n kinds a b c limit s f p first o begun w
+  play_stopped play_fault.WriteFault kinds a b c limit s f p first o begun w = broke_front kinds a b c limit s f p first o begun w
+  play_stopped play_fault.NoMemory kinds a b c limit s f p first o begun w = broke_front kinds a b c limit s f p first o begun w
 
-unbegun_script : (x : Script) → x.begun ≡ false → script_records x ≡ []
-unfolding script_records
-unbegun_script x e = ap (λ (t : Bool). elim t [ true ↦ played_records x.config x.lines | false ↦ [] ]) e
+  -- ---- as the play of the lines ended
 
-pub unbegun_past : (limit : ℕ) (x : Script) → x.begun ≡ false → kept_past limit x ≡ None
-unfolding kept_past
-unbegun_past limit x e = ap (λ (z : Ended). z.passed) (unbegun_ended limit x e)
+  pub played_done : {U : Type 0} {u : U} (kinds : Kinds) (a b c : Option (List ℕ)) (limit : ℕ) (s t : Stage C) (x : Script) (first : List Happened) → Opened script said limit s x.config first → Appends a b (kinds_text kinds first)
+      → ((p : AnsweredPlay) → (v : World) → At script said s p v → LeadsTo script said (Ok u) kinds b c s t p (PlaysLines said p x.lines) v) → PlayedAs script said (Ok t.world) kinds limit x a c
+  played_done kinds a b c limit s t x first o begun next =
+      let l = next (starting x.config) (world_new x.config) o.at in
+      record { play = l.play; lines = l.made; ends = play_done kinds a b c limit s t x.config l.play first o begun l.outcome; safe = answered_play_is_safe said x l.play l.made; safe_front = answered_front_is_safe said limit x l.play l.made }
 
-pub unbegun_text : (kinds : Kinds) (a : Option (List ℕ)) (x : Script) → x.begun ≡ false → Appends a a (kinds_text kinds (script_records x))
-unfolding kinds_text
-unbegun_text kinds a x e = subst (λ rs. Appends a a (kinds_text kinds rs)) (sym (unbegun_script x e)) (Appends-nil a)
+  pub played_stopped : {U : Type 0} (e : PlayFault) (kinds : Kinds) (a b c : Option (List ℕ)) (limit : ℕ) (s t : Stage C) (x : Script) (first : List Happened) → Opened script said limit s x.config first → Appends a b (kinds_text kinds first)
+      → ((p : AnsweredPlay) → (v : World) → At script said s p v → LeadsTo {U = U} script said (Err e) kinds b c s t p (PlaysLines said p x.lines) v) → PlayedAs script said (Err e) kinds limit x a c
+  played_stopped e kinds a b c limit s t x first o begun next =
+      let l = next (starting x.config) (world_new x.config) o.at in
+      record { play = l.play; lines = l.made; ends = play_stopped e kinds a b c limit s x.config l.play first o begun l.outcome; safe = answered_play_is_safe said x l.play l.made; safe_front = answered_front_is_safe said limit x l.play l.made }
+
+-- ---- it ended before the first line
+
+front_stops : (f : PutFault) (kinds : Kinds) (limit : ℕ) (c : Config) (p : AnsweredPlay) (a b : Option (List ℕ)) → GrowsByFront a b (kinds_text kinds (records_within limit c p)) → StopsAs (fault_of_put f) kinds limit c p a b
+front_stops put_fault.WriteFault kinds limit c p a b g = g
+front_stops put_fault.NoMemory kinds limit c p a b g = g
+
+ended_err : {C : Type 0} (script : C → Option Items) (said : Items → Option Items) (r : Result (kept.World C) PlayFault) (f : PlayFault) (kinds : Kinds) (limit : ℕ) (c : Config) (p : AnsweredPlay) (a b : Option (List ℕ)) → IsErr r × IsErrAnd r (λ e. e ≡ f)
+    → StopsAs f kinds limit c p a b → EndsAs script said r kinds limit c p a b
+ended_err script said (Ok w) f kinds limit c p a b h g = absurd h.1
+ended_err script said (Err e) f kinds limit c p a b h g = subst (λ z. StopsAs z kinds limit c p a b) (sym h.1) g
+
+-- some nodes could not start
+pub starts_stopped : {C : Type 0} (script : C → Option Items) (said : Items → Option Items) (r : Result (kept.World C) PlayFault) (kinds : Kinds) (limit : ℕ) (x : Script) (a : Option (List ℕ)) → IsErr r × IsErrAnd r (λ e. e ≡ play_fault.NoMemory)
+    → PlayedAs script said r kinds limit x a a
+starts_stopped script said r kinds limit x a h =
+    let p = lines_go said (starting x.config) x.lines in
+    record { play = p.0; lines = p.1; ends = ended_err script said r play_fault.NoMemory kinds limit x.config p.0 a a h (none_front a (kinds_text kinds (records_within limit x.config p.0))); safe = answered_play_is_safe said x p.0 p.1; safe_front = answered_front_is_safe said limit x p.0 p.1 }
+
+-- what they recorded could not be written
+pub starts_cut : {C : Type 0} (script : C → Option Items) (said : Items → Option Items) (r : Result (kept.World C) PlayFault) (f : PutFault) (kinds : Kinds) (limit : ℕ) (x : Script) (a b : Option (List ℕ)) (first : List Happened) → IsErr r × IsErrAnd r (λ e. e ≡ fault_of_put f)
+    → (world_new x.config).trace ≡ reverse_onto first [] → GrowsByFront a b (kinds_text kinds first) → PlayedAs script said r kinds limit x a b
+starts_cut script said r f kinds limit x a b first h trace g =
+    let p = first_front said kinds a b limit x.config x.lines first trace g in
+    record { play = p.0; lines = p.1; ends = ended_err script said r (fault_of_put f) kinds limit x.config p.0 a b h (front_stops f kinds limit x.config p.0 a b p.2); safe = answered_play_is_safe said x p.0 p.1; safe_front = answered_front_is_safe said limit x p.0 p.1 }

@@ -1,104 +1,106 @@
 -- Rounds of ticks and flows.
-use Rattle.std.proofs.Common.{◌≡◌, ℕ, zero, suc, ◌+◌, ◌-◌, ◌<◌, ◌≤◌, List, [], ◌∷◌, ◌++◌, length, drop, get_or, map, fold, Option, Result, Ok, Err, refl, sym, ◌∙◌, ap, subst, arith}
-use Rattle.client_callbacks.specs.declared.kinds.ScriptClient.{ScriptClient}
+use Rattle.std.proofs.Common.{◌≡◌, ℕ, suc, ◌+◌, ◌-◌, ◌<◌, ◌≤◌, List, [], ◌∷◌, map, Option, Result, Ok, Err, refl, ◌∙◌, ap, subst, arith}
 use Rattle.node_step.specs.Node.{NodeView}
-use Rattle.world_model.specs.declared.event.Event.{Event}
 use Rattle.world_model.specs.World.{World}
 use Rattle.world_model.specs.World as world
-use Rattle.world_model.specs.Play.{Played, with_event, all_tick, flows, flow_limit, rounds}
-use Rattle.world_runs.specs.Runs.{Happens}
-use Rattle.world_runs.proofs.Plays.{flows_happen, rounds_happen}
+use Rattle.world_model.specs.declared.event.Event.TheVariants as event
+use Rattle.world_model.specs.Play.{flow_limit}
+use Rattle.world_answers.specs.Answers.{Items}
+use Rattle.world_answers.specs.Plays.{AnsweredPlay, PlaysEach, PlaysFlow, PlaysTick, PlaysTicks, PlaysRounds}
+use Rattle.world_answers.proofs.Adding.{event_adds, flow_adds, rounds_add}
+use Rattle.world_answers.proofs.Going.{tick_goes, flow_goes, rounds_go, rounds_next, rounds_over}
 use Rattle.world_play.specs.Standing.{NodesStand, number_in}
 use Rattle.world_play.proofs.NodeLaws.{same_me}
 use Rattle.transcript.specs.declared.kinds.Kinds.{Kinds}
 use Rattle.net_script.specs.declared.stage.Stage.{Stage}
 use Rattle.net_script.specs.declared.faults.PlayFault.{PlayFault}
-use Rattle.net_script.specs.Rounds.{tick, ticks}
-use Rattle.net_script.specs.Stage.{At, Moved, Went, Stopped, Outcome}
+use Rattle.net_script.specs.Stage.{At, Went, Stopped, LeadsTo}
 use Rattle.net_script.proofs.StageLaws.{went_none, then_went, then_stopped, stopped_on}
-use Rattle.world_model.specs.declared.event.Event.TheVariants as event
+use Rattle.net_script.proofs.ListLaws.{Playable}
 
--- ---- the nodes that are up
+numbers_same : {C : Type 0} (script : C → Option Items) (said : Items → Option Items) (ns : List (NodeView C)) (xs : List world.Node) → NodesStand script said ns xs → map number_in ns ≡ map (λ (x : world.Node). x.core.views.me) xs
+numbers_same script said [] [] h = refl
+numbers_same script said [] (x ∷ xs) h = absurd h
+numbers_same script said (n ∷ ns) [] h = absurd h
+numbers_same script said (n ∷ ns) (x ∷ xs) h = ap (λ k. k ∷ map number_in ns) (same_me script said n x h.0) ∙ ap (λ ks. x.core.views.me ∷ ks) (numbers_same script said ns xs h.1)
 
-numbers_same : (ns : List (NodeView ScriptClient)) (xs : List world.Node) → NodesStand ns xs → map number_in ns ≡ map (λ (x : world.Node). x.core.views.me) xs
-numbers_same [] [] h = refl
-numbers_same [] (x ∷ xs) h = absurd h
-numbers_same (n ∷ ns) [] h = absurd h
-numbers_same (n ∷ ns) (x ∷ xs) h = ap (λ k. k ∷ map number_in ns) (same_me n x h.0) ∙ ap (λ ks. x.core.views.me ∷ ks) (numbers_same ns xs h.1)
+pub ticks_playable : (said : Items → Option Items) → Playable said ℕ (PlaysTick said)
+ticks_playable said = record { goes = tick_goes said; adds = λ p n q h. event_adds p (event.Tick n) q h }
 
-ticks_of : (p : Played) (xs : List world.Node) → fold (λ q (x : world.Node). with_event q (event.Tick x.core.views.me)) p xs ≡ ticks p (map (λ (x : world.Node). x.core.views.me) xs)
-ticks_of p [] = refl
-ticks_of p (x ∷ xs) = ticks_of (tick p x.core.views.me) xs
+pub record Rounded {C : Type 0} (script : C → Option Items) (said : Items → Option Items) (k : Kinds) (a b : Option (List ℕ)) (s t : Stage C) (p : AnsweredPlay) (v : World) (count left : ℕ) : Type 0 where
+  pub played : AnsweredPlay
+  pub went : Went script said k a b s t p played v
+  pub rest : (q : AnsweredPlay) → PlaysRounds said left played q → PlaysRounds said count p q
 
-all_ticks : (s : Stage) (p : Played) (v : World) (ns : List ℕ) → At s p v → ns ≡ map number_in s.world.nodes → ticks p ns ≡ all_tick p
-unfolding all_tick
-all_ticks s p v ns h e = ap (ticks p) (e ∙ numbers_same s.world.nodes p.world.nodes h.stands.nodes) ∙ sym (ticks_of p p.world.nodes)
+abbrev pub RoundsTo : {C : Type 0} → (C → Option Items) → (Items → Option Items) → Kinds → Option (List ℕ) → Option (List ℕ) → Stage C → Stage C → ℕ → ℕ → Type 0
+RoundsTo script said k a b s t count left = (p : AnsweredPlay) → (v : World) → At script said s p v → Rounded script said k a b s t p v count left
 
-pub all_ticked : {U : Type 0} (r : Result U PlayFault) (k : Kinds) (a b : Option (List ℕ)) (s t : Stage) (ns : List ℕ) → ns ≡ map number_in s.world.nodes
-    → ((p : Played) → (v : World) → At s p v → Outcome r k a b s t p (ticks p ns) v) → (p : Played) → (v : World) → At s p v → Outcome r k a b s t p (all_tick p) v
-all_ticked r k a b s t ns e next p v h = subst (λ q. Outcome r k a b s t p q v) (all_ticks s p v ns h e) (next p v h)
+module _ {C : Type 0} {script : C → Option Items} {said : Items → Option Items} where
+  -- the nodes that are up tick
+  pub all_ticked : {U : Type 0} (r : Result U PlayFault) (k : Kinds) (a b : Option (List ℕ)) (s t : Stage C) (ns : List ℕ) → ns ≡ map number_in s.world.nodes
+      → ((p : AnsweredPlay) → (v : World) → At script said s p v → LeadsTo script said r k a b s t p (PlaysEach (PlaysTick said) p ns) v)
+      → (p : AnsweredPlay) → (v : World) → At script said s p v → LeadsTo script said r k a b s t p (PlaysTicks said p) v
+  all_ticked r k a b s t ns e next p v h =
+      let l : LeadsTo script said r k a b s t p (PlaysEach (PlaysTick said) p ns) v = next p v h in
+      record { play = l.play; made = subst (λ ms. PlaysEach (PlaysTick said) p ms l.play) (e ∙ numbers_same script said s.world.nodes p.world.nodes h.stands.nodes) l.made; outcome = l.outcome }
 
-pub ticks_happen : (ns : List ℕ) (p : Played) → (es : List Event) × Happens p (ticks p ns) es
-unfolding with_event
-ticks_happen [] p = ([], refl)
-ticks_happen (n ∷ ns) p = let rest : (es : List Event) × Happens (tick p n) (ticks (tick p n) ns) es = ticks_happen ns (tick p n) in (event.Tick n ∷ rest.0, rest.1)
+  -- ---- rounds
 
--- ---- rounds
+  pub rounds_begin : (k : Kinds) (a : Option (List ℕ)) (s : Stage C) (count left : ℕ) → left ≡ count → RoundsTo script said k a a s s count left
+  rounds_begin k a s count left e p v h = record { played = p; went = went_none k a s p v h; rest = λ q m. subst (λ n. PlaysRounds said n p q) e m }
 
-pub record Rounded (k : Kinds) (a b : Option (List ℕ)) (s t : Stage) (p : Played) (v : World) (count left : ℕ) : Type 0 where
-  pub played : Played
-  pub went : Went k a b s t p played v
-  pub rest : rounds left played ≡ rounds count p
+  pub round_next : {U V : Type 0} {u : U} {w : V} (k : Kinds) (a b c d : Option (List ℕ)) (s m o t : Stage C) (count i : ℕ) → i < count → RoundsTo script said k a b s m count (count - i)
+      → ((q : AnsweredPlay) → (z : World) → At script said m q z → LeadsTo script said (Ok u) k b c m o q (PlaysTicks said q) z) → ((q : AnsweredPlay) → (z : World) → At script said o q z → LeadsTo script said (Ok w) k c d o t q (PlaysFlow said flow_limit q) z)
+      → RoundsTo script said k a d s t count (count - (i + 1))
+  round_next {U} {V} {u} {w} k a b c d s m o t count i lt before ticked flowed p v h =
+      let f : Rounded script said k a b s m p v count (count - i) = before p v h in
+      let x : LeadsTo script said (Ok u) k b c m o f.played (PlaysTicks said f.played) f.went.world = ticked f.played f.went.world f.went.moved.at in
+      let g : Went script said k a c s o p x.play v = then_went k a b c s m o p f.played x.play v f.went x.outcome in
+      let y : LeadsTo script said (Ok w) k c d o t x.play (PlaysFlow said flow_limit x.play) g.world = flowed x.play g.world g.moved.at in
+      let less : suc (count - (i + 1)) ≡ count - i = omega arith in
+      record {
+        played = y.play;
+        went = then_went k a c d s o t p x.play y.play v g y.outcome;
+        rest = λ q more. f.rest q (subst (λ n. PlaysRounds said n f.played q) less (rounds_next said (count - (i + 1)) f.played y.play q (x.play, x.made, y.made) more));
+      }
 
-abbrev pub RoundsTo : Kinds → Option (List ℕ) → Option (List ℕ) → Stage → Stage → ℕ → ℕ → Type 0
-RoundsTo k a b s t count left = (p : Played) → (v : World) → At s p v → Rounded k a b s t p v count left
+  -- it stopped at a tick
+  pub round_stops : {U : Type 0} (e : PlayFault) (k : Kinds) (a b c : Option (List ℕ)) (s m n : Stage C) (count i : ℕ) → i < count → RoundsTo script said k a b s m count (count - i)
+      → ((q : AnsweredPlay) → (z : World) → At script said m q z → LeadsTo {U = U} script said (Err e) k b c m n q (PlaysTicks said q) z)
+      → (p : AnsweredPlay) → (v : World) → At script said s p v → (q : AnsweredPlay) × PlaysRounds said count p q × Stopped e k a c s p q v
+  round_stops {U} e k a b c s m n count i lt before next p v h =
+      let f : Rounded script said k a b s m p v count (count - i) = before p v h in
+      let x : LeadsTo {U = U} script said (Err e) k b c m n f.played (PlaysTicks said f.played) f.went.world = next f.played f.went.world f.went.moved.at in
+      let less : suc (count - (i + 1)) ≡ count - i = omega arith in
+      let y = flow_goes said flow_limit x.play in
+      let q = rounds_go said (count - (i + 1)) y.0 in
+      let one = flow_adds flow_limit x.play y.0 y.1 in
+      let more = rounds_add (count - (i + 1)) y.0 q.0 q.1 in (
+        q.0,
+        f.rest q.0 (subst (λ n. PlaysRounds said n f.played q.0) less (rounds_next said (count - (i + 1)) f.played y.0 q.0 (x.play, x.made, y.1) q.1)),
+        stopped_on e k a c s p y.0 q.0 v more.events (stopped_on e k a c s p x.play y.0 v one.events (then_stopped e k a b c s m p f.played x.play v f.went x.outcome) one.grew) more.grew,
+      )
 
-pub rounds_begin : (k : Kinds) (a : Option (List ℕ)) (s : Stage) (count left : ℕ) → left ≡ count → RoundsTo k a a s s count left
-rounds_begin k a s count left e p v h = record { played = p; went = went_none k a s p v h; rest = ap (λ n. rounds n p) e }
+  -- it stopped in a flow
+  pub round_stops_flowing : {U V : Type 0} {u : U} (e : PlayFault) (k : Kinds) (a b c d : Option (List ℕ)) (s m o n : Stage C) (count i : ℕ) → i < count → RoundsTo script said k a b s m count (count - i)
+      → ((q : AnsweredPlay) → (z : World) → At script said m q z → LeadsTo script said (Ok u) k b c m o q (PlaysTicks said q) z) → ((q : AnsweredPlay) → (z : World) → At script said o q z → LeadsTo {U = V} script said (Err e) k c d o n q (PlaysFlow said flow_limit q) z)
+      → (p : AnsweredPlay) → (v : World) → At script said s p v → (q : AnsweredPlay) × PlaysRounds said count p q × Stopped e k a d s p q v
+  round_stops_flowing {U} {V} {u} e k a b c d s m o n count i lt before ticked next p v h =
+      let f : Rounded script said k a b s m p v count (count - i) = before p v h in
+      let x : LeadsTo script said (Ok u) k b c m o f.played (PlaysTicks said f.played) f.went.world = ticked f.played f.went.world f.went.moved.at in
+      let g : Went script said k a c s o p x.play v = then_went k a b c s m o p f.played x.play v f.went x.outcome in
+      let y : LeadsTo {U = V} script said (Err e) k c d o n x.play (PlaysFlow said flow_limit x.play) g.world = next x.play g.world g.moved.at in
+      let less : suc (count - (i + 1)) ≡ count - i = omega arith in
+      let q = rounds_go said (count - (i + 1)) y.play in
+      let more = rounds_add (count - (i + 1)) y.play q.0 q.1 in (
+        q.0,
+        f.rest q.0 (subst (λ n. PlaysRounds said n f.played q.0) less (rounds_next said (count - (i + 1)) f.played y.play q.0 (x.play, x.made, y.made) q.1)),
+        stopped_on e k a d s p y.play q.0 v more.events (then_stopped e k a c d s o p x.play y.play v g y.outcome) more.grew,
+      )
 
-round_more : (count i : ℕ) (q : Played) → i < count → rounds (count - i) q ≡ rounds (count - (i + 1)) (flows flow_limit (all_tick q))
-unfolding rounds
-round_more count i q lt = let less : count - i ≡ suc (count - (i + 1)) = omega arith in ap (λ n. rounds n q) less
-
-pub round_next : (k : Kinds) (a b c d : Option (List ℕ)) (s m o t : Stage) (count i : ℕ) → i < count → RoundsTo k a b s m count (count - i)
-    → ((q : Played) → (u : World) → At m q u → Went k b c m o q (all_tick q) u) → ((q : Played) → (u : World) → At o q u → Went k c d o t q (flows flow_limit q) u) → RoundsTo k a d s t count (count - (i + 1))
-round_next k a b c d s m o t count i lt before ticked flowed p v h =
-    let f : Rounded k a b s m p v count (count - i) = before p v h in
-    let g : Went k a c s o p (all_tick f.played) v = then_went k a b c s m o p f.played (all_tick f.played) v f.went (ticked f.played f.went.world f.went.moved.at) in
-    record {
-      played = flows flow_limit (all_tick f.played);
-      went = then_went k a c d s o t p (all_tick f.played) (flows flow_limit (all_tick f.played)) v g (flowed (all_tick f.played) g.world g.moved.at);
-      rest = sym (round_more count i f.played lt) ∙ f.rest;
-    }
-
--- it stopped at a tick
-pub round_stops : (e : PlayFault) (k : Kinds) (a b c : Option (List ℕ)) (s m : Stage) (count i : ℕ) → i < count → RoundsTo k a b s m count (count - i)
-    → ((q : Played) → (u : World) → At m q u → Stopped e k b c m q (all_tick q) u) → (p : Played) → (v : World) → At s p v → Stopped e k a c s p (rounds count p) v
-round_stops e k a b c s m count i lt before next p v h =
-    let f : Rounded k a b s m p v count (count - i) = before p v h in
-    let more : Stopped e k a c s p (all_tick f.played) v = then_stopped e k a b c s m p f.played (all_tick f.played) v f.went (next f.played f.went.world f.went.moved.at) in
-    let flowed : Stopped e k a c s p (flows flow_limit (all_tick f.played)) v =
-    stopped_on e k a c s p (all_tick f.played) (flows flow_limit (all_tick f.played)) v (flows_happen flow_limit (all_tick f.played)).0 more (flows_happen flow_limit (all_tick f.played)).1
-    in
-    let left : Played = flows flow_limit (all_tick f.played) in
-    subst (λ z. Stopped e k a c s p z v) (sym (round_more count i f.played lt) ∙ f.rest)
-    (stopped_on e k a c s p left (rounds (count - (i + 1)) left) v (rounds_happen (count - (i + 1)) left).0 flowed (rounds_happen (count - (i + 1)) left).1)
-
--- it stopped in a flow
-pub round_stops_flowing : (e : PlayFault) (k : Kinds) (a b c d : Option (List ℕ)) (s m o : Stage) (count i : ℕ) → i < count → RoundsTo k a b s m count (count - i)
-    → ((q : Played) → (u : World) → At m q u → Went k b c m o q (all_tick q) u) → ((q : Played) → (u : World) → At o q u → Stopped e k c d o q (flows flow_limit q) u)
-    → (p : Played) → (v : World) → At s p v → Stopped e k a d s p (rounds count p) v
-round_stops_flowing e k a b c d s m o count i lt before ticked next p v h =
-    let f : Rounded k a b s m p v count (count - i) = before p v h in
-    let g : Went k a c s o p (all_tick f.played) v = then_went k a b c s m o p f.played (all_tick f.played) v f.went (ticked f.played f.went.world f.went.moved.at) in
-    let left : Played = flows flow_limit (all_tick f.played) in
-    let flowed : Stopped e k a d s p left v = then_stopped e k a c d s o p (all_tick f.played) left v g (next (all_tick f.played) g.world g.moved.at) in
-    subst (λ z. Stopped e k a d s p z v) (sym (round_more count i f.played lt) ∙ f.rest)
-    (stopped_on e k a d s p left (rounds (count - (i + 1)) left) v (rounds_happen (count - (i + 1)) left).0 flowed (rounds_happen (count - (i + 1)) left).1)
-
-pub rounds_end : (k : Kinds) (a b : Option (List ℕ)) (s t : Stage) (count i : ℕ) → count ≤ i → RoundsTo k a b s t count (count - i) → (p : Played) → (v : World) → At s p v → Went k a b s t p (rounds count p) v
-unfolding rounds
-rounds_end k a b s t count i le before p v h =
-    let f : Rounded k a b s t p v count (count - i) = before p v h in
-    let z : count - i ≡ 0 = omega arith in
-    subst (λ q. Went k a b s t p q v) (ap (λ n. rounds n f.played) (sym z) ∙ f.rest) f.went
+  pub rounds_end : {U : Type 0} (u : U) (k : Kinds) (a b : Option (List ℕ)) (s t : Stage C) (count i : ℕ) → count ≤ i → RoundsTo script said k a b s t count (count - i)
+      → (p : AnsweredPlay) → (v : World) → At script said s p v → LeadsTo script said (Ok u) k a b s t p (PlaysRounds said count p) v
+  rounds_end u k a b s t count i le before p v h =
+      let f : Rounded script said k a b s t p v count (count - i) = before p v h in
+      let z : 0 ≡ count - i = omega arith in
+      record { play = f.played; made = f.rest f.played (subst (λ n. PlaysRounds said n f.played f.played) z (rounds_over said f.played)); outcome = f.went }

@@ -1,5 +1,5 @@
 pub mod Cuts
 pub mod Faults
 pub mod Stage
-pub mod Rounds
+pub mod Ends
 pub mod Safe

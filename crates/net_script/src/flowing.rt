@@ -4,14 +4,16 @@ ghost use Rattle.std.specs.List.{list_any};
 ghost use Rattle.hags_io.specs.Edges.{Rose};
 ghost use Rattle.world_model.specs.World.{Sent, node_at};
 ghost use Rattle.world_model.specs.World as world;
-ghost use Rattle.world_model.specs.Play.{Played, is_cut_of, is_cut, flows_to, flows, flow_limit};
+ghost use Rattle.world_model.specs.Play.{is_cut_of, is_cut, flow_limit};
+ghost use Rattle.world_answers.specs.Plays.{AnsweredPlay, TakesPacket, PlaysFlow};
 ghost use Rattle.world_packets.specs.Packets.{waits_as};
 ghost use Rattle.world_play.specs.Standing.{is_me};
-ghost use Rattle.net_script.specs.Stage.{At, Outcome};
+ghost use Rattle.net_script.specs.Stage.{At, LeadsTo};
 
 use crate::faults::PlayFault;
 use crate::happening::happen;
 use crate::stage::Stage;
+use client_callbacks::Made;
 use hags_io::Sink;
 use std::alloc::Global;
 use transcript::Kinds;
@@ -22,21 +24,21 @@ use world_packets::Waiting;
 pub const FLOW_LIMIT: u32 = 100_000;
 
 /// Is a packet given, since its receiver is up and not cut off from its sender?
-fn is_given(stage: &Stage, x: Waiting) -> bool
+fn is_given<C: Made>(stage: &Stage<C>, x: Waiting) -> bool
     ensures { result ≡ (is_some (find (is_me x.to) stage.now.world.nodes) && not (list_any (is_cut_of x.from x.to x.network) stage.now.cuts)) }
 {
     stage.world.nodes.is_up(x.to) && !stage.cuts.has(x.from, x.to, x.network)
 }
 
 /// The packet that waits longest is given, or lost where its receiver is down or cut off from its sender.
-fn pass<K: Sink>(
+fn pass<C: Made, K: Sink>(
     alloc: Global,
-    stage: &mut Stage,
+    stage: &mut Stage<C>,
     kinds: Kinds,
     x: Waiting,
     out: &mut K,
 ) -> Result<(), PlayFault>
-    ensures outcome { (p : Played) → (v : world.World) → At stage.old p v → (y : Sent) → (ys : List Sent) → p.world.queue ≡ y ∷ ys → waits_as y ≡ x → Outcome result kinds (K.held out.old) (K.held out.new) stage.old stage.new p (flows_to p y ys (is_some (node_at p.world y.packet.to)) (is_cut p.cuts y.packet)) v }
+    ensures outcome { (p : AnsweredPlay) → (v : world.World) → At C.script C.script_of stage.old p v → (y : Sent) → (ys : List Sent) → p.world.queue ≡ y ∷ ys → waits_as y ≡ x → LeadsTo C.script C.script_of result kinds (K.held out.old) (K.held out.new) stage.old stage.new p (TakesPacket C.script_of p y ys (is_some (node_at p.world y.packet.to)) (is_cut p.cuts y.packet)) v }
     ensures later { K.faults out.old ≤ K.faults out.new }
     ensures fault { result ≡ Err PlayFault.WriteFault → Rose (K.faults out.old) (K.faults out.new) }
 {
@@ -49,13 +51,13 @@ fn pass<K: Sink>(
 }
 
 /// The packet that waits longest is taken again and again, until none is left or so many were.
-pub fn flow<K: Sink>(
+pub fn flow<C: Made, K: Sink>(
     alloc: Global,
-    stage: &mut Stage,
+    stage: &mut Stage<C>,
     kinds: Kinds,
     out: &mut K,
 ) -> Result<(), PlayFault>
-    ensures outcome { (p : Played) → (v : world.World) → At stage.old p v → Outcome result kinds (K.held out.old) (K.held out.new) stage.old stage.new p (flows flow_limit p) v }
+    ensures outcome { (p : AnsweredPlay) → (v : world.World) → At C.script C.script_of stage.old p v → LeadsTo C.script C.script_of result kinds (K.held out.old) (K.held out.new) stage.old stage.new p (PlaysFlow C.script_of flow_limit p) v }
     ensures later { K.faults out.old ≤ K.faults out.new }
     ensures fault { result ≡ Err PlayFault.WriteFault → Rose (K.faults out.old) (K.faults out.new) }
 {

@@ -2,12 +2,13 @@
 ghost use Rattle.std.specs.Prelude.{◌≡◌, ◌≤◌};
 ghost use Rattle.hags_io.specs.Edges.{Rose};
 ghost use Rattle.world_model.specs.World as world;
-ghost use Rattle.world_model.specs.Play.{Played, with_event};
-ghost use Rattle.net_script.specs.Stage.{At, Outcome};
+ghost use Rattle.world_answers.specs.Plays.{AnsweredPlay, PlaysEvent};
+ghost use Rattle.net_script.specs.Stage.{At, LeadsTo};
 
 use crate::faults::PlayFault;
 use crate::stage::Stage;
 use crate::writing::write_records;
+use client_callbacks::Made;
 use hags_io::Sink;
 use node_state::Records;
 use rsct_packet::List;
@@ -16,14 +17,14 @@ use transcript::Kinds;
 use world_model::Event;
 
 /// A plain event happens, and what it records is written.
-pub fn happen<K: Sink>(
+pub fn happen<C: Made, K: Sink>(
     alloc: Global,
-    stage: &mut Stage,
+    stage: &mut Stage<C>,
     kinds: Kinds,
     e: &Event,
     out: &mut K,
 ) -> Result<(), PlayFault>
-    ensures outcome { (p : Played) → (v : world.World) → At stage.old p v → Outcome result kinds (K.held out.old) (K.held out.new) stage.old stage.new p (with_event p e.now) v }
+    ensures outcome { (p : AnsweredPlay) → (v : world.World) → At C.script C.script_of stage.old p v → LeadsTo C.script C.script_of result kinds (K.held out.old) (K.held out.new) stage.old stage.new p (PlaysEvent C.script_of p e.now) v }
     ensures later { K.faults out.old ≤ K.faults out.new }
     ensures fault { result ≡ Err PlayFault.WriteFault → Rose (K.faults out.old) (K.faults out.new) }
 {

@@ -14,5 +14,5 @@ mod writing;
 pub use cuts::Cuts;
 pub use faults::PlayFault;
 pub use flowing::FLOW_LIMIT;
-pub use playing::play;
+pub use playing::{play, play_as};
 pub use stage::Stage;

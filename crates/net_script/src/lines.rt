@@ -1,30 +1,31 @@
 //! The lines of a script.
-ghost use Rattle.std.specs.Prelude.{◌≡◌, ◌≤◌, fold, OnOk};
+ghost use Rattle.std.specs.Prelude.{◌≡◌, ◌≤◌, OnOk};
 ghost use Rattle.hags_io.specs.Edges.{Rose};
 ghost use Rattle.world_model.specs.World as world;
-ghost use Rattle.world_model.specs.Play.{Played, in_world, drops, healed, with_cuts, networks_in, plays};
-ghost use Rattle.net_script.specs.Stage.{At, Outcome};
+ghost use Rattle.world_model.specs.Play.{drops, healed, with_cuts, networks_in};
+ghost use Rattle.world_answers.specs.Plays.{AnsweredPlay, in_that_world, PlaysLine, PlaysLines};
+ghost use Rattle.net_script.specs.Stage.{At, LeadsTo};
 
 use crate::faults::PlayFault;
 use crate::flowing::flow;
 use crate::happening::happen;
 use crate::rounds::run;
 use crate::stage::Stage;
+use client_callbacks::Made;
 use hags_io::Sink;
 use std::alloc::Global;
 use transcript::Kinds;
 use world_model::Line;
 
 /// A line is played.
-#[tactic(auto, unfolding(world_model::specs::Play::plays))]
-fn play_line<K: Sink>(
+fn play_line<C: Made, K: Sink>(
     alloc: Global,
-    stage: &mut Stage,
+    stage: &mut Stage<C>,
     kinds: Kinds,
     line: &Line,
     out: &mut K,
 ) -> Result<(), PlayFault>
-    ensures outcome { (p : Played) → (v : world.World) → At stage.old p v → Outcome result kinds (K.held out.old) (K.held out.new) stage.old stage.new p (plays p line.now) v }
+    ensures outcome { (p : AnsweredPlay) → (v : world.World) → At C.script C.script_of stage.old p v → LeadsTo C.script C.script_of result kinds (K.held out.old) (K.held out.new) stage.old stage.new p (PlaysLine C.script_of p line.now) v }
     ensures later { K.faults out.old ≤ K.faults out.new }
     ensures fault { result ≡ Err PlayFault.WriteFault → Rose (K.faults out.old) (K.faults out.new) }
 {
@@ -48,14 +49,14 @@ fn play_line<K: Sink>(
 }
 
 /// Lines are played, in this order.
-pub fn play_lines<K: Sink>(
+pub fn play_lines<C: Made, K: Sink>(
     alloc: Global,
-    stage: &mut Stage,
+    stage: &mut Stage<C>,
     kinds: Kinds,
     lines: &[Line],
     out: &mut K,
 ) -> Result<(), PlayFault>
-    ensures outcome { (p : Played) → (v : world.World) → At stage.old p v → Outcome result kinds (K.held out.old) (K.held out.new) stage.old stage.new p (fold plays p lines.now) v }
+    ensures outcome { (p : AnsweredPlay) → (v : world.World) → At C.script C.script_of stage.old p v → LeadsTo C.script C.script_of result kinds (K.held out.old) (K.held out.new) stage.old stage.new p (PlaysLines C.script_of p lines.now) v }
     ensures later { K.faults out.old ≤ K.faults out.new }
     ensures fault { result ≡ Err PlayFault.WriteFault → Rose (K.faults out.old) (K.faults out.new) }
 {

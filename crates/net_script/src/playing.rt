@@ -1,17 +1,22 @@
 //! The play of a script.
-ghost use Rattle.std.specs.Prelude.{◌≡◌, ◌≤◌, ℕ, OnOk, IsErrOf, Some, None, true};
+ghost use Rattle.std.specs.Prelude.{◌≡◌, ◌≤◌, ℕ, OnOk, IfOk, IsErrOf, Some, None, true, false};
 ghost use Rattle.std.specs.Io.KnownBytes.{Appends};
 ghost use Rattle.hags_io.specs.Edges.{GrowsByFront, Rose};
+ghost use Rattle.world_model.specs.World.{world_new};
 ghost use Rattle.world_model.specs.Play.{script_records};
 ghost use Rattle.world_model.specs.Kept.{kept_past, kept_records};
 ghost use Rattle.transcript.specs.Kinds.{kinds_text};
-ghost use Rattle.world_play.specs.Safe.{ScriptIsSafe, KeptRunIsSafe, MayPlay};
+ghost use Rattle.world_safety.specs.Scripts.{ScriptIsSafe, KeptRunIsSafe};
+ghost use Rattle.world_safety.specs.Plays.{MayPlay};
+ghost use Rattle.world_play.specs.Standing.{Stands};
+ghost use Rattle.net_script.specs.Ends.{PlayedAs};
 
 use crate::cuts::Cuts;
 use crate::faults::PlayFault;
 use crate::lines::play_lines;
 use crate::stage::Stage;
 use crate::writing::write_records;
+use client_callbacks::{Made, ScriptClient};
 use hags_io::Sink;
 use node_state::Records;
 use rsct_packet::List;
@@ -20,29 +25,75 @@ use transcript::Kinds;
 use world_model::Script;
 use world_play::World;
 
-/// Plays a script that has begun.
-fn play_begun<K: Sink>(
+/// Plays a script that has begun, and gives the world at its end.
+fn play_begun<C: Made, K: Sink>(
     alloc: Global,
     script: &Script,
     kinds: Kinds,
     limit: u64,
     out: &mut K,
-) -> Result<(), PlayFault>
-    requires begun { script.now.begun ≡ true }
-    ensures done { OnOk result ((kept_past limit script.now ≡ None) × Appends (K.held out.old) (K.held out.new) (kinds_text kinds (script_records script.now))) }
-    ensures kept { (n : ℕ) → IsErrOf result (PlayFault.Kept n) → (kept_past limit script.now ≡ Some n) × Appends (K.held out.old) (K.held out.new) (kinds_text kinds (kept_records limit script.now)) }
-    ensures front { GrowsByFront (K.held out.old) (K.held out.new) (kinds_text kinds (kept_records limit script.now)) }
+) -> Result<World<C>, PlayFault>
+    ensures played { PlayedAs C.script C.script_of result kinds limit script.now (K.held out.old) (K.held out.new) }
     ensures later { K.faults out.old ≤ K.faults out.new }
     ensures fault { result ≡ Err PlayFault.WriteFault → Rose (K.faults out.old) (K.faults out.new) }
 {
     let mut records: Records = List::new(alloc);
-    let world = World::new(alloc, script.config, limit, &mut records)?;
+    let world = World::<C>::new(alloc, script.config, limit, &mut records)?;
     write_records(alloc, kinds, records.as_slice(), out)?;
     let mut stage = Stage {
         world,
         cuts: Cuts::new(alloc),
     };
-    play_lines(alloc, &mut stage, kinds, script.lines.as_slice(), out)
+    match play_lines(alloc, &mut stage, kinds, script.lines.as_slice(), out) {
+        Ok(()) => {
+            let Stage { world, cuts: _ } = stage;
+            Ok(world)
+        }
+        Err(e) => Err(e),
+    }
+}
+
+/// The world with which the run of a script without a `begin` line would begin.
+fn play_nothing<C: Made>(alloc: Global, script: &Script, limit: u64) -> Result<World<C>, PlayFault>
+    ensures world { IfOk result (λ w. Stands C.script C.script_of w (world_new script.now.config)) }
+    ensures kept { (n : ℕ) → IsErrOf result (PlayFault.Kept n) → ⊥ }
+    ensures fault { result ≡ Err PlayFault.WriteFault → ⊥ }
+{
+    let mut records: Records = List::new(alloc);
+    match World::<C>::new(alloc, script.config, limit, &mut records) {
+        Ok(world) => Ok(world),
+        Err(_) => Err(PlayFault::NoMemory),
+    }
+}
+
+/// Plays a script with clients of any kind that is made of votes words, and gives the world at its end.
+///
+/// With some answers of the clients, the run is that of the definitions: its records are written as `play` says of those
+/// where each client votes just as its word says, and so is what is written where the packets pass the limit, and after
+/// other faults. Where the lines of the script may happen the run is safe, whatever the clients answer: the whole one,
+/// and up to the event whose packets pass the limit. Of a script without a `begin` line nothing is written, and the world
+/// is that with which its run would begin.
+///
+/// Not said: that a client at the end stands for the list of what it was handed. Sessions say it of each client, but
+/// what hands entries on to them, up to the step of a node, says nothing of it.
+pub fn play_as<C: Made, K: Sink>(
+    alloc: Global,
+    script: &Script,
+    kinds: Kinds,
+    limit: u64,
+    out: &mut K,
+) -> Result<World<C>, PlayFault>
+    ensures played { script.now.begun ≡ true → PlayedAs C.script C.script_of result kinds limit script.now (K.held out.old) (K.held out.new) }
+    ensures unbegun { script.now.begun ≡ false → (K.held out.new ≡ K.held out.old) × IfOk result (λ w. Stands C.script C.script_of w (world_new script.now.config)) }
+    ensures not_kept { script.now.begun ≡ false → (n : ℕ) → IsErrOf result (PlayFault.Kept n) → ⊥ }
+    ensures later { K.faults out.old ≤ K.faults out.new }
+    ensures fault { result ≡ Err PlayFault.WriteFault → Rose (K.faults out.old) (K.faults out.new) }
+{
+    if script.begun {
+        play_begun::<C, K>(alloc, script, kinds, limit, out)
+    } else {
+        play_nothing::<C>(alloc, script, limit)
+    }
 }
 
 /// Plays a script: of the records of its run the lines of these kinds are written, in order; none without a `begin`
@@ -70,7 +121,10 @@ pub fn play<K: Sink>(
     ensures fault { result ≡ Err PlayFault.WriteFault → Rose (K.faults out.old) (K.faults out.new) }
 {
     if script.begun {
-        play_begun(alloc, script, kinds, limit, out)
+        match play_as::<ScriptClient, K>(alloc, script, kinds, limit, out) {
+            Ok(_) => Ok(()),
+            Err(e) => Err(e),
+        }
     } else {
         Ok(())
     }

@@ -2,28 +2,28 @@
 ghost use Rattle.std.specs.Prelude.{◌≡◌, ◌≤◌};
 ghost use Rattle.hags_io.specs.Edges.{Rose};
 ghost use Rattle.world_model.specs.World as world;
-ghost use Rattle.world_model.specs.Play.{Played, all_tick, rounds};
-ghost use Rattle.net_script.specs.Stage.{At, Outcome};
-ghost use Rattle.net_script.specs.Rounds.{ticks};
+ghost use Rattle.world_answers.specs.Plays.{AnsweredPlay, PlaysEach, PlaysTick, PlaysTicks, PlaysRounds};
+ghost use Rattle.net_script.specs.Stage.{At, LeadsTo};
 
 use crate::faults::PlayFault;
 use crate::flowing::flow;
 use crate::happening::happen;
 use crate::stage::Stage;
+use client_callbacks::Made;
 use hags_io::Sink;
 use std::alloc::Global;
 use transcript::Kinds;
 use world_model::Event;
 
 /// These nodes tick, in this order.
-fn tick_each<K: Sink>(
+fn tick_each<C: Made, K: Sink>(
     alloc: Global,
-    stage: &mut Stage,
+    stage: &mut Stage<C>,
     kinds: Kinds,
     ns: &[u8],
     out: &mut K,
 ) -> Result<(), PlayFault>
-    ensures outcome { (p : Played) → (v : world.World) → At stage.old p v → Outcome result kinds (K.held out.old) (K.held out.new) stage.old stage.new p (ticks p ns.now) v }
+    ensures outcome { (p : AnsweredPlay) → (v : world.World) → At C.script C.script_of stage.old p v → LeadsTo C.script C.script_of result kinds (K.held out.old) (K.held out.new) stage.old stage.new p (PlaysEach (PlaysTick C.script_of) p ns.now) v }
     ensures later { K.faults out.old ≤ K.faults out.new }
     ensures fault { result ≡ Err PlayFault.WriteFault → Rose (K.faults out.old) (K.faults out.new) }
 {
@@ -34,13 +34,13 @@ fn tick_each<K: Sink>(
 }
 
 /// Each node that is up ticks, ascending.
-fn tick_all<K: Sink>(
+fn tick_all<C: Made, K: Sink>(
     alloc: Global,
-    stage: &mut Stage,
+    stage: &mut Stage<C>,
     kinds: Kinds,
     out: &mut K,
 ) -> Result<(), PlayFault>
-    ensures outcome { (p : Played) → (v : world.World) → At stage.old p v → Outcome result kinds (K.held out.old) (K.held out.new) stage.old stage.new p (all_tick p) v }
+    ensures outcome { (p : AnsweredPlay) → (v : world.World) → At C.script C.script_of stage.old p v → LeadsTo C.script C.script_of result kinds (K.held out.old) (K.held out.new) stage.old stage.new p (PlaysTicks C.script_of p) v }
     ensures later { K.faults out.old ≤ K.faults out.new }
     ensures fault { result ≡ Err PlayFault.WriteFault → Rose (K.faults out.old) (K.faults out.new) }
 {
@@ -49,14 +49,14 @@ fn tick_all<K: Sink>(
 }
 
 /// So many rounds.
-pub fn run<K: Sink>(
+pub fn run<C: Made, K: Sink>(
     alloc: Global,
-    stage: &mut Stage,
+    stage: &mut Stage<C>,
     kinds: Kinds,
     count: u16,
     out: &mut K,
 ) -> Result<(), PlayFault>
-    ensures outcome { (p : Played) → (v : world.World) → At stage.old p v → Outcome result kinds (K.held out.old) (K.held out.new) stage.old stage.new p (rounds count p) v }
+    ensures outcome { (p : AnsweredPlay) → (v : world.World) → At C.script C.script_of stage.old p v → LeadsTo C.script C.script_of result kinds (K.held out.old) (K.held out.new) stage.old stage.new p (PlaysRounds C.script_of count p) v }
     ensures later { K.faults out.old ≤ K.faults out.new }
     ensures fault { result ≡ Err PlayFault.WriteFault → Rose (K.faults out.old) (K.faults out.new) }
 {

@@ -1,11 +1,10 @@
 -- Calls of clients, whose sessions begin and end with some.
-use Rattle.std.proofs.Common.{◌≡◌, ℕ, zero, suc, ◌+◌, ◌==◌, ◌||◌, Bool, true, false, cond, List, [], ◌∷◌, ◌++◌, map, Option, Some, None, Result, Ok, Err, IsTrue, get_or, set, refl, sym, ap, ◌∙◌, subst, ne_eqb}
+use Rattle.std.proofs.Common.{◌≡◌, ℕ, zero, suc, ◌+◌, ◌==◌, Bool, true, false, cond, List, [], ◌∷◌, ◌++◌, map, Option, Some, None, Result, Ok, Err, IsTrue, get_or, set, refl, sym, ap, ◌∙◌, subst, ne_eqb}
 use Rattle.std.specs.Prelude.{fold, find, remove}
 use Rattle.std.specs.List.{list_any}
-use Rattle.std.specs.Option.{unwrap_or, option_map}
+use Rattle.std.specs.Option.{ForSome, unwrap_or}
 use Rattle.std.proofs.lemmas.Bool.{or_parts, eqb-false, eq-eqb}
 use Rattle.std.proofs.lemmas.List.{map-append}
-use Rattle.client_callbacks.specs.declared.kinds.ScriptClient.{ScriptClient}
 use Rattle.client_callbacks.specs.declared.votes.VoteItem.{VoteItem}
 use Rattle.client_callbacks.specs.Votes.{votes_word, votes_end, votes_byte, vote_item, with_item, is_word}
 use Rattle.client_session.specs.Notices.{FillTheirScripts}
@@ -25,23 +24,22 @@ use Rattle.node_state.specs.declared.happened.Happened.{Happened}
 use Rattle.node_state.specs.declared.happened.Happened.TheVariants as happened
 use Rattle.node_state.specs.declared.state.Core.{Core}
 use Rattle.node_state.specs.State.{frozen, recorded, with_sessions}
+use Rattle.node_state.specs.HandOn.{Answering}
 use Rattle.node_state.specs.Calls.{caller_of, call_refused, changed, gone_sent, all_gone_sent, goodbye_said, call_row}
 use Rattle.node_state.specs.Step.{Calls, at_work, stepped}
 use Rattle.entry_handing.specs.Doing.{Does}
+use Rattle.group_leading.proofs.AnswerLaws.{does_some}
 use Rattle.node_step.specs.Node.{NodeView}
 use Rattle.world_model.specs.World.{Script, by_scripts, is_node, node_at, traced, after_step, steps, script_of, scripts_after, calls_if}
 use Rattle.world_model.specs.World as world
 use Rattle.world_play.specs.declared.stepping.Left.{Left}
 use Rattle.world_play.specs.declared.world.World.{World}
-use Rattle.world_play.specs.Standing.{is_me, silent_or, votes_of, votes_by, votes_in, NodeStands, NodesStand, Leaves, Stepped, StepsNode, StepsIn, with_scripts, CallDone, bytes_after, Stands, Goes, Passes, Settled}
+use Rattle.world_answers.specs.Answers.{step_by, calls_by_if}
+use Rattle.world_answers.specs.Answers.{Items, AllWorded}
+use Rattle.world_play.specs.Standing.{is_me, silent_or, votes_by, votes_in, NodesStand, Leaves, StepDone, StepsAs, StepsNode, StepsSome, StepsIn, with_scripts, CallDone, bytes_after, Goes, Passes, Comes, Settled}
 use Rattle.world_play.proofs.NodeLaws.{steps_by}
 use Rattle.world_play.proofs.StepLaws.{same_lives, row_done}
 use Rattle.world_play.proofs.WorldLaws.{goes_recorded, after_goes, after_passes}
-
--- ---- the words that clients vote by
-
-abbrev Items : Type 0
-Items = List (Option VoteItem)
 
 silent_or_one : (xs : Items) (i : Option VoteItem) → silent_or (xs ++ i ∷ []) ≡ xs ++ i ∷ []
 silent_or_one [] i = refl
@@ -71,49 +69,8 @@ dash items e = let is : Some items ≡ Some (None ∷ []) = e in cc
 pub silent_without_word : (w : List ℕ) (items : Items) → None ≡ votes_word w → Some items ≡ votes_word (45 ∷ []) → items ≡ silent_or (unwrap_or (votes_word w) [])
 silent_without_word w items none e = rw (← none) (dash items e)
 
--- ---- a session that begins
-
 turned : (a b : ℕ) → (a == b) ≡ false → (b == a) ≡ false
 turned a b e = ne_eqb b a (λ same. eqb-false a b e (sym same))
-
-other_votes : (s : Script) (ss : List Script) (x : Session) → is_session s.token x ≡ false → votes_by (s ∷ ss) x ≡ votes_by ss x
-other_votes s ss x e = rw (turned x.token.n s.token.n e) refl
-
--- a script of a token that no session has
-fresh_votes : (s : Script) (ss : List Script) (xs : List Session) → list_any (is_session s.token) xs ≡ false → votes_in (s ∷ ss) xs ≡ votes_in ss xs
-fresh_votes s ss [] e = refl
-fresh_votes s ss (x ∷ xs) e =
-    let parts : (is_session s.token x ≡ false) × (list_any (is_session s.token) xs ≡ false) = or_parts (is_session s.token x) (list_any (is_session s.token) xs) e in
-    ap (λ v. v ∷ votes_in (s ∷ ss) xs) (other_votes s ss x parts.0) ∙ ap (λ vs. votes_by ss x ∷ vs) (fresh_votes s ss xs parts.1)
-
-own_votes : (s : Script) (ss : List Script) (x : Session) → (s.token.n == x.token.n) ≡ true → votes_by (s ∷ ss) x ≡ Some (silent_or s.items)
-own_votes s ss x e = rw e refl
-
--- the clients vote by the scripts, with that of the new one
-begun_votes : (o : Option GsFault) (s : Script) (ss : List Script) (core : Core) (name : List ℕ) (c : ScriptClient) (cs : List ScriptClient)
-    → s.token.n ≡ core.sessions.last_client + 1 → list_any (is_session s.token) core.sessions.sessions ≡ false → c.items ≡ silent_or s.items → map votes_of cs ≡ votes_in ss core.sessions.sessions
-    → map votes_of (clients_with c cs (unless_fault o (session_added core.sessions name))) ≡ votes_in (s ∷ ss) (changed core name (unless_fault o (session_added core.sessions name))).sessions.sessions
-unfolding session_added changed call_refused recorded with_sessions
-begun_votes None s ss core name c cs token fresh items votes =
-    let new : Session = record { token = record { n = core.sessions.last_client + 1 }; name = name } in
-    let own : votes_of c ≡ votes_by (s ∷ ss) new = ap (λ is. Some is) items ∙ sym (own_votes s ss new (eq-eqb s.token.n new.token.n token)) in
-    map-append votes_of cs (c ∷ []) ∙ (ap (λ vs. vs ++ votes_of c ∷ []) (votes ∙ sym (fresh_votes s ss core.sessions.sessions fresh))
-    ∙ (ap (λ v. votes_in (s ∷ ss) core.sessions.sessions ++ v ∷ []) own ∙ sym (map-append (votes_by (s ∷ ss)) core.sessions.sessions (new ∷ []))))
-begun_votes (Some f) s ss core name c cs token fresh items votes = votes ∙ sym (fresh_votes s ss core.sessions.sessions fresh)
-
-pub init_done : FillTheirScripts → (n m o : NodeView ScriptClient) (l : Left) (c : ScriptClient) (name votes : List ℕ) (k : ℕ) → false ≡ list_any (is_session (record { n = n.core.sessions.last_client + 1 })) n.core.sessions.sessions
-    → c.items ≡ silent_or (unwrap_or (votes_word votes) []) → map votes_of m.clients ≡ map votes_of (clients_with c n.clients (inited n.core.sessions name))
-    → Does (map votes_of m.clients) (call_row (at_work n.core) (call.Init k name votes)) m.core (λ f. stepped f n.core (Calls (call.Init k name votes))) → Leaves m o l n.core.views.me → CallDone n o l (call.Init k name votes)
-unfolding scripts_after script_of inited call_row
-init_done fill n m o l c name votes k fresh items after d left x h =
-    let last : x.core.sessions.last_client ≡ n.core.sessions.last_client = ap (λ (s : Core). s.sessions.last_client) (sym h.core) in
-    let s : Script = record { token = record { n = x.core.sessions.last_client + 1 }; items = unwrap_or (votes_word votes) [] } in
-    row_done fill n m o l x (s ∷ x.scripts) (call_row (at_work n.core) (call.Init k name votes)) (Calls (call.Init k name votes)) h
-    (after ∙ begun_votes (init_fault n.core.sessions name) s x.scripts (at_work n.core) name c n.clients (ap (λ z. z + 1) last)
-    (ap (λ z. list_any (is_session (record { n = z + 1 })) n.core.sessions.sessions) last ∙ sym fresh) items (h.votes ∙ ap (votes_in x.scripts) (sym (same_lives n x h))))
-    d left
-
--- ---- a session that ends
 
 map_removed : {A B : Type 0} (f : A → B) (xs : List A) (i : ℕ) → map f (remove xs i) ≡ remove (map f xs) i
 map_removed f [] zero = refl
@@ -144,32 +101,10 @@ said_sessions s client ended (Ok u) e =
     gone_if (frozen (record s { sessions = u })) (record s { sessions = u }) _ (each_gone (record s { sessions = u }) ended) ∙ ap (λ (z : SessionState). z.sessions) (ended_if (client_fault s.sessions (client_token s.sessions client)) (session_ended s.sessions (client_token s.sessions client)) u e)
 said_sessions s client ended (Err f) e = sym (ap (λ o. removed_at o s.sessions.sessions) (refused_place s.sessions (client_token s.sessions client) f e))
 
-pub goodbye_done : FillTheirScripts → (n m o : NodeView ScriptClient) (l : Left) (client : List ℕ) → map votes_of m.clients ≡ map votes_of (removed_at (client_place n.core.sessions (client_token n.core.sessions client)) n.clients)
-    → Does (map votes_of m.clients) (call_row (at_work n.core) (call.Goodbye client)) m.core (λ f. stepped f n.core (Calls (call.Goodbye client))) → Leaves m o l n.core.views.me → CallDone n o l (call.Goodbye client)
-unfolding scripts_after call_row
-goodbye_done fill n m o l client after d left x h =
-    let place : Option ℕ = client_place n.core.sessions (client_token n.core.sessions client) in
-    let votes : map votes_of n.clients ≡ votes_in x.scripts n.core.sessions.sessions = h.votes ∙ ap (votes_in x.scripts) (sym (same_lives n x h)) in
-    row_done fill n m o l x x.scripts (call_row (at_work n.core) (call.Goodbye client)) (Calls (call.Goodbye client)) h
-    (after ∙ (map_left votes_of place n.clients ∙ (ap (removed_at place) votes ∙ (sym (map_left (votes_by x.scripts) place n.core.sessions.sessions) ∙ ap (votes_in x.scripts) (sym (said_sessions (at_work n.core) client _ _ refl))))))
-    d left
-
--- ---- other calls
-
 within_scripts : (c : CallLine) (x : Core) (ss : List Script) → IsTrue (is_within_session c) → scripts_after c x ss ≡ ss
 unfolding scripts_after
 within_scripts (call.Init node name votes) x ss h = absurd cc
 within_scripts _ x ss h = refl
-
-pub within_done : (n o : NodeView ScriptClient) (l : Left) (c : CallLine) → IsTrue (is_within_session c) → ((x : world.Node) → NodeStands n x → Stepped o l (stepped (by_scripts x.scripts) x.core (Calls c)) x.scripts x.core.views.me) → CallDone n o l c
-within_done n o l c within done x h = subst (λ ss. Stepped o l (stepped (by_scripts ss) x.core (Calls c)) ss x.core.views.me) (sym (within_scripts c x.core x.scripts within)) (done x h)
-
--- a node at a place is called
-pub call_at : (ns : List (NodeView ScriptClient)) (k i : ℕ) (old new : NodeView ScriptClient) (l : Left) (c : CallLine) → Some i ≡ place_where (is_me k) ns → old ≡ get_or ns i old
-    → CallDone old new l c → StepsIn ns (set ns i new) k (Some l) (with_scripts c) (Calls c)
-call_at ns k i old new l c at here done = steps_by (λ x. scripts_after c x.core x.scripts) ns k i old new l (Calls c) at here done
-
--- ---- a call in a world
 
 called_down : (k : ℕ) (c : CallLine) (w : world.World) → find (is_node k) w.nodes ≡ None → calls_if w k c (node_at w k) ≡ traced w (happened.Refused k (caller_of c) NoInit ∷ [])
 unfolding calls_if node_at
@@ -180,20 +115,136 @@ called_up : (k : ℕ) (c : CallLine) (w : world.World) (x : world.Node) → find
 unfolding calls_if node_at steps
 called_up k c w x e = rw e refl
 
-pub call_refuses : (c d : World) (k : ℕ) (call : CallLine) (before after : List Happened) → d ≡ c → ((xs : List world.Node) → NodesStand c.nodes xs → find (is_node k) xs ≡ None) → after ≡ before ++ happened.Refused k (caller_of call) NoInit ∷ []
-    → (w : world.World) → Stands c w → Goes c d before after w (calls_if w k call (node_at w k))
-call_refuses c d k call before after same missing out w h =
-    subst (λ z. Goes c z before after w (calls_if w k call (node_at w k))) (sym same)
-    (subst (Goes c c before after w) (sym (called_down k call w (missing w.nodes h.nodes))) (goes_recorded c before after (happened.Refused k (caller_of call) NoInit ∷ []) w h out))
+-- what a call makes of a world where clients answer like this
+abbrev pub called : ℕ → CallLine → Answering → world.World → world.World
+called k c f w = calls_by_if f w k c (node_at w k)
 
-pub call_goes : (c m d : World) (k : ℕ) (l : Left) (call : CallLine) (before after : List Happened) → m ≡ record c { nodes = m.nodes } → ((xs : List world.Node) → NodesStand c.nodes xs → StepsNode m.nodes k l (with_scripts call) (Calls call) xs)
-    → Settled m d l before after → (w : world.World) → Stands c w → Goes c d before after w (calls_if w k call (node_at w k))
-call_goes c m d k l call before after same stepping settled w h =
-    let s : StepsNode m.nodes k l (with_scripts call) (Calls call) w.nodes = stepping w.nodes h.nodes in
-    subst (Goes c d before after w) (sym (called_up k call w s.node s.found)) (after_goes c m d l _ (scripts_after call s.node.core s.node.scripts) before after w h same s.stands s.sends s.records settled)
+called_down_by : (f : Answering) (k : ℕ) (c : CallLine) (w : world.World) → find (is_node k) w.nodes ≡ None → called k c f w ≡ traced w (happened.Refused k (caller_of c) NoInit ∷ [])
+unfolding calls_by_if node_at
+called_down_by f k c w e = rw e refl
 
-pub call_passes : (c m : World) (k sum : ℕ) (l : Left) (call : CallLine) → m ≡ record c { nodes = m.nodes } → ((xs : List world.Node) → NodesStand c.nodes xs → StepsNode m.nodes k l (with_scripts call) (Calls call) xs)
-    → (bytes_after m.limit m.kept l.sends).passed ≡ Some sum → (w : world.World) → Stands c w → Passes sum c w (calls_if w k call (node_at w k))
-call_passes c m k sum l call same stepping passed w h =
-    let s : StepsNode m.nodes k l (with_scripts call) (Calls call) w.nodes = stepping w.nodes h.nodes in
-    subst (Passes sum c w) (sym (called_up k call w s.node s.found)) (after_passes c m sum l _ (scripts_after call s.node.core s.node.scripts) w same s.sends passed)
+called_up_by : (f : Answering) (k : ℕ) (c : CallLine) (w : world.World) (x : world.Node) → find (is_node k) w.nodes ≡ Some x → called k c f w ≡ after_step w (scripts_after c x.core x.scripts) (stepped f x.core (Calls c))
+unfolding calls_by_if node_at step_by
+called_up_by f k c w x e = rw e refl
+
+-- a client that is made of a votes word
+pub said_by_word : {C : Type 0} (script : C → Option Items) (said : Items → Option Items) (c : C) (w : List ℕ) (items : Items) → Some items ≡ votes_word w → ForSome (votes_word w) (λ is. script c ≡ said is) → script c ≡ said (silent_or (unwrap_or (votes_word w) []))
+said_by_word script said c w items e h = h items (sym e) ∙ ap said (votes_by_word w items e)
+
+-- one that is made of the word `-`, since there is no votes word
+pub said_without_word : {C : Type 0} (script : C → Option Items) (said : Items → Option Items) (c : C) (w : List ℕ) → None ≡ votes_word w → ForSome (votes_word (45 ∷ [])) (λ is. script c ≡ said is) → script c ≡ said (silent_or (unwrap_or (votes_word w) []))
+unfolding votes_word votes_end votes_byte vote_item
+said_without_word script said c w none h = h (None ∷ []) refl ∙ ap said (silent_without_word w (None ∷ []) none refl)
+
+other_votes : (said : Items → Option Items) (s : Script) (ss : List Script) (x : Session) → is_session s.token x ≡ false → votes_by said (s ∷ ss) x ≡ votes_by said ss x
+other_votes said s ss x e = rw (turned x.token.n s.token.n e) refl
+
+-- a script of a token that no session has
+fresh_votes : (said : Items → Option Items) (s : Script) (ss : List Script) (xs : List Session) → list_any (is_session s.token) xs ≡ false → votes_in said (s ∷ ss) xs ≡ votes_in said ss xs
+fresh_votes said s ss [] e = refl
+fresh_votes said s ss (x ∷ xs) e =
+    let parts : (is_session s.token x ≡ false) × (list_any (is_session s.token) xs ≡ false) = or_parts (is_session s.token x) (list_any (is_session s.token) xs) e in
+    ap (λ v. v ∷ votes_in said (s ∷ ss) xs) (other_votes said s ss x parts.0) ∙ ap (λ vs. votes_by said ss x ∷ vs) (fresh_votes said s ss xs parts.1)
+
+own_votes : (said : Items → Option Items) (s : Script) (ss : List Script) (x : Session) → (s.token.n == x.token.n) ≡ true → votes_by said (s ∷ ss) x ≡ said (silent_or s.items)
+own_votes said s ss x e = rw e refl
+
+-- the clients vote by the scripts, with that of the new one
+begun_votes : {C : Type 0} (script : C → Option Items) (said : Items → Option Items) (o : Option GsFault) (s : Script) (ss : List Script) (core : Core) (name : List ℕ) (c : C) (cs : List C)
+    → s.token.n ≡ core.sessions.last_client + 1 → list_any (is_session s.token) core.sessions.sessions ≡ false → script c ≡ said (silent_or s.items) → map script cs ≡ votes_in said ss core.sessions.sessions
+    → map script (clients_with c cs (unless_fault o (session_added core.sessions name))) ≡ votes_in said (s ∷ ss) (changed core name (unless_fault o (session_added core.sessions name))).sessions.sessions
+unfolding session_added changed call_refused recorded with_sessions
+begun_votes script said None s ss core name c cs token fresh items votes =
+    let new : Session = record { token = record { n = core.sessions.last_client + 1 }; name = name } in
+    let own : script c ≡ votes_by said (s ∷ ss) new = items ∙ sym (own_votes said s ss new (eq-eqb s.token.n new.token.n token)) in
+    map-append script cs (c ∷ []) ∙ (ap (λ vs. vs ++ script c ∷ []) (votes ∙ sym (fresh_votes said s ss core.sessions.sessions fresh))
+    ∙ (ap (λ v. votes_in said (s ∷ ss) core.sessions.sessions ++ v ∷ []) own ∙ sym (map-append (votes_by said (s ∷ ss)) core.sessions.sessions (new ∷ []))))
+begun_votes script said (Some f) s ss core name c cs token fresh items votes = votes ∙ sym (fresh_votes said s ss core.sessions.sessions fresh)
+
+module _ {C : Type 0} {script : C → Option Items} {said : Items → Option Items} where
+  -- ---- the words that clients vote by
+
+  -- ---- a session that begins
+
+  pub init_done : FillTheirScripts → (n m o : NodeView C) (l : Left) (c : C) (name votes : List ℕ) (k : ℕ) → false ≡ list_any (is_session (record { n = n.core.sessions.last_client + 1 })) n.core.sessions.sessions
+      → script c ≡ said (silent_or (unwrap_or (votes_word votes) [])) → map script m.clients ≡ map script (clients_with c n.clients (inited n.core.sessions name))
+      → Does (map script m.clients) (call_row (at_work n.core) (call.Init k name votes)) m.core (λ f. stepped f n.core (Calls (call.Init k name votes))) → Leaves m o l n.core.views.me → CallDone script said n o l (call.Init k name votes)
+  unfolding scripts_after script_of inited call_row
+  init_done fill n m o l c name votes k fresh items after d left =
+      let some : (f : Answering) × (m.core ≡ stepped f n.core (Calls (call.Init k name votes))) = does_some (map script m.clients) (call_row (at_work n.core) (call.Init k name votes)) m.core (λ f. stepped f n.core (Calls (call.Init k name votes))) d in (
+        some.0,
+        λ x h.
+            let last : x.core.sessions.last_client ≡ n.core.sessions.last_client = ap (λ (s : Core). s.sessions.last_client) (sym h.core) in
+            let s : Script = record { token = record { n = x.core.sessions.last_client + 1 }; items = unwrap_or (votes_word votes) [] } in
+            row_done fill n m o l x (s ∷ x.scripts) (call_row (at_work n.core) (call.Init k name votes)) (Calls (call.Init k name votes)) some.0 h
+            (after ∙ begun_votes script said (init_fault n.core.sessions name) s x.scripts (at_work n.core) name c n.clients (ap (λ z. z + 1) last)
+            (ap (λ z. list_any (is_session (record { n = z + 1 })) n.core.sessions.sessions) last ∙ sym fresh) items (h.votes ∙ ap (votes_in said x.scripts) (sym (same_lives n x h))))
+            d some.1 left,
+      )
+
+  -- ---- a session that ends
+
+  pub goodbye_done : FillTheirScripts → (n m o : NodeView C) (l : Left) (client : List ℕ) → map script m.clients ≡ map script (removed_at (client_place n.core.sessions (client_token n.core.sessions client)) n.clients)
+      → Does (map script m.clients) (call_row (at_work n.core) (call.Goodbye client)) m.core (λ f. stepped f n.core (Calls (call.Goodbye client))) → Leaves m o l n.core.views.me → CallDone script said n o l (call.Goodbye client)
+  unfolding scripts_after call_row
+  goodbye_done fill n m o l client after d left =
+      let place : Option ℕ = client_place n.core.sessions (client_token n.core.sessions client) in
+      let some : (f : Answering) × (m.core ≡ stepped f n.core (Calls (call.Goodbye client))) = does_some (map script m.clients) (call_row (at_work n.core) (call.Goodbye client)) m.core (λ f. stepped f n.core (Calls (call.Goodbye client))) d in (
+        some.0,
+        λ x h.
+            let votes : map script n.clients ≡ votes_in said x.scripts n.core.sessions.sessions = h.votes ∙ ap (votes_in said x.scripts) (sym (same_lives n x h)) in
+            row_done fill n m o l x x.scripts (call_row (at_work n.core) (call.Goodbye client)) (Calls (call.Goodbye client)) some.0 h
+            (after ∙ (map_left script place n.clients ∙ (ap (removed_at place) votes ∙ (sym (map_left (votes_by said x.scripts) place n.core.sessions.sessions) ∙ ap (votes_in said x.scripts) (sym (said_sessions (at_work n.core) client _ _ refl))))))
+            d some.1 left,
+      )
+
+  -- ---- other calls
+
+  pub within_done : (n o : NodeView C) (l : Left) (c : CallLine) → IsTrue (is_within_session c) → StepsAs script said n o l (Calls c) → CallDone script said n o l c
+  within_done n o l c within done = (done.0, λ x h. subst (λ ss. StepDone script said done.0 o l x ss (Calls c)) (sym (within_scripts c x.core x.scripts within)) (done.1 x h))
+
+  -- a node at a place is called
+  pub call_at : (ns : List (NodeView C)) (k i : ℕ) (old new : NodeView C) (l : Left) (c : CallLine) → Some i ≡ place_where (is_me k) ns → old ≡ get_or ns i old
+      → CallDone script said old new l c → StepsIn script said ns (set ns i new) k (Some l) (with_scripts c) (Calls c)
+  call_at ns k i old new l c at here done = (done.0, steps_by script said done.0 (λ x. scripts_after c x.core x.scripts) ns k i old new l (Calls c) at here done.1)
+
+  -- ---- a call in a world
+
+  -- where each client votes just as its word says, the call is the world's own
+  called_worded : (a : Answering) (ms : List (NodeView C)) (k : ℕ) (l : Left) (call : CallLine) (w : world.World) → StepsNode script said a ms k l (with_scripts call) (Calls call) w.nodes → AllWorded said → called k call a w ≡ calls_if w k call (node_at w k)
+  called_worded a ms k l call w s all =
+      called_up_by a k call w s.node s.found ∙ (ap (after_step w (scripts_after call s.node.core s.node.scripts)) (s.worded all) ∙ sym (called_up k call w s.node s.found))
+
+  pub call_refuses : (c d : World C) (k : ℕ) (call : CallLine) (before after : List Happened) → d ≡ c → ((xs : List world.Node) → NodesStand script said c.nodes xs → find (is_node k) xs ≡ None) → after ≡ before ++ happened.Refused k (caller_of call) NoInit ∷ []
+      → Comes script said c (Goes script said c d before after) (called k call) (λ w. calls_if w k call (node_at w k))
+  call_refuses c d k call before after same missing out = record {
+    answers = none;
+    comes = λ w h.
+        subst (λ z. Goes script said c z before after w (called k call none w)) (sym same)
+        (subst (Goes script said c c before after w) (sym (called_down_by none k call w (missing w.nodes h.nodes))) (goes_recorded c before after (happened.Refused k (caller_of call) NoInit ∷ []) w h out));
+    worded = λ all w h. called_down_by none k call w (missing w.nodes h.nodes) ∙ sym (called_down k call w (missing w.nodes h.nodes));
+  }
+    where
+      none : Answering
+      none = λ n s e after p. None
+
+  pub call_goes : (c m d : World C) (k : ℕ) (l : Left) (call : CallLine) (before after : List Happened) → m ≡ record c { nodes = m.nodes } → StepsSome script said c.nodes m.nodes k l (with_scripts call) (Calls call)
+      → Settled m d l before after → Comes script said c (Goes script said c d before after) (called k call) (λ w. calls_if w k call (node_at w k))
+  call_goes c m d k l call before after same stepping settled = record {
+    answers = stepping.0;
+    comes = λ w h.
+        let s : StepsNode script said stepping.0 m.nodes k l (with_scripts call) (Calls call) w.nodes = stepping.1 w.nodes h.nodes in
+        subst (Goes script said c d before after w) (sym (called_up_by stepping.0 k call w s.node s.found))
+        (after_goes c m d l _ (scripts_after call s.node.core s.node.scripts) before after w h same s.stands s.sends s.records settled);
+    worded = λ all w h. called_worded stepping.0 m.nodes k l call w (stepping.1 w.nodes h.nodes) all;
+  }
+
+  pub call_passes : (c m : World C) (k sum : ℕ) (l : Left) (call : CallLine) → m ≡ record c { nodes = m.nodes } → StepsSome script said c.nodes m.nodes k l (with_scripts call) (Calls call)
+      → (bytes_after m.limit m.kept l.sends).passed ≡ Some sum → Comes script said c (Passes sum c) (called k call) (λ w. calls_if w k call (node_at w k))
+  call_passes c m k sum l call same stepping passed = record {
+    answers = stepping.0;
+    comes = λ w h.
+        let s : StepsNode script said stepping.0 m.nodes k l (with_scripts call) (Calls call) w.nodes = stepping.1 w.nodes h.nodes in
+        subst (Passes sum c w) (sym (called_up_by stepping.0 k call w s.node s.found)) (after_passes c m sum l _ (scripts_after call s.node.core s.node.scripts) w same s.sends passed);
+    worded = λ all w h. called_worded stepping.0 m.nodes k l call w (stepping.1 w.nodes h.nodes) all;
+  }

@@ -5,18 +5,20 @@ ghost use Rattle.world_model.specs.World.{empty_world, node_starts, world_new};
 ghost use Rattle.world_model.specs.World as world;
 ghost use Rattle.world_play.specs.Standing.{Stands, Goes, kept_empty};
 ghost use Rattle.world_play.specs.Safe.{SafeOn};
+ghost use Rattle.world_safety.specs.Scripts.{IsSafeRun};
 
 use crate::nodes::Nodes;
 use crate::starts::Starts;
 use crate::world::World;
+use client_callbacks::Made;
 use node_state::{Config, Mode, Records};
 use rsct_packet::NoMemory;
 use std::alloc::Global;
 use world_packets::WorldPackets;
 
-impl World {
+impl<C: Made> World<C> {
     /// No node has started.
-    fn empty(alloc: Global, config: Config, limit: u64) -> World
+    fn empty(alloc: Global, config: Config, limit: u64) -> World<C>
         ensures { result ≡ kept_empty config limit }
     {
         World {
@@ -32,7 +34,7 @@ impl World {
     /// Nodes start, in this order.
     #[tactic(auto, using(crate::proofs::BeginLaws::starts_first, crate::proofs::BeginLaws::starts_next, crate::proofs::BeginLaws::starts_done))]
     fn start_all(&mut self, alloc: Global, ns: &[u8], out: &mut Records) -> Result<(), NoMemory>
-        ensures { OnOk result ((w : world.World) → Stands self.old w → Goes self.old self.new out.old out.new w (fold node_starts w ns.now)) }
+        ensures { OnOk result ((w : world.World) → Stands C.script C.script_of self.old w → Goes C.script C.script_of self.old self.new out.old out.new w (fold node_starts w ns.now)) }
     {
         let mut left = ns;
         while let Some((n, rest)) = left.split_first() {
@@ -48,10 +50,10 @@ impl World {
         config: Config,
         limit: u64,
         out: &mut Records,
-    ) -> Result<World, NoMemory>
-        ensures { IfOk result (λ c. Goes (kept_empty config limit) c out.old out.new (empty_world config) (world_new config)) }
+    ) -> Result<World<C>, NoMemory>
+        ensures { IfOk result (λ c. Goes C.script C.script_of (kept_empty config limit) c out.old out.new (empty_world config) (world_new config)) }
     {
-        let mut world = World::empty(alloc, config, limit);
+        let mut world = World::<C>::empty(alloc, config, limit);
         match config.mode {
             Mode::Fixed => {
                 let nodes = config.nodes.nodes(alloc)?;
@@ -69,10 +71,10 @@ impl World {
         config: Config,
         limit: u64,
         out: &mut Records,
-    ) -> Result<World, NoMemory>
-        ensures goes { IfOk result (λ c. Goes (kept_empty config limit) c out.old out.new (empty_world config) (world_new config)) }
-        ensures safe { IfOk result (λ c. SafeOn c config [] [] out.old out.new) }
+    ) -> Result<World<C>, NoMemory>
+        ensures goes { IfOk result (λ c. Goes C.script C.script_of (kept_empty config limit) c out.old out.new (empty_world config) (world_new config)) }
+        ensures safe { IfOk result (λ c. SafeOn C.script C.script_of c (world_new config) (IsSafeRun config []) [] out.old out.new) }
     {
-        World::begun(alloc, config, limit, out)
+        World::<C>::begun(alloc, config, limit, out)
     }
 }

@@ -1,22 +1,21 @@
 //! Calls of clients, whose sessions begin and end with some.
-ghost use Rattle.std.specs.Prelude.{◌≡◌, ℕ, ◌+◌, ◌++◌, ◌∷◌, [], IfOk, OnOk, IsErrOf, IsTrue, map};
+ghost use Rattle.std.specs.Prelude.{◌≡◌, ℕ, ◌+◌, ◌++◌, ◌∷◌, [], IfOk, OnOk, IsErrOf};
 ghost use Rattle.std.specs.List.{list_any};
-ghost use Rattle.std.specs.Option.{unwrap_or};
+ghost use Rattle.std.specs.Option.{ForSome, unwrap_or};
 ghost use Rattle.client_callbacks.specs.Votes.{votes_word};
 ghost use Rattle.session_state.specs.State.{is_session};
 ghost use Rattle.node_state.specs.declared.call.CallLine.TheVariants as call;
 ghost use Rattle.node_state.specs.declared.happened.Happened.TheVariants as happened;
 ghost use Rattle.session_state.specs.declared.fault.GsFault.TheVariants as fault;
 ghost use Rattle.node_state.specs.Calls.{caller_of};
-ghost use Rattle.node_state.specs.Step.{Calls, stepped};
-ghost use Rattle.world_model.specs.World.{by_scripts, scripts_after, node_at, calls_if};
-ghost use Rattle.world_model.specs.World as world;
-ghost use Rattle.world_play.specs.Standing.{silent_or, NodeStands, Stepped, CallDone, Stands, Goes, Passes};
+ghost use Rattle.world_model.specs.World.{node_at, calls_if};
+ghost use Rattle.world_answers.specs.Answers.{calls_by_if};
+ghost use Rattle.world_play.specs.Standing.{silent_or, CallDone, Goes, Passes, Comes};
 
 use crate::fault::WorldFault;
 use crate::stepping::{Left, leave, step_node};
 use crate::world::World;
-use client_callbacks::ScriptClient;
+use client_callbacks::{Callbacks, Made, votes_word};
 use client_session::scripted_clients_fill_their_scripts;
 use node_state::{CallLine, Happened, Records};
 use node_step::{Node, NodeEvent};
@@ -44,21 +43,29 @@ fn caller_of(c: &CallLine) -> &[u8]
     }
 }
 
-/// A client that votes as a word says; one that is silent where it is no votes word.
-fn client_of(alloc: Global, votes: &[u8]) -> Result<ScriptClient, NoMemory>
-    ensures { IfOk result (λ c. c.items ≡ silent_or (unwrap_or (votes_word votes.now) [])) }
+/// A client that is made of a votes word. That none is made counts as want of memory.
+fn made_of<C: Made>(alloc: Global, votes: &[u8]) -> Result<C, NoMemory>
+    ensures { IfOk result (λ c. C.stands_for c [] × ForSome (votes_word votes.now) (λ items. C.script c ≡ C.script_of items)) }
 {
-    match ScriptClient::new(alloc, votes)? {
+    match C::made(alloc, votes)? {
         Some(client) => Ok(client),
-        None => match ScriptClient::new(alloc, b"-")? {
-            Some(client) => Ok(client),
-            None => Err(NoMemory),
-        },
+        None => Err(NoMemory),
+    }
+}
+
+/// A client that votes as a word says, which was handed nothing; one that is silent where it is no votes word.
+fn client_of<C: Made>(alloc: Global, votes: &[u8]) -> Result<C, NoMemory>
+    ensures stands { IfOk result (λ c. C.stands_for c []) }
+    ensures votes { IfOk result (λ c. C.script c ≡ C.script_of (silent_or (unwrap_or (votes_word votes.now) []))) }
+{
+    match votes_word(alloc, votes)? {
+        Some(_) => made_of(alloc, votes),
+        None => made_of(alloc, b"-"),
     }
 }
 
 /// Has a session the token that the next one is to have?
-fn has_next(node: &Node<ScriptClient>) -> bool
+fn has_next<C: Callbacks>(node: &Node<C>) -> bool
     ensures { result ≡ list_any (is_session (record { n = node.now.core.sessions.last_client + 1 })) node.now.core.sessions.sessions }
 {
     let sessions = &node.core().sessions;
@@ -71,20 +78,20 @@ fn has_next(node: &Node<ScriptClient>) -> bool
 }
 
 /// A client calls to begin its session. That a session has its token already counts as want of memory.
-fn begin_session(
-    node: &mut Node<ScriptClient>,
+fn begin_session<C: Made>(
+    node: &mut Node<C>,
     alloc: Global,
     name: &[u8],
     votes: &[u8],
 ) -> Result<Left, NoMemory>
-    ensures { IfOk result (λ l. (k : ℕ) → CallDone node.old node.new l (call.Init k name.now votes.now)) }
+    ensures { IfOk result (λ l. (k : ℕ) → CallDone C.script C.script_of node.old node.new l (call.Init k name.now votes.now)) }
 {
     scripted_clients_fill_their_scripts();
     let me = node.core().views.me;
     if has_next(node) {
         return Err(NoMemory);
     }
-    let client = client_of(alloc, votes)?;
+    let client = client_of::<C>(alloc, votes)?;
     match node.begin_session(alloc, name, client) {
         Ok(()) => leave(node, alloc, me),
         Err(_) => Err(NoMemory),
@@ -92,12 +99,8 @@ fn begin_session(
 }
 
 /// A client says goodbye.
-fn say_goodbye(
-    node: &mut Node<ScriptClient>,
-    alloc: Global,
-    client: &[u8],
-) -> Result<Left, NoMemory>
-    ensures { IfOk result (λ l. CallDone node.old node.new l (call.Goodbye client.now)) }
+fn say_goodbye<C: Made>(node: &mut Node<C>, alloc: Global, client: &[u8]) -> Result<Left, NoMemory>
+    ensures { IfOk result (λ l. CallDone C.script C.script_of node.old node.new l (call.Goodbye client.now)) }
 {
     scripted_clients_fill_their_scripts();
     let me = node.core().views.me;
@@ -108,12 +111,8 @@ fn say_goodbye(
 }
 
 /// A client of the node calls.
-pub fn call_node(
-    node: &mut Node<ScriptClient>,
-    alloc: Global,
-    c: &CallLine,
-) -> Result<Left, NoMemory>
-    ensures { IfOk result (λ l. CallDone node.old node.new l c.now) }
+pub fn call_node<C: Made>(node: &mut Node<C>, alloc: Global, c: &CallLine) -> Result<Left, NoMemory>
+    ensures { IfOk result (λ l. CallDone C.script C.script_of node.old node.new l c.now) }
 {
     match c {
         CallLine::Init { name, votes, .. } => {
@@ -135,7 +134,7 @@ fn refuse(alloc: Global, n: u8, c: &CallLine, out: &mut Records) -> Result<(), N
     })
 }
 
-impl World {
+impl<C: Made> World<C> {
     /// A client of a node calls: it is refused where the node is down.
     pub(crate) fn call(
         &mut self,
@@ -144,8 +143,8 @@ impl World {
         c: &CallLine,
         out: &mut Records,
     ) -> Result<(), WorldFault>
-        ensures goes { OnOk result ((w : world.World) → Stands self.old w → Goes self.old self.new out.old out.new w (calls_if w n c.now (node_at w n))) }
-        ensures passes { (k : ℕ) → IsErrOf result (WorldFault.TooMuchKept k) → (w : world.World) → Stands self.old w → Passes k self.old w (calls_if w n c.now (node_at w n)) }
+        ensures goes { OnOk result (Comes C.script C.script_of self.old (Goes C.script C.script_of self.old self.new out.old out.new) (λ f w. calls_by_if f w n c.now (node_at w n)) (λ w. calls_if w n c.now (node_at w n))) }
+        ensures passes { (k : ℕ) → IsErrOf result (WorldFault.TooMuchKept k) → Comes C.script C.script_of self.old (Passes k self.old) (λ f w. calls_by_if f w n c.now (node_at w n)) (λ w. calls_if w n c.now (node_at w n)) }
         ensures kept { (k : ℕ) → IsErrOf result (WorldFault.TooMuchKept k) → out.new ≡ out.old }
     {
         let done = self.nodes.call(alloc, n, c)?;

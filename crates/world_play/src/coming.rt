@@ -5,16 +5,17 @@ ghost use Rattle.world_model.specs.World as world;
 ghost use Rattle.world_play.specs.Standing.{Stands, Goes};
 
 use crate::world::World;
+use client_callbacks::Made;
 use node_state::{Happened, Records, What};
 use node_step::Node;
 use rsct_packet::NoMemory;
 use status_lines::record_status;
 use std::alloc::Global;
 
-impl World {
+impl<C: Made> World<C> {
     /// A node that is not up starts in an incarnation.
     fn begin(&mut self, alloc: Global, n: u8, inc: u32, out: &mut Records) -> Result<(), NoMemory>
-        ensures { OnOk result ((w : world.World) → Stands self.old w → Goes self.old self.new out.old out.new w (started_at w n inc)) }
+        ensures { OnOk result ((w : world.World) → Stands C.script C.script_of self.old w → Goes C.script C.script_of self.old self.new out.old out.new w (started_at w n inc)) }
     {
         let mut node = Node::start(alloc, self.config, n, inc)?;
         let mut records = node.take_records(alloc);
@@ -25,7 +26,7 @@ impl World {
 
     /// A node starts, in its next incarnation, unless it is up or has had the last one.
     pub(crate) fn start(&mut self, alloc: Global, n: u8, out: &mut Records) -> Result<(), NoMemory>
-        ensures { OnOk result ((w : world.World) → Stands self.old w → Goes self.old self.new out.old out.new w (node_starts w n)) }
+        ensures { OnOk result ((w : world.World) → Stands C.script C.script_of self.old w → Goes C.script C.script_of self.old self.new out.old out.new w (node_starts w n)) }
     {
         if self.nodes.is_up(n) {
             return Ok(());
@@ -39,7 +40,7 @@ impl World {
 
     /// A node stops, if it is up.
     pub(crate) fn stop(&mut self, n: u8, out: &mut Records) -> Result<(), NoMemory>
-        ensures { OnOk result ((w : world.World) → Stands self.old w → Goes self.old self.new out.old out.new w (stops_if w n (node_at w n))) }
+        ensures { OnOk result ((w : world.World) → Stands C.script C.script_of self.old w → Goes C.script C.script_of self.old self.new out.old out.new w (stops_if w n (node_at w n))) }
     {
         if !self.nodes.remove(n) {
             return Ok(());
@@ -55,7 +56,7 @@ impl World {
         what: What,
         out: &mut Records,
     ) -> Result<(), NoMemory>
-        ensures { OnOk result ((w : world.World) → Stands self.now w → Goes self.now self.now out.old out.new w (shows_if w n what (node_at w n))) }
+        ensures { OnOk result ((w : world.World) → Stands C.script C.script_of self.now w → Goes C.script C.script_of self.now self.now out.old out.new w (shows_if w n what (node_at w n))) }
     {
         match self.nodes.get(n) {
             None => Ok(()),

@@ -1,17 +1,18 @@
 //! Packets that are given to nodes.
 ghost use Rattle.std.specs.Prelude.{◌≡◌, ℕ, OnOk, IsErrOf, IsTrue, is_some, find, ◌&&◌};
-ghost use Rattle.world_model.specs.World.{kth_in, delivers};
-ghost use Rattle.world_model.specs.World as world;
+ghost use Rattle.world_model.specs.World.{node_at, kth_in, kth_between, delivers};
+ghost use Rattle.world_answers.specs.Answers.{delivers_by_if};
 ghost use Rattle.world_packets.specs.Packets.{world_pairs, find_pair};
-ghost use Rattle.world_play.specs.Standing.{is_me, Stands, Goes, Passes};
+ghost use Rattle.world_play.specs.Standing.{is_me, Goes, Passes, Comes};
 
 use crate::fault::WorldFault;
 use crate::world::World;
+use client_callbacks::Made;
 use node_state::Records;
 use node_step::NodeEvent;
 use std::alloc::Global;
 
-impl World {
+impl<C: Made> World<C> {
     /// Is there a k-th packet from one node to another, which is up?
     fn can_give(&self, a: u8, b: u8, k: u32) -> bool
         ensures { result ≡ (is_some (find (is_me b) self.now.nodes) && is_some (kth_in k (find_pair a b (world_pairs self.now.packets.pairs)))) }
@@ -29,8 +30,8 @@ impl World {
         k: u32,
         out: &mut Records,
     ) -> Result<(), WorldFault>
-        ensures goes { OnOk result ((w : world.World) → Stands self.old w → Goes self.old self.new out.old out.new w (delivers w a b k)) }
-        ensures passes { (n : ℕ) → IsErrOf result (WorldFault.TooMuchKept n) → (w : world.World) → Stands self.old w → Passes n self.old w (delivers w a b k) }
+        ensures goes { OnOk result (Comes C.script C.script_of self.old (Goes C.script C.script_of self.old self.new out.old out.new) (λ f w. delivers_by_if f w a b k (node_at w b) (kth_between w a b k)) (λ w. delivers w a b k)) }
+        ensures passes { (n : ℕ) → IsErrOf result (WorldFault.TooMuchKept n) → Comes C.script C.script_of self.old (Passes n self.old) (λ f w. delivers_by_if f w a b k (node_at w b) (kth_between w a b k)) (λ w. delivers w a b k) }
         ensures kept { (n : ℕ) → IsErrOf result (WorldFault.TooMuchKept n) → out.new ≡ out.old }
     {
         if !self.can_give(a, b, k) {

@@ -1,33 +1,34 @@
 //! What happens, in one call.
 ghost use Rattle.std.specs.Prelude.{◌≡◌, ℕ, OnOk, IsErrOf};
 ghost use Rattle.node_state.specs.Step.{Garbage};
-ghost use Rattle.world_model.specs.World.{node_steps, happens};
-ghost use Rattle.world_model.specs.World as world;
-ghost use Rattle.world_play.specs.Standing.{Stands, Goes, Passes};
-ghost use Rattle.world_play.specs.Safe.{GoesSafely};
+ghost use Rattle.world_model.specs.World.{node_at, node_steps, happens};
+ghost use Rattle.world_answers.specs.Answers.{step_by_if, happens_by};
+ghost use Rattle.world_play.specs.Standing.{Goes, Passes, Comes};
+ghost use Rattle.world_play.specs.Safe.{AnswersSafely, GoesSafely};
 
 use crate::fault::WorldFault;
 use crate::world::World;
+use client_callbacks::Made;
 use node_state::Records;
 use node_step::NodeEvent;
 use std::alloc::Global;
 use world_model::Event;
 
-impl World {
+impl<C: Made> World<C> {
     /// A node is given bytes that are no packet.
     fn give_garbage(&mut self, alloc: Global, n: u8, out: &mut Records) -> Result<(), WorldFault>
-        ensures goes { OnOk result ((w : world.World) → Stands self.old w → Goes self.old self.new out.old out.new w (node_steps w n Garbage)) }
-        ensures passes { (k : ℕ) → IsErrOf result (WorldFault.TooMuchKept k) → (w : world.World) → Stands self.old w → Passes k self.old w (node_steps w n Garbage) }
+        ensures goes { OnOk result (Comes C.script C.script_of self.old (Goes C.script C.script_of self.old self.new out.old out.new) (λ f w. step_by_if f w Garbage (node_at w n)) (λ w. node_steps w n Garbage)) }
+        ensures passes { (k : ℕ) → IsErrOf result (WorldFault.TooMuchKept k) → Comes C.script C.script_of self.old (Passes k self.old) (λ f w. step_by_if f w Garbage (node_at w n)) (λ w. node_steps w n Garbage) }
         ensures kept { (k : ℕ) → IsErrOf result (WorldFault.TooMuchKept k) → out.new ≡ out.old }
     {
         self.step(alloc, n, NodeEvent::Datagram(b""), out)
     }
 
     /// A plain event happens, each kind by its own call.
-    #[tactic(auto, unfolding(world_model::specs::World::happens))]
+    #[tactic(auto, unfolding(world_model::specs::World::happens, world_answers::specs::Answers::happens_by))]
     fn happen(&mut self, alloc: Global, e: &Event, out: &mut Records) -> Result<(), WorldFault>
-        ensures goes { OnOk result ((w : world.World) → Stands self.old w → Goes self.old self.new out.old out.new w (happens w e.now)) }
-        ensures passes { (k : ℕ) → IsErrOf result (WorldFault.TooMuchKept k) → (w : world.World) → Stands self.old w → Passes k self.old w (happens w e.now) }
+        ensures goes { OnOk result (Comes C.script C.script_of self.old (Goes C.script C.script_of self.old self.new out.old out.new) (λ f w. happens_by f w e.now) (λ w. happens w e.now)) }
+        ensures passes { (k : ℕ) → IsErrOf result (WorldFault.TooMuchKept k) → Comes C.script C.script_of self.old (Passes k self.old) (λ f w. happens_by f w e.now) (λ w. happens w e.now) }
         ensures kept { (k : ℕ) → IsErrOf result (WorldFault.TooMuchKept k) → out.new ≡ out.old }
     {
         match e {
@@ -43,12 +44,14 @@ impl World {
     }
 
     /// A plain event happens: what it records comes behind what is in `out`, and the run with this event is safe,
-    /// wherever the world stands after events that may happen. Where its packets pass the limit, `out` is as it was.
-    /// After an error nothing is said of the world.
+    /// wherever the world stands after events that may happen. The clients answer somehow; where each votes just as its
+    /// word says, what happens is the world's own. Where its packets pass the limit, `out` is as it was. After an error
+    /// nothing is said of the world.
     pub fn event(&mut self, alloc: Global, e: &Event, out: &mut Records) -> Result<(), WorldFault>
-        ensures goes { OnOk result ((w : world.World) → Stands self.old w → Goes self.old self.new out.old out.new w (happens w e.now)) }
-        ensures safe { OnOk result (GoesSafely self.old self.new out.old out.new e.now) }
-        ensures passes { (k : ℕ) → IsErrOf result (WorldFault.TooMuchKept k) → (w : world.World) → Stands self.old w → Passes k self.old w (happens w e.now) }
+        ensures goes { OnOk result (Comes C.script C.script_of self.old (Goes C.script C.script_of self.old self.new out.old out.new) (λ f w. happens_by f w e.now) (λ w. happens w e.now)) }
+        ensures answers { OnOk result (AnswersSafely C.script C.script_of self.old self.new out.old out.new e.now) }
+        ensures safe { OnOk result (GoesSafely C.script C.script_of self.old self.new out.old out.new e.now) }
+        ensures passes { (k : ℕ) → IsErrOf result (WorldFault.TooMuchKept k) → Comes C.script C.script_of self.old (Passes k self.old) (λ f w. happens_by f w e.now) (λ w. happens w e.now) }
         ensures kept { (k : ℕ) → IsErrOf result (WorldFault.TooMuchKept k) → out.new ≡ out.old }
     {
         self.happen(alloc, e, out)

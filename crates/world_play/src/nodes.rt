@@ -8,7 +8,7 @@ ghost use Rattle.world_play.specs.Standing.{is_me, comes_before, number_in, Step
 
 use crate::calling::call_node;
 use crate::stepping::{Left, step_node};
-use client_callbacks::ScriptClient;
+use client_callbacks::{Callbacks, Made};
 use node_state::CallLine;
 use node_step::{Node, NodeEvent};
 use rsct_packet::NoMemory;
@@ -17,23 +17,22 @@ use std::marker::Model;
 
 /// The nodes that are up, ascending.
 #[derive(Drop)]
-pub struct Nodes {
-    rows: Vec<Node<ScriptClient>>,
+pub struct Nodes<C: Callbacks> {
+    rows: Vec<Node<C>>,
 }
 
-impl Model for Nodes {
+impl<C: Callbacks> Model for Nodes<C> {
     ghost use Rattle.std.specs.Prelude.{List};
-    ghost use Rattle.client_callbacks.specs.declared.kinds.ScriptClient.{ScriptClient};
     ghost use Rattle.node_step.specs.Node.{NodeView};
 
-    ghost Value = { List (NodeView ScriptClient) };
+    ghost Value = { List (NodeView C) };
 
     ghost view = { λ n. n.rows.items };
 }
 
 /// Where a node stands among those that are up.
 #[tactic(auto, using(rsct_packet::proofs::SearchLaws::place_begins, rsct_packet::proofs::SearchLaws::place_goes_on, rsct_packet::proofs::SearchLaws::place_found, rsct_packet::proofs::SearchLaws::place_missing))]
-fn place_alone(nodes: &[Node<ScriptClient>], n: u8) -> Option<usize>
+fn place_alone<C: Callbacks>(nodes: &[Node<C>], n: u8) -> Option<usize>
     ensures { result ≡ place_where (is_me n) nodes.now }
 {
     for (i, x) in nodes.iter().enumerate() {
@@ -45,7 +44,7 @@ fn place_alone(nodes: &[Node<ScriptClient>], n: u8) -> Option<usize>
 }
 
 #[tactic(auto, using(rsct_packet::proofs::SearchLaws::place_is_in))]
-fn place_of(nodes: &[Node<ScriptClient>], n: u8) -> Option<usize>
+fn place_of<C: Callbacks>(nodes: &[Node<C>], n: u8) -> Option<usize>
     ensures value { result ≡ place_where (is_me n) nodes.now }
     ensures within { IfSome result (λ i. i < length nodes.now) }
 {
@@ -53,7 +52,7 @@ fn place_of(nodes: &[Node<ScriptClient>], n: u8) -> Option<usize>
 }
 
 /// Does the node stand after this number?
-fn comes_before(n: u8, x: &Node<ScriptClient>) -> bool
+fn comes_before<C: Callbacks>(n: u8, x: &Node<C>) -> bool
     ensures { result ≡ comes_before n x.now }
 {
     n < x.core().views.me
@@ -61,7 +60,7 @@ fn comes_before(n: u8, x: &Node<ScriptClient>) -> bool
 
 /// How many nodes stand before a number.
 #[tactic(auto, using(rsct_packet::proofs::SearchLaws::front_begins, rsct_packet::proofs::SearchLaws::front_goes_on, rsct_packet::proofs::SearchLaws::front_found, rsct_packet::proofs::SearchLaws::front_missing, rsct_packet::proofs::SearchLaws::front_is_in))]
-fn front(nodes: &[Node<ScriptClient>], n: u8) -> usize
+fn front<C: Callbacks>(nodes: &[Node<C>], n: u8) -> usize
     ensures value { result ≡ front_len (comes_before n) nodes.now }
     ensures within { result ≤ length nodes.now }
 {
@@ -73,9 +72,9 @@ fn front(nodes: &[Node<ScriptClient>], n: u8) -> usize
     nodes.len()
 }
 
-impl Nodes {
+impl<C: Callbacks> Nodes<C> {
     /// No node is up.
-    pub fn new(alloc: Global) -> Nodes
+    pub fn new(alloc: Global) -> Nodes<C>
         ensures { result ≡ [] }
     {
         Nodes {
@@ -84,7 +83,7 @@ impl Nodes {
     }
 
     /// The node of this number, if it is up.
-    pub fn get(&self, n: u8) -> Option<&Node<ScriptClient>>
+    pub fn get(&self, n: u8) -> Option<&Node<C>>
         ensures { option_copied result ≡ find (is_me n) self.now }
     {
         self.rows.iter().find(|x| x.core().views.me == n)
@@ -111,7 +110,7 @@ impl Nodes {
 
     /// A node that starts stands before those of greater numbers.
     #[tactic(auto, using(rsct_packet::proofs::SearchLaws::insert_at_front))]
-    pub fn insert(&mut self, n: u8, node: Node<ScriptClient>) -> Result<(), NoMemory>
+    pub fn insert(&mut self, n: u8, node: Node<C>) -> Result<(), NoMemory>
         ensures { OnOk result (self.new ≡ insert_before (comes_before n) node self.old) }
     {
         let i = front(self.rows.as_slice(), n);
@@ -131,12 +130,14 @@ impl Nodes {
         }
         is_up
     }
+}
 
+impl<C: Made> Nodes<C> {
     /// An event happens to a node; answers what that left, or none where it is not up.
     #[tactic(auto, using(crate::proofs::NodeLaws::steps_at, crate::proofs::NodeLaws::stands_nowhere))]
     pub fn step(&mut self, alloc: Global, n: u8, e: NodeEvent<'_>) -> Result<Option<Left>, NoMemory>
         requires taken { IsTrue (is_taken e) }
-        ensures { IfOk result (λ left. StepsIn self.old self.new n left (λ x. x) (event_in e.entry)) }
+        ensures { IfOk result (λ left. StepsIn C.script C.script_of self.old self.new n left (λ x. x) (event_in e.entry)) }
     {
         match place_of(self.rows.as_slice(), n) {
             None => Ok(None),
@@ -147,7 +148,7 @@ impl Nodes {
     /// A client of a node calls; answers what that left, or none where the node is not up.
     #[tactic(auto, using(crate::proofs::CallLaws::call_at, crate::proofs::NodeLaws::stands_nowhere))]
     pub fn call(&mut self, alloc: Global, n: u8, c: &CallLine) -> Result<Option<Left>, NoMemory>
-        ensures { IfOk result (λ left. StepsIn self.old self.new n left (with_scripts c.now) (Calls c.now)) }
+        ensures { IfOk result (λ left. StepsIn C.script C.script_of self.old self.new n left (with_scripts c.now) (Calls c.now)) }
     {
         match place_of(self.rows.as_slice(), n) {
             None => Ok(None),

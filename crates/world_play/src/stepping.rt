@@ -1,12 +1,9 @@
 //! Steps of nodes.
-ghost use Rattle.std.specs.Prelude.{◌≡◌, [], IfOk, IsTrue, map};
+ghost use Rattle.std.specs.Prelude.{◌≡◌, IfOk, IsTrue};
 ghost use Rattle.node_step.specs.Event.{event_in, is_taken};
-ghost use Rattle.node_state.specs.Step.{stepped};
-ghost use Rattle.world_model.specs.World.{by_scripts};
-ghost use Rattle.world_model.specs.World as world;
-ghost use Rattle.world_play.specs.Standing.{NodeStands, Leaves, Stepped};
+ghost use Rattle.world_play.specs.Standing.{Leaves, StepsAs};
 
-use client_callbacks::ScriptClient;
+use client_callbacks::{Callbacks, Made};
 use client_session::scripted_clients_fill_their_scripts;
 use node_state::{Packets, Records};
 use node_step::{Node, NodeEvent};
@@ -21,7 +18,7 @@ pub struct Left {
 }
 
 /// Takes what a node's last step left. A node keeps its number: one that has another counts as want of memory.
-pub fn leave(node: &mut Node<ScriptClient>, alloc: Global, me: u8) -> Result<Left, NoMemory>
+pub fn leave<C: Callbacks>(node: &mut Node<C>, alloc: Global, me: u8) -> Result<Left, NoMemory>
     ensures { IfOk result (λ l. Leaves node.old node.new l me) }
 {
     if node.core().views.me != me {
@@ -33,13 +30,13 @@ pub fn leave(node: &mut Node<ScriptClient>, alloc: Global, me: u8) -> Result<Lef
 }
 
 /// An event happens to a node.
-pub fn step_node(
-    node: &mut Node<ScriptClient>,
+pub fn step_node<C: Made>(
+    node: &mut Node<C>,
     alloc: Global,
     e: NodeEvent<'_>,
 ) -> Result<Left, NoMemory>
     requires taken { IsTrue (is_taken e) }
-    ensures { IfOk result (λ l. (x : world.Node) → NodeStands node.old x → Stepped node.new l (stepped (by_scripts x.scripts) x.core (event_in e.entry)) x.scripts x.core.views.me) }
+    ensures { IfOk result (λ l. StepsAs C.script C.script_of node.old node.new l (event_in e.entry)) }
 {
     scripted_clients_fill_their_scripts();
     let me = node.core().views.me;

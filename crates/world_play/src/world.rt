@@ -1,33 +1,34 @@
 //! What happens in a world.
 ghost use Rattle.std.specs.Prelude.{◌≡◌, ℕ, OnOk, IsErrOf, IsTrue, Some};
 ghost use Rattle.node_step.specs.Event.{event_in, is_taken};
-ghost use Rattle.world_model.specs.World.{node_steps};
-ghost use Rattle.world_model.specs.World as world;
-ghost use Rattle.world_play.specs.Standing.{Stands, Goes, Passes, Settled, bytes_after};
+ghost use Rattle.world_model.specs.World.{node_at, node_steps};
+ghost use Rattle.world_answers.specs.Answers.{step_by_if};
+ghost use Rattle.world_play.specs.Standing.{Goes, Passes, Comes, Settled, bytes_after};
 
 use crate::fault::WorldFault;
 use crate::nodes::Nodes;
 use crate::posting::post_all;
 use crate::starts::Starts;
 use crate::stepping::Left;
+use client_callbacks::{Callbacks, Made, ScriptClient};
 use node_state::{Config, Records};
 use node_step::NodeEvent;
 use std::alloc::Global;
 use world_packets::WorldPackets;
 
 /// A world: the nodes that are up, all packets that they ever sent, and how many bytes those have, which may be as
-/// many as the limit says.
+/// many as the limit says. Its clients are of any kind that is made of votes words.
 #[derive(Drop)]
-pub struct World {
+pub struct World<C: Callbacks = ScriptClient> {
     pub config: Config,
-    pub nodes: Nodes,
+    pub nodes: Nodes<C>,
     pub starts: Starts,
     pub packets: WorldPackets,
     pub kept: u64,
     pub limit: u64,
 }
 
-impl World {
+impl<C: Made> World<C> {
     /// Sends and records what a step left.
     pub(crate) fn settle(
         &mut self,
@@ -59,8 +60,8 @@ impl World {
         out: &mut Records,
     ) -> Result<(), WorldFault>
         requires taken { IsTrue (is_taken e) }
-        ensures goes { OnOk result ((w : world.World) → Stands self.old w → Goes self.old self.new out.old out.new w (node_steps w n (event_in e.entry))) }
-        ensures passes { (k : ℕ) → IsErrOf result (WorldFault.TooMuchKept k) → (w : world.World) → Stands self.old w → Passes k self.old w (node_steps w n (event_in e.entry)) }
+        ensures goes { OnOk result (Comes C.script C.script_of self.old (Goes C.script C.script_of self.old self.new out.old out.new) (λ f w. step_by_if f w (event_in e.entry) (node_at w n)) (λ w. node_steps w n (event_in e.entry))) }
+        ensures passes { (k : ℕ) → IsErrOf result (WorldFault.TooMuchKept k) → Comes C.script C.script_of self.old (Passes k self.old) (λ f w. step_by_if f w (event_in e.entry) (node_at w n)) (λ w. node_steps w n (event_in e.entry)) }
         ensures kept { (k : ℕ) → IsErrOf result (WorldFault.TooMuchKept k) → out.new ≡ out.old }
     {
         let done = self.nodes.step(alloc, n, e)?;

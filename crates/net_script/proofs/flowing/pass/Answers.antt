@@ -1,4 +1,4 @@
-use Rattle.std.proofs.Common.{sym, ap, ◌∙◌}
+use Rattle.std.proofs.Common.{ap}
 use Rattle.net_script.proofs.FlowLaws.{packet_given, packet_lost}
 use Rattle.net_script.proofs.flowing.pass.Goals as goal
 
@@ -7,4 +7,4 @@ returns-then-is_given-clause-outcome g c = packet_given c.happen.result c.args.k
 
 pub returns-else-is_given-clause-outcome : goal.returns-else-is_given-clause-outcome
 returns-else-is_given-clause-outcome g c =
-    packet_lost c.args.kinds _ c.args.stage.now _ c.args.x _ c.is_given.ensures c.if-is_given.false (ap (λ ps. record (c.args.stage.now) { world = record (c.args.stage.now.world) { packets = ps } }) c.skip_first.ensures)
+    packet_lost tt c.args.kinds _ c.args.stage.now _ c.args.x _ c.is_given.ensures c.if-is_given.false (ap (λ ps. record (c.args.stage.now) { world = record (c.args.stage.now.world) { packets = ps } }) c.skip_first.ensures)

@@ -1,22 +1,22 @@
 use Rattle.std.proofs.Common.{ℕ, get_or, arith}
-use Rattle.net_script.specs.Rounds.{tick}
+use Rattle.world_answers.specs.Plays.{PlaysTick}
 use Rattle.net_script.proofs.TextLaws.{same_item}
-use Rattle.net_script.proofs.StageLaws.{stopped_outcome}
+use Rattle.net_script.proofs.StageLaws.{leads_stopped}
 use Rattle.net_script.proofs.ListLaws.{list_begins, list_next, list_stops, list_ends}
-use Rattle.net_script.proofs.RoundLaws.{ticks_happen}
+use Rattle.net_script.proofs.RoundLaws.{ticks_playable}
 use Rattle.net_script.proofs.rounds.tick_each.Goals as goal
 
 pub loop-n-init : goal.loop-n-init
-loop-n-init g c = (list_begins c.args.kinds _ c.args.stage.now ℕ tick c.args.ns.now, omega arith)
+loop-n-init g c = (list_begins c.args.kinds _ c.args.stage.now ℕ (PlaysTick g.C.Made.script_of) c.args.ns.now, omega arith)
 
 pub returns-in_err-happen-clause-outcome : goal.returns-in_err-happen-clause-outcome
 returns-in_err-happen-clause-outcome g c p v h =
-    stopped_outcome c.from_residual.result c.in_err-happen.field-0.0 c.args.kinds _ _ c.args.stage.now _ p _ v c.from_residual.ensures
-    (list_stops c.in_err-happen.field-0.0 c.args.kinds _ _ _ c.args.stage.now c.loop-n.stage ℕ tick (get_or c.args.ns.now c.loop-n.n-index 0) c.args.ns.now c.loop-n.n-index ticks_happen c.loop-n-test.true (same_item c.loop-n.n-index 0 _ c.args.ns.now c.loop-n-test.true) c.loop-n.invariant.0 c.in_err-happen.ensures.outcome p v h)
+    leads_stopped g.C.Callbacks.script g.C.Made.script_of c.from_residual.result c.in_err-happen.field-0.0 c.args.kinds _ _ c.args.stage.now _ p _ v c.from_residual.ensures
+    (list_stops c.in_err-happen.field-0.0 c.args.kinds _ _ _ c.args.stage.now c.loop-n.stage _ ℕ (PlaysTick g.C.Made.script_of) (get_or c.args.ns.now c.loop-n.n-index 0) c.args.ns.now c.loop-n.n-index (ticks_playable g.C.Made.script_of) c.loop-n-test.true (same_item c.loop-n.n-index 0 _ c.args.ns.now c.loop-n-test.true) c.loop-n.invariant.0 c.in_err-happen.ensures.outcome p v h)
 
 pub loop-n-preserved : goal.loop-n-preserved
 loop-n-preserved g c =
-    (list_next c.args.kinds _ _ _ c.args.stage.now c.loop-n.stage c.happen.new.stage ℕ tick (get_or c.args.ns.now c.loop-n.n-index 0) c.args.ns.now c.loop-n.n-index c.loop-n-test.true (same_item c.loop-n.n-index 0 _ c.args.ns.now c.loop-n-test.true) c.loop-n.invariant.0 c.in_ok-happen.ensures.outcome, omega (arith, c.loop-n.invariant.1, c.happen.ensures.later))
+    (list_next c.args.kinds _ _ _ c.args.stage.now c.loop-n.stage c.happen.new.stage ℕ (PlaysTick g.C.Made.script_of) (get_or c.args.ns.now c.loop-n.n-index 0) c.args.ns.now c.loop-n.n-index c.loop-n-test.true (same_item c.loop-n.n-index 0 _ c.args.ns.now c.loop-n-test.true) c.loop-n.invariant.0 c.in_ok-happen.ensures.outcome, omega (arith, c.loop-n.invariant.1, c.happen.ensures.later))
 
 pub returns-clause-outcome : goal.returns-clause-outcome
-returns-clause-outcome g c = list_ends c.args.kinds _ _ c.args.stage.now c.loop-n.stage ℕ tick c.args.ns.now c.loop-n.n-index c.loop-n-test.false c.loop-n.invariant.0
+returns-clause-outcome g c = list_ends tt c.args.kinds _ _ c.args.stage.now c.loop-n.stage ℕ (PlaysTick g.C.Made.script_of) c.args.ns.now c.loop-n.n-index c.loop-n-test.false c.loop-n.invariant.0

@@ -5,4 +5,4 @@ use Rattle.world_play.specs.Standing.{comes_before}
 use Rattle.world_play.proofs.nodes.front.Given as goal
 
 abbrev pub invariant-loop-i : goal.invariant-loop-i
-invariant-loop-i l = front_len (comes_before l.n) l.nodes ≡ front_from (comes_before l.n) l.i l.nodes
+invariant-loop-i g l = front_len (comes_before l.n) l.nodes ≡ front_from (comes_before l.n) l.i l.nodes

@@ -5,4 +5,4 @@ use Rattle.world_play.specs.Standing.{is_me}
 use Rattle.world_play.proofs.nodes.place_alone.Given as goal
 
 abbrev pub invariant-loop-i : goal.invariant-loop-i
-invariant-loop-i l = place_where (is_me l.n) l.nodes ≡ place_from (is_me l.n) l.i l.nodes
+invariant-loop-i g l = place_where (is_me l.n) l.nodes ≡ place_from (is_me l.n) l.i l.nodes

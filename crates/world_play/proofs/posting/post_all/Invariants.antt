@@ -1,8 +1,7 @@
-use Rattle.std.proofs.Common.{◌≡◌, List, length, Option, None}
+use Rattle.std.proofs.Common.{◌≡◌, length}
 use Rattle.std.specs.Prelude.{fold}
 use Rattle.world_model.specs.World.{posted}
 use Rattle.world_model.specs.World as world
-use Rattle.world_model.specs.Kept.{with_packet}
 use Rattle.world_play.specs.Standing.{PacketsStand, bytes_after}
 use Rattle.world_play.proofs.posting.post_all.Given as goal
 

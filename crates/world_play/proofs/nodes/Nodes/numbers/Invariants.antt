@@ -3,4 +3,4 @@ use Rattle.world_play.specs.Standing.{number_in}
 use Rattle.world_play.proofs.nodes.Nodes.numbers.Given as goal
 
 abbrev pub invariant-loop-x : goal.invariant-loop-x
-invariant-loop-x l = l.ns.items ≡ map number_in (take l.x-index l.x-items)
+invariant-loop-x g l = l.ns.items ≡ map number_in (take l.x-index l.x-items)

@@ -1,15 +1,14 @@
 -- What a node that starts leaves.
 use Rattle.std.proofs.Common.{[], ◌++◌, refl, ap, ◌∙◌}
 use Rattle.std.proofs.lemmas.Result.{on_ok_weaker}
-use Rattle.client_callbacks.specs.declared.kinds.ScriptClient.{ScriptClient}
 use Rattle.node_step.specs.Node.{NodeView}
 use Rattle.world_play.proofs.ComingLaws.{begins_goes}
 use Rattle.world_play.proofs.world.World.begin.Goals as goal
 
 pub returns : goal.returns
-returns c =
+returns g c =
     on_ok_weaker c.append.result
     (λ appended. begins_goes c.args.self.now _ c.args.n c.args.inc c.take_records-records.new.self c.args.out.now c.append.new.self
-    (c.take_records-records.ensures.left ∙ ap (λ (z : NodeView ScriptClient). record z { core = record (z.core) { records = [] } }) c.in_ok-node.ensures) refl c.in_ok-insert.ensures c.in_ok-note.ensures refl refl refl
-    (appended.0 ∙ ap (λ rs. c.args.out.now ++ rs) (c.take_records-records.ensures.taken ∙ ap (λ (z : NodeView ScriptClient). z.core.records) c.in_ok-node.ensures)))
+    (c.take_records-records.ensures.left ∙ ap (λ (z : NodeView g.row.C.Denot). record z { core = record (z.core) { records = [] } }) c.in_ok-node.ensures) refl c.in_ok-insert.ensures c.in_ok-note.ensures refl refl refl
+    (appended.0 ∙ ap (λ rs. c.args.out.now ++ rs) (c.take_records-records.ensures.taken ∙ ap (λ (z : NodeView g.row.C.Denot). z.core.records) c.in_ok-node.ensures)))
     c.append.ensures.ok

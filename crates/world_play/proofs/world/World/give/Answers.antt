@@ -8,14 +8,14 @@ use Rattle.world_play.proofs.GivingLaws.{gives_nothing, gives_missing, gives_goe
 use Rattle.world_play.proofs.world.World.give.Goals as goal
 
 pub returns-then-not-can_give-clause-goes : goal.returns-then-not-can_give-clause-goes
-returns-then-not-can_give-clause-goes c = gives_nothing c.args.self.now c.args.a c.args.b c.args.k c.args.out.now (sym c.if-not-can_give.ensures)
+returns-then-not-can_give-clause-goes g c = gives_nothing c.args.self.now c.args.a c.args.b c.args.k c.args.out.now (sym c.if-not-can_give.ensures)
 
 pub returns-in-None-clause-goes : goal.returns-in-None-clause-goes
-returns-in-None-clause-goes c =
+returns-in-None-clause-goes g c =
     gives_missing c.args.self.now _ c.args.a c.args.b c.args.k c.args.out.now _ c.if-not-can_give.ensures (rw c.in-None.is at c.in_ok-done.ensures).1
 
 pub returns-in-Some-done-clause-goes : goal.returns-in-Some-done-clause-goes
-returns-in-Some-done-clause-goes c =
+returns-in-Some-done-clause-goes g c =
     on_ok_weaker c.settle.result
     (λ settled. gives_goes c.args.self.now _ _ c.settle.new.self c.args.a c.args.b c.args.k c.in-Some.packet.now c.in-Some-done.left (event_of c.bytes.result.now) c.args.out.now c.settle.new.out
     (ap (λ ps. record (c.args.self.now) { packets = ps }) c.take.ensures) (sym (c.in-Some.ensures ∙ ap (λ (z : Kept). kth_in c.args.k (find_pair c.args.a c.args.b (world_pairs z.pairs))) c.take.ensures))
@@ -23,7 +23,7 @@ returns-in-Some-done-clause-goes c =
     c.settle.ensures.settled
 
 pub returns-in-Some-done-clause-passes : goal.returns-in-Some-done-clause-passes
-returns-in-Some-done-clause-passes c sum err =
+returns-in-Some-done-clause-passes g c sum err =
     gives_passes c.args.self.now _ _ c.args.a c.args.b c.args.k sum c.in-Some.packet.now c.in-Some-done.left (event_of c.bytes.result.now)
     (ap (λ ps. record (c.args.self.now) { packets = ps }) c.take.ensures) (sym (c.in-Some.ensures ∙ ap (λ (z : Kept). kth_in c.args.k (find_pair c.args.a c.args.b (world_pairs z.pairs))) c.take.ensures))
     (bytes_given c.bytes.result.now c.in-Some.packet.now c.bytes.ensures) refl (rw c.in-Some-done.is at c.in_ok-done.ensures) (c.settle.ensures.passes sum err).0

@@ -1,17 +1,19 @@
 -- No bytes are no packet.
 use Rattle.std.proofs.Common.{ℕ, OnOk, IsErrOf, subst}
 use Rattle.node_state.specs.Step.{NodeEvent}
-use Rattle.world_model.specs.World.{node_steps}
-use Rattle.world_model.specs.World as world
+use Rattle.world_model.specs.World.{node_at, node_steps}
+use Rattle.world_answers.specs.Answers.{step_by_if}
 use Rattle.world_play.specs.declared.fault.WorldFault.TheVariants.{TooMuchKept}
-use Rattle.world_play.specs.Standing.{Stands, Goes, Passes}
+use Rattle.world_play.specs.Standing.{Goes, Passes, Comes}
 use Rattle.world_play.proofs.GivingLaws.{no_bytes}
 use Rattle.world_play.proofs.world.World.give_garbage.Goals as goal
 
 pub returns-clause-goes : goal.returns-clause-goes
-returns-clause-goes c =
-    subst (λ (e : NodeEvent). OnOk c.step.result ((w : world.World) → Stands c.args.self.now w → Goes c.args.self.now c.step.new.self c.args.out.now c.step.new.out w (node_steps w c.args.n e))) no_bytes c.step.ensures.goes
+returns-clause-goes g c =
+    subst (λ (e : NodeEvent). OnOk c.step.result (Comes g.C.Callbacks.script g.C.Made.script_of c.args.self.now (Goes g.C.Callbacks.script g.C.Made.script_of c.args.self.now c.step.new.self c.args.out.now c.step.new.out) (λ f w. step_by_if f w e (node_at w c.args.n)) (λ w. node_steps w c.args.n e)))
+    no_bytes c.step.ensures.goes
 
 pub returns-clause-passes : goal.returns-clause-passes
-returns-clause-passes c =
-    subst (λ (e : NodeEvent). (k : ℕ) → IsErrOf c.step.result (TooMuchKept k) → (w : world.World) → Stands c.args.self.now w → Passes k c.args.self.now w (node_steps w c.args.n e)) no_bytes c.step.ensures.passes
+returns-clause-passes g c =
+    subst (λ (e : NodeEvent). (k : ℕ) → IsErrOf c.step.result (TooMuchKept k) → Comes g.C.Callbacks.script g.C.Made.script_of c.args.self.now (Passes k c.args.self.now) (λ f w. step_by_if f w e (node_at w c.args.n)) (λ w. node_steps w c.args.n e))
+    no_bytes c.step.ensures.passes
