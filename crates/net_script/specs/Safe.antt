@@ -1,3 +1,2 @@
 -- That the run of a script is safe, for whoever plays one.
-pub use Rattle.world_safety.specs.Scripts.{ScriptIsSafe, KeptRunIsSafe}
-pub use Rattle.world_safety.specs.Plays.{MayPlay}
+pub use Rattle.world_play.specs.Safe.{ScriptIsSafe, KeptRunIsSafe, MayPlay}

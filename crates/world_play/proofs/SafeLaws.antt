@@ -15,7 +15,9 @@ use Rattle.world_safety.specs.Events.{MayHappen, AllMayHappen}
 use Rattle.world_safety.specs.Scripts.{IsSafe, IsSafeRun}
 use Rattle.world_answers.proofs.Waits.{same_goes}
 use Rattle.world_safety.proofs.Turned.{onto_more}
-use Rattle.world_safety.proofs.Scripts.{every_answer_is_safe, events_are_safe}
+use Rattle.world_safety.proofs.Scripts.{events_are_safe}
+pub use Rattle.world_safety.proofs.Scripts.{every_answer_is_safe, every_play_is_safe, every_kept_play_is_safe}
+pub use Rattle.world_safety.proofs.Lined.{scripts_may_play}
 use Rattle.world_play.specs.declared.world.World.{World}
 use Rattle.world_answers.specs.Answers.{Items}
 use Rattle.world_play.specs.Standing.{Goes, Comes, kept_empty}
