@@ -17,9 +17,7 @@ use Rattle.world_answers.specs.Answers.{Items, Answered, events_in, goes_on, ans
 use Rattle.world_answers.specs.Plays.{AnsweredPlay, starting, PlaysEvent, PlaysEach, TakesPacket, TakesNext, PlaysFlow, PlaysTick, numbers_up, PlaysRounds, PlaysLine, PlaysLines}
 use Rattle.world_answers.specs.Limits.{answered_within, answered_in, limited}
 use Rattle.world_answers.proofs.Adding.{lines_add}
-use Rattle.world_play.specs.Safe.{MayHappen, AllMayHappen}
-use Rattle.world_play.specs.Safe.{IsSafe}
-use Rattle.world_play.specs.Safe.{LineMay, LinesMay, MayPlay}
+use Rattle.world_play.specs.Safe.{MayHappen, AllMayHappen, IsSafe, LineMay, LinesMay, MayPlay}
 use Rattle.world_play.proofs.SafeLaws.{every_answer_is_safe}
 use Rattle.net_script.specs.Ends.{records_in, FrontIsSafe}
 

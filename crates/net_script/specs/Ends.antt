@@ -9,8 +9,7 @@ use Rattle.world_model.specs.declared.script.Script.{Script}
 use Rattle.world_answers.specs.Answers.{Items, Answered}
 use Rattle.world_answers.specs.Plays.{AnsweredPlay, starting, PlaysLines}
 use Rattle.world_answers.specs.Limits.{answered_in, limited}
-use Rattle.world_play.specs.Safe.{IsSafe}
-use Rattle.world_play.specs.Safe.{MayPlay}
+use Rattle.world_play.specs.Safe.{IsSafe, MayPlay}
 use Rattle.world_play.specs.declared.world.World.{World}
 use Rattle.world_play.specs.Standing.{Stands}
 use Rattle.transcript.specs.declared.kinds.Kinds.{Kinds}

@@ -6,8 +6,7 @@ ghost use Rattle.world_model.specs.World.{world_new};
 ghost use Rattle.world_model.specs.Play.{script_records};
 ghost use Rattle.world_model.specs.Kept.{kept_past, kept_records};
 ghost use Rattle.transcript.specs.Kinds.{kinds_text};
-ghost use Rattle.world_play.specs.Safe.{ScriptIsSafe, KeptRunIsSafe};
-ghost use Rattle.world_play.specs.Safe.{MayPlay};
+ghost use Rattle.world_play.specs.Safe.{ScriptIsSafe, KeptRunIsSafe, MayPlay};
 ghost use Rattle.world_play.specs.Standing.{Stands};
 ghost use Rattle.net_script.specs.Ends.{PlayedAs};
 
