@@ -4,9 +4,9 @@ use group_attr::DefaultVote;
 use node_state::{Led, Table};
 use phase_closing::{closing_entry, is_phase};
 use proposal_core::{Proposal, Running, Vote};
-use rsct_packet::{List, NoMemory, ProtoId, ProviderId, ViewId};
+use rsct_packet::{List, ProtoId, ProviderId, ViewId};
 use std::alloc::Global;
-use std::test::Fail;
+use std::process::Abort;
 use vote_phases::Tally;
 
 // 1.1.1.1
@@ -58,16 +58,14 @@ fn running(phase: u16) -> Running {
     }
 }
 
-fn goes_on(alloc: Global, phase: u16) -> Result<Option<bool>, NoMemory> {
-    match closing_entry(alloc, &led(alloc), &Some(running(phase)))? {
-        None => Ok(None),
-        Some(e) => Ok(Some(is_phase(&e))),
-    }
+/// Is the entry that closes this phase, with CONTINUE, one of a phase that goes on?
+fn goes_on(rt: &impl Abort, alloc: Global, phase: u16) -> bool {
+    let closed = closing_entry(alloc, &led(alloc), &Some(running(phase))).expect(rt, "memory");
+    is_phase(&closed.expect(rt, "an entry"))
 }
 
 #[test]
-fn last_phase_does_not_go_on(rt: HostRuntime) -> Result<(), Fail> {
-    assert_eq!(rt; goes_on(rt.alloc(), 199)?, Some(true));
-    assert_eq!(rt; goes_on(rt.alloc(), 200)?, Some(false));
-    Ok(())
+fn last_phase_does_not_go_on(rt: HostRuntime) {
+    assert!(rt; goes_on(&rt, rt.alloc(), 199));
+    assert!(rt; !goes_on(&rt, rt.alloc(), 200));
 }

@@ -22,9 +22,9 @@ fn rows_stand_in_name_order(rt: HostRuntime) {
     let mut groups = Table {
         rows: Vec::new(alloc),
     };
-    assert_eq!(rt; opened(&rt, &mut groups, alloc, b"db"), 0);
-    assert_eq!(rt; opened(&rt, &mut groups, alloc, b"app"), 0);
-    assert_eq!(rt; opened(&rt, &mut groups, alloc, b"db"), 1);
+    assert!(rt; opened(&rt, &mut groups, alloc, b"db") == 0);
+    assert!(rt; opened(&rt, &mut groups, alloc, b"app") == 0);
+    assert!(rt; opened(&rt, &mut groups, alloc, b"db") == 1);
     assert!(rt; row_of(&groups, b"app").is_some());
     assert!(rt; row_of(&groups, b"web").is_none());
 }

@@ -6,8 +6,9 @@ use client_callbacks::{
     VoteItem, text_word, vote_word, votes_word,
 };
 use proposal_core::{Entry, GroupState, Vote};
-use rsct_packet::{NoMemory, ProtoId, ProviderId, Providers, ViewId};
+use rsct_packet::{List, NoMemory, ProtoId, ProviderId, Providers, ViewId};
 use std::alloc::Global;
+use std::process::Abort;
 
 /// An object that rejects wherever a vote is asked for.
 #[derive(Drop)]
@@ -44,7 +45,7 @@ const PROVIDER: ProviderId = ProviderId {
 };
 
 /// The ballot that a client leaves at a notice of an empty state.
-fn ballot_of<C: Callbacks>(alloc: Global, c: &mut C) -> Result<Ballot, NoMemory> {
+fn ballot_of<C: Callbacks>(rt: &impl Abort, alloc: Global, c: &mut C) -> Ballot {
     let entry = Entry::Late {
         proto: ProtoId {
             view: VIEW,
@@ -64,24 +65,15 @@ fn ballot_of<C: Callbacks>(alloc: Global, c: &mut C) -> Result<Ballot, NoMemory>
         votes: true,
     };
     let mut b = Ballot::new(true, 1);
-    c.notice(&n, &mut b)?;
-    Ok(b)
-}
-
-/// The vote that a client casts.
-fn vote_of<C: Callbacks>(alloc: Global, c: &mut C) -> Result<Option<Vote>, NoMemory> {
-    let b = ballot_of(alloc, c)?;
-    match b.filled() {
-        None => Ok(None),
-        Some(f) => Ok(Some(f.vote)),
-    }
+    c.notice(&n, &mut b).expect(rt, "memory");
+    b
 }
 
 /// A client of a daemon that votes as a votes word says; none where it is none.
-fn scripted(alloc: Global, votes: &[u8]) -> Result<Option<DaemonClient>, NoMemory> {
-    match ScriptClient::made(alloc, votes)? {
-        None => Ok(None),
-        Some(c) => Ok(Some(DaemonClient::Script(c))),
+fn scripted(rt: &impl Abort, alloc: Global, votes: &[u8]) -> Option<DaemonClient> {
+    match ScriptClient::made(alloc, votes).expect(rt, "memory") {
+        None => None,
+        Some(c) => Some(DaemonClient::Script(c)),
     }
 }
 
@@ -93,90 +85,82 @@ fn is_cast(b: &Ballot, vote: Vote, value: &[u8]) -> bool {
     }
 }
 
-/// Does a client with this votes word cast this vote and value?
-fn casts(alloc: Global, votes: &[u8], vote: Vote, value: &[u8]) -> Result<bool, NoMemory> {
-    match scripted(alloc, votes)? {
-        None => Ok(false),
-        Some(c) => {
-            let mut c = c;
-            let b = ballot_of(alloc, &mut c)?;
-            Ok(is_cast(&b, vote, value))
-        }
-    }
-}
-
-/// Is it no votes word?
-fn is_no_script(alloc: Global, votes: &[u8]) -> Result<bool, NoMemory> {
-    Ok(scripted(alloc, votes)?.is_none())
+/// Does a client with this votes word continue with this value?
+fn continues(rt: &impl Abort, alloc: Global, votes: &[u8], value: &[u8]) -> bool {
+    let mut c = scripted(rt, alloc, votes).expect(rt, "a client");
+    is_cast(&ballot_of(rt, alloc, &mut c), Vote::Continue, value)
 }
 
 #[test]
 fn scripts_vote(rt: HostRuntime) {
     let alloc = rt.alloc();
-    let is_said = casts(alloc, b"C=%41,-,R", Vote::Continue, b"A");
-    assert!(rt; is_said.expect(&rt, "memory"));
-    assert!(rt; is_no_script(alloc, b"boxed").expect(&rt, "memory"));
+    assert!(rt; continues(&rt, alloc, b"C=%41,-,R", b"A"));
+    assert!(rt; scripted(&rt, alloc, b"boxed").is_none());
 }
 
-/// The vote of a client that always approves.
-fn steady_vote(alloc: Global) -> Result<Option<Vote>, NoMemory> {
-    vote_of(alloc, &mut SteadyClient { alloc })
+/// Is it filled with this vote?
+fn has_vote(b: &Ballot, vote: Vote) -> bool {
+    match b.filled() {
+        None => false,
+        Some(f) => f.vote == vote,
+    }
 }
 
-/// The vote of the object of this test's own, as a daemon holds it.
-fn boxed_vote(alloc: Global) -> Result<Option<Vote>, NoMemory> {
-    let inner: Box<dyn Callbacks> = Box::new(alloc, Rejecting { alloc })?;
-    vote_of(alloc, &mut DaemonClient::Boxed(BoxedClient { inner }))
+/// The ballot of the object of this test's own, as a daemon holds it.
+fn boxed_ballot(rt: &impl Abort, alloc: Global) -> Ballot {
+    let inner: Box<dyn Callbacks> = Box::new(alloc, Rejecting { alloc }).expect(rt, "memory");
+    ballot_of(rt, alloc, &mut DaemonClient::Boxed(BoxedClient { inner }))
 }
 
 #[test]
 fn objects_vote(rt: HostRuntime) {
     let alloc = rt.alloc();
-    assert!(rt; steady_vote(alloc).expect(&rt, "memory") == Some(Vote::Approve));
-    assert!(rt; boxed_vote(alloc).expect(&rt, "memory") == Some(Vote::Reject));
+    let steady = ballot_of(&rt, alloc, &mut SteadyClient { alloc });
+    assert!(rt; has_vote(&steady, Vote::Approve));
+    assert!(rt; has_vote(&boxed_ballot(&rt, alloc), Vote::Reject));
 }
 
-/// A ballot of level 1 that can be filled.
-fn new_ballot() -> Ballot {
-    Ballot::new(true, 1)
-}
-
-/// Fills a ballot with an approval, this value and the message `hi`.
-fn fill(alloc: Global, b: &mut Ballot, value: &[u8]) -> Result<bool, NoMemory> {
+/// Fills a ballot with an approval, this value and the message `hi`, and answers whether it could.
+fn fill(rt: &impl Abort, alloc: Global, b: &mut Ballot, value: &[u8]) -> bool {
     b.set(alloc, Vote::Approve, Some(value), Some(b"hi"))
+        .expect(rt, "memory")
 }
 
-/// Is an equal ballot filled with an approval, this value and the message `hi`?
-fn is_filled(alloc: Global, b: &Ballot, value: &[u8]) -> Result<bool, NoMemory> {
-    let copy = b.copy(alloc)?;
-    match copy.get() {
-        Some((Vote::Approve, Some(v), Some(m))) => Ok(v == value && m == b"hi".as_slice()),
-        _ => Ok(false),
+/// Is it filled with an approval, this value and the message `hi`?
+fn is_filled(b: &Ballot, value: &[u8]) -> bool {
+    match b.get() {
+        Some((Vote::Approve, Some(v), Some(m))) => v == value && m == b"hi".as_slice(),
+        _ => false,
     }
+}
+
+/// An equal ballot.
+fn copied(rt: &impl Abort, alloc: Global, b: &Ballot) -> Ballot {
+    b.copy(alloc).expect(rt, "memory")
 }
 
 #[test]
 fn limits_of_ballots(rt: HostRuntime) {
     let alloc = rt.alloc();
     let long = [65u8; 257];
-    let mut b = new_ballot();
-    assert!(rt; !fill(alloc, &mut b, &long).expect(&rt, "memory"));
-    assert!(rt; fill(alloc, &mut b, &long[..256]).expect(&rt, "memory"));
-    assert!(rt; !fill(alloc, &mut b, b"x").expect(&rt, "memory"));
-    assert!(rt; is_filled(alloc, &b, &long[..256]).expect(&rt, "memory"));
+    let mut b = Ballot::new(true, 1);
+    assert!(rt; !fill(&rt, alloc, &mut b, &long));
+    assert!(rt; fill(&rt, alloc, &mut b, &long[..256]));
+    assert!(rt; !fill(&rt, alloc, &mut b, b"x"));
+    assert!(rt; is_filled(&copied(&rt, alloc, &b), &long[..256]));
 }
 
-/// Does the word stand for this text?
-fn is_text(alloc: Global, w: &[u8], text: &[u8]) -> Result<bool, NoMemory> {
-    match text_word(alloc, w)? {
-        None => Ok(false),
-        Some(bytes) => Ok(bytes.as_slice() == text),
+/// The text that a word stands for.
+fn text(rt: &impl Abort, alloc: Global, w: &[u8]) -> Option<List<u8>> {
+    text_word(alloc, w).expect(rt, "memory")
+}
+
+/// Is it there, with these bytes?
+fn is_text(text: &Option<List<u8>>, bytes: &[u8]) -> bool {
+    match text {
+        None => false,
+        Some(text) => text.as_slice() == bytes,
     }
-}
-
-/// Does the word stand for no text?
-fn is_no_text(alloc: Global, w: &[u8]) -> Result<bool, NoMemory> {
-    Ok(text_word(alloc, w)?.is_none())
 }
 
 /// Is it a rejection with an empty value?
@@ -187,27 +171,23 @@ fn is_bare_rejection(i: &VoteItem) -> bool {
     }
 }
 
-/// Does the word stand for a rejection with an empty value?
-fn is_empty_rejection(alloc: Global, w: &[u8]) -> Result<bool, NoMemory> {
-    match vote_word(alloc, w)? {
-        None => Ok(false),
-        Some(i) => Ok(is_bare_rejection(&i)),
-    }
+/// The vote that a word stands for.
+fn vote(rt: &impl Abort, alloc: Global, w: &[u8]) -> VoteItem {
+    let item = vote_word(alloc, w).expect(rt, "memory");
+    item.expect(rt, "a vote word")
 }
 
-/// How many items a votes word has; none where it is none.
-fn count_of(alloc: Global, w: &[u8]) -> Result<Option<usize>, NoMemory> {
-    match votes_word(alloc, w)? {
-        None => Ok(None),
-        Some(items) => Ok(Some(items.len())),
-    }
+/// How many items a votes word has.
+fn count_of(rt: &impl Abort, alloc: Global, w: &[u8]) -> usize {
+    let items = votes_word(alloc, w).expect(rt, "memory");
+    items.expect(rt, "a votes word").len()
 }
 
 #[test]
 fn words(rt: HostRuntime) {
     let alloc = rt.alloc();
-    assert!(rt; is_text(alloc, b"%41b", b"Ab").expect(&rt, "memory"));
-    assert!(rt; is_no_text(alloc, b"%4").expect(&rt, "memory"));
-    assert!(rt; is_empty_rejection(alloc, b"R=~").expect(&rt, "memory"));
-    assert!(rt; count_of(alloc, b"A,-").expect(&rt, "memory") == Some(2));
+    assert!(rt; is_text(&text(&rt, alloc, b"%41b"), b"Ab"));
+    assert!(rt; text(&rt, alloc, b"%4").is_none());
+    assert!(rt; is_bare_rejection(&vote(&rt, alloc, b"R=~")));
+    assert!(rt; count_of(&rt, alloc, b"A,-") == 2);
 }

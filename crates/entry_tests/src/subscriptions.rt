@@ -1,6 +1,6 @@
 //! The subscriptions of a group, which of them are noted, and which are refused.
 use proposal_core::GroupState;
-use rsct_packet::{NoMemory, Text};
+use rsct_packet::{List, Text};
 use std::alloc::Global;
 use std::process::Abort;
 use subscribe_core::{ClientToken, SubFault, SubToken, Subs};
@@ -19,50 +19,25 @@ fn add(
     Ok(token.n)
 }
 
-/// Are these the subscriptions of `db`?
-fn are_live(alloc: Global, subs: &Subs, tokens: &[SubToken]) -> Result<bool, NoMemory> {
-    Ok(subs.tokens(alloc, b"db")?.as_slice() == tokens)
-}
-
-/// The text of these bytes.
-fn text(rt: &impl Abort, alloc: Global, bytes: &[u8]) -> Text {
-    let text = Text::of(alloc, bytes).expect(rt, "memory");
-    text.expect(rt, "a text")
+/// The subscriptions of `db`.
+fn live(rt: &impl Abort, alloc: Global, subs: &Subs) -> List<SubToken> {
+    subs.tokens(alloc, b"db").expect(rt, "memory")
 }
 
 /// The state of a group without members and with this value.
 fn state(rt: &impl Abort, alloc: Global, value: &[u8]) -> GroupState {
+    let text = Text::of(alloc, value).expect(rt, "memory");
     let mut s = GroupState::empty(alloc);
-    s.value = text(rt, alloc, value);
+    s.value = text.expect(rt, "a text");
     s
 }
 
-/// Are these noted where `db` changes from an empty state to this one?
-fn are_noted_after(
-    alloc: Global,
-    subs: &Subs,
-    after: &GroupState,
-    tokens: &[SubToken],
-) -> Result<bool, NoMemory> {
+/// Those noted where the value of `db` changes from empty to this one.
+fn noted(rt: &impl Abort, alloc: Global, subs: &Subs, value: &[u8]) -> List<SubToken> {
     let before = GroupState::empty(alloc);
-    Ok(subs.notes(alloc, b"db", &before, after)?.as_slice() == tokens)
-}
-
-/// Are these noted where the value of `db` changes from empty to this one?
-fn are_noted(
-    rt: &impl Abort,
-    alloc: Global,
-    subs: &Subs,
-    value: &[u8],
-    tokens: &[SubToken],
-) -> bool {
     let after = state(rt, alloc, value);
-    are_noted_after(alloc, subs, &after, tokens).expect(rt, "memory")
-}
-
-/// Ends a subscription, and answers whether it was live.
-fn remove(subs: &mut Subs, token: SubToken) -> bool {
-    subs.remove(token)
+    subs.notes(alloc, b"db", &before, &after)
+        .expect(rt, "memory")
 }
 
 #[test]
@@ -74,10 +49,10 @@ fn live_tokens_are_noted(rt: HostRuntime) {
     assert!(rt; add(&rt, alloc, &mut subs, 1, b"db", true) == Ok(1));
     assert!(rt; add(&rt, alloc, &mut subs, 2, b"HostMembership", false) == Ok(2));
     assert!(rt; add(&rt, alloc, &mut subs, 2, b"db", true) == Ok(3));
-    assert!(rt; are_live(alloc, &subs, &[first, third]).expect(&rt, "memory"));
-    assert!(rt; are_noted(&rt, alloc, &subs, b"", &[]));
-    assert!(rt; remove(&mut subs, first));
-    assert!(rt; are_noted(&rt, alloc, &subs, b"x", &[third]));
+    assert!(rt; live(&rt, alloc, &subs).as_slice() == [first, third].as_slice());
+    assert!(rt; noted(&rt, alloc, &subs, b"").as_slice().is_empty());
+    assert!(rt; subs.remove(first));
+    assert!(rt; noted(&rt, alloc, &subs, b"x").as_slice() == [third].as_slice());
 }
 
 #[test]

@@ -1,12 +1,13 @@
 //! Heads, fields and writers: that memory which is there is used, and bytes that were written elsewhere.
 use rsct_packet::{
-    Fields, Head, List, Mask, Member, Name, Packet, ProtoId, ProviderId, Providers, RingId, Text,
-    ViewId, put_bytes, put_mask, put_member, put_name, put_optional_bytes, put_optional_proto,
-    put_optional_u32, put_proto, put_provider, put_providers, put_ring, put_u8, put_u16, put_u32,
-    put_u64, put_view, read_optional_bytes, read_optional_proto, read_optional_u32, read_providers,
-    write_head, write_head2,
+    Fields, Head, List, Mask, Member, Name, NoMemory, Packet, ProtoId, ProviderId, Providers,
+    RingId, Text, ViewId, put_bytes, put_mask, put_member, put_name, put_optional_bytes,
+    put_optional_proto, put_optional_u32, put_proto, put_provider, put_providers, put_ring, put_u8,
+    put_u16, put_u32, put_u64, put_view, read_optional_bytes, read_optional_proto,
+    read_optional_u32, read_providers, write_head, write_head2,
 };
-use std::test::Fail;
+use std::alloc::Global;
+use std::process::Abort;
 
 /// The heartbeat of node 2 to node 1 on network 1, in the ring `3.1.3`.
 const HEARTBEAT: [u8; 25] = [
@@ -14,237 +15,314 @@ const HEARTBEAT: [u8; 25] = [
     0x00, 0x00, 0x00, 0x03, 0x03, 0x00, 0x00, 0x00, 0x01,
 ];
 
-#[test]
-fn a_heartbeat_is_read(rt: HostRuntime) -> Result<(), Fail> {
-    let packet = Packet::read(&HEARTBEAT).ok_or("a packet")?;
-    assert_eq!(rt;
-        packet.head,
-        Head {
-            kind: 1,
-            network: 1,
-            from: 2,
-            to: 1,
-            inc: 1
-        }
-    );
-    assert_eq!(rt; packet.level, 1);
+const RING: RingId = RingId {
+    leader: 3,
+    inc: 1,
+    number: 3,
+};
+
+const VIEW: ViewId = ViewId {
+    number: 2,
+    coord: 1,
+    inc: 3,
+};
+
+const PROTO: ProtoId = ProtoId {
+    view: VIEW,
+    place: 4,
+};
+
+const FIRST: ProviderId = ProviderId {
+    node: 1,
+    inc: 1,
+    instance: 7,
+    join: 1,
+};
+
+const SECOND: ProviderId = ProviderId {
+    node: 2,
+    inc: 1,
+    instance: 7,
+    join: 1,
+};
+
+/// The head of the heartbeat.
+const HEAD: Head = Head {
+    kind: 1,
+    network: 1,
+    from: 2,
+    to: 1,
+    inc: 1,
+};
+
+/// Is it the heartbeat?
+fn is_heartbeat(packet: &Packet<'_>) -> bool {
     let mut fields = Fields::new(packet.body);
-    assert_eq!(rt;
-        fields.take_ring(),
-        Some(RingId {
-            leader: 3,
-            inc: 1,
-            number: 3
-        })
-    );
-    assert!(rt; fields.rest().is_empty());
-    Ok(())
+    packet.head == HEAD
+        && packet.level == 1
+        && fields.take_ring() == Some(RING)
+        && fields.rest().is_empty()
 }
 
 #[test]
-fn no_part_of_a_heartbeat_is_a_packet(rt: HostRuntime) -> Result<(), Fail> {
+fn a_heartbeat_is_read(rt: HostRuntime) {
+    let packet = Packet::read(&HEARTBEAT).expect(&rt, "a packet");
+    assert!(rt; is_heartbeat(&packet));
+}
+
+/// The heartbeat and one byte more.
+fn longer(rt: &impl Abort, alloc: Global) -> Vec<u8> {
+    let mut bytes = Vec::from_slice(alloc, &HEARTBEAT).expect(rt, "memory");
+    bytes.push(0).expect(rt, "memory");
+    bytes
+}
+
+#[test]
+fn no_part_of_a_heartbeat_is_a_packet(rt: HostRuntime) {
     for n in 0..25usize {
-        assert!(rt; Packet::read(&HEARTBEAT[..n]).is_none(), "at {n}");
+        assert!(rt; Packet::read(&HEARTBEAT[..n]).is_none());
     }
-    let mut longer = Vec::from_slice(rt.alloc(), &HEARTBEAT)?;
-    longer.push(0)?;
-    assert!(rt; Packet::read(&longer).is_none());
-    Ok(())
+    assert!(rt; Packet::read(&longer(&rt, rt.alloc())).is_none());
+}
+
+/// A packet of level 2 in domain 9, with this kind, that was written elsewhere.
+fn level_2(kind: u8) -> [u8; 20] {
+    [
+        0x52, 0x47, 2, kind, 4, 32, 0, 0, 0, 0, 0, 7, 0, 0, 0, 0, 0, 0, 0, 9,
+    ]
+}
+
+/// Is there a packet of level 2 with this kind?
+fn has_level_2(kind: u8) -> bool {
+    kind >= 14 && kind <= 21
+}
+
+/// Is it the packet of level 2 with this kind?
+fn is_level_2(packet: &Packet<'_>, kind: u8) -> bool {
+    let head = Head {
+        kind,
+        network: 4,
+        from: 32,
+        to: 0,
+        inc: 7,
+    };
+    packet.head == head && packet.level == 2 && packet.domain == 9
+}
+
+/// Is the packet of level 2 read exactly where there is one?
+fn is_read_at_level_2(kind: u8) -> bool {
+    match Packet::read(&level_2(kind)) {
+        Some(packet) => has_level_2(kind) && is_level_2(&packet, kind),
+        None => !has_level_2(kind),
+    }
 }
 
 #[test]
-#[tactic(auto, unfolding(rsct_packet::specs::Packet::is_head))]
-fn kinds_14_to_21_have_two_levels(rt: HostRuntime) -> Result<(), Fail> {
+fn kinds_14_to_21_have_two_levels(rt: HostRuntime) {
     for kind in 1..24u8 {
-        let head = Head {
-            kind,
-            network: 4,
-            from: 32,
-            to: 0,
-            inc: 7,
-        };
-        let mut bytes = Vec::new(rt.alloc());
-        if kind >= 14 && kind <= 21 {
-            write_head2(&mut bytes, &head, 9, 0)?;
-        } else {
-            bytes.extend_from_slice(&[
-                0x52, 0x47, 2, kind, 4, 32, 0, 0, 0, 0, 0, 7, 0, 0, 0, 0, 0, 0, 0, 9,
-            ])?;
-        }
-        match Packet::read(&bytes) {
-            Some(packet) => {
-                assert!(rt; kind >= 14 && kind <= 21, "kind {kind}");
-                assert!(rt; packet.head == head && packet.level == 2 && packet.domain == 9);
-            }
-            None => assert!(rt; kind < 14 || kind > 21, "kind {kind}"),
-        }
+        assert!(rt; is_read_at_level_2(kind));
     }
-    Ok(())
+}
+
+/// Is the head of level 2 written as it was elsewhere?
+#[tactic(auto, unfolding(rsct_packet::specs::Packet::is_head))]
+fn is_written_at_level_2(alloc: Global, kind: u8) -> Result<bool, NoMemory> {
+    if kind < 14 || kind > 21 {
+        return Ok(false);
+    }
+    let head = Head {
+        kind,
+        network: 4,
+        from: 32,
+        to: 0,
+        inc: 7,
+    };
+    let mut bytes = Vec::new(alloc);
+    write_head2(&mut bytes, &head, 9, 0)?;
+    Ok(bytes.as_slice() == level_2(kind).as_slice())
+}
+
+#[test]
+fn heads_of_level_2_are_written(rt: HostRuntime) {
+    for kind in 14..22u8 {
+        assert!(rt; is_written_at_level_2(rt.alloc(), kind).expect(&rt, "memory"));
+    }
 }
 
 #[test]
 #[tactic(auto, unfolding(rsct_packet::specs::Packet::is_head))]
-fn a_heartbeat_is_written(rt: HostRuntime) -> Result<(), Fail> {
+fn a_heartbeat_is_written(rt: HostRuntime) {
     let mut bytes = Vec::new(rt.alloc());
-    write_head(
-        &mut bytes,
-        &Head {
-            kind: 1,
-            network: 1,
-            from: 2,
-            to: 1,
-            inc: 1,
-        },
-        9,
-    )?;
-    put_ring(
-        &mut bytes,
-        RingId {
-            leader: 3,
-            inc: 1,
-            number: 3,
-        },
-    )?;
+    write_head(&mut bytes, &HEAD, 9).expect(&rt, "memory");
+    put_ring(&mut bytes, RING).expect(&rt, "memory");
     assert!(rt; bytes.as_slice() == HEARTBEAT.as_slice());
+}
+
+/// Writes a field of each kind.
+fn put_fields(out: &mut Vec<u8>) -> Result<(), NoMemory> {
+    put_u8(out, 5)?;
+    put_u16(out, 300)?;
+    put_u32(out, 66000)?;
+    put_u64(out, 70000)?;
+    put_bytes(out, b"red")?;
+    put_name(out, b"db")?;
+    put_proto(out, PROTO)?;
+    put_mask(out, Mask::empty().with(1).with(32))?;
+    put_member(out, Member { node: 2, inc: 9 })?;
     Ok(())
 }
 
+/// Do these bytes begin with the numbers that were written?
+fn are_numbers(fields: &mut Fields<'_>) -> bool {
+    fields.take_u8() == Some(5)
+        && fields.take_u16() == Some(300)
+        && fields.take_u32() == Some(66000)
+        && fields.take_u64() == Some(70000)
+}
+
+/// Are these the other fields that were written?
+fn are_others(fields: &mut Fields<'_>) -> bool {
+    fields.take_bytes() == Some(&b"red"[..])
+        && fields.take_name() == Some(&b"db"[..])
+        && fields.take_proto() == Some(PROTO)
+        && fields.rest() == [128, 0, 0, 1, 2, 0, 0, 0, 9].as_slice()
+}
+
 #[test]
-fn fields_are_written_and_read(rt: HostRuntime) -> Result<(), Fail> {
+fn fields_are_written_and_read(rt: HostRuntime) {
     let mut out = Vec::new(rt.alloc());
-    let proto = ProtoId {
-        view: ViewId {
-            number: 2,
-            coord: 1,
-            inc: 3,
-        },
-        place: 4,
-    };
-    put_u8(&mut out, 5)?;
-    put_u16(&mut out, 300)?;
-    put_u32(&mut out, 66000)?;
-    put_u64(&mut out, 70000)?;
-    put_bytes(&mut out, b"red")?;
-    put_name(&mut out, b"db")?;
-    put_proto(&mut out, proto)?;
-    put_mask(&mut out, Mask::empty().with(1).with(32))?;
-    put_member(&mut out, Member { node: 2, inc: 9 })?;
+    put_fields(&mut out).expect(&rt, "memory");
     let mut fields = Fields::new(&out);
-    assert_eq!(rt; fields.take_u8(), Some(5));
-    assert_eq!(rt; fields.take_u16(), Some(300));
-    assert_eq!(rt; fields.take_u32(), Some(66000));
-    assert_eq!(rt; fields.take_u64(), Some(70000));
-    assert!(rt; fields.take_bytes() == Some(&b"red"[..]));
-    assert!(rt; fields.take_name() == Some(&b"db"[..]));
-    assert_eq!(rt; fields.take_proto(), Some(proto));
-    assert!(rt; fields.rest() == [128, 0, 0, 1, 2, 0, 0, 0, 9].as_slice());
-    Ok(())
+    assert!(rt; are_numbers(&mut fields));
+    assert!(rt; are_others(&mut fields));
 }
 
-#[test]
-fn providers_are_written_and_read(rt: HostRuntime) -> Result<(), Fail> {
-    let p = ProviderId {
-        node: 1,
-        inc: 1,
-        instance: 7,
-        join: 1,
-    };
-    let q = ProviderId {
-        node: 2,
-        inc: 1,
-        instance: 7,
-        join: 1,
-    };
-    let mut out = Vec::new(rt.alloc());
-    put_providers(&mut out, &[p, q])?;
-    let (listed, rest) = read_providers(&out).ok_or("providers")?;
+/// The providers of these bytes, to their end.
+fn providers(rt: &impl Abort, alloc: Global, bytes: &[u8]) -> Providers {
+    let (listed, rest) = read_providers(bytes).expect(rt, "providers");
     assert!(rt; rest.is_empty());
-    let ps = Providers::of_listed(rt.alloc(), &listed)?;
-    assert!(rt; ps.as_slice() == [p, q].as_slice());
-    assert!(rt; ps.copy(rt.alloc())?.without(rt.alloc(), p)?.as_slice() == [q].as_slice());
-    out.clear();
-    put_providers(&mut out, &[p, p])?;
-    assert!(rt; read_providers(&out).is_none());
-    Ok(())
+    Providers::of_listed(alloc, &listed).expect(rt, "memory")
+}
+
+/// Those of an equal list without this one.
+fn without(rt: &impl Abort, alloc: Global, ps: &Providers, p: ProviderId) -> Providers {
+    let copy = ps.copy(alloc).expect(rt, "memory");
+    copy.without(alloc, p).expect(rt, "memory")
 }
 
 #[test]
-fn names_and_texts_are_kept(rt: HostRuntime) -> Result<(), Fail> {
-    let name = Name::of(rt.alloc(), b"db-1")?.ok_or("a name")?;
-    assert!(rt; name.copy(rt.alloc())?.bytes() == b"db-1".as_slice());
-    assert!(rt; Name::of(rt.alloc(), b"d b")?.is_none());
-    let text = Text::of(rt.alloc(), b"red")?.ok_or("a text")?;
-    assert!(rt; text.copy(rt.alloc())?.bytes() == b"red".as_slice());
-    assert!(rt; Mask::empty().with(3).with(2).nodes(rt.alloc())?.as_slice() == [2, 3].as_slice());
-    let mut list = List::of(rt.alloc(), &[1u8])?;
-    list.push(2)?;
-    assert!(rt; list.as_slice() == [1, 2].as_slice());
-    Ok(())
+fn providers_are_written_and_read(rt: HostRuntime) {
+    let alloc = rt.alloc();
+    let mut out = Vec::new(alloc);
+    put_providers(&mut out, &[FIRST, SECOND]).expect(&rt, "memory");
+    let ps = providers(&rt, alloc, &out);
+    assert!(rt; ps.as_slice() == [FIRST, SECOND].as_slice());
+    assert!(rt; without(&rt, alloc, &ps, FIRST).as_slice() == [SECOND].as_slice());
 }
 
 #[test]
-fn optional_fields_and_ids_are_written(rt: HostRuntime) -> Result<(), Fail> {
-    let view = ViewId {
-        number: 2,
-        coord: 1,
-        inc: 3,
-    };
-    let proto = ProtoId { view, place: 4 };
-    let p = ProviderId {
-        node: 1,
-        inc: 1,
-        instance: 7,
-        join: 1,
-    };
+fn providers_differ(rt: HostRuntime) {
     let mut out = Vec::new(rt.alloc());
-    put_optional_u32(&mut out, Some(9))?;
-    put_optional_bytes(&mut out, Some(b"red"))?;
-    put_optional_proto(&mut out, Some(proto))?;
-    put_view(&mut out, view)?;
-    put_provider(&mut out, p)?;
-    let (n, b) = read_optional_u32(&out).ok_or("a number")?;
-    assert_eq!(rt; n, Some(9));
-    let (bytes, b) = read_optional_bytes(b).ok_or("bytes")?;
-    assert!(rt; bytes == Some(&b"red"[..]));
-    let (place, b) = read_optional_proto(b).ok_or("a protocol")?;
-    assert_eq!(rt; place, Some(proto));
-    let mut fields = Fields::new(b);
-    assert_eq!(rt; fields.take_view(), Some(view));
-    assert_eq!(rt; fields.take_provider(), Some(p));
-    Ok(())
+    put_providers(&mut out, &[FIRST, FIRST]).expect(&rt, "memory");
+    assert!(rt; read_providers(&out).is_none());
+}
+
+/// Is a name kept, and a word with a blank none?
+fn name_is_kept(alloc: Global) -> Result<bool, NoMemory> {
+    match Name::of(alloc, b"db-1")? {
+        None => Ok(false),
+        Some(name) => Ok(name.copy(alloc)?.bytes() == b"db-1".as_slice()),
+    }
+}
+
+/// Is a text kept?
+fn text_is_kept(alloc: Global) -> Result<bool, NoMemory> {
+    match Text::of(alloc, b"red")? {
+        None => Ok(false),
+        Some(text) => Ok(text.copy(alloc)?.bytes() == b"red".as_slice()),
+    }
 }
 
 #[test]
-fn lists_grow(rt: HostRuntime) -> Result<(), Fail> {
-    let p = ProviderId {
-        node: 1,
-        inc: 1,
-        instance: 7,
-        join: 1,
-    };
-    let q = ProviderId {
-        node: 2,
-        inc: 1,
-        instance: 7,
-        join: 1,
-    };
-    let mut ps = Providers::one(rt.alloc(), p)?;
-    let qs = Providers::of(rt.alloc(), &[q])?;
-    assert!(rt;
-        ps.with(rt.alloc(), &qs)?
-            .without_all(rt.alloc(), &[p])?
-            .as_slice()
-            == [q].as_slice()
-    );
-    ps.extend(&qs)?;
-    assert_eq!(rt; ps.len(), 2);
-    let mut one = Providers::new(rt.alloc());
-    one.push(p)?;
-    assert_eq!(rt; one.len(), 1);
-    let mut list = List::of(rt.alloc(), &[1u8])?;
-    list.extend(&[2])?;
-    let mut more = List::of(rt.alloc(), &[3u8])?;
-    list.append(&mut more)?;
-    assert!(rt; list.as_slice() == [1, 2, 3].as_slice());
+fn names_and_texts_are_kept(rt: HostRuntime) {
+    let alloc = rt.alloc();
+    assert!(rt; name_is_kept(alloc).expect(&rt, "memory"));
+    assert!(rt; Name::of(alloc, b"d b").expect(&rt, "memory").is_none());
+    assert!(rt; text_is_kept(alloc).expect(&rt, "memory"));
+}
+
+/// Are the nodes of a mask listed in order?
+fn nodes_are_listed(alloc: Global) -> Result<bool, NoMemory> {
+    let nodes = Mask::empty().with(3).with(2).nodes(alloc)?;
+    Ok(nodes.as_slice() == [2, 3].as_slice())
+}
+
+#[test]
+fn nodes_of_masks_are_listed(rt: HostRuntime) {
+    assert!(rt; nodes_are_listed(rt.alloc()).expect(&rt, "memory"));
+}
+
+/// Writes optional fields that are there, and two identities.
+fn put_optional_fields(out: &mut Vec<u8>) -> Result<(), NoMemory> {
+    put_optional_u32(out, Some(9))?;
+    put_optional_bytes(out, Some(b"red"))?;
+    put_optional_proto(out, Some(PROTO))?;
+    put_view(out, VIEW)?;
+    put_provider(out, FIRST)?;
     Ok(())
+}
+
+/// Are these the identities that were written?
+fn are_ids(bytes: &[u8]) -> bool {
+    let mut fields = Fields::new(bytes);
+    fields.take_view() == Some(VIEW) && fields.take_provider() == Some(FIRST)
+}
+
+/// Are the optional fields there that were written, and after them the identities?
+fn are_optional_fields(bytes: &[u8]) -> Option<bool> {
+    let (n, bytes) = read_optional_u32(bytes)?;
+    let (word, bytes) = read_optional_bytes(bytes)?;
+    let (place, bytes) = read_optional_proto(bytes)?;
+    Some(n == Some(9) && word == Some(&b"red"[..]) && place == Some(PROTO) && are_ids(bytes))
+}
+
+#[test]
+fn optional_fields_and_ids_are_written(rt: HostRuntime) {
+    let mut out = Vec::new(rt.alloc());
+    put_optional_fields(&mut out).expect(&rt, "memory");
+    assert!(rt; are_optional_fields(&out) == Some(true));
+}
+
+/// The second provider, of both.
+fn second(rt: &impl Abort, alloc: Global) -> Providers {
+    let ps = Providers::one(alloc, FIRST).expect(rt, "memory");
+    let qs = Providers::of(alloc, &[SECOND]).expect(rt, "memory");
+    let both = ps.with(alloc, &qs).expect(rt, "memory");
+    both.without_all(alloc, &[FIRST]).expect(rt, "memory")
+}
+
+/// Both providers, where the first was pushed.
+fn pushed(rt: &impl Abort, alloc: Global) -> Providers {
+    let mut ps = Providers::new(alloc);
+    ps.push(FIRST).expect(rt, "memory");
+    let qs = Providers::one(alloc, SECOND).expect(rt, "memory");
+    ps.extend(&qs).expect(rt, "memory");
+    ps
+}
+
+#[test]
+fn lists_of_providers_grow(rt: HostRuntime) {
+    let alloc = rt.alloc();
+    assert!(rt; second(&rt, alloc).as_slice() == [SECOND].as_slice());
+    assert!(rt; pushed(&rt, alloc).as_slice() == [FIRST, SECOND].as_slice());
+}
+
+#[test]
+fn lists_grow(rt: HostRuntime) {
+    let mut list = List::of(rt.alloc(), &[1u8]).expect(&rt, "memory");
+    list.push(2).expect(&rt, "memory");
+    list.extend(&[3]).expect(&rt, "memory");
+    let mut more = List::of(rt.alloc(), &[4u8]).expect(&rt, "memory");
+    list.append(&mut more).expect(&rt, "memory");
+    assert!(rt; list.as_slice() == [1, 2, 3, 4].as_slice());
 }

@@ -3,7 +3,6 @@ use adapter_ring::RingPacket;
 use node_state::{Body, Packet};
 use packet_codec::{BodyRef, PacketRef, write_packet};
 use rsct_packet::RingId;
-use std::test::Fail;
 
 /// The heartbeat of node 2 to node 1 on network 1, in the ring `3.1.3`.
 const HEARTBEAT: [u8; 25] = [
@@ -17,22 +16,25 @@ const RING: RingId = RingId {
     number: 3,
 };
 
-#[test]
-fn a_heartbeat_is_read(rt: HostRuntime) {
-    let packet = PacketRef::read(&HEARTBEAT).expect(&rt, "a packet");
-    assert_eq!(rt; packet.from, 2);
-    assert!(rt;
-        matches!(
+/// Is it of node 2, with the heartbeat of the ring `3.1.3`?
+fn is_heartbeat(packet: &PacketRef<'_>) -> bool {
+    packet.from == 2
+        && matches!(
             &packet.body,
             BodyRef::Ring(RingPacket::Heartbeat { ring: RING })
         )
-    );
+}
+
+#[test]
+fn a_heartbeat_is_read(rt: HostRuntime) {
+    let packet = PacketRef::read(&HEARTBEAT).expect(&rt, "a packet");
+    assert!(rt; is_heartbeat(&packet));
     assert!(rt; PacketRef::read(&HEARTBEAT[..24]).is_none());
 }
 
 #[test]
 #[tactic(auto, using(crate::proofs::Samples::heartbeat_is_spelled))]
-fn a_heartbeat_is_written(rt: HostRuntime) -> Result<(), Fail> {
+fn a_heartbeat_is_written(rt: HostRuntime) {
     let packet = Packet {
         network: 1,
         from: 2,
@@ -45,7 +47,6 @@ fn a_heartbeat_is_written(rt: HostRuntime) -> Result<(), Fail> {
         },
     };
     let mut out = Vec::new(rt.alloc());
-    write_packet(rt.alloc(), &mut out, &packet)?;
+    write_packet(rt.alloc(), &mut out, &packet).expect(&rt, "memory");
     assert!(rt; out.as_slice() == HEARTBEAT.as_slice());
-    Ok(())
 }

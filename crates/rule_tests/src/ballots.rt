@@ -1,8 +1,8 @@
 //! Votes, defaults and the outcome of a phase.
 use group_attr::DefaultVote;
 use proposal_core::{RowVote, Vote};
-use rsct_packet::ProviderId;
-use std::test::Fail;
+use rsct_packet::{NoMemory, ProviderId};
+use std::alloc::Global;
 use vote_phases::{Cast, Tally};
 
 const ONE: ProviderId = ProviderId {
@@ -26,23 +26,38 @@ const THREE: ProviderId = ProviderId {
     join: 1,
 };
 
+/// Providers 1 and 2 vote; who does not is taken to reject.
+fn two_voters() -> Tally {
+    Tally::new(&[ONE, TWO], DefaultVote::Reject, 1)
+}
+
+/// The first vote of a voter alone is recorded.
+fn first_votes_are_recorded(tally: &mut Tally) -> bool {
+    tally.cast(TWO, Vote::Continue) == Cast::Recorded
+        && tally.cast(TWO, Vote::Approve) == Cast::Already(Vote::Continue)
+        && tally.cast(THREE, Vote::Approve) == Cast::NotVoter
+}
+
+/// Are these the voters whose votes are missing?
+fn are_open(alloc: Global, tally: &Tally, ps: &[ProviderId]) -> Result<bool, NoMemory> {
+    Ok(tally.open_voters(alloc)?.as_slice() == ps)
+}
+
+/// Is the first voter late, with the default vote for it?
+fn is_first_late(tally: &Tally) -> bool {
+    match tally.row(0) {
+        Some(row) => row.vote == RowVote::Late(DefaultVote::Reject),
+        None => false,
+    }
+}
+
 #[test]
-fn late_voter_is_rejected(rt: HostRuntime) -> Result<(), Fail> {
-    let mut tally = Tally::new(&[ONE, TWO], DefaultVote::Reject, 1);
-    assert_eq!(rt; tally.cast(TWO, Vote::Continue), Cast::Recorded);
-    assert_eq!(rt;
-        tally.cast(TWO, Vote::Approve),
-        Cast::Already(Vote::Continue)
-    );
-    assert_eq!(rt; tally.cast(THREE, Vote::Approve), Cast::NotVoter);
-    assert_eq!(rt; tally.outcome(), None);
-    let open = tally.open_voters(rt.alloc())?;
-    assert_eq!(rt; open.as_slice(), [ONE].as_slice());
+fn late_voter_is_rejected(rt: HostRuntime) {
+    let mut tally = two_voters();
+    assert!(rt; first_votes_are_recorded(&mut tally));
+    assert!(rt; tally.outcome().is_none());
+    assert!(rt; are_open(rt.alloc(), &tally, &[ONE]).expect(&rt, "memory"));
     tally.tick();
-    assert_eq!(rt;
-        tally.row(0).map(|row| row.vote),
-        Some(RowVote::Late(DefaultVote::Reject))
-    );
-    assert_eq!(rt; tally.outcome(), Some(Vote::Reject));
-    Ok(())
+    assert!(rt; is_first_late(&tally));
+    assert!(rt; tally.outcome() == Some(Vote::Reject));
 }

@@ -1,7 +1,7 @@
 //! Two rings become one.
 use adapter_ring::{Ring, RingEvent, RingOut, RingPacket, RingSend, RingSet, RingSettings};
-use rsct_packet::{Mask, RingId};
-use std::test::Fail;
+use rsct_packet::{Mask, NoMemory, RingId};
+use std::alloc::Global;
 
 const SETTINGS: RingSettings = RingSettings {
     addr: [
@@ -10,6 +10,17 @@ const SETTINGS: RingSettings = RingSettings {
     ],
     every: 1,
     misses: 4,
+};
+
+const FIRST: Mask = Mask { bits: 1 };
+
+const BOTH: Mask = Mask { bits: 3 };
+
+/// The ring of node 2 with node 1.
+const SECOND_RING: RingId = RingId {
+    leader: 2,
+    inc: 1,
+    number: 2,
 };
 
 fn heard(packet: RingPacket) -> RingEvent {
@@ -29,38 +40,42 @@ fn to_one(packet: RingPacket) -> RingSend {
 }
 
 /// Node 2 proclaims, and node 1 joins it.
-#[test]
-fn two_become_one_ring(rt: HostRuntime) -> Result<(), Fail> {
-    let one = Mask { bits: 1 };
-    let both = Mask { bits: 3 };
-    let id = RingId {
-        leader: 2,
-        inc: 1,
-        number: 2,
-    };
-    let mut ring = Ring::new(1, 2, 1, SETTINGS);
-    let mut out = RingOut::new(rt.alloc());
-    let first = ring.id();
-    ring.step(rt.alloc(), RingEvent::Tick, &mut out)?;
-    ring.step(rt.alloc(), heard(RingPacket::Join { mask: one }), &mut out)?;
-    ring.step(rt.alloc(), heard(RingPacket::PtcAck { ring: id }), &mut out)?;
-    let want = [
+fn join(ring: &mut Ring, alloc: Global, out: &mut RingOut) -> Result<(), NoMemory> {
+    ring.step(alloc, RingEvent::Tick, out)?;
+    ring.step(alloc, heard(RingPacket::Join { mask: FIRST }), out)?;
+    ring.step(alloc, heard(RingPacket::PtcAck { ring: SECOND_RING }), out)
+}
+
+/// What node 2 sends meanwhile, from its ring of one.
+fn wanted(first: RingId) -> [RingSend; 3] {
+    [
         to_one(RingPacket::Proclaim { ring: first }),
         to_one(RingPacket::Ptc {
-            ring: id,
-            mask: both,
+            ring: SECOND_RING,
+            mask: BOTH,
         }),
         to_one(RingPacket::Commit {
-            ring: id,
-            mask: both,
+            ring: SECOND_RING,
+            mask: BOTH,
         }),
-    ];
-    assert_eq!(rt; out.sends.as_slice(), want.as_slice());
-    let set = RingSet {
-        id,
-        members: both,
+    ]
+}
+
+/// The ring of both, as node 2 has it.
+fn both() -> RingSet {
+    RingSet {
+        id: SECOND_RING,
+        members: BOTH,
         neighbour: 1,
-    };
-    assert_eq!(rt; out.set, Some(set));
-    Ok(())
+    }
+}
+
+#[test]
+fn two_become_one_ring(rt: HostRuntime) {
+    let mut ring = Ring::new(1, 2, 1, SETTINGS);
+    let first = ring.id();
+    let mut out = RingOut::new(rt.alloc());
+    join(&mut ring, rt.alloc(), &mut out).expect(&rt, "memory");
+    assert!(rt; out.sends.as_slice() == wanted(first).as_slice());
+    assert!(rt; out.set == Some(both()));
 }

@@ -1,9 +1,9 @@
 //! Every kind of line, with its faults beside the neighbours that are taken.
-use node_state::{CallLine, Mode};
+use node_state::{CallLine, Config, Mode};
+use rsct_packet::NoMemory;
 use script_lines::{INPUT_LIMIT, ScriptFault, read_script};
 use std::alloc::Global;
 use std::process::Abort;
-use std::test::Fail;
 use world_model::{Event, Line, LineWhy, Script};
 
 fn script(rt: &impl Abort, alloc: Global, text: &[u8]) -> Script {
@@ -26,50 +26,60 @@ fn fault(alloc: Global, text: &[u8]) -> Option<(u32, LineWhy)> {
     }
 }
 
+/// Every setting, with the greatest numbers that are taken.
+const SETTINGS: &[u8] =
+    b"mode asked\nnode 1\nnode 32\nadapter 1 4 10.0.0.1\nadapter 32 4 255.255.255.255\nhb 100 2\nport 65000\nlevel 32 4294967295\ndomain 7\n";
+
+/// Are these the nodes and the addresses of `SETTINGS`?
+fn has_addresses(config: &Config) -> bool {
+    config.nodes.bits == 0x8000_0001
+        && config.addr[3][0] == 0x0a00_0001
+        && config.addr[3][31] == u32::MAX
+        && config.addr[0][0] == 0
+}
+
+/// Are these the other settings of `SETTINGS`?
+fn has_settings(config: &Config) -> bool {
+    config.mode == Mode::Asked
+        && config.every == 100
+        && config.misses == 2
+        && config.port == 65000
+        && config.level_from[31] == u32::MAX
+        && config.domain == 7
+}
+
 #[test]
-fn settings(rt: HostRuntime) -> Result<(), Fail> {
-    let text =
-        b"mode asked\nnode 1\nnode 32\nadapter 1 4 10.0.0.1\nadapter 32 4 255.255.255.255\nhb 100 2\nport 65000\nlevel 32 4294967295\ndomain 7\n";
-    let script = script(&rt, rt.alloc(), text);
-    let config = script.config;
-    assert!(rt; config.mode == Mode::Asked);
-    assert_eq!(rt; config.nodes.bits, 0x8000_0001);
-    assert_eq!(rt; config.addr[3][0], 0x0a00_0001);
-    assert_eq!(rt; config.addr[3][31], u32::MAX);
-    assert_eq!(rt; config.addr[0][0], 0);
-    assert_eq!(rt; config.every, 100);
-    assert_eq!(rt; config.misses, 2);
-    assert_eq!(rt; config.port, 65000);
-    assert_eq!(rt; config.level_from[31], u32::MAX);
-    assert_eq!(rt; config.domain, 7);
+fn settings(rt: HostRuntime) {
+    let script = script(&rt, rt.alloc(), SETTINGS);
+    assert!(rt; has_addresses(&script.config));
+    assert!(rt; has_settings(&script.config));
     assert!(rt; !script.begun);
-    Ok(())
+}
+
+/// Has node 3 its plain address alone, on rings?
+fn has_plain_address(config: &Config) -> bool {
+    config.mode == Mode::Rings && config.addr[0][2] == 0x0a01_0003 && config.addr[0][1] == 0
 }
 
 #[test]
-fn plain_addresses(rt: HostRuntime) -> Result<(), Fail> {
+fn plain_addresses(rt: HostRuntime) {
     let script = script(&rt, rt.alloc(), b"\n# rings\nnode 3\nbegin\n");
-    assert!(rt; script.config.mode == Mode::Rings);
-    assert_eq!(rt; script.config.addr[0][2], 0x0a01_0003);
-    assert_eq!(rt; script.config.addr[0][1], 0);
+    assert!(rt; has_plain_address(&script.config));
     assert!(rt; script.begun);
-    Ok(())
 }
 
 #[test]
-fn events(rt: HostRuntime) -> Result<(), Fail> {
+fn events(rt: HostRuntime) {
     let text =
         b"mode asked\nnode 1\nnode 2\nbegin\nstart 1\nstop 1\nask 1 2 1 2\ntick 2\nrun 10000\ndeliver 1 2 0\ndrop 1 2\n  flow  \ncut 1 1\nheal 1 2 4\ngarbage 1 0aFf\nshow 2 hagsvote\n";
-    assert_eq!(rt; count(rt.alloc(), text), Some(12));
-    Ok(())
+    assert!(rt; count(rt.alloc(), text) == Some(12));
 }
 
 #[test]
-fn calls(rt: HostRuntime) -> Result<(), Fail> {
+fn calls(rt: HostRuntime) {
     let text =
         b"mode fixed\nnode 1\nbegin\nclient 1 a A,C=x,-,R=~\njoin a g 65535 phases=n batch=both default=reject limit=3 source=s sphases=1 slimit=0\nleave a g n\nexpel a g 1 1.1.7.1 1.1.7.1\nstate a g 1 x%20y\nmessage a g n ~\nattrs a g 1 limit=2\nvote a g C=~\nsubscribe a g\nunsubscribe a g\ngoodbye a\n";
-    assert_eq!(rt; count(rt.alloc(), text), Some(11));
-    Ok(())
+    assert!(rt; count(rt.alloc(), text) == Some(11));
 }
 
 /// The node, the instance and the limit of a join.
@@ -98,17 +108,16 @@ fn asked(script: &Script, place: usize) -> Option<u32> {
 }
 
 #[test]
-fn values(rt: HostRuntime) -> Result<(), Fail> {
+fn values(rt: HostRuntime) {
     let text =
         b"mode asked\nnode 1\nnode 2\nbegin\nclient 2 b -\nclient 1 a A\njoin b g 7 slimit=4 limit=77\nask 1 2 1 2\n";
     let script = script(&rt, rt.alloc(), text);
-    assert_eq!(rt; joined(&script, 2), Some((2, 7, 77)));
-    assert_eq!(rt; asked(&script, 3), Some(3));
-    Ok(())
+    assert!(rt; joined(&script, 2) == Some((2, 7, 77)));
+    assert!(rt; asked(&script, 3) == Some(3));
 }
 
 #[test]
-fn bad_settings(rt: HostRuntime) -> Result<(), Fail> {
+fn bad_settings(rt: HostRuntime) {
     for line in [
         b"mode foo\n".as_slice(),
         b"node 33\n".as_slice(),
@@ -122,17 +131,21 @@ fn bad_settings(rt: HostRuntime) -> Result<(), Fail> {
         b"level 3 4294967296\n".as_slice(),
         b"domain 0\n".as_slice(),
     ] {
-        assert_eq!(rt; fault(rt.alloc(), line), Some((1, LineWhy::BadWord)));
+        assert!(rt; fault(rt.alloc(), line) == Some((1, LineWhy::BadWord)));
     }
-    Ok(())
 }
 
-/// The reason against a line after `begin`, in a script of nodes 1 and 2 that are asked for views.
-fn reason(alloc: Global, line: &[u8]) -> Option<LineWhy> {
-    let mut text = Vec::new(alloc);
-    text.extend_from_slice(b"mode asked\nnode 1\nnode 2\nbegin\nclient 1 a A\n")
-        .ok()?;
-    text.extend_from_slice(line).ok()?;
+/// A line after `begin`, in a script of nodes 1 and 2 that are asked for views.
+fn after_begin(alloc: Global, line: &[u8]) -> Result<Vec<u8>, NoMemory> {
+    let head = b"mode asked\nnode 1\nnode 2\nbegin\nclient 1 a A\n";
+    let mut text = Vec::from_slice(alloc, head)?;
+    text.extend_from_slice(line)?;
+    Ok(text)
+}
+
+/// The reason against such a line.
+fn reason(rt: &impl Abort, alloc: Global, line: &[u8]) -> Option<LineWhy> {
+    let text = after_begin(alloc, line).expect(rt, "memory");
     match fault(alloc, &text)? {
         (6, why) => Some(why),
         _ => None,
@@ -140,7 +153,7 @@ fn reason(alloc: Global, line: &[u8]) -> Option<LineWhy> {
 }
 
 #[test]
-fn bad_words(rt: HostRuntime) -> Result<(), Fail> {
+fn bad_words(rt: HostRuntime) {
     for line in [
         b"run 10001\n".as_slice(),
         b"deliver 1 2 4294967296\n".as_slice(),
@@ -157,13 +170,12 @@ fn bad_words(rt: HostRuntime) -> Result<(), Fail> {
         b"vote a g A=\n".as_slice(),
         b"subscribe a g/h\n".as_slice(),
     ] {
-        assert_eq!(rt; reason(rt.alloc(), line), Some(LineWhy::BadWord));
+        assert!(rt; reason(&rt, rt.alloc(), line) == Some(LineWhy::BadWord));
     }
-    Ok(())
 }
 
 #[test]
-fn reasons(rt: HostRuntime) -> Result<(), Fail> {
+fn reasons(rt: HostRuntime) {
     for (line, why) in [
         (b"flow \x7f\n".as_slice(), LineWhy::BadByte),
         (b" # x\n".as_slice(), LineWhy::UnknownWord),
@@ -184,58 +196,39 @@ fn reasons(rt: HostRuntime) -> Result<(), Fail> {
             LineWhy::IsAPacket,
         ),
     ] {
-        assert_eq!(rt; reason(rt.alloc(), line), Some(why));
+        assert!(rt; reason(&rt, rt.alloc(), line) == Some(why));
     }
-    assert_eq!(rt; reason(rt.alloc(), b"client 1 a -\n"), None);
-    assert_eq!(rt;
-        reason(
-            rt.alloc(),
-            b"garbage 1 524701010102010000000001000000090000000303000000\n"
-        ),
-        None
-    );
-    Ok(())
+    assert!(rt; reason(&rt, rt.alloc(), b"client 1 a -\n").is_none());
+    let short = b"garbage 1 524701010102010000000001000000090000000303000000\n";
+    assert!(rt; reason(&rt, rt.alloc(), short).is_none());
+}
+
+/// Is the script's first bad line the one of this number, for this reason?
+fn is_bad(alloc: Global, text: &[u8], number: u32, why: LineWhy) -> bool {
+    fault(alloc, text) == Some((number, why))
 }
 
 #[test]
-fn reasons_before_begin(rt: HostRuntime) -> Result<(), Fail> {
-    assert_eq!(rt;
-        fault(
-            rt.alloc(),
-            b"node 1\nnode 2\nadapter 1 1 1.1.1.1\nadapter 2 2 1.1.1.2\nbegin\n"
-        ),
-        Some((5, LineWhy::NoSharedNetwork))
-    );
-    assert_eq!(rt;
-        fault(
-            rt.alloc(),
-            b"node 1\nnode 2\nadapter 1 1 1.1.1.1\nadapter 2 1 1.1.1.1\n"
-        ),
-        Some((4, LineWhy::OutOfPlace))
-    );
-    assert_eq!(rt;
-        fault(rt.alloc(), b"hb 1 2\nhb 1 2\n"),
-        Some((2, LineWhy::OutOfPlace))
-    );
-    assert_eq!(rt;
-        fault(rt.alloc(), b"node 1\nflow\n"),
-        Some((2, LineWhy::OutOfPlace))
-    );
-    Ok(())
+fn reasons_before_begin(rt: HostRuntime) {
+    let alloc = rt.alloc();
+    let apart = b"node 1\nnode 2\nadapter 1 1 1.1.1.1\nadapter 2 2 1.1.1.2\nbegin\n";
+    assert!(rt; is_bad(alloc, apart, 5, LineWhy::NoSharedNetwork));
+    let same = b"node 1\nnode 2\nadapter 1 1 1.1.1.1\nadapter 2 1 1.1.1.1\n";
+    assert!(rt; is_bad(alloc, same, 4, LineWhy::OutOfPlace));
+    assert!(rt; is_bad(alloc, b"hb 1 2\nhb 1 2\n", 2, LineWhy::OutOfPlace));
+    assert!(rt; is_bad(alloc, b"node 1\nflow\n", 2, LineWhy::OutOfPlace));
 }
 
 /// A comment of so many signs.
-fn comment(alloc: Global, signs: usize) -> Option<Vec<u8>> {
-    let mut text = vec![in alloc; b'#'; signs].ok()?;
-    text.push(b'\n').ok()?;
-    Some(text)
+fn comment(rt: &impl Abort, alloc: Global, signs: usize) -> Vec<u8> {
+    let mut text = vec![in alloc; b'#'; signs].expect(rt, "memory");
+    text.push(b'\n').expect(rt, "memory");
+    text
 }
 
 #[test]
-fn long_inputs(rt: HostRuntime) -> Result<(), Fail> {
-    let longest = comment(rt.alloc(), INPUT_LIMIT - 1).expect(&rt, "a comment");
-    assert_eq!(rt; count(rt.alloc(), &longest), Some(0));
-    let longer = comment(rt.alloc(), INPUT_LIMIT).expect(&rt, "a comment");
-    assert_eq!(rt; fault(rt.alloc(), &longer), Some((1, LineWhy::Long)));
-    Ok(())
+fn long_inputs(rt: HostRuntime) {
+    let alloc = rt.alloc();
+    assert!(rt; count(alloc, &comment(&rt, alloc, INPUT_LIMIT - 1)) == Some(0));
+    assert!(rt; is_bad(alloc, &comment(&rt, alloc, INPUT_LIMIT), 1, LineWhy::Long));
 }

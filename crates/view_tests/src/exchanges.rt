@@ -1,156 +1,177 @@
 //! Answers, installs and bases.
-use rsct_packet::{List, Mask, Member, NoMemory, ViewId};
+use crate::samples::{FIRST, INSTALL, SECOND};
+use rsct_packet::{List, Mask, NoMemory};
 use std::alloc::Global;
-use std::test::Fail;
-use view_exchange::{Answer, AnswerRef, Exchange, Install};
+use std::process::Abort;
+use view_exchange::{Answer, AnswerRef, Base, Exchange, Install};
 
-/// 1.1.1
-const FIRST: ViewId = ViewId {
-    number: 1,
-    coord: 1,
-    inc: 1,
-};
-
-/// 2.1.1
-const SECOND: ViewId = ViewId {
-    number: 2,
-    coord: 1,
-    inc: 1,
-};
-
-/// From 1.1.1; one part, `db`.
-const ANSWER: [u8; 13] = [0, 0, 0, 1, 1, 0, 0, 0, 1, 1, 2, 100, 98];
-
-/// The start 0; the member 1.1.7.1, the empty value, one-phase attributes, and nothing more.
-const STATE: [u8; 32] = [
-    0, 0, 0, 0, 1, 1, 0, 0, 0, 1, 0, 7, 0, 0, 0, 1, 0, 0, 1, 0, 1, 0, 0, 1, 0, 0, 0, 0, 0, 0, 0, 0,
+/// From 1.1.1; one part, `db`, from its start on. Its state has the member 1.1.7.1, the empty value and one-phase
+/// attributes, and its one entry is a leave of that, decided at once, behind its length.
+const SHORT: [u8; 70] = [
+    0, 0, 0, 1, 1, 0, 0, 0, 1, 1, 2, 100, 98, 0, 0, 0, 0, 1, 1, 0, 0, 0, 1, 0, 7, 0, 0, 0, 1, 0, 0,
+    1, 0, 1, 0, 0, 1, 0, 0, 0, 0, 0, 0, 0, 0, 0, 0, 0, 1, 0, 0, 0, 17, 1, 2, 1, 0, 0, 0, 1, 0, 7,
+    0, 0, 0, 1, 0, 0, 0, 2,
 ];
 
-/// A leave of 1.1.7.1, decided at once, behind its length.
-const ENTRY: [u8; 21] = [
-    0, 0, 0, 17, 1, 2, 1, 0, 0, 0, 1, 0, 7, 0, 0, 0, 1, 0, 0, 0, 2,
+/// The same with the entry twice.
+const LONG: [u8; 91] = [
+    0, 0, 0, 1, 1, 0, 0, 0, 1, 1, 2, 100, 98, 0, 0, 0, 0, 1, 1, 0, 0, 0, 1, 0, 7, 0, 0, 0, 1, 0, 0,
+    1, 0, 1, 0, 0, 1, 0, 0, 0, 0, 0, 0, 0, 0, 0, 0, 0, 2, 0, 0, 0, 17, 1, 2, 1, 0, 0, 0, 1, 0, 7,
+    0, 0, 0, 1, 0, 0, 0, 2, 0, 0, 0, 17, 1, 2, 1, 0, 0, 0, 1, 0, 7, 0, 0, 0, 1, 0, 0, 0, 2,
 ];
 
-/// An answer whose list of `db` has so many entries.
-fn answer(alloc: Global, entries: u8) -> Result<Vec<u8>, NoMemory> {
-    let mut out = Vec::from_slice(alloc, &ANSWER)?;
-    out.extend_from_slice(&STATE)?;
-    out.extend_from_slice(&[0, 0, 0, entries])?;
-    for _i in 0..entries {
-        out.extend_from_slice(&ENTRY)?;
-    }
-    Ok(out)
+/// Nodes 1 and 2 are asked for 2.1.1.
+fn asking(alloc: Global) -> Exchange {
+    Exchange::open(alloc, SECOND, Mask::empty().with(1).with(2))
 }
 
-/// An answer of node 1 with one entry, and one of node 2 with two, of those that were asked.
-fn two_answers(alloc: Global) -> Result<Exchange, Fail> {
-    let short = answer(alloc, 1)?;
-    let long = answer(alloc, 2)?;
-    let short = AnswerRef::read(short.as_slice()).ok_or("no answer")?;
-    let long = AnswerRef::read(long.as_slice()).ok_or("no answer")?;
-    let mut x = Exchange::open(alloc, SECOND, Mask::empty().with(1).with(2));
-    x.add(alloc, 1, 1, &short)?;
-    x.add(alloc, 2, 4, &long)?;
-    Ok(x)
+/// Is the answer of these bytes taken, from this node?
+fn takes(
+    rt: &impl Abort,
+    alloc: Global,
+    x: &mut Exchange,
+    node: u8,
+    inc: u32,
+    bytes: &[u8],
+) -> bool {
+    let answer = AnswerRef::read(bytes).expect(rt, "an answer");
+    x.add(alloc, node, inc, &answer).expect(rt, "memory")
+}
+
+/// Are these the nodes that have not answered?
+fn are_unanswered(alloc: Global, x: &Exchange, nodes: &[u8]) -> Result<bool, NoMemory> {
+    Ok(x.unanswered(alloc)?.as_slice() == nodes)
 }
 
 #[test]
-fn the_first_answer_of_who_was_asked_counts(rt: HostRuntime) -> Result<(), Fail> {
-    let bytes = answer(rt.alloc(), 1)?;
-    let one = AnswerRef::read(bytes.as_slice()).ok_or("no answer")?;
-    let mut x = Exchange::open(rt.alloc(), SECOND, Mask::empty().with(1).with(2));
-    assert!(rt; x.add(rt.alloc(), 1, 1, &one)?);
-    assert!(rt; !x.add(rt.alloc(), 1, 1, &one)?);
-    assert!(rt; !x.add(rt.alloc(), 3, 1, &one)?);
+fn the_first_answer_of_who_was_asked_counts(rt: HostRuntime) {
+    let alloc = rt.alloc();
+    let mut x = asking(alloc);
+    assert!(rt; takes(&rt, alloc, &mut x, 1, 1, &SHORT));
+    assert!(rt; !takes(&rt, alloc, &mut x, 1, 1, &SHORT));
+    assert!(rt; !takes(&rt, alloc, &mut x, 3, 1, &SHORT));
     assert!(rt; !x.all());
-    assert_eq!(rt; x.unanswered(rt.alloc())?.as_slice(), [2].as_slice());
-    Ok(())
+    assert!(rt; are_unanswered(alloc, &x, &[2]).expect(&rt, "memory"));
+}
+
+/// The install of an answer of node 1 with one entry, and one of node 2 with two.
+fn of_two_answers(rt: &impl Abort, alloc: Global) -> Install {
+    let mut x = asking(alloc);
+    assert!(rt; takes(rt, alloc, &mut x, 1, 1, &SHORT));
+    assert!(rt; takes(rt, alloc, &mut x, 2, 4, &LONG));
+    x.install(alloc).expect(rt, "memory")
+}
+
+/// Is the list of `db` in 1.1.1 carried, with two entries, and none of 2.1.1?
+fn carries_two_entries(i: &Install) -> bool {
+    i.len(FIRST, b"db") == Some(2)
+        && i.len(SECOND, b"db").is_none()
+        && i.entry(FIRST, b"db", 1).is_some()
+        && i.entry(FIRST, b"db", 2).is_none()
+}
+
+/// Are nodes 1 and 2, which come from 1.1.1, the members of 2.1.1?
+fn has_two_members(i: &Install) -> bool {
+    i.view() == SECOND
+        && i.members().len() == 2
+        && i.has_member(2, 4)
+        && i.came_from(2) == Some(FIRST)
+        && i.came_from(3).is_none()
 }
 
 #[test]
-fn the_longest_list_is_installed(rt: HostRuntime) -> Result<(), Fail> {
-    let x = two_answers(rt.alloc())?;
-    let i = x.install(rt.alloc())?;
-    assert_eq!(rt; i.len(FIRST, b"db"), Some(2));
-    assert_eq!(rt; i.len(SECOND, b"db"), None);
-    assert!(rt; i.entry(FIRST, b"db", 1).is_some());
-    assert!(rt; i.entry(FIRST, b"db", 2).is_none());
-    Ok(())
+fn the_longest_list_is_installed(rt: HostRuntime) {
+    assert!(rt; carries_two_entries(&of_two_answers(&rt, rt.alloc())));
+}
+
+/// An equal install.
+fn copied(rt: &impl Abort, alloc: Global, i: &Install) -> Install {
+    i.copy(alloc).expect(rt, "memory")
 }
 
 #[test]
-fn who_answered_is_a_member(rt: HostRuntime) -> Result<(), Fail> {
-    let x = two_answers(rt.alloc())?;
-    let i = x.install(rt.alloc())?.copy(rt.alloc())?;
-    assert_eq!(rt; i.view(), SECOND);
-    assert_eq!(rt; i.members().len(), 2);
-    assert!(rt; i.has_member(2, 4));
-    assert_eq!(rt; i.came_from(2), Some(FIRST));
-    assert_eq!(rt; i.came_from(3), None);
-    Ok(())
+fn who_answered_is_a_member(rt: HostRuntime) {
+    let alloc = rt.alloc();
+    assert!(rt; has_two_members(&copied(&rt, alloc, &of_two_answers(&rt, alloc))));
+}
+
+/// Is `db` with two entries the one part of the long answer?
+fn has_one_part() -> bool {
+    let Some(answer) = AnswerRef::read(&LONG) else {
+        return false;
+    };
+    let mut parts = answer.parts();
+    let Some(part) = parts.take_first() else {
+        return false;
+    };
+    part.name == b"db".as_slice()
+        && part.len() == 2
+        && part.entry(1).is_some()
+        && part.entry(2).is_none()
+        && parts.take_first().is_none()
 }
 
 #[test]
-fn parts_stand_in_place(rt: HostRuntime) -> Result<(), Fail> {
-    let bytes = answer(rt.alloc(), 2)?;
-    let mut parts = AnswerRef::read(bytes.as_slice())
-        .ok_or("no answer")?
-        .parts();
-    let part = parts.take_first().ok_or("no part")?;
-    assert_eq!(rt; part.name, b"db".as_slice());
-    assert_eq!(rt; part.len(), 2);
-    assert!(rt; part.entry(1).is_some());
-    assert!(rt; part.entry(2).is_none());
-    assert!(rt; parts.take_first().is_none());
-    Ok(())
+fn parts_stand_in_place(rt: HostRuntime) {
+    assert!(rt; has_one_part());
 }
 
-#[test]
-fn one_answer_is_enough_for_one(rt: HostRuntime) -> Result<(), Fail> {
+/// Node 1 is asked alone, and its own answer has no list.
+fn asking_itself(rt: &impl Abort, alloc: Global) -> Exchange {
     let own = Answer {
         node: 1,
         inc: 1,
         view: FIRST,
-        parts: List::new(rt.alloc()),
+        parts: List::new(alloc),
     };
-    let x = Exchange::open_with(rt.alloc(), SECOND, Mask::empty().with(1), own)?;
+    Exchange::open_with(alloc, SECOND, Mask::empty().with(1), own).expect(rt, "memory")
+}
+
+/// How many members the install of an exchange has.
+fn count_members(rt: &impl Abort, alloc: Global, x: Exchange) -> usize {
+    x.install(alloc).expect(rt, "memory").members().len()
+}
+
+#[test]
+fn one_answer_is_enough_for_one(rt: HostRuntime) {
+    let alloc = rt.alloc();
+    let x = asking_itself(&rt, alloc);
     assert!(rt; x.all());
-    assert_eq!(rt; x.install(rt.alloc())?.members().len(), 1);
-    Ok(())
+    assert!(rt; count_members(&rt, alloc, x) == 1);
 }
 
-/// 2.1.1, the member 1.1, and one source: 1.1.1, node 1, `db` with one entry.
-const INSTALL: [u8; 33] = [
-    0, 0, 0, 2, 1, 0, 0, 0, 1, 1, 1, 0, 0, 0, 1, 1, 0, 0, 0, 1, 1, 0, 0, 0, 1, 0, 0, 0, 1, 1, 2,
-    100, 98,
-];
-
-fn install_bytes(alloc: Global) -> Result<Vec<u8>, NoMemory> {
-    let mut bytes = Vec::from_slice(alloc, &INSTALL)?;
-    bytes.extend_from_slice(&STATE)?;
-    bytes.extend_from_slice(&[0, 0, 0, 1])?;
-    bytes.extend_from_slice(&ENTRY)?;
-    Ok(bytes)
+/// The spelling of what is read of these bytes.
+fn spelled_again(rt: &impl Abort, alloc: Global, bytes: &[u8]) -> Vec<u8> {
+    let i = Install::read(alloc, bytes).expect(rt, "memory");
+    let i = i.expect(rt, "an install");
+    let mut out = Vec::new(alloc);
+    i.write(alloc, &mut out).expect(rt, "memory");
+    out
 }
 
 #[test]
-fn an_install_is_read_and_written(rt: HostRuntime) -> Result<(), Fail> {
-    let bytes = install_bytes(rt.alloc())?;
-    let i = Install::read(rt.alloc(), bytes.as_slice())?.ok_or("no install")?;
-    let mut out = Vec::new(rt.alloc());
-    i.write(rt.alloc(), &mut out)?;
-    assert!(rt; out.as_slice() == bytes.as_slice());
-    Ok(())
+fn an_install_is_read_and_written(rt: HostRuntime) {
+    let again = spelled_again(&rt, rt.alloc(), &INSTALL);
+    assert!(rt; again.as_slice() == INSTALL.as_slice());
+}
+
+/// The base of `db` in the install of these bytes.
+fn base_of(rt: &impl Abort, alloc: Global, bytes: &[u8]) -> Base {
+    let i = Install::read(alloc, bytes).expect(rt, "memory");
+    let i = i.expect(rt, "an install");
+    let base = i.base(alloc, b"db").expect(rt, "memory");
+    base.expect(rt, "a base")
+}
+
+/// Is it led by node 1, one entry long, with one member and nobody failed?
+fn is_short(base: &Base) -> bool {
+    base.leader == 1
+        && base.len == 1
+        && base.state.members.len() == 1
+        && base.state.failed.len() == 0
 }
 
 #[test]
-fn an_install_has_a_base(rt: HostRuntime) -> Result<(), Fail> {
-    let bytes = install_bytes(rt.alloc())?;
-    let i = Install::read(rt.alloc(), bytes.as_slice())?.ok_or("no install")?;
-    let base = i.base(rt.alloc(), b"db")?.ok_or("no base")?;
-    assert_eq!(rt; base.leader, 1);
-    assert_eq!(rt; base.len, 1);
-    assert_eq!(rt; base.state.members.len(), 1);
-    assert_eq!(rt; base.state.failed.len(), 0);
-    Ok(())
+fn an_install_has_a_base(rt: HostRuntime) {
+    assert!(rt; is_short(&base_of(&rt, rt.alloc(), &INSTALL)));
 }

@@ -4,4 +4,6 @@
 #[cfg(test)]
 mod exchanges;
 #[cfg(test)]
+mod samples;
+#[cfg(test)]
 mod views;

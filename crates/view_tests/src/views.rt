@@ -1,10 +1,11 @@
 //! Views: who is asked, what is answered, and what is installed.
 ghost use Rattle.std.specs.Prelude.{[]};
 
+use crate::samples::{FIRST, INSTALL, SECOND};
 use proposal_core::{GroupList, GroupState};
 use rsct_packet::{List, Mask, Member, NoMemory, ViewId};
 use std::alloc::Global;
-use std::test::Fail;
+use std::process::Abort;
 use view_core::{OwnLists, ViewEvent, ViewOut, ViewPacket, Views};
 use view_exchange::{AnswerRef, Install, Parts};
 
@@ -26,122 +27,170 @@ impl OwnLists for Nothing {
 /// From 1.2.1, without lists.
 const ANSWER: [u8; 10] = [0, 0, 0, 1, 2, 0, 0, 0, 1, 0];
 
-/// 2.1.1, the member 1.1, and one source: 1.1.1, node 1, and of `db` the list from its start on. Its state has the
-/// member 1.1.7.1, and its one entry is a leave of that, decided at once.
-const CARRIED: [u8; 90] = [
-    0, 0, 0, 2, 1, 0, 0, 0, 1, 1, 1, 0, 0, 0, 1, 1, 0, 0, 0, 1, 1, 0, 0, 0, 1, 0, 0, 0, 1, 1, 2,
-    100, 98, 0, 0, 0, 0, 1, 1, 0, 0, 0, 1, 0, 7, 0, 0, 0, 1, 0, 0, 1, 0, 1, 0, 0, 1, 0, 0, 0, 0, 0,
-    0, 0, 0, 0, 0, 0, 1, 0, 0, 0, 17, 1, 2, 1, 0, 0, 0, 1, 0, 7, 0, 0, 0, 1, 0, 0, 0, 2,
-];
-
-fn view(number: u32, coord: u8) -> ViewId {
-    ViewId {
-        number,
-        coord,
-        inc: 1,
-    }
-}
-
 fn both() -> Mask {
     Mask::empty().with(1).with(2)
 }
 
+/// The view in which a node starts.
+fn start(node: u8) -> ViewId {
+    ViewId {
+        number: 1,
+        coord: node,
+        inc: 1,
+    }
+}
+
 /// A node that starts alone.
-fn alone(alloc: Global, node: u8) -> Result<Views, NoMemory> {
-    let members = List::of(alloc, &[Member { node, inc: 1 }])?;
-    Ok(Views::new(node, 1, view(1, node), members))
+fn alone(rt: &impl Abort, alloc: Global, node: u8) -> Views {
+    let members = List::of(alloc, &[Member { node, inc: 1 }]).expect(rt, "memory");
+    Views::new(node, 1, start(node), members)
 }
 
 /// What an event gives out.
-fn step(alloc: Global, views: &mut Views, e: ViewEvent) -> Result<ViewOut, NoMemory> {
+fn step(rt: &impl Abort, alloc: Global, views: &mut Views, e: ViewEvent) -> ViewOut {
     let mut out = ViewOut::new(alloc);
-    views.step(alloc, e, &Nothing, &mut out)?;
-    Ok(out)
+    views
+        .step(alloc, e, &Nothing, &mut out)
+        .expect(rt, "memory");
+    out
 }
 
-/// PREPARE of node 1 for a view of this number.
-fn prepare(number: u32) -> ViewEvent<'static> {
+/// How many packets an event gives out.
+fn sends(rt: &impl Abort, alloc: Global, views: &mut Views, e: ViewEvent) -> usize {
+    step(rt, alloc, views, e).sends.len()
+}
+
+/// The install that an event gives out.
+fn installs(rt: &impl Abort, alloc: Global, views: &mut Views, e: ViewEvent) -> Install {
+    step(rt, alloc, views, e).install.expect(rt, "an install")
+}
+
+/// Nodes 1 and 2 are asked for a view.
+fn ask() -> ViewEvent<'static> {
+    ViewEvent::Ask { mask: both() }
+}
+
+/// A tick at which the rings ask for no view.
+fn tick() -> ViewEvent<'static> {
+    ViewEvent::Tick { ring_ask: None }
+}
+
+/// PREPARE of node 1 for a view.
+fn prepare(view: ViewId) -> ViewEvent<'static> {
     ViewEvent::Prepare {
         from: 1,
         inc: 1,
-        view: view(number, 1),
+        view,
         mask: both(),
     }
 }
 
-/// Node 1 asks node 2 for 2.1.1, and has its answer.
-fn installing(alloc: Global, one: &mut Views) -> Result<Install, Fail> {
-    step(alloc, one, ViewEvent::Ask { mask: both() })?;
-    let answer = ViewEvent::Answer {
+/// Has it promised this view, and is it frozen?
+fn has_promised(views: &Views, view: ViewId) -> bool {
+    views.promise() == view && views.frozen()
+}
+
+#[test]
+fn who_asks_promises_and_asks_again(rt: HostRuntime) {
+    let alloc = rt.alloc();
+    let mut one = alone(&rt, alloc, 1);
+    assert!(rt; sends(&rt, alloc, &mut one, ask()) == 1);
+    assert!(rt; has_promised(&one, SECOND));
+    assert!(rt; sends(&rt, alloc, &mut one, tick()) == 1);
+}
+
+/// Is the last of these packets an answer?
+fn is_answered(out: &ViewOut) -> bool {
+    match out.sends.as_slice().last() {
+        Some(sent) => matches!(&sent.packet, ViewPacket::Answer { .. }),
+        None => false,
+    }
+}
+
+/// Is the last of these packets a refusal?
+fn is_refused(out: &ViewOut) -> bool {
+    match out.sends.as_slice().last() {
+        Some(sent) => matches!(&sent.packet, ViewPacket::Refuse { .. }),
+        None => false,
+    }
+}
+
+#[test]
+fn who_is_asked_promises_and_answers(rt: HostRuntime) {
+    let alloc = rt.alloc();
+    let mut two = alone(&rt, alloc, 2);
+    assert!(rt; is_answered(&step(&rt, alloc, &mut two, prepare(SECOND))));
+    assert!(rt; two.promise() == SECOND);
+}
+
+#[test]
+fn a_lower_view_is_refused(rt: HostRuntime) {
+    let alloc = rt.alloc();
+    let mut two = alone(&rt, alloc, 2);
+    assert!(rt; is_refused(&step(&rt, alloc, &mut two, prepare(FIRST))));
+    assert!(rt; two.promise() == start(2));
+}
+
+/// The answer of node 2.
+fn answer(rt: &impl Abort) -> ViewEvent<'static> {
+    ViewEvent::Answer {
         from: 2,
         inc: 1,
-        view: view(2, 1),
-        answer: AnswerRef::read(&ANSWER).ok_or("no answer")?,
-    };
-    Ok(step(alloc, one, answer)?.install.ok_or("no install")?)
+        view: SECOND,
+        answer: AnswerRef::read(&ANSWER).expect(rt, "an answer"),
+    }
+}
+
+/// Node 1 asks node 2 for 2.1.1, and has its answer.
+fn installing(rt: &impl Abort, alloc: Global, one: &mut Views) -> Install {
+    step(rt, alloc, one, ask());
+    installs(rt, alloc, one, answer(rt))
+}
+
+/// A node enters the view of its install.
+fn enter(rt: &impl Abort, alloc: Global, views: &mut Views, install: Install) {
+    views.enter(alloc, install).expect(rt, "memory");
+}
+
+/// Is it in 2.1.1 with two members, and not frozen?
+fn has_entered(views: &Views) -> bool {
+    views.current() == SECOND && views.members().len() == 2 && !views.frozen()
 }
 
 #[test]
-fn who_asks_promises_and_asks_again(rt: HostRuntime) -> Result<(), Fail> {
-    let mut one = alone(rt.alloc(), 1)?;
-    let out = step(rt.alloc(), &mut one, ViewEvent::Ask { mask: both() })?;
-    assert_eq!(rt; out.sends.len(), 1);
-    assert_eq!(rt; one.promise(), view(2, 1));
-    assert!(rt; one.frozen());
-    let out = step(rt.alloc(), &mut one, ViewEvent::Tick { ring_ask: None })?;
-    assert_eq!(rt; out.sends.len(), 1);
-    Ok(())
+fn who_promised_enters(rt: HostRuntime) {
+    let alloc = rt.alloc();
+    let mut two = alone(&rt, alloc, 2);
+    step(&rt, alloc, &mut two, prepare(SECOND));
+    let install = installing(&rt, alloc, &mut alone(&rt, alloc, 1));
+    let applied = installs(&rt, alloc, &mut two, ViewEvent::Install { install });
+    enter(&rt, alloc, &mut two, applied);
+    assert!(rt; has_entered(&two));
 }
 
-#[test]
-fn who_is_asked_promises_and_answers(rt: HostRuntime) -> Result<(), Fail> {
-    let mut two = alone(rt.alloc(), 2)?;
-    let mut out = step(rt.alloc(), &mut two, prepare(2))?;
-    assert_eq!(rt; two.promise(), view(2, 1));
-    let sent = out.sends.pop().ok_or("nothing sent")?;
-    assert!(rt; matches!(&sent.packet, ViewPacket::Answer { .. }));
-    Ok(())
+/// Node 1 after its install for both was entered.
+fn installed(rt: &impl Abort, alloc: Global) -> Views {
+    let mut one = alone(rt, alloc, 1);
+    let install = installing(rt, alloc, &mut one);
+    enter(rt, alloc, &mut one, install);
+    one
 }
 
-#[test]
-fn a_lower_view_is_refused(rt: HostRuntime) -> Result<(), Fail> {
-    let mut two = alone(rt.alloc(), 2)?;
-    let mut out = step(rt.alloc(), &mut two, prepare(1))?;
-    assert_eq!(rt; two.promise(), view(1, 2));
-    let sent = out.sends.pop().ok_or("nothing sent")?;
-    assert!(rt; matches!(&sent.packet, ViewPacket::Refuse { .. }));
-    Ok(())
-}
-
-#[test]
-fn who_promised_enters(rt: HostRuntime) -> Result<(), Fail> {
-    let mut one = alone(rt.alloc(), 1)?;
-    let install = installing(rt.alloc(), &mut one)?;
-    let mut two = alone(rt.alloc(), 2)?;
-    step(rt.alloc(), &mut two, prepare(2))?;
-    let out = step(rt.alloc(), &mut two, ViewEvent::Install { install })?;
-    two.enter(rt.alloc(), out.install.ok_or("not applied")?)?;
-    assert_eq!(rt; two.current(), view(2, 1));
-    assert_eq!(rt; two.members().len(), 2);
-    assert!(rt; !two.frozen());
-    Ok(())
-}
-
-#[test]
-fn an_install_goes_out_until_it_is_taken(rt: HostRuntime) -> Result<(), Fail> {
-    let mut one = alone(rt.alloc(), 1)?;
-    let install = installing(rt.alloc(), &mut one)?;
-    one.enter(rt.alloc(), install)?;
-    let out = step(rt.alloc(), &mut one, ViewEvent::Remind)?;
-    assert_eq!(rt; out.sends.len(), 1);
-    let taken = ViewEvent::Taken {
+/// Node 2 has entered 2.1.1.
+fn taken() -> ViewEvent<'static> {
+    ViewEvent::Taken {
         from: 2,
-        view: view(2, 1),
-    };
-    step(rt.alloc(), &mut one, taken)?;
-    let out = step(rt.alloc(), &mut one, ViewEvent::Remind)?;
-    assert_eq!(rt; out.sends.len(), 0);
-    Ok(())
+        view: SECOND,
+    }
+}
+
+#[test]
+fn an_install_goes_out_until_it_is_taken(rt: HostRuntime) {
+    let alloc = rt.alloc();
+    let mut one = installed(&rt, alloc);
+    assert!(rt; sends(&rt, alloc, &mut one, ViewEvent::Remind) == 1);
+    step(&rt, alloc, &mut one, taken());
+    assert!(rt; sends(&rt, alloc, &mut one, ViewEvent::Remind) == 0);
 }
 
 /// The list of a group that nobody has joined.
@@ -150,23 +199,32 @@ fn new_list(alloc: Global) -> GroupList {
     GroupList::new(alloc, GroupState::empty(alloc))
 }
 
-/// How many entries a new list lacks of the one of `db` that comes from 1.1.1.
-fn lacking(alloc: Global, i: &Install) -> Result<Option<usize>, NoMemory> {
-    let list = new_list(alloc);
-    let Some(part) = i.part(view(1, 1), b"db") else {
+/// How many entries a list lacks of the one of `db` that comes from 1.1.1.
+fn lacking(alloc: Global, i: &Install, list: &GroupList) -> Result<Option<usize>, NoMemory> {
+    let Some(part) = i.part(FIRST, b"db") else {
         return Ok(None);
     };
-    match part.lacking_of(alloc, view(1, 1), &list)? {
+    match part.lacking_of(alloc, FIRST, list)? {
         None => Ok(None),
         Some(entries) => Ok(Some(entries.len())),
     }
 }
 
+/// Is `db` its only group?
+fn has_one_group(i: &Install) -> bool {
+    i.group(0) == Some(b"db".as_slice()) && i.group(1).is_none()
+}
+
+/// The install of the sample's bytes.
+fn sample(rt: &impl Abort, alloc: Global) -> Install {
+    let i = Install::read(alloc, &INSTALL).expect(rt, "memory");
+    i.expect(rt, "an install")
+}
+
 #[test]
-fn a_new_list_lacks_what_is_carried(rt: HostRuntime) -> Result<(), Fail> {
-    let i = Install::read(rt.alloc(), &CARRIED)?.ok_or("no install")?;
-    assert_eq!(rt; i.group(0), Some(b"db".as_slice()));
-    assert_eq!(rt; i.group(1), None);
-    assert_eq!(rt; lacking(rt.alloc(), &i)?, Some(1));
-    Ok(())
+fn a_new_list_lacks_what_is_carried(rt: HostRuntime) {
+    let alloc = rt.alloc();
+    let i = sample(&rt, alloc);
+    assert!(rt; has_one_group(&i));
+    assert!(rt; lacking(alloc, &i, &new_list(alloc)).expect(&rt, "memory") == Some(1));
 }
