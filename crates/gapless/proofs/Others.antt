@@ -56,7 +56,6 @@ note_mild (happened.Noted n c v i told) a = absurd a
 
 -- ---- a node that starts
 
-
 -- in the records nobody is left behind, at any node
 pub NoneLeft : List Happened → Type 0
 NoneLeft rs = (p : ProviderId) (m : ℕ) (g : List ℕ) → is_left_behind p (stays m g rs) ≡ false
