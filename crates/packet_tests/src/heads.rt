@@ -227,7 +227,7 @@ fn providers_differ(rt: HostRuntime) {
     assert!(rt; read_providers(&out).is_none());
 }
 
-/// Is a name kept, and a word with a blank none?
+/// Is a name kept?
 fn name_is_kept(alloc: Global) -> Result<bool, NoMemory> {
     match Name::of(alloc, b"db-1")? {
         None => Ok(false),

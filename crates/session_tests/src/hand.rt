@@ -3,7 +3,7 @@ use client_callbacks::Callbacks;
 use client_session::Sessions;
 use group_attr::Attrs;
 use proposal_core::{Entry, GroupList, GroupState, Proposal};
-use rsct_packet::{List, Name, ProviderId, Providers, ViewId};
+use rsct_packet::{List, Name, ProviderId, Providers, Text, ViewId};
 use session_state::{Casts, MemberToken};
 use std::alloc::Global;
 use std::process::Abort;
@@ -30,6 +30,12 @@ pub fn new_list(alloc: Global) -> GroupList {
 fn db(rt: &impl Abort, alloc: Global) -> Name {
     let name = Name::of(alloc, b"db").expect(rt, "memory");
     name.expect(rt, "a name")
+}
+
+/// The value `x`.
+pub fn value(rt: &impl Abort, alloc: Global) -> Text {
+    let text = Text::of(alloc, b"x").expect(rt, "memory");
+    text.expect(rt, "a text")
 }
 
 /// Puts an equal entry at the end of the list, and answers its place.

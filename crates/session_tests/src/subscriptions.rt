@@ -1,9 +1,9 @@
 //! Subscriptions: each fault, beside the neighbour that is taken, and what is noted.
 use crate::calls::{Steady, answered, init, letters, refused, taken};
-use crate::hand::sessions;
+use crate::hand::{sessions, value};
 use client_callbacks::{Told, Why};
 use proposal_core::GroupState;
-use rsct_packet::{ProviderId, Text};
+use rsct_packet::ProviderId;
 use session_state::{Field, GsFault};
 use std::alloc::Global;
 use std::process::Abort;
@@ -45,12 +45,6 @@ fn names(rt: HostRuntime) {
     );
     answered(&rt, subscribe(alloc, &mut s, 32, true), 1);
     refused(&rt, subscribe(alloc, &mut s, 32, true), GsFault::Exists);
-}
-
-/// The value `x`.
-fn value(rt: &impl Abort, alloc: Global) -> Text {
-    let text = Text::of(alloc, b"x").expect(rt, "memory");
-    text.expect(rt, "a text")
 }
 
 /// The state of a group without members whose value is `x`.

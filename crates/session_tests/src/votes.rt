@@ -2,13 +2,13 @@
 ghost use Rattle.std.specs.Prelude.{None};
 
 use crate::calls::{letters, refused, taken};
-use crate::hand::{hand_on, join_db, new_list, sessions};
+use crate::hand::{hand_on, join_db, new_list, sessions, value};
 use client_callbacks::{
     Ballot, BoxedClient, Callbacks, DaemonClient, Made, Notice, ScriptClient, Told,
 };
 use client_session::Sessions;
 use proposal_core::{Entry, GroupList, Proposal, Vote};
-use rsct_packet::{NoMemory, ProviderId, Text};
+use rsct_packet::{NoMemory, ProviderId};
 use session_state::{Casts, Field, GsFault, MemberToken};
 use std::alloc::Global;
 use std::process::Abort;
@@ -32,12 +32,6 @@ impl Callbacks for Rejecting {
     fn told(&mut self, _t: &Told) -> Result<(), NoMemory> {
         Ok(())
     }
-}
-
-/// The value `x`.
-fn value(rt: &impl Abort, alloc: Global) -> Text {
-    let text = Text::of(alloc, b"x").expect(rt, "memory");
-    text.expect(rt, "a text")
 }
 
 /// Hands on that the provider begins to set the value `x` by its second request.
