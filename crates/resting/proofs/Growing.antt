@@ -25,10 +25,10 @@ unfolding with_entry
 put_grows v e = record { name = λ x. refl; leader = λ x. refl; few = λ row w. w; len = λ row. omega arith }
 
 pub forgets_grow : (n : ℕ) → Grows (λ row. record row { list = list_forgotten n row.list })
+unfolding forgotten
 forgets_grow n = record { name = λ x. refl; leader = λ x. refl; few = λ row w. w; len = λ row. same row.list }
   where
     same : (l : Option GroupView) → len_in l ≤ len_in (list_forgotten n l)
-    unfolding forgotten
     same None = omega arith
     same (Some l) = by (nat_le n l.len)
       where

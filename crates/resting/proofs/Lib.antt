@@ -5,3 +5,7 @@ pub mod Walking
 pub mod Growing
 pub mod Beginning
 pub mod Onward
+pub mod Trying
+pub mod Settling
+pub mod Passing
+pub mod Ending

@@ -71,7 +71,7 @@ bones_with g f m (row ∷ rows) o i = by (bytes_eq row.name g) (name_lt g row.na
     by false false e l rest = ap (λ bs. (row.name, row.leader) ∷ bs) (rest (there e))
 
 pub keeps_onward : (s : Core) → Keeps (Onward s) (IsNamed s)
-unfolding len_of list_of
+unfolding len_of list_of row_of with_row
 keeps_onward s =
     record {
       alike = λ a b same v c k. record { orderly = alike a b same k.orderly; bones = ap bones_of same ∙ k.bones; views = v ∙ k.views; config = c ∙ k.config; lens = λ h. len_alike a b same h (k.lens h) };
@@ -79,19 +79,15 @@ keeps_onward s =
     }
   where
     len_alike : (a b : Core) → b.groups ≡ a.groups → (h : List ℕ) → len_of s h ≤ len_of a h → len_of s h ≤ len_of b h
-    unfolding row_of
     len_alike a b same h k = subst (λ (rows : List GroupRow). len_of s h ≤ len_in (row_found h (find (has_name h) rows)).list) (sym same) k
 
     bones_row : (a : Core) (g : List ℕ) (f : GroupRow → GroupRow) → IsNamed s g → Grows f → Onward s a → bones_of (with_row a g f).groups ≡ bones_of s.groups
-    unfolding with_row
     bones_row a g f ok m k = bones_with g f m a.groups k.orderly.order (named_on s a g k ok) ∙ k.bones
 
     views_row : (a : Core) (g : List ℕ) (f : GroupRow → GroupRow) → Onward s a → (with_row a g f).views ≡ s.views
-    unfolding with_row
     views_row a g f k = k.views
 
     config_row : (a : Core) (g : List ℕ) (f : GroupRow → GroupRow) → Onward s a → (with_row a g f).config ≡ s.config
-    unfolding with_row
     config_row a g f k = k.config
 
     lens_row : (a : Core) (g : List ℕ) (f : GroupRow → GroupRow) → Grows f → Onward s a → (h : List ℕ) → (g ≡ h) ⊎ (g ≡ h → ⊥) → len_of s h ≤ len_of (with_row a g f) h

@@ -80,7 +80,7 @@ few_with g f (x ∷ rows) all here new = by (bytes_eq x.name g) (name_lt g x.nam
     by false true h rest = front (f (new_row g)) (x ∷ rows) new all
     by false false h rest = front x (rows_with g f rows) (all x (inl refl)) (rest h new)
 
-row_few : (s : Core) (g : List ℕ) → FewIn s.groups → Few (led_of s g).waiting
+pub row_few : (s : Core) (g : List ℕ) → FewIn s.groups → Few (led_of s g).waiting
 unfolding led_of row_of
 row_few s g all = by (find (has_name g) s.groups) refl
   where
