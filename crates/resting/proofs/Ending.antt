@@ -71,6 +71,18 @@ ended_frozen f s k = by (frozen s)
     by true = refl
     by false = ap is_frozen (views false (rows_or_none s.groups))
 
+pub ended_orderly : (f : Answering) (s : Core) → Orderly s → Orderly (step_ended f s)
+unfolding step_ended
+ended_orderly f s k = by (frozen s)
+  where
+    passed : (length s.groups ≤ 0) ⊎ (1 ≤ length s.groups) → Orderly (passes (most_begun s) (most_begun s) f s)
+    passed (inl z) = subst Orderly (sym (passes_none (most_begun s) (most_begun s) f s (led_none s z))) k
+    passed (inr z) = (passes_onward (most_begun s) (most_begun s) f s (plenty s z) k).orderly
+
+    by : (b : Bool) → Orderly (elim b as (λ _. Core) [ true ↦ s | false ↦ passes (most_begun s) (most_begun s) f s ])
+    by true = k
+    by false = passed (rows_or_none s.groups)
+
 pub ended_same : (f : Answering) (s : Core) → (frozen s ≡ false → AllRest s) → step_ended f s ≡ s
 unfolding step_ended
 ended_same f s all = by (frozen s) refl

@@ -1,6 +1,7 @@
 pub mod Orderly
 pub mod Walk
 pub mod Rows
+pub mod Calling
 pub mod Walking
 pub mod Growing
 pub mod Beginning
@@ -9,3 +10,4 @@ pub mod Trying
 pub mod Settling
 pub mod Passing
 pub mod Ending
+pub mod Law

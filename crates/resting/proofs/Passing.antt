@@ -70,9 +70,9 @@ abbrev Goes_on : List ℕ → Pass → Pass → Pass → Bool → Type 0
 Goes_on g p q r b = Tries g p.core (elim b as (λ _. Pass) [ true ↦ r | false ↦ record { core = q.core; began = p.began } ])
 
 group_try : (n : ℕ) (f : Answering) (g : List ℕ) (p : Pass) → Orderly p.core → IsNamed p.core g → count p.core g < n → Tries g p.core (group_begins n f g p)
-unfolding group_begins
+unfolding group_begins list_of len_of row_of
 group_try zero f g p k named few = absurd (omega (arith, few))
-group_try (suc n) f g p k named few = may (may_begin (list_of p.core g)) refl
+group_try (suc n) f g p k named few = may (may_begin (list_of p.core g)) refl (group_try n f g)
   where
     q : Pass
     q = first_begins f p.core g (row_of p.core g)
@@ -101,14 +101,14 @@ group_try (suc n) f g p k named few = may (may_begin (list_of p.core g)) refl
         let same : (group_begins n f g q).core ≡ q.core = group_rests n f g q r in
         Done (subst (Still g p.core) (sym same) a) (subst (λ (c : Core). Rest c g) (sym same) r)
 
-    by : Outcome g p.core q → len_of p.core g < 4096 → Goes_on g p q (group_begins n f g q) q.began
-    by (Grown a e less) lim = grown q.began refl a e lim less
-    by (Used a e less) lim = used q.began refl a e (group_try n f g q a.onward.orderly (named_on p.core q.core g a.onward named)) less
-    by (Rests a r) lim = rests q.began a r
+    by : ((r : Pass) → Orderly r.core → IsNamed r.core g → count r.core g < n → Tries g r.core (group_begins n f g r)) → Outcome g p.core q → len_of p.core g < 4096 → Goes_on g p q (group_begins n f g q) q.began
+    by rest (Grown a e less) lim = grown q.began refl a e lim less
+    by rest (Used a e less) lim = used q.began refl a e (rest q a.onward.orderly (named_on p.core q.core g a.onward named)) less
+    by rest (Rests a r) lim = rests q.began a r
 
-    may : (m : Bool) → may_begin (list_of p.core g) ≡ m → Goes_on g p q (group_begins n f g q) q.began
-    may true e = by ((first_try f p.core g k named).0 e) (may_below (list_of p.core g) e)
-    may false e =
+    may : (m : Bool) → may_begin (list_of p.core g) ≡ m → ((r : Pass) → Orderly r.core → IsNamed r.core g → count r.core g < n → Tries g r.core (group_begins n f g r)) → Goes_on g p q (group_begins n f g q) q.began
+    may true e rest = by rest ((first_try f p.core g k named).0 e) (may_below (list_of p.core g) e)
+    may false e rest =
         let same : q ≡ quiet p.core = (first_try f p.core g k named).1 e in
         let core : q.core ≡ p.core = ap (λ (z : Pass). z.core) same in
         rests q.began (subst (Still g p.core) (sym core) (still_self g p.core k)) (subst (λ (c : Core). Rest c g) (sym core) (λ z. absurd (let y : true ≡ false = sym z ∙ e in cc)))
@@ -116,7 +116,7 @@ group_try (suc n) f g p k named few = may (may_begin (list_of p.core g)) refl
 -- ---- one pass
 
 -- how many places are left in these groups' lists
-pub room : Core → List (List ℕ) → ℕ
+abbrev pub room : Core → List (List ℕ) → ℕ
 room s [] = 0
 room s (g ∷ gs) = (4096 - len_of s g) + room s gs
 

@@ -52,7 +52,7 @@ P s = Orderly s
 
 -- ---- what is owed is sent
 
-on_request_sent : {s : Core} (q : Request) → P s → P (request_sent s q)
+pub on_request_sent : {s : Core} (q : Request) → P s → P (request_sent s q)
 unfolding request_sent request_to
 on_request_sent {s} q p = on_either (frozen s) p (by (leader_of s q.group))
   where
@@ -64,7 +64,7 @@ pub on_requests : {s : Core} → P s → P (requests_sent s)
 unfolding requests_sent
 on_requests {s} p = on_fold request_sent (λ t q h. on_request_sent q h) s.sessions.requests p
 
-on_kept_sent : {s : Core} (b : KeptBallot) → P s → P (kept_sent s b)
+pub on_kept_sent : {s : Core} (b : KeptBallot) → P s → P (kept_sent s b)
 unfolding kept_sent kept_sent_to vote_of
 on_kept_sent {s} b p = by b.ballot.filled
   where

@@ -54,9 +54,12 @@ use Rattle.node_state.specs.Applying.{Lacking, lacking, own_parts, lists_filled,
 use Rattle.node_state.specs.Ticks.{row_reported, report_row, ring_put, set_records, ring_taken, ring_row_of, ring_row, rings_union, report_of, report_sent, rings_tick, ring_ask, rings_part, views_part, tick_row}
 use Rattle.node_state.specs.Status.{status_text}
 use Rattle.node_state.specs.Step.{NodeEvent, Ticks, Asks, Given, Calls, Garbage, is_used, used_if, order_row, view_row, body_row, packet_row, event_row, stepped, at_work}
-use Rattle.failed_rows.proofs.Origin.{root_of}
+use Rattle.node_state.specs.Ticks.{owed_part, led_part}
+use Rattle.node_state.specs.Ending.{step_ended}
+use Rattle.node_state.specs.Calls.{call_row}
+use Rattle.resting.proofs.Calling.{on_call}
 use Rattle.resting.proofs.Orderly.{Orderly, alike, based, fails_few}
-use Rattle.resting.proofs.Walk.{on_either, on_fold, on_sent_on, on_sent, on_sent_all, on_records, on_record, on_sessions, on_put_handed, on_waiting, on_opened, on_closes, on_ended}
+use Rattle.resting.proofs.Walk.{on_either, on_fold, on_sent_on, on_sent, on_sent_all, on_records, on_record, on_sessions, on_put_handed, on_waiting, on_opened, on_closes}
 use Rattle.session_state.specs.HandOn.{telling_taken}
 use Rattle.node_state.specs.State.{recorded_all}
 use Rattle.resting.proofs.Rows.{on_requests, on_votes, on_owed_part, on_lookup, on_tell, on_name, on_request, on_entry, on_ack, on_vote, on_gone, on_led_part}
@@ -213,11 +216,25 @@ on_packet : (f : Answering) {s : Core} (q : Packet) → P s → P (packet_row f 
 unfolding packet_row
 on_packet f {s} q p = on_either (q.to == s.views.me) (on_body f q q.body p) p
 
--- what holds after the call of a step, or before any other step, holds after it
-pub on_stepped : (f : Answering) (s : Core) (e : NodeEvent) → P (root_of (at_work s) e) → P (stepped f s e)
+-- a step before its end, from the call on
+abbrev pub before_end : Answering → Core → NodeEvent → Core
+before_end f s Ticks = led_part f (owed_part (views_part f (rings_part s)))
+before_end f s (Asks mask) = order_row f s mask
+before_end f s (Given q) = packet_row f s q
+before_end f s (Calls c) = call_row s c
+before_end f s Garbage = s
+
+pub on_before_end : (f : Answering) {s : Core} (e : NodeEvent) → P s → P (before_end f s e)
+on_before_end f Ticks p = on_led_part f (on_owed_part (on_views_part f (on_rings p)))
+on_before_end f (Asks mask) p = on_order f mask p
+on_before_end f (Given q) p = on_packet f q p
+on_before_end f (Calls c) p = on_call c p
+on_before_end f Garbage p = p
+
+pub stepped_is : (f : Answering) (s : Core) (e : NodeEvent) → stepped f s e ≡ step_ended f (before_end f (at_work s) e)
 unfolding stepped event_row tick_row
-on_stepped f s Ticks p = on_ended f (on_led_part f (on_owed_part (on_views_part f (on_rings p))))
-on_stepped f s (Asks mask) p = on_ended f (on_order f mask p)
-on_stepped f s (Given q) p = on_ended f (on_packet f q p)
-on_stepped f s (Calls c) p = on_ended f p
-on_stepped f s Garbage p = on_ended f p
+stepped_is f s Ticks = refl
+stepped_is f s (Asks mask) = refl
+stepped_is f s (Given q) = refl
+stepped_is f s (Calls c) = refl
+stepped_is f s Garbage = refl
