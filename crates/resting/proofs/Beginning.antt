@@ -1,29 +1,20 @@
 -- What appending, closing and beginning keep of the rows of groups.
-use Rattle.std.proofs.Common.{◌≡◌, ◌⊎◌, ℕ, zero, suc, List, [], ◌∷◌, length, ◌++◌, ◌∙◌, Option, Some, None, Bool, true, false, refl, sym, subst, inl, inr, ⊎_elim, append_assoc, append-nil}
+use Rattle.std.proofs.Common.{◌≡◌, ℕ, zero, suc, List, [], ◌∷◌, length, Option, Some, None, Bool, true, false, refl}
 use Rattle.std.specs.Prelude.{not, map, filter, fold, flat_map}
 use Rattle.rsct_packet.specs.declared.ids.ProviderId.{ProviderId}
 use Rattle.rsct_packet.specs.declared.ids.ProtoId.{ProtoId}
-use Rattle.rsct_packet.specs.Lists.{is_empty}
 use Rattle.rsct_packet.specs.Providers.{among}
-use Rattle.rsct_packet.specs.Search.{Has}
-use Rattle.rsct_packet.proofs.HasLaws.{has_append, has_map}
-use Rattle.group_attr.specs.declared.attrs.Attrs.{Attrs}
 use Rattle.group_attr.specs.declared.attrs.Phases.{Phases}
 use Rattle.group_attr.specs.declared.attrs.Phases.TheVariants.{One, Many}
 use Rattle.group_entry.specs.declared.proposal.Cause.TheVariants.{Died, Gone}
-use Rattle.group_entry.specs.declared.proposal.Failure.{Failure}
 use Rattle.group_entry.specs.declared.proposal.Proposal.{Proposal}
-use Rattle.group_entry.specs.declared.proposal.Proposal.TheVariants.{Join, Fail, Reflect}
 use Rattle.group_entry.specs.declared.entry.Entry.{Entry}
 use Rattle.group_entry.specs.declared.entry.Entry.TheVariants.{Once, Begin}
 use Rattle.proposal_core.specs.declared.group_state.GroupState.{GroupState}
 use Rattle.proposal_core.specs.Fold.{max_phases}
 use Rattle.proposal_core.specs.Lists.{list_or_new, with_entry}
-use Rattle.batch_rules.specs.Waiting.{WaitingView, waits_failure, batches_failures, chosen_of, next_failures, failures_left, next_joins, joins_left}
+use Rattle.batch_rules.specs.Waiting.{WaitingView, waits_failure}
 use Rattle.vote_phases.specs.Tally.{TallyView}
-use Rattle.source_target.specs.declared.Due.{Due}
-use Rattle.source_target.specs.declared.Due.TheVariants as due
-use Rattle.source_target.specs.Due as target
 use Rattle.subscribe_core.specs.Subs.{is_of_group, differs}
 use Rattle.client_callbacks.specs.declared.told.Why.{Why}
 use Rattle.client_callbacks.specs.declared.told.Why.TheVariants.{NoSource}
@@ -31,7 +22,6 @@ use Rattle.client_callbacks.specs.declared.ballot.Filled.{Filled}
 use Rattle.client_callbacks.specs.Ballots.{BallotView}
 use Rattle.session_state.specs.declared.casts.Cast.{Cast}
 use Rattle.session_state.specs.declared.state.SessionState.{SessionState}
-use Rattle.session_state.specs.declared.state.Request.{Request}
 use Rattle.session_state.specs.HandOn.{hearers, casts_out, telling_taken}
 use Rattle.session_state.specs.HandOn as session
 use Rattle.node_state.specs.declared.group.GroupRow.{GroupRow}
@@ -41,14 +31,14 @@ use Rattle.node_state.specs.declared.happened.Happened.TheVariants as happened
 use Rattle.node_state.specs.declared.packet.Body.{Body}
 use Rattle.node_state.specs.declared.packet.Body.TheVariants as body
 use Rattle.node_state.specs.declared.state.Core.{Core}
-use Rattle.node_state.specs.State.{row_of, rows_with, with_row, with_led, led_of, state_of, len_of, list_forgotten, fits_at_end, forgets_below, frozen, leader_of, led_groups, others, least_acked, decisions_with, recorded, recorded_all, with_sessions}
+use Rattle.node_state.specs.State.{with_row, with_led, led_of, state_of, len_of, list_forgotten, fits_at_end, forgets_below, frozen, leader_of, others, least_acked, decisions_with, recorded, recorded_all, with_sessions}
 use Rattle.node_state.specs.Sending.{sent_on, sent, sent_all, sent_if_known, network_to, vote_of}
-use Rattle.node_state.specs.HandOn.{Answering, fills, cast_record, cast_records, heard, note_of, notes, noted, ballot_sent, cast_sent_of, casts_sent, handed_on}
+use Rattle.node_state.specs.HandOn.{Answering, fills, heard, note_of, notes, noted, ballot_sent, cast_sent_of, casts_sent, handed_on}
 use Rattle.node_state.specs.Leading.{put, put_and_handed, forgets_least, with_waiting, waits_if, new_members_wait, appended, appended_if, with_tally, tally_set, tally_for, tally_opened, closing_entry, is_phase, closes_from, closes, begun_many, begins}
-use Rattle.node_state.specs.Deciding.{decision_kept, refused, known_state, lacks_source, source_len}
-use Rattle.node_state.specs.Ending.{Pass, quiet, begun_now, failures_begin, due_begins, source_begins, attrs_for, carried_len, source_refused, joins_begin, or_due, or_joins, may_begin, first_begins, group_begins, one_pass, passes, most_begun, step_ended}
+use Rattle.node_state.specs.Deciding.{decision_kept, refused, source_len}
+use Rattle.node_state.specs.Ending.{source_refused}
 
-use Rattle.resting.proofs.Orderly.{MildLed, MildWaits, fails_few, failures_few, joins_few}
+use Rattle.resting.proofs.Orderly.{MildLed, MildWaits, fails_few}
 use Rattle.resting.proofs.Growing.{Grows, led_grows, put_grows, forgets_grow}
 
 -- what is said of a node in the middle of a step depends on its view, its config and its groups alone, and is kept by such changes of

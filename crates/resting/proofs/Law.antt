@@ -1,13 +1,9 @@
 -- In every scene: between events each node that is up and not frozen rests, so the event of a goodbye puts nothing.
-use Rattle.std.proofs.Common.{◌≡◌, ◌≢◌, ◌⊎◌, ℕ, ◌+◌, List, [], ◌∷◌, ◌++◌, Option, Some, None, Bool, true, false, refl, sym, ap, ◌∙◌, subst, inl, inr}
+use Rattle.std.proofs.Common.{◌≡◌, ℕ, ◌+◌, List, [], ◌∷◌, ◌++◌, Option, Some, None, false, refl, sym, ap, ◌∙◌, subst}
 use Rattle.std.specs.Prelude.{fold, find, reverse}
-use Rattle.std.specs.List.{list_any}
-use Rattle.rsct_packet.specs.declared.ids.ViewId.{ViewId}
 use Rattle.rsct_packet.specs.Mask.{nodes_of}
 use Rattle.rsct_packet.specs.Search.{Has}
-use Rattle.group_entry.specs.declared.entry.Entry.{Entry}
 use Rattle.view_core.specs.Views.{is_frozen}
-use Rattle.node_state.specs.declared.call.CallLine.{CallLine}
 use Rattle.node_state.specs.declared.call.CallLine.TheVariants.{Goodbye}
 use Rattle.node_state.specs.declared.config.Config.{Config}
 use Rattle.node_state.specs.declared.happened.Happened.{Happened}
@@ -18,13 +14,11 @@ use Rattle.node_state.specs.State.{row_of, led_of, row_found, frozen, led_groups
 use Rattle.node_state.specs.HandOn.{Answering}
 use Rattle.node_state.specs.Step.{NodeEvent, Calls, at_work, started, stepped}
 use Rattle.node_state.specs.Calls.{call_row}
-use Rattle.node_state.specs.Ending.{step_ended}
 use Rattle.world_model.specs.declared.event.Event.{Event}
 use Rattle.world_model.specs.declared.event.Event.TheVariants as event
-use Rattle.world_model.specs.Run.{Happening}
 use Rattle.run_safety.specs.Past.{History, EachEvent}
 use Rattle.step_ties.specs.Tied.{Scene}
-use Rattle.step_ties.specs.Rows.{at_node, over, nothing_yet, with_records, start_with, starts_too, stopped, ended, all_started}
+use Rattle.step_ties.specs.Rows.{over, nothing_yet, with_records, starts_too, ended, all_started}
 use Rattle.step_ties.specs.Runs.{IsNote, noted}
 use Rattle.step_ties.proofs.Changed.{each_set}
 use Rattle.failed_rows.proofs.Facts.{reverse_has}

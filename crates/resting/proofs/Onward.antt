@@ -1,18 +1,18 @@
 -- From one state to another in the same view: the same groups have rows, under the same leaders, and no list is shorter.
-use Rattle.std.proofs.Common.{◌≡◌, ◌≤◌, ◌⊎◌, ℕ, List, [], ◌∷◌, length, Option, Some, None, Bool, true, false, cond, refl, sym, ap, ◌∙◌, subst, inl, inr, arith}
+use Rattle.std.proofs.Common.{◌≡◌, ◌≤◌, ◌⊎◌, ℕ, List, [], ◌∷◌, length, Option, Bool, true, false, cond, refl, sym, ap, ◌∙◌, subst, inl, inr, arith}
 use Rattle.std.specs.Prelude.{map, filter, find}
 use Rattle.std.specs.Str.{bytes_eq}
 use Rattle.rsct_packet.specs.Text.{name_lt}
 use Rattle.rsct_packet.specs.Search.{Has}
 use Rattle.rsct_packet.proofs.HasLaws.{has_filter, has_map}
-use Rattle.proposal_core.specs.Lists.{list_or_new, len_in}
+use Rattle.proposal_core.specs.Lists.{len_in}
 use Rattle.view_core.specs.declared.views.Views.{Views}
 use Rattle.node_state.specs.declared.config.Config.{Config}
 use Rattle.node_state.specs.declared.group.GroupRow.{GroupRow}
 use Rattle.node_state.specs.declared.state.Core.{Core}
 use Rattle.node_state.specs.State.{new_row, row_found, row_of, rows_with, with_row, list_of, len_of, leader_by, is_this, leader_in, leads_in, led_groups}
 use Rattle.node_groups.specs.Places.{AllAfter, InNameOrder, has_name}
-use Rattle.node_groups.proofs.NameOrder.{text_same, text_self, lt_self, name_lt_trans, cases_text, row_here, row_there}
+use Rattle.node_groups.proofs.NameOrder.{text_self, lt_self, name_lt_trans, cases_text, row_here, row_there}
 use Rattle.resting.proofs.Orderly.{Orderly, alike, on_row}
 use Rattle.resting.proofs.Growing.{Grows}
 use Rattle.resting.proofs.Beginning.{Keeps}

@@ -1,5 +1,5 @@
 -- The groups of a node stand in the order of their names, and in each at most 64 joins and 64 failures wait.
-use Rattle.std.proofs.Common.{◌≡◌, ◌≤◌, ◌<◌, ◌⊎◌, ℕ, ◌+◌, List, [], ◌∷◌, ◌++◌, length, Option, Some, None, Bool, true, false, cond, refl, sym, ap, ◌∙◌, subst, inl, inr, arith, length-append}
+use Rattle.std.proofs.Common.{◌≡◌, ◌≤◌, ◌<◌, ℕ, List, [], ◌∷◌, ◌++◌, length, Option, Some, None, Bool, true, false, cond, refl, sym, subst, inl, inr, arith, length-append}
 use Rattle.std.specs.Prelude.{◌&&◌, not, find, map, filter, nat_lt, nat_le, is_none, if◌then◌else◌}
 use Rattle.std.specs.Str.{bytes_eq}
 use Rattle.std.proofs.lemmas.Bool.{ltb-true, leb-false}
@@ -12,17 +12,15 @@ use Rattle.group_attr.specs.declared.attrs.Attrs.{Attrs}
 use Rattle.group_attr.specs.declared.attrs.Batch.{Batch}
 use Rattle.group_attr.specs.Agree.{agree}
 use Rattle.group_entry.specs.declared.proposal.Cause.{Cause}
-use Rattle.group_entry.specs.declared.proposal.Failure.{Failure}
 use Rattle.group_entry.specs.declared.entry.Vote.{Vote}
 use Rattle.proposal_core.specs.declared.group_state.GroupState.{GroupState}
 use Rattle.proposal_core.specs.Fold.{max_providers, present}
 use Rattle.proposal_core.specs.Lists.{is_at_limit}
 use Rattle.vote_phases.specs.Tally.{TallyView}
-use Rattle.batch_rules.specs.Waiting.{WaitingView, has_instance, waits_join, takes_failure, is_failing, waits_failure, join_dropped, batches_joins, batches_failures, left_of, failures_left, joins_left}
+use Rattle.batch_rules.specs.Waiting.{WaitingView, has_instance, waits_join, is_failing, waits_failure, join_dropped, batches_joins, batches_failures, left_of, failures_left, joins_left}
 use Rattle.client_callbacks.specs.declared.told.Why.{Why}
 use Rattle.client_callbacks.specs.declared.told.Why.TheVariants as why
 use Rattle.view_exchange.specs.declared.install.Install.{Install}
-use Rattle.view_exchange.specs.declared.install.Base.{Base}
 use Rattle.view_exchange.specs.Bases.{bases_of}
 use Rattle.node_state.specs.declared.group.GroupRow.{GroupRow}
 use Rattle.node_state.specs.declared.group.Led.{Led}

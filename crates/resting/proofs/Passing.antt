@@ -1,18 +1,14 @@
 -- The end of a step leaves each led group at rest, and where each rests it changes nothing.
-use Rattle.std.proofs.Common.{◌≡◌, ◌≤◌, ◌<◌, ◌⊎◌, ℕ, zero, suc, ◌+◌, ◌*◌, List, [], ◌∷◌, length, fold, Option, Some, None, Bool, true, false, refl, sym, ap, ◌∙◌, subst, inl, inr, arith}
-use Rattle.std.specs.Prelude.{◌-◌, filter, map}
+use Rattle.std.proofs.Common.{◌≡◌, ◌≤◌, ◌<◌, ◌⊎◌, ℕ, zero, suc, ◌+◌, ◌*◌, List, [], ◌∷◌, length, fold, Bool, true, false, refl, sym, ap, ◌∙◌, subst, inl, inr, arith}
+use Rattle.std.specs.Prelude.{◌-◌}
 use Rattle.rsct_packet.specs.Search.{Has}
-use Rattle.proposal_core.specs.GroupView.{GroupView}
-use Rattle.proposal_core.specs.Lists.{max_places, list_or_new}
-use Rattle.view_core.specs.Views.{is_frozen}
-use Rattle.node_state.specs.declared.group.GroupRow.{GroupRow}
 use Rattle.node_state.specs.declared.state.Core.{Core}
-use Rattle.node_state.specs.State.{row_of, led_of, list_of, len_of, frozen, led_groups}
+use Rattle.node_state.specs.State.{row_of, list_of, len_of, led_groups}
 use Rattle.node_state.specs.HandOn.{Answering}
-use Rattle.node_state.specs.Ending.{Pass, quiet, may_begin, first_begins, group_begins, one_pass, passes, most_begun, step_ended}
+use Rattle.node_state.specs.Ending.{Pass, quiet, may_begin, first_begins, group_begins, one_pass, passes}
 use Rattle.node_groups.proofs.NameOrder.{cases_text}
 use Rattle.resting.proofs.Orderly.{Orderly, row_few}
-use Rattle.resting.proofs.Onward.{IsNamed, Onward, self, onward_then, named_on, led_same, led_named, led_few}
+use Rattle.resting.proofs.Onward.{IsNamed, Onward, self, onward_then, named_on, led_same, led_named}
 use Rattle.resting.proofs.Trying.{Rest, rest_on, Still, still_self, still_then, len_still, len_still_at, count, Outcome, Grown, Used, Rests}
 use Rattle.resting.proofs.Settling.{first_try, may_below, rest_first}
 

@@ -1,12 +1,10 @@
 -- In the rows of a step few joins and failures wait.
-use Rattle.std.proofs.Common.{length, ◌<◌, ◌≡◌, inl, ℕ, ◌+◌, ◌-◌, List, [], ◌∷◌, take, drop, Option, Some, None, Bool, true, false, refl}
-use Rattle.std.specs.Prelude.{◌==◌, ◌&&◌, filter, nat_lt, nat_le, find}
+use Rattle.std.proofs.Common.{length, ◌<◌, ◌≡◌, ℕ, ◌+◌, ◌-◌, List, [], ◌∷◌, take, drop, Option, Some, None, Bool, true, false, refl}
+use Rattle.std.specs.Prelude.{◌==◌, ◌&&◌, filter, nat_lt, nat_le}
 use Rattle.std.specs.Option.{unwrap_or}
 use Rattle.rsct_packet.specs.declared.ids.ProviderId.{ProviderId}
 use Rattle.rsct_packet.specs.declared.ids.ProtoId.{ProtoId}
 use Rattle.rsct_packet.specs.Providers.{among}
-use Rattle.rsct_packet.specs.Search.{Has}
-use Rattle.rsct_packet.proofs.HasLaws.{find_has}
 use Rattle.group_attr.specs.declared.attrs.Attrs.{Attrs}
 use Rattle.group_attr.specs.declared.attrs.Phases.{Phases}
 use Rattle.group_entry.specs.declared.proposal.Cause.TheVariants.{Gone}
@@ -20,15 +18,14 @@ use Rattle.proposal_core.specs.Fold.{runs, present}
 use Rattle.proposal_core.specs.GroupView.{GroupView}
 use Rattle.proposal_core.specs.Lists.{state_in}
 use Rattle.vote_phases.specs.Tally.{TallyView, tally_fail, open_voters, expires}
-use Rattle.batch_rules.specs.Waiting.{waits_failure, waits_join, join_dropped}
+use Rattle.batch_rules.specs.Waiting.{waits_failure, join_dropped}
 use Rattle.name_server.specs.Names as names
 use Rattle.client_callbacks.specs.declared.told.Why.{Why}
 use Rattle.client_callbacks.specs.declared.told.Why.TheVariants as why
 use Rattle.client_callbacks.specs.declared.ballot.Filled.{Filled}
 use Rattle.session_state.specs.declared.state.Request.{Request}
 use Rattle.session_state.specs.declared.state.KeptBallot.{KeptBallot}
-use Rattle.session_state.specs.declared.state.SessionState.{SessionState}
-use Rattle.session_state.specs.State.{outstanding, is_asked_by}
+use Rattle.session_state.specs.State.{outstanding}
 use Rattle.session_state.specs.HandOn.{is_numbered}
 use Rattle.node_state.specs.declared.group.Decision.{Decision}
 use Rattle.node_state.specs.declared.group.GroupRow.{GroupRow}
@@ -38,12 +35,11 @@ use Rattle.node_state.specs.State.{row_of, led_of, with_led, state_of, len_of, h
 use Rattle.node_state.specs.Sending.{sent, sent_if_known, request_to, request_sent, requests_sent, vote_of, kept_sent_to, kept_sent, kept_sent_if, kept_sent_again, votes_sent_again}
 use Rattle.node_state.specs.HandOn.{Answering}
 use Rattle.node_state.specs.Leading.{put_and_handed}
-use Rattle.node_state.specs.Deciding.{join_refusal, is_idle_empty, attrs_kept, join_waits, decided_join, decided_other, decided}
+use Rattle.node_state.specs.Deciding.{join_refusal, is_idle_empty, join_waits, decided_join, decided_other, decided}
 use Rattle.node_state.specs.Following.{lookup_row, told_if, tell_row, requests_of, named, is_name_used, name_row, told_again, request_new, request_after, request_at, is_group_refused, request_row, entry_next, entry_elsewhere, entry_row, acked, ack_row, vote_cast, vote_row, tally_failed, gone_waits, marked, gone_present, gone_of, gone_row}
 use Rattle.node_state.specs.Ticks.{is_lost, lost_told, owed_part, late_appended, announced, ticked_in, tally_ticks, entries_sent, list_sent_again, sent_again, group_ticks, led_part}
 use Rattle.node_state.specs.declared.happened.Happened.TheVariants as happened
 use Rattle.session_state.specs.HandOn.{telling_taken}
-use Rattle.node_state.specs.State.{recorded, with_sessions}
 use Rattle.resting.proofs.Orderly.{Orderly, alike, on_row, on_led, fails_few, cast_few, dropped_few, on_joining, room_for}
 use Rattle.resting.proofs.Walk.{on_either, on_fold, on_sent, on_known, on_record, on_sessions, on_put_handed, on_forgets, on_forgets_least, on_waiting, on_appended_if, on_tally, on_closes, on_begins, on_kept, on_refused}
 

@@ -1,7 +1,6 @@
 -- A whole try in a group, from waiting failures on to waiting joins; and that nothing more begins where a group rests.
-use Rattle.std.proofs.Common.{◌≡◌, ◌≤◌, ◌<◌, ℕ, zero, suc, ◌+◌, List, [], ◌∷◌, length, Option, Some, None, Bool, true, false, refl, sym, ap, ◌∙◌, subst, arith}
+use Rattle.std.proofs.Common.{◌≡◌, ◌≤◌, ◌<◌, ℕ, zero, suc, ◌+◌, List, [], length, Option, Some, None, Bool, true, false, refl, sym, ap, ◌∙◌, subst, arith}
 use Rattle.std.specs.Prelude.{◌&&◌, ◌||◌, not, filter, is_none, nat_le}
-use Rattle.std.specs.Option.{option_map}
 use Rattle.std.proofs.lemmas.Bool.{leb-false}
 use Rattle.rsct_packet.specs.declared.ids.ProviderId.{ProviderId}
 use Rattle.rsct_packet.specs.Lists.{is_empty}
@@ -13,20 +12,19 @@ use Rattle.group_entry.specs.declared.proposal.Proposal.TheVariants.{Join, Fail,
 use Rattle.proposal_core.specs.declared.group_state.GroupState.{GroupState}
 use Rattle.proposal_core.specs.GroupView.{GroupView}
 use Rattle.proposal_core.specs.Lists.{max_places, max_bytes, list_or_new, is_at_limit}
-use Rattle.batch_rules.specs.Waiting.{WaitingView, batches_joins, batches_failures, chosen_of, left_of, next_joins, joins_left}
+use Rattle.batch_rules.specs.Waiting.{WaitingView, batches_joins, batches_failures, chosen_of, next_joins, joins_left}
 use Rattle.source_target.specs.declared.Due.{Due}
 use Rattle.source_target.specs.declared.Due.TheVariants as due
 use Rattle.source_target.specs.Due as target
-use Rattle.node_state.specs.declared.group.GroupRow.{GroupRow}
 use Rattle.node_state.specs.declared.state.Core.{Core}
-use Rattle.node_state.specs.State.{row_of, led_of, list_of, state_of, len_of}
+use Rattle.node_state.specs.State.{row_of, led_of, list_of, state_of}
 use Rattle.node_state.specs.HandOn.{Answering}
 use Rattle.node_state.specs.Leading.{with_waiting, begins}
 use Rattle.node_state.specs.Deciding.{known_state, lacks_source}
-use Rattle.node_state.specs.Ending.{Pass, quiet, begun_now, failures_begin, due_begins, source_begins, attrs_for, carried_len, source_refused, joins_begin, or_due, or_joins, may_begin, first_begins, group_begins}
+use Rattle.node_state.specs.Ending.{Pass, quiet, begun_now, failures_begin, due_begins, source_begins, attrs_for, carried_len, source_refused, joins_begin, or_due, or_joins, may_begin, first_begins}
 use Rattle.resting.proofs.Orderly.{Orderly, joins_few}
-use Rattle.resting.proofs.Onward.{IsNamed, Onward, onward_then, named_on}
-use Rattle.resting.proofs.Trying.{fit_of, lists_of, due_fits, SettledDue, SettledBy, Settled, Rest, Still, still_self, still_then, Held, held_source, still_waiting, waiting_here, begins_on, begins_off, count, Outcome, Grown, Used, Rests, Failing, Ends, Nothing, after_still, begins_try, left_bound, left_fewer, left_less, nothing_long, failures_try}
+use Rattle.resting.proofs.Onward.{IsNamed, named_on}
+use Rattle.resting.proofs.Trying.{fit_of, lists_of, due_fits, SettledDue, SettledBy, Settled, Rest, Still, still_self, still_then, Held, held_source, still_waiting, waiting_here, begins_on, begins_off, count, Outcome, Grown, Rests, Failing, Ends, Nothing, after_still, begins_try, left_bound, left_fewer, left_less, nothing_long, failures_try}
 
 -- ---- joins
 

@@ -1,23 +1,21 @@
 -- What a try to begin something in a group leaves: its list has grown, less waits there, or nothing more begins there.
-use Rattle.std.proofs.Common.{◌≡◌, ◌≤◌, ◌<◌, ◌⊎◌, ℕ, zero, suc, ◌+◌, List, [], ◌∷◌, length, Option, Some, None, Bool, true, false, cond, refl, sym, ap, ◌∙◌, subst, inl, inr, arith}
-use Rattle.std.specs.Prelude.{◌&&◌, ◌||◌, not, filter, fold, is_none, nat_le}
+use Rattle.std.proofs.Common.{◌≡◌, ◌≤◌, ◌<◌, ◌⊎◌, ℕ, zero, suc, ◌+◌, List, [], ◌∷◌, length, Option, Some, None, Bool, true, false, refl, sym, ap, ◌∙◌, subst, inl, inr, arith}
+use Rattle.std.specs.Prelude.{filter}
 use Rattle.std.specs.Option.{option_map}
-use Rattle.std.proofs.lemmas.Bool.{leb-false}
 use Rattle.rsct_packet.specs.declared.ids.ProviderId.{ProviderId}
 use Rattle.rsct_packet.specs.Lists.{is_empty}
 use Rattle.rsct_packet.specs.Providers.{among}
-use Rattle.group_attr.specs.declared.attrs.Attrs.{Attrs}
 use Rattle.group_attr.specs.declared.attrs.Phases.{Phases}
 use Rattle.group_attr.specs.declared.attrs.Phases.TheVariants.{One, Many}
 use Rattle.group_entry.specs.declared.proposal.Failure.{Failure}
 use Rattle.group_entry.specs.declared.proposal.Proposal.{Proposal}
-use Rattle.group_entry.specs.declared.proposal.Proposal.TheVariants.{Join, Fail, Reflect}
+use Rattle.group_entry.specs.declared.proposal.Proposal.TheVariants.{Fail, Reflect}
 use Rattle.group_entry.specs.declared.entry.Entry.{Entry}
 use Rattle.group_entry.specs.declared.entry.Entry.TheVariants.{Once, Begin}
 use Rattle.proposal_core.specs.declared.group_state.GroupState.{GroupState}
 use Rattle.proposal_core.specs.GroupView.{GroupView}
-use Rattle.proposal_core.specs.Lists.{max_places, max_bytes, list_or_new, len_in, is_at_limit, entry_fits, with_entry}
-use Rattle.batch_rules.specs.Waiting.{WaitingView, batches_joins, batches_failures, chosen_of, left_of, next_failures, failures_left, next_joins, joins_left}
+use Rattle.proposal_core.specs.Lists.{list_or_new, len_in, entry_fits, with_entry}
+use Rattle.batch_rules.specs.Waiting.{WaitingView, batches_failures, chosen_of, left_of, next_failures, failures_left}
 use Rattle.source_target.specs.declared.Due.{Due}
 use Rattle.source_target.specs.declared.Due.TheVariants as due
 use Rattle.source_target.specs.Due as target
@@ -32,12 +30,12 @@ use Rattle.node_state.specs.State.{row_of, with_row, with_led, led_of, list_of, 
 use Rattle.node_state.specs.Sending.{sent_on, sent, sent_all, network_to}
 use Rattle.node_state.specs.HandOn.{Answering}
 use Rattle.node_state.specs.Leading.{put, with_waiting, appended, appended_if, tally_opened, closes, begun_many, begins}
-use Rattle.node_state.specs.Deciding.{decision_kept, refused, known_state, lacks_source, source_len}
-use Rattle.node_state.specs.Ending.{Pass, quiet, begun_now, failures_begin, due_begins, source_begins, attrs_for, carried_len, source_refused, joins_begin, or_due, or_joins, may_begin, first_begins}
+use Rattle.node_state.specs.Deciding.{decision_kept, refused, source_len}
+use Rattle.node_state.specs.Ending.{Pass, begun_now, failures_begin, source_refused, may_begin}
 use Rattle.node_groups.proofs.NameOrder.{cases_text, row_here, row_there}
-use Rattle.resting.proofs.Orderly.{Orderly, MildLed, MildWaits, failures_few, joins_few}
-use Rattle.resting.proofs.Growing.{Grows, led_grows, put_grows}
-use Rattle.resting.proofs.Beginning.{Keeps, on_row, on_record, on_sent_on, on_sent_all, on_handed, on_forgets_least, on_new_members, on_opened, on_closes}
+use Rattle.resting.proofs.Orderly.{Orderly, MildLed, MildWaits, failures_few}
+use Rattle.resting.proofs.Growing.{led_grows, put_grows}
+use Rattle.resting.proofs.Beginning.{on_record, on_sent_all, on_handed, on_forgets_least, on_new_members, on_opened, on_closes}
 use Rattle.resting.proofs.Onward.{IsNamed, Onward, self, onward_then, named_on, keeps_onward}
 
 -- ---- what rests

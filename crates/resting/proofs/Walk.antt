@@ -1,13 +1,11 @@
 -- A walk over a step: groups stay in the order of their names, and few joins and failures wait in each, in appending, closing,
 -- beginning and the end of a step.
-use Rattle.std.proofs.Common.{◌≡◌, ◌⊎◌, ℕ, zero, suc, List, [], ◌∷◌, length, ◌++◌, ◌∙◌, Option, Some, None, Bool, true, false, refl, sym, subst, inl, inr, ⊎_elim, append_assoc, append-nil}
+use Rattle.std.proofs.Common.{ℕ, zero, suc, List, [], ◌∷◌, length, Option, Some, None, Bool, true, false, refl}
 use Rattle.std.specs.Prelude.{not, map, filter, fold, flat_map}
 use Rattle.rsct_packet.specs.declared.ids.ProviderId.{ProviderId}
 use Rattle.rsct_packet.specs.declared.ids.ProtoId.{ProtoId}
 use Rattle.rsct_packet.specs.Lists.{is_empty}
 use Rattle.rsct_packet.specs.Providers.{among}
-use Rattle.rsct_packet.specs.Search.{Has}
-use Rattle.rsct_packet.proofs.HasLaws.{has_append, has_map}
 use Rattle.group_attr.specs.declared.attrs.Attrs.{Attrs}
 use Rattle.group_attr.specs.declared.attrs.Phases.{Phases}
 use Rattle.group_attr.specs.declared.attrs.Phases.TheVariants.{One, Many}
@@ -32,24 +30,22 @@ use Rattle.client_callbacks.specs.declared.ballot.Filled.{Filled}
 use Rattle.client_callbacks.specs.Ballots.{BallotView}
 use Rattle.session_state.specs.declared.casts.Cast.{Cast}
 use Rattle.session_state.specs.declared.state.SessionState.{SessionState}
-use Rattle.session_state.specs.declared.state.Request.{Request}
 use Rattle.session_state.specs.HandOn.{hearers, casts_out, telling_taken}
 use Rattle.session_state.specs.HandOn as session
 use Rattle.node_state.specs.declared.group.GroupRow.{GroupRow}
-use Rattle.node_state.specs.declared.group.Led.{Led}
 use Rattle.node_state.specs.declared.happened.Happened.{Happened}
 use Rattle.node_state.specs.declared.happened.Happened.TheVariants as happened
 use Rattle.node_state.specs.declared.packet.Body.{Body}
 use Rattle.node_state.specs.declared.packet.Body.TheVariants as body
 use Rattle.node_state.specs.declared.state.Core.{Core}
-use Rattle.node_state.specs.State.{row_of, rows_with, with_row, with_led, led_of, state_of, len_of, list_forgotten, fits_at_end, forgets_below, frozen, leader_of, led_groups, others, least_acked, decisions_with, recorded, recorded_all, with_sessions}
+use Rattle.node_state.specs.State.{row_of, led_of, state_of, len_of, list_forgotten, fits_at_end, forgets_below, frozen, leader_of, led_groups, others, least_acked, decisions_with, recorded, recorded_all, with_sessions}
 use Rattle.node_state.specs.Sending.{sent_on, sent, sent_all, sent_if_known, network_to, vote_of}
-use Rattle.node_state.specs.HandOn.{Answering, fills, cast_record, cast_records, heard, note_of, notes, noted, ballot_sent, cast_sent_of, casts_sent, handed_on}
+use Rattle.node_state.specs.HandOn.{Answering, fills, heard, note_of, notes, noted, ballot_sent, cast_sent_of, casts_sent, handed_on}
 use Rattle.node_state.specs.Leading.{put, put_and_handed, forgets_least, with_waiting, waits_if, new_members_wait, appended, appended_if, with_tally, tally_set, tally_for, tally_opened, closing_entry, is_phase, closes_from, closes, begun_many, begins}
 use Rattle.node_state.specs.Deciding.{decision_kept, refused, known_state, lacks_source, source_len}
 use Rattle.node_state.specs.Ending.{Pass, quiet, begun_now, failures_begin, due_begins, source_begins, attrs_for, carried_len, source_refused, joins_begin, or_due, or_joins, may_begin, first_begins, group_begins, one_pass, passes, most_begun, step_ended}
 
-use Rattle.resting.proofs.Orderly.{Orderly, Few, Mild, MildLed, MildWaits, alike, on_row, on_led, fails_few, failures_few, joins_few}
+use Rattle.resting.proofs.Orderly.{Orderly, MildWaits, alike, on_row, on_led, fails_few, failures_few, joins_few}
 
 abbrev P : Core → Type 0
 P s = Orderly s

@@ -1,14 +1,11 @@
 -- In the rows of views and of rings, and so in a whole step, few joins and failures wait.
-use Rattle.std.proofs.Common.{◌≡◌, ℕ, List, [], ◌∷◌, Option, Some, None, Bool, true, false, refl, sym, subst, inl, inr, ⊎_elim}
-use Rattle.std.specs.Prelude.{not, ◌==◌, ◌&&◌, map, filter, find, fold, flat_map, is_some}
+use Rattle.std.proofs.Common.{◌≡◌, ℕ, List, Option, Some, None, Bool, true, false, refl}
+use Rattle.std.specs.Prelude.{not, ◌==◌, ◌&&◌, filter, find, fold, flat_map, is_some}
 use Rattle.std.specs.Str.{bytes_eq}
 use Rattle.rsct_packet.specs.declared.ids.ViewId.{ViewId}
 use Rattle.rsct_packet.specs.declared.ids.ProviderId.{ProviderId}
 use Rattle.rsct_packet.specs.declared.mask.Mask.{Mask}
 use Rattle.rsct_packet.specs.Providers.{among}
-use Rattle.rsct_packet.specs.Search.{Has}
-use Rattle.rsct_packet.proofs.HasLaws.{has_append, has_map, find_has}
-use Rattle.group_attr.specs.Attrs.{host_membership}
 use Rattle.group_entry.specs.declared.proposal.Cause.TheVariants.{Died}
 use Rattle.group_entry.specs.declared.entry.Entry.{Entry}
 use Rattle.proposal_core.specs.Fold.{present}
@@ -16,19 +13,15 @@ use Rattle.proposal_core.specs.Lists.{state_in}
 use Rattle.batch_rules.specs.Waiting.{waits_failure}
 use Rattle.rsct_packet.specs.Mask.{nodes_of}
 use Rattle.adapter_ring.specs.declared.ring.Ring.{Ring}
-use Rattle.adapter_ring.specs.declared.ring.RingSet.{RingSet}
 use Rattle.adapter_ring.specs.declared.packet.RingPacket.{RingPacket}
 use Rattle.adapter_ring.specs.declared.packet.RingSend.{RingSend}
 use Rattle.adapter_ring.specs.declared.packet.RingEvent.TheVariants as ring_event
 use Rattle.adapter_ring.specs.declared.work.RingWork.{RingWork}
 use Rattle.adapter_ring.specs.Rings.{ring_stepped}
 use Rattle.node_reach.specs.Reach as reach
-use Rattle.subscribe_core.specs.declared.subs.Subscription.{Subscription}
-use Rattle.client_callbacks.specs.declared.told.Told.TheVariants as told
 use Rattle.client_callbacks.specs.declared.told.Why.TheVariants.{Dissolved}
 use Rattle.session_state.specs.declared.state.Provider.{Provider}
-use Rattle.session_state.specs.State.{provider_of, is_provider, outstanding}
-use Rattle.session_state.specs.declared.state.SessionState.{SessionState}
+use Rattle.session_state.specs.State.{provider_of, outstanding}
 use Rattle.view_exchange.specs.declared.install.Install.{Install}
 use Rattle.view_exchange.specs.declared.install.Base.{Base}
 use Rattle.view_exchange.specs.Bases.{bases_of, base_named}
@@ -36,10 +29,9 @@ use Rattle.view_core.specs.declared.packet.ViewPacket.{ViewPacket}
 use Rattle.view_core.specs.declared.packet.ViewPacket.TheVariants as packet
 use Rattle.view_core.specs.declared.packet.ViewSend.{ViewSend}
 use Rattle.view_core.specs.declared.views.ViewWork.{ViewWork}
-use Rattle.view_core.specs.Views.{views_entered, views_at_work, ask_row, prepare_row, answer_row, refuse_row, install_row, taken_row, gathering_ticks, install_again}
+use Rattle.view_core.specs.Views.{views_at_work, ask_row, prepare_row, answer_row, refuse_row, install_row, taken_row, gathering_ticks, install_again}
 use Rattle.packet_bodies.specs.declared.body.ReportRow.{ReportRow}
 use Rattle.node_state.specs.declared.group.GroupRow.{GroupRow}
-use Rattle.node_state.specs.declared.happened.Happened.{Happened}
 use Rattle.node_state.specs.declared.happened.Happened.TheVariants as happened
 use Rattle.node_state.specs.declared.packet.Body.{Body}
 use Rattle.node_state.specs.declared.packet.Body.TheVariants as body
@@ -48,9 +40,9 @@ use Rattle.node_state.specs.declared.state.Core.{Core}
 use Rattle.node_state.specs.Settings.{is_fixed, is_rings}
 use Rattle.node_state.specs.State.{state_of, held_rows, led_groups}
 use Rattle.node_state.specs.Sending.{sent_on, sent}
-use Rattle.node_state.specs.HandOn.{Answering, note_of, subscriber_name}
+use Rattle.node_state.specs.HandOn.{Answering}
 use Rattle.node_state.specs.Leading.{put_and_handed, with_waiting}
-use Rattle.node_state.specs.Applying.{Lacking, lacking, own_parts, lists_filled, level_set, base_row, base_leader, base_record, view_entered, is_in_base, number_of, dissolved, dissolved_if, group_dissolved, sides_dissolved, base_note, entering_note, entering_noted, taken_sent, owed_sent, failed_wait, phase_reopened, group_led, groups_led, entered, entered_if, install_applied, views_taken}
+use Rattle.node_state.specs.Applying.{Lacking, lacking, own_parts, lists_filled, level_set, view_entered, is_in_base, number_of, dissolved, dissolved_if, group_dissolved, sides_dissolved, entering_note, entering_noted, taken_sent, owed_sent, failed_wait, phase_reopened, group_led, groups_led, entered, entered_if, install_applied, views_taken}
 use Rattle.node_state.specs.Ticks.{row_reported, report_row, ring_put, set_records, ring_taken, ring_row_of, ring_row, rings_union, report_of, report_sent, rings_tick, ring_ask, rings_part, views_part, tick_row}
 use Rattle.node_state.specs.Status.{status_text}
 use Rattle.node_state.specs.Step.{NodeEvent, Ticks, Asks, Given, Calls, Garbage, is_used, used_if, order_row, view_row, body_row, packet_row, event_row, stepped, at_work}
