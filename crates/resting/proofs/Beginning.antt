@@ -36,8 +36,6 @@ use Rattle.node_state.specs.Sending.{sent_on, sent, sent_all, sent_if_known, net
 use Rattle.node_state.specs.HandOn.{Answering, fills, heard, note_of, notes, noted, ballot_sent, cast_sent_of, casts_sent, handed_on}
 use Rattle.node_state.specs.Leading.{put, put_and_handed, forgets_least, with_waiting, waits_if, new_members_wait, appended, appended_if, with_tally, tally_set, tally_for, tally_opened, closing_entry, is_phase, closes_from, closes, begun_many, begins}
 use Rattle.node_state.specs.Deciding.{decision_kept, refused, source_len}
-use Rattle.node_state.specs.Ending.{source_refused}
-
 use Rattle.resting.proofs.Orderly.{MildLed, MildWaits, fails_few}
 use Rattle.resting.proofs.Growing.{Grows, led_grows, put_grows, forgets_grow}
 
@@ -89,21 +87,21 @@ module _ (P : Core → Type 0) (Ok : List ℕ → Type 0) (k : Keeps P Ok) where
 
   -- ---- handing on
 
-  pub on_noted : {s : Core} (g : List ℕ) (i : ℕ) (before after : GroupState) → P s → P (noted s g i before after)
+  on_noted : {s : Core} (g : List ℕ) (i : ℕ) (before after : GroupState) → P s → P (noted s g i before after)
   unfolding noted notes
   on_noted {s} g i before after p = on_either (differs before after) (on_records (map (note_of s g (Some i) after) (filter (is_of_group g) s.sessions.subs.live)) p) p
 
-  pub on_ballot : {s : Core} (g : List ℕ) (to : Option ℕ) (p : ProviderId) (proto : ProtoId) (phase : ℕ) (b : Option Filled) → P s → P (ballot_sent s g to p proto phase b)
+  on_ballot : {s : Core} (g : List ℕ) (to : Option ℕ) (p : ProviderId) (proto : ProtoId) (phase : ℕ) (b : Option Filled) → P s → P (ballot_sent s g to p proto phase b)
   unfolding ballot_sent vote_of
   on_ballot g to p proto phase None q = q
   on_ballot g to p proto phase (Some b) q = on_known to _ q
 
-  pub on_cast : {s : Core} (g : List ℕ) (to : Option ℕ) (p : ProviderId) (o : Option (ProtoId × ℕ × BallotView)) → P s → P (cast_sent_of s g to p o)
+  on_cast : {s : Core} (g : List ℕ) (to : Option ℕ) (p : ProviderId) (o : Option (ProtoId × ℕ × BallotView)) → P s → P (cast_sent_of s g to p o)
   unfolding cast_sent_of
   on_cast g to p None q = q
   on_cast g to p (Some c) q = on_ballot g to p c.0 c.1 (c.2).filled q
 
-  pub on_casts : {s : Core} (g : List ℕ) (to : Option ℕ) (cs : List Cast) → P s → P (casts_sent s g to cs)
+  on_casts : {s : Core} (g : List ℕ) (to : Option ℕ) (cs : List Cast) → P s → P (casts_sent s g to cs)
   unfolding casts_sent
   on_casts {s} g to cs p =
       on_either (frozen s) p (on_fold (λ t (c : Cast). cast_sent_of t g to c.p c.cast) (λ t c q. on_cast g to c.p c.cast q) cs p)
@@ -115,6 +113,8 @@ module _ (P : Core → Type 0) (Ok : List ℕ → Type 0) (k : Keeps P Ok) where
       let cs : List Cast = casts_out s.sessions g before after e bs in
       on_casts g to cs (on_sessions (session.handed_on s.sessions g before after e bs) (on_noted g i before after (on_records (flat_map (heard s g i e after) cs) p)))
 
+  -- ---- a row changes
+
   pub on_row : {s : Core} (g : List ℕ) (ok : Ok g) (f : GroupRow → GroupRow) → Grows f → P s → P (with_row s g f)
   on_row {s} g ok f m p = k.row s g f ok m p
 
@@ -124,7 +124,7 @@ module _ (P : Core → Type 0) (Ok : List ℕ → Type 0) (k : Keeps P Ok) where
 
   -- ---- appending
 
-  pub on_put : {s : Core} (g : List ℕ) (ok : Ok g) (e : Entry) → P s → P (put s g e)
+  on_put : {s : Core} (g : List ℕ) (ok : Ok g) (e : Entry) → P s → P (put s g e)
   unfolding put
   on_put {s} g ok e p =
       on_record (happened.Put s.views.me s.views.view g (len_of s g) e) (on_row g ok (λ row. record row { list = Some (with_entry (list_or_new row.list) s.views.view e) }) (put_grows s.views.view e) p)
@@ -145,7 +145,7 @@ module _ (P : Core → Type 0) (Ok : List ℕ → Type 0) (k : Keeps P Ok) where
   unfolding with_waiting
   on_waiting g ok f m p = on_led g ok (λ l. record l { waiting = f l.waiting }) (λ l w. m l.waiting w) p
 
-  pub on_waits_if : {s : Core} (g : List ℕ) (ok : Ok g) (q : ProviderId) (a b : Bool) → P s → P (waits_if s g q a b)
+  on_waits_if : {s : Core} (g : List ℕ) (ok : Ok g) (q : ProviderId) (a b : Bool) → P s → P (waits_if s g q a b)
   unfolding waits_if
   on_waits_if g ok q true b p = on_waiting g ok (waits_failure q Died) (fails_few q Died) p
   on_waits_if g ok q false true p = on_waiting g ok (waits_failure q Gone) (fails_few q Gone) p
@@ -156,7 +156,7 @@ module _ (P : Core → Type 0) (Ok : List ℕ → Type 0) (k : Keeps P Ok) where
   on_new_members {s} g ok before after p =
       on_fold (λ t q. waits_if t g q (among after.failed q) (among (led_of s g).gone q)) (λ t q h. on_waits_if g ok q (among after.failed q) (among (led_of s g).gone q) h) (filter (λ q. not (among before.members q)) after.members) p
 
-  pub on_appended : (f : Answering) {s : Core} (g : List ℕ) (ok : Ok g) (e : Entry) → P s → P (appended f s g e)
+  on_appended : (f : Answering) {s : Core} (g : List ℕ) (ok : Ok g) (e : Entry) → P s → P (appended f s g e)
   unfolding appended
   on_appended f {s} g ok e p =
       let t : Core = put s g e in
@@ -174,7 +174,7 @@ module _ (P : Core → Type 0) (Ok : List ℕ → Type 0) (k : Keeps P Ok) where
   unfolding with_tally
   on_tally g ok t p = on_led g ok (λ l. record l { tally = t }) (λ l w. w) p
 
-  pub on_tally_set : {s : Core} (g : List ℕ) (ok : Ok g) (t : Option TallyView) → P s → P (tally_set s g t)
+  on_tally_set : {s : Core} (g : List ℕ) (ok : Ok g) (t : Option TallyView) → P s → P (tally_set s g t)
   unfolding tally_set
   on_tally_set g ok t p = on_led g ok (λ l. record l { tally = t; given = [] }) (λ l w. w) p
 
@@ -182,7 +182,7 @@ module _ (P : Core → Type 0) (Ok : List ℕ → Type 0) (k : Keeps P Ok) where
   unfolding tally_opened
   on_opened {s} g ok p = on_tally_set g ok (Some (tally_for (state_of s g) (led_of s g).gone)) p
 
-  pub on_closes_from : (n : ℕ) (f : Answering) (s : Core) (g : List ℕ) (ok : Ok g) → P s → P (closes_from n f s g)
+  on_closes_from : (n : ℕ) (f : Answering) (s : Core) (g : List ℕ) (ok : Ok g) → P s → P (closes_from n f s g)
   unfolding closes_from
   on_closes_from zero f s g ok p = p
   on_closes_from (suc n) f s g ok p = by (closing_entry (led_of s g) (led_of s g).tally (state_of s g).running) (on_closes_from n)
@@ -218,8 +218,3 @@ module _ (P : Core → Type 0) (Ok : List ℕ → Type 0) (k : Keeps P Ok) where
   pub on_refused : {s : Core} (g : List ℕ) (ok : Ok g) (q : ProviderId) (r : ℕ) (y : Why) → P s → P (refused s g q r y)
   unfolding refused
   on_refused {s} g ok q r y p = on_sent q.node (body.Tell s.views.view g q r y) (on_kept g ok q r (Some y) p)
-
-  pub on_source_refused : {s : Core} (g : List ℕ) (ok : Ok g) (source : Option (List ℕ)) (ps : List ProviderId) → P s → P (source_refused s g source ps)
-  unfolding source_refused
-  on_source_refused g ok source ps p =
-      on_fold (λ t (q : ProviderId). refused t g q q.join (NoSource (source_len t source))) (λ t q h. on_refused g ok q q.join (NoSource (source_len t source)) h) ps p

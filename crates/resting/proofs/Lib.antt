@@ -1,10 +1,10 @@
 pub mod Orderly
+pub mod Growing
+pub mod Beginning
 pub mod Walk
 pub mod Rows
 pub mod Calling
 pub mod Walking
-pub mod Growing
-pub mod Beginning
 pub mod Onward
 pub mod Trying
 pub mod Settling
