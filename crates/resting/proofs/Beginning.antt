@@ -17,7 +17,6 @@ use Rattle.batch_rules.specs.Waiting.{WaitingView, waits_failure}
 use Rattle.vote_phases.specs.Tally.{TallyView}
 use Rattle.subscribe_core.specs.Subs.{is_of_group, differs}
 use Rattle.client_callbacks.specs.declared.told.Why.{Why}
-use Rattle.client_callbacks.specs.declared.told.Why.TheVariants.{NoSource}
 use Rattle.client_callbacks.specs.declared.ballot.Filled.{Filled}
 use Rattle.client_callbacks.specs.Ballots.{BallotView}
 use Rattle.session_state.specs.declared.casts.Cast.{Cast}
@@ -35,7 +34,7 @@ use Rattle.node_state.specs.State.{with_row, with_led, led_of, state_of, len_of,
 use Rattle.node_state.specs.Sending.{sent_on, sent, sent_all, sent_if_known, network_to, vote_of}
 use Rattle.node_state.specs.HandOn.{Answering, fills, heard, note_of, notes, noted, ballot_sent, cast_sent_of, casts_sent, handed_on}
 use Rattle.node_state.specs.Leading.{put, put_and_handed, forgets_least, with_waiting, waits_if, new_members_wait, appended, appended_if, with_tally, tally_set, tally_for, tally_opened, closing_entry, is_phase, closes_from, closes, begun_many, begins}
-use Rattle.node_state.specs.Deciding.{decision_kept, refused, source_len}
+use Rattle.node_state.specs.Deciding.{decision_kept, refused}
 use Rattle.resting.proofs.Orderly.{MildLed, MildWaits, fails_few}
 use Rattle.resting.proofs.Growing.{Grows, led_grows, put_grows, forgets_grow}
 

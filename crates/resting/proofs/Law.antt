@@ -18,13 +18,15 @@ use Rattle.world_model.specs.declared.event.Event.{Event}
 use Rattle.world_model.specs.declared.event.Event.TheVariants as event
 use Rattle.run_safety.specs.Past.{History, EachEvent}
 use Rattle.step_ties.specs.Tied.{Scene}
-use Rattle.step_ties.specs.Rows.{over, nothing_yet, with_records, starts_too, ended, all_started}
-use Rattle.step_ties.specs.Runs.{IsNote, noted}
+use Rattle.step_ties.specs.Rows.{over, nothing_yet, with_records, starts_too, all_started}
+use Rattle.step_ties.specs.Runs.{Reached}
+use Rattle.step_ties.specs.Runs as runs
 use Rattle.step_ties.proofs.Changed.{each_set}
 use Rattle.failed_rows.proofs.Facts.{reverse_has}
-use Rattle.leaving.specs.Scenes.{IsCall, NoCall, Recounted, Nothing, AllStart, Starts, Stops, Steps, Notes}
+use Rattle.leaving.proofs.Law.{reached}
+use Rattle.leaving.specs.Scenes.{IsCall, NoCall, Nothing, AllStart, Starts, Stops, Steps, Notes}
 use Rattle.node_groups.specs.Places.{has_name}
-use Rattle.resting.specs.Rest.{GoodbyePutsNothing, GoodbyesPutNothing}
+use Rattle.resting.specs.Rest.{NodesRest, GoodbyePutsNothing, GoodbyesPutNothing}
 use Rattle.resting.proofs.Orderly.{Orderly, alike}
 use Rattle.resting.proofs.Calling.{NoPut, Parts, goodbye_parts}
 use Rattle.resting.proofs.Walking.{before_end, on_before_end, stepped_is}
@@ -79,75 +81,79 @@ goodbye_quiet f s client k r i = parts.none r (subst (λ (c : Core). Has r c.rec
     now : Resting u
     now = resting_same s u parts.groups parts.views parts.config k
 
--- ---- events
-
-abbrev Quiet : History → Type 0
-Quiet h = EachEvent (λ event before. GoodbyePutsNothing event) h
-
-pub record Calm (w : Scene) : Type 0 where
-  pub nodes : (m : ℕ) → RestingIf (w.cores m)
-  pub law : Quiet w.before
-
--- what is noted is no call
-no_call : (v : Event) (rs : List Happened) → NoCall v → GoodbyePutsNothing (record { event = Some v; records = rs })
-no_call v rs none n client q taken m u g i e h = none n (Goodbye client) (cc)
+-- ---- every scene
 
 fresh : (c : Config) (n j : ℕ) → Resting (started c n j)
 unfolding started with_sessions led_groups
 fresh c n j = record { orderly = record { order = tt; few = λ row i. absurd i }; rests = λ thawed g i. absurd i }
 
-step_calm : (w : Scene) (n : ℕ) (f : Answering) (s : Core) (e : NodeEvent) (v : Event) → w.cores n ≡ Some s → IsCall n e v → Calm w → Calm (ended w n v (stepped f s e))
-step_calm w n f s e v up is k =
-    record { nodes = each_set (λ m o. RestingIf o) w.cores n (Some (stepped f s e)) (stepped_rests f s e here.orderly) (λ m ne. k.nodes m); law = (quiet, k.law) }
-  where
-    here : Resting s
-    here = subst RestingIf up (k.nodes n)
+too_rests : (w : Scene) (n : ℕ) (o : Option Core) → ((m : ℕ) → RestingIf (w.cores m)) → (m : ℕ) → RestingIf ((starts_too w n o).cores m)
+too_rests w n (Some s) k = k
+too_rests w n None k =
+    each_set (λ m o. RestingIf o) w.cores n (Some (started w.config n (w.incs n + 1))) (fresh w.config n (w.incs n + 1)) (λ m ne. k m)
 
-    quiet : GoodbyePutsNothing (over v (stepped f s e))
-    quiet m client q taken l u g i x h =
-        let c : v ≡ event.Call m (Goodbye client) = cc in
-        let b = is m (Goodbye client) c in
-        subst (λ (y : NodeEvent). (r : Happened) → Has r (stepped f s y).records → NoPut r) (sym b.1) (goodbye_quiet f s client here) (happened.Put l u g i x) (reverse_has (happened.Put l u g i x) (stepped f s e).records h)
+fold_rests : (ns : List ℕ) (w : Scene) → ((m : ℕ) → RestingIf (w.cores m)) → (m : ℕ) → RestingIf ((fold (λ (w : Scene) n. starts_too w n (w.cores n)) w ns).cores m)
+fold_rests [] w k = k
+fold_rests (n ∷ ns) w k = fold_rests ns (starts_too w n (w.cores n)) (too_rests w n (w.cores n) k)
 
-note_calm : (w : Scene) (v : Event) (rs : List Happened) → ((r : Happened) → Has r rs → IsNote r) → Calm w → Calm (noted w v rs)
-note_calm w v rs notes k =
-    record { nodes = k.nodes; law = (λ m client q taken l u g i x h. notes (happened.Put l u g i x) (reverse_has (happened.Put l u g i x) rs h), k.law) }
+rested : (c : Config) (w : Scene) → Reached c w → (m : ℕ) → RestingIf (w.cores m)
+rested c _ runs.Nothing = λ m. tt
+rested c _ (runs.AllStart fixed) = fold_rests (nodes_of c.nodes) (record (nothing_yet c) { before = record { event = None; records = [] } ∷ [] }) (λ m. tt)
+rested c _ (runs.Starts w n e k free real down) =
+    each_set (λ m o. RestingIf o) w.cores n (Some (started w.config n (w.incs n + 1))) (fresh w.config n (w.incs n + 1)) (λ m ne. rested c w k m)
+rested c _ (runs.Stops w n e s k up) = each_set (λ m o. RestingIf o) w.cores n None tt (λ m ne. rested c w k m)
+rested c _ (runs.Steps w n f s e v k up arises) =
+    let here : Resting s = subst RestingIf up (rested c w k n) in
+    each_set (λ m o. RestingIf o) w.cores n (Some (stepped f s e)) (stepped_rests f s e here.orderly) (λ m ne. rested c w k m)
+rested c _ (runs.Notes w e rs k notes) = rested c w k
 
--- ---- every node starts, in one event
+rested_at : (c : Config) (w : Scene) → Reached c w → (n : ℕ) (s : Core) → w.cores n ≡ Some s → Resting s
+rested_at c w k n s up = subst RestingIf up (rested c w k n)
 
+pub nodes_rest : NodesRest
+nodes_rest c w k n s up f = ended_same f s (rested_at c w k n s up).rests
+
+-- ---- events
+
+abbrev Quiet : History → Type 0
+Quiet h = EachEvent (λ event before. GoodbyePutsNothing event) h
+
+-- what is noted is no call
+no_call : (v : Event) (rs : List Happened) → NoCall v → GoodbyePutsNothing (record { event = Some v; records = rs })
+no_call v rs none n client q taken m u g i e h = none n (Goodbye client) (cc)
+
+step_quiet : (n : ℕ) (f : Answering) (s : Core) (e : NodeEvent) (v : Event) → IsCall n e v → Resting s → GoodbyePutsNothing (over v (stepped f s e))
+step_quiet n f s e v is k m client q taken l u g i x h =
+    let c : v ≡ event.Call m (Goodbye client) = cc in
+    let b = is m (Goodbye client) c in
+    subst (λ (y : NodeEvent). (r : Happened) → Has r (stepped f s y).records → NoPut r) (sym b.1) (goodbye_quiet f s client k) (happened.Put l u g i x) (reverse_has (happened.Put l u g i x) (stepped f s e).records h)
+
+-- every node starts, in one event
 record Begins (w : Scene) : Type 0 where
   records : List Happened
   is : w.before ≡ record { event = None; records = records } ∷ []
-  nodes : (m : ℕ) → RestingIf (w.cores m)
 
 too_begins : (w : Scene) (n : ℕ) (o : Option Core) → Begins w → Begins (starts_too w n o)
 too_begins w n (Some s) k = k
 too_begins w n None k =
-    let s : Core = started w.config n (w.incs n + 1) in
-    record { records = reverse s.records ++ k.records; is = ap (λ h. with_records h s.records) k.is; nodes = each_set (λ m o. RestingIf o) w.cores n (Some s) (fresh w.config n (w.incs n + 1)) (λ m ne. k.nodes m) }
+    let rs : List Happened = (started w.config n (w.incs n + 1)).records in
+    record { records = reverse rs ++ k.records; is = ap (λ h. with_records h rs) k.is }
 
 fold_begins : (ns : List ℕ) (w : Scene) → Begins w → Begins (fold (λ (w : Scene) n. starts_too w n (w.cores n)) w ns)
 fold_begins [] w k = k
 fold_begins (n ∷ ns) w k = fold_begins ns (starts_too w n (w.cores n)) (too_begins w n (w.cores n) k)
 
-begins_calm : (w : Scene) → Begins w → Calm w
-begins_calm w k = record { nodes = k.nodes; law = subst Quiet (sym k.is) (λ m client q. absurd (let z : None ≡ Some (event.Call m (Goodbye client)) = q in cc), tt) }
-
--- ---- every scene
-
-pub calm : (c : Config) (w : Scene) → Recounted c w → Calm w
-calm c _ Nothing = record { nodes = λ m. tt; law = tt }
-calm c _ (AllStart fixed) =
-    begins_calm (all_started c) (fold_begins (nodes_of c.nodes) (record (nothing_yet c) { before = record { event = None; records = [] } ∷ [] }) (record { records = []; is = refl; nodes = λ m. tt }))
-calm c _ (Starts w n e k free real down none) =
-    let s : Core = started w.config n (w.incs n + 1) in
-    let a = calm c w k in
-    record { nodes = each_set (λ m o. RestingIf o) w.cores n (Some s) (fresh w.config n (w.incs n + 1)) (λ m ne. a.nodes m); law = (no_call e (reverse s.records) none, a.law) }
-calm c _ (Stops w n e s k up none) =
-    let a = calm c w k in
-    record { nodes = each_set (λ m o. RestingIf o) w.cores n None tt (λ m ne. a.nodes m); law = (no_call e (happened.Down n ∷ []) none, a.law) }
-calm c _ (Steps w n f s e v k up arises says is) = step_calm w n f s e v up is (calm c w k)
-calm c _ (Notes w e rs k notes down) = note_calm w e rs notes (calm c w k)
+begins_quiet : (w : Scene) → Begins w → Quiet w.before
+begins_quiet w k = subst Quiet (sym k.is) (λ m client q. absurd (let z : None ≡ Some (event.Call m (Goodbye client)) = q in cc), tt)
 
 pub goodbyes_put_nothing : GoodbyesPutNothing
-goodbyes_put_nothing c w k = (calm c w k).law
+goodbyes_put_nothing c _ Nothing = tt
+goodbyes_put_nothing c _ (AllStart fixed) =
+    begins_quiet (all_started c) (fold_begins (nodes_of c.nodes) (record (nothing_yet c) { before = record { event = None; records = [] } ∷ [] }) (record { records = []; is = refl }))
+goodbyes_put_nothing c _ (Starts w n e k free real down none) =
+    (no_call e (reverse (started w.config n (w.incs n + 1)).records) none, goodbyes_put_nothing c w k)
+goodbyes_put_nothing c _ (Stops w n e s k up none) = (no_call e (happened.Down n ∷ []) none, goodbyes_put_nothing c w k)
+goodbyes_put_nothing c _ (Steps w n f s e v k up arises says is) =
+    (step_quiet n f s e v is (rested_at c w (reached c w k) n s up), goodbyes_put_nothing c w k)
+goodbyes_put_nothing c _ (Notes w e rs k notes down) =
+    (λ m client q taken l u g i x h. notes (happened.Put l u g i x) (reverse_has (happened.Put l u g i x) rs h), goodbyes_put_nothing c w k)

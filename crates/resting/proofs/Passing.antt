@@ -62,8 +62,9 @@ group_rests (suc n) f g p k = by q.began (group_rests n f g q (subst (λ (c : Co
     by true r = r ∙ same
     by false r = same
 
-abbrev Goes_on : List ℕ → Pass → Pass → Pass → Bool → Type 0
-Goes_on g p q r b = Tries g p.core (elim b as (λ _. Pass) [ true ↦ r | false ↦ record { core = q.core; began = p.began } ])
+-- what is left to be shown after the first of several tries
+abbrev GoesOn : List ℕ → Pass → Pass → Pass → Bool → Type 0
+GoesOn g p q r b = Tries g p.core (elim b as (λ _. Pass) [ true ↦ r | false ↦ record { core = q.core; began = p.began } ])
 
 group_try : (n : ℕ) (f : Answering) (g : List ℕ) (p : Pass) → Orderly p.core → IsNamed p.core g → count p.core g < n → Tries g p.core (group_begins n f g p)
 unfolding group_begins list_of len_of row_of
@@ -74,7 +75,7 @@ group_try (suc n) f g p k named few = may (may_begin (list_of p.core g)) refl (g
     q = first_begins f p.core g (row_of p.core g)
 
     -- the list has grown
-    grown : (b : Bool) → q.began ≡ b → Onward p.core q.core → q.began ≡ true → len_of p.core g < 4096 → len_of p.core g < len_of q.core g → Goes_on g p q (group_begins n f g q) b
+    grown : (b : Bool) → q.began ≡ b → Onward p.core q.core → q.began ≡ true → len_of p.core g < 4096 → len_of p.core g < len_of q.core g → GoesOn g p q (group_begins n f g q) b
     grown false e a began lim less = absurd (let z : true ≡ false = sym began ∙ e in cc)
     grown true e a began lim less =
         let r = group_onward n f g q a.orderly (named_on p.core q.core g a named) in
@@ -82,7 +83,7 @@ group_try (suc n) f g p k named few = may (may_begin (list_of p.core g)) refl (g
         Longer (onward_then p.core q.core (group_begins n f g q).core a r.0) (r.1 began) lim (omega (arith, less, m))
 
     -- less waits
-    used : (b : Bool) → q.began ≡ b → Still g p.core q.core → q.began ≡ true → (count q.core g < n → Tries g q.core (group_begins n f g q)) → count q.core g < count p.core g → Goes_on g p q (group_begins n f g q) b
+    used : (b : Bool) → q.began ≡ b → Still g p.core q.core → q.began ≡ true → (count q.core g < n → Tries g q.core (group_begins n f g q)) → count q.core g < count p.core g → GoesOn g p q (group_begins n f g q) b
     used false e a began rest less = absurd (let z : true ≡ false = sym began ∙ e in cc)
     used true e a began rest less = on (rest (omega (arith, few, less)))
       where
@@ -91,18 +92,18 @@ group_try (suc n) f g p k named few = may (may_begin (list_of p.core g)) refl (g
         on (Done c r) = Done (still_then g p.core q.core (group_begins n f g q).core a c) r
 
     -- the group rests
-    rests : (b : Bool) → Still g p.core q.core → Rest q.core g → Goes_on g p q (group_begins n f g q) b
+    rests : (b : Bool) → Still g p.core q.core → Rest q.core g → GoesOn g p q (group_begins n f g q) b
     rests false a r = Done a r
     rests true a r =
         let same : (group_begins n f g q).core ≡ q.core = group_rests n f g q r in
         Done (subst (Still g p.core) (sym same) a) (subst (λ (c : Core). Rest c g) (sym same) r)
 
-    by : ((r : Pass) → Orderly r.core → IsNamed r.core g → count r.core g < n → Tries g r.core (group_begins n f g r)) → Outcome g p.core q → len_of p.core g < 4096 → Goes_on g p q (group_begins n f g q) q.began
+    by : ((r : Pass) → Orderly r.core → IsNamed r.core g → count r.core g < n → Tries g r.core (group_begins n f g r)) → Outcome g p.core q → len_of p.core g < 4096 → GoesOn g p q (group_begins n f g q) q.began
     by rest (Grown a e less) lim = grown q.began refl a e lim less
     by rest (Used a e less) lim = used q.began refl a e (rest q a.onward.orderly (named_on p.core q.core g a.onward named)) less
     by rest (Rests a r) lim = rests q.began a r
 
-    may : (m : Bool) → may_begin (list_of p.core g) ≡ m → ((r : Pass) → Orderly r.core → IsNamed r.core g → count r.core g < n → Tries g r.core (group_begins n f g r)) → Goes_on g p q (group_begins n f g q) q.began
+    may : (m : Bool) → may_begin (list_of p.core g) ≡ m → ((r : Pass) → Orderly r.core → IsNamed r.core g → count r.core g < n → Tries g r.core (group_begins n f g r)) → GoesOn g p q (group_begins n f g q) q.began
     may true e rest = by rest ((first_try f p.core g k named).0 e) (may_below (list_of p.core g) e)
     may false e rest =
         let same : q ≡ quiet p.core = (first_try f p.core g k named).1 e in

@@ -1,5 +1,5 @@
 -- In appending, closing and beginning groups stay in the order of their names, and few joins and failures wait.
-use Rattle.std.proofs.Common.{◌≡◌, ℕ, List, Option, Bool, true, false}
+use Rattle.std.proofs.Common.{ℕ, List, Option, Bool, true, false}
 use Rattle.std.specs.Prelude.{fold}
 use Rattle.rsct_packet.specs.declared.ids.ProviderId.{ProviderId}
 use Rattle.group_attr.specs.declared.attrs.Phases.{Phases}
