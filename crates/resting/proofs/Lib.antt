@@ -1,0 +1,13 @@
+pub mod Orderly
+pub mod Growing
+pub mod Beginning
+pub mod Walk
+pub mod Rows
+pub mod Calling
+pub mod Walking
+pub mod Onward
+pub mod Trying
+pub mod Settling
+pub mod Passing
+pub mod Ending
+pub mod Law
