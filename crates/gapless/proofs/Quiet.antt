@@ -1,4 +1,4 @@
--- Where a goodbye that is taken puts nothing, nobody need be left out but who was let go by an earlier event.
+-- Since a goodbye that is taken puts nothing, nobody need be left out but who was let go by an earlier event.
 use Rattle.std.proofs.Common.{◌≡◌, ℕ, List, [], ◌∷◌, ◌++◌, Option, Some, None, Bool, true, false, refl, sym, ap, ◌∙◌, subst, inl, append_assoc}
 use Rattle.std.specs.Prelude.{not, IsTrue}
 use Rattle.std.specs.List.{list_any}
@@ -14,7 +14,9 @@ use Rattle.run_safety.specs.Past.{History, EachEvent, Within, earlier}
 use Rattle.run_safety.specs.SafeHeard.{AllHear}
 use Rattle.run_safety.specs.Stays.{stays, part, takes_part, client_of, goodbye_of, is_refused, was_let_go}
 use Rattle.leaving.proofs.Events.{goodbye_is}
-use Rattle.gapless.specs.Heard.{leaves, AllHearUnlessLeaving, EachIsHeard, GoodbyePutsNothing, AllHearWhereGoodbyesPutNothing}
+use Rattle.gapless.specs.Heard.{leaves, AllHearUnlessLeaving, EachIsHeard, AllHearEachPut}
+use Rattle.resting.specs.Rest.{GoodbyePutsNothing}
+use Rattle.resting.proofs.Law.{goodbyes_put_nothing}
 use Rattle.gapless.proofs.HeardLaw.{each_put_is_heard}
 
 module _ (event : Happening) (before : History) (quiet : GoodbyePutsNothing event) where
@@ -59,5 +61,5 @@ each : (h : History) → EachIsHeard h → EachEvent (λ event before. GoodbyePu
 each [] k quiet = tt
 each (x ∷ h) k quiet = (within x h quiet.0 [] x.records refl k.0, each h k.1 quiet.1)
 
-pub all_hear : AllHearWhereGoodbyesPutNothing
-all_hear c w k quiet = each w.before (each_put_is_heard c w k) quiet
+pub all_hear : AllHearEachPut
+all_hear c w k = each w.before (each_put_is_heard c w k) (goodbyes_put_nothing c w k)

@@ -1,16 +1,12 @@
 -- Each put is heard by each provider of the node that takes part at its place.
-use Rattle.std.specs.Prelude.{◌≡◌, ℕ, false, not, ◌&&◌, Bool, List, ◌∷◌, Some, IsTrue}
+use Rattle.std.specs.Prelude.{◌≡◌, ℕ, false, not, ◌&&◌, Bool, List, ◌∷◌, IsTrue}
 use Rattle.std.specs.List.{list_any}
 use Rattle.rsct_packet.specs.declared.ids.ProviderId.{ProviderId}
-use Rattle.rsct_packet.specs.declared.ids.ViewId.{ViewId}
 use Rattle.rsct_packet.specs.Search.{Has}
-use Rattle.group_entry.specs.declared.entry.Entry.{Entry}
-use Rattle.node_state.specs.declared.call.CallLine.TheVariants.{Goodbye}
 use Rattle.node_state.specs.declared.config.Config.{Config}
 use Rattle.node_state.specs.declared.happened.Happened.{Happened}
 use Rattle.node_state.specs.declared.happened.Happened.TheVariants.{Put, Heard}
 use Rattle.world_model.specs.Run.{Happening}
-use Rattle.world_model.specs.declared.event.Event.TheVariants.{Call}
 use Rattle.run_safety.specs.Past.{History, EachEvent, Within, earlier}
 use Rattle.run_safety.specs.SafeHeard.{AllHear}
 use Rattle.run_safety.specs.Stays.{stays, part, takes_part, client_of, goodbye_of, is_refused, was_let_go}
@@ -36,12 +32,7 @@ EachIsHeard h = EachEvent (λ event before. Within (AllHearUnlessLeaving event) 
 abbrev pub EachPutIsHeard : Type 0
 EachPutIsHeard = (c : Config) (w : Scene) → Recounted c w → EachIsHeard w.before
 
--- a goodbye that is taken puts nothing
-abbrev pub GoodbyePutsNothing : Happening → Type 0
-GoodbyePutsNothing event =
-    (n : ℕ) (client : List ℕ) → event.event ≡ Some (Call n (Goodbye client)) → list_any is_refused event.records ≡ false → (m : ℕ) (v : ViewId) (g : List ℕ) (i : ℕ) (e : Entry) → Has (Put m v g i e) event.records → ⊥
-
--- where no goodbye that is taken puts anything, each provider that takes part hears each put, unless an earlier event let it go
-abbrev pub AllHearWhereGoodbyesPutNothing : Type 0
-AllHearWhereGoodbyesPutNothing =
-    (c : Config) (w : Scene) → Recounted c w → EachEvent (λ event before. GoodbyePutsNothing event) w.before → EachEvent (λ event before. Within (AllHear event) event.records before) w.before
+-- each provider that takes part hears each put, unless an earlier event let it go: in every scene whose history names calls, and calls
+-- alone, as calls
+abbrev pub AllHearEachPut : Type 0
+AllHearEachPut = (c : Config) (w : Scene) → Recounted c w → EachEvent (λ event before. Within (AllHear event) event.records before) w.before

@@ -1,7 +1,7 @@
 //! Who takes part hears each put, and just who is left behind as a view is entered is told so, in every run.
 #![tactic(auto)]
 
-ghost use Rattle.gapless.specs.Heard.{EachPutIsHeard, AllHearWhereGoodbyesPutNothing};
+ghost use Rattle.gapless.specs.Heard.{EachPutIsHeard, AllHearEachPut};
 ghost use Rattle.gapless.specs.Hears.{TakersHear};
 ghost use Rattle.gapless.specs.Left.{TheToldWereLeftBehind, JustTheLeftBehindAreTold};
 ghost use Rattle.gapless.specs.Takers.{TakersTakePart};
@@ -42,9 +42,9 @@ pub fn each_put_is_heard_by_takers()
     ensures { EachPutIsHeard }
 {}
 
-/// So where no goodbye that is taken puts anything, each provider of the node that takes part at the place of a put hears it, unless an
-/// earlier event let it go.
+/// Since no goodbye that is taken puts anything, in the event of a put each provider of the node that takes part at its place hears it,
+/// unless an earlier event let it go.
 #[tactic(auto, using(crate::proofs::Quiet::all_hear))]
-pub fn all_hear_where_goodbyes_put_nothing()
-    ensures { AllHearWhereGoodbyesPutNothing }
+pub fn all_hear_each_put()
+    ensures { AllHearEachPut }
 {}
