@@ -20,7 +20,7 @@ use Rattle.node_groups.proofs.NameOrder.{text_same}
 use Rattle.failed_rows.specs.Failures.{state_of_stay}
 use Rattle.attending.proofs.Parts.{first_stays, last_comes, fold_push, pushed_stay}
 use Rattle.failed_causes.specs.Passed.{puts_join, latest_entries, BaseFirst}
-use Rattle.failed_causes.proofs.Grows.{there_before, there_first}
+use Rattle.failed_rows.proofs.Grows.{there_before, there_first}
 
 -- it has a first place and no last one
 abbrev pub goes_on : Part → Bool

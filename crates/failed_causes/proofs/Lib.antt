@@ -1,4 +1,3 @@
-pub mod Grows
 pub mod Ended
 pub mod Bases
 pub mod Law

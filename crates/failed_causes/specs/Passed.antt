@@ -1,17 +1,18 @@
 -- Who is gone without a goodbye: it stands in the base of the view, and did not pass into it.
-use Rattle.std.specs.Prelude.{◌≡◌, ◌⊎◌, ℕ, ◌==◌, ◌&&◌, Bool, true, false, List, [], ◌∷◌, ◌++◌, None}
+use Rattle.std.specs.Prelude.{◌≡◌, ◌⊎◌, ℕ, ◌==◌, ◌&&◌, Bool, true, false, List, [], ◌∷◌, ◌++◌}
 use Rattle.std.specs.List.{list_any}
 use Rattle.std.specs.Str.{bytes_eq}
 use Rattle.rsct_packet.specs.declared.ids.ViewId.{ViewId}
 use Rattle.rsct_packet.specs.declared.ids.ProviderId.{ProviderId}
 use Rattle.rsct_packet.specs.Providers.{among}
+use Rattle.session_state.specs.HandOn.{is_dissolved}
 use Rattle.group_entry.specs.declared.entry.Entry.{Entry}
 use Rattle.proposal_core.specs.Fold.{present}
 use Rattle.node_state.specs.declared.config.Config.{Config}
 use Rattle.node_state.specs.declared.happened.Happened.{Happened}
 use Rattle.node_state.specs.declared.happened.Happened.TheVariants.{Base, Put}
 use Rattle.run_safety.specs.Past.{records_of, earlier, EachRecord}
-use Rattle.run_safety.specs.Stays.{Stay, stays, is_join_of, asks_join, part, passes}
+use Rattle.run_safety.specs.Stays.{Stay, stays, is_join_of, part, passes}
 use Rattle.step_ties.specs.Tied.{Scene}
 use Rattle.step_ties.specs.Runs.{Reached}
 use Rattle.failed_rows.specs.Failures.{WasTold, TakenOff, StoodThere}
@@ -37,19 +38,22 @@ pub record DidNotPass (rs : List Happened) (v : ViewId) (g : List ℕ) (p : Prov
   pub unnamed : list_any (is_join_of p) stay.entries ≡ false
   pub later : list_any (puts_join p g) newer ≡ false
 
--- it was taken off a list of another group, or one in which it had no first place: it did not take part there
-abbrev pub OffApart : List Happened → List ℕ → ProviderId → Type 0
-OffApart rs g p =
-    (off : TakenOff rs p) × ((bytes_eq off.group g ≡ false) ⊎ ((part p (stays p.node off.group (Put p.node off.view off.group off.place off.entry ∷ off.older))).first ≡ None))
+-- it was told that its group was dissolved
+abbrev pub WasDissolved : List Happened → ProviderId → Type 0
+WasDissolved rs p = (told : WasTold rs p) × (is_dissolved told.why ≡ true)
 
--- Its node put its join, and at that moment it was over only since it was not asked for there yet, or by a telling, or since it was
--- taken off where it did not take part.
+-- it was taken off a list of another group
+abbrev pub OffApart : List Happened → List ℕ → ProviderId → Type 0
+OffApart rs g p = (off : TakenOff rs p) × (bytes_eq off.group g ≡ false)
+
+-- Its node put its join, and at that moment it was over only since it was told that its group was dissolved, or since it was taken off
+-- a list of another group.
 pub record JoinedAndOver (rs : List Happened) (g : List ℕ) (p : ProviderId) : Type 0 where
   pub newer : List Happened
   pub older : List Happened
   pub moment : rs ≡ newer ++ older
   pub joined : list_any (puts_join p g) rs ≡ true
-  pub why : (list_any (asks_join p) older ≡ false) ⊎ (WasTold older p ⊎ OffApart older g p)
+  pub why : WasDissolved older p ⊎ OffApart older g p
 
 -- whatever starts, stops and steps: who stood there although it was over did not pass, or its join was put all the same
 abbrev pub WhoIsOverDidNotPass : Type 0

@@ -31,7 +31,7 @@ use Rattle.run_safety.specs.Stays.{Stay, stays, stays_after, asks_join, is_refus
 use Rattle.node_groups.specs.Places.{InNameOrder}
 use Rattle.node_groups.proofs.NameOrder.{KeepsName, cases_text, row_here, row_there, rows_ordered}
 use Rattle.honest_votes.proofs.At.{found, leads_row}
-use Rattle.failed_rows.specs.Failures.{WasTold, GoneCause, EachPut}
+use Rattle.failed_rows.specs.Failures.{IsRefused, WasTold, GoneCause, EachPut}
 use Rattle.step_ties.proofs.SessionLaws.{provider_same}
 use Rattle.failed_rows.proofs.Living.{IsLive, told_lives, told_slim}
 use Rattle.failed_rows.proofs.Facts.{TallyIs, QueueIs, Track, BasesFit, Quiet, quiet_stays, quiet_puts, quiet_accepted, Of, quiet_of, BodyFails, body_on, quiet_unasked, Lives, lives_on, OwnFor, own_pushed}
@@ -199,7 +199,7 @@ module _ (h : History) (said : ProviderId → Type 0) (origin : Origin) (P L M :
         record { inc = a.inc; own = own; slim = slim; sends = a.sends; puts = a.puts; accepted = a.accepted; whose = a.whose; order = a.order; tracks = a.tracks; marks = a.marks; tallies = a.tallies; queues = a.queues; apart = a.apart; led = a.led }
 
     -- a provider is told, and may be dropped
-    pub at_told : (s : Core) (p : ProviderId) (r : ℕ) (y : Why) → ((is_join_request (outstanding s.sessions p) ≡ true) ⊎ (is_dissolved y ≡ true) → (r ≡ p.join) ⊎ (is_dissolved y ≡ true)) → At h said origin P L M T G Q s → At h said origin P L M T G Q (recorded (with_sessions s (telling_taken s.sessions p r y)) (happened.Told p r y))
+    pub at_told : (s : Core) (p : ProviderId) (r : ℕ) (y : Why) → ((is_join_request (outstanding s.sessions p) ≡ true) ⊎ (is_dissolved y ≡ true) → IsRefused (reverse s.records ++ records_of h) p r ⊎ (is_dissolved y ≡ true)) → At h said origin P L M T G Q s → At h said origin P L M T G Q (recorded (with_sessions s (telling_taken s.sessions p r y)) (happened.Told p r y))
     unfolding recorded with_sessions
     at_told s p r y ends a = at_sessions (recorded s told) (telling_taken s.sessions p r y) (slim_on origin.root s.sessions (telling_taken s.sessions p r y) (s.records ++ told ∷ []) (told_slim s.sessions p r y) (at_recorded s told tt a).slim) own (at_recorded s told tt a)
       where
@@ -212,8 +212,8 @@ module _ (h : History) (said : ProviderId → Type 0) (origin : Origin) (P L M :
         own : OwnFor h said origin.born (telling_taken s.sessions p r y) (record s { records = s.records ++ told ∷ [] })
         own q at inc asked = by ((at_recorded s told tt a).own q at inc asked)
           where
-            was_told : q ≡ p → (r ≡ p.join) ⊎ (is_dissolved y ≡ true) → WasTold (told ∷ (reverse s.records ++ records_of h)) q
-            was_told e k = subst (WasTold (told ∷ (reverse s.records ++ records_of h))) (sym e) (record { number = r; why = y; told = inl refl; ends = k })
+            was_told : q ≡ p → IsRefused (reverse s.records ++ records_of h) p r ⊎ (is_dissolved y ≡ true) → WasTold (told ∷ (reverse s.records ++ records_of h)) q
+            was_told e k = subst (WasTold (told ∷ (reverse s.records ++ records_of h))) (sym e) (record { number = r; why = y; newer = []; older = reverse s.records ++ records_of h; moment = refl; ends = k })
 
             live : IsLive (telling_taken s.sessions p r y) q ⊎ ((q ≡ p) × ((is_join_request (outstanding s.sessions p) ≡ true) ⊎ (is_dissolved y ≡ true))) → Lives said (telling_taken s.sessions p r y) (reverse (s.records ++ told ∷ []) ++ records_of h) q
             live (inl k) = inl k

@@ -3,6 +3,8 @@ use Rattle.std.proofs.Common.{◌≡◌, ◌⊎◌, ℕ, List, [], ◌∷◌, �
 use Rattle.std.specs.Prelude.{◌==◌, ◌&&◌, ◌||◌, find, nat_le, nat_lt, is_none, reverse, not, filter, if◌then◌else◌, fold}
 use Rattle.std.specs.Option.{unwrap_or}
 use Rattle.std.proofs.lemmas.Bool.{eqb-true}
+use Rattle.std.proofs.lemmas.List.{reverse-append}
+use Rattle.rsct_packet.specs.declared.ids.ViewId.{ViewId}
 use Rattle.rsct_packet.specs.declared.ids.ProviderId.{ProviderId}
 use Rattle.rsct_packet.specs.declared.ids.ProtoId.{ProtoId}
 use Rattle.rsct_packet.specs.Providers.{among, same_provider}
@@ -42,7 +44,7 @@ use Rattle.node_state.specs.Leading.{put, put_and_handed, with_waiting, with_tal
 use Rattle.node_state.specs.Deciding.{decided}
 use Rattle.node_state.specs.Following.{lookup_row, told_if, tell_row, requests_of, named, is_name_used, name_row, told_again, request_new, request_after, request_at, is_group_refused, request_row, entry_next, entry_elsewhere, entry_row, acked, ack_row, vote_cast, vote_row, tally_failed, gone_waits, marked, gone_present, gone_of, gone_row}
 use Rattle.run_safety.specs.Past.{History, records_of}
-use Rattle.run_safety.specs.Stays.{stays}
+use Rattle.run_safety.specs.Stays.{stays, is_join_of}
 use Rattle.node_groups.specs.Places.{InNameOrder, has_name}
 use Rattle.node_groups.proofs.NameOrder.{cases_text, row_here, row_there, rows_ordered}
 use Rattle.step_ties.proofs.SessionLaws.{provider_same}
@@ -51,7 +53,7 @@ use Rattle.hearing.proofs.Rows.{closes_on}
 use Rattle.honest_votes.proofs.At.{found, leads_row, leads_is}
 use Rattle.honest_votes.proofs.Hands.{handed_longer}
 use Rattle.honest_votes.proofs.Ending.{Every, NoGroup}
-use Rattle.failed_rows.specs.Failures.{GoneCause}
+use Rattle.failed_rows.specs.Failures.{IsRefused, GoneCause}
 use Rattle.failed_rows.proofs.Queues.{among_both}
 use Rattle.failed_rows.proofs.Facts.{TallyFails, TallyIs, QueueIs, BasesFit, Track}
 use Rattle.failed_rows.proofs.Origin.{Origin}
@@ -170,11 +172,11 @@ module _ (h : History) (said : ProviderId → Type 0) (origin : Origin) (P L M :
       by false = a
       by true = at_sent h said origin P L M Every NoGroup Every (record s { names = names.names_after g from s.names }) from (body.Name s.views.view g (unwrap_or (names.looked_up g from s.names) 0)) tt (at_names s (names.names_after g from s.names) a)
 
-  -- requests that are joins have the number of their provider's join
+  -- a join that is outstanding has the number of its provider's join, and its node did not put it
   abbrev Numbered : Core → Type 0
-  Numbered s = (q : Request) → Has q s.sessions.requests → is_join q.proposal ≡ true → q.r ≡ q.p.join
+  Numbered s = (q : Request) → Has q s.sessions.requests → is_join q.proposal ≡ true → IsRefused (reverse s.records ++ records_of h) q.p q.r
 
-  at_told_if : (s : Core) (p : ProviderId) (r : ℕ) (y : Why) (b : Bool) → (b ≡ true → (is_join_request (outstanding s.sessions p) ≡ true) ⊎ (is_dissolved y ≡ true) → (r ≡ p.join) ⊎ (is_dissolved y ≡ true)) → Full s → Full (told_if s p r y b)
+  at_told_if : (s : Core) (p : ProviderId) (r : ℕ) (y : Why) (b : Bool) → (b ≡ true → (is_join_request (outstanding s.sessions p) ≡ true) ⊎ (is_dissolved y ≡ true) → IsRefused (reverse s.records ++ records_of h) p r ⊎ (is_dissolved y ≡ true)) → Full s → Full (told_if s p r y b)
   unfolding told_if
   at_told_if s p r y false ends a = a
   at_told_if s p r y true ends a = at_told h said origin P L M Every NoGroup Every s p r y (ends refl) a
@@ -183,13 +185,13 @@ module _ (h : History) (said : ProviderId → Type 0) (origin : Origin) (P L M :
   unfolding tell_row outstanding
   at_tell s p r y numbered a = at_told_if s p r y (is_numbered r (find (is_asked_by p) s.sessions.requests)) ends a
     where
-      joins : (o : Option Request) → find (is_asked_by p) s.sessions.requests ≡ o → is_numbered r o ≡ true → is_join_request o ≡ true → r ≡ p.join
+      joins : (o : Option Request) → find (is_asked_by p) s.sessions.requests ≡ o → is_numbered r o ≡ true → is_join_request o ≡ true → IsRefused (reverse s.records ++ records_of h) p r
       joins None e n j = absurd (cc)
       joins (Some q) e n j =
           let k = find_has (is_asked_by p) s.sessions.requests q e in
-          sym (eqb-true q.r r n) ∙ numbered q k.0 j ∙ ap (λ (z : ProviderId). z.join) (provider_same q.p p k.1)
+          subst (λ (z : ProviderId × ℕ). IsRefused (reverse s.records ++ records_of h) z.0 z.1) (λ i. (provider_same q.p p k.1 i, eqb-true q.r r n i)) (numbered q k.0 j)
 
-      ends : is_numbered r (find (is_asked_by p) s.sessions.requests) ≡ true → (is_join_request (find (is_asked_by p) s.sessions.requests) ≡ true) ⊎ (is_dissolved y ≡ true) → (r ≡ p.join) ⊎ (is_dissolved y ≡ true)
+      ends : is_numbered r (find (is_asked_by p) s.sessions.requests) ≡ true → (is_join_request (find (is_asked_by p) s.sessions.requests) ≡ true) ⊎ (is_dissolved y ≡ true) → IsRefused (reverse s.records ++ records_of h) p r ⊎ (is_dissolved y ≡ true)
       ends n (inl j) = inl (joins (find (is_asked_by p) s.sessions.requests) refl n j)
       ends n (inr d) = inr d
 
@@ -197,9 +199,20 @@ module _ (h : History) (said : ProviderId → Type 0) (origin : Origin) (P L M :
   unfolding tell_row told_if recorded with_sessions telling_taken told_of without_providers
   told_numbered s p r y k q i j = by (is_numbered r (outstanding s.sessions p)) (takes_telling s.sessions p r y) (is_join_request (outstanding s.sessions p) || is_dissolved y) i
     where
-      by : (a b c : Bool) → Has q (told_if s p r y a).sessions.requests → q.r ≡ q.p.join
+      -- a telling more
+      told : Happened
+      told = happened.Told p r y
+
+      later : IsRefused (reverse s.records ++ records_of h) q.p q.r → IsRefused (reverse (s.records ++ told ∷ []) ++ records_of h) q.p q.r
+      later z = subst (λ rs. IsRefused (rs ++ records_of h) q.p q.r) (sym (reverse-append s.records (told ∷ []))) (record { join = z.join; in_view = z.in_view; unput = other z })
+        where
+          other : IsRefused (reverse s.records ++ records_of h) q.p q.r → (v : ViewId) (g : List ℕ) (i : ℕ) (e : Entry) → Has (happened.Put q.p.node v g i e) (told ∷ (reverse s.records ++ records_of h)) → is_join_of q.p e ≡ true → ⊥
+          other z v g i e (inl w) = let x : happened.Put q.p.node v g i e ≡ happened.Told p r y = w in absurd (cc)
+          other z v g i e (inr w) = z.unput v g i e w
+
+      by : (a b c : Bool) → Has q (told_if s p r y a).sessions.requests → IsRefused (reverse (told_if s p r y a).records ++ records_of h) q.p q.r
       by false b c i = k q i j
-      by true b c i = k q (fewer i) j
+      by true b c i = later (k q (fewer i) j)
         where
           fewer : Has q (telling_taken s.sessions p r y).requests → Has q s.sessions.requests
           fewer i = at (takes_telling s.sessions p r y) (is_join_request (outstanding s.sessions p) || is_dissolved y) i

@@ -14,6 +14,8 @@ use Rattle.node_state.specs.declared.call.CallLine.{CallLine}
 use Rattle.node_state.specs.declared.call.CallLine.TheVariants as call
 use Rattle.node_state.specs.declared.config.Config.{Config}
 use Rattle.node_state.specs.declared.happened.Happened.{Happened}
+use Rattle.node_state.specs.declared.happened.Happened.TheVariants as happened
+use Rattle.group_entry.specs.declared.proposal.Proposal.{Proposal}
 use Rattle.node_state.specs.declared.packet.Body.{Body}
 use Rattle.node_state.specs.declared.packet.Body.TheVariants as body
 use Rattle.node_state.specs.declared.packet.Packet.{Packet}
@@ -130,6 +132,14 @@ module _ (w : Scene) (n : ℕ) (f : Answering) (s : Core) (e : NodeEvent) (v : E
   at : At w.before Said (origin_of s (Some (root_of (at_work s) e))) (Unit {0}) (Unit {0}) Leaves Every NoGroup Every t
   at = at_stepped w n f s Said Leaves e k.sent (λ h. begin_tied h w n s up (rests h)) arises at_begin calls
 
+  -- whoever asks for a join in this event asks by the call
+  pub asked_by_call : (p : ProviderId) (g : List ℕ) (x : Proposal) → Has (happened.Asked p p.join g x) t.records → Has (happened.Asked p p.join g x) (root_of (at_work s) e).records
+  asked_by_call = at.slim.asked
+
+  -- at its own node
+  pub asked_here : (p : ProviderId) (g : List ℕ) (x : Proposal) → Has (happened.Asked p p.join g x) t.records → p.node ≡ t.views.me
+  asked_here p g x i = at.whose (happened.Asked p p.join g x) i
+
   fit : BasesFit t.records
   fit r i = noted_fit (ended w n v t) after r (has_turned r t.records (records_of w.before) (append_has_left r t.records (records_of w.before) i))
 
@@ -214,7 +224,7 @@ module _ (w : Scene) (n : ℕ) (f : Answering) (s : Core) (e : NodeEvent) (v : E
 
 -- ---- every scene
 
-played_honest : (c : Config) (w : Scene) → Played c w → Honest w
+pub played_honest : (c : Config) (w : Scene) → Played c w → Honest w
 played_honest c _ Nothing = record { sent = λ p i. absurd i; nodes = λ m. tt; puts = tt }
 played_honest c _ (AllStart fixed) =
     fresh_honest (fold (λ (w : Scene) n. starts_too w n (w.cores n)) (record (nothing_yet c) { before = record { event = None; records = [] } ∷ [] }) (nodes_of c.nodes)) (fold_fresh (nodes_of c.nodes) (record (nothing_yet c) { before = record { event = None; records = [] } ∷ [] }) (record { sent = refl; nodes = λ m. tt; puts = (tt, tt); unasked = λ p. refl }))

@@ -238,7 +238,7 @@ module _ (h : History) (said : ProviderId → Type 0) (origin : Origin) (P L M :
 
         handed_at : At h said origin P L M U G Q w
         handed_at =
-            at_handed h said origin P L M U G Q f u (leader_of u g) g (len_of s g) (state_of s g) st e (taken_off h said origin P L M T G Q s u g e live a (ap (λ (z : Views). z.me) sends.views) sends.sessions sends.records (λ k. held_is h said origin P L M U G Q t live put_at k)) sent_at
+            at_handed h said origin P L M U G Q f u (leader_of u g) g (len_of s g) (state_of s g) st e s.views.view (ap (λ (z : Views). z.view) sends.views) (taken_off h said origin P L M T G Q s u g e live a (ap (λ (z : Views). z.me) sends.views) sends.sessions sends.records (λ k. held_is h said origin P L M U G Q t live put_at k)) sent_at
 
         forgot_at : At h said origin P L M U G Q x
         forgot_at = at_forgets U G Q w g (least_acked w g) handed_at

@@ -26,8 +26,8 @@ use Rattle.run_safety.specs.Stays.{Stay, stays, is_join_of, asks_join, is_refuse
 use Rattle.run_safety.specs.Stays as kept
 use Rattle.node_groups.proofs.NameOrder.{cases_text, text_self, text_other, row_here, row_there, rows_ordered}
 use Rattle.honest_votes.proofs.At.{found, leads_row}
-use Rattle.failed_rows.specs.Failures.{GoneCause, PutHolds, EntryFails, EachPut, state_held, state_of_stay, state_in_stays, TakenOff}
-use Rattle.failed_rows.proofs.Facts.{TallyIs, QueueIs, Track, BasesFit, Of, BodyFails, body_on, own_pushed}
+use Rattle.failed_rows.specs.Failures.{GoneCause, PutHolds, EntryFails, EachPut, state_held, state_of_stay, state_in_stays}
+use Rattle.failed_rows.proofs.Facts.{TallyIs, QueueIs, Track, BasesFit, Of, BodyFails, body_on, own_pushed, PutOff}
 use Rattle.failed_rows.proofs.Origin.{Origin, slim_more}
 use Rattle.failed_rows.proofs.At.{At}
 use Rattle.session_state.specs.HandOn.{hearers, is_present}
@@ -88,15 +88,10 @@ module _ (h : History) (said : ProviderId → Type 0) (origin : Origin) (P L M :
       subst (λ (z : (List ℕ → GroupState) × GroupState). EntryFails (GoneCause h s.views.view g) z.0 z.1 e) (λ j. ((λ k. sym (held_is s l a k) j), sym (held_is s l a g) j)) ok
 
   -- who is handed an entry and is not there after it was taken off by it
-  pub taken_off : (s t : Core) (g : List ℕ) (e : Entry) → L → At h said origin P L M T G Q s → t.views.me ≡ s.views.me → t.sessions ≡ s.sessions → t.records ≡ (put s g e).records → ((k : List ℕ) → state_held s.views.me k (reverse (put s g e).records ++ records_of h) ≡ state_in (found (put s g e) k).list) → (p : ProviderId) → p.node ≡ t.views.me → Has p (hearers t.sessions g (state_of s g) e) → is_present (state_of (put s g e) g) p ≡ false → TakenOff (reverse t.records ++ records_of h) p
+  pub taken_off : (s t : Core) (g : List ℕ) (e : Entry) → L → At h said origin P L M T G Q s → t.views.me ≡ s.views.me → t.sessions ≡ s.sessions → t.records ≡ (put s g e).records → ((k : List ℕ) → state_held s.views.me k (reverse (put s g e).records ++ records_of h) ≡ state_in (found (put s g e) k).list) → (p : ProviderId) → p.node ≡ t.views.me → Has p (hearers t.sessions g (state_of s g) e) → is_present (state_of (put s g e) g) p ≡ false → PutOff (reverse t.records ++ records_of h) p s.views.view g (len_of s g) e
   unfolding put recorded with_row state_of len_of list_of row_of is_present
   taken_off s t g e live a me sessions records held p node hears off =
       record {
-        group = g;
-        view = s.views.view;
-        place = len_in (found s g).list;
-        entry = e;
-        newer = [];
         older = older;
         moment = ap (λ z. reverse z ++ records_of h) records ∙ turned ∙ ap (λ n. happened.Put n s.views.view g (len_in (found s g).list) e ∷ older) (sym here);
         was = ⊎_elim (λ (z : among (present before) p ≡ true). inl (ap (λ (x : GroupState). among (present x) p) (ap (λ n. state_held n g older) here ∙ held_is s live a g) ∙ z)) (λ (z : is_join_of p e ≡ true). inr z) (hearer_was s.sessions g before e p heard_by);
@@ -215,4 +210,4 @@ module _ (h : History) (said : ProviderId → Type 0) (origin : Origin) (P L M :
   unfolding put_and_handed put recorded with_row
   at_put_and_handed_for f s to g e live holds others rest tally queue a =
       let t : At h said origin P L M U G W (put s g e) = at_put_for h said origin P L M T G Q U W s g e holds others rest tally queue a in
-      at_handed h said origin P L M U G W f (put s g e) to g (len_of s g) (state_of s g) (state_of (put s g e) g) e (taken_off h said origin P L M T G Q s (put s g e) g e live a refl refl refl (λ k. held_is h said origin P L M U G W (put s g e) live t k)) t
+      at_handed h said origin P L M U G W f (put s g e) to g (len_of s g) (state_of s g) (state_of (put s g e) g) e s.views.view refl (taken_off h said origin P L M T G Q s (put s g e) g e live a refl refl refl (λ k. held_is h said origin P L M U G W (put s g e) live t k)) t

@@ -170,34 +170,39 @@ module _ (h : History) (said : ProviderId → Type 0) (origin : Origin) (P L M :
         over = over;
       }
 
+  -- whoever is there was asked for
+  abbrev KnownIn : List GroupRow → List Happened → Type 0
+  KnownIn rows rs =
+      (g : List ℕ) (p : ProviderId) → Has p (present (state_in (row_found g (find (has_name g) rows)).list)) → list_any (asks_join p) (reverse rs ++ records_of h) ≡ true
+
+  abbrev Known : Core → Type 0
+  Known s = KnownIn s.groups s.records
+
   -- so GONE has its cause
-  gone_of : (s : Core) (row : GroupRow) (p : ProviderId) → found s row.name ≡ row → p.node ≡ s.views.me → p.inc ≡ s.views.inc → is_none (provider_of s.sessions p) ≡ true → Has p (present (state_in row.list)) → Full s → said p ⊎ StoodThere (reverse s.records ++ records_of h) s.views.view row.name p
+  gone_of : (s : Core) (row : GroupRow) (p : ProviderId) → Known s → found s row.name ≡ row → p.node ≡ s.views.me → p.inc ≡ s.views.inc → is_none (provider_of s.sessions p) ≡ true → Has p (present (state_in row.list)) → Full s → said p ⊎ StoodThere (reverse s.records ++ records_of h) s.views.view row.name p
   unfolding provider_of
-  gone_of s row p is node inc lost there a = by (list_any (asks_join p) (reverse s.records ++ records_of h)) refl
+  gone_of s row p known is node inc lost there a =
+      over (a.own p node (inc ∙ a.inc) (known row.name p (subst (λ (z : GroupRow). Has p (present (state_in z.list))) (sym is) there)))
     where
       over : Lives said s.sessions (reverse s.records ++ records_of h) p → said p ⊎ StoodThere (reverse s.records ++ records_of h) s.views.view row.name p
       over (inl k) = absurd (find_none (is_provider p) s.sessions.providers k.0 lost k.1 (ap (λ z. same_provider z p) k.2 ∙ provider_self p))
       over (inr (inl k)) = inl k
-      over (inr (inr k)) = inr (stood s row p is node there (inr k) a)
+      over (inr (inr k)) = inr (stood s row p is node there k a)
 
-      by : (b : Bool) → list_any (asks_join p) (reverse s.records ++ records_of h) ≡ b → said p ⊎ StoodThere (reverse s.records ++ records_of h) s.views.view row.name p
-      by false q = inr (stood s row p is node there (inl q) a)
-      by true q = over (a.own p node (inc ∙ a.inc) q)
-
-  at_losts : (row : GroupRow) (ps : List ProviderId) (s : Core) → found s row.name ≡ row → ((p : ProviderId) → Has p ps → (p.node ≡ s.views.me) × (p.inc ≡ s.views.inc) × (is_none (provider_of s.sessions p) ≡ true) × Has p (present (state_in row.list))) → Full s → Full (fold (λ t p. sent_if_known t (leader_of t row.name) (body.Gone t.views.view row.name p)) s ps)
+  at_losts : (row : GroupRow) (ps : List ProviderId) (s : Core) → Known s → found s row.name ≡ row → ((p : ProviderId) → Has p ps → (p.node ≡ s.views.me) × (p.inc ≡ s.views.inc) × (is_none (provider_of s.sessions p) ≡ true) × Has p (present (state_in row.list))) → Full s → Full (fold (λ t p. sent_if_known t (leader_of t row.name) (body.Gone t.views.view row.name p)) s ps)
   unfolding sent_if_known sent sent_on
-  at_losts row [] s is all a = a
-  at_losts row (p ∷ ps) s is all a = by (leader_of s row.name) (at_losts row ps)
+  at_losts row [] s known is all a = a
+  at_losts row (p ∷ ps) s known is all a = by (leader_of s row.name) (at_losts row ps)
     where
-      by : (o : Option ℕ) → ((s : Core) → found s row.name ≡ row → ((p : ProviderId) → Has p ps → (p.node ≡ s.views.me) × (p.inc ≡ s.views.inc) × (is_none (provider_of s.sessions p) ≡ true) × Has p (present (state_in row.list))) → Full s → Full (fold (λ t p. sent_if_known t (leader_of t row.name) (body.Gone t.views.view row.name p)) s ps)) → Full (fold (λ t p. sent_if_known t (leader_of t row.name) (body.Gone t.views.view row.name p)) (sent_if_known s o (body.Gone s.views.view row.name p)) ps)
-      by None rest = rest s is (λ q i. all q (inr i)) a
+      by : (o : Option ℕ) → ((s : Core) → Known s → found s row.name ≡ row → ((p : ProviderId) → Has p ps → (p.node ≡ s.views.me) × (p.inc ≡ s.views.inc) × (is_none (provider_of s.sessions p) ≡ true) × Has p (present (state_in row.list))) → Full s → Full (fold (λ t p. sent_if_known t (leader_of t row.name) (body.Gone t.views.view row.name p)) s ps)) → Full (fold (λ t p. sent_if_known t (leader_of t row.name) (body.Gone t.views.view row.name p)) (sent_if_known s o (body.Gone s.views.view row.name p)) ps)
+      by None rest = rest s known is (λ q i. all q (inr i)) a
       by (Some n) rest =
           let k = all p (inl refl) in
-          rest (sent s n (body.Gone s.views.view row.name p)) is (λ q i. all q (inr i)) (at_sent h said origin P L M Every NoGroup Every s n (body.Gone s.views.view row.name p) (gone_of s row p is k.0 k.1 k.2 k.3 a) a)
+          rest (sent s n (body.Gone s.views.view row.name p)) known is (λ q i. all q (inr i)) (at_sent h said origin P L M Every NoGroup Every s n (body.Gone s.views.view row.name p) (gone_of s row p known is k.0 k.1 k.2 k.3 a) a)
 
-  at_lost : (s : Core) (row : GroupRow) → found s row.name ≡ row → Full s → Full (lost_told s row)
+  at_lost : (s : Core) (row : GroupRow) → Known s → found s row.name ≡ row → Full s → Full (lost_told s row)
   unfolding lost_told is_lost
-  at_lost s row is a = at_losts row (filter (is_lost s) (present (state_in row.list))) s is all a
+  at_lost s row known is a = at_losts row (filter (is_lost s) (present (state_in row.list))) s known is all a
     where
       all : (p : ProviderId) → Has p (filter (is_lost s) (present (state_in row.list))) → (p.node ≡ s.views.me) × (p.inc ≡ s.views.inc) × (is_none (provider_of s.sessions p) ≡ true) × Has p (present (state_in row.list))
       all p i =
@@ -215,18 +220,31 @@ module _ (h : History) (said : ProviderId → Type 0) (origin : Origin) (P L M :
       by None = refl
       by (Some n) = refl
 
+  losts_records : (row : GroupRow) (ps : List ProviderId) (s : Core) → (fold (λ t p. sent_if_known t (leader_of t row.name) (body.Gone t.views.view row.name p)) s ps).records ≡ s.records
+  unfolding sent_if_known sent sent_on
+  losts_records row [] s = refl
+  losts_records row (p ∷ ps) s = losts_records row ps (sent_if_known s (leader_of s row.name) (body.Gone s.views.view row.name p)) ∙ by (leader_of s row.name)
+    where
+      by : (o : Option ℕ) → (sent_if_known s o (body.Gone s.views.view row.name p)).records ≡ s.records
+      by None = refl
+      by (Some n) = refl
+
+  lost_records : (s : Core) (row : GroupRow) → (lost_told s row).records ≡ s.records
+  unfolding lost_told
+  lost_records s row = losts_records row (filter (is_lost s) (present (state_in row.list))) s
+
   lost_rows : (s : Core) (row : GroupRow) → (lost_told s row).groups ≡ s.groups
   unfolding lost_told
   lost_rows s row = losts_rows row (filter (is_lost s) (present (state_in row.list))) s
 
-  at_all_lost : (rows : List GroupRow) (s : Core) → ((row : GroupRow) → Has row rows → Has row s.groups) → Full s → Full (fold lost_told s rows)
-  at_all_lost [] s all a = a
-  at_all_lost (row ∷ rows) s all a =
-      at_all_lost rows (lost_told s row) (λ x i. subst (Has x) (sym (lost_rows s row)) (all x (inr i))) (at_lost s row (ap (row_found row.name) (found_self s.groups row a.order (all row (inl refl)))) a)
+  at_all_lost : (rows : List GroupRow) (s : Core) → Known s → ((row : GroupRow) → Has row rows → Has row s.groups) → Full s → Full (fold lost_told s rows)
+  at_all_lost [] s known all a = a
+  at_all_lost (row ∷ rows) s known all a =
+      at_all_lost rows (lost_told s row) (subst (λ (z : List GroupRow × List Happened). KnownIn z.0 z.1) (λ i. (sym (lost_rows s row) i, sym (lost_records s row) i)) known) (λ x i. subst (Has x) (sym (lost_rows s row)) (all x (inr i))) (at_lost s row known (ap (row_found row.name) (found_self s.groups row a.order (all row (inl refl)))) a)
 
-  pub at_owed_part : (s : Core) → Full s → Full (owed_part s)
+  pub at_owed_part : (s : Core) → Known (requests_sent s) → Full s → Full (owed_part s)
   unfolding owed_part held_rows
-  at_owed_part s a = by (frozen s)
+  at_owed_part s known a = by (frozen s)
     where
       t : Core
       t = requests_sent s
@@ -237,7 +255,7 @@ module _ (h : History) (said : ProviderId → Type 0) (origin : Origin) (P L M :
       by : (b : Bool) → Full (elim b as (λ _. Core) [ true ↦ s | false ↦ votes_sent_again (fold lost_told t rows) ])
       by true = a
       by false =
-          at_votes_again h said origin P L M Every NoGroup Every (fold lost_told t rows) (at_all_lost rows t (λ row i. (has_filter (λ (row : GroupRow). is_some row.list) row t.groups i).0) (at_requests_sent h said origin P L M Every NoGroup Every s a))
+          at_votes_again h said origin P L M Every NoGroup Every (fold lost_told t rows) (at_all_lost rows t known (λ row i. (has_filter (λ (row : GroupRow). is_some row.list) row t.groups i).0) (at_requests_sent h said origin P L M Every NoGroup Every s a))
 
   -- ---- what is led
 

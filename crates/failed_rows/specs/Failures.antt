@@ -22,10 +22,10 @@ use Rattle.source_target.specs.Due.{allowed}
 use Rattle.client_callbacks.specs.declared.told.Why.{Why}
 use Rattle.session_state.specs.HandOn.{is_dissolved}
 use Rattle.node_state.specs.declared.happened.Happened.{Happened}
-use Rattle.node_state.specs.declared.happened.Happened.TheVariants.{In, Put, Told}
+use Rattle.node_state.specs.declared.happened.Happened.TheVariants.{In, Put, Heard, Told}
 use Rattle.world_model.specs.Run.{Happening}
-use Rattle.run_safety.specs.Past.{History, records_of, earlier, fold_from, EachEvent}
-use Rattle.run_safety.specs.Stays.{Stay, stays, is_join_of, asks_join, is_refused, client_of, goodbye_of, was_let_go}
+use Rattle.run_safety.specs.Past.{History, records_of, earlier, fold_from, view_now, EachEvent}
+use Rattle.run_safety.specs.Stays.{Stay, stays, is_join_of, is_refused, client_of, goodbye_of, was_let_go}
 
 -- ---- the group's state at a node, by its records
 
@@ -55,28 +55,41 @@ pub record SaidGoodbye (before : History) (p : ProviderId) : Type 0 where
 abbrev pub GoodbyesLetGo : Type 0
 GoodbyesLetGo = (before : History) (p : ProviderId) → SaidGoodbye before p → was_let_go p before ≡ true
 
+-- the number is that of its join, its own node was in a view, and had put no entry that names it in a join, of any group
+pub record IsRefused (rs : List Happened) (p : ProviderId) (number : ℕ) : Type 0 where
+  pub join : number ≡ p.join
+  pub in_view : (v : ViewId) × (view_now p.node rs ≡ Some v)
+  pub unput : (v : ViewId) (g : List ℕ) (i : ℕ) (e : Entry) → Has (Put p.node v g i e) rs → is_join_of p e ≡ true → ⊥
+
 -- it was told that its join was refused, or that its group was dissolved
 pub record WasTold (rs : List Happened) (p : ProviderId) : Type 0 where
   pub number : ℕ
   pub why : Why
-  pub told : Has (Told p number why) rs
-  pub ends : (number ≡ p.join) ⊎ (is_dissolved why ≡ true)
+  pub newer : List Happened
+  pub older : List Happened
+  pub moment : rs ≡ newer ++ Told p number why ∷ older
+  pub ends : IsRefused older p number ⊎ (is_dissolved why ≡ true)
 
--- its own node put an entry after which it is neither member nor running joiner, as it was before, or was by that entry
+-- its own node put an entry after which it is neither member nor running joiner, as it was before, or was by that entry; and it heard
+-- that entry, before its node put anything else of the group or left the view
 pub record TakenOff (rs : List Happened) (p : ProviderId) : Type 0 where
   pub group : List ℕ
   pub view : ViewId
   pub place : ℕ
   pub entry : Entry
+  pub members : List ProviderId
+  pub value : List ℕ
   pub newer : List Happened
+  pub between : List Happened
   pub older : List Happened
-  pub moment : rs ≡ newer ++ Put p.node view group place entry ∷ older
+  pub moment : rs ≡ newer ++ Heard p view group place entry members value ∷ (between ++ Put p.node view group place entry ∷ older)
+  pub still : stays p.node group (between ++ Put p.node view group place entry ∷ older) ≡ stays p.node group (Put p.node view group place entry ∷ older)
   pub was : (among (present (state_held p.node group older)) p ≡ true) ⊎ (is_join_of p entry ≡ true)
   pub off : among (present (state_held p.node group (Put p.node view group place entry ∷ older))) p ≡ false
 
--- a provider whose join was asked for at its node is none of it any more, and so it is recorded why
+-- a provider is none of its node any more, and it is recorded why
 abbrev pub IsOver : List Happened → ProviderId → Type 0
-IsOver rs p = (list_any (asks_join p) rs ≡ false) ⊎ (WasTold rs p ⊎ TakenOff rs p)
+IsOver rs p = WasTold rs p ⊎ TakenOff rs p
 
 -- at some moment the provider's own node was in the view and held it as a member or a running joiner, although it was over
 pub record StoodThere (rs : List Happened) (v : ViewId) (g : List ℕ) (p : ProviderId) : Type 0 where
