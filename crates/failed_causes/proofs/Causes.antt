@@ -3,6 +3,7 @@ use Rattle.std.proofs.Common.{◌≡◌, ◌⊎◌, ℕ, List, [], ◌∷◌, tr
 use Rattle.rsct_packet.specs.declared.ids.ViewId.{ViewId}
 use Rattle.rsct_packet.specs.declared.ids.ProviderId.{ProviderId}
 use Rattle.rsct_packet.specs.Providers.{among}
+use Rattle.rsct_packet.proofs.HasLaws.{append_has_right}
 use Rattle.group_entry.specs.declared.entry.RowVote.{RowVote}
 use Rattle.group_entry.specs.declared.entry.RowVote.TheVariants as row_vote
 use Rattle.group_entry.specs.declared.entry.Closed.{Closed}
@@ -24,7 +25,8 @@ use Rattle.seen_runs.proofs.Law.{traces_seen}
 use Rattle.failed_causes.specs.Causes.{ExactCause, PutHasCause, EachPutHasCause, FailuresHaveExactCauses, FailuresAreExact}
 use Rattle.failed_causes.proofs.Ended.{Firsts}
 use Rattle.failed_causes.proofs.Bases.{bases_come_first}
-use Rattle.failed_causes.proofs.Law.{Ordered, firsts_of, firsts_after, seen_after, ordered_of, ordered_after, says}
+use Rattle.failed_causes.proofs.Renamed.{joined_in_one}
+use Rattle.failed_causes.proofs.Law.{Ordered, OneGroup, firsts_of, firsts_after, seen_after, ordered_of, ordered_after, says}
 
 -- ---- one cause in place of another
 
@@ -66,10 +68,10 @@ module _ (gone now : ProviderId → Type 0) (on : (p : ProviderId) → gone p �
 
 -- ---- each put
 
-module _ (before : History) (seen : Seen (records_of before)) (firsts : Firsts (records_of before)) (order : Ordered (records_of before)) where
+module _ (before : History) (seen : Seen (records_of before)) (firsts : Firsts (records_of before)) (order : Ordered (records_of before)) (single : OneGroup (records_of before)) where
   exact : (v : ViewId) (g : List ℕ) (p : ProviderId) → GoneCause before v g p → ExactCause before v g p
   exact v g p (inl k) = inl k
-  exact v g p (inr st) = inr (says (records_of before) v g p seen firsts order st)
+  exact v g p (inr st) = inr (says (records_of before) v g p seen firsts order single st)
 
   put_on : (r : Happened) (now : List Happened) → PutHolds now before r → PutHasCause now before r
   put_on (happened.Put n v g i e) now k = λ first. entry_on (GoneCause before v g) (ExactCause before v g) (exact v g) (λ h. state_held n h (earlier now before)) (state_held n g (earlier now before)) e (k first)
@@ -98,15 +100,16 @@ module _ (before : History) (seen : Seen (records_of before)) (firsts : Firsts (
       pair : (EachPut now before → EachPutHasCause now before) → PutHolds now before r × EachPut now before → PutHasCause now before r × EachPutHasCause now before
       pair rest k = (put_on r now k.0, rest k.1)
 
-all_on : (h : History) → Seen (records_of h) → Firsts (records_of h) → Ordered (records_of h) → FailuresHaveCauses h → FailuresHaveExactCauses h
-all_on [] seen firsts order k = tt
-all_on (e ∷ before) seen firsts order k =
+all_on : (h : History) → Seen (records_of h) → Firsts (records_of h) → Ordered (records_of h) → OneGroup (records_of h) → FailuresHaveCauses h → FailuresHaveExactCauses h
+all_on [] seen firsts order single k = tt
+all_on (e ∷ before) seen firsts order single k =
     let s = seen_after e.records (records_of before) seen in
     let f = firsts_after e.records (records_of before) firsts in
     let o = ordered_after e.records (records_of before) order in
-    (each_on before s f o e.records k.0, all_on before s f o k.1)
+    let one : OneGroup (records_of before) = λ p g h x y a b. single p g h x y (append_has_right (happened.Asked p p.join g x) e.records (records_of before) a) (append_has_right (happened.Asked p p.join h y) e.records (records_of before) b) in
+    (each_on before s f o one e.records k.0, all_on before s f o one k.1)
 
 pub failures_are_exact : FailuresAreExact
 failures_are_exact c w k =
     let r = reached c w k in
-    all_on w.before (traces_seen c w r) (firsts_of w.before (bases_come_first c w r)) (ordered_of w.before (heard_in_order c w r)) (failures_are_honest c w k)
+    all_on w.before (traces_seen c w r) (firsts_of w.before (bases_come_first c w r)) (ordered_of w.before (heard_in_order c w r)) (joined_in_one c w r) (failures_are_honest c w k)

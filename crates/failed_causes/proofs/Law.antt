@@ -11,6 +11,7 @@ use Rattle.rsct_packet.specs.Search.{Has}
 use Rattle.client_callbacks.specs.declared.told.Why.{Why}
 use Rattle.session_state.specs.HandOn.{is_dissolved}
 use Rattle.group_entry.specs.declared.entry.Entry.{Entry}
+use Rattle.group_entry.specs.declared.proposal.Proposal.{Proposal}
 use Rattle.proposal_core.specs.Fold.{present}
 use Rattle.node_state.specs.declared.happened.Happened.{Happened}
 use Rattle.node_state.specs.declared.happened.Happened.TheVariants as happened
@@ -24,9 +25,10 @@ use Rattle.failed_rows.specs.Failures.{state_in_stays, state_held, IsRefused, Wa
 use Rattle.failed_rows.proofs.Asked.{join_carried}
 use Rattle.seen_runs.specs.Seen.{Seen, SeenAt, OnceSeen, BeginsOnce, WasTold as WasRefused}
 use Rattle.seen_runs.proofs.Law.{traces_seen}
-use Rattle.failed_causes.specs.Passed.{puts_join, BaseFirst, DidNotPass, WasDissolved, OffApart, JoinedAndOver, WhoIsOverDidNotPass}
+use Rattle.failed_causes.specs.Passed.{puts_join, BaseFirst, DidNotPass, WasDissolved, JoinedAndOver, WhoIsOverDidNotPass}
 use Rattle.failed_causes.proofs.Ended.{Out, Firsts, out_on, there_out, first_out, off_out}
 use Rattle.failed_causes.proofs.Bases.{bases_come_first}
+use Rattle.failed_causes.proofs.Renamed.{joined_in_one}
 
 -- ---- one record after another
 
@@ -106,6 +108,15 @@ begins_once p g r rs x s =
 or_right : (b c : Bool) → c ≡ true → (b || c) ≡ true
 or_right true c q = refl
 or_right false c q = q
+
+-- it was asked for in that group
+asked_in : (p : ProviderId) (g : List ℕ) (rs : List Happened) → Seen rs → list_any (puts_join p g) rs ≡ true → (x : Proposal) × Has (happened.Asked p p.join g x) rs
+asked_in p g [] s q = absurd (cc)
+asked_in p g (r ∷ rs) s q = by (puts_join p g r) refl q (asked_in p g rs s.1)
+  where
+    by : (b : Bool) → puts_join p g r ≡ b → (b || list_any (puts_join p g) rs) ≡ true → (list_any (puts_join p g) rs ≡ true → (x : Proposal) × Has (happened.Asked p p.join g x) rs) → (x : Proposal) × Has (happened.Asked p p.join g x) (r ∷ rs)
+    by true e q rest = let a = (begins_once p g r rs (puts_it p g r e) s.0).asked in (a.0, inr a.1)
+    by false e q rest = let a = rest q in (a.0, inr a.1)
 
 -- its join among these records
 record ItsPut (p : ProviderId) (g : List ℕ) (rs : List Happened) : Type 0 where
@@ -229,6 +240,10 @@ none_right t xs ys q = by (list_any t ys) refl
     by false e = e
     by true e = absurd (let z : true ≡ false = sym (any_right t xs ys e) ∙ q in cc)
 
+-- each join is asked for in one group
+abbrev pub OneGroup : List Happened → Type 0
+OneGroup rs = (p : ProviderId) (g h : List ℕ) (x y : Proposal) → Has (happened.Asked p p.join g x) rs → Has (happened.Asked p p.join h y) rs → g ≡ h
+
 -- who hears has a first place
 first_of : (count i : ℕ) (o : Option ℕ) → IsTrue (is_after count o i) → (f : ℕ) × (o ≡ Some f)
 first_of count i None k = absurd (let z : false ≡ true = k in cc)
@@ -236,7 +251,7 @@ first_of count i (Some f) k = (f, refl)
 
 -- ---- the law
 
-module _ (rs : List Happened) (v : ViewId) (g : List ℕ) (p : ProviderId) (seen : Seen rs) (firsts : Firsts rs) (order : Ordered rs) (st : StoodThere rs v g p) where
+module _ (rs : List Happened) (v : ViewId) (g : List ℕ) (p : ProviderId) (seen : Seen rs) (firsts : Firsts rs) (order : Ordered rs) (single : OneGroup rs) (st : StoodThere rs v g p) where
   seen_now : Seen (st.newer ++ st.older)
   seen_now = subst Seen st.moment seen
 
@@ -273,7 +288,14 @@ module _ (rs : List Happened) (v : ViewId) (g : List ℕ) (p : ProviderId) (seen
         later = later;
       })
 
-  unsettled : Joined → WasDissolved st.older p ⊎ OffApart st.older g p → Says
+  -- so its node puts its join in one group
+  joined_once : (h : List ℕ) → Joined → list_any (puts_join p h) (st.newer ++ st.older) ≡ true → h ≡ g
+  joined_once h q other =
+      let a = asked_in p g (st.newer ++ st.older) seen_now q in
+      let b = asked_in p h (st.newer ++ st.older) seen_now other in
+      single p h g b.0 a.0 (subst (Has (happened.Asked p p.join h b.0)) (sym st.moment) b.1) (subst (Has (happened.Asked p p.join g a.0)) (sym st.moment) a.1)
+
+  unsettled : Joined → WasDissolved st.older p → Says
   unsettled q why =
       inr (record { newer = st.newer; older = st.older; moment = st.moment; joined = ap (list_any (puts_join p g)) st.moment ∙ q; why = why })
 
@@ -326,20 +348,16 @@ module _ (rs : List Happened) (v : ViewId) (g : List ℕ) (p : ProviderId) (seen
         subst (λ z. Out true p (stays p.node off.group z)) (sym off_moment) (gone_out p off.group off_newer off.older off.view off.place off.entry first.0 first.1 off.off firsts_off (subst Seen off_moment seen_then))
 
     taken : Joined → Says
-    taken q = by (bytes_eq off.group g) refl
-      where
-        by : (b : Bool) → bytes_eq off.group g ≡ b → Says
-        by false e = unsettled q (inr (off, e))
-        by true e =
-            let same : off.group ≡ g = text_same off.group g e in
-            done true (none_later p g st.newer st.older seen_now (its_put p g st.older (subst (λ h. list_any (puts_join p h) st.older ≡ true) same its_join))) (subst (λ h. Out true p (stays p.node h st.older)) same gone)
+    taken q =
+        let same : off.group ≡ g = joined_once off.group q (any_right (puts_join p off.group) st.newer st.older its_join) in
+        done true (none_later p g st.newer st.older seen_now (its_put p g st.older (subst (λ h. list_any (puts_join p h) st.older ≡ true) same its_join))) (subst (λ h. Out true p (stays p.node h st.older)) same gone)
 
   pub says : Says
   says = by (list_any (puts_join p g) (st.newer ++ st.older)) refl st.over
     where
       was_told : Joined → (told : WasTold st.older p) → IsRefused told.older p told.number ⊎ (is_dissolved told.why ≡ true) → Says
       was_told q told (inl k) = refused told k
-      was_told q told (inr d) = unsettled q (inl (told, d))
+      was_told q told (inr d) = unsettled q (told, d)
 
       by : (b : Bool) → list_any (puts_join p g) (st.newer ++ st.older) ≡ b → WasTold st.older p ⊎ TakenOff st.older p → Says
       by false q over = never_put q
@@ -348,4 +366,4 @@ module _ (rs : List Happened) (v : ViewId) (g : List ℕ) (p : ProviderId) (seen
 
 pub over_did_not_pass : WhoIsOverDidNotPass
 over_did_not_pass c w k v g p st =
-    says (records_of w.before) v g p (traces_seen c w k) (firsts_of w.before (bases_come_first c w k)) (ordered_of w.before (heard_in_order c w k)) st
+    says (records_of w.before) v g p (traces_seen c w k) (firsts_of w.before (bases_come_first c w k)) (ordered_of w.before (heard_in_order c w k)) (joined_in_one c w k) st

@@ -15,7 +15,7 @@ use Rattle.run_safety.specs.Past.{records_of, earlier, EachRecord}
 use Rattle.run_safety.specs.Stays.{Stay, stays, is_join_of, part, passes}
 use Rattle.step_ties.specs.Tied.{Scene}
 use Rattle.step_ties.specs.Runs.{Reached}
-use Rattle.failed_rows.specs.Failures.{WasTold, TakenOff, StoodThere}
+use Rattle.failed_rows.specs.Failures.{WasTold, StoodThere}
 
 -- the provider's own node puts an entry of the group that names it in a join
 abbrev pub puts_join : ProviderId → List ℕ → Happened → Bool
@@ -42,18 +42,13 @@ pub record DidNotPass (rs : List Happened) (v : ViewId) (g : List ℕ) (p : Prov
 abbrev pub WasDissolved : List Happened → ProviderId → Type 0
 WasDissolved rs p = (told : WasTold rs p) × (is_dissolved told.why ≡ true)
 
--- it was taken off a list of another group
-abbrev pub OffApart : List Happened → List ℕ → ProviderId → Type 0
-OffApart rs g p = (off : TakenOff rs p) × (bytes_eq off.group g ≡ false)
-
--- Its node put its join, and at that moment it was over only since it was told that its group was dissolved, or since it was taken off
--- a list of another group.
+-- its node put its join, and at that moment it was over only since it was told that its group was dissolved
 pub record JoinedAndOver (rs : List Happened) (g : List ℕ) (p : ProviderId) : Type 0 where
   pub newer : List Happened
   pub older : List Happened
   pub moment : rs ≡ newer ++ older
   pub joined : list_any (puts_join p g) rs ≡ true
-  pub why : WasDissolved older p ⊎ OffApart older g p
+  pub why : WasDissolved older p
 
 -- whatever starts, stops and steps: who stood there although it was over did not pass, or its join was put all the same
 abbrev pub WhoIsOverDidNotPass : Type 0

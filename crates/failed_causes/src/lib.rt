@@ -12,8 +12,7 @@ pub fn bases_come_first()
 {}
 
 /// Whoever its own node held in a view although it was over is of the base there, did not pass into the view, and is named by no
-/// join that the node put there; unless its node put its join, and it was over only since it was told that its group was dissolved,
-/// or since it was taken off a list of another group.
+/// join that the node put there; unless its node put its join, and it was over only since it was told that its group was dissolved.
 #[tactic(auto, using(crate::proofs::Law::over_did_not_pass))]
 pub fn who_is_over_did_not_pass()
     ensures { WhoIsOverDidNotPass }
