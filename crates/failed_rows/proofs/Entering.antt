@@ -53,7 +53,7 @@ use Rattle.honest_votes.proofs.Ending.{Every, NoGroup}
 use Rattle.failed_rows.specs.Failures.{EachPut}
 use Rattle.failed_rows.proofs.Queues.{Stays, failed_stays}
 use Rattle.failed_rows.proofs.Bases.{bases_put, bases_track}
-use Rattle.failed_rows.proofs.Facts.{Quiet, BasesFit, Of, BodyFails, body_on, Track, own_pushed}
+use Rattle.failed_rows.proofs.Facts.{Whys, Quiet, BasesFit, Of, BodyFails, body_on, Track, own_pushed}
 use Rattle.failed_rows.proofs.Living.{slim_same}
 use Rattle.failed_rows.proofs.Origin.{Origin, slim_more, slim_on}
 use Rattle.failed_rows.proofs.At.{At, at_fold, at_sent, at_recorded_all, at_views, at_told}
@@ -112,6 +112,7 @@ module _ (h : History) (said : ProviderId → Type 0) (origin : Origin) (P L M :
         queues = λ fit g z. absurd z;
         apart = a.apart;
         led = λ g z. absurd z;
+        whys = a.whys;
       }
 
   -- (1)
@@ -143,6 +144,7 @@ module _ (h : History) (said : ProviderId → Type 0) (origin : Origin) (P L M :
         queues = λ fit g u. inl (ap (λ (x : GroupRow). x.led.waiting.failures) (row_is g) ∙ unqueued g (base_named bs g));
         apart = λ l fit g. ap (λ (x : GroupRow). joiners_fit (state_in x.list)) (row_is g) ∙ fitted fit g;
         led = λ g z. absurd z;
+        whys = λ g. subst (λ (x : GroupRow). Whys x.led) (sym (row_is g)) (unkept g (base_named bs g));
       }
     where
       bs : List Base
@@ -178,6 +180,10 @@ module _ (h : History) (said : ProviderId → Type 0) (origin : Origin) (P L M :
       unmarked : (g : List ℕ) (o : Option Base) (p : ProviderId) → among (row_found g (option_map base_row o)).led.gone p ≡ true → ⊥
       unmarked g None p e = cc
       unmarked g (Some b) p e = cc
+
+      unkept : (g : List ℕ) (o : Option Base) → Whys (row_found g (option_map base_row o)).led
+      unkept g None d j = absurd j
+      unkept g (Some b) d j = absurd j
 
       uncounted : (g : List ℕ) (o : Option Base) → (row_found g (option_map base_row o)).led.tally ≡ None
       uncounted g None = refl

@@ -18,7 +18,11 @@ use Rattle.proposal_core.specs.declared.group_state.Running.{Running}
 use Rattle.proposal_core.specs.Fold.{joiners_fit, present}
 use Rattle.vote_phases.specs.declared.voter.Voter.{Voter}
 use Rattle.vote_phases.specs.Tally.{TallyView}
+use Rattle.client_callbacks.specs.declared.told.Why.{Why}
 use Rattle.session_state.specs.declared.state.SessionState.{SessionState}
+use Rattle.session_state.specs.HandOn.{is_dissolved}
+use Rattle.node_state.specs.declared.group.Decision.{Decision}
+use Rattle.node_state.specs.declared.group.Led.{Led}
 use Rattle.node_state.specs.declared.happened.Happened.{Happened}
 use Rattle.node_state.specs.declared.happened.Happened.TheVariants as happened
 use Rattle.node_state.specs.declared.packet.Body.{Body}
@@ -167,9 +171,19 @@ quiet_of n (happened.Shown m line) q = tt
 
 -- ---- what is sent
 
--- GONE has its cause: a goodbye of this event, or the node held the provider
+-- no refusal says that a group was dissolved
+abbrev pub NotDissolved : Option Why → Type 0
+NotDissolved None = Unit {0}
+NotDissolved (Some y) = is_dissolved y ≡ false
+
+-- nor does one that a leader keeps
+abbrev pub Whys : Led → Type 0
+Whys l = (d : Decision) → Has d l.decided → NotDissolved d.why
+
+-- GONE has its cause: a goodbye of this event, or the node held the provider; and TELL does not say that a group was dissolved
 abbrev pub BodyFails : (ProviderId → Type 0) → List Happened → Body → Type 0
 BodyFails said rs (body.Gone v g p) = said p ⊎ StoodThere rs v g p
+BodyFails said rs (body.Tell v g p r y) = is_dissolved y ≡ false
 BodyFails said rs _ = Unit {0}
 
 pub stood_on : (newer rs : List Happened) (v : ViewId) (g : List ℕ) (p : ProviderId) → StoodThere rs v g p → StoodThere (newer ++ rs) v g p
@@ -193,7 +207,7 @@ body_on said newer rs (body.View y) k = tt
 body_on said newer rs (body.Lookup v g) k = tt
 body_on said newer rs (body.Name v g n) k = tt
 body_on said newer rs (body.Request v g q r phases x) k = tt
-body_on said newer rs (body.Tell v g q r y) k = tt
+body_on said newer rs (body.Tell v g q r y) k = k
 body_on said newer rs (body.Entry v g place stable e) k = tt
 body_on said newer rs (body.Ack v g n) k = tt
 body_on said newer rs (body.Vote v g proto phase p vote value message) k = tt

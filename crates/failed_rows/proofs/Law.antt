@@ -94,6 +94,7 @@ module _ (w : Scene) (n : ℕ) (f : Answering) (s : Core) (e : NodeEvent) (v : E
         queues = λ fit g u. c.queues g;
         apart = λ l fit g. c.apart g;
         led = λ g z. absurd z;
+        whys = c.whys;
       }
     where
       begun : (p : ProviderId) → Lives (SaidGoodbye w.before) s.sessions (records_of w.before) p → Lives Said s.sessions (records_of w.before) p
@@ -172,7 +173,7 @@ module _ (w : Scene) (n : ℕ) (f : Answering) (s : Core) (e : NodeEvent) (v : E
   sent_gone (body.Lookup u g) c = tt
   sent_gone (body.Name u g m) c = tt
   sent_gone (body.Request u g q r phases x) c = tt
-  sent_gone (body.Tell u g q r y) c = tt
+  sent_gone (body.Tell u g q r y) c = c
   sent_gone (body.Entry u g place stable x) c = tt
   sent_gone (body.Ack u g m) c = tt
   sent_gone (body.Vote u g proto phase p vote value message) c = tt
@@ -219,6 +220,7 @@ module _ (w : Scene) (n : ℕ) (f : Answering) (s : Core) (e : NodeEvent) (v : E
             apart = λ g. at.apart tt fit g;
             own = λ p node inc asked. own_after p (at.own p node (inc ∙ at.inc) asked);
             mine = λ x i. (here.owes.providers x i).0 ∙ sym me;
+            whys = at.whys;
             owners = owned_slim (λ p. if list_any (asks_join p) (reverse root.records) then joining_client (Some v) else client_of p w.before) (λ p. client_of p (over v t ∷ w.before)) root.sessions t.sessions (λ x i. ap (λ b. if b then joining_client (Some v) else client_of x.p w.before) (at.slim.asks x.p)) at.slim.sessions (rooted e says);
           }
 

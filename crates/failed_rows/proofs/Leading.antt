@@ -46,7 +46,7 @@ use Rattle.failed_rows.proofs.Queues.{Stays, BringsNone, stays_after, failed_sta
 use Rattle.failed_rows.proofs.Waiting.{one_waits}
 use Rattle.hearing.proofs.Changes.{Sends, sends_all, same_sends, put_order, put_views, handed_onward}
 use Rattle.hearing.proofs.Handing.{has_among}
-use Rattle.failed_rows.proofs.Facts.{TallyWhile, TallyFails, TallyIs, Waits, AllWait, QueueIs, BasesFit}
+use Rattle.failed_rows.proofs.Facts.{Whys, TallyWhile, TallyFails, TallyIs, Waits, AllWait, QueueIs, BasesFit}
 use Rattle.failed_rows.proofs.Origin.{Origin}
 use Rattle.failed_rows.proofs.At.{At, at_for, at_row_for}
 use Rattle.failed_rows.proofs.Tallies.{closing_fails, opened_fails}
@@ -148,17 +148,17 @@ queue_on gone led fs st v i e f (inl brings) (inr k) = inr (k.0, λ x j. waits_o
 module _ (h : History) (said : ProviderId → Type 0) (origin : Origin) (P L M : Type 0) where
   module _ (T G Q : List ℕ → Type 0) where
     -- what a leader keeps changes, but for the tally, the marks and who waits as a failure
-    pub at_led : (s : Core) (g : List ℕ) (f : Led → Led) → ((l : Led) → (f l).tally ≡ l.tally) → ((l : Led) → (f l).gone ≡ l.gone) → ((l : Led) → (f l).waiting.failures ≡ l.waiting.failures) → At h said origin P L M T G Q s → At h said origin P L M T G Q (with_led s g f)
+    pub at_led : (s : Core) (g : List ℕ) (f : Led → Led) → ((l : Led) → (f l).tally ≡ l.tally) → ((l : Led) → (f l).gone ≡ l.gone) → ((l : Led) → (f l).waiting.failures ≡ l.waiting.failures) → ((l : Led) → Whys l → Whys (f l)) → At h said origin P L M T G Q s → At h said origin P L M T G Q (with_led s g f)
     unfolding with_led
-    at_led s g f same gone waits a =
+    at_led s g f same gone waits kept a =
         let l : Led = (found s g).led in
-        at_row_for h said origin P L M T G Q T Q s g (λ row. record row { led = f row.led }) (λ x. refl) (λ x. refl) (λ x. refl) (λ x. refl) (λ y p i. a.marks y g p (subst (λ z. among z p ≡ true) (gone l) i)) (λ k t ne. t) (λ k t ne. t) (λ t. subst (λ z. TallyIs (GoneCause h s.views.view g) (leads_row s (found s g)) z (state_in (found s g).list)) (sym (same l)) (a.tallies g t)) (λ fit q. subst (λ z. QueueIs (GoneCause h s.views.view g) (leads_row s (found s g)) z (state_in (found s g).list)) (sym (waits l)) (a.queues fit g q)) a
+        at_row_for h said origin P L M T G Q T Q s g (λ row. record row { led = f row.led }) (λ x. refl) (λ x. refl) (λ x. refl) (λ x. refl) (λ x z. kept x.led z) (λ y p i. a.marks y g p (subst (λ z. among z p ≡ true) (gone l) i)) (λ k t ne. t) (λ k t ne. t) (λ t. subst (λ z. TallyIs (GoneCause h s.views.view g) (leads_row s (found s g)) z (state_in (found s g).list)) (sym (same l)) (a.tallies g t)) (λ fit q. subst (λ z. QueueIs (GoneCause h s.views.view g) (leads_row s (found s g)) z (state_in (found s g).list)) (sym (waits l)) (a.queues fit g q)) a
 
     -- those who wait change
     pub at_waiting : (s : Core) (g : List ℕ) (change : WaitingView → WaitingView) → (BasesFit s.records → Q g → QueueIs (GoneCause h s.views.view g) (leads_row s (found s g)) (change (found s g).led.waiting).failures (state_in (found s g).list)) → At h said origin P L M T G Q s → At h said origin P L M T G Q (with_waiting s g change)
     unfolding with_waiting with_led
     at_waiting s g change queue a =
-        at_row_for h said origin P L M T G Q T Q s g (λ row. record row { led = record (row.led) { waiting = change row.led.waiting } }) (λ x. refl) (λ x. refl) (λ x. refl) (λ x. refl) (λ y p i. a.marks y g p i) (λ k t ne. t) (λ k t ne. t) (λ t. a.tallies g t) queue a
+        at_row_for h said origin P L M T G Q T Q s g (λ row. record row { led = record (row.led) { waiting = change row.led.waiting } }) (λ x. refl) (λ x. refl) (λ x. refl) (λ x. refl) (λ x z. z) (λ y p i. a.marks y g p i) (λ k t ne. t) (λ k t ne. t) (λ t. a.tallies g t) queue a
 
     pub queue_all : (gone : ProviderId → Type 0) (led : Bool) (fs : List Failure) (st : GroupState) → QueueIs gone led fs st → AllWait gone st fs
     queue_all gone led fs st (inl none) = subst (AllWait gone st) (sym none) (λ f i. absurd i)
@@ -171,7 +171,7 @@ module _ (h : History) (said : ProviderId → Type 0) (origin : Origin) (P L M :
     pub at_forgets : (s : Core) (g : List ℕ) (n : ℕ) → At h said origin P L M T G Q s → At h said origin P L M T G Q (forgets_below s g n)
     unfolding forgets_below
     at_forgets s g n a =
-        at_row_for h said origin P L M T G Q T Q s g (λ row. record row { list = list_forgotten n row.list }) (λ x. refl) (λ x. refl) (λ x. forgotten_len x.list n) (λ x. forgotten_state x.list n) (λ y p i. a.marks y g p i) (λ k t ne. t) (λ k t ne. t) (λ t. a.tallies g t) (λ fit q. a.queues fit g q) a
+        at_row_for h said origin P L M T G Q T Q s g (λ row. record row { list = list_forgotten n row.list }) (λ x. refl) (λ x. refl) (λ x. forgotten_len x.list n) (λ x. forgotten_state x.list n) (λ x z. z) (λ y p i. a.marks y g p i) (λ k t ne. t) (λ k t ne. t) (λ t. a.tallies g t) (λ fit q. a.queues fit g q) a
 
     pub at_forgets_least : (s : Core) (g : List ℕ) → At h said origin P L M T G Q s → At h said origin P L M T G Q (forgets_least s g)
     unfolding forgets_least
@@ -269,7 +269,7 @@ module _ (h : History) (said : ProviderId → Type 0) (origin : Origin) (P L M :
     pub at_tally_set : (s : Core) (g : List ℕ) (t : Option TallyView) → (T g → TallyIs (GoneCause h s.views.view g) (leads_row s (found s g)) t (state_in (found s g).list)) → At h said origin P L M (But g T) G Q s → At h said origin P L M T G Q (tally_set s g t)
     unfolding tally_set with_led
     at_tally_set s g t own a =
-        at_row_for h said origin P L M (But g T) G Q T Q s g (λ row. record row { led = record (row.led) { tally = t; given = [] } }) (λ x. refl) (λ x. refl) (λ x. refl) (λ x. refl) (λ y p i. a.marks y g p i) (λ k u ne. (u, ne)) (λ k q ne. q) own (λ fit q. a.queues fit g q) a
+        at_row_for h said origin P L M (But g T) G Q T Q s g (λ row. record row { led = record (row.led) { tally = t; given = [] } }) (λ x. refl) (λ x. refl) (λ x. refl) (λ x. refl) (λ x z. z) (λ y p i. a.marks y g p i) (λ k u ne. (u, ne)) (λ k q ne. q) own (λ fit q. a.queues fit g q) a
 
     pub at_tally_opened : (s : Core) (g : List ℕ) → L → G g → At h said origin P L M (But g T) G Q s → At h said origin P L M T G Q (tally_opened s g)
     unfolding tally_opened state_of list_of led_of row_of

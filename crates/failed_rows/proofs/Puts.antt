@@ -27,7 +27,7 @@ use Rattle.run_safety.specs.Stays as kept
 use Rattle.node_groups.proofs.NameOrder.{cases_text, text_self, text_other, row_here, row_there, rows_ordered}
 use Rattle.honest_votes.proofs.At.{found, leads_row}
 use Rattle.failed_rows.specs.Failures.{GoneCause, PutHolds, EntryFails, EachPut, state_held, state_of_stay, state_in_stays}
-use Rattle.failed_rows.proofs.Facts.{TallyIs, QueueIs, Track, BasesFit, Of, BodyFails, body_on, own_pushed, PutOff}
+use Rattle.failed_rows.proofs.Facts.{Whys, TallyIs, QueueIs, Track, BasesFit, Of, BodyFails, body_on, own_pushed, PutOff}
 use Rattle.failed_rows.proofs.Origin.{Origin, slim_more}
 use Rattle.failed_rows.proofs.At.{At}
 use Rattle.session_state.specs.HandOn.{hearers, is_present}
@@ -132,6 +132,7 @@ module _ (h : History) (said : ProviderId → Type 0) (origin : Origin) (P L M :
           queues = λ fit k w. waiting (λ x i. fit x (append_has_left x s.records (r ∷ []) i)) k w (cases_text g k);
           apart = λ l fit k. apart l (λ x i. fit x (append_has_left x s.records (r ∷ []) i)) k (cases_text g k);
           led = λ k i. leads k i (cases_text g k);
+          whys = λ k. why k (cases_text g k);
         }
       where
         f : GroupRow → GroupRow
@@ -200,6 +201,10 @@ module _ (h : History) (said : ProviderId → Type 0) (origin : Origin) (P L M :
           where
             put_apart : joiners_fit (state_in (found s g).list) ≡ true → joiners_fit (state_in (f (found s g)).list) ≡ true
             put_apart z = apart_after (state_in (found s g).list) s.views.view (list_or_new (found s g).list).len e z
+
+        why : (k : List ℕ) → (g ≡ k) ⊎ (g ≡ k → ⊥) → Whys (found c k).led
+        why k (inr ne) = subst (λ (z : GroupRow). Whys z.led) (sym (there k ne)) (a.whys k)
+        why k (inl q) = subst (λ z. Whys (found c z).led) q (subst (λ (z : GroupRow). Whys z.led) (sym here) (a.whys g))
 
         leads : (k : List ℕ) → G k → (g ≡ k) ⊎ (g ≡ k → ⊥) → leads_row s (found c k) ≡ true
         leads k i (inl q) = subst (λ z. leads_row s (found c z) ≡ true) q (ap (leads_row s) here ∙ a.led g (subst G (sym q) i))

@@ -39,7 +39,7 @@ use Rattle.step_ties.proofs.Changed.{each_set}
 use Rattle.honest_votes.proofs.At.{found}
 use Rattle.failed_rows.specs.Failures.{EachPut, FailuresHaveCauses}
 use Rattle.failed_rows.proofs.Fitting.{empty_fits, asked_seen}
-use Rattle.failed_rows.proofs.Facts.{Track, Of, none_asked, reverse_has}
+use Rattle.failed_rows.proofs.Facts.{Whys, Track, Of, none_asked, reverse_has}
 use Rattle.failed_rows.proofs.Owners.{any_has}
 use Rattle.failed_rows.proofs.Steps.{BodyGone}
 use Rattle.failed_rows.proofs.Between.{body_gone_on, CoreFails, CoreIf, Honest, others_stay, core_if_on, who_is}
@@ -68,6 +68,7 @@ started_fails c n j h rest e unasked =
       apart = λ g. refl;
       own = λ p node inc asked. absurd (let z : false ≡ true = sym (unasked p node inc) ∙ asked in cc);
       mine = λ x i. absurd i;
+      whys = λ g d i. absurd i;
       owners = record { owner = λ x i. absurd i; low = λ y i. absurd i; high = λ y i. absurd i; single = λ y z i j e. absurd i };
     }
 
@@ -290,6 +291,7 @@ fresh_fails h m (Some s) unasked k =
       apart = λ g. ap (λ rows. joiners_fit (state_in (found (record s { groups = rows }) g).list)) k.groups ∙ empty_apart;
       own = λ p node inc asked. absurd (let z : false ≡ true = sym (unasked p) ∙ asked in cc);
       mine = λ x i. absurd (subst (Has x) k.providers i);
+      whys = λ g. subst (λ rows. Whys (found (record s { groups = rows }) g).led) (sym k.groups) (λ d i. absurd i);
       owners = record { owner = λ x i. absurd (subst (Has x) k.providers i); low = λ y i. absurd (subst (Has y) k.sessions i); high = λ y i. absurd (subst (Has y) k.sessions i); single = λ y z i j e. absurd (subst (Has y) k.sessions i) };
     }
   where

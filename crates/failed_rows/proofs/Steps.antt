@@ -14,7 +14,7 @@ use Rattle.group_entry.specs.declared.proposal.Proposal.TheVariants.{Join, Leave
 use Rattle.proposal_core.specs.Lists.{len_in}
 use Rattle.session_state.specs.declared.state.Provider.{Provider}
 use Rattle.session_state.specs.declared.state.Request.{Request}
-use Rattle.session_state.specs.HandOn.{is_join}
+use Rattle.session_state.specs.HandOn.{is_join, is_dissolved}
 use Rattle.view_core.specs.declared.packet.ViewPacket.{ViewPacket}
 use Rattle.view_core.specs.declared.packet.ViewPacket.TheVariants as view
 use Rattle.view_core.specs.declared.views.ViewWork.{ViewWork}
@@ -114,9 +114,10 @@ request_leads v g q r phases x w n s p is to delivered t used = by s.config.mode
     by Asked led = ap (is_this s.views.me) row ∙ eq-eqb s.views.me s.views.me refl
     by Rings led = ap (is_this s.views.me) row ∙ eq-eqb s.views.me s.views.me refl
 
--- what was sent to a node of who is gone has its cause
+-- what was sent to a node of who is gone has its cause, and no telling says that a group was dissolved
 abbrev pub BodyGone : History → Body → Type 0
 BodyGone h (body.Gone v g p) = GoneCause h v g p
+BodyGone h (body.Tell v g p r y) = is_dissolved y ≡ false
 BodyGone h _ = Unit {0}
 
 -- whatever was asked is no failure leave
@@ -245,7 +246,7 @@ module _ (w : Scene) (n : ℕ) (f : Answering) (s : Core) (root : Option Core) (
   body_at p (body.Name v g k) is to sent ok = used (name_row s g k) (is_used s p v) (λ u. at_name w.before said (origin_of s root) (Unit {0}) (Unit {0}) M tt s g k numbered a)
   body_at p (body.Request v g q r phases x) is to sent ok =
       used (request_row f s p.from g q r phases x) (is_used s p v) (λ u. at_request w.before said (origin_of s root) (Unit {0}) (Unit {0}) M tt f s g (request_leads v g q r phases x w n s p is to sent (all g) u) p.from q r phases x (no_failure q r x ((subst (ShowsBody (all g).ghost g p.from p.inc p.to) is ((all g).packets p (append_has_right p s.sends w.sent sent))).1)) a)
-  body_at p (body.Tell v g q r why) is to sent ok = used (tell_row s q r why) (is_used s p v) (λ u. at_tell w.before said (origin_of s root) (Unit {0}) (Unit {0}) M tt s q r why numbered a)
+  body_at p (body.Tell v g q r why) is to sent ok = used (tell_row s q r why) (is_used s p v) (λ u. at_tell w.before said (origin_of s root) (Unit {0}) (Unit {0}) M tt s q r why ok numbered a)
   body_at p (body.Entry v g i k e) is to sent ok =
       used (entry_row f s p.from g i k e) (is_used s p v) (λ u. at_entry w.before said (origin_of s root) (Unit {0}) (Unit {0}) M tt f s p.from g k e i (λ at. entry_put v g i k e w n s p is sent (all g) u at) (λ at led. entry_follows v g i k e w n s p is sent (all g) u at led) a)
   body_at p (body.Ack v g k) is to sent ok = used (ack_row s p.from g k) (is_used s p v) (λ u. at_ack w.before said (origin_of s root) (Unit {0}) (Unit {0}) M tt s p.from g k a)

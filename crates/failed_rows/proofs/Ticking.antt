@@ -95,10 +95,10 @@ module _ (h : History) (said : ProviderId → Type 0) (origin : Origin) (P L M :
   -- ---- rings and reach
 
   at_rings : (s : Core) (rs : List Ring) → Full s → Full (record s { rings = rs })
-  at_rings s rs a = record { inc = a.inc; own = a.own; slim = a.slim; sends = a.sends; puts = a.puts; accepted = a.accepted; whose = a.whose; order = a.order; tracks = a.tracks; marks = a.marks; tallies = a.tallies; queues = a.queues; apart = a.apart; led = a.led }
+  at_rings s rs a = record { inc = a.inc; own = a.own; slim = a.slim; sends = a.sends; puts = a.puts; accepted = a.accepted; whose = a.whose; order = a.order; tracks = a.tracks; marks = a.marks; tallies = a.tallies; queues = a.queues; apart = a.apart; led = a.led; whys = a.whys }
 
   at_reach : (s : Core) (r : Reach) → Full s → Full (record s { reach = r })
-  at_reach s r a = record { inc = a.inc; own = a.own; slim = a.slim; sends = a.sends; puts = a.puts; accepted = a.accepted; whose = a.whose; order = a.order; tracks = a.tracks; marks = a.marks; tallies = a.tallies; queues = a.queues; apart = a.apart; led = a.led }
+  at_reach s r a = record { inc = a.inc; own = a.own; slim = a.slim; sends = a.sends; puts = a.puts; accepted = a.accepted; whose = a.whose; order = a.order; tracks = a.tracks; marks = a.marks; tallies = a.tallies; queues = a.queues; apart = a.apart; led = a.led; whys = a.whys }
 
   set_quiet : (n network : ℕ) (o : Option RingSet) (r : Happened) → Has r (set_records n network o) → Quiet r
   unfolding set_records
@@ -276,7 +276,7 @@ module _ (h : History) (said : ProviderId → Type 0) (origin : Origin) (P L M :
     at_ticked : (s : Core) (g : List ℕ) → Mine s → Mine (with_tally s g (ticked_in (led_of s g).tally))
     unfolding with_tally with_led led_of row_of
     at_ticked s g a =
-        at_row_for h said origin P L M Every G Every Every Every s g (λ row. record row { led = record (row.led) { tally = ticked_in (found s g).led.tally } }) (λ x. refl) (λ x. refl) (λ x. refl) (λ x. refl) (λ y p i. a.marks y g p i) (λ k t ne. t) (λ k t ne. t) (λ t. ticked (GoneCause h s.views.view g) (leads_row s (found s g)) (found s g).led.tally (state_in (found s g).list) (a.tallies g t)) (λ fit q. a.queues fit g q) a
+        at_row_for h said origin P L M Every G Every Every Every s g (λ row. record row { led = record (row.led) { tally = ticked_in (found s g).led.tally } }) (λ x. refl) (λ x. refl) (λ x. refl) (λ x. refl) (λ x z. z) (λ y p i. a.marks y g p i) (λ k t ne. t) (λ k t ne. t) (λ t. ticked (GoneCause h s.views.view g) (leads_row s (found s g)) (found s g).led.tally (state_in (found s g).list) (a.tallies g t)) (λ fit q. a.queues fit g q) a
 
     at_tally_ticks : (s : Core) (g : List ℕ) (o : Option TallyView) → G g → Mine s → Mine (tally_ticks f s g o)
     unfolding tally_ticks
