@@ -1,33 +1,38 @@
 -- Who was over, and was held all the same, did not pass into the view.
 use Rattle.std.proofs.Common.{◌≡◌, ◌⊎◌, ℕ, List, [], ◌∷◌, ◌++◌, Option, Some, None, Bool, true, false, refl, sym, ap, ◌∙◌, subst, inl, inr, append-nil, append_assoc}
-use Rattle.std.specs.Prelude.{◌==◌, ◌&&◌, ◌||◌, if◌then◌else◌, IsTrue}
+use Rattle.std.specs.Prelude.{not, ◌==◌, ◌&&◌, ◌||◌, is_some, is_none, if◌then◌else◌, IsTrue}
 use Rattle.std.specs.List.{list_any}
 use Rattle.std.specs.Str.{bytes_eq}
 use Rattle.std.proofs.lemmas.Bool.{eqb-true, eq-eqb}
 use Rattle.rsct_packet.specs.declared.ids.ViewId.{ViewId}
 use Rattle.rsct_packet.specs.declared.ids.ProviderId.{ProviderId}
 use Rattle.rsct_packet.specs.Providers.{among}
+use Rattle.rsct_packet.specs.Ids.{same_view}
 use Rattle.rsct_packet.specs.Search.{Has}
+use Rattle.rsct_packet.proofs.HasLaws.{append_has_right}
 use Rattle.client_callbacks.specs.declared.told.Why.{Why}
 use Rattle.session_state.specs.HandOn.{is_dissolved}
 use Rattle.group_entry.specs.declared.entry.Entry.{Entry}
 use Rattle.group_entry.specs.declared.proposal.Proposal.{Proposal}
+use Rattle.proposal_core.specs.declared.group_state.GroupState.{GroupState}
 use Rattle.proposal_core.specs.Fold.{present}
 use Rattle.node_state.specs.declared.happened.Happened.{Happened}
 use Rattle.node_state.specs.declared.happened.Happened.TheVariants as happened
 use Rattle.run_safety.specs.Past.{History, EachRecord, Within, records_of, earlier}
 use Rattle.run_safety.specs.SafeLists.{Each}
 use Rattle.run_safety.specs.SafeHeard.{heard_count, is_after, InOrder}
-use Rattle.run_safety.specs.Stays.{Stay, stays, with_entry, is_join_of, part}
+use Rattle.run_safety.specs.Stays.{Stay, stays, with_entry, is_join_of, Part, part, passes}
 use Rattle.node_groups.proofs.NameOrder.{text_same, text_self}
 use Rattle.attending.proofs.OrderLaw.{heard_in_order}
-use Rattle.failed_rows.specs.Failures.{state_in_stays, state_held, IsRefused, WasTold, TakenOff, StoodThere}
+use Rattle.failed_rows.specs.Failures.{state_in_stays, state_held, IsCut, IsRefused, WasTold, TakenOff, StoodThere}
 use Rattle.failed_rows.proofs.Asked.{join_carried}
 use Rattle.seen_runs.specs.Seen.{Seen, SeenAt, OnceSeen, BeginsOnce, WasTold as WasRefused}
 use Rattle.seen_runs.proofs.Law.{traces_seen}
-use Rattle.failed_causes.specs.Passed.{puts_join, BaseFirst, DidNotPass, WasDissolved, JoinedAndOver, WhoIsOverDidNotPass}
+use Rattle.failed_causes.specs.Passed.{puts_join, BaseFirst, DidNotPass, PassesElsewhere, JoinedAndOver, WhoIsOverDidNotPass}
 use Rattle.failed_causes.proofs.Ended.{Out, Firsts, out_on, there_out, first_out, off_out}
-use Rattle.failed_causes.proofs.Bases.{bases_come_first}
+use Rattle.failed_causes.proofs.Bases.{First, bases_come_first, bases_follow}
+use Rattle.failed_causes.proofs.Cut.{Cut, CutOut, Entries, entries_after, cut_on, there_cut}
+use Rattle.failed_causes.proofs.Held.{Held, held_asked}
 use Rattle.failed_causes.proofs.Renamed.{joined_in_one}
 
 -- ---- one record after another
@@ -60,6 +65,14 @@ ordered_now (r ∷ now) before k old = (k.0, ordered_now now before k.1 old)
 pub ordered_of : (h : History) → Each InOrder h → Ordered (records_of h)
 ordered_of [] k = tt
 ordered_of (e ∷ before) k = ordered_now e.records before k.0 (ordered_of before k.1)
+
+entries_now : (now : List Happened) (before : History) → Within First now before → Entries (records_of before) → Entries (now ++ records_of before)
+entries_now [] before k old = old
+entries_now (r ∷ now) before k old = ((k.0).1, entries_now now before k.1 old)
+
+pub entries_of : (h : History) → EachRecord First h → Entries (records_of h)
+entries_of [] k = tt
+entries_of (e ∷ before) k = entries_now e.records before k.0 (entries_of before k.1)
 
 pub ordered_after : (newer older : List Happened) → Ordered (newer ++ older) → Ordered older
 ordered_after [] older k = k
@@ -244,6 +257,15 @@ none_right t xs ys q = by (list_any t ys) refl
 abbrev pub OneGroup : List Happened → Type 0
 OneGroup rs = (p : ProviderId) (g h : List ℕ) (x y : Proposal) → Has (happened.Asked p p.join g x) rs → Has (happened.Asked p p.join h y) rs → g ≡ h
 
+passes_there : (p : ProviderId) (base : GroupState) (x : Part) → passes p base x ≡ true → among (present base) p ≡ true
+passes_there p base x k = by (is_some x.first) (is_none x.last) (among (present base) p) k
+  where
+    by : (a b c : Bool) → (a && (b && (c && not (among base.failed p)))) ≡ true → c ≡ true
+    by true true true q = refl
+    by true true false q = absurd (cc)
+    by true false c q = absurd (cc)
+    by false b c q = absurd (cc)
+
 -- who hears has a first place
 first_of : (count i : ℕ) (o : Option ℕ) → IsTrue (is_after count o i) → (f : ℕ) × (o ≡ Some f)
 first_of count i None k = absurd (let z : false ≡ true = k in cc)
@@ -251,7 +273,7 @@ first_of count i (Some f) k = (f, refl)
 
 -- ---- the law
 
-module _ (rs : List Happened) (v : ViewId) (g : List ℕ) (p : ProviderId) (seen : Seen rs) (firsts : Firsts rs) (order : Ordered rs) (single : OneGroup rs) (st : StoodThere rs v g p) where
+module _ (rs : List Happened) (v : ViewId) (g : List ℕ) (p : ProviderId) (seen : Seen rs) (firsts : Firsts rs) (order : Ordered rs) (entries : Entries rs) (all : List Happened) (more : (r : Happened) → Has r rs → Has r all) (single : OneGroup all) (held : Held all) (st : StoodThere rs v g p) where
   seen_now : Seen (st.newer ++ st.older)
   seen_now = subst Seen st.moment seen
 
@@ -270,10 +292,8 @@ module _ (rs : List Happened) (v : ViewId) (g : List ℕ) (p : ProviderId) (seen
   abbrev Joined : Type 0
   Joined = list_any (puts_join p g) (st.newer ++ st.older) ≡ true
 
-  done : (a : Bool) → list_any (puts_join p g) st.newer ≡ false → Out a p (stays p.node g st.older) → Says
-  done a later out =
-      let o : Out a p (st.stay ∷ st.rest) = subst (Out a p) st.stays_so out in
-      let z = there_out a p st.stay st.rest o st.holds in
+  finish : list_any (puts_join p g) st.newer ≡ false → (among (present (st.stay).base) p ≡ true) × ((passes p (st.stay).base (part p st.rest) ≡ false) × (list_any (is_join_of p) (st.stay).entries ≡ false)) → Says
+  finish later z =
       inl (record {
         newer = st.newer;
         older = st.older;
@@ -288,16 +308,15 @@ module _ (rs : List Happened) (v : ViewId) (g : List ℕ) (p : ProviderId) (seen
         later = later;
       })
 
+  done : (a : Bool) → list_any (puts_join p g) st.newer ≡ false → Out a p (stays p.node g st.older) → Says
+  done a later out = finish later (there_out a p st.stay st.rest (subst (Out a p) st.stays_so out) st.holds)
+
   -- so its node puts its join in one group
   joined_once : (h : List ℕ) → Joined → list_any (puts_join p h) (st.newer ++ st.older) ≡ true → h ≡ g
   joined_once h q other =
       let a = asked_in p g (st.newer ++ st.older) seen_now q in
       let b = asked_in p h (st.newer ++ st.older) seen_now other in
-      single p h g b.0 a.0 (subst (Has (happened.Asked p p.join h b.0)) (sym st.moment) b.1) (subst (Has (happened.Asked p p.join g a.0)) (sym st.moment) a.1)
-
-  unsettled : Joined → WasDissolved st.older p → Says
-  unsettled q why =
-      inr (record { newer = st.newer; older = st.older; moment = st.moment; joined = ap (list_any (puts_join p g)) st.moment ∙ q; why = why })
+      single p h g b.0 a.0 (more (happened.Asked p p.join h b.0) (subst (Has (happened.Asked p p.join h b.0)) (sym st.moment) b.1)) (more (happened.Asked p p.join g a.0) (subst (Has (happened.Asked p p.join g a.0)) (sym st.moment) a.1))
 
   -- its node never put its join
   never_put : list_any (puts_join p g) (st.newer ++ st.older) ≡ false → Says
@@ -314,6 +333,58 @@ module _ (rs : List Happened) (v : ViewId) (g : List ℕ) (p : ProviderId) (seen
         moment : st.newer ++ st.older ≡ (st.newer ++ told.newer) ++ happened.Told p p.join told.why ∷ told.older
         moment =
             ap (λ z. st.newer ++ z) (told.moment ∙ ap (λ n. told.newer ++ happened.Told p n told.why ∷ told.older) k.join) ∙ sym (append_assoc st.newer told.newer (happened.Told p p.join told.why ∷ told.older))
+
+  -- it was told as its node entered a view
+  module _ (told : WasTold st.older p) (dissolved : is_dissolved told.why ≡ true) (k : IsCut told.older p) where
+    abbrev tells_it : Happened
+    tells_it = happened.Told p told.number told.why
+
+    moment_told : st.newer ++ st.older ≡ (st.newer ++ told.newer) ++ tells_it ∷ told.older
+    moment_told = ap (λ z. st.newer ++ z) told.moment ∙ sym (append_assoc st.newer told.newer (tells_it ∷ told.older))
+
+    there : (r : Happened) → Has r told.older → Has r all
+    there r h =
+        more r (subst (Has r) (sym st.moment) (append_has_right r st.newer st.older (subst (Has r) (sym told.moment) (append_has_right r told.newer (tells_it ∷ told.older) (inr h)))))
+
+    -- its node held it in the group of its join
+    same_group : Joined → k.group ≡ g
+    same_group q =
+        let a = asked_in p g (st.newer ++ st.older) seen_now q in
+        let b = held p.node k.group told.older there k.last (subst (Has k.last) (sym k.stays_so) (inr (inl refl))) p k.held in
+        single p k.group g b.0 a.0 b.1 (more (happened.Asked p p.join g a.0) (subst (Has (happened.Asked p p.join g a.0)) (sym st.moment) a.1))
+
+    settled : Joined → list_any (puts_join p g) told.older ≡ true → passes p (k.stay).base (part p (k.last ∷ k.rest)) ≡ false → Says
+    settled q put apart =
+        by (cut_on p g told.newer (tells_it ∷ told.older) (subst Firsts told.moment firsts_then) (subst Entries told.moment (entries_after st.newer st.older (subst Entries st.moment entries))) (none_right (puts_join p g) st.newer told.newer none) (cut, refl))
+      where
+        none : list_any (puts_join p g) (st.newer ++ told.newer) ≡ false
+        none = none_later p g (st.newer ++ told.newer) (tells_it ∷ told.older) (subst Seen moment_told seen_now) (its_put p g (tells_it ∷ told.older) put)
+
+        later : list_any (puts_join p g) st.newer ≡ false
+        later = none_left (puts_join p g) st.newer told.newer none
+
+        cut : Cut p (stays p.node g told.older)
+        cut =
+            subst (Cut p) (sym (subst (λ h. stays p.node h told.older ≡ k.stay ∷ k.last ∷ k.rest) (same_group q) k.stays_so)) (apart, ap (list_any (is_join_of p)) k.empty)
+
+        by : CutOut p g (told.newer ++ tells_it ∷ told.older) ⊎ Out false p (stays p.node g (told.newer ++ tells_it ∷ told.older)) → Says
+        by (inl c) =
+            finish later (there_cut p st.stay st.rest (subst (Cut p) st.stays_so (subst (λ z. Cut p (stays p.node g z)) (sym told.moment) c.0)) st.holds)
+        by (inr o) = done false later (subst (λ z. Out false p (stays p.node g z)) (sym told.moment) o)
+
+    was_cut : Joined → Says
+    was_cut q = by (list_any (puts_join p g) told.older) refl (passes p (k.stay).base (part p (k.last ∷ k.rest))) refl k.cut
+      where
+        over : (list_any (puts_join p g) told.older ≡ false) ⊎ PassesElsewhere told.older p k → Says
+        over why =
+            inr (record { newer = st.newer; older = st.older; moment = st.moment; joined = ap (list_any (puts_join p g)) st.moment ∙ q; told = told; dissolved = dissolved; cut = k; why = why })
+
+        by : (a : Bool) → list_any (puts_join p g) told.older ≡ a → (b : Bool) → passes p (k.stay).base (part p (k.last ∷ k.rest)) ≡ b → (among (present (k.stay).base) p ≡ false) ⊎ ((from : ViewId) × (len : ℕ) × Has (happened.Base p.node (k.stay).view k.group from len (k.stay).base) told.older × (same_view from (k.last).view ≡ false)) → Says
+        by false e b z c = over (inl e)
+        by true e false z c = settled q e z
+        by true e true z (inl absent) =
+            absurd (let y : true ≡ false = sym (passes_there p (k.stay).base (part p (k.last ∷ k.rest)) z) ∙ absent in cc)
+        by true e true z (inr c) = over (inr (z, c))
 
   module _ (off : TakenOff st.older p) where
     abbrev off_it : Happened
@@ -355,9 +426,9 @@ module _ (rs : List Happened) (v : ViewId) (g : List ℕ) (p : ProviderId) (seen
   pub says : Says
   says = by (list_any (puts_join p g) (st.newer ++ st.older)) refl st.over
     where
-      was_told : Joined → (told : WasTold st.older p) → IsRefused told.older p told.number ⊎ (is_dissolved told.why ≡ true) → Says
+      was_told : Joined → (told : WasTold st.older p) → IsRefused told.older p told.number ⊎ ((is_dissolved told.why ≡ true) × IsCut told.older p) → Says
       was_told q told (inl k) = refused told k
-      was_told q told (inr d) = unsettled q (told, d)
+      was_told q told (inr k) = was_cut told k.0 k.1 q
 
       by : (b : Bool) → list_any (puts_join p g) (st.newer ++ st.older) ≡ b → WasTold st.older p ⊎ TakenOff st.older p → Says
       by false q over = never_put q
@@ -366,4 +437,4 @@ module _ (rs : List Happened) (v : ViewId) (g : List ℕ) (p : ProviderId) (seen
 
 pub over_did_not_pass : WhoIsOverDidNotPass
 over_did_not_pass c w k v g p st =
-    says (records_of w.before) v g p (traces_seen c w k) (firsts_of w.before (bases_come_first c w k)) (ordered_of w.before (heard_in_order c w k)) (joined_in_one c w k) st
+    says (records_of w.before) v g p (traces_seen c w k) (firsts_of w.before (bases_come_first c w k)) (ordered_of w.before (heard_in_order c w k)) (entries_of w.before (bases_follow c w k)) (records_of w.before) (λ r h. h) (joined_in_one c w k) (held_asked c w k) st

@@ -94,17 +94,17 @@ entry_is e = cc
 
 module _ (P : ProviderId → Type 0) where
   -- whoever an entry names in a join
-  abbrev Joins : Entry → Type 0
+  abbrev pub Joins : Entry → Type 0
   Joins e = (p : ProviderId) → is_join_of p e ≡ true → P p
 
-  abbrev AllJoin : List Line → Type 0
+  abbrev pub AllJoin : List Line → Type 0
   AllJoin all = (n : ℕ) (v : ViewId) (i : ℕ) (e : Entry) → Has (Kept (Put n v i e)) all → Joins e
 
   -- whoever is there
-  abbrev AllThere : GroupState → Type 0
+  abbrev pub AllThere : GroupState → Type 0
   AllThere s = (p : ProviderId) → Has p (present s) → P p
 
-  fold_there : (v : ViewId) (s : GroupState) (i : ℕ) (es : List Entry) → AllThere s → ((e : Entry) → Has e es → Joins e) → AllThere (fold_from v s i es)
+  pub fold_there : (v : ViewId) (s : GroupState) (i : ℕ) (es : List Entry) → AllThere s → ((e : Entry) → Has e es → Joins e) → AllThere (fold_from v s i es)
   fold_there v s i [] a n = a
   fold_there v s i (e ∷ es) a n =
       fold_there v (after s v i e) (i + 1) es (λ p h. ⊎_elim (λ (k : Has p (present s)). a p k) (λ (k : is_join_of p e ≡ true). n e (inl refl) p k) (after_has s v i e p h)) (λ d h. n d (inr h))
@@ -140,7 +140,7 @@ module _ (P : ProviderId → Type 0) where
           let front : IsPrefix r.list (w.log r.view) = (w.good.inv.packet (Answer x.promise r) (ok.sent r k.1)).1 in
           listed_join o nodes ps all leads bases w named r.view r.list front e (subst (Has e) (sym k.3) h)
 
-  based_there : {o : Opening} {nodes : ℕ → Standing} {ps : List Packet} {all : List Line} {leads : Leads} {bases : Bases} → Life o nodes ps all leads bases → AllJoin all → (v : ViewId) → AllThere (base_state (bases v))
+  pub based_there : {o : Opening} {nodes : ℕ → Standing} {ps : List Packet} {all : List Line} {leads : Leads} {bases : Bases} → Life o nodes ps all leads bases → AllJoin all → (v : ViewId) → AllThere (base_state (bases v))
   based_there (Dawn nodes new) named v = λ p h. absurd h
   based_there (NextEvent nodes ps all leads bases life) named v = based_there life (λ n u i e h. named n u i e (inr h)) v
   based_there (Promises nodes now ps all leads bases n x u life is le c) named v = based_there life named v
@@ -239,7 +239,7 @@ asked_recorded p r g x [] before all old (inr k) = old k
 asked_recorded p r g x (q ∷ now) before all old k =
     ⊎_elim (λ (a : Has (Noted (group.Asked p r x)) (lines_at g (earlier now before) q)). inl (asked_at p r g x (earlier now before) q a)) (λ (b : Has (Noted (group.Asked p r x)) (lines_with g now before all)). inr (asked_recorded p r g x now before all old b)) (has_append (Noted (group.Asked p r x)) (lines_at g (earlier now before) q) (lines_with g now before all) k)
 
-asked_back : (p : ProviderId) (r : ℕ) (g : List ℕ) (x : Proposal) (h : History) → Has (Noted (group.Asked p r x)) (lines_of g h) → Has (happened.Asked p r g x) (records_of h)
+pub asked_back : (p : ProviderId) (r : ℕ) (g : List ℕ) (x : Proposal) (h : History) → Has (Noted (group.Asked p r x)) (lines_of g h) → Has (happened.Asked p r g x) (records_of h)
 asked_back p r g x [] k = absurd k
 asked_back p r g x (e ∷ before) k = asked_recorded p r g x e.records before (lines_of g before) (asked_back p r g x before) k
 

@@ -31,7 +31,7 @@ use Rattle.run_safety.specs.Stays.{Stay, stays, stays_after, asks_join, is_refus
 use Rattle.node_groups.specs.Places.{InNameOrder}
 use Rattle.node_groups.proofs.NameOrder.{KeepsName, cases_text, row_here, row_there, rows_ordered}
 use Rattle.honest_votes.proofs.At.{found, leads_row}
-use Rattle.failed_rows.specs.Failures.{IsRefused, WasTold, GoneCause, EachPut}
+use Rattle.failed_rows.specs.Failures.{IsRefused, IsCut, WasTold, GoneCause, EachPut}
 use Rattle.step_ties.proofs.SessionLaws.{provider_same}
 use Rattle.failed_rows.proofs.Living.{IsLive, told_lives, told_slim}
 use Rattle.failed_rows.proofs.Facts.{Whys, TallyIs, QueueIs, Track, BasesFit, Quiet, quiet_stays, quiet_puts, quiet_accepted, Of, quiet_of, BodyFails, body_on, quiet_unasked, Lives, lives_on, OwnFor, own_pushed}
@@ -203,7 +203,7 @@ module _ (h : History) (said : ProviderId → Type 0) (origin : Origin) (P L M :
         record { inc = a.inc; own = own; slim = slim; sends = a.sends; puts = a.puts; accepted = a.accepted; whose = a.whose; order = a.order; tracks = a.tracks; marks = a.marks; tallies = a.tallies; queues = a.queues; apart = a.apart; led = a.led; whys = a.whys }
 
     -- a provider is told, and may be dropped
-    pub at_told : (s : Core) (p : ProviderId) (r : ℕ) (y : Why) → ((is_join_request (outstanding s.sessions p) ≡ true) ⊎ (is_dissolved y ≡ true) → IsRefused (reverse s.records ++ records_of h) p r ⊎ (is_dissolved y ≡ true)) → At h said origin P L M T G Q s → At h said origin P L M T G Q (recorded (with_sessions s (telling_taken s.sessions p r y)) (happened.Told p r y))
+    pub at_told : (s : Core) (p : ProviderId) (r : ℕ) (y : Why) → (p.node ≡ s.views.me → (is_join_request (outstanding s.sessions p) ≡ true) ⊎ (is_dissolved y ≡ true) → IsRefused (reverse s.records ++ records_of h) p r ⊎ ((is_dissolved y ≡ true) × IsCut (reverse s.records ++ records_of h) p)) → At h said origin P L M T G Q s → At h said origin P L M T G Q (recorded (with_sessions s (telling_taken s.sessions p r y)) (happened.Told p r y))
     unfolding recorded with_sessions
     at_told s p r y ends a = at_sessions (recorded s told) (telling_taken s.sessions p r y) (slim_on origin.root s.sessions (telling_taken s.sessions p r y) (s.records ++ told ∷ []) (told_slim s.sessions p r y) (at_recorded s told tt a).slim) own (at_recorded s told tt a)
       where
@@ -216,12 +216,12 @@ module _ (h : History) (said : ProviderId → Type 0) (origin : Origin) (P L M :
         own : OwnFor h said origin.born (telling_taken s.sessions p r y) (record s { records = s.records ++ told ∷ [] })
         own q at inc asked = by ((at_recorded s told tt a).own q at inc asked)
           where
-            was_told : q ≡ p → IsRefused (reverse s.records ++ records_of h) p r ⊎ (is_dissolved y ≡ true) → WasTold (told ∷ (reverse s.records ++ records_of h)) q
+            was_told : q ≡ p → IsRefused (reverse s.records ++ records_of h) p r ⊎ ((is_dissolved y ≡ true) × IsCut (reverse s.records ++ records_of h) p) → WasTold (told ∷ (reverse s.records ++ records_of h)) q
             was_told e k = subst (WasTold (told ∷ (reverse s.records ++ records_of h))) (sym e) (record { number = r; why = y; newer = []; older = reverse s.records ++ records_of h; moment = refl; ends = k })
 
             live : IsLive (telling_taken s.sessions p r y) q ⊎ ((q ≡ p) × ((is_join_request (outstanding s.sessions p) ≡ true) ⊎ (is_dissolved y ≡ true))) → Lives said (telling_taken s.sessions p r y) (reverse (s.records ++ told ∷ []) ++ records_of h) q
             live (inl k) = inl k
-            live (inr k) = inr (inr (inl (subst (λ z. WasTold (z ++ records_of h) q) (sym turned) (was_told k.0 (ends k.1)))))
+            live (inr k) = inr (inr (inl (subst (λ z. WasTold (z ++ records_of h) q) (sym turned) (was_told k.0 (ends (ap (λ (z : ProviderId). z.node) (sym k.0) ∙ at) k.1)))))
 
             by : Lives said s.sessions (reverse (s.records ++ told ∷ []) ++ records_of h) q → Lives said (telling_taken s.sessions p r y) (reverse (s.records ++ told ∷ []) ++ records_of h) q
             by (inl k) = live (told_lives s.sessions p r y q k)

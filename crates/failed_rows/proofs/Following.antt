@@ -186,10 +186,10 @@ module _ (h : History) (said : ProviderId → Type 0) (origin : Origin) (P L M :
   abbrev Numbered : Core → Type 0
   Numbered s = (q : Request) → Has q s.sessions.requests → is_join q.proposal ≡ true → IsRefused (reverse s.records ++ records_of h) q.p q.r
 
-  at_told_if : (s : Core) (p : ProviderId) (r : ℕ) (y : Why) (b : Bool) → (b ≡ true → (is_join_request (outstanding s.sessions p) ≡ true) ⊎ (is_dissolved y ≡ true) → IsRefused (reverse s.records ++ records_of h) p r ⊎ (is_dissolved y ≡ true)) → Full s → Full (told_if s p r y b)
+  at_told_if : (s : Core) (p : ProviderId) (r : ℕ) (y : Why) (b : Bool) → (b ≡ true → (is_join_request (outstanding s.sessions p) ≡ true) ⊎ (is_dissolved y ≡ true) → IsRefused (reverse s.records ++ records_of h) p r) → Full s → Full (told_if s p r y b)
   unfolding told_if
   at_told_if s p r y false ends a = a
-  at_told_if s p r y true ends a = at_told h said origin P L M Every NoGroup Every s p r y (ends refl) a
+  at_told_if s p r y true ends a = at_told h said origin P L M Every NoGroup Every s p r y (λ me k. inl (ends refl k)) a
 
   pub at_tell : (s : Core) (p : ProviderId) (r : ℕ) (y : Why) → is_dissolved y ≡ false → Numbered s → Full s → Full (tell_row s p r y)
   unfolding tell_row outstanding
@@ -201,8 +201,8 @@ module _ (h : History) (said : ProviderId → Type 0) (origin : Origin) (P L M :
           let k = find_has (is_asked_by p) s.sessions.requests q e in
           subst (λ (z : ProviderId × ℕ). IsRefused (reverse s.records ++ records_of h) z.0 z.1) (λ i. (provider_same q.p p k.1 i, eqb-true q.r r n i)) (numbered q k.0 j)
 
-      ends : is_numbered r (find (is_asked_by p) s.sessions.requests) ≡ true → (is_join_request (find (is_asked_by p) s.sessions.requests) ≡ true) ⊎ (is_dissolved y ≡ true) → IsRefused (reverse s.records ++ records_of h) p r ⊎ (is_dissolved y ≡ true)
-      ends n (inl j) = inl (joins (find (is_asked_by p) s.sessions.requests) refl n j)
+      ends : is_numbered r (find (is_asked_by p) s.sessions.requests) ≡ true → (is_join_request (find (is_asked_by p) s.sessions.requests) ≡ true) ⊎ (is_dissolved y ≡ true) → IsRefused (reverse s.records ++ records_of h) p r
+      ends n (inl j) = joins (find (is_asked_by p) s.sessions.requests) refl n j
       ends n (inr d) = absurd (let z : true ≡ false = sym d ∙ fine in cc)
 
   told_numbered : (s : Core) (p : ProviderId) (r : ℕ) (y : Why) → Numbered s → Numbered (tell_row s p r y)

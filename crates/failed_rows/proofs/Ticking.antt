@@ -1,14 +1,12 @@
 -- A tick.
 use Rattle.std.proofs.Common.{◌⊎◌, ◌≡◌, ℕ, ◌+◌, ◌-◌, List, [], ◌∷◌, ◌++◌, take, drop, Option, Some, None, Bool, true, false, refl, sym, ap, ◌∙◌, subst, inl, inr}
-use Rattle.std.specs.Prelude.{◌==◌, ◌&&◌, not, filter, fold, find, reverse, is_none, is_some, cond}
-use Rattle.std.specs.Str.{bytes_eq}
+use Rattle.std.specs.Prelude.{◌==◌, ◌&&◌, not, filter, fold, find, reverse, is_none, is_some}
 use Rattle.std.specs.List.{list_any}
 use Rattle.std.proofs.lemmas.Bool.{eqb-true, and_parts}
 use Rattle.rsct_packet.specs.declared.ids.ProviderId.{ProviderId}
 use Rattle.rsct_packet.specs.declared.mask.Mask.{Mask}
 use Rattle.rsct_packet.specs.Mask.{nodes_of}
 use Rattle.rsct_packet.specs.Providers.{among, same_provider}
-use Rattle.rsct_packet.specs.Text.{name_lt}
 use Rattle.rsct_packet.specs.Search.{Has}
 use Rattle.rsct_packet.proofs.HasLaws.{has_filter, find_none}
 use Rattle.group_entry.specs.declared.entry.Entry.{Entry}
@@ -43,13 +41,13 @@ use Rattle.node_state.specs.Applying.{own_parts, views_taken}
 use Rattle.node_state.specs.Ticks.{ring_put, set_records, ring_taken, ring_row_of, ring_row, row_reported, report_row, rings_union, report_of, report_sent, rings_tick, rings_part, ring_ask, views_part, is_lost, lost_told, owed_part, late_appended, announced, ticked_in, tally_ticks, entries_sent, list_sent_again, sent_again, group_ticks, led_part}
 use Rattle.run_safety.specs.Past.{History, records_of}
 use Rattle.run_safety.specs.Stays.{stays, asks_join}
-use Rattle.node_groups.specs.Places.{has_name, AllAfter, InNameOrder}
-use Rattle.node_groups.proofs.NameOrder.{text_self, text_same, lt_self}
+use Rattle.node_groups.specs.Places.{has_name}
 use Rattle.step_ties.proofs.SessionLaws.{provider_self}
 use Rattle.hearing.proofs.Handing.{has_among}
 use Rattle.honest_votes.proofs.At.{found, leads_row}
 use Rattle.honest_votes.proofs.Ending.{Every, NoGroup}
 use Rattle.failed_rows.specs.Failures.{GoneCause, StoodThere, IsOver}
+use Rattle.failed_rows.proofs.Bases.{found_self}
 use Rattle.failed_rows.proofs.InView.{stay_ticks, stay_reminds}
 use Rattle.failed_rows.proofs.Facts.{TallyFails, TallyIs, Quiet, Lives}
 use Rattle.failed_rows.proofs.Origin.{Origin}
@@ -67,26 +65,6 @@ ticked gone led t st (inr k) = inr (k.0, by t k.1)
     by : (o : Option TallyView) → TallyFails gone st o → TallyFails gone st (ticked_in o)
     by None z = tt
     by (Some t) z = ticked_fails gone st t z
-
--- a row is found by its name
-name_later : (h : List ℕ) (rows : List GroupRow) (row : GroupRow) → AllAfter h rows → Has row rows → name_lt h row.name ≡ true
-name_later h [] row a i = absurd i
-name_later h (x ∷ rows) row a (inl e) = ap (λ (z : GroupRow). name_lt h z.name) e ∙ a.0
-name_later h (x ∷ rows) row a (inr i) = name_later h rows row a.1 i
-
-found_self : (rows : List GroupRow) (row : GroupRow) → InNameOrder rows → Has row rows → find (has_name row.name) rows ≡ Some row
-found_self [] row o i = absurd i
-found_self (x ∷ rows) row o (inl e) =
-    ap (λ b. cond b (Some x) (find (has_name row.name) rows)) (ap (λ (z : GroupRow). bytes_eq z.name row.name) (sym e) ∙ text_self row.name) ∙ ap (λ z. Some z) (sym e)
-found_self (x ∷ rows) row o (inr i) =
-    ap (λ b. cond b (Some x) (find (has_name row.name) rows)) (other (bytes_eq x.name row.name) refl) ∙ found_self rows row o.1 i
-  where
-    other : (b : Bool) → bytes_eq x.name row.name ≡ b → bytes_eq x.name row.name ≡ false
-    other false q = q
-    other true q =
-        let l : name_lt x.name row.name ≡ true = name_later x.name rows row o.0 i in
-        let k : name_lt x.name x.name ≡ true = subst (λ z. name_lt x.name z ≡ true) (sym (text_same x.name row.name q)) l in
-        let d = lt_self x.name in absurd (cc)
 
 module _ (h : History) (said : ProviderId → Type 0) (origin : Origin) (P L M : Type 0) (live : L) where
   abbrev Full : Core → Type 0

@@ -3,6 +3,7 @@ use Rattle.std.specs.Prelude.{◌≡◌, ◌⊎◌, ℕ, true, false, List, [], 
 use Rattle.std.specs.List.{list_any}
 use Rattle.rsct_packet.specs.declared.ids.ViewId.{ViewId}
 use Rattle.rsct_packet.specs.declared.ids.ProviderId.{ProviderId}
+use Rattle.rsct_packet.specs.Ids.{same_view}
 use Rattle.rsct_packet.specs.Providers.{among}
 use Rattle.rsct_packet.specs.Search.{Has}
 use Rattle.group_entry.specs.declared.entry.RowVote.{RowVote}
@@ -22,7 +23,7 @@ use Rattle.source_target.specs.Due.{allowed}
 use Rattle.client_callbacks.specs.declared.told.Why.{Why}
 use Rattle.session_state.specs.HandOn.{is_dissolved}
 use Rattle.node_state.specs.declared.happened.Happened.{Happened}
-use Rattle.node_state.specs.declared.happened.Happened.TheVariants.{In, Put, Heard, Told}
+use Rattle.node_state.specs.declared.happened.Happened.TheVariants.{In, Base, Put, Heard, Told}
 use Rattle.world_model.specs.Run.{Happening}
 use Rattle.run_safety.specs.Past.{History, records_of, earlier, fold_from, view_now, EachEvent}
 use Rattle.run_safety.specs.Stays.{Stay, stays, is_join_of, is_refused, client_of, goodbye_of, was_let_go}
@@ -61,6 +62,18 @@ pub record IsRefused (rs : List Happened) (p : ProviderId) (number : ℕ) : Type
   pub in_view : (v : ViewId) × (view_now p.node rs ≡ Some v)
   pub unput : (v : ViewId) (g : List ℕ) (i : ℕ) (e : Entry) → Has (Put p.node v g i e) rs → is_join_of p e ≡ true → ⊥
 
+-- Its own node has just entered a view, and put nothing there yet; up to then the node held it in the group; and it is not in the base
+-- there, or the base came from another view than the node's.
+pub record IsCut (rs : List Happened) (p : ProviderId) : Type 0 where
+  pub group : List ℕ
+  pub stay : Stay
+  pub last : Stay
+  pub rest : List Stay
+  pub stays_so : stays p.node group rs ≡ stay ∷ last ∷ rest
+  pub empty : stay.entries ≡ []
+  pub held : among (present (state_of_stay last)) p ≡ true
+  pub cut : (among (present stay.base) p ≡ false) ⊎ ((from : ViewId) × (len : ℕ) × Has (Base p.node stay.view group from len stay.base) rs × (same_view from last.view ≡ false))
+
 -- it was told that its join was refused, or that its group was dissolved
 pub record WasTold (rs : List Happened) (p : ProviderId) : Type 0 where
   pub number : ℕ
@@ -68,7 +81,7 @@ pub record WasTold (rs : List Happened) (p : ProviderId) : Type 0 where
   pub newer : List Happened
   pub older : List Happened
   pub moment : rs ≡ newer ++ Told p number why ∷ older
-  pub ends : IsRefused older p number ⊎ (is_dissolved why ≡ true)
+  pub ends : IsRefused older p number ⊎ ((is_dissolved why ≡ true) × IsCut older p)
 
 -- its own node put an entry after which it is neither member nor running joiner, as it was before, or was by that entry; and it heard
 -- that entry, before its node put anything else of the group or left the view
