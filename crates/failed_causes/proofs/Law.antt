@@ -22,6 +22,7 @@ use Rattle.run_safety.specs.Past.{History, EachRecord, Within, records_of, earli
 use Rattle.run_safety.specs.SafeLists.{Each}
 use Rattle.run_safety.specs.SafeHeard.{heard_count, is_after, InOrder}
 use Rattle.run_safety.specs.Stays.{Stay, stays, with_entry, is_join_of, Part, part, passes}
+use Rattle.run_safety.proofs.Tests.{has_any}
 use Rattle.node_groups.proofs.NameOrder.{text_same, text_self}
 use Rattle.attending.proofs.OrderLaw.{heard_in_order}
 use Rattle.failed_rows.specs.Failures.{state_in_stays, state_held, IsCut, IsRefused, WasTold, TakenOff, StoodThere}
@@ -373,18 +374,22 @@ module _ (rs : List Happened) (v : ViewId) (g : List ℕ) (p : ProviderId) (seen
         by (inr o) = done false later (subst (λ z. Out false p (stays p.node g z)) (sym told.moment) o)
 
     was_cut : Joined → Says
-    was_cut q = by (list_any (puts_join p g) told.older) refl (passes p (k.stay).base (part p (k.last ∷ k.rest))) refl k.cut
+    was_cut q = by (passes p (k.stay).base (part p (k.last ∷ k.rest))) refl k.cut
       where
-        over : (list_any (puts_join p g) told.older ≡ false) ⊎ PassesElsewhere told.older p k → Says
+        over : PassesElsewhere told.older p k → Says
         over why =
             inr (record { newer = st.newer; older = st.older; moment = st.moment; joined = ap (list_any (puts_join p g)) st.moment ∙ q; told = told; dissolved = dissolved; cut = k; why = why })
 
-        by : (a : Bool) → list_any (puts_join p g) told.older ≡ a → (b : Bool) → passes p (k.stay).base (part p (k.last ∷ k.rest)) ≡ b → (among (present (k.stay).base) p ≡ false) ⊎ ((from : ViewId) × (len : ℕ) × Has (happened.Base p.node (k.stay).view k.group from len (k.stay).base) told.older × (same_view from (k.last).view ≡ false)) → Says
-        by false e b z c = over (inl e)
-        by true e false z c = settled q e z
-        by true e true z (inl absent) =
+        put : list_any (puts_join p g) told.older ≡ true
+        put =
+            let j = subst (λ h. (v : ViewId) × (i : ℕ) × (e : Entry) × Has (happened.Put p.node v h i e) told.older × (is_join_of p e ≡ true)) (same_group q) k.joined in
+            has_any (puts_join p g) told.older (happened.Put p.node j.0 g j.1 j.2) j.3 (λ z. eq-eqb p.node p.node refl z && (text_self g z && j.4 z))
+
+        by : (b : Bool) → passes p (k.stay).base (part p (k.last ∷ k.rest)) ≡ b → (among (present (k.stay).base) p ≡ false) ⊎ ((from : ViewId) × (len : ℕ) × Has (happened.Base p.node (k.stay).view k.group from len (k.stay).base) told.older × (same_view from (k.last).view ≡ false)) → Says
+        by false z c = settled q put z
+        by true z (inl absent) =
             absurd (let y : true ≡ false = sym (passes_there p (k.stay).base (part p (k.last ∷ k.rest)) z) ∙ absent in cc)
-        by true e true z (inr c) = over (inr (z, c))
+        by true z (inr c) = over (z, c)
 
   module _ (off : TakenOff st.older p) where
     abbrev off_it : Happened

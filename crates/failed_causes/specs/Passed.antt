@@ -46,7 +46,7 @@ PassesElsewhere rs p c =
     (passes p (c.stay).base (part p (c.last ∷ c.rest)) ≡ true) × ((from : ViewId) × (len : ℕ) × Has (Base p.node (c.stay).view c.group from len (c.stay).base) rs × (same_view from (c.last).view ≡ false))
 
 -- Its node put its join, and at that moment it was over since it was told that its group was dissolved, as its node entered a view;
--- and its join was put only after that, or it passes into that view although the base came from elsewhere.
+-- and it passes into that view although the base came from elsewhere.
 pub record JoinedAndOver (rs : List Happened) (g : List ℕ) (p : ProviderId) : Type 0 where
   pub newer : List Happened
   pub older : List Happened
@@ -55,7 +55,7 @@ pub record JoinedAndOver (rs : List Happened) (g : List ℕ) (p : ProviderId) : 
   pub told : WasTold older p
   pub dissolved : is_dissolved told.why ≡ true
   pub cut : IsCut told.older p
-  pub why : (list_any (puts_join p g) told.older ≡ false) ⊎ PassesElsewhere told.older p cut
+  pub why : PassesElsewhere told.older p cut
 
 -- whatever starts, stops and steps: who stood there although it was over did not pass, or its join was put all the same
 abbrev pub WhoIsOverDidNotPass : Type 0

@@ -12,8 +12,8 @@ pub fn bases_come_first()
 {}
 
 /// Whoever its own node held in a view although it was over is of the base there, did not pass into the view, and is named by no
-/// join that the node put there; unless it was told that its group was dissolved, as its node entered a view, and its join was put
-/// only after that, or it passes into that view by the records although the base there came from another view than the node.
+/// join that the node put there; unless it was told that its group was dissolved, as its node entered a view into which it passes by
+/// the records, although the base there came from another view than the node.
 #[tactic(auto, using(crate::proofs::Law::over_did_not_pass))]
 pub fn who_is_over_did_not_pass()
     ensures { WhoIsOverDidNotPass }

@@ -30,11 +30,12 @@ use Rattle.run_safety.specs.Past.{History, records_of}
 use Rattle.run_safety.specs.Stays.{Stay, stays, stays_after, asks_join, is_refused}
 use Rattle.node_groups.specs.Places.{InNameOrder}
 use Rattle.node_groups.proofs.NameOrder.{KeepsName, cases_text, row_here, row_there, rows_ordered}
+use Rattle.hearing.proofs.Sessions.{fewer_told}
 use Rattle.honest_votes.proofs.At.{found, leads_row}
 use Rattle.failed_rows.specs.Failures.{IsRefused, IsCut, WasTold, GoneCause, EachPut}
 use Rattle.step_ties.proofs.SessionLaws.{provider_same}
 use Rattle.failed_rows.proofs.Living.{IsLive, told_lives, told_slim}
-use Rattle.failed_rows.proofs.Facts.{Whys, TallyIs, QueueIs, Track, BasesFit, Quiet, quiet_stays, quiet_puts, quiet_accepted, Of, quiet_of, BodyFails, body_on, quiet_unasked, Lives, lives_on, OwnFor, own_pushed}
+use Rattle.failed_rows.proofs.Facts.{Whys, Takers, takers_pushed, TallyIs, QueueIs, Track, BasesFit, Quiet, quiet_stays, quiet_puts, quiet_accepted, Of, quiet_of, BodyFails, body_on, quiet_unasked, Lives, lives_on, OwnFor, own_pushed}
 use Rattle.failed_rows.proofs.Origin.{Origin, SlimIf, slim_self, slim_more, slim_on, slim_free}
 
 -- ---- the node
@@ -58,11 +59,12 @@ pub record At (h : History) (said : ProviderId → Type 0) (origin : Origin) (P 
   pub apart : L → BasesFit s.records → (g : List ℕ) → joiners_fit (state_in (found s g).list) ≡ true
   pub led : (g : List ℕ) → G g → leads_row s (found s g) ≡ true
   pub whys : (g : List ℕ) → Whys (found s g).led
+  pub takers : Takers s.views.me s.sessions (reverse s.records ++ records_of h)
 
 -- from here on a step is measured
 pub at_rooted : (h : History) (said : ProviderId → Type 0) (born : ℕ) (o : Option Core) (P L M : Type 0) (T G Q : List ℕ → Type 0) (s : Core) → At h said (record { born = born; root = o }) P L M T G Q s → At h said (record { born = born; root = Some s }) P L M T G Q s
 at_rooted h said born o P L M T G Q s a =
-    record { inc = a.inc; own = a.own; slim = slim_self s; sends = a.sends; puts = a.puts; accepted = a.accepted; whose = a.whose; order = a.order; tracks = a.tracks; marks = a.marks; tallies = a.tallies; queues = a.queues; apart = a.apart; led = a.led; whys = a.whys }
+    record { inc = a.inc; own = a.own; slim = slim_self s; sends = a.sends; puts = a.puts; accepted = a.accepted; whose = a.whose; order = a.order; tracks = a.tracks; marks = a.marks; tallies = a.tallies; queues = a.queues; apart = a.apart; led = a.led; whys = a.whys; takers = a.takers }
 
 module _ (h : History) (said : ProviderId → Type 0) (origin : Origin) (P L M : Type 0) where
   -- other groups
@@ -84,6 +86,7 @@ module _ (h : History) (said : ProviderId → Type 0) (origin : Origin) (P L M :
         apart = a.apart;
         led = led;
         whys = a.whys;
+        takers = a.takers;
       }
 
   module _ (T G Q : List ℕ → Type 0) where
@@ -110,6 +113,7 @@ module _ (h : History) (said : ProviderId → Type 0) (origin : Origin) (P L M :
           apart = a.apart;
           led = a.led;
           whys = a.whys;
+          takers = a.takers;
         }
       where
         by : (p : Packet) → Has p s.sends ⊎ Has p (packet_on s network to b ∷ []) → BodyFails said (reverse s.records ++ records_of h) p.body
@@ -141,6 +145,7 @@ module _ (h : History) (said : ProviderId → Type 0) (origin : Origin) (P L M :
           apart = λ l fit. a.apart l (λ x i. fit x (append_has_left x s.records (r ∷ []) i));
           led = a.led;
           whys = a.whys;
+          takers = takers_pushed h s.views.me s.sessions s.records (r ∷ []) a.takers;
         }
       where
         turned : reverse (s.records ++ r ∷ []) ≡ r ∷ reverse s.records
@@ -197,15 +202,15 @@ module _ (h : History) (said : ProviderId → Type 0) (origin : Origin) (P L M :
     at_recorded_all (r ∷ rs) s none a =
         subst (λ l. At h said origin P L M T G Q (record s { records = l })) (append_assoc s.records (r ∷ []) rs) (at_recorded_all rs (recorded s r) (λ x i. none x (inr i)) (at_recorded s r (none r (inl refl)) a))
 
-    pub at_sessions : (s : Core) (t : SessionState) → SlimIf origin.root t s.records → OwnFor h said origin.born t s → At h said origin P L M T G Q s → At h said origin P L M T G Q (with_sessions s t)
+    pub at_sessions : (s : Core) (t : SessionState) → SlimIf origin.root t s.records → OwnFor h said origin.born t s → Takers s.views.me t (reverse s.records ++ records_of h) → At h said origin P L M T G Q s → At h said origin P L M T G Q (with_sessions s t)
     unfolding with_sessions
-    at_sessions s t slim own a =
-        record { inc = a.inc; own = own; slim = slim; sends = a.sends; puts = a.puts; accepted = a.accepted; whose = a.whose; order = a.order; tracks = a.tracks; marks = a.marks; tallies = a.tallies; queues = a.queues; apart = a.apart; led = a.led; whys = a.whys }
+    at_sessions s t slim own takers a =
+        record { inc = a.inc; own = own; slim = slim; sends = a.sends; puts = a.puts; accepted = a.accepted; whose = a.whose; order = a.order; tracks = a.tracks; marks = a.marks; tallies = a.tallies; queues = a.queues; apart = a.apart; led = a.led; whys = a.whys; takers = takers }
 
     -- a provider is told, and may be dropped
     pub at_told : (s : Core) (p : ProviderId) (r : ℕ) (y : Why) → (p.node ≡ s.views.me → (is_join_request (outstanding s.sessions p) ≡ true) ⊎ (is_dissolved y ≡ true) → IsRefused (reverse s.records ++ records_of h) p r ⊎ ((is_dissolved y ≡ true) × IsCut (reverse s.records ++ records_of h) p)) → At h said origin P L M T G Q s → At h said origin P L M T G Q (recorded (with_sessions s (telling_taken s.sessions p r y)) (happened.Told p r y))
     unfolding recorded with_sessions
-    at_told s p r y ends a = at_sessions (recorded s told) (telling_taken s.sessions p r y) (slim_on origin.root s.sessions (telling_taken s.sessions p r y) (s.records ++ told ∷ []) (told_slim s.sessions p r y) (at_recorded s told tt a).slim) own (at_recorded s told tt a)
+    at_told s p r y ends a = at_sessions (recorded s told) (telling_taken s.sessions p r y) (slim_on origin.root s.sessions (telling_taken s.sessions p r y) (s.records ++ told ∷ []) (told_slim s.sessions p r y) (at_recorded s told tt a).slim) own (λ q x e part. (at_recorded s told tt a).takers q x ((fewer_told s.sessions p r y).providers q x e) part) (at_recorded s told tt a)
       where
         told : Happened
         told = happened.Told p r y
@@ -245,6 +250,7 @@ module _ (h : History) (said : ProviderId → Type 0) (origin : Origin) (P L M :
           apart = a.apart;
           led = λ g t. sym (same g) ∙ a.led g t;
           whys = a.whys;
+          takers = subst (λ m. Takers m s.sessions (reverse s.records ++ records_of h)) (sym me) a.takers;
         }
       where
         same : (g : List ℕ) → leads_row s (found s g) ≡ leads_row (record s { views = v }) (found s g)
@@ -271,6 +277,7 @@ module _ (h : History) (said : ProviderId → Type 0) (origin : Origin) (P L M :
             apart = λ l fit k. fits l fit k (cases_text g k);
             led = λ k i. leads k i (cases_text g k);
             whys = λ k. why k (cases_text g k);
+            takers = a.takers;
           }
         where
           here : found (with_row s g f) g ≡ f (found s g)

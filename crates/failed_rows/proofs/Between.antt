@@ -34,7 +34,7 @@ use Rattle.step_ties.specs.Tied.{Scene, NodeIsIf, Rests}
 use Rattle.step_ties.proofs.SessionLaws.{provider_same}
 use Rattle.honest_votes.proofs.At.{found, leads_row}
 use Rattle.failed_rows.specs.Failures.{GoneCause, RowFails, FailuresHaveCauses, SaidGoodbye}
-use Rattle.failed_rows.proofs.Facts.{Whys, VoterFails, TallyWhile, TallyFails, TallyIs, Waits, QueueIs, Track, Of, stood_on, Lives, told_on, off_on, none_asked}
+use Rattle.failed_rows.proofs.Facts.{Whys, Takers, takers_more, VoterFails, TallyWhile, TallyFails, TallyIs, Waits, QueueIs, Track, Of, stood_on, Lives, told_on, off_on, none_asked}
 use Rattle.failed_rows.proofs.Living.{slim_same}
 use Rattle.failed_rows.proofs.Owners.{Owned, owned_slim}
 use Rattle.failed_rows.proofs.Steps.{BodyGone}
@@ -113,6 +113,7 @@ pub record CoreFails (h : History) (s : Core) : Type 0 where
   pub mine : (x : Provider) → Has x s.sessions.providers → x.p.node ≡ s.views.me
   pub owners : Owned (λ p. client_of p h) s.sessions
   pub whys : (g : List ℕ) → Whys (found s g).led
+  pub takers : Takers s.views.me s.sessions (records_of h)
 
 abbrev pub CoreIf : History → Option Core → Type 0
 CoreIf h None = Unit {0}
@@ -199,6 +200,7 @@ core_on n m e h s me ne all k =
       own = λ p node inc asked. own_on e h s.sessions p (k.own p node inc (sym (none_asked p e.records (records_of h) (λ r i. other_asks n p r (λ q. ne (sym (node ∙ me) ∙ q)) (all r i))) ∙ asked));
       mine = k.mine;
       whys = k.whys;
+      takers = takers_more s.views.me s.sessions e.records (records_of h) k.takers;
       owners = owned_slim (λ p. client_of p h) (λ p. client_of p (e ∷ h)) s.sessions s.sessions (λ x i. ap (λ b. if b then joining_client e.event else client_of x.p h) (none_any x.p e.records (λ r j. other_asks n x.p r (λ q. ne (sym (k.mine x i ∙ me) ∙ q)) (all r j)))) (slim_same s.sessions s.sessions refl refl refl) k.owners;
     }
 

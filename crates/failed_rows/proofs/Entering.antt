@@ -56,7 +56,7 @@ use Rattle.honest_votes.proofs.Ending.{Every, NoGroup}
 use Rattle.failed_rows.specs.Failures.{IsCut, EachPut}
 use Rattle.failed_rows.proofs.Queues.{Stays, failed_stays}
 use Rattle.failed_rows.proofs.Bases.{bases_put, bases_track, base_is, new_stay, bases_entered, found_self}
-use Rattle.failed_rows.proofs.Facts.{Whys, Quiet, BasesFit, Of, BodyFails, body_on, Track, own_pushed}
+use Rattle.failed_rows.proofs.Facts.{Whys, JoinedIn, takers_pushed, Quiet, BasesFit, Of, BodyFails, body_on, Track, own_pushed}
 use Rattle.failed_rows.proofs.Living.{slim_same}
 use Rattle.failed_rows.proofs.Origin.{Origin, slim_more, slim_on}
 use Rattle.failed_rows.proofs.At.{At, at_fold, at_sent, at_recorded_all, at_views, at_told}
@@ -116,6 +116,7 @@ module _ (h : History) (said : ProviderId → Type 0) (origin : Origin) (P L M :
         apart = a.apart;
         led = λ g z. absurd z;
         whys = a.whys;
+        takers = a.takers;
       }
 
   -- (1)
@@ -130,7 +131,7 @@ module _ (h : History) (said : ProviderId → Type 0) (origin : Origin) (P L M :
 
   -- (2) in a view that is entered nothing is counted yet, and nobody waits
   at_view_entered : (s : Core) (i : Install) → Loose s → Full (view_entered s i (bases_of i))
-  unfolding view_entered level_set base_record base_row base_named views_entered recorded_all joiners_fit joiners_fit_at
+  unfolding view_entered level_set base_record base_row base_named views_entered recorded_all joiners_fit joiners_fit_at provider_of
   at_view_entered s i a =
       record {
         inc = a.inc;
@@ -148,6 +149,7 @@ module _ (h : History) (said : ProviderId → Type 0) (origin : Origin) (P L M :
         apart = λ l fit g. ap (λ (x : GroupRow). joiners_fit (state_in x.list)) (row_is g) ∙ fitted fit g;
         led = λ g z. absurd z;
         whys = λ g. subst (λ (x : GroupRow). Whys x.led) (sym (row_is g)) (unkept g (base_named bs g));
+        takers = takers_pushed h me s.sessions s.records rs a.takers;
       }
     where
       bs : List Base
@@ -251,9 +253,9 @@ module _ (h : History) (said : ProviderId → Type 0) (origin : Origin) (P L M :
     CutIn t g p last st =
         (among (present st) p ≡ false) ⊎ ((from : ViewId) × (len : ℕ) × Has (happened.Base p.node i.view g from len st) (reverse t.records ++ records_of h) × (same_view from last ≡ false))
 
-    cut_of : (t : Core) (g : List ℕ) (p : ProviderId) → Inside t → p.node ≡ s.views.me → Has p (present (state_in (found s g).list)) → is_in_base s.views.view p (base_named bases g) ≡ false → IsCut (reverse t.records ++ records_of h) p
+    cut_of : (t : Core) (g : List ℕ) (p : ProviderId) → Inside t → p.node ≡ s.views.me → Has p (present (state_in (found s g).list)) → is_in_base s.views.view p (base_named bases g) ≡ false → JoinedIn s.views.me p g (reverse t.records ++ records_of h) → IsCut (reverse t.records ++ records_of h) p
     unfolding is_in_base base_named
-    cut_of t g p k node there out =
+    cut_of t g p k node there out joined =
         record {
           group = g;
           stay = new_stay i.view (base_is (base_named bases g));
@@ -261,6 +263,7 @@ module _ (h : History) (said : ProviderId → Type 0) (origin : Origin) (P L M :
           rest = track.older;
           stays_so = ap (λ n. stays n g (reverse t.records ++ records_of h)) node ∙ k.stayed g ∙ ap (λ xs. new_stay i.view (base_is (base_named bases g)) ∷ xs) track.is;
           empty = refl;
+          joined = subst (λ n. JoinedIn n p g (reverse t.records ++ records_of h)) (sym node) joined;
           held = ap (λ z. among (present z) p) track.state ∙ has_among (present (state_in (found s g).list)) p there;
           cut = by (base_named bases g) refl out;
         }
@@ -305,16 +308,21 @@ module _ (h : History) (said : ProviderId → Type 0) (origin : Origin) (P L M :
     inside_if : (t : Core) (g : List ℕ) (p : ProviderId) (o : Option Provider) → provider_of t.sessions p ≡ o → Has p (present (state_in (found s g).list)) → Inside t → Inside (dissolved_if t g s.views.view (base_named bases g) o)
     unfolding dissolved_if provider_of
     inside_if t g p None e there k = k
-    inside_if t g p (Some x) e there k = by (x.takes_part && bytes_eq x.group g) (is_in_base s.views.view x.p (base_named bases g)) refl
+    inside_if t g p (Some x) e there k = by x.takes_part refl (bytes_eq x.group g) refl (is_in_base s.views.view x.p (base_named bases g)) refl
       where
         same : x.p ≡ p
         same = provider_same x.p p (find_has (is_provider p) t.sessions.providers x e).1
 
-        by : (b c : Bool) → is_in_base s.views.view x.p (base_named bases g) ≡ c → Inside (elim (b && not c) as (λ _. Core) [ true ↦ dissolved t x.p (number_of (outstanding t.sessions x.p)) | false ↦ t ])
-        by false c q = k
-        by true true q = k
-        by true false q =
-            inside_dissolved t x.p (number_of (outstanding t.sessions x.p)) (λ node. cut_of t g x.p k node (subst (λ z. Has z (present (state_in (found s g).list))) (sym same) there) q) k
+        by : (a : Bool) → x.takes_part ≡ a → (b : Bool) → bytes_eq x.group g ≡ b → (c : Bool) → is_in_base s.views.view x.p (base_named bases g) ≡ c → Inside (elim (a && b && not c) as (λ _. Core) [ true ↦ dissolved t x.p (number_of (outstanding t.sessions x.p)) | false ↦ t ])
+        by false part b y c q = k
+        by true part false y c q = k
+        by true part true y true q = k
+        by true part true y false q =
+            inside_dissolved t x.p (number_of (outstanding t.sessions x.p)) (λ node. cut_of t g x.p k node (subst (λ z. Has z (present (state_in (found s g).list))) (sym same) there) q joined) k
+          where
+            joined : JoinedIn s.views.me x.p g (reverse t.records ++ records_of h)
+            joined =
+                subst (λ (z : ℕ × ProviderId × List ℕ). JoinedIn z.0 z.1 z.2 (reverse t.records ++ records_of h)) (λ j. (k.me j, sym same j, text_same x.group g y j)) ((k.at).takers p x e part)
 
     inside_group : (row : GroupRow) → found s row.name ≡ row → (ps : List ProviderId) → ((p : ProviderId) → Has p ps → Has p (present (state_in row.list))) → (t : Core) → Inside t → Inside (fold (λ (t : Core) p. dissolved_if t row.name s.views.view (base_named bases row.name) (provider_of t.sessions p)) t ps)
     inside_group row is [] all t k = k

@@ -7,7 +7,7 @@ use Rattle.rsct_packet.specs.declared.ids.ViewId.{ViewId}
 use Rattle.rsct_packet.specs.declared.ids.ProviderId.{ProviderId}
 use Rattle.rsct_packet.specs.Search.{Has}
 use Rattle.rsct_packet.specs.Providers.{among}
-use Rattle.rsct_packet.proofs.HasLaws.{has_append, append_has_left}
+use Rattle.rsct_packet.proofs.HasLaws.{has_append, append_has_left, append_has_right}
 use Rattle.group_entry.specs.declared.proposal.Cause.{Cause}
 use Rattle.group_entry.specs.declared.proposal.Cause.TheVariants.{Died, Gone, Cast}
 use Rattle.group_entry.specs.declared.proposal.Failure.{Failure}
@@ -19,7 +19,9 @@ use Rattle.proposal_core.specs.Fold.{joiners_fit, present}
 use Rattle.vote_phases.specs.declared.voter.Voter.{Voter}
 use Rattle.vote_phases.specs.Tally.{TallyView}
 use Rattle.client_callbacks.specs.declared.told.Why.{Why}
+use Rattle.session_state.specs.declared.state.Provider.{Provider}
 use Rattle.session_state.specs.declared.state.SessionState.{SessionState}
+use Rattle.session_state.specs.State.{provider_of}
 use Rattle.session_state.specs.HandOn.{is_dissolved}
 use Rattle.node_state.specs.declared.group.Decision.{Decision}
 use Rattle.node_state.specs.declared.group.Led.{Led}
@@ -322,6 +324,22 @@ off_heard before rs new p v g i e ms value quiet heard k =
 
     at : Split it new
     at = split it new heard
+
+-- its node put its join in the group
+abbrev pub JoinedIn : ℕ → ProviderId → List ℕ → List Happened → Type 0
+JoinedIn n p g rs = (v : ViewId) × (i : ℕ) × (e : Entry) × Has (happened.Put n v g i e) rs × (is_join_of p e ≡ true)
+
+-- so it is with whoever takes part
+abbrev pub Takers : ℕ → SessionState → List Happened → Type 0
+Takers n t rs = (p : ProviderId) (y : Provider) → provider_of t p ≡ Some y → y.takes_part ≡ true → JoinedIn n p y.group rs
+
+pub takers_more : (n : ℕ) (t : SessionState) (newer rs : List Happened) → Takers n t rs → Takers n t (newer ++ rs)
+takers_more n t newer rs k p y q part =
+    let z = k p y q part in (z.0, z.1, z.2, append_has_right (happened.Put n z.0 y.group z.1 z.2) newer rs z.3, z.4)
+
+pub takers_pushed : (h : History) (n : ℕ) (t : SessionState) (rs new : List Happened) → Takers n t (reverse rs ++ records_of h) → Takers n t (reverse (rs ++ new) ++ records_of h)
+takers_pushed h n t rs new k =
+    subst (Takers n t) (sym (ap (λ z. z ++ records_of h) (reverse-append rs new) ∙ append_assoc (reverse new) (reverse rs) (records_of h))) (takers_more n t (reverse new) (reverse rs ++ records_of h) k)
 
 -- the node has the provider, or it is recorded why not
 abbrev pub Lives : (ProviderId → Type 0) → SessionState → List Happened → ProviderId → Type 0

@@ -103,7 +103,7 @@ module _ (h : History) (said : ProviderId → Type 0) (origin : Origin) (P L M :
   Full s = At h said origin P L M Every NoGroup Every s
 
   at_names : (s : Core) (ns : List Leader) → Full s → Full (record s { names = ns })
-  at_names s ns a = record { inc = a.inc; own = a.own; slim = a.slim; sends = a.sends; puts = a.puts; accepted = a.accepted; whose = a.whose; order = a.order; tracks = a.tracks; marks = a.marks; tallies = a.tallies; queues = a.queues; apart = a.apart; led = a.led; whys = a.whys }
+  at_names s ns a = record { inc = a.inc; own = a.own; slim = a.slim; sends = a.sends; puts = a.puts; accepted = a.accepted; whose = a.whose; order = a.order; tracks = a.tracks; marks = a.marks; tallies = a.tallies; queues = a.queues; apart = a.apart; led = a.led; whys = a.whys; takers = a.takers }
 
   -- a leader is known
   module _ (s : Core) (g : List ℕ) (n : ℕ) where
@@ -129,6 +129,7 @@ module _ (h : History) (said : ProviderId → Type 0) (origin : Origin) (P L M :
           apart = λ l fit k. ap joiners_fit (lists k (cases_text g k)).1 ∙ a.apart l fit k;
           led = λ k z. absurd z;
           whys = λ k. why k (cases_text g k);
+          takers = a.takers;
         }
       where
         c : Core

@@ -1,12 +1,18 @@
 -- An entry is handed on: what is recorded of that is neither put nor of a view.
-use Rattle.std.proofs.Common.{◌≡◌, ◌⊎◌, ℕ, List, [], ◌∷◌, length, Option, Some, None, Bool, true, false, refl, sym, ap, subst, inl, inr, ⊎_elim, ◌++◌}
-use Rattle.std.specs.Prelude.{map, filter, flat_map, reverse}
+use Rattle.std.proofs.Common.{◌≡◌, ◌⊎◌, ℕ, List, [], ◌∷◌, length, Option, Some, None, Bool, true, false, refl, sym, ap, ◌∙◌, subst, inl, inr, ⊎_elim, ◌++◌}
+use Rattle.std.specs.Prelude.{not, map, filter, flat_map, reverse}
+use Rattle.std.specs.Str.{bytes_eq}
+use Rattle.std.proofs.lemmas.Bool.{and_parts}
 use Rattle.rsct_packet.specs.declared.ids.ProviderId.{ProviderId}
 use Rattle.rsct_packet.specs.declared.ids.ProtoId.{ProtoId}
 use Rattle.rsct_packet.specs.declared.ids.ViewId.{ViewId}
 use Rattle.rsct_packet.specs.Search.{Has}
-use Rattle.rsct_packet.proofs.HasLaws.{has_append, append_has_left, append_has_right}
+use Rattle.rsct_packet.proofs.HasLaws.{has_append, has_filter, append_has_left, append_has_right}
 use Rattle.group_entry.specs.declared.entry.Entry.{Entry}
+use Rattle.group_entry.specs.declared.entry.Entry.TheVariants.{Once, Begin, Phase, Approve, Reject, Late}
+use Rattle.proposal_core.specs.Fold.{joins_of}
+use Rattle.session_state.specs.declared.state.Provider.{Provider}
+use Rattle.session_state.specs.State.{provider_of}
 use Rattle.proposal_core.specs.declared.group_state.GroupState.{GroupState}
 use Rattle.subscribe_core.specs.declared.subs.Subscription.{Subscription}
 use Rattle.subscribe_core.specs.Subs.{is_of_group, differs}
@@ -14,7 +20,7 @@ use Rattle.client_callbacks.specs.declared.ballot.Filled.{Filled}
 use Rattle.client_callbacks.specs.Ballots.{BallotView}
 use Rattle.session_state.specs.declared.casts.Cast.{Cast}
 use Rattle.session_state.specs.declared.state.SessionState.{SessionState}
-use Rattle.session_state.specs.HandOn.{hearers, cast_of, casts_of, casts_out, is_present}
+use Rattle.session_state.specs.HandOn.{hears, hearers_in, brought_by, beginners, hearers, cast_of, casts_of, casts_out, is_present}
 use Rattle.session_state.specs.HandOn as session
 use Rattle.node_state.specs.declared.happened.Happened.{Happened}
 use Rattle.node_state.specs.declared.happened.Happened.TheVariants as happened
@@ -22,9 +28,12 @@ use Rattle.node_state.specs.declared.state.Core.{Core}
 use Rattle.node_state.specs.State.{recorded_all, with_sessions}
 use Rattle.node_state.specs.HandOn.{Answering, fills, cast_record, cast_records, heard, note_of, notes, noted, handed_on}
 use Rattle.run_safety.specs.Past.{History, records_of}
+use Rattle.run_safety.specs.Stays.{is_join_of}
+use Rattle.node_groups.proofs.NameOrder.{text_same}
+use Rattle.hearing.proofs.Handing.{has_among, handed_kept}
 use Rattle.failed_rows.specs.Failures.{TakenOff}
 use Rattle.failed_rows.proofs.Living.{IsLive, handed_lives, handed_slim}
-use Rattle.failed_rows.proofs.Facts.{Quiet, quiet_unasked, Lives, OwnFor, own_pushed, PutOff, off_heard}
+use Rattle.failed_rows.proofs.Facts.{Quiet, quiet_unasked, Lives, OwnFor, own_pushed, PutOff, off_heard, JoinedIn, Takers, takers_pushed}
 use Rattle.failed_rows.proofs.Origin.{Origin, SlimIf, slim_more, slim_on}
 use Rattle.failed_rows.proofs.At.{At, at_recorded_all, at_sessions}
 use Rattle.failed_rows.proofs.Sends.{at_casts_sent}
@@ -76,6 +85,21 @@ heard_there s g i before e after p bs hears =
     let k = cast_there e after s.sessions.level (hearers s.sessions g before e) bs p hears in
     subst (λ z. Has (happened.Heard z s.views.view g i e after.members after.value) (flat_map (heard s g i e after) (casts_out s.sessions g before after e bs))) k.2 (cast_heard s g i e after (casts_out s.sessions g before after e bs) k.0 k.1)
 
+-- who begins is of the group, and the entry names it in a join
+begins_in : (t : SessionState) (g : List ℕ) (e : Entry) (p : ProviderId) (x : Provider) → provider_of t p ≡ Some x → Has p (beginners t g e) → (x.group ≡ g) × (is_join_of p e ≡ true)
+unfolding beginners hearers_in
+begins_in t g e p x q h =
+    let k = has_filter (λ z. hears g false (provider_of t z)) p (brought_by e) h in
+    (text_same x.group g (and_parts (not x.takes_part) (bytes_eq x.group g) (ap (hears g false) (sym q) ∙ k.1)).1, named e k.0)
+  where
+    named : (e : Entry) → Has p (brought_by e) → is_join_of p e ≡ true
+    named (Once y) j = has_among (joins_of y) p j
+    named (Begin y) j = has_among (joins_of y) p j
+    named (Phase c) j = absurd j
+    named (Approve c) j = absurd j
+    named (Reject c) j = absurd j
+    named (Late proto phase ps) j = absurd j
+
 notes_quiet : (s : Core) (g : List ℕ) (place : Option ℕ) (st : GroupState) (us : List Subscription) → AllQuiet (map (note_of s g place st) us)
 unfolding note_of
 notes_quiet s g place st [] r j = absurd j
@@ -87,12 +111,13 @@ module _ (h : History) (said : ProviderId → Type 0) (origin : Origin) (P L M :
   record Pending (u : SessionState) (s : Core) : Type 0 where
     at : At h said origin P L M T G Q s
     next : OwnFor h said origin.born u s
+    takers : Takers s.views.me u (reverse s.records ++ records_of h)
     slim : SlimIf origin.root u s.records
 
   pending_all : (u : SessionState) (rs : List Happened) (s : Core) → AllQuiet rs → Pending u s → Pending u (recorded_all s rs)
   unfolding recorded_all
   pending_all u rs s quiet k =
-      record { at = at_recorded_all h said origin P L M T G Q rs s quiet k.at; next = own_pushed h said origin.born u s rs (λ r i p. quiet_unasked r (quiet r i) p) k.next; slim = slim_more origin.root u s.records rs (λ r i p. quiet_unasked r (quiet r i) p) k.slim }
+      record { at = at_recorded_all h said origin P L M T G Q rs s quiet k.at; next = own_pushed h said origin.born u s rs (λ r i p. quiet_unasked r (quiet r i) p) k.next; takers = takers_pushed h s.views.me u s.records rs k.takers; slim = slim_more origin.root u s.records rs (λ r i p. quiet_unasked r (quiet r i) p) k.slim }
 
   pending_noted : (u : SessionState) (s : Core) (g : List ℕ) (i : ℕ) (before after : GroupState) → Pending u s → Pending u (noted s g i before after)
   unfolding noted notes
@@ -102,9 +127,9 @@ module _ (h : History) (said : ProviderId → Type 0) (origin : Origin) (P L M :
       by true = pending_all u (map (note_of s g (Some i) after) (filter (is_of_group g) s.sessions.subs.live)) s (notes_quiet s g (Some i) after (filter (is_of_group g) s.sessions.subs.live)) k
       by false = k
 
-  pub at_handed : (f : Answering) (s : Core) (to : Option ℕ) (g : List ℕ) (i : ℕ) (before after : GroupState) (e : Entry) (v : ViewId) → s.views.view ≡ v → ((p : ProviderId) → p.node ≡ s.views.me → Has p (hearers s.sessions g before e) → is_present after p ≡ false → PutOff (reverse s.records ++ records_of h) p v g i e) → At h said origin P L M T G Q s → At h said origin P L M T G Q (handed_on f s to g i before after e)
+  pub at_handed : (f : Answering) (s : Core) (to : Option ℕ) (g : List ℕ) (i : ℕ) (before after : GroupState) (e : Entry) (v : ViewId) → s.views.view ≡ v → Has (happened.Put s.views.me v g i e) (reverse s.records ++ records_of h) → ((p : ProviderId) → p.node ≡ s.views.me → Has p (hearers s.sessions g before e) → is_present after p ≡ false → PutOff (reverse s.records ++ records_of h) p v g i e) → At h said origin P L M T G Q s → At h said origin P L M T G Q (handed_on f s to g i before after e)
   unfolding handed_on recorded_all
-  at_handed f s to g i before after e v at off a =
+  at_handed f s to g i before after e v at put off a =
       let bs : List (Option Filled) = fills f (length s.records) s.sessions e after (hearers s.sessions g before e) in
       let cs : List Cast = casts_out s.sessions g before after e bs in
       let rs : List Happened = flat_map (heard s g i e after) cs in
@@ -113,10 +138,24 @@ module _ (h : History) (said : ProviderId → Type 0) (origin : Origin) (P L M :
       let k : Pending u t = pending_noted u (recorded_all s rs) g i before after (record {
         at = at_recorded_all h said origin P L M T G Q rs s (all_quiet s g i e after cs) a;
         next = own bs;
+        takers = takers_pushed h s.views.me u s.records rs (begins bs);
         slim = slim_more origin.root u s.records rs (λ r j p. quiet_unasked r (all_quiet s g i e after cs r j) p) (slim_on origin.root s.sessions u s.records (handed_slim s.sessions g before after e bs) a.slim);
       }) in
-      at_casts_sent h said origin P L M T G Q (with_sessions t u) g to cs (at_sessions h said origin P L M T G Q t u k.slim k.next k.at)
+      at_casts_sent h said origin P L M T G Q (with_sessions t u) g to cs (at_sessions h said origin P L M T G Q t u k.slim k.next k.takers k.at)
     where
+      -- whoever takes part did before, or begins by the entry
+      begins : (bs : List (Option Filled)) → Takers s.views.me (session.handed_on s.sessions g before after e bs) (reverse s.records ++ records_of h)
+      begins bs p y q part = by (b.4 part)
+        where
+          b : (x : Provider) × (provider_of s.sessions p ≡ Some x) × (y.group ≡ x.group) × (x.takes_part ≡ true → y.takes_part ≡ true) × (y.takes_part ≡ true → (x.takes_part ≡ true) ⊎ Has p (beginners s.sessions g e))
+          b = (handed_kept s.sessions g before after e bs).back p y q
+
+          by : ((b.0).takes_part ≡ true) ⊎ Has p (beginners s.sessions g e) → JoinedIn s.views.me p y.group (reverse s.records ++ records_of h)
+          by (inl was) = subst (λ k. JoinedIn s.views.me p k (reverse s.records ++ records_of h)) (sym b.2) (a.takers p b.0 b.1 was)
+          by (inr new) =
+              let k = begins_in s.sessions g e p b.0 b.1 new in
+              subst (λ z. JoinedIn s.views.me p z (reverse s.records ++ records_of h)) (sym (b.2 ∙ k.0)) (v, i, e, put, k.1)
+
       heards : List (Option Filled) → List Happened
       heards bs = flat_map (heard s g i e after) (casts_out s.sessions g before after e bs)
 

@@ -95,6 +95,7 @@ module _ (w : Scene) (n : ℕ) (f : Answering) (s : Core) (e : NodeEvent) (v : E
         apart = λ l fit g. c.apart g;
         led = λ g z. absurd z;
         whys = c.whys;
+        takers = c.takers;
       }
     where
       begun : (p : ProviderId) → Lives (SaidGoodbye w.before) s.sessions (records_of w.before) p → Lives Said s.sessions (records_of w.before) p
@@ -106,7 +107,7 @@ module _ (w : Scene) (n : ℕ) (f : Answering) (s : Core) (e : NodeEvent) (v : E
   at_begin = begin were
 
   calls : Calling (at_work s) Said Leaves e
-  calls = record { mine = λ p i. subst (λ (z : ProviderId). z.node ≡ s.views.me) i.2 ((here.owes.providers i.0 i.1).0 ∙ sym here.stands.me); me = here.owes.me ∙ sym here.stands.me; taken = taken; says = goodbye }
+  calls = record { mine = λ p i. subst (λ (z : ProviderId). z.node ≡ s.views.me) i.2 ((here.owes.providers i.0 i.1).0 ∙ sym here.stands.me); me = here.owes.me ∙ sym here.stands.me; taken = taken; says = goodbye; owner = ((rests []).turns n s up).owner }
     where
       here : NodeIs (rests []).ghost [] n s
       here = (subst (NodeIsIf w.config (rests []).ghost [] n (w.incs n)) up ((rests []).nodes n)).0
@@ -221,6 +222,7 @@ module _ (w : Scene) (n : ℕ) (f : Answering) (s : Core) (e : NodeEvent) (v : E
             own = λ p node inc asked. own_after p (at.own p node (inc ∙ at.inc) asked);
             mine = λ x i. (here.owes.providers x i).0 ∙ sym me;
             whys = at.whys;
+            takers = at.takers;
             owners = owned_slim (λ p. if list_any (asks_join p) (reverse root.records) then joining_client (Some v) else client_of p w.before) (λ p. client_of p (over v t ∷ w.before)) root.sessions t.sessions (λ x i. ap (λ b. if b then joining_client (Some v) else client_of x.p w.before) (at.slim.asks x.p)) at.slim.sessions (rooted e says);
           }
 

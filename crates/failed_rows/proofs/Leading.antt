@@ -1,6 +1,6 @@
 -- What the leader of a group does.
 use Rattle.std.proofs.Common.{◌≡◌, ◌⊎◌, ℕ, zero, suc, ◌-◌, max, List, [], ◌∷◌, drop, Option, Some, None, Bool, true, false, refl, sym, ap, ◌∙◌, subst, inl, inr}
-use Rattle.std.specs.Prelude.{not, filter, find, fold, nat_le, if◌then◌else◌}
+use Rattle.std.specs.Prelude.{not, filter, find, fold, nat_le, if◌then◌else◌, reverse, ◌++◌}
 use Rattle.std.proofs.lemmas.Bool.{and_parts}
 use Rattle.rsct_packet.specs.declared.ids.ViewId.{ViewId}
 use Rattle.rsct_packet.specs.declared.ids.ProtoId.{ProtoId}
@@ -31,12 +31,14 @@ use Rattle.view_core.specs.declared.views.Views.{Views}
 use Rattle.node_state.specs.declared.group.GroupRow.{GroupRow}
 use Rattle.node_state.specs.declared.group.Led.{Led}
 use Rattle.node_state.specs.declared.packet.Body.TheVariants as body
+use Rattle.node_state.specs.declared.happened.Happened.{Happened}
+use Rattle.node_state.specs.declared.happened.Happened.TheVariants as happened
 use Rattle.node_state.specs.declared.state.Core.{Core}
 use Rattle.node_state.specs.State.{row_found, row_of, with_row, with_led, led_of, list_of, state_of, len_of, fits_at_end, list_forgotten, forgets_below, leader_of, others, least_acked, recorded}
 use Rattle.node_state.specs.Sending.{sent_all}
 use Rattle.node_state.specs.HandOn.{Answering, handed_on}
 use Rattle.node_state.specs.Leading.{put, forgets_least, with_waiting, waits_if, new_members_wait, appended, appended_if, tally_for, tally_set, tally_opened, closing, closing_of, closing_entry, is_phase, closes_from, closes, begun_many, begins}
-use Rattle.run_safety.specs.Past.{History}
+use Rattle.run_safety.specs.Past.{History, records_of}
 use Rattle.node_groups.specs.Places.{InNameOrder, has_name}
 use Rattle.node_groups.proofs.NameOrder.{row_here}
 use Rattle.step_ties.proofs.Appending.{handed_rows}
@@ -52,7 +54,7 @@ use Rattle.failed_rows.proofs.At.{At, at_for, at_row_for}
 use Rattle.failed_rows.proofs.Tallies.{closing_fails, opened_fails}
 use Rattle.failed_rows.proofs.Sends.{at_sent_all}
 use Rattle.failed_rows.proofs.Hands.{at_handed}
-use Rattle.failed_rows.proofs.Puts.{put_row, held_is, put_holds, taken_off, at_put_for}
+use Rattle.failed_rows.proofs.Puts.{put_row, held_is, put_holds, taken_off, put_there, at_put_for}
 
 -- ---- lists
 
@@ -238,7 +240,7 @@ module _ (h : History) (said : ProviderId → Type 0) (origin : Origin) (P L M :
 
         handed_at : At h said origin P L M U G Q w
         handed_at =
-            at_handed h said origin P L M U G Q f u (leader_of u g) g (len_of s g) (state_of s g) st e s.views.view (ap (λ (z : Views). z.view) sends.views) (taken_off h said origin P L M T G Q s u g e live a (ap (λ (z : Views). z.me) sends.views) sends.sessions sends.records (λ k. held_is h said origin P L M U G Q t live put_at k)) sent_at
+            at_handed h said origin P L M U G Q f u (leader_of u g) g (len_of s g) (state_of s g) st e s.views.view (ap (λ (z : Views). z.view) sends.views) (subst (λ (z : ℕ × List Happened). Has (happened.Put z.0 s.views.view g (len_of s g) e) (reverse z.1 ++ records_of h)) (λ j. (sym (ap (λ (z : Views). z.me) sends.views) j, sym sends.records j)) (put_there h s g e)) (taken_off h said origin P L M T G Q s u g e live a (ap (λ (z : Views). z.me) sends.views) sends.sessions sends.records (λ k. held_is h said origin P L M U G Q t live put_at k)) sent_at
 
         forgot_at : At h said origin P L M U G Q x
         forgot_at = at_forgets U G Q w g (least_acked w g) handed_at

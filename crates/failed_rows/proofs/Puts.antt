@@ -27,7 +27,7 @@ use Rattle.run_safety.specs.Stays as kept
 use Rattle.node_groups.proofs.NameOrder.{cases_text, text_self, text_other, row_here, row_there, rows_ordered}
 use Rattle.honest_votes.proofs.At.{found, leads_row}
 use Rattle.failed_rows.specs.Failures.{GoneCause, PutHolds, EntryFails, EachPut, state_held, state_of_stay, state_in_stays}
-use Rattle.failed_rows.proofs.Facts.{Whys, TallyIs, QueueIs, Track, BasesFit, Of, BodyFails, body_on, own_pushed, PutOff}
+use Rattle.failed_rows.proofs.Facts.{Whys, takers_pushed, TallyIs, QueueIs, Track, BasesFit, Of, BodyFails, body_on, own_pushed, PutOff}
 use Rattle.failed_rows.proofs.Origin.{Origin, slim_more}
 use Rattle.failed_rows.proofs.At.{At}
 use Rattle.session_state.specs.HandOn.{hearers, is_present}
@@ -133,6 +133,7 @@ module _ (h : History) (said : ProviderId → Type 0) (origin : Origin) (P L M :
           apart = λ l fit k. apart l (λ x i. fit x (append_has_left x s.records (r ∷ []) i)) k (cases_text g k);
           led = λ k i. leads k i (cases_text g k);
           whys = λ k. why k (cases_text g k);
+          takers = takers_pushed h s.views.me s.sessions s.records (r ∷ []) a.takers;
         }
       where
         f : GroupRow → GroupRow
@@ -210,9 +211,15 @@ module _ (h : History) (said : ProviderId → Type 0) (origin : Origin) (P L M :
         leads k i (inl q) = subst (λ z. leads_row s (found c z) ≡ true) q (ap (leads_row s) here ∙ a.led g (subst G (sym q) i))
         leads k i (inr ne) = ap (leads_row s) (there k ne) ∙ a.led k i
 
+-- the put is recorded
+pub put_there : (h : History) (s : Core) (g : List ℕ) (e : Entry) → Has (happened.Put s.views.me s.views.view g (len_of s g) e) (reverse (put s g e).records ++ records_of h)
+unfolding put recorded with_row
+put_there h s g e =
+    subst (λ z. Has (happened.Put s.views.me s.views.view g (len_of s g) e) (z ++ records_of h)) (sym (reverse-append s.records (happened.Put s.views.me s.views.view g (len_of s g) e ∷ []))) (inl refl)
+
 module _ (h : History) (said : ProviderId → Type 0) (origin : Origin) (P L M : Type 0) (T G Q U W : List ℕ → Type 0) where
   pub at_put_and_handed_for : (f : Answering) (s : Core) (to : Option ℕ) (g : List ℕ) (e : Entry) → L → (P → BasesFit s.records → PutHolds (reverse s.records) h (happened.Put s.views.me s.views.view g (len_in (found s g).list) e)) → ((k : List ℕ) → U k → (g ≡ k → ⊥) → T k) → ((k : List ℕ) → W k → (g ≡ k → ⊥) → Q k) → (U g → TallyIs (GoneCause h s.views.view g) (leads_row s (found s g)) (found s g).led.tally (state_in (put_row s (found s g) e).list)) → (BasesFit s.records → W g → QueueIs (GoneCause h s.views.view g) (leads_row s (found s g)) (found s g).led.waiting.failures (state_in (put_row s (found s g) e).list)) → At h said origin P L M T G Q s → At h said origin P L M U G W (put_and_handed f s to g e)
   unfolding put_and_handed put recorded with_row
   at_put_and_handed_for f s to g e live holds others rest tally queue a =
       let t : At h said origin P L M U G W (put s g e) = at_put_for h said origin P L M T G Q U W s g e holds others rest tally queue a in
-      at_handed h said origin P L M U G W f (put s g e) to g (len_of s g) (state_of s g) (state_of (put s g e) g) e s.views.view refl (taken_off h said origin P L M T G Q s (put s g e) g e live a refl refl refl (λ k. held_is h said origin P L M U G W (put s g e) live t k)) t
+      at_handed h said origin P L M U G W f (put s g e) to g (len_of s g) (state_of s g) (state_of (put s g e) g) e s.views.view refl (put_there h s g e) (taken_off h said origin P L M T G Q s (put s g e) g e live a refl refl refl (λ k. held_is h said origin P L M U G W (put s g e) live t k)) t

@@ -213,6 +213,7 @@ pub record Calling (s : Core) (said : ProviderId → Type 0) (M : Type 0) (e : N
   pub me : s.sessions.me ≡ s.views.me
   pub taken : (c : CallLine) → e ≡ Calls c → M → Taken s.sessions c
   pub says : (c : CallLine) → e ≡ Calls c → Taken s.sessions c → (x : Provider) → Has x (Ended s.sessions c) → said x.p
+  pub owner : (a b : Provider) → Has a s.sessions.providers → Has b s.sessions.providers → a.p ≡ b.p → a.client ≡ b.client
 
 module _ (w : Scene) (n : ℕ) (f : Answering) (s : Core) (root : Option Core) (said : ProviderId → Type 0) (M : Type 0) (were : (p : Packet) → Has p w.sent → BodyGone w.before p.body) (nothing : s.records ≡ []) (all : (h : List ℕ) → Tied h w n s) (a : At w.before said (origin_of s root) (Unit {0}) (Unit {0}) M Every NoGroup Every s) where
   abbrev Full : Core → Type 0
@@ -270,7 +271,7 @@ module _ (w : Scene) (n : ℕ) (f : Answering) (s : Core) (root : Option Core) (
   acted_at Ticks free arises calls =
       at_led_part w.before said (origin_of s root) (Unit {0}) (Unit {0}) M tt f (owed_part (views_part f (rings_part s))) (at_owed_part w.before said (origin_of s root) (Unit {0}) (Unit {0}) M tt (views_part f (rings_part s)) (lost_asked w n f s nothing all) (at_views_part w.before said (origin_of s root) (Unit {0}) (Unit {0}) M tt f (rings_part s) (at_rings_part w.before said (origin_of s root) (Unit {0}) (Unit {0}) M tt s a)))
   acted_at (Asks mask) free arises calls = order_at mask
-  acted_at (Calls c) free arises calls = at_call w.before said (origin_of s root) (free c refl) (Unit {0}) (Unit {0}) M s c (calls.taken c refl) (calls.says c refl) calls.mine calls.me a
+  acted_at (Calls c) free arises calls = at_call w.before said (origin_of s root) (free c refl) (Unit {0}) (Unit {0}) M s c (calls.taken c refl) (calls.says c refl) calls.mine calls.owner calls.me a
   acted_at Garbage free arises calls = a
   acted_at (Given p) free arises calls = by (p.to == s.views.me) refl
     where

@@ -62,8 +62,8 @@ pub record IsRefused (rs : List Happened) (p : ProviderId) (number : ℕ) : Type
   pub in_view : (v : ViewId) × (view_now p.node rs ≡ Some v)
   pub unput : (v : ViewId) (g : List ℕ) (i : ℕ) (e : Entry) → Has (Put p.node v g i e) rs → is_join_of p e ≡ true → ⊥
 
--- Its own node has just entered a view, and put nothing there yet; up to then the node held it in the group; and it is not in the base
--- there, or the base came from another view than the node's.
+-- Its own node has just entered a view, and put nothing there yet; it had put its join in the group, and held it there up to then; and
+-- it is not in the base there, or the base came from another view than the node's.
 pub record IsCut (rs : List Happened) (p : ProviderId) : Type 0 where
   pub group : List ℕ
   pub stay : Stay
@@ -71,6 +71,7 @@ pub record IsCut (rs : List Happened) (p : ProviderId) : Type 0 where
   pub rest : List Stay
   pub stays_so : stays p.node group rs ≡ stay ∷ last ∷ rest
   pub empty : stay.entries ≡ []
+  pub joined : (v : ViewId) × (i : ℕ) × (e : Entry) × Has (Put p.node v group i e) rs × (is_join_of p e ≡ true)
   pub held : among (present (state_of_stay last)) p ≡ true
   pub cut : (among (present stay.base) p ≡ false) ⊎ ((from : ViewId) × (len : ℕ) × Has (Base p.node stay.view group from len stay.base) rs × (same_view from last.view ≡ false))
 
