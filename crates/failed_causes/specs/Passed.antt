@@ -57,7 +57,8 @@ pub record JoinedAndOver (rs : List Happened) (g : List ℕ) (p : ProviderId) : 
   pub cut : IsCut told.older p
   pub why : PassesElsewhere told.older p cut
 
--- whatever starts, stops and steps: who stood there although it was over did not pass, or its join was put all the same
+-- whatever starts, stops and steps: who stood there although it was over did not pass, or was told as its node entered a view into
+-- which it passes by the records, with a base from elsewhere
 abbrev pub WhoIsOverDidNotPass : Type 0
 WhoIsOverDidNotPass =
     (c : Config) (w : Scene) → Reached c w → (v : ViewId) (g : List ℕ) (p : ProviderId) → StoodThere (records_of w.before) v g p → DidNotPass (records_of w.before) v g p ⊎ JoinedAndOver (records_of w.before) g p

@@ -20,8 +20,8 @@ pub fn who_is_over_did_not_pass()
 {}
 
 /// So where a place of a list is put first, each default row of who failed and each failure leave has its cause: the provider is on
-/// the failed list, or its own client said goodbye, or it did not pass into the view; or its join was put though it was over, as
-/// above.
+/// the failed list, or its own client said goodbye, or it did not pass into the view; or it was told that its group was dissolved,
+/// as above.
 #[tactic(auto, using(crate::proofs::Causes::failures_are_exact))]
 pub fn failures_are_exact()
     ensures { FailuresAreExact }
