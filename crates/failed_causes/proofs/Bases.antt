@@ -35,7 +35,7 @@ use Rattle.run_safety.specs.Past.{History, EachRecord, Within, earlier}
 use Rattle.run_safety.specs.Stays.{Stay, stays, with_base}
 use Rattle.step_ties.specs.Tied.{Scene}
 use Rattle.step_ties.specs.Rows.{nothing_yet, with_records, starts_too}
-use Rattle.step_ties.specs.Runs.{IsNote, Nothing, AllStart, Starts, Stops, Steps, Notes}
+use Rattle.step_ties.specs.Runs.{IsNote, Reached, Nothing, AllStart, Starts, Stops, Steps, Notes}
 use Rattle.step_ties.proofs.BaseOrder.{base_noted}
 use Rattle.hearing.specs.Changes.{Inner, Does, Stays, Then, Records, Hands, Loses, Joins, Votes, Enters}
 use Rattle.hearing.proofs.Attending.{pushed, pushed_reverse}
@@ -43,8 +43,19 @@ use Rattle.hearing.proofs.Listening.{reverse_has, steps_change}
 use Rattle.attending.proofs.Doing.{Adds, sides_add}
 use Rattle.failed_causes.specs.Passed.{latest_entries, BaseFirst, BasesComeFirst}
 
-abbrev First : List Happened → History → Happened → Type 0
-First now before r = BaseFirst (earlier now before) r
+-- the node's latest records are of a view that it entered, and of bases
+abbrev pub just_entered : ℕ → List Happened → Bool
+just_entered n [] = false
+just_entered n (happened.In m v ms ∷ rs) = m == n
+just_entered n (happened.Base m v g u len s ∷ rs) = m == n && just_entered n rs
+just_entered n (r ∷ rs) = false
+
+abbrev pub AtEntry : List Happened → Happened → Type 0
+AtEntry rs (happened.Base n v g u len s) = just_entered n rs ≡ true
+AtEntry rs _ = Unit {0}
+
+abbrev pub First : List Happened → History → Happened → Type 0
+First now before r = BaseFirst (earlier now before) r × AtEntry (earlier now before) r
 
 -- ---- records of no base
 
@@ -52,9 +63,9 @@ abbrev NoBase : Happened → Type 0
 NoBase (happened.Base n v g u len s) = ⊥
 NoBase _ = Unit {0}
 
-none_first : (r : Happened) (rs : List Happened) → NoBase r → BaseFirst rs r
+none_first : (r : Happened) (rs : List Happened) → NoBase r → BaseFirst rs r × AtEntry rs r
 none_first (happened.Base n v g u len s) rs a = absurd a
-none_first _ rs a = tt
+none_first _ rs a = (tt, tt)
 
 inner_none : (r : Happened) → Inner r → NoBase r
 inner_none (happened.Base n v g u len s) a = absurd a
@@ -106,10 +117,10 @@ with_latest s [] = refl
 with_latest s (x ∷ older) = refl
 
 module _ (n : ℕ) (v : ViewId) (before : History) where
-  based_first : (bs : List Base) (now : List Happened) → ((g : List ℕ) → latest_entries (stays n g (earlier now before)) ≡ []) → Within First now before → Within First (pushed (map (base_noted n v) bs) now) before
-  based_first [] now none k = k
-  based_first (b ∷ bs) now none k =
-      based_first bs (base_noted n v b ∷ now) (λ g. by g (n == n && bytes_eq b.name g)) (none b.name, k)
+  based_first : (bs : List Base) (now : List Happened) → ((g : List ℕ) → latest_entries (stays n g (earlier now before)) ≡ []) → just_entered n (earlier now before) ≡ true → Within First now before → Within First (pushed (map (base_noted n v) bs) now) before
+  based_first [] now none just k = k
+  based_first (b ∷ bs) now none just k =
+      based_first bs (base_noted n v b ∷ now) (λ g. by g (n == n && bytes_eq b.name g)) (λ i. eq-eqb n n refl i && just i) ((none b.name, just), k)
     where
       by : (g : List ℕ) (t : Bool) → latest_entries (if t then with_base b.state (stays n g (earlier now before)) else stays n g (earlier now before)) ≡ []
       by g true = with_latest b.state (stays n g (earlier now before)) ∙ none g
@@ -123,7 +134,7 @@ enters_first : (before : History) (s : Core) (i : Install) → Within First (rev
 unfolding view_entered recorded_all views_entered base_record
 enters_first before s i k =
     let told : Adds Inner inside (sides_dissolved inside (held_rows s) s.views.view bs) = sides_add inside (held_rows s) s.views.view bs in
-    subst (λ z. Within First z before) (sym (ap reverse told.is ∙ pushed_reverse told.more inside.records)) (none_pushed told.more (reverse inside.records) before (λ r h. inner_none r (told.all r h)) (subst (λ z. Within First z before) (sym (pushed_reverse (entering ∷ map (base_noted s.views.me i.view) bs) s.records)) (based_first s.views.me i.view before bs (entering ∷ reverse s.records) (entered_none s.views.me i.view before i.members (reverse s.records)) (tt, k))))
+    subst (λ z. Within First z before) (sym (ap reverse told.is ∙ pushed_reverse told.more inside.records)) (none_pushed told.more (reverse inside.records) before (λ r h. inner_none r (told.all r h)) (subst (λ z. Within First z before) (sym (pushed_reverse (entering ∷ map (base_noted s.views.me i.view) bs) s.records)) (based_first s.views.me i.view before bs (entering ∷ reverse s.records) (entered_none s.views.me i.view before i.members (reverse s.records)) (eq-eqb s.views.me s.views.me refl) ((tt, tt), k))))
   where
     bs : List Base
     bs = bases_of i
@@ -176,13 +187,24 @@ all_start (n ∷ ns) w k = all_start ns (starts_too w n (w.cores n)) (by (w.core
     by (Some s) = k
     by None = with_none w.before (started w.config n (w.incs n + 1)).records (start_none w.config n (w.incs n + 1)) k
 
-pub bases_come_first : BasesComeFirst
-bases_come_first c _ Nothing = tt
-bases_come_first c _ (AllStart fixed) =
+pub bases_follow : (c : Config) (w : Scene) → Reached c w → EachRecord First w.before
+bases_follow c _ Nothing = tt
+bases_follow c _ (AllStart fixed) =
     all_start (nodes_of c.nodes) (record (nothing_yet c) { before = record { event = None; records = [] } ∷ [] }) (tt, tt)
-bases_come_first c _ (Starts w n e k free real down) =
-    (none_turned (started w.config n (w.incs n + 1)).records w.before (start_none w.config n (w.incs n + 1)), bases_come_first c w k)
-bases_come_first c _ (Stops w n e s k up) = ((tt, tt), bases_come_first c w k)
-bases_come_first c _ (Steps w n f s e v k up arises) =
-    (does_first w.before (at_work s) (stepped f s e) (steps_change c w k n s up f e) tt, bases_come_first c w k)
-bases_come_first c _ (Notes w e rs k notes) = (none_turned rs w.before (λ r h. note_none r (notes r h)), bases_come_first c w k)
+bases_follow c _ (Starts w n e k free real down) =
+    (none_turned (started w.config n (w.incs n + 1)).records w.before (start_none w.config n (w.incs n + 1)), bases_follow c w k)
+bases_follow c _ (Stops w n e s k up) = (((tt, tt), tt), bases_follow c w k)
+bases_follow c _ (Steps w n f s e v k up arises) =
+    (does_first w.before (at_work s) (stepped f s e) (steps_change c w k n s up f e) tt, bases_follow c w k)
+bases_follow c _ (Notes w e rs k notes) = (none_turned rs w.before (λ r h. note_none r (notes r h)), bases_follow c w k)
+
+firsts_alone : (now : List Happened) (before : History) → Within First now before → Within (λ now before r. BaseFirst (earlier now before) r) now before
+firsts_alone [] before k = tt
+firsts_alone (r ∷ now) before k = ((k.0).0, firsts_alone now before k.1)
+
+each_alone : (h : History) → EachRecord First h → EachRecord (λ now before r. BaseFirst (earlier now before) r) h
+each_alone [] k = tt
+each_alone (e ∷ before) k = (firsts_alone e.records before k.0, each_alone before k.1)
+
+pub bases_come_first : BasesComeFirst
+bases_come_first c w k = each_alone w.before (bases_follow c w k)

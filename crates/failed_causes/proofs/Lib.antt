@@ -1,5 +1,7 @@
-pub mod Grows
 pub mod Ended
 pub mod Bases
+pub mod Cut
+pub mod Held
 pub mod Law
 pub mod Causes
+pub mod Renamed

@@ -11,7 +11,8 @@ use Rattle.failed_rows.specs.Failures.{SaidGoodbye, EntryFails, IsFirst, Since, 
 use Rattle.failed_rows.specs.Scenes.{Played}
 use Rattle.failed_causes.specs.Passed.{DidNotPass, JoinedAndOver}
 
--- its own client said goodbye, or it did not pass into the view, or its join was put though it was over
+-- its own client said goodbye, or it did not pass into the view, or it was told that its group was dissolved as its node entered a view
+-- into which it passes by the records, with a base from elsewhere
 abbrev pub ExactCause : History → ViewId → List ℕ → ProviderId → Type 0
 ExactCause before v g p =
     SaidGoodbye before p ⊎ (DidNotPass (records_of before) v g p ⊎ JoinedAndOver (records_of before) g p)

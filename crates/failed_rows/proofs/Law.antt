@@ -14,6 +14,8 @@ use Rattle.node_state.specs.declared.call.CallLine.{CallLine}
 use Rattle.node_state.specs.declared.call.CallLine.TheVariants as call
 use Rattle.node_state.specs.declared.config.Config.{Config}
 use Rattle.node_state.specs.declared.happened.Happened.{Happened}
+use Rattle.node_state.specs.declared.happened.Happened.TheVariants as happened
+use Rattle.group_entry.specs.declared.proposal.Proposal.{Proposal}
 use Rattle.node_state.specs.declared.packet.Body.{Body}
 use Rattle.node_state.specs.declared.packet.Body.TheVariants as body
 use Rattle.node_state.specs.declared.packet.Packet.{Packet}
@@ -92,6 +94,8 @@ module _ (w : Scene) (n : ℕ) (f : Answering) (s : Core) (e : NodeEvent) (v : E
         queues = λ fit g u. c.queues g;
         apart = λ l fit g. c.apart g;
         led = λ g z. absurd z;
+        whys = c.whys;
+        takers = c.takers;
       }
     where
       begun : (p : ProviderId) → Lives (SaidGoodbye w.before) s.sessions (records_of w.before) p → Lives Said s.sessions (records_of w.before) p
@@ -103,7 +107,7 @@ module _ (w : Scene) (n : ℕ) (f : Answering) (s : Core) (e : NodeEvent) (v : E
   at_begin = begin were
 
   calls : Calling (at_work s) Said Leaves e
-  calls = record { mine = λ p i. subst (λ (z : ProviderId). z.node ≡ s.views.me) i.2 ((here.owes.providers i.0 i.1).0 ∙ sym here.stands.me); me = here.owes.me ∙ sym here.stands.me; taken = taken; says = goodbye }
+  calls = record { mine = λ p i. subst (λ (z : ProviderId). z.node ≡ s.views.me) i.2 ((here.owes.providers i.0 i.1).0 ∙ sym here.stands.me); me = here.owes.me ∙ sym here.stands.me; taken = taken; says = goodbye; owner = ((rests []).turns n s up).owner }
     where
       here : NodeIs (rests []).ghost [] n s
       here = (subst (NodeIsIf w.config (rests []).ghost [] n (w.incs n)) up ((rests []).nodes n)).0
@@ -129,6 +133,14 @@ module _ (w : Scene) (n : ℕ) (f : Answering) (s : Core) (e : NodeEvent) (v : E
 
   at : At w.before Said (origin_of s (Some (root_of (at_work s) e))) (Unit {0}) (Unit {0}) Leaves Every NoGroup Every t
   at = at_stepped w n f s Said Leaves e k.sent (λ h. begin_tied h w n s up (rests h)) arises at_begin calls
+
+  -- whoever asks for a join in this event asks by the call
+  pub asked_by_call : (p : ProviderId) (g : List ℕ) (x : Proposal) → Has (happened.Asked p p.join g x) t.records → Has (happened.Asked p p.join g x) (root_of (at_work s) e).records
+  asked_by_call = at.slim.asked
+
+  -- at its own node
+  pub asked_here : (p : ProviderId) (g : List ℕ) (x : Proposal) → Has (happened.Asked p p.join g x) t.records → p.node ≡ t.views.me
+  asked_here p g x i = at.whose (happened.Asked p p.join g x) i
 
   fit : BasesFit t.records
   fit r i = noted_fit (ended w n v t) after r (has_turned r t.records (records_of w.before) (append_has_left r t.records (records_of w.before) i))
@@ -162,7 +174,7 @@ module _ (w : Scene) (n : ℕ) (f : Answering) (s : Core) (e : NodeEvent) (v : E
   sent_gone (body.Lookup u g) c = tt
   sent_gone (body.Name u g m) c = tt
   sent_gone (body.Request u g q r phases x) c = tt
-  sent_gone (body.Tell u g q r y) c = tt
+  sent_gone (body.Tell u g q r y) c = c
   sent_gone (body.Entry u g place stable x) c = tt
   sent_gone (body.Ack u g m) c = tt
   sent_gone (body.Vote u g proto phase p vote value message) c = tt
@@ -209,12 +221,14 @@ module _ (w : Scene) (n : ℕ) (f : Answering) (s : Core) (e : NodeEvent) (v : E
             apart = λ g. at.apart tt fit g;
             own = λ p node inc asked. own_after p (at.own p node (inc ∙ at.inc) asked);
             mine = λ x i. (here.owes.providers x i).0 ∙ sym me;
+            whys = at.whys;
+            takers = at.takers;
             owners = owned_slim (λ p. if list_any (asks_join p) (reverse root.records) then joining_client (Some v) else client_of p w.before) (λ p. client_of p (over v t ∷ w.before)) root.sessions t.sessions (λ x i. ap (λ b. if b then joining_client (Some v) else client_of x.p w.before) (at.slim.asks x.p)) at.slim.sessions (rooted e says);
           }
 
 -- ---- every scene
 
-played_honest : (c : Config) (w : Scene) → Played c w → Honest w
+pub played_honest : (c : Config) (w : Scene) → Played c w → Honest w
 played_honest c _ Nothing = record { sent = λ p i. absurd i; nodes = λ m. tt; puts = tt }
 played_honest c _ (AllStart fixed) =
     fresh_honest (fold (λ (w : Scene) n. starts_too w n (w.cores n)) (record (nothing_yet c) { before = record { event = None; records = [] } ∷ [] }) (nodes_of c.nodes)) (fold_fresh (nodes_of c.nodes) (record (nothing_yet c) { before = record { event = None; records = [] } ∷ [] }) (record { sent = refl; nodes = λ m. tt; puts = (tt, tt); unasked = λ p. refl }))
