@@ -59,7 +59,7 @@ First now before r = BaseFirst (earlier now before) r × AtEntry (earlier now be
 
 -- ---- records of no base
 
-abbrev NoBase : Happened → Type 0
+abbrev pub NoBase : Happened → Type 0
 NoBase (happened.Base n v g u len s) = ⊥
 NoBase _ = Unit {0}
 
@@ -67,11 +67,11 @@ none_first : (r : Happened) (rs : List Happened) → NoBase r → BaseFirst rs r
 none_first (happened.Base n v g u len s) rs a = absurd a
 none_first _ rs a = (tt, tt)
 
-inner_none : (r : Happened) → Inner r → NoBase r
+pub inner_none : (r : Happened) → Inner r → NoBase r
 inner_none (happened.Base n v g u len s) a = absurd a
 inner_none _ a = tt
 
-note_none : (r : Happened) → IsNote r → NoBase r
+pub note_none : (r : Happened) → IsNote r → NoBase r
 note_none (happened.Base n v g u len s) a = absurd a
 note_none _ a = tt
 
@@ -91,7 +91,7 @@ with_none [] rs all k = (none_turned rs [] all, tt)
 with_none (h ∷ before) rs all k = (none_added (reverse rs) h.records before (λ r i. all r (reverse_has r rs i)) k.0, k.1)
 
 -- what is heard, with the ballots
-heards_none : (c : Core) (h : List ℕ) (i : ℕ) (e : Entry) (after : GroupState) (cs : List Cast) (r : Happened) → Has r (flat_map (heard c h i e after) cs) → NoBase r
+pub heards_none : (c : Core) (h : List ℕ) (i : ℕ) (e : Entry) (after : GroupState) (cs : List Cast) (r : Happened) → Has r (flat_map (heard c h i e after) cs) → NoBase r
 unfolding heard cast_records cast_record
 heards_none c h i e after [] r k = absurd k
 heards_none c h i e after (x ∷ cs) r k = by (has_append r (heard c h i e after x) (flat_map (heard c h i e after) cs) k) (heards_none c h i e after cs r)
@@ -166,7 +166,7 @@ does_first before _ _ (Enters s i lt none) k = enters_first before s i k
 
 -- ---- every scene
 
-start_none : (c : Config) (n j : ℕ) (r : Happened) → Has r (started c n j).records → NoBase r
+pub start_none : (c : Config) (n j : ℕ) (r : Happened) → Has r (started c n j).records → NoBase r
 unfolding started with_sessions ring_record
 start_none c n j r (inl e) = subst NoBase (sym e) tt
 start_none c n j r (inr i) = by (has_append r (map (ring_record n) rings) (happened.In n (first_view c c.mode n j) (first_members c c.mode n j) ∷ []) i)

@@ -7,7 +7,6 @@ use Rattle.std.proofs.lemmas.Bool.{eqb-true, eq-eqb}
 use Rattle.rsct_packet.specs.declared.ids.ViewId.{ViewId}
 use Rattle.rsct_packet.specs.declared.ids.ProviderId.{ProviderId}
 use Rattle.rsct_packet.specs.Providers.{among}
-use Rattle.rsct_packet.specs.Ids.{same_view}
 use Rattle.rsct_packet.specs.Search.{Has}
 use Rattle.rsct_packet.proofs.HasLaws.{append_has_right}
 use Rattle.client_callbacks.specs.declared.told.Why.{Why}
@@ -24,15 +23,17 @@ use Rattle.run_safety.specs.SafeHeard.{heard_count, is_after, InOrder}
 use Rattle.run_safety.specs.Stays.{Stay, stays, with_entry, is_join_of, Part, part, passes}
 use Rattle.run_safety.proofs.Tests.{has_any}
 use Rattle.node_groups.proofs.NameOrder.{text_same, text_self}
+use Rattle.hearing.proofs.Handing.{among_is}
 use Rattle.attending.proofs.OrderLaw.{heard_in_order}
-use Rattle.failed_rows.specs.Failures.{state_in_stays, state_held, IsCut, IsRefused, WasTold, TakenOff, StoodThere}
+use Rattle.failed_rows.specs.Failures.{state_in_stays, state_held, FromElsewhere, IsCut, IsRefused, WasTold, TakenOff, StoodThere}
 use Rattle.failed_rows.proofs.Asked.{join_carried}
 use Rattle.seen_runs.specs.Seen.{Seen, SeenAt, OnceSeen, BeginsOnce, WasTold as WasRefused}
 use Rattle.seen_runs.proofs.Law.{traces_seen}
-use Rattle.failed_causes.specs.Passed.{puts_join, BaseFirst, DidNotPass, PassesElsewhere, JoinedAndOver, WhoIsOverDidNotPass}
+use Rattle.failed_causes.specs.Passed.{puts_join, BaseFirst, DidNotPass, WhoIsOverDidNotPass}
 use Rattle.failed_causes.proofs.Ended.{Out, Firsts, out_on, there_out, first_out, off_out}
 use Rattle.failed_causes.proofs.Bases.{First, bases_come_first, bases_follow}
 use Rattle.failed_causes.proofs.Cut.{Cut, CutOut, Entries, entries_after, cut_on, there_cut}
+use Rattle.failed_causes.proofs.Elsewhere.{Aways, aways_of, aways_after, bases_away}
 use Rattle.failed_causes.proofs.Held.{Held, held_asked}
 use Rattle.failed_causes.proofs.Renamed.{joined_in_one}
 
@@ -267,6 +268,17 @@ passes_there p base x k = by (is_some x.first) (is_none x.last) (among (present 
     by true false c q = absurd (cc)
     by false b c q = absurd (cc)
 
+-- nor is it on the failed list
+passes_unfailed : (p : ProviderId) (base : GroupState) (x : Part) → passes p base x ≡ true → among base.failed p ≡ false
+passes_unfailed p base x k = by (is_some x.first) (is_none x.last) (among (present base) p) (among base.failed p) k
+  where
+    by : (a b c d : Bool) → (a && (b && (c && not d))) ≡ true → d ≡ false
+    by true true true false q = refl
+    by true true true true q = absurd (cc)
+    by true true false d q = absurd (cc)
+    by true false c d q = absurd (cc)
+    by false b c d q = absurd (cc)
+
 -- who hears has a first place
 first_of : (count i : ℕ) (o : Option ℕ) → IsTrue (is_after count o i) → (f : ℕ) × (o ≡ Some f)
 first_of count i None k = absurd (let z : false ≡ true = k in cc)
@@ -274,7 +286,7 @@ first_of count i (Some f) k = (f, refl)
 
 -- ---- the law
 
-module _ (rs : List Happened) (v : ViewId) (g : List ℕ) (p : ProviderId) (seen : Seen rs) (firsts : Firsts rs) (order : Ordered rs) (entries : Entries rs) (all : List Happened) (more : (r : Happened) → Has r rs → Has r all) (single : OneGroup all) (held : Held all) (st : StoodThere rs v g p) where
+module _ (rs : List Happened) (v : ViewId) (g : List ℕ) (p : ProviderId) (seen : Seen rs) (firsts : Firsts rs) (order : Ordered rs) (entries : Entries rs) (away : Aways rs) (all : List Happened) (more : (r : Happened) → Has r rs → Has r all) (single : OneGroup all) (held : Held all) (st : StoodThere rs v g p) where
   seen_now : Seen (st.newer ++ st.older)
   seen_now = subst Seen st.moment seen
 
@@ -288,14 +300,14 @@ module _ (rs : List Happened) (v : ViewId) (g : List ℕ) (p : ProviderId) (seen
   order_then = ordered_after st.newer st.older (subst Ordered st.moment order)
 
   abbrev pub Says : Type 0
-  Says = DidNotPass rs v g p ⊎ JoinedAndOver rs g p
+  Says = DidNotPass rs v g p
 
   abbrev Joined : Type 0
   Joined = list_any (puts_join p g) (st.newer ++ st.older) ≡ true
 
   finish : list_any (puts_join p g) st.newer ≡ false → (among (present (st.stay).base) p ≡ true) × ((passes p (st.stay).base (part p st.rest) ≡ false) × (list_any (is_join_of p) (st.stay).entries ≡ false)) → Says
   finish later z =
-      inl (record {
+      record {
         newer = st.newer;
         older = st.older;
         moment = st.moment;
@@ -307,7 +319,7 @@ module _ (rs : List Happened) (v : ViewId) (g : List ℕ) (p : ProviderId) (seen
         apart = z.1.0;
         unnamed = z.1.1;
         later = later;
-      })
+      }
 
   done : (a : Bool) → list_any (puts_join p g) st.newer ≡ false → Out a p (stays p.node g st.older) → Says
   done a later out = finish later (there_out a p st.stay st.rest (subst (Out a p) st.stays_so out) st.holds)
@@ -336,7 +348,7 @@ module _ (rs : List Happened) (v : ViewId) (g : List ℕ) (p : ProviderId) (seen
             ap (λ z. st.newer ++ z) (told.moment ∙ ap (λ n. told.newer ++ happened.Told p n told.why ∷ told.older) k.join) ∙ sym (append_assoc st.newer told.newer (happened.Told p p.join told.why ∷ told.older))
 
   -- it was told as its node entered a view
-  module _ (told : WasTold st.older p) (dissolved : is_dissolved told.why ≡ true) (k : IsCut told.older p) where
+  module _ (told : WasTold st.older p) (k : IsCut told.older p) where
     abbrev tells_it : Happened
     tells_it = happened.Told p told.number told.why
 
@@ -373,23 +385,30 @@ module _ (rs : List Happened) (v : ViewId) (g : List ℕ) (p : ProviderId) (seen
             finish later (there_cut p st.stay st.rest (subst (Cut p) st.stays_so (subst (λ z. Cut p (stays p.node g z)) (sym told.moment) c.0)) st.holds)
         by (inr o) = done false later (subst (λ z. Out false p (stays p.node g z)) (sym told.moment) o)
 
+    away_then : Aways told.older
+    away_then =
+        (aways_after told.newer (tells_it ∷ told.older) (subst Aways told.moment (aways_after st.newer st.older (subst Aways st.moment away)))).1
+
+    -- whoever is there in a base from elsewhere failed
+    from_elsewhere : FromElsewhere told.older p k.group k.stay k.last → among (present (k.stay).base) p ≡ true → among (k.stay).base.failed p ≡ true
+    from_elsewhere c there =
+        let base : Happened = happened.Base p.node (k.stay).view k.group c.from c.len (k.stay).base in
+        (aways_after c.newer (base ∷ c.older) (subst Aways c.moment away_then)).0 c.entered k.last c.rest c.stays_so c.apart p refl c.inc (among_is (present (k.stay).base) p there)
+
     was_cut : Joined → Says
     was_cut q = by (passes p (k.stay).base (part p (k.last ∷ k.rest))) refl k.cut
       where
-        over : PassesElsewhere told.older p k → Says
-        over why =
-            inr (record { newer = st.newer; older = st.older; moment = st.moment; joined = ap (list_any (puts_join p g)) st.moment ∙ q; told = told; dissolved = dissolved; cut = k; why = why })
-
         put : list_any (puts_join p g) told.older ≡ true
         put =
             let j = subst (λ h. (v : ViewId) × (i : ℕ) × (e : Entry) × Has (happened.Put p.node v h i e) told.older × (is_join_of p e ≡ true)) (same_group q) k.joined in
             has_any (puts_join p g) told.older (happened.Put p.node j.0 g j.1 j.2) j.3 (λ z. eq-eqb p.node p.node refl z && (text_self g z && j.4 z))
 
-        by : (b : Bool) → passes p (k.stay).base (part p (k.last ∷ k.rest)) ≡ b → (among (present (k.stay).base) p ≡ false) ⊎ ((from : ViewId) × (len : ℕ) × Has (happened.Base p.node (k.stay).view k.group from len (k.stay).base) told.older × (same_view from (k.last).view ≡ false)) → Says
+        by : (b : Bool) → passes p (k.stay).base (part p (k.last ∷ k.rest)) ≡ b → (among (present (k.stay).base) p ≡ false) ⊎ FromElsewhere told.older p k.group k.stay k.last → Says
         by false z c = settled q put z
         by true z (inl absent) =
             absurd (let y : true ≡ false = sym (passes_there p (k.stay).base (part p (k.last ∷ k.rest)) z) ∙ absent in cc)
-        by true z (inr c) = over (z, c)
+        by true z (inr c) =
+            absurd (let y : true ≡ false = sym (from_elsewhere c (passes_there p (k.stay).base (part p (k.last ∷ k.rest)) z)) ∙ passes_unfailed p (k.stay).base (part p (k.last ∷ k.rest)) z in cc)
 
   module _ (off : TakenOff st.older p) where
     abbrev off_it : Happened
@@ -433,7 +452,7 @@ module _ (rs : List Happened) (v : ViewId) (g : List ℕ) (p : ProviderId) (seen
     where
       was_told : Joined → (told : WasTold st.older p) → IsRefused told.older p told.number ⊎ ((is_dissolved told.why ≡ true) × IsCut told.older p) → Says
       was_told q told (inl k) = refused told k
-      was_told q told (inr k) = was_cut told k.0 k.1 q
+      was_told q told (inr k) = was_cut told k.1 q
 
       by : (b : Bool) → list_any (puts_join p g) (st.newer ++ st.older) ≡ b → WasTold st.older p ⊎ TakenOff st.older p → Says
       by false q over = never_put q
@@ -442,4 +461,4 @@ module _ (rs : List Happened) (v : ViewId) (g : List ℕ) (p : ProviderId) (seen
 
 pub over_did_not_pass : WhoIsOverDidNotPass
 over_did_not_pass c w k v g p st =
-    says (records_of w.before) v g p (traces_seen c w k) (firsts_of w.before (bases_come_first c w k)) (ordered_of w.before (heard_in_order c w k)) (entries_of w.before (bases_follow c w k)) (records_of w.before) (λ r h. h) (joined_in_one c w k) (held_asked c w k) st
+    says (records_of w.before) v g p (traces_seen c w k) (firsts_of w.before (bases_come_first c w k)) (ordered_of w.before (heard_in_order c w k)) (entries_of w.before (bases_follow c w k)) (aways_of w.before (bases_away c w k)) (records_of w.before) (λ r h. h) (joined_in_one c w k) (held_asked c w k) st

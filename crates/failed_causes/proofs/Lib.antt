@@ -1,5 +1,6 @@
 pub mod Ended
 pub mod Bases
+pub mod Elsewhere
 pub mod Cut
 pub mod Held
 pub mod Law

@@ -1,13 +1,10 @@
 -- Who is gone without a goodbye: it stands in the base of the view, and did not pass into it.
-use Rattle.std.specs.Prelude.{◌≡◌, ◌⊎◌, ℕ, ◌==◌, ◌&&◌, Bool, true, false, List, [], ◌∷◌, ◌++◌}
+use Rattle.std.specs.Prelude.{◌≡◌, ℕ, ◌==◌, ◌&&◌, Bool, true, false, List, [], ◌∷◌, ◌++◌}
 use Rattle.std.specs.List.{list_any}
 use Rattle.std.specs.Str.{bytes_eq}
 use Rattle.rsct_packet.specs.declared.ids.ViewId.{ViewId}
 use Rattle.rsct_packet.specs.declared.ids.ProviderId.{ProviderId}
-use Rattle.rsct_packet.specs.Ids.{same_view}
 use Rattle.rsct_packet.specs.Providers.{among}
-use Rattle.rsct_packet.specs.Search.{Has}
-use Rattle.session_state.specs.HandOn.{is_dissolved}
 use Rattle.group_entry.specs.declared.entry.Entry.{Entry}
 use Rattle.proposal_core.specs.Fold.{present}
 use Rattle.node_state.specs.declared.config.Config.{Config}
@@ -17,7 +14,7 @@ use Rattle.run_safety.specs.Past.{records_of, earlier, EachRecord}
 use Rattle.run_safety.specs.Stays.{Stay, stays, is_join_of, part, passes}
 use Rattle.step_ties.specs.Tied.{Scene}
 use Rattle.step_ties.specs.Runs.{Reached}
-use Rattle.failed_rows.specs.Failures.{IsCut, WasTold, StoodThere}
+use Rattle.failed_rows.specs.Failures.{StoodThere}
 
 -- the provider's own node puts an entry of the group that names it in a join
 abbrev pub puts_join : ProviderId → List ℕ → Happened → Bool
@@ -40,28 +37,10 @@ pub record DidNotPass (rs : List Happened) (v : ViewId) (g : List ℕ) (p : Prov
   pub unnamed : list_any (is_join_of p) stay.entries ≡ false
   pub later : list_any (puts_join p g) newer ≡ false
 
--- by the records it passes into the view that its node entered, though the base there came from another view than the node
-abbrev pub PassesElsewhere : (rs : List Happened) (p : ProviderId) → IsCut rs p → Type 0
-PassesElsewhere rs p c =
-    (passes p (c.stay).base (part p (c.last ∷ c.rest)) ≡ true) × ((from : ViewId) × (len : ℕ) × Has (Base p.node (c.stay).view c.group from len (c.stay).base) rs × (same_view from (c.last).view ≡ false))
-
--- Its node put its join, and at that moment it was over since it was told that its group was dissolved, as its node entered a view;
--- and it passes into that view although the base came from elsewhere.
-pub record JoinedAndOver (rs : List Happened) (g : List ℕ) (p : ProviderId) : Type 0 where
-  pub newer : List Happened
-  pub older : List Happened
-  pub moment : rs ≡ newer ++ older
-  pub joined : list_any (puts_join p g) rs ≡ true
-  pub told : WasTold older p
-  pub dissolved : is_dissolved told.why ≡ true
-  pub cut : IsCut told.older p
-  pub why : PassesElsewhere told.older p cut
-
--- whatever starts, stops and steps: who stood there although it was over did not pass, or was told as its node entered a view into
--- which it passes by the records, with a base from elsewhere
+-- whatever starts, stops and steps: who stood there although it was over did not pass
 abbrev pub WhoIsOverDidNotPass : Type 0
 WhoIsOverDidNotPass =
-    (c : Config) (w : Scene) → Reached c w → (v : ViewId) (g : List ℕ) (p : ProviderId) → StoodThere (records_of w.before) v g p → DidNotPass (records_of w.before) v g p ⊎ JoinedAndOver (records_of w.before) g p
+    (c : Config) (w : Scene) → Reached c w → (v : ViewId) (g : List ℕ) (p : ProviderId) → StoodThere (records_of w.before) v g p → DidNotPass (records_of w.before) v g p
 
 -- ---- bases come first
 

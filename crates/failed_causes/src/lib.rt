@@ -12,16 +12,14 @@ pub fn bases_come_first()
 {}
 
 /// Whoever its own node held in a view although it was over is of the base there, did not pass into the view, and is named by no
-/// join that the node put there; unless it was told that its group was dissolved, as its node entered a view into which it passes by
-/// the records, although the base there came from another view than the node.
+/// join that the node put there.
 #[tactic(auto, using(crate::proofs::Law::over_did_not_pass))]
 pub fn who_is_over_did_not_pass()
     ensures { WhoIsOverDidNotPass }
 {}
 
 /// So where a place of a list is put first, each default row of who failed and each failure leave has its cause: the provider is on
-/// the failed list, or its own client said goodbye, or it did not pass into the view; or it was told that its group was dissolved,
-/// as above.
+/// the failed list, or its own client said goodbye, or it did not pass into the view.
 #[tactic(auto, using(crate::proofs::Causes::failures_are_exact))]
 pub fn failures_are_exact()
     ensures { FailuresAreExact }

@@ -26,7 +26,7 @@ use Rattle.node_state.specs.declared.packet.Packet.{Packet}
 use Rattle.node_state.specs.declared.state.Core.{Core}
 use Rattle.node_state.specs.State.{row_of, with_row, is_this, leader_by, recorded, recorded_all, with_sessions}
 use Rattle.node_state.specs.Sending.{packet_on, sent_on, sent, network_to}
-use Rattle.run_safety.specs.Past.{History, records_of}
+use Rattle.run_safety.specs.Past.{History, records_of, inc_now}
 use Rattle.run_safety.specs.Stays.{Stay, stays, stays_after, asks_join, is_refused}
 use Rattle.node_groups.specs.Places.{InNameOrder}
 use Rattle.node_groups.proofs.NameOrder.{KeepsName, cases_text, row_here, row_there, rows_ordered}
@@ -35,7 +35,7 @@ use Rattle.honest_votes.proofs.At.{found, leads_row}
 use Rattle.failed_rows.specs.Failures.{IsRefused, IsCut, WasTold, GoneCause, EachPut}
 use Rattle.step_ties.proofs.SessionLaws.{provider_same}
 use Rattle.failed_rows.proofs.Living.{IsLive, told_lives, told_slim}
-use Rattle.failed_rows.proofs.Facts.{Whys, Takers, takers_pushed, TallyIs, QueueIs, Track, BasesFit, Quiet, quiet_stays, quiet_puts, quiet_accepted, Of, quiet_of, BodyFails, body_on, quiet_unasked, Lives, lives_on, OwnFor, own_pushed}
+use Rattle.failed_rows.proofs.Facts.{Whys, Takers, takers_pushed, TallyIs, QueueIs, Track, BasesFit, Quiet, quiet_stays, quiet_puts, quiet_accepted, Stepped, quiet_of, BodyFails, body_on, quiet_unasked, Lives, lives_on, OwnFor, own_pushed}
 use Rattle.failed_rows.proofs.Origin.{Origin, SlimIf, slim_self, slim_more, slim_on, slim_free}
 
 -- ---- the node
@@ -45,12 +45,13 @@ use Rattle.failed_rows.proofs.Origin.{Origin, SlimIf, slim_self, slim_more, slim
 -- those of which failures wait
 pub record At (h : History) (said : ProviderId → Type 0) (origin : Origin) (P L M : Type 0) (T G Q : List ℕ → Type 0) (s : Core) : Type 0 where
   pub inc : s.views.inc ≡ origin.born
+  pub counted : inc_now s.views.me (records_of h) ≡ origin.born
   pub own : OwnFor h said origin.born s.sessions s
   pub slim : SlimIf origin.root s.sessions s.records
   pub sends : (p : Packet) → Has p s.sends → BodyFails said (reverse s.records ++ records_of h) p.body
   pub puts : P → BasesFit s.records → EachPut (reverse s.records) h
   pub accepted : M → (r : Happened) → Has r s.records → is_refused r ≡ false
-  pub whose : (r : Happened) → Has r s.records → Of s.views.me r
+  pub whose : (r : Happened) → Has r s.records → Stepped s.views.me r
   pub order : InNameOrder s.groups
   pub tracks : L → (g : List ℕ) → Track (stays s.views.me g (reverse s.records ++ records_of h)) s.views.view (len_in (found s g).list) (state_in (found s g).list)
   pub marks : L → (g : List ℕ) (p : ProviderId) → among (found s g).led.gone p ≡ true → GoneCause h s.views.view g p
@@ -64,7 +65,7 @@ pub record At (h : History) (said : ProviderId → Type 0) (origin : Origin) (P 
 -- from here on a step is measured
 pub at_rooted : (h : History) (said : ProviderId → Type 0) (born : ℕ) (o : Option Core) (P L M : Type 0) (T G Q : List ℕ → Type 0) (s : Core) → At h said (record { born = born; root = o }) P L M T G Q s → At h said (record { born = born; root = Some s }) P L M T G Q s
 at_rooted h said born o P L M T G Q s a =
-    record { inc = a.inc; own = a.own; slim = slim_self s; sends = a.sends; puts = a.puts; accepted = a.accepted; whose = a.whose; order = a.order; tracks = a.tracks; marks = a.marks; tallies = a.tallies; queues = a.queues; apart = a.apart; led = a.led; whys = a.whys; takers = a.takers }
+    record { inc = a.inc; counted = a.counted; own = a.own; slim = slim_self s; sends = a.sends; puts = a.puts; accepted = a.accepted; whose = a.whose; order = a.order; tracks = a.tracks; marks = a.marks; tallies = a.tallies; queues = a.queues; apart = a.apart; led = a.led; whys = a.whys; takers = a.takers }
 
 module _ (h : History) (said : ProviderId → Type 0) (origin : Origin) (P L M : Type 0) where
   -- other groups
@@ -72,6 +73,7 @@ module _ (h : History) (said : ProviderId → Type 0) (origin : Origin) (P L M :
   at_for T G Q U V W s less led fewer a =
       record {
         inc = a.inc;
+        counted = a.counted;
         own = a.own;
         slim = a.slim;
         sends = a.sends;
@@ -99,6 +101,7 @@ module _ (h : History) (said : ProviderId → Type 0) (origin : Origin) (P L M :
     at_sent_on s network to b ok a =
         record {
           inc = a.inc;
+          counted = a.counted;
           own = a.own;
           slim = a.slim;
           sends = λ p i. by p (has_append p s.sends (packet_on s network to b ∷ []) i);
@@ -126,11 +129,12 @@ module _ (h : History) (said : ProviderId → Type 0) (origin : Origin) (P L M :
     at_sent s to b ok a = at_sent_on s (network_to s to) to b ok a
 
     -- a record of no view and no list
-    at_record : (s : Core) (r : Happened) → SlimIf origin.root s.sessions (s.records ++ r ∷ []) → ((g : List ℕ) (xs : List Stay) → stays_after s.views.me g r xs ≡ xs) → ((now : List Happened) → EachPut now h → EachPut (r ∷ now) h) → (M → is_refused r ≡ false) → Of s.views.me r → OwnFor h said origin.born s.sessions (record s { records = s.records ++ r ∷ [] }) → At h said origin P L M T G Q s → At h said origin P L M T G Q (recorded s r)
+    at_record : (s : Core) (r : Happened) → SlimIf origin.root s.sessions (s.records ++ r ∷ []) → ((g : List ℕ) (xs : List Stay) → stays_after s.views.me g r xs ≡ xs) → ((now : List Happened) → EachPut now h → EachPut (r ∷ now) h) → (M → is_refused r ≡ false) → Stepped s.views.me r → OwnFor h said origin.born s.sessions (record s { records = s.records ++ r ∷ [] }) → At h said origin P L M T G Q s → At h said origin P L M T G Q (recorded s r)
     unfolding recorded
     at_record s r slim still puts ok of own a =
         record {
           inc = a.inc;
+          counted = a.counted;
           own = own;
           slim = slim;
           sends = λ p i. subst (λ z. BodyFails said (z ++ records_of h) p.body) (sym turned) (body_on said (r ∷ []) (reverse s.records ++ records_of h) p.body (a.sends p i));
@@ -156,9 +160,9 @@ module _ (h : History) (said : ProviderId → Type 0) (origin : Origin) (P L M :
         one m x (inr (inl e)) = ap is_refused e ∙ ok m
         one m x (inr (inr z)) = absurd z
 
-        mine : (x : Happened) → Has x s.records ⊎ Has x (r ∷ []) → Of s.views.me x
+        mine : (x : Happened) → Has x s.records ⊎ Has x (r ∷ []) → Stepped s.views.me x
         mine x (inl i) = a.whose x i
-        mine x (inr (inl e)) = subst (Of s.views.me) (sym e) of
+        mine x (inr (inl e)) = subst (Stepped s.views.me) (sym e) of
         mine x (inr (inr z)) = absurd z
 
     pub at_recorded : (s : Core) (r : Happened) → Quiet r → At h said origin P L M T G Q s → At h said origin P L M T G Q (recorded s r)
@@ -205,10 +209,10 @@ module _ (h : History) (said : ProviderId → Type 0) (origin : Origin) (P L M :
     pub at_sessions : (s : Core) (t : SessionState) → SlimIf origin.root t s.records → OwnFor h said origin.born t s → Takers s.views.me t (reverse s.records ++ records_of h) → At h said origin P L M T G Q s → At h said origin P L M T G Q (with_sessions s t)
     unfolding with_sessions
     at_sessions s t slim own takers a =
-        record { inc = a.inc; own = own; slim = slim; sends = a.sends; puts = a.puts; accepted = a.accepted; whose = a.whose; order = a.order; tracks = a.tracks; marks = a.marks; tallies = a.tallies; queues = a.queues; apart = a.apart; led = a.led; whys = a.whys; takers = takers }
+        record { inc = a.inc; counted = a.counted; own = own; slim = slim; sends = a.sends; puts = a.puts; accepted = a.accepted; whose = a.whose; order = a.order; tracks = a.tracks; marks = a.marks; tallies = a.tallies; queues = a.queues; apart = a.apart; led = a.led; whys = a.whys; takers = takers }
 
     -- a provider is told, and may be dropped
-    pub at_told : (s : Core) (p : ProviderId) (r : ℕ) (y : Why) → (p.node ≡ s.views.me → (is_join_request (outstanding s.sessions p) ≡ true) ⊎ (is_dissolved y ≡ true) → IsRefused (reverse s.records ++ records_of h) p r ⊎ ((is_dissolved y ≡ true) × IsCut (reverse s.records ++ records_of h) p)) → At h said origin P L M T G Q s → At h said origin P L M T G Q (recorded (with_sessions s (telling_taken s.sessions p r y)) (happened.Told p r y))
+    pub at_told : (s : Core) (p : ProviderId) (r : ℕ) (y : Why) → (p.node ≡ s.views.me → p.inc ≡ origin.born → (is_join_request (outstanding s.sessions p) ≡ true) ⊎ (is_dissolved y ≡ true) → IsRefused (reverse s.records ++ records_of h) p r ⊎ ((is_dissolved y ≡ true) × IsCut (reverse s.records ++ records_of h) p)) → At h said origin P L M T G Q s → At h said origin P L M T G Q (recorded (with_sessions s (telling_taken s.sessions p r y)) (happened.Told p r y))
     unfolding recorded with_sessions
     at_told s p r y ends a = at_sessions (recorded s told) (telling_taken s.sessions p r y) (slim_on origin.root s.sessions (telling_taken s.sessions p r y) (s.records ++ told ∷ []) (told_slim s.sessions p r y) (at_recorded s told tt a).slim) own (λ q x e part. (at_recorded s told tt a).takers q x ((fewer_told s.sessions p r y).providers q x e) part) (at_recorded s told tt a)
       where
@@ -226,7 +230,7 @@ module _ (h : History) (said : ProviderId → Type 0) (origin : Origin) (P L M :
 
             live : IsLive (telling_taken s.sessions p r y) q ⊎ ((q ≡ p) × ((is_join_request (outstanding s.sessions p) ≡ true) ⊎ (is_dissolved y ≡ true))) → Lives said (telling_taken s.sessions p r y) (reverse (s.records ++ told ∷ []) ++ records_of h) q
             live (inl k) = inl k
-            live (inr k) = inr (inr (inl (subst (λ z. WasTold (z ++ records_of h) q) (sym turned) (was_told k.0 (ends (ap (λ (z : ProviderId). z.node) (sym k.0) ∙ at) k.1)))))
+            live (inr k) = inr (inr (inl (subst (λ z. WasTold (z ++ records_of h) q) (sym turned) (was_told k.0 (ends (ap (λ (z : ProviderId). z.node) (sym k.0) ∙ at) (ap (λ (z : ProviderId). z.inc) (sym k.0) ∙ inc) k.1)))))
 
             by : Lives said s.sessions (reverse (s.records ++ told ∷ []) ++ records_of h) q → Lives said (telling_taken s.sessions p r y) (reverse (s.records ++ told ∷ []) ++ records_of h) q
             by (inl k) = live (told_lives s.sessions p r y q k)
@@ -236,12 +240,13 @@ module _ (h : History) (said : ProviderId → Type 0) (origin : Origin) (P L M :
     at_views s v me at inc a =
         record {
           inc = inc ∙ a.inc;
+          counted = ap (λ m. inc_now m (records_of h)) me ∙ a.counted;
           own = λ p node. a.own p (node ∙ me);
           slim = a.slim;
           sends = a.sends;
           puts = a.puts;
           accepted = a.accepted;
-          whose = λ r i. subst (λ z. Of z r) (sym me) (a.whose r i);
+          whose = λ r i. subst (λ z. Stepped z r) (sym me) (a.whose r i);
           order = a.order;
           tracks = λ l g. subst (λ (z : ℕ × ViewId). Track (stays z.0 g (reverse s.records ++ records_of h)) z.1 (len_in (found s g).list) (state_in (found s g).list)) (λ i. (sym me i, sym at i)) (a.tracks l g);
           marks = λ l g p i. subst (λ z. GoneCause h z g p) (sym at) (a.marks l g p i);
@@ -263,6 +268,7 @@ module _ (h : History) (said : ProviderId → Type 0) (origin : Origin) (P L M :
       at_row_for s g f keeps leader lens states kept gone others rest tally queue a =
           record {
             inc = a.inc;
+            counted = a.counted;
             own = a.own;
             slim = a.slim;
             sends = a.sends;

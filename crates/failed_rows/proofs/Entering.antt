@@ -1,9 +1,9 @@
 -- Entering a view, and what a row of views leaves.
 use Rattle.std.proofs.Common.{◌≡◌, ◌⊎◌, ℕ, List, [], ◌∷◌, ◌++◌, Option, Some, None, Bool, true, false, refl, sym, ap, ◌∙◌, subst, inl, inr, ⊎_elim, append_assoc, append-nil}
-use Rattle.std.specs.Prelude.{◌==◌, ◌&&◌, not, map, filter, fold, find, flat_map, is_some, reverse}
+use Rattle.std.specs.Prelude.{◌==◌, ◌&&◌, not, map, filter, fold, find, flat_map, is_some, reverse, if◌then◌else◌}
 use Rattle.std.specs.Str.{bytes_eq}
 use Rattle.std.specs.Option.{option_map}
-use Rattle.std.proofs.lemmas.Bool.{and_parts}
+use Rattle.std.proofs.lemmas.Bool.{and_parts, eq-eqb}
 use Rattle.std.proofs.lemmas.List.{reverse-append}
 use Rattle.rsct_packet.specs.declared.ids.ViewId.{ViewId}
 use Rattle.rsct_packet.specs.declared.ids.ProviderId.{ProviderId}
@@ -18,7 +18,7 @@ use Rattle.group_entry.specs.declared.proposal.Proposal.TheVariants.{Join, Leave
 use Rattle.group_entry.specs.declared.entry.Entry.{Entry}
 use Rattle.proposal_core.specs.declared.group_state.GroupState.{GroupState}
 use Rattle.proposal_core.specs.declared.group_state.Running.{Running}
-use Rattle.proposal_core.specs.Fold.{present, joins_of, joiners_in, can_begin, joiners_fit_at, joiners_fit}
+use Rattle.proposal_core.specs.Fold.{empty_state, present, joins_of, joiners_in, can_begin, joiners_fit_at, joiners_fit}
 use Rattle.proposal_core.specs.Lists.{state_in, len_in}
 use Rattle.batch_rules.specs.Waiting.{waits_failure}
 use Rattle.subscribe_core.specs.declared.subs.Subscription.{Subscription}
@@ -43,8 +43,8 @@ use Rattle.node_state.specs.Sending.{sent, requests_sent}
 use Rattle.node_state.specs.HandOn.{Answering, subscriber_name, note_of}
 use Rattle.node_state.specs.Leading.{put_and_handed, with_waiting, tally_opened}
 use Rattle.node_state.specs.Applying.{Lacking, lacking, lists_filled, level_set, base_row, base_record, view_entered, is_in_base, number_of, dissolved, dissolved_if, group_dissolved, sides_dissolved, base_note, entering_note, entering_noted, taken_sent, owed_sent, failed_wait, phase_reopened, group_led, groups_led, entered, entered_if, install_applied, views_taken}
-use Rattle.run_safety.specs.Past.{History, records_of}
-use Rattle.run_safety.specs.Stays.{Stay, asks_join, is_refused, stays}
+use Rattle.run_safety.specs.Past.{History, records_of, inc_now}
+use Rattle.run_safety.specs.Stays.{Stay, asks_join, is_refused, stays, with_base}
 use Rattle.node_groups.specs.Places.{has_name}
 use Rattle.node_groups.proofs.NameOrder.{row_here, text_same}
 use Rattle.step_ties.proofs.SessionLaws.{provider_same}
@@ -53,10 +53,10 @@ use Rattle.step_ties.proofs.BaseOrder.{bases_ordered, row_of_base, base_noted}
 use Rattle.hearing.proofs.Handing.{among_is, has_among}
 use Rattle.honest_votes.proofs.At.{found}
 use Rattle.honest_votes.proofs.Ending.{Every, NoGroup}
-use Rattle.failed_rows.specs.Failures.{IsCut, EachPut}
+use Rattle.failed_rows.specs.Failures.{FromElsewhere, IsCut, EachPut}
 use Rattle.failed_rows.proofs.Queues.{Stays, failed_stays}
 use Rattle.failed_rows.proofs.Bases.{bases_put, bases_track, base_is, new_stay, bases_entered, found_self}
-use Rattle.failed_rows.proofs.Facts.{Whys, JoinedIn, takers_pushed, Quiet, BasesFit, Of, BodyFails, body_on, Track, own_pushed}
+use Rattle.failed_rows.proofs.Facts.{Whys, JoinedIn, takers_pushed, Quiet, BasesFit, Stepped, stepped_incs, BodyFails, body_on, Track, own_pushed, turned_split, reverse_has}
 use Rattle.failed_rows.proofs.Living.{slim_same}
 use Rattle.failed_rows.proofs.Origin.{Origin, slim_more, slim_on}
 use Rattle.failed_rows.proofs.At.{At, at_fold, at_sent, at_recorded_all, at_views, at_told}
@@ -102,6 +102,7 @@ module _ (h : History) (said : ProviderId → Type 0) (origin : Origin) (P L M :
   loosened s a =
       record {
         inc = a.inc;
+        counted = a.counted;
         own = a.own;
         slim = a.slim;
         sends = a.sends;
@@ -135,6 +136,7 @@ module _ (h : History) (said : ProviderId → Type 0) (origin : Origin) (P L M :
   at_view_entered s i a =
       record {
         inc = a.inc;
+        counted = a.counted;
         own = own_pushed h said origin.born s.sessions s rs unasked a.own;
         slim = slim_on origin.root s.sessions (level_set s i.members) (s.records ++ rs) (slim_same s.sessions (level_set s i.members) refl refl refl) (slim_more origin.root s.sessions s.records rs unasked a.slim);
         sends = λ p j. subst (λ z. BodyFails said z p.body) (sym turned) (body_on said (reverse rs) (reverse s.records ++ records_of h) p.body (a.sends p j));
@@ -175,9 +177,9 @@ module _ (h : History) (said : ProviderId → Type 0) (origin : Origin) (P L M :
       unasked r (inl e) p = ap (asks_join p) e
       unasked r (inr j) p = let k = has_map (base_noted me i.view) r bs j in ap (asks_join p) k.2
 
-      mine : (r : Happened) → Has r rs → Of me r
-      mine r (inl e) = subst (Of me) (sym e) refl
-      mine r (inr j) = let k = has_map (base_noted me i.view) r bs j in subst (Of me) (sym k.2) refl
+      mine : (r : Happened) → Has r rs → Stepped me r
+      mine r (inl e) = subst (Stepped me) (sym e) refl
+      mine r (inr j) = let k = has_map (base_noted me i.view) r bs j in subst (Stepped me) (sym k.2) refl
 
       row_is : (g : List ℕ) → row_found g (find (has_name g) (map base_row bs)) ≡ row_found g (option_map base_row (base_named bs g))
       row_is g = ap (row_found g) (row_of_base g bs)
@@ -224,11 +226,30 @@ module _ (h : History) (said : ProviderId → Type 0) (origin : Origin) (P L M :
     abbrev old_stays : List ℕ → List Stay
     old_stays g = stays s.views.me g (reverse s.records ++ records_of h)
 
+    -- where a base was noted the node had been in the view before, in its incarnation
+    record NotedAt (t : Core) (b : Base) : Type 0 where
+      newer : List Happened
+      older : List Happened
+      is : reverse t.records ++ records_of h ≡ newer ++ base_noted s.views.me i.view b ∷ older
+      stayed : (g : List ℕ) → (x : Stay) × (stays s.views.me g older ≡ x ∷ old_stays g)
+      inc : inc_now s.views.me older ≡ origin.born
+
     record Inside (t : Core) : Type 0 where
       at : Full t
       me : t.views.me ≡ s.views.me
       stayed : (g : List ℕ) → stays s.views.me g (reverse t.records ++ records_of h) ≡ new_stay i.view (base_is (base_named bases g)) ∷ old_stays g
-      noted : (b : Base) → Has b bases → Has (base_noted s.views.me i.view b) (reverse t.records ++ records_of h)
+      noted : (b : Base) → Has b bases → NotedAt t b
+
+    -- a base stands at a place
+    record BaseAt (b : Base) (bs : List Base) : Type 0 where
+      before : List Base
+      after : List Base
+      is : bs ≡ before ++ b ∷ after
+
+    split : (b : Base) (bs : List Base) → Has b bs → BaseAt b bs
+    split b [] k = absurd k
+    split b (x ∷ xs) (inl e) = record { before = []; after = xs; is = ap (λ z. z ∷ xs) (sym e) }
+    split b (x ∷ xs) (inr k) = let z = split b xs k in record { before = x ∷ z.before; after = z.after; is = ap (λ y. x ∷ y) z.is }
 
     inside_entered : Full (view_entered s i bases) → Inside (view_entered s i bases)
     unfolding view_entered recorded_all base_record views_entered
@@ -237,25 +258,74 @@ module _ (h : History) (said : ProviderId → Type 0) (origin : Origin) (P L M :
           at = a;
           me = refl;
           stayed = λ g. subst (λ z. stays s.views.me g (reverse z ++ records_of h) ≡ new_stay i.view (base_is (base_named bases g)) ∷ old_stays g) (append_assoc s.records (happened.In s.views.me i.view i.members ∷ []) (map (base_noted s.views.me i.view) bases)) (bases_entered s.views.me i.view i.members g bases s.records (records_of h) (bases_ordered i));
-          noted = λ b k. append_has_left (base_noted s.views.me i.view b) (reverse (s.records ++ rs)) (records_of h) (subst (Has (base_noted s.views.me i.view b)) (append-nil (reverse (s.records ++ rs))) (has_turned (base_noted s.views.me i.view b) (s.records ++ rs) [] (append_has_left (base_noted s.views.me i.view b) (s.records ++ rs) [] (append_has_right (base_noted s.views.me i.view b) s.records rs (inr (has_mapped b bases k))))));
+          noted = λ b k. noted_at b (split b bases k);
         }
       where
         rs : List Happened
         rs = happened.In s.views.me i.view i.members ∷ map (base_noted s.views.me i.view) bases
 
-        has_mapped : (b : Base) (bs : List Base) → Has b bs → Has (base_noted s.views.me i.view b) (map (base_noted s.views.me i.view) bs)
-        has_mapped b [] k = absurd k
-        has_mapped b (x ∷ xs) (inl q) = inl (ap (base_noted s.views.me i.view) q)
-        has_mapped b (x ∷ xs) (inr k) = inr (has_mapped b xs k)
+        me : ℕ
+        me = s.views.me
+
+        entering : Happened
+        entering = happened.In me i.view i.members
+
+        first : List Happened
+        first = s.records ++ entering ∷ []
+
+        -- the bases before leave what was before
+        still : (g : List ℕ) (bs : List Base) (acc : List Happened) → (x : Stay) × (stays me g (reverse acc ++ records_of h) ≡ x ∷ old_stays g) → (x : Stay) × (stays me g (reverse (acc ++ map (base_noted me i.view) bs) ++ records_of h) ≡ x ∷ old_stays g)
+        still g [] acc k = (k.0, ap (λ z. stays me g (reverse z ++ records_of h)) (append-nil acc) ∙ k.1)
+        still g (b ∷ bs) acc k =
+            let z = still g bs (acc ++ base_noted me i.view b ∷ []) (by (me == me && bytes_eq b.name g) refl) in
+            (z.0, ap (λ y. stays me g (reverse y ++ records_of h)) (sym (append_assoc acc (base_noted me i.view b ∷ []) (map (base_noted me i.view) bs))) ∙ z.1)
+          where
+            old : List Stay
+            old = stays me g (reverse acc ++ records_of h)
+
+            by : (t : Bool) → (me == me && bytes_eq b.name g) ≡ t → (x : Stay) × (stays me g (reverse (acc ++ base_noted me i.view b ∷ []) ++ records_of h) ≡ x ∷ old_stays g)
+            by true q =
+                (record (k.0) { base = b.state }, ap (λ z. stays me g (z ++ records_of h)) (reverse-append acc (base_noted me i.view b ∷ [])) ∙ ap (λ z. if z then with_base b.state old else old) q ∙ ap (with_base b.state) k.1)
+            by false q =
+                (k.0, ap (λ z. stays me g (z ++ records_of h)) (reverse-append acc (base_noted me i.view b ∷ [])) ∙ ap (λ z. if z then with_base b.state old else old) q ∙ k.1)
+
+        here : (g : List ℕ) → (x : Stay) × (stays me g (reverse first ++ records_of h) ≡ x ∷ old_stays g)
+        here g =
+            (new_stay i.view empty_state, ap (λ z. stays me g (z ++ records_of h)) (reverse-append s.records (entering ∷ [])) ∙ ap (λ z. if z then new_stay i.view empty_state ∷ old_stays g else old_stays g) (eq-eqb me me refl))
+
+        -- the records are of the step
+        own : (bs : List Base) (r : Happened) → Has r (first ++ map (base_noted me i.view) bs) → Stepped me r
+        own bs r k = by (has_append r first (map (base_noted me i.view) bs) k)
+          where
+            by : Has r first ⊎ Has r (map (base_noted me i.view) bs) → Stepped me r
+            by (inl j) = ⊎_elim (λ (a : Has r s.records). was.whose r a) last (has_append r s.records (entering ∷ []) j)
+              where
+                last : Has r (entering ∷ []) → Stepped me r
+                last (inl e) = subst (Stepped me) (sym e) refl
+                last (inr z) = absurd z
+            by (inr j) = let z = has_map (base_noted me i.view) r bs j in subst (Stepped me) (sym z.2) refl
+
+        map_split : (xs : List Base) (b : Base) (ys : List Base) → map (base_noted me i.view) (xs ++ b ∷ ys) ≡ map (base_noted me i.view) xs ++ base_noted me i.view b ∷ map (base_noted me i.view) ys
+        map_split [] b ys = refl
+        map_split (x ∷ xs) b ys = ap (λ z. base_noted me i.view x ∷ z) (map_split xs b ys)
+
+        noted_at : (b : Base) → BaseAt b bases → NotedAt (view_entered s i bases) b
+        noted_at b k =
+            record {
+              newer = reverse (map (base_noted me i.view) k.after);
+              older = reverse (first ++ map (base_noted me i.view) k.before) ++ records_of h;
+              is = ap (λ z. reverse (s.records ++ entering ∷ map (base_noted me i.view) z) ++ records_of h) k.is ∙ ap (λ z. reverse (s.records ++ entering ∷ z) ++ records_of h) (map_split k.before b k.after) ∙ ap (λ z. reverse z ++ records_of h) (sym (append_assoc s.records (entering ∷ []) (map (base_noted me i.view) k.before ++ base_noted me i.view b ∷ map (base_noted me i.view) k.after)) ∙ sym (append_assoc first (map (base_noted me i.view) k.before) (base_noted me i.view b ∷ map (base_noted me i.view) k.after))) ∙ turned_split (base_noted me i.view b) (first ++ map (base_noted me i.view) k.before) (map (base_noted me i.view) k.after) (records_of h);
+              stayed = λ g. still g k.before first (here g);
+              inc = stepped_incs me me (reverse (first ++ map (base_noted me i.view) k.before)) (records_of h) (λ r j. own k.before r (reverse_has r (first ++ map (base_noted me i.view) k.before) j)) ∙ was.counted;
+            }
 
     -- it is not in the base, or the base is from another view than the last
-    abbrev CutIn : Core → List ℕ → ProviderId → ViewId → GroupState → Type 0
-    CutIn t g p last st =
-        (among (present st) p ≡ false) ⊎ ((from : ViewId) × (len : ℕ) × Has (happened.Base p.node i.view g from len st) (reverse t.records ++ records_of h) × (same_view from last ≡ false))
+    abbrev CutIn : Core → List ℕ → ProviderId → Stay → GroupState → Type 0
+    CutIn t g p last st = (among (present st) p ≡ false) ⊎ FromElsewhere (reverse t.records ++ records_of h) p g (new_stay i.view st) last
 
-    cut_of : (t : Core) (g : List ℕ) (p : ProviderId) → Inside t → p.node ≡ s.views.me → Has p (present (state_in (found s g).list)) → is_in_base s.views.view p (base_named bases g) ≡ false → JoinedIn s.views.me p g (reverse t.records ++ records_of h) → IsCut (reverse t.records ++ records_of h) p
+    cut_of : (t : Core) (g : List ℕ) (p : ProviderId) → Inside t → p.node ≡ s.views.me → p.inc ≡ origin.born → Has p (present (state_in (found s g).list)) → is_in_base s.views.view p (base_named bases g) ≡ false → JoinedIn s.views.me p g (reverse t.records ++ records_of h) → IsCut (reverse t.records ++ records_of h) p
     unfolding is_in_base base_named
-    cut_of t g p k node there out joined =
+    cut_of t g p k node inc there out joined =
         record {
           group = g;
           stay = new_stay i.view (base_is (base_named bases g));
@@ -271,7 +341,7 @@ module _ (h : History) (said : ProviderId → Type 0) (origin : Origin) (P L M :
         track : Track (old_stays g) s.views.view (len_in (found s g).list) (state_in (found s g).list)
         track = was.tracks live g
 
-        by : (o : Option Base) → base_named bases g ≡ o → is_in_base s.views.view p o ≡ false → CutIn t g p (track.stay).view (base_is o)
+        by : (o : Option Base) → base_named bases g ≡ o → is_in_base s.views.view p o ≡ false → CutIn t g p track.stay (base_is o)
         by None e q = inl refl
         by (Some b) e q = among_it (among (present b.state) p) refl q
           where
@@ -282,24 +352,32 @@ module _ (h : History) (said : ProviderId → Type 0) (origin : Origin) (P L M :
             left_false true y = absurd (cc)
             left_false false y = refl
 
-            among_it : (c : Bool) → among (present b.state) p ≡ c → (same_view b.from s.views.view && among (present b.state) p) ≡ false → CutIn t g p (track.stay).view b.state
+            among_it : (c : Bool) → among (present b.state) p ≡ c → (same_view b.from s.views.view && among (present b.state) p) ≡ false → CutIn t g p track.stay b.state
             among_it false z q = inl z
-            among_it true z q =
-                inr (
-                  b.from,
-                  b.len,
-                  subst (λ (y : ℕ × List ℕ). Has (happened.Base y.0 i.view y.1 b.from b.len b.state) (reverse t.records ++ records_of h)) (λ j. (sym node j, text_same b.name g k_has.1 j)) (k.noted b k_has.0),
-                  ap (same_view b.from) track.view ∙ left_false (same_view b.from s.views.view) (ap (λ y. same_view b.from s.views.view && y) (sym z) ∙ q),
-                )
+            among_it true c q =
+                let at : NotedAt t b = k.noted b k_has.0 in
+                let z = at.stayed g in
+                inr (record {
+                  from = b.from;
+                  len = b.len;
+                  newer = at.newer;
+                  older = at.older;
+                  moment = subst (λ (y : ℕ × List ℕ). reverse t.records ++ records_of h ≡ at.newer ++ happened.Base y.0 i.view y.1 b.from b.len b.state ∷ at.older) (λ j. (sym node j, text_same b.name g k_has.1 j)) at.is;
+                  entered = z.0;
+                  rest = track.older;
+                  stays_so = ap (λ n. stays n g at.older) node ∙ z.1 ∙ ap (λ xs. z.0 ∷ xs) track.is;
+                  apart = ap (same_view b.from) track.view ∙ left_false (same_view b.from s.views.view) (ap (λ y. same_view b.from s.views.view && y) (sym c) ∙ q);
+                  inc = ap (λ n. inc_now n at.older) node ∙ at.inc ∙ sym inc;
+                })
 
-    inside_dissolved : (t : Core) (p : ProviderId) (r : ℕ) → (p.node ≡ s.views.me → IsCut (reverse t.records ++ records_of h) p) → Inside t → Inside (dissolved t p r)
+    inside_dissolved : (t : Core) (p : ProviderId) (r : ℕ) → (p.node ≡ s.views.me → p.inc ≡ origin.born → IsCut (reverse t.records ++ records_of h) p) → Inside t → Inside (dissolved t p r)
     unfolding dissolved recorded with_sessions
     inside_dissolved t p r cut k =
         record {
-          at = at_told h said origin P L M Every NoGroup Every t p r Dissolved (λ me j. inr (refl, cut (me ∙ k.me))) k.at;
+          at = at_told h said origin P L M Every NoGroup Every t p r Dissolved (λ me inc j. inr (refl, cut (me ∙ k.me) inc)) k.at;
           me = k.me;
           stayed = λ g. ap (λ z. stays s.views.me g (z ++ records_of h)) turned ∙ k.stayed g;
-          noted = λ b j. subst (λ z. Has (base_noted s.views.me i.view b) (z ++ records_of h)) (sym turned) (inr (k.noted b j));
+          noted = λ b j. let at : NotedAt t b = k.noted b j in record { newer = happened.Told p r Dissolved ∷ at.newer; older = at.older; is = ap (λ z. z ++ records_of h) turned ∙ ap (λ z. happened.Told p r Dissolved ∷ z) at.is; stayed = at.stayed; inc = at.inc };
         }
       where
         turned : reverse (t.records ++ happened.Told p r Dissolved ∷ []) ≡ happened.Told p r Dissolved ∷ reverse t.records
@@ -318,7 +396,7 @@ module _ (h : History) (said : ProviderId → Type 0) (origin : Origin) (P L M :
         by true part false y c q = k
         by true part true y true q = k
         by true part true y false q =
-            inside_dissolved t x.p (number_of (outstanding t.sessions x.p)) (λ node. cut_of t g x.p k node (subst (λ z. Has z (present (state_in (found s g).list))) (sym same) there) q joined) k
+            inside_dissolved t x.p (number_of (outstanding t.sessions x.p)) (λ node inc. cut_of t g x.p k node inc (subst (λ z. Has z (present (state_in (found s g).list))) (sym same) there) q joined) k
           where
             joined : JoinedIn s.views.me x.p g (reverse t.records ++ records_of h)
             joined =

@@ -30,7 +30,7 @@ use Rattle.node_state.specs.declared.happened.Happened.TheVariants as happened
 use Rattle.node_state.specs.declared.packet.Body.{Body}
 use Rattle.node_state.specs.declared.packet.Body.TheVariants as body
 use Rattle.node_state.specs.declared.state.Core.{Core}
-use Rattle.run_safety.specs.Past.{History, records_of}
+use Rattle.run_safety.specs.Past.{History, records_of, inc_after, inc_now}
 use Rattle.run_safety.specs.Stays.{Stay, stays, stays_after, is_join_of, asks_join, is_refused}
 use Rattle.failed_rows.specs.Failures.{state_of_stay, state_held, WasTold, TakenOff, StoodThere, RowFails, EachPut}
 use Rattle.failed_rows.proofs.Queues.{Stays}
@@ -156,7 +156,47 @@ Of n (happened.Put m v g i e) = m ≡ n
 Of n (happened.Asked p r g x) = p.node ≡ n
 Of n _ = Unit {0}
 
-pub quiet_of : (n : ℕ) (r : Happened) → Quiet r → Of n r
+-- such a record of a step: no node starts in it
+abbrev pub Stepped : ℕ → Happened → Type 0
+Stepped n (happened.Up m j) = ⊥
+Stepped n r = Of n r
+
+pub stepped_of : (n : ℕ) (r : Happened) → Stepped n r → Of n r
+stepped_of n (happened.Up m j) k = absurd k
+stepped_of n (happened.Down m) k = k
+stepped_of n (happened.Ring m j i ms b) k = k
+stepped_of n (happened.In m v ms) k = k
+stepped_of n (happened.Base m v g u len st) k = k
+stepped_of n (happened.Put m v g i e) k = k
+stepped_of n (happened.Heard p v g i e ms value) k = k
+stepped_of n (happened.Cast p proto phase vote value message) k = k
+stepped_of n (happened.Asked p r g x) k = k
+stepped_of n (happened.Told p r why) k = k
+stepped_of n (happened.Noted m c v i told) k = k
+stepped_of n (happened.Refused m c fault) k = k
+stepped_of n (happened.Shown m line) k = k
+
+-- so the incarnations stay
+stepped_inc : (n m : ℕ) (r : Happened) → Stepped n r → (old : ℕ) → inc_after m r old ≡ old
+stepped_inc n m (happened.Up o j) k old = absurd k
+stepped_inc n m (happened.Down o) k old = refl
+stepped_inc n m (happened.Ring o j i ms b) k old = refl
+stepped_inc n m (happened.In o v ms) k old = refl
+stepped_inc n m (happened.Base o v g u len st) k old = refl
+stepped_inc n m (happened.Put o v g i e) k old = refl
+stepped_inc n m (happened.Heard p v g i e ms value) k old = refl
+stepped_inc n m (happened.Cast p proto phase vote value message) k old = refl
+stepped_inc n m (happened.Asked p r g x) k old = refl
+stepped_inc n m (happened.Told p r why) k old = refl
+stepped_inc n m (happened.Noted o c v i told) k old = refl
+stepped_inc n m (happened.Refused o c fault) k old = refl
+stepped_inc n m (happened.Shown o line) k old = refl
+
+pub stepped_incs : (n m : ℕ) (rs xs : List Happened) → ((r : Happened) → Has r rs → Stepped n r) → inc_now m (rs ++ xs) ≡ inc_now m xs
+stepped_incs n m [] xs all = refl
+stepped_incs n m (r ∷ rs) xs all = stepped_inc n m r (all r (inl refl)) (inc_now m (rs ++ xs)) ∙ stepped_incs n m rs xs (λ q i. all q (inr i))
+
+pub quiet_of : (n : ℕ) (r : Happened) → Quiet r → Stepped n r
 quiet_of n (happened.Up m j) q = absurd q
 quiet_of n (happened.Down m) q = absurd q
 quiet_of n (happened.Ring m j i ms b) q = tt

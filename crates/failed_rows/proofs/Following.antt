@@ -103,7 +103,7 @@ module _ (h : History) (said : ProviderId → Type 0) (origin : Origin) (P L M :
   Full s = At h said origin P L M Every NoGroup Every s
 
   at_names : (s : Core) (ns : List Leader) → Full s → Full (record s { names = ns })
-  at_names s ns a = record { inc = a.inc; own = a.own; slim = a.slim; sends = a.sends; puts = a.puts; accepted = a.accepted; whose = a.whose; order = a.order; tracks = a.tracks; marks = a.marks; tallies = a.tallies; queues = a.queues; apart = a.apart; led = a.led; whys = a.whys; takers = a.takers }
+  at_names s ns a = record { inc = a.inc; counted = a.counted; own = a.own; slim = a.slim; sends = a.sends; puts = a.puts; accepted = a.accepted; whose = a.whose; order = a.order; tracks = a.tracks; marks = a.marks; tallies = a.tallies; queues = a.queues; apart = a.apart; led = a.led; whys = a.whys; takers = a.takers }
 
   -- a leader is known
   module _ (s : Core) (g : List ℕ) (n : ℕ) where
@@ -115,6 +115,7 @@ module _ (h : History) (said : ProviderId → Type 0) (origin : Origin) (P L M :
     at_led_by own queue a =
         record {
           inc = a.inc;
+          counted = a.counted;
           own = a.own;
           slim = a.slim;
           sends = a.sends;
@@ -190,7 +191,7 @@ module _ (h : History) (said : ProviderId → Type 0) (origin : Origin) (P L M :
   at_told_if : (s : Core) (p : ProviderId) (r : ℕ) (y : Why) (b : Bool) → (b ≡ true → (is_join_request (outstanding s.sessions p) ≡ true) ⊎ (is_dissolved y ≡ true) → IsRefused (reverse s.records ++ records_of h) p r) → Full s → Full (told_if s p r y b)
   unfolding told_if
   at_told_if s p r y false ends a = a
-  at_told_if s p r y true ends a = at_told h said origin P L M Every NoGroup Every s p r y (λ me k. inl (ends refl k)) a
+  at_told_if s p r y true ends a = at_told h said origin P L M Every NoGroup Every s p r y (λ me inc k. inl (ends refl k)) a
 
   pub at_tell : (s : Core) (p : ProviderId) (r : ℕ) (y : Why) → is_dissolved y ≡ false → Numbered s → Full s → Full (tell_row s p r y)
   unfolding tell_row outstanding

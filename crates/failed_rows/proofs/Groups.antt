@@ -32,6 +32,7 @@ use Rattle.failed_rows.proofs.Origin.{root_of}
 use Rattle.failed_rows.proofs.Joining.{OneAsk, one_call}
 use Rattle.failed_rows.proofs.Between.{who_is}
 use Rattle.failed_rows.proofs.Starting.{AllFresh, started_unasked, fold_fresh}
+use Rattle.attending.proofs.Law.{incs_of}
 use Rattle.failed_rows.proofs.Law.{reached, played_honest, asked_by_call, asked_here}
 
 -- nobody asks
@@ -72,7 +73,7 @@ module _ (c : Config) (w : Scene) (n : ℕ) (f : Answering) (s : Core) (e : Node
   one (Calls d) p g x i = one_call d (at_work s) refl ((rests []).turns n s up).numbered p g x i
 
   new : (p : ProviderId) (g : List ℕ) (x : Proposal) → Has (happened.Asked p p.join g x) t.records → ((root_of (at_work s) e).records ≡ happened.Asked p p.join g x ∷ []) × (p.join ≡ s.sessions.last_request + 1) × (p.inc ≡ s.sessions.inc)
-  new p g x i = one e p g x (asked_by_call w n f s e v up rests after arises says (played_honest c w k) p g x i)
+  new p g x i = one e p g x (asked_by_call w n f s e v up rests after arises says (incs_of c w (reached c w k) n) (played_honest c w k) p g x i)
 
   -- numbers that were given before are lower
   lower : (p : ProviderId) (g : List ℕ) (x : Proposal) → p.node ≡ n → p.inc ≡ s.sessions.inc → Has (happened.Asked p p.join g x) (records_of w.before) → p.join ≤ s.sessions.last_request
@@ -86,7 +87,7 @@ module _ (c : Config) (w : Scene) (n : ℕ) (f : Answering) (s : Core) (e : Node
   apart p g h x y i j =
       let z = new p g x i in
       let me : t.views.me ≡ n = who_is (ended w n v t) (after []) n t (set_here w.cores n (Some t)) in
-      let le = lower p h y (asked_here w n f s e v up rests after arises says (played_honest c w k) p g x i ∙ me) z.2 j in
+      let le = lower p h y (asked_here w n f s e v up rests after arises says (incs_of c w (reached c w k) n) (played_honest c w k) p g x i ∙ me) z.2 j in
       let number = z.1 in
       omega (arith, le, number)
 

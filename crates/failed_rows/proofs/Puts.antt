@@ -27,7 +27,7 @@ use Rattle.run_safety.specs.Stays as kept
 use Rattle.node_groups.proofs.NameOrder.{cases_text, text_self, text_other, row_here, row_there, rows_ordered}
 use Rattle.honest_votes.proofs.At.{found, leads_row}
 use Rattle.failed_rows.specs.Failures.{GoneCause, PutHolds, EntryFails, EachPut, state_held, state_of_stay, state_in_stays}
-use Rattle.failed_rows.proofs.Facts.{Whys, takers_pushed, TallyIs, QueueIs, Track, BasesFit, Of, BodyFails, body_on, own_pushed, PutOff}
+use Rattle.failed_rows.proofs.Facts.{Whys, takers_pushed, TallyIs, QueueIs, Track, BasesFit, Stepped, BodyFails, body_on, own_pushed, PutOff}
 use Rattle.failed_rows.proofs.Origin.{Origin, slim_more}
 use Rattle.failed_rows.proofs.At.{At}
 use Rattle.session_state.specs.HandOn.{hearers, is_present}
@@ -119,6 +119,7 @@ module _ (h : History) (said : ProviderId → Type 0) (origin : Origin) (P L M :
     at_put_for s g e holds others rest tally queue a =
         record {
           inc = a.inc;
+          counted = a.counted;
           own = own_pushed h said origin.born s.sessions s (r ∷ []) unasked a.own;
           slim = slim_more origin.root s.sessions s.records (r ∷ []) unasked a.slim;
           sends = λ p i. subst (λ z. BodyFails said (z ++ records_of h) p.body) (sym turned) (body_on said (r ∷ []) (reverse s.records ++ records_of h) p.body (a.sends p i));
@@ -153,9 +154,9 @@ module _ (h : History) (said : ProviderId → Type 0) (origin : Origin) (P L M :
         one m x (inr (inl q)) = ap is_refused q
         one m x (inr (inr z)) = absurd z
 
-        own : (x : Happened) → Has x s.records ⊎ Has x (r ∷ []) → Of s.views.me x
+        own : (x : Happened) → Has x s.records ⊎ Has x (r ∷ []) → Stepped s.views.me x
         own x (inl i) = a.whose x i
-        own x (inr (inl q)) = subst (Of s.views.me) (sym q) refl
+        own x (inr (inl q)) = subst (Stepped s.views.me) (sym q) refl
         own x (inr (inr z)) = absurd z
 
         unasked : (x : Happened) → Has x (r ∷ []) → (p : ProviderId) → asks_join p x ≡ false

@@ -73,10 +73,10 @@ module _ (h : History) (said : ProviderId → Type 0) (origin : Origin) (P L M :
   -- ---- rings and reach
 
   at_rings : (s : Core) (rs : List Ring) → Full s → Full (record s { rings = rs })
-  at_rings s rs a = record { inc = a.inc; own = a.own; slim = a.slim; sends = a.sends; puts = a.puts; accepted = a.accepted; whose = a.whose; order = a.order; tracks = a.tracks; marks = a.marks; tallies = a.tallies; queues = a.queues; apart = a.apart; led = a.led; whys = a.whys; takers = a.takers }
+  at_rings s rs a = record { inc = a.inc; counted = a.counted; own = a.own; slim = a.slim; sends = a.sends; puts = a.puts; accepted = a.accepted; whose = a.whose; order = a.order; tracks = a.tracks; marks = a.marks; tallies = a.tallies; queues = a.queues; apart = a.apart; led = a.led; whys = a.whys; takers = a.takers }
 
   at_reach : (s : Core) (r : Reach) → Full s → Full (record s { reach = r })
-  at_reach s r a = record { inc = a.inc; own = a.own; slim = a.slim; sends = a.sends; puts = a.puts; accepted = a.accepted; whose = a.whose; order = a.order; tracks = a.tracks; marks = a.marks; tallies = a.tallies; queues = a.queues; apart = a.apart; led = a.led; whys = a.whys; takers = a.takers }
+  at_reach s r a = record { inc = a.inc; counted = a.counted; own = a.own; slim = a.slim; sends = a.sends; puts = a.puts; accepted = a.accepted; whose = a.whose; order = a.order; tracks = a.tracks; marks = a.marks; tallies = a.tallies; queues = a.queues; apart = a.apart; led = a.led; whys = a.whys; takers = a.takers }
 
   set_quiet : (n network : ℕ) (o : Option RingSet) (r : Happened) → Has r (set_records n network o) → Quiet r
   unfolding set_records

@@ -25,7 +25,7 @@ use Rattle.session_state.specs.HandOn.{is_dissolved}
 use Rattle.node_state.specs.declared.happened.Happened.{Happened}
 use Rattle.node_state.specs.declared.happened.Happened.TheVariants.{In, Base, Put, Heard, Told}
 use Rattle.world_model.specs.Run.{Happening}
-use Rattle.run_safety.specs.Past.{History, records_of, earlier, fold_from, view_now, EachEvent}
+use Rattle.run_safety.specs.Past.{History, records_of, earlier, fold_from, view_now, inc_now, EachEvent}
 use Rattle.run_safety.specs.Stays.{Stay, stays, is_join_of, is_refused, client_of, goodbye_of, was_let_go}
 
 -- ---- the group's state at a node, by its records
@@ -62,6 +62,20 @@ pub record IsRefused (rs : List Happened) (p : ProviderId) (number : ℕ) : Type
   pub in_view : (v : ViewId) × (view_now p.node rs ≡ Some v)
   pub unput : (v : ViewId) (g : List ℕ) (i : ℕ) (e : Entry) → Has (Put p.node v g i e) rs → is_join_of p e ≡ true → ⊥
 
+-- At some moment since it entered the view the provider's node, which was in the view of `last` before and in the provider's
+-- incarnation, noted the base, from another view.
+pub record FromElsewhere (rs : List Happened) (p : ProviderId) (g : List ℕ) (stay last : Stay) : Type 0 where
+  pub from : ViewId
+  pub len : ℕ
+  pub newer : List Happened
+  pub older : List Happened
+  pub moment : rs ≡ newer ++ Base p.node stay.view g from len stay.base ∷ older
+  pub entered : Stay
+  pub rest : List Stay
+  pub stays_so : stays p.node g older ≡ entered ∷ last ∷ rest
+  pub apart : same_view from last.view ≡ false
+  pub inc : inc_now p.node older ≡ p.inc
+
 -- Its own node has just entered a view, and put nothing there yet; it had put its join in the group, and held it there up to then; and
 -- it is not in the base there, or the base came from another view than the node's.
 pub record IsCut (rs : List Happened) (p : ProviderId) : Type 0 where
@@ -73,7 +87,7 @@ pub record IsCut (rs : List Happened) (p : ProviderId) : Type 0 where
   pub empty : stay.entries ≡ []
   pub joined : (v : ViewId) × (i : ℕ) × (e : Entry) × Has (Put p.node v group i e) rs × (is_join_of p e ≡ true)
   pub held : among (present (state_of_stay last)) p ≡ true
-  pub cut : (among (present stay.base) p ≡ false) ⊎ ((from : ViewId) × (len : ℕ) × Has (Base p.node stay.view group from len stay.base) rs × (same_view from last.view ≡ false))
+  pub cut : (among (present stay.base) p ≡ false) ⊎ FromElsewhere rs p group stay last
 
 -- it was told that its join was refused, or that its group was dissolved
 pub record WasTold (rs : List Happened) (p : ProviderId) : Type 0 where
