@@ -5,12 +5,11 @@ use Rattle.std.specs.Str.{bytes_eq}
 use Rattle.std.specs.Option.{option_map}
 use Rattle.std.proofs.lemmas.Bool.{and_parts, eq-eqb}
 use Rattle.std.proofs.lemmas.List.{reverse-append}
-use Rattle.rsct_packet.specs.declared.ids.ViewId.{ViewId}
 use Rattle.rsct_packet.specs.declared.ids.ProviderId.{ProviderId}
 use Rattle.rsct_packet.specs.Ids.{same_view}
 use Rattle.rsct_packet.specs.Providers.{among, none_among}
 use Rattle.rsct_packet.specs.Search.{Has}
-use Rattle.rsct_packet.proofs.HasLaws.{has_append, append_has_left, append_has_right, has_map, has_filter, all_has, find_has}
+use Rattle.rsct_packet.proofs.HasLaws.{has_append, append_has_right, has_map, has_filter, all_has, find_has}
 use Rattle.group_attr.specs.Attrs.{host_membership}
 use Rattle.group_entry.specs.declared.proposal.Cause.TheVariants.{Died}
 use Rattle.group_entry.specs.declared.proposal.Proposal.{Proposal}
@@ -48,7 +47,6 @@ use Rattle.run_safety.specs.Stays.{Stay, asks_join, is_refused, stays, with_base
 use Rattle.node_groups.specs.Places.{has_name}
 use Rattle.node_groups.proofs.NameOrder.{row_here, text_same}
 use Rattle.step_ties.proofs.SessionLaws.{provider_same}
-use Rattle.step_ties.proofs.Turns.{has_turned}
 use Rattle.step_ties.proofs.BaseOrder.{bases_ordered, row_of_base, base_noted}
 use Rattle.hearing.proofs.Handing.{among_is, has_among}
 use Rattle.honest_votes.proofs.At.{found}
