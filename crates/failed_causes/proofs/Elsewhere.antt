@@ -1,20 +1,17 @@
 -- A base that comes from another view than the node: whoever is there of the node, in its incarnation, is on the failed list.
-use Rattle.std.proofs.Common.{◌≡◌, ℕ, ◌+◌, List, [], ◌∷◌, ◌++◌, Option, Some, None, Bool, true, false, refl, sym, ap, ◌∙◌, subst, inl, inr, append-nil, arith}
-use Rattle.std.specs.Prelude.{◌==◌, ◌&&◌, reverse, map, flat_map, fold, if◌then◌else◌}
+use Rattle.std.proofs.Common.{◌≡◌, ℕ, List, [], ◌∷◌, ◌++◌, Some, Bool, true, false, refl, sym, ap, ◌∙◌, subst, inl, inr, arith}
+use Rattle.std.specs.Prelude.{◌==◌, ◌&&◌, reverse, map, if◌then◌else◌}
 use Rattle.std.specs.Str.{bytes_eq}
 use Rattle.std.proofs.lemmas.Bool.{eq-eqb}
 use Rattle.std.proofs.lemmas.Bool.Decides.{nat_tests}
-use Rattle.std.proofs.lemmas.List.{reverse-append}
 use Rattle.rsct_packet.specs.declared.ids.ViewId.{ViewId}
 use Rattle.rsct_packet.specs.declared.ids.Member.{Member}
 use Rattle.rsct_packet.specs.declared.ids.ProviderId.{ProviderId}
 use Rattle.rsct_packet.specs.Ids.{same_view}
 use Rattle.rsct_packet.specs.Providers.{among}
 use Rattle.rsct_packet.specs.Search.{Has}
-use Rattle.rsct_packet.specs.Mask.{nodes_of}
 use Rattle.proposal_core.specs.declared.group_state.GroupState.{GroupState}
 use Rattle.proposal_core.specs.Fold.{empty_state, present}
-use Rattle.session_state.specs.HandOn.{casts_out}
 use Rattle.view_exchange.specs.declared.install.Install.{Install}
 use Rattle.view_exchange.specs.declared.install.Base.{Base}
 use Rattle.view_exchange.specs.Bases.{bases_of}
@@ -24,28 +21,28 @@ use Rattle.node_state.specs.declared.happened.Happened.{Happened}
 use Rattle.node_state.specs.declared.happened.Happened.TheVariants as happened
 use Rattle.node_state.specs.declared.state.Core.{Core}
 use Rattle.node_state.specs.State.{row_of, with_row, list_of, state_of, len_of, held_rows, recorded, recorded_all, with_sessions}
-use Rattle.node_state.specs.HandOn.{Answering, heard}
+use Rattle.node_state.specs.HandOn.{Answering}
 use Rattle.node_state.specs.Leading.{put}
 use Rattle.node_state.specs.Applying.{base_record, view_entered, sides_dissolved}
-use Rattle.node_state.specs.Step.{NodeEvent, started, stepped, at_work}
+use Rattle.node_state.specs.Step.{NodeEvent, stepped, at_work}
 use Rattle.world_model.specs.declared.event.Event.{Event}
 use Rattle.run_safety.specs.ViewOrder.{Lt}
 use Rattle.run_safety.specs.Past.{History, EachRecord, Within, earlier, records_of, inc_now}
 use Rattle.run_safety.specs.Stays.{Stay, stays, with_base}
 use Rattle.step_ties.specs.Tied.{Scene}
-use Rattle.step_ties.specs.Rows.{Arises, nothing_yet, with_records, starts_too}
-use Rattle.step_ties.specs.Runs.{Reached, Nothing, AllStart, Starts, Stops, Steps, Notes}
+use Rattle.step_ties.specs.Rows.{Arises}
+use Rattle.step_ties.specs.Runs.{Reached}
 use Rattle.step_ties.proofs.BaseOrder.{base_noted}
 use Rattle.hearing.specs.Changes.{Inner, Unentered, Does, Stays, Then, Records, Hands, Loses, Joins, Votes, Enters}
 use Rattle.hearing.proofs.Attending.{pushed, pushed_reverse}
-use Rattle.hearing.proofs.Listening.{reverse_has, steps_change}
+use Rattle.hearing.proofs.Listening.{steps_change}
 use Rattle.attending.proofs.Doing.{AllFine, Adds, sides_add, does_grow}
 use Rattle.attending.proofs.Fresh.{fresh_now}
 use Rattle.attending.proofs.Law.{incs_of, begin_strict, step_fine}
 use Rattle.attending.proofs.Living.{lively_now, failed_now}
 use Rattle.attending.proofs.OrderLaw.{reached_orderly}
 use Rattle.attending.proofs.Ordering.{Ordered, Fresh, Lively, ordered_does, entering_recorded, base_recorded_at}
-use Rattle.failed_causes.proofs.Bases.{NoBase, inner_none, note_none, start_none, heards_none}
+use Rattle.failed_causes.proofs.Records.{NoBase, inner_none, none_pushed, turned_none, hands_none, each_scene}
 
 -- where a node notes a base from another view than the one that it was in before
 abbrev pub Elsewhere : List Happened → Happened → Type 0
@@ -72,25 +69,6 @@ none_away (happened.Told p r why) rs a = tt
 none_away (happened.Noted n c v i told) rs a = tt
 none_away (happened.Refused n c fault) rs a = tt
 none_away (happened.Shown n line) rs a = tt
-
-none_pushed : (rs now : List Happened) (before : History) → ((r : Happened) → Has r rs → NoBase r) → Within Away now before → Within Away (pushed rs now) before
-none_pushed [] now before all k = k
-none_pushed (r ∷ rs) now before all k = none_pushed rs (r ∷ now) before (λ q h. all q (inr h)) (none_away r (earlier now before) (all r (inl refl)), k)
-
-none_added : (rs now : List Happened) (before : History) → ((r : Happened) → Has r rs → NoBase r) → Within Away now before → Within Away (rs ++ now) before
-none_added [] now before all k = k
-none_added (r ∷ rs) now before all k = (none_away r (earlier (rs ++ now) before) (all r (inl refl)), none_added rs now before (λ q h. all q (inr h)) k)
-
-none_turned : (rs : List Happened) (before : History) → ((r : Happened) → Has r rs → NoBase r) → Within Away (reverse rs) before
-none_turned rs before all = subst (λ z. Within Away z before) (append-nil (reverse rs)) (none_added (reverse rs) [] before (λ r h. all r (reverse_has r rs h)) tt)
-
-with_none : (before : History) (rs : List Happened) → ((r : Happened) → Has r rs → NoBase r) → EachRecord Away before → EachRecord Away (with_records before rs)
-with_none [] rs all k = (none_turned rs [] all, tt)
-with_none (h ∷ before) rs all k = (none_added (reverse rs) h.records before (λ r i. all r (reverse_has r rs i)) k.0, k.1)
-
-turned_none : (before : History) (rs : List Happened) (r : Happened) → NoBase r → Within Away (reverse rs) before → Within Away (reverse (rs ++ r ∷ [])) before
-turned_none before rs r a k =
-    subst (λ z. Within Away z before) (sym (reverse-append rs (r ∷ []))) (none_away r (earlier (reverse rs) before) a, k)
 
 -- ---- a view is entered
 
@@ -139,7 +117,7 @@ module _ (n inc : ℕ) (before : History) (old : ViewId) (last : ℕ) where
   unfolding view_entered recorded_all views_entered base_record
   enters_away s i lt none rs more failing o k =
       let told : Adds Inner inside (sides_dissolved inside (held_rows s) s.views.view bs) = sides_add inside (held_rows s) s.views.view bs in
-      subst (λ z. Within Away z before) (sym (ap reverse told.is ∙ pushed_reverse told.more inside.records)) (none_pushed told.more (reverse inside.records) before (λ r h. inner_none r (told.all r h)) (subst (λ z. Within Away z before) (sym (pushed_reverse (entering ∷ map (base_noted s.views.me i.view) bs) s.records)) (subst (λ m. Within Away (pushed (map (base_noted m i.view) bs) (happened.In m i.view i.members ∷ reverse s.records)) before) (sym me) (based_away n inc before old i.view bs (happened.In n i.view i.members ∷ reverse s.records) twice (o.strict.incs n ∙ o.strict.start) fails (tt, k)))))
+      subst (λ z. Within Away z before) (sym (ap reverse told.is ∙ pushed_reverse told.more inside.records)) (none_pushed Elsewhere none_away told.more (reverse inside.records) before (λ r h. inner_none r (told.all r h)) (subst (λ z. Within Away z before) (sym (pushed_reverse (entering ∷ map (base_noted s.views.me i.view) bs) s.records)) (subst (λ m. Within Away (pushed (map (base_noted m i.view) bs) (happened.In m i.view i.members ∷ reverse s.records)) before) (sym me) (based_away n inc before old i.view bs (happened.In n i.view i.members ∷ reverse s.records) twice (o.strict.incs n ∙ o.strict.start) fails (tt, k)))))
     where
       bs : List Base
       bs = bases_of i
@@ -172,13 +150,11 @@ module _ (n inc : ℕ) (before : History) (old : ViewId) (last : ℕ) where
   does_away _ _ (Then s t u a b) rs more fine lively fresh failing o k =
       let grown : (r : Happened) → Has r t.records → Has r rs = λ r h. more r (does_grow t u b r h) in
       does_away t u b rs more fine lively fresh failing (ordered_does n inc before old last s t a rs grown fine lively fresh o) (does_away s t a rs grown fine lively fresh failing o k)
-  does_away _ _ (Records s r a) rs more fine lively fresh failing o k = turned_none before s.records r (inner_none r a) k
-  does_away _ _ (Hands s c h e bs ordered same) rs more fine lively fresh failing o k =
-      let new : List Happened = flat_map (heard c h (len_of s h) e (state_of (put s h e) h)) (casts_out c.sessions h (state_of s h) (state_of (put s h e) h) e bs) in
-      subst (λ z. Within Away z before) (sym (pushed_reverse new c.records)) (none_pushed new (reverse c.records) before (λ r i. heards_none c h (len_of s h) e (state_of (put s h e) h) (casts_out c.sessions h (state_of s h) (state_of (put s h e) h) e bs) r i) (subst (λ z. Within Away (reverse z) before) (sym same.records) (turned_none before s.records (happened.Put s.views.me s.views.view h (len_of s h) e) tt k)))
+  does_away _ _ (Records s r a) rs more fine lively fresh failing o k = turned_none Elsewhere none_away before s.records r (inner_none r a) k
+  does_away _ _ (Hands s c h e bs ordered same) rs more fine lively fresh failing o k = hands_none Elsewhere none_away before s c h e bs same k
   does_away _ _ (Loses s t f) rs more fine lively fresh failing o k = k
   does_away _ _ (Joins s t g instance attrs none) rs more fine lively fresh failing o k = k
-  does_away _ _ (Votes s x o b found opened unkept) rs more fine lively fresh failing ord k = turned_none before s.records (happened.Cast x.p o.proto o.phase b.vote b.value b.message) tt k
+  does_away _ _ (Votes s x o b found opened unkept) rs more fine lively fresh failing ord k = turned_none Elsewhere none_away before s.records (happened.Cast x.p o.proto o.phase b.vote b.value b.message) tt k
   does_away _ _ (Enters s i lt none) rs more fine lively fresh failing o k = enters_away s i lt none rs more failing o k
 
 -- ---- every scene
@@ -201,23 +177,8 @@ module _ (c : Config) (w : Scene) (n : ℕ) (f : Answering) (s : Core) (e : Node
   step_away =
       does_away n (w.incs n) w.before s.views.view s.sessions.last_request (at_work s) (stepped f s e) (steps_change c w k n s up f e) (stepped f s e).records (λ r h. h) (step_fine c w n s k up f e v arises) (lively_now c w n f s e v k up arises) (fresh_now c w k n s up) (failed_now c w n f s e v k up arises) begin tt
 
-all_start : (ns : List ℕ) (w : Scene) → EachRecord Away w.before → let x : Scene = fold (λ (w : Scene) n. starts_too w n (w.cores n)) w ns in EachRecord Away x.before
-all_start [] w k = k
-all_start (n ∷ ns) w k = all_start ns (starts_too w n (w.cores n)) (by (w.cores n))
-  where
-    by : (o : Option Core) → EachRecord Away (starts_too w n o).before
-    by (Some s) = k
-    by None = with_none w.before (started w.config n (w.incs n + 1)).records (start_none w.config n (w.incs n + 1)) k
-
 pub bases_away : (c : Config) (w : Scene) → Reached c w → EachRecord Away w.before
-bases_away c _ Nothing = tt
-bases_away c _ (AllStart fixed) =
-    all_start (nodes_of c.nodes) (record (nothing_yet c) { before = record { event = None; records = [] } ∷ [] }) (tt, tt)
-bases_away c _ (Starts w n e k free real down) =
-    (none_turned (started w.config n (w.incs n + 1)).records w.before (start_none w.config n (w.incs n + 1)), bases_away c w k)
-bases_away c _ (Stops w n e s k up) = ((tt, tt), bases_away c w k)
-bases_away c _ (Steps w n f s e v k up arises) = (step_away c w n f s e v k up arises, bases_away c w k)
-bases_away c _ (Notes w e rs k notes) = (none_turned rs w.before (λ r h. note_none r (notes r h)), bases_away c w k)
+bases_away c w k = each_scene Elsewhere none_away c (λ w n f s e v k up arises. step_away c w n f s e v k up arises) w k
 
 -- ---- record by record
 

@@ -1,4 +1,5 @@
 pub mod Ended
+pub mod Records
 pub mod Bases
 pub mod Elsewhere
 pub mod Cut
