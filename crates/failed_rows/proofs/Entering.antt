@@ -54,7 +54,7 @@ use Rattle.honest_votes.proofs.Ending.{Every, NoGroup}
 use Rattle.failed_rows.specs.Failures.{FromElsewhere, IsCut, EachPut}
 use Rattle.failed_rows.proofs.Queues.{Stays, failed_stays}
 use Rattle.failed_rows.proofs.Bases.{bases_put, bases_track, base_is, new_stay, bases_entered, found_self}
-use Rattle.failed_rows.proofs.Facts.{Whys, JoinedIn, takers_pushed, Quiet, BasesFit, Stepped, stepped_incs, BodyFails, body_on, Track, own_pushed, turned_split, reverse_has}
+use Rattle.failed_rows.proofs.Facts.{Whys, JoinedIn, takers_pushed, Quiet, BasesFit, Stepped, stepped_incs, BodyFails, body_on, Track, own_pushed, Split, split, turned_split, reverse_has}
 use Rattle.failed_rows.proofs.Living.{slim_same}
 use Rattle.failed_rows.proofs.Origin.{Origin, slim_more, slim_on}
 use Rattle.failed_rows.proofs.At.{At, at_fold, at_sent, at_recorded_all, at_views, at_told}
@@ -238,17 +238,6 @@ module _ (h : History) (said : ProviderId → Type 0) (origin : Origin) (P L M :
       stayed : (g : List ℕ) → stays s.views.me g (reverse t.records ++ records_of h) ≡ new_stay i.view (base_is (base_named bases g)) ∷ old_stays g
       noted : (b : Base) → Has b bases → NotedAt t b
 
-    -- a base stands at a place
-    record BaseAt (b : Base) (bs : List Base) : Type 0 where
-      before : List Base
-      after : List Base
-      is : bs ≡ before ++ b ∷ after
-
-    split : (b : Base) (bs : List Base) → Has b bs → BaseAt b bs
-    split b [] k = absurd k
-    split b (x ∷ xs) (inl e) = record { before = []; after = xs; is = ap (λ z. z ∷ xs) (sym e) }
-    split b (x ∷ xs) (inr k) = let z = split b xs k in record { before = x ∷ z.before; after = z.after; is = ap (λ y. x ∷ y) z.is }
-
     inside_entered : Full (view_entered s i bases) → Inside (view_entered s i bases)
     unfolding view_entered recorded_all base_record views_entered
     inside_entered a =
@@ -307,7 +296,7 @@ module _ (h : History) (said : ProviderId → Type 0) (origin : Origin) (P L M :
         map_split [] b ys = refl
         map_split (x ∷ xs) b ys = ap (λ z. base_noted me i.view x ∷ z) (map_split xs b ys)
 
-        noted_at : (b : Base) → BaseAt b bases → NotedAt (view_entered s i bases) b
+        noted_at : (b : Base) → Split b bases → NotedAt (view_entered s i bases) b
         noted_at b k =
             record {
               newer = reverse (map (base_noted me i.view) k.after);

@@ -325,16 +325,16 @@ pub record PutOff (rs : List Happened) (p : ProviderId) (v : ViewId) (g : List �
   pub was : (among (present (state_held p.node g older)) p ≡ true) ⊎ (is_join_of p e ≡ true)
   pub off : among (present (state_held p.node g (happened.Put p.node v g i e ∷ older))) p ≡ false
 
--- a record stands at a place of a list
-pub record Split (r : Happened) (rs : List Happened) : Type 0 where
-  pub before : List Happened
-  pub after : List Happened
-  pub is : rs ≡ before ++ r ∷ after
+-- something stands at a place of a list
+pub record Split {A : Type 0} (x : A) (xs : List A) : Type 0 where
+  pub before : List A
+  pub after : List A
+  pub is : xs ≡ before ++ x ∷ after
 
-pub split : (r : Happened) (rs : List Happened) → Has r rs → Split r rs
-split r [] i = absurd i
-split r (x ∷ xs) (inl e) = record { before = []; after = xs; is = ap (λ z. z ∷ xs) (sym e) }
-split r (x ∷ xs) (inr i) = let k = split r xs i in record { before = x ∷ k.before; after = k.after; is = ap (λ z. x ∷ z) k.is }
+pub split : {A : Type 0} (x : A) (xs : List A) → Has x xs → Split x xs
+split x [] i = absurd i
+split x (y ∷ ys) (inl e) = record { before = []; after = ys; is = ap (λ z. z ∷ ys) (sym e) }
+split x (y ∷ ys) (inr i) = let k = split x ys i in record { before = y ∷ k.before; after = k.after; is = ap (λ z. y ∷ z) k.is }
 
 pub turned_split : (r : Happened) (xs ys zs : List Happened) → reverse (xs ++ r ∷ ys) ++ zs ≡ reverse ys ++ r ∷ (reverse xs ++ zs)
 turned_split r xs ys zs =
