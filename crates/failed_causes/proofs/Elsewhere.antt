@@ -42,20 +42,15 @@ use Rattle.attending.proofs.Law.{incs_of, begin_strict, step_fine}
 use Rattle.attending.proofs.Living.{lively_now, failed_now}
 use Rattle.attending.proofs.OrderLaw.{reached_orderly}
 use Rattle.attending.proofs.Ordering.{Ordered, Fresh, Lively, ordered_does, entering_recorded, base_recorded_at}
+use Rattle.failed_causes.specs.Passed.{ElsewhereFails, BasesFromElsewhereFail}
 use Rattle.failed_causes.proofs.Records.{NoBase, inner_none, none_pushed, turned_none, hands_none, each_scene}
 
--- where a node notes a base from another view than the one that it was in before
-abbrev pub Elsewhere : List Happened → Happened → Type 0
-Elsewhere rs (happened.Base n v g u len st) =
-    (x last : Stay) (older : List Stay) → stays n g rs ≡ x ∷ last ∷ older → same_view u last.view ≡ false → (p : ProviderId) → p.node ≡ n → inc_now n rs ≡ p.inc → Has p (present st) → among st.failed p ≡ true
-Elsewhere rs _ = Unit {0}
-
 abbrev pub Away : List Happened → History → Happened → Type 0
-Away now before r = Elsewhere (earlier now before) r
+Away now before r = ElsewhereFails (earlier now before) r
 
 -- ---- records of no base
 
-none_away : (r : Happened) (rs : List Happened) → NoBase r → Elsewhere rs r
+none_away : (r : Happened) (rs : List Happened) → NoBase r → ElsewhereFails rs r
 none_away (happened.Base n v g u len s) rs a = absurd a
 none_away (happened.Up n j) rs a = tt
 none_away (happened.Down n) rs a = tt
@@ -105,7 +100,7 @@ module _ (n inc : ℕ) (before : History) (old : ViewId) (v : ViewId) where
           let z = twice g in
           record { entered = z.entered; last = z.last; older = z.older; is = ap (λ t. if t then with_base b.state (stays n g (earlier now before)) else stays n g (earlier now before)) q ∙ z.is; view = z.view }
 
-      away : Elsewhere (earlier now before) (base_noted n v b)
+      away : ElsewhereFails (earlier now before) (base_noted n v b)
       away x last older is apart p node inc_p there =
           let z = twice b.name in
           let q = sym is ∙ z.is in
@@ -117,7 +112,7 @@ module _ (n inc : ℕ) (before : History) (old : ViewId) (last : ℕ) where
   unfolding view_entered recorded_all views_entered base_record
   enters_away s i lt none rs more failing o k =
       let told : Adds Inner inside (sides_dissolved inside (held_rows s) s.views.view bs) = sides_add inside (held_rows s) s.views.view bs in
-      subst (λ z. Within Away z before) (sym (ap reverse told.is ∙ pushed_reverse told.more inside.records)) (none_pushed Elsewhere none_away told.more (reverse inside.records) before (λ r h. inner_none r (told.all r h)) (subst (λ z. Within Away z before) (sym (pushed_reverse (entering ∷ map (base_noted s.views.me i.view) bs) s.records)) (subst (λ m. Within Away (pushed (map (base_noted m i.view) bs) (happened.In m i.view i.members ∷ reverse s.records)) before) (sym me) (based_away n inc before old i.view bs (happened.In n i.view i.members ∷ reverse s.records) twice (o.strict.incs n ∙ o.strict.start) fails (tt, k)))))
+      subst (λ z. Within Away z before) (sym (ap reverse told.is ∙ pushed_reverse told.more inside.records)) (none_pushed ElsewhereFails none_away told.more (reverse inside.records) before (λ r h. inner_none r (told.all r h)) (subst (λ z. Within Away z before) (sym (pushed_reverse (entering ∷ map (base_noted s.views.me i.view) bs) s.records)) (subst (λ m. Within Away (pushed (map (base_noted m i.view) bs) (happened.In m i.view i.members ∷ reverse s.records)) before) (sym me) (based_away n inc before old i.view bs (happened.In n i.view i.members ∷ reverse s.records) twice (o.strict.incs n ∙ o.strict.start) fails (tt, k)))))
     where
       bs : List Base
       bs = bases_of i
@@ -150,11 +145,11 @@ module _ (n inc : ℕ) (before : History) (old : ViewId) (last : ℕ) where
   does_away _ _ (Then s t u a b) rs more fine lively fresh failing o k =
       let grown : (r : Happened) → Has r t.records → Has r rs = λ r h. more r (does_grow t u b r h) in
       does_away t u b rs more fine lively fresh failing (ordered_does n inc before old last s t a rs grown fine lively fresh o) (does_away s t a rs grown fine lively fresh failing o k)
-  does_away _ _ (Records s r a) rs more fine lively fresh failing o k = turned_none Elsewhere none_away before s.records r (inner_none r a) k
-  does_away _ _ (Hands s c h e bs ordered same) rs more fine lively fresh failing o k = hands_none Elsewhere none_away before s c h e bs same k
+  does_away _ _ (Records s r a) rs more fine lively fresh failing o k = turned_none ElsewhereFails none_away before s.records r (inner_none r a) k
+  does_away _ _ (Hands s c h e bs ordered same) rs more fine lively fresh failing o k = hands_none ElsewhereFails none_away before s c h e bs same k
   does_away _ _ (Loses s t f) rs more fine lively fresh failing o k = k
   does_away _ _ (Joins s t g instance attrs none) rs more fine lively fresh failing o k = k
-  does_away _ _ (Votes s x o b found opened unkept) rs more fine lively fresh failing ord k = turned_none Elsewhere none_away before s.records (happened.Cast x.p o.proto o.phase b.vote b.value b.message) tt k
+  does_away _ _ (Votes s x o b found opened unkept) rs more fine lively fresh failing ord k = turned_none ElsewhereFails none_away before s.records (happened.Cast x.p o.proto o.phase b.vote b.value b.message) tt k
   does_away _ _ (Enters s i lt none) rs more fine lively fresh failing o k = enters_away s i lt none rs more failing o k
 
 -- ---- every scene
@@ -177,14 +172,14 @@ module _ (c : Config) (w : Scene) (n : ℕ) (f : Answering) (s : Core) (e : Node
   step_away =
       does_away n (w.incs n) w.before s.views.view s.sessions.last_request (at_work s) (stepped f s e) (steps_change c w k n s up f e) (stepped f s e).records (λ r h. h) (step_fine c w n s k up f e v arises) (lively_now c w n f s e v k up arises) (fresh_now c w k n s up) (failed_now c w n f s e v k up arises) begin tt
 
-pub bases_away : (c : Config) (w : Scene) → Reached c w → EachRecord Away w.before
-bases_away c w k = each_scene Elsewhere none_away c (λ w n f s e v k up arises. step_away c w n f s e v k up arises) w k
+pub bases_away : BasesFromElsewhereFail
+bases_away c w k = each_scene ElsewhereFails none_away c (λ w n f s e v k up arises. step_away c w n f s e v k up arises) w k
 
 -- ---- record by record
 
 abbrev pub Aways : List Happened → Type 0
 Aways [] = Unit {0}
-Aways (r ∷ rs) = Elsewhere rs r × Aways rs
+Aways (r ∷ rs) = ElsewhereFails rs r × Aways rs
 
 aways_now : (now : List Happened) (before : History) → Within Away now before → Aways (records_of before) → Aways (now ++ records_of before)
 aways_now [] before k old = old

@@ -4,13 +4,15 @@ use Rattle.std.specs.List.{list_any}
 use Rattle.std.specs.Str.{bytes_eq}
 use Rattle.rsct_packet.specs.declared.ids.ViewId.{ViewId}
 use Rattle.rsct_packet.specs.declared.ids.ProviderId.{ProviderId}
+use Rattle.rsct_packet.specs.Ids.{same_view}
 use Rattle.rsct_packet.specs.Providers.{among}
+use Rattle.rsct_packet.specs.Search.{Has}
 use Rattle.group_entry.specs.declared.entry.Entry.{Entry}
 use Rattle.proposal_core.specs.Fold.{present}
 use Rattle.node_state.specs.declared.config.Config.{Config}
 use Rattle.node_state.specs.declared.happened.Happened.{Happened}
 use Rattle.node_state.specs.declared.happened.Happened.TheVariants.{Base, Put}
-use Rattle.run_safety.specs.Past.{records_of, earlier, EachRecord}
+use Rattle.run_safety.specs.Past.{records_of, earlier, inc_now, EachRecord}
 use Rattle.run_safety.specs.Stays.{Stay, stays, is_join_of, part, passes}
 use Rattle.step_ties.specs.Tied.{Scene}
 use Rattle.step_ties.specs.Runs.{Reached}
@@ -55,3 +57,15 @@ BaseFirst rs _ = Unit {0}
 
 abbrev pub BasesComeFirst : Type 0
 BasesComeFirst = (c : Config) (w : Scene) → Reached c w → EachRecord (λ now before r. BaseFirst (earlier now before) r) w.before
+
+-- ---- bases from elsewhere
+
+-- where a node notes a base from another view than the one that it was in before, whoever is there of the node, in its incarnation,
+-- is on the base's failed list
+abbrev pub ElsewhereFails : List Happened → Happened → Type 0
+ElsewhereFails rs (Base n v g u len s) =
+    (x last : Stay) (older : List Stay) → stays n g rs ≡ x ∷ last ∷ older → same_view u last.view ≡ false → (p : ProviderId) → p.node ≡ n → inc_now n rs ≡ p.inc → Has p (present s) → among s.failed p ≡ true
+ElsewhereFails rs _ = Unit {0}
+
+abbrev pub BasesFromElsewhereFail : Type 0
+BasesFromElsewhereFail = (c : Config) (w : Scene) → Reached c w → EachRecord (λ now before r. ElsewhereFails (earlier now before) r) w.before

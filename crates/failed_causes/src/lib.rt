@@ -2,13 +2,20 @@
 #![tactic(auto)]
 
 ghost use Rattle.failed_causes.specs.Causes.{FailuresAreExact};
-ghost use Rattle.failed_causes.specs.Passed.{WhoIsOverDidNotPass, BasesComeFirst};
+ghost use Rattle.failed_causes.specs.Passed.{WhoIsOverDidNotPass, BasesComeFirst, BasesFromElsewhereFail};
 
 /// Whatever starts, stops and steps, in any order: where a node notes a base, it put nothing of that group since it entered the
 /// view.
 #[tactic(auto, using(crate::proofs::Bases::bases_come_first))]
 pub fn bases_come_first()
     ensures { BasesComeFirst }
+{}
+
+/// And where the base comes from another view than the node, whoever is there of the node, in its incarnation, is on the base's failed
+/// list.
+#[tactic(auto, using(crate::proofs::Elsewhere::bases_away))]
+pub fn bases_from_elsewhere_fail()
+    ensures { BasesFromElsewhereFail }
 {}
 
 /// Whoever its own node held in a view although it was over is of the base there, did not pass into the view, and is named by no
