@@ -3,6 +3,8 @@ use Rattle.std.proofs.Common.{◌≡◌, ◌⊎◌, ℕ, List, [], ◌∷◌, tr
 use Rattle.rsct_packet.specs.declared.ids.ViewId.{ViewId}
 use Rattle.rsct_packet.specs.declared.ids.ProviderId.{ProviderId}
 use Rattle.rsct_packet.specs.Providers.{among}
+use Rattle.rsct_packet.specs.Search.{Has}
+use Rattle.rsct_packet.proofs.HasLaws.{append_has_right}
 use Rattle.group_entry.specs.declared.entry.RowVote.{RowVote}
 use Rattle.group_entry.specs.declared.entry.RowVote.TheVariants as row_vote
 use Rattle.group_entry.specs.declared.entry.Closed.{Closed}
@@ -18,12 +20,17 @@ use Rattle.node_state.specs.declared.happened.Happened.TheVariants as happened
 use Rattle.run_safety.specs.Past.{History, records_of, earlier}
 use Rattle.failed_rows.specs.Failures.{GoneCause, RowFails, RowsFail, CauseHolds, LeavesFail, EntryFails, PutHolds, Since, EachPut, FailuresHaveCauses, state_held}
 use Rattle.failed_rows.proofs.Law.{reached, failures_are_honest}
+use Rattle.attending.proofs.OrderLaw.{heard_in_order}
 use Rattle.seen_runs.specs.Seen.{Seen}
 use Rattle.seen_runs.proofs.Law.{traces_seen}
 use Rattle.failed_causes.specs.Causes.{ExactCause, PutHasCause, EachPutHasCause, FailuresHaveExactCauses, FailuresAreExact}
 use Rattle.failed_causes.proofs.Ended.{Firsts}
-use Rattle.failed_causes.proofs.Bases.{bases_come_first}
-use Rattle.failed_causes.proofs.Law.{firsts_of, firsts_after, seen_after, says}
+use Rattle.failed_causes.proofs.Bases.{bases_come_first, bases_follow}
+use Rattle.failed_causes.proofs.Cut.{Entries, entries_after}
+use Rattle.failed_causes.proofs.Elsewhere.{Aways, aways_of, aways_after, bases_away}
+use Rattle.failed_causes.proofs.Held.{Held, held_asked}
+use Rattle.failed_causes.proofs.Renamed.{joined_in_one}
+use Rattle.failed_causes.proofs.Law.{Ordered, OneGroup, firsts_of, firsts_after, seen_after, ordered_of, ordered_after, entries_of, says}
 
 -- ---- one cause in place of another
 
@@ -65,10 +72,10 @@ module _ (gone now : ProviderId → Type 0) (on : (p : ProviderId) → gone p �
 
 -- ---- each put
 
-module _ (before : History) (seen : Seen (records_of before)) (firsts : Firsts (records_of before)) where
+module _ (before : History) (seen : Seen (records_of before)) (firsts : Firsts (records_of before)) (order : Ordered (records_of before)) (entries : Entries (records_of before)) (away : Aways (records_of before)) (all : List Happened) (more : (r : Happened) → Has r (records_of before) → Has r all) (single : OneGroup all) (held : Held all) where
   exact : (v : ViewId) (g : List ℕ) (p : ProviderId) → GoneCause before v g p → ExactCause before v g p
   exact v g p (inl k) = inl k
-  exact v g p (inr st) = inr (says (records_of before) v g p seen firsts st)
+  exact v g p (inr st) = inr (says (records_of before) v g p seen firsts order entries away all more single held st)
 
   put_on : (r : Happened) (now : List Happened) → PutHolds now before r → PutHasCause now before r
   put_on (happened.Put n v g i e) now k = λ first. entry_on (GoneCause before v g) (ExactCause before v g) (exact v g) (λ h. state_held n h (earlier now before)) (state_held n g (earlier now before)) e (k first)
@@ -97,14 +104,18 @@ module _ (before : History) (seen : Seen (records_of before)) (firsts : Firsts (
       pair : (EachPut now before → EachPutHasCause now before) → PutHolds now before r × EachPut now before → PutHasCause now before r × EachPutHasCause now before
       pair rest k = (put_on r now k.0, rest k.1)
 
-all_on : (h : History) → Seen (records_of h) → Firsts (records_of h) → FailuresHaveCauses h → FailuresHaveExactCauses h
-all_on [] seen firsts k = tt
-all_on (e ∷ before) seen firsts k =
+all_on : (all : List Happened) → OneGroup all → Held all → (h : History) → ((r : Happened) → Has r (records_of h) → Has r all) → Seen (records_of h) → Firsts (records_of h) → Ordered (records_of h) → Entries (records_of h) → Aways (records_of h) → FailuresHaveCauses h → FailuresHaveExactCauses h
+all_on all single held [] more seen firsts order entries away k = tt
+all_on all single held (e ∷ before) more seen firsts order entries away k =
     let s = seen_after e.records (records_of before) seen in
     let f = firsts_after e.records (records_of before) firsts in
-    (each_on before s f e.records k.0, all_on before s f k.1)
+    let o = ordered_after e.records (records_of before) order in
+    let a = entries_after e.records (records_of before) entries in
+    let b = aways_after e.records (records_of before) away in
+    let m : (r : Happened) → Has r (records_of before) → Has r all = λ r h. more r (append_has_right r e.records (records_of before) h) in
+    (each_on before s f o a b all m single held e.records k.0, all_on all single held before m s f o a b k.1)
 
 pub failures_are_exact : FailuresAreExact
 failures_are_exact c w k =
     let r = reached c w k in
-    all_on w.before (traces_seen c w r) (firsts_of w.before (bases_come_first c w r)) (failures_are_honest c w k)
+    all_on (records_of w.before) (joined_in_one c w r) (held_asked c w r) w.before (λ q h. h) (traces_seen c w r) (firsts_of w.before (bases_come_first c w r)) (ordered_of w.before (heard_in_order c w r)) (entries_of w.before (bases_follow c w r)) (aways_of w.before (bases_away c w r)) (failures_are_honest c w k)

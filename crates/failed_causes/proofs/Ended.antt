@@ -20,13 +20,13 @@ use Rattle.node_groups.proofs.NameOrder.{text_same}
 use Rattle.failed_rows.specs.Failures.{state_of_stay}
 use Rattle.attending.proofs.Parts.{first_stays, last_comes, fold_push, pushed_stay}
 use Rattle.failed_causes.specs.Passed.{puts_join, latest_entries, BaseFirst}
-use Rattle.failed_causes.proofs.Grows.{there_before, there_first}
+use Rattle.failed_rows.proofs.Grows.{there_before, there_first}
 
 -- it has a first place and no last one
 abbrev pub goes_on : Part → Bool
 goes_on x = is_some x.first && is_none x.last
 
-not_passing : (p : ProviderId) (base : GroupState) (x : Part) → goes_on x ≡ false → passes p base x ≡ false
+pub not_passing : (p : ProviderId) (base : GroupState) (x : Part) → goes_on x ≡ false → passes p base x ≡ false
 not_passing p base x k = by (is_some x.first) (is_none x.last) k
   where
     by : (a b : Bool) → (a && b) ≡ false → (a && (b && (among (present base) p && not (among base.failed p)))) ≡ false
@@ -34,7 +34,7 @@ not_passing p base x k = by (is_some x.first) (is_none x.last) k
     by true false q = refl
     by false b q = refl
 
-none_named : (p : ProviderId) (es : List Entry) → list_any (is_join_of p) es ≡ false → place_where (is_join_of p) es ≡ None
+pub none_named : (p : ProviderId) (es : List Entry) → list_any (is_join_of p) es ≡ false → place_where (is_join_of p) es ≡ None
 none_named p [] k = refl
 none_named p (e ∷ es) k = by (is_join_of p e) k (none_named p es)
   where
@@ -42,7 +42,7 @@ none_named p (e ∷ es) k = by (is_join_of p e) k (none_named p es)
     by true q rest = absurd (cc)
     by false q rest = ap (option_map suc) (rest q)
 
-any_more : (p : ProviderId) (es : List Entry) (e : Entry) → list_any (is_join_of p) es ≡ false → is_join_of p e ≡ false → list_any (is_join_of p) (es ++ e ∷ []) ≡ false
+pub any_more : (p : ProviderId) (es : List Entry) (e : Entry) → list_any (is_join_of p) es ≡ false → is_join_of p e ≡ false → list_any (is_join_of p) (es ++ e ∷ []) ≡ false
 any_more p [] e a b = ap (λ z. z || false) b
 any_more p (x ∷ es) e a b = by (is_join_of p x) a (λ k. any_more p es e k b)
   where
@@ -149,7 +149,7 @@ module _ (a : Bool) (p : ProviderId) (g : List ℕ) where
   in_out true v xs k = inl (out_over a p xs k, refl)
   in_out false v xs k = k
 
-  out_step : (r : Happened) (rs : List Happened) → BaseFirst rs r → puts_join p g r ≡ false → Out a p (stays p.node g rs) → Out a p (stays p.node g (r ∷ rs))
+  pub out_step : (r : Happened) (rs : List Happened) → BaseFirst rs r → puts_join p g r ≡ false → Out a p (stays p.node g rs) → Out a p (stays p.node g (r ∷ rs))
   out_step (happened.Up m j) rs first other k = down_out (m == p.node) (stays p.node g rs) k
   out_step (happened.Down m) rs first other k = down_out (m == p.node) (stays p.node g rs) k
   out_step (happened.Ring m net id ms x) rs first other k = k

@@ -1,6 +1,6 @@
 -- Who was over, and was held all the same, did not pass into the view.
-use Rattle.std.proofs.Common.{◌≡◌, ◌⊎◌, ℕ, List, [], ◌∷◌, ◌++◌, Option, Some, None, Bool, true, false, refl, sym, ap, ◌∙◌, subst, inl, inr, append-nil}
-use Rattle.std.specs.Prelude.{◌==◌, ◌&&◌, ◌||◌, map, if◌then◌else◌}
+use Rattle.std.proofs.Common.{◌≡◌, ◌⊎◌, ℕ, List, [], ◌∷◌, ◌++◌, Option, Some, None, Bool, true, false, refl, sym, ap, ◌∙◌, subst, inl, inr, append-nil, append_assoc}
+use Rattle.std.specs.Prelude.{not, ◌==◌, ◌&&◌, ◌||◌, is_some, is_none, if◌then◌else◌, IsTrue}
 use Rattle.std.specs.List.{list_any}
 use Rattle.std.specs.Str.{bytes_eq}
 use Rattle.std.proofs.lemmas.Bool.{eqb-true, eq-eqb}
@@ -8,26 +8,34 @@ use Rattle.rsct_packet.specs.declared.ids.ViewId.{ViewId}
 use Rattle.rsct_packet.specs.declared.ids.ProviderId.{ProviderId}
 use Rattle.rsct_packet.specs.Providers.{among}
 use Rattle.rsct_packet.specs.Search.{Has}
-use Rattle.group_entry.specs.declared.proposal.Proposal.{Proposal}
-use Rattle.group_entry.specs.declared.proposal.Proposal.TheVariants.{Join, Leave, Fail, Expel, State, Message, Attributes, Reflect}
+use Rattle.rsct_packet.proofs.HasLaws.{append_has_right}
+use Rattle.client_callbacks.specs.declared.told.Why.{Why}
+use Rattle.session_state.specs.HandOn.{is_dissolved}
 use Rattle.group_entry.specs.declared.entry.Entry.{Entry}
-use Rattle.group_entry.specs.declared.entry.Entry.TheVariants.{Once, Begin, Phase, Approve, Reject, Late}
-use Rattle.proposal_core.specs.Fold.{joins_of, present}
+use Rattle.group_entry.specs.declared.proposal.Proposal.{Proposal}
+use Rattle.proposal_core.specs.declared.group_state.GroupState.{GroupState}
+use Rattle.proposal_core.specs.Fold.{present}
 use Rattle.node_state.specs.declared.happened.Happened.{Happened}
 use Rattle.node_state.specs.declared.happened.Happened.TheVariants as happened
 use Rattle.run_safety.specs.Past.{History, EachRecord, Within, records_of, earlier}
-use Rattle.run_safety.specs.Requests.{carried, requests_of}
-use Rattle.run_safety.specs.Stays.{Stay, stays, with_entry, is_join_of, asks_join, part}
+use Rattle.run_safety.specs.SafeLists.{Each}
+use Rattle.run_safety.specs.SafeHeard.{heard_count, is_after, InOrder}
+use Rattle.run_safety.specs.Stays.{Stay, stays, with_entry, is_join_of, Part, part, passes}
 use Rattle.run_safety.proofs.Tests.{has_any}
 use Rattle.node_groups.proofs.NameOrder.{text_same, text_self}
-use Rattle.step_ties.proofs.SessionLaws.{provider_self}
 use Rattle.hearing.proofs.Handing.{among_is}
-use Rattle.failed_rows.specs.Failures.{state_in_stays, state_held, WasTold, TakenOff, StoodThere}
-use Rattle.seen_runs.specs.Seen.{Seen, SeenAt, OnceSeen, BeginsOnce}
+use Rattle.attending.proofs.OrderLaw.{heard_in_order}
+use Rattle.failed_rows.specs.Failures.{state_in_stays, state_held, FromElsewhere, IsCut, IsRefused, WasTold, TakenOff, StoodThere}
+use Rattle.failed_rows.proofs.Asked.{join_carried}
+use Rattle.seen_runs.specs.Seen.{Seen, SeenAt, OnceSeen, BeginsOnce, WasTold as WasRefused}
 use Rattle.seen_runs.proofs.Law.{traces_seen}
-use Rattle.failed_causes.specs.Passed.{puts_join, BaseFirst, DidNotPass, OffApart, JoinedAndOver, WhoIsOverDidNotPass}
+use Rattle.failed_causes.specs.Passed.{puts_join, BaseFirst, DidNotPass, WhoIsOverDidNotPass}
 use Rattle.failed_causes.proofs.Ended.{Out, Firsts, out_on, there_out, first_out, off_out}
-use Rattle.failed_causes.proofs.Bases.{bases_come_first}
+use Rattle.failed_causes.proofs.Bases.{First, bases_come_first, bases_follow}
+use Rattle.failed_causes.proofs.Cut.{Cut, CutOut, Entries, entries_after, cut_on, there_cut}
+use Rattle.failed_causes.proofs.Elsewhere.{Aways, aways_of, aways_after, bases_away}
+use Rattle.failed_causes.proofs.Held.{Held, held_asked}
+use Rattle.failed_causes.proofs.Renamed.{joined_in_one}
 
 -- ---- one record after another
 
@@ -47,30 +55,32 @@ pub seen_after : (newer older : List Happened) → Seen (newer ++ older) → See
 seen_after [] older k = k
 seen_after (r ∷ newer) older k = seen_after newer older k.1
 
+-- what is heard is heard in order, at each record
+abbrev pub Ordered : List Happened → Type 0
+Ordered [] = Unit {0}
+Ordered (r ∷ rs) = InOrder rs r × Ordered rs
+
+ordered_now : (now : List Happened) (before : History) → Within (λ now before r. InOrder (earlier now before) r) now before → Ordered (records_of before) → Ordered (now ++ records_of before)
+ordered_now [] before k old = old
+ordered_now (r ∷ now) before k old = (k.0, ordered_now now before k.1 old)
+
+pub ordered_of : (h : History) → Each InOrder h → Ordered (records_of h)
+ordered_of [] k = tt
+ordered_of (e ∷ before) k = ordered_now e.records before k.0 (ordered_of before k.1)
+
+entries_now : (now : List Happened) (before : History) → Within First now before → Entries (records_of before) → Entries (now ++ records_of before)
+entries_now [] before k old = old
+entries_now (r ∷ now) before k old = ((k.0).1, entries_now now before k.1 old)
+
+pub entries_of : (h : History) → EachRecord First h → Entries (records_of h)
+entries_of [] k = tt
+entries_of (e ∷ before) k = entries_now e.records before k.0 (entries_of before k.1)
+
+pub ordered_after : (newer older : List Happened) → Ordered (newer ++ older) → Ordered older
+ordered_after [] older k = k
+ordered_after (r ∷ newer) older k = ordered_after newer older k.1
+
 -- ---- a join is put once at its node, after it was asked
-
-map_has : (p : ProviderId) (ps : List ProviderId) → Has p ps → Has {A = ProviderId × ℕ} (p, p.join) (map (λ (q : ProviderId). (q, q.join)) ps)
-map_has p [] h = absurd h
-map_has p (q ∷ ps) (inl e) = inl (ap (λ (z : ProviderId). (z, z.join)) e)
-map_has p (q ∷ ps) (inr h) = inr (map_has p ps h)
-
-names_carried : (p : ProviderId) (x : Proposal) → among (joins_of x) p ≡ true → Has {A = ProviderId × ℕ} (p, p.join) (requests_of x)
-names_carried p (Join ps attrs n) h = map_has p ps (among_is ps p h)
-names_carried p (Leave q r) h = absurd (cc)
-names_carried p (Fail out) h = absurd (cc)
-names_carried p (Expel q r out) h = absurd (cc)
-names_carried p (State q r value) h = absurd (cc)
-names_carried p (Message q r bytes) h = absurd (cc)
-names_carried p (Attributes q r attrs) h = absurd (cc)
-names_carried p (Reflect v i value) h = absurd (cc)
-
-join_carried : (p : ProviderId) (e : Entry) → is_join_of p e ≡ true → Has {A = ProviderId × ℕ} (p, p.join) (carried e)
-join_carried p (Once x) h = names_carried p x h
-join_carried p (Begin x) h = names_carried p x h
-join_carried p (Phase c) h = absurd (cc)
-join_carried p (Approve c) h = absurd (cc)
-join_carried p (Reject c) h = absurd (cc)
-join_carried p (Late proto phase ps) h = absurd (cc)
 
 -- its node puts its join
 record PutsIt (p : ProviderId) (g : List ℕ) (r : Happened) : Type 0 where
@@ -114,18 +124,14 @@ or_right : (b c : Bool) → c ≡ true → (b || c) ≡ true
 or_right true c q = refl
 or_right false c q = q
 
-asks_it : (p : ProviderId) (g : List ℕ) (x : Proposal) → asks_join p (happened.Asked p p.join g x) ≡ true
-asks_it p g x = λ k. provider_self p k && eq-eqb p.join p.join refl k
-
-asked_there : (p : ProviderId) (g : List ℕ) (rs : List Happened) → Seen rs → list_any (puts_join p g) rs ≡ true → list_any (asks_join p) rs ≡ true
-asked_there p g [] s q = absurd (cc)
-asked_there p g (r ∷ rs) s q = by (puts_join p g r) refl q (asked_there p g rs s.1)
+-- it was asked for in that group
+asked_in : (p : ProviderId) (g : List ℕ) (rs : List Happened) → Seen rs → list_any (puts_join p g) rs ≡ true → (x : Proposal) × Has (happened.Asked p p.join g x) rs
+asked_in p g [] s q = absurd (cc)
+asked_in p g (r ∷ rs) s q = by (puts_join p g r) refl q (asked_in p g rs s.1)
   where
-    by : (b : Bool) → puts_join p g r ≡ b → (b || list_any (puts_join p g) rs) ≡ true → (list_any (puts_join p g) rs ≡ true → list_any (asks_join p) rs ≡ true) → list_any (asks_join p) (r ∷ rs) ≡ true
-    by true e q rest =
-        let a = (begins_once p g r rs (puts_it p g r e) s.0).asked in
-        or_right (asks_join p r) (list_any (asks_join p) rs) (has_any (asks_join p) rs (happened.Asked p p.join g a.0) a.1 (asks_it p g a.0))
-    by false e q rest = or_right (asks_join p r) (list_any (asks_join p) rs) (rest q)
+    by : (b : Bool) → puts_join p g r ≡ b → (b || list_any (puts_join p g) rs) ≡ true → (list_any (puts_join p g) rs ≡ true → (x : Proposal) × Has (happened.Asked p p.join g x) rs) → (x : Proposal) × Has (happened.Asked p p.join g x) (r ∷ rs)
+    by true e q rest = let a = (begins_once p g r rs (puts_it p g r e) s.0).asked in (a.0, inr a.1)
+    by false e q rest = let a = rest q in (a.0, inr a.1)
 
 -- its join among these records
 record ItsPut (p : ProviderId) (g : List ℕ) (rs : List Happened) : Type 0 where
@@ -190,6 +196,38 @@ module _ (p : ProviderId) (h : List ℕ) (newer older : List Happened) (v : View
       let put : ItsPut p h (it ∷ older) = its_put p h (it ∷ older) (joined f first (firsts_after newer (it ∷ older) firsts)) in
       out_on true p h newer (it ∷ older) firsts (none_later p h newer (it ∷ older) seen put) (subst (Out true p) (sym put_is) (list_out p e f (stays p.node h older) (ap (λ z. (part p z).first) (sym put_is) ∙ first) (ap (λ z. among (present (state_in_stays z)) p) (sym put_is) ∙ off)))
 
+-- ---- who was refused is put nowhere
+
+none_any : (t : Happened → Bool) (rs : List Happened) → ((r : Happened) → Has r rs → t r ≡ false) → list_any t rs ≡ false
+none_any t [] all = refl
+none_any t (r ∷ rs) all = ap (λ b. b || list_any t rs) (all r (inl refl)) ∙ none_any t rs (λ q h. all q (inr h))
+
+module _ (p : ProviderId) (g : List ℕ) (why : Why) (older : List Happened) (refused : IsRefused older p p.join) where
+  -- a telling of it
+  abbrev tells : Happened
+  tells = happened.Told p p.join why
+
+  older_unput : list_any (puts_join p g) older ≡ false
+  older_unput = none_any (puts_join p g) older (λ r h. by r h (puts_join p g r) refl)
+    where
+      by : (r : Happened) → Has r older → (b : Bool) → puts_join p g r ≡ b → puts_join p g r ≡ false
+      by r h false q = q
+      by r h true q =
+          let x = puts_it p g r q in
+          absurd (refused.unput x.view g x.place x.entry (subst (λ z. Has z older) x.is h) x.joins)
+
+  still_told : (newer : List Happened) → WasRefused p p.join (newer ++ tells ∷ older)
+  still_told [] = inl (refl, refl, refused.in_view.0, refused.in_view.1)
+  still_told (r ∷ newer) = inr (still_told newer)
+
+  pub refused_unput : (newer : List Happened) → Seen (newer ++ tells ∷ older) → list_any (puts_join p g) (newer ++ tells ∷ older) ≡ false
+  refused_unput [] s = older_unput
+  refused_unput (r ∷ newer) s = by (puts_join p g r) refl (refused_unput newer s.1)
+    where
+      by : (b : Bool) → puts_join p g r ≡ b → list_any (puts_join p g) (newer ++ tells ∷ older) ≡ false → (b || list_any (puts_join p g) (newer ++ tells ∷ older)) ≡ false
+      by false e rest = rest
+      by true e rest = absurd ((begins_once p g r (newer ++ tells ∷ older) (puts_it p g r e) s.0).untold (still_told newer))
+
 any_left : (t : Happened → Bool) (xs ys : List Happened) → list_any t xs ≡ true → list_any t (xs ++ ys) ≡ true
 any_left t [] ys q = absurd (cc)
 any_left t (x ∷ xs) ys q = by (t x) q (any_left t xs ys)
@@ -202,9 +240,53 @@ any_right : (t : Happened → Bool) (xs ys : List Happened) → list_any t ys �
 any_right t [] ys q = q
 any_right t (x ∷ xs) ys q = or_right (t x) (list_any t (xs ++ ys)) (any_right t xs ys q)
 
+-- neither here nor there
+none_left : (t : Happened → Bool) (xs ys : List Happened) → list_any t (xs ++ ys) ≡ false → list_any t xs ≡ false
+none_left t xs ys q = by (list_any t xs) refl
+  where
+    by : (b : Bool) → list_any t xs ≡ b → list_any t xs ≡ false
+    by false e = e
+    by true e = absurd (let z : true ≡ false = sym (any_left t xs ys e) ∙ q in cc)
+
+none_right : (t : Happened → Bool) (xs ys : List Happened) → list_any t (xs ++ ys) ≡ false → list_any t ys ≡ false
+none_right t xs ys q = by (list_any t ys) refl
+  where
+    by : (b : Bool) → list_any t ys ≡ b → list_any t ys ≡ false
+    by false e = e
+    by true e = absurd (let z : true ≡ false = sym (any_right t xs ys e) ∙ q in cc)
+
+-- each join is asked for in one group
+abbrev pub OneGroup : List Happened → Type 0
+OneGroup rs = (p : ProviderId) (g h : List ℕ) (x y : Proposal) → Has (happened.Asked p p.join g x) rs → Has (happened.Asked p p.join h y) rs → g ≡ h
+
+passes_there : (p : ProviderId) (base : GroupState) (x : Part) → passes p base x ≡ true → among (present base) p ≡ true
+passes_there p base x k = by (is_some x.first) (is_none x.last) (among (present base) p) k
+  where
+    by : (a b c : Bool) → (a && (b && (c && not (among base.failed p)))) ≡ true → c ≡ true
+    by true true true q = refl
+    by true true false q = absurd (cc)
+    by true false c q = absurd (cc)
+    by false b c q = absurd (cc)
+
+-- nor is it on the failed list
+passes_unfailed : (p : ProviderId) (base : GroupState) (x : Part) → passes p base x ≡ true → among base.failed p ≡ false
+passes_unfailed p base x k = by (is_some x.first) (is_none x.last) (among (present base) p) (among base.failed p) k
+  where
+    by : (a b c d : Bool) → (a && (b && (c && not d))) ≡ true → d ≡ false
+    by true true true false q = refl
+    by true true true true q = absurd (cc)
+    by true true false d q = absurd (cc)
+    by true false c d q = absurd (cc)
+    by false b c d q = absurd (cc)
+
+-- who hears has a first place
+first_of : (count i : ℕ) (o : Option ℕ) → IsTrue (is_after count o i) → (f : ℕ) × (o ≡ Some f)
+first_of count i None k = absurd (let z : false ≡ true = k in cc)
+first_of count i (Some f) k = (f, refl)
+
 -- ---- the law
 
-module _ (rs : List Happened) (v : ViewId) (g : List ℕ) (p : ProviderId) (seen : Seen rs) (firsts : Firsts rs) (st : StoodThere rs v g p) where
+module _ (rs : List Happened) (v : ViewId) (g : List ℕ) (p : ProviderId) (seen : Seen rs) (firsts : Firsts rs) (order : Ordered rs) (entries : Entries rs) (away : Aways rs) (all : List Happened) (more : (r : Happened) → Has r rs → Has r all) (single : OneGroup all) (held : Held all) (st : StoodThere rs v g p) where
   seen_now : Seen (st.newer ++ st.older)
   seen_now = subst Seen st.moment seen
 
@@ -214,17 +296,18 @@ module _ (rs : List Happened) (v : ViewId) (g : List ℕ) (p : ProviderId) (seen
   firsts_then : Firsts st.older
   firsts_then = firsts_after st.newer st.older (subst Firsts st.moment firsts)
 
+  order_then : Ordered st.older
+  order_then = ordered_after st.newer st.older (subst Ordered st.moment order)
+
   abbrev pub Says : Type 0
-  Says = DidNotPass rs v g p ⊎ JoinedAndOver rs g p
+  Says = DidNotPass rs v g p
 
   abbrev Joined : Type 0
   Joined = list_any (puts_join p g) (st.newer ++ st.older) ≡ true
 
-  done : (a : Bool) → list_any (puts_join p g) st.newer ≡ false → Out a p (stays p.node g st.older) → Says
-  done a later out =
-      let o : Out a p (st.stay ∷ st.rest) = subst (Out a p) st.stays_so out in
-      let z = there_out a p st.stay st.rest o st.holds in
-      inl (record {
+  finish : list_any (puts_join p g) st.newer ≡ false → (among (present (st.stay).base) p ≡ true) × ((passes p (st.stay).base (part p st.rest) ≡ false) × (list_any (is_join_of p) (st.stay).entries ≡ false)) → Says
+  finish later z =
+      record {
         newer = st.newer;
         older = st.older;
         moment = st.moment;
@@ -236,61 +319,146 @@ module _ (rs : List Happened) (v : ViewId) (g : List ℕ) (p : ProviderId) (seen
         apart = z.1.0;
         unnamed = z.1.1;
         later = later;
-      })
+      }
 
-  unsettled : Joined → (list_any (asks_join p) st.older ≡ false) ⊎ (WasTold st.older p ⊎ OffApart st.older g p) → Says
-  unsettled q why =
-      inr (record { newer = st.newer; older = st.older; moment = st.moment; joined = ap (list_any (puts_join p g)) st.moment ∙ q; why = why })
+  done : (a : Bool) → list_any (puts_join p g) st.newer ≡ false → Out a p (stays p.node g st.older) → Says
+  done a later out = finish later (there_out a p st.stay st.rest (subst (Out a p) st.stays_so out) st.holds)
+
+  -- so its node puts its join in one group
+  joined_once : (h : List ℕ) → Joined → list_any (puts_join p h) (st.newer ++ st.older) ≡ true → h ≡ g
+  joined_once h q other =
+      let a = asked_in p g (st.newer ++ st.older) seen_now q in
+      let b = asked_in p h (st.newer ++ st.older) seen_now other in
+      single p h g b.0 a.0 (more (happened.Asked p p.join h b.0) (subst (Has (happened.Asked p p.join h b.0)) (sym st.moment) b.1)) (more (happened.Asked p p.join g a.0) (subst (Has (happened.Asked p p.join g a.0)) (sym st.moment) a.1))
+
+  -- its node never put its join
+  never_put : list_any (puts_join p g) (st.newer ++ st.older) ≡ false → Says
+  never_put q =
+      done false (none_left (puts_join p g) st.newer st.older q) (unput_out p g st.older firsts_then (none_right (puts_join p g) st.newer st.older q))
+
+  module _ (told : WasTold st.older p) where
+    refused : IsRefused told.older p told.number → Says
+    refused k = never_put (ap (list_any (puts_join p g)) moment ∙ refused_unput p g told.why told.older now (st.newer ++ told.newer) (subst Seen moment seen_now))
+      where
+        now : IsRefused told.older p p.join
+        now = subst (IsRefused told.older p) k.join k
+
+        moment : st.newer ++ st.older ≡ (st.newer ++ told.newer) ++ happened.Told p p.join told.why ∷ told.older
+        moment =
+            ap (λ z. st.newer ++ z) (told.moment ∙ ap (λ n. told.newer ++ happened.Told p n told.why ∷ told.older) k.join) ∙ sym (append_assoc st.newer told.newer (happened.Told p p.join told.why ∷ told.older))
+
+  -- it was told as its node entered a view
+  module _ (told : WasTold st.older p) (k : IsCut told.older p) where
+    abbrev tells_it : Happened
+    tells_it = happened.Told p told.number told.why
+
+    moment_told : st.newer ++ st.older ≡ (st.newer ++ told.newer) ++ tells_it ∷ told.older
+    moment_told = ap (λ z. st.newer ++ z) told.moment ∙ sym (append_assoc st.newer told.newer (tells_it ∷ told.older))
+
+    there : (r : Happened) → Has r told.older → Has r all
+    there r h =
+        more r (subst (Has r) (sym st.moment) (append_has_right r st.newer st.older (subst (Has r) (sym told.moment) (append_has_right r told.newer (tells_it ∷ told.older) (inr h)))))
+
+    -- its node held it in the group of its join
+    same_group : Joined → k.group ≡ g
+    same_group q =
+        let a = asked_in p g (st.newer ++ st.older) seen_now q in
+        let b = held p.node k.group told.older there k.last (subst (Has k.last) (sym k.stays_so) (inr (inl refl))) p k.held in
+        single p k.group g b.0 a.0 b.1 (more (happened.Asked p p.join g a.0) (subst (Has (happened.Asked p p.join g a.0)) (sym st.moment) a.1))
+
+    settled : Joined → list_any (puts_join p g) told.older ≡ true → passes p (k.stay).base (part p (k.last ∷ k.rest)) ≡ false → Says
+    settled q put apart =
+        by (cut_on p g told.newer (tells_it ∷ told.older) (subst Firsts told.moment firsts_then) (subst Entries told.moment (entries_after st.newer st.older (subst Entries st.moment entries))) (none_right (puts_join p g) st.newer told.newer none) (cut, refl))
+      where
+        none : list_any (puts_join p g) (st.newer ++ told.newer) ≡ false
+        none = none_later p g (st.newer ++ told.newer) (tells_it ∷ told.older) (subst Seen moment_told seen_now) (its_put p g (tells_it ∷ told.older) put)
+
+        later : list_any (puts_join p g) st.newer ≡ false
+        later = none_left (puts_join p g) st.newer told.newer none
+
+        cut : Cut p (stays p.node g told.older)
+        cut =
+            subst (Cut p) (sym (subst (λ h. stays p.node h told.older ≡ k.stay ∷ k.last ∷ k.rest) (same_group q) k.stays_so)) (apart, ap (list_any (is_join_of p)) k.empty)
+
+        by : CutOut p g (told.newer ++ tells_it ∷ told.older) ⊎ Out false p (stays p.node g (told.newer ++ tells_it ∷ told.older)) → Says
+        by (inl c) =
+            finish later (there_cut p st.stay st.rest (subst (Cut p) st.stays_so (subst (λ z. Cut p (stays p.node g z)) (sym told.moment) c.0)) st.holds)
+        by (inr o) = done false later (subst (λ z. Out false p (stays p.node g z)) (sym told.moment) o)
+
+    away_then : Aways told.older
+    away_then =
+        (aways_after told.newer (tells_it ∷ told.older) (subst Aways told.moment (aways_after st.newer st.older (subst Aways st.moment away)))).1
+
+    -- whoever is there in a base from elsewhere failed
+    from_elsewhere : FromElsewhere told.older p k.group k.stay k.last → among (present (k.stay).base) p ≡ true → among (k.stay).base.failed p ≡ true
+    from_elsewhere c there =
+        let base : Happened = happened.Base p.node (k.stay).view k.group c.from c.len (k.stay).base in
+        (aways_after c.newer (base ∷ c.older) (subst Aways c.moment away_then)).0 c.entered k.last c.rest c.stays_so c.apart p refl c.inc (among_is (present (k.stay).base) p there)
+
+    was_cut : Joined → Says
+    was_cut q = by (passes p (k.stay).base (part p (k.last ∷ k.rest))) refl k.cut
+      where
+        put : list_any (puts_join p g) told.older ≡ true
+        put =
+            let j = subst (λ h. (v : ViewId) × (i : ℕ) × (e : Entry) × Has (happened.Put p.node v h i e) told.older × (is_join_of p e ≡ true)) (same_group q) k.joined in
+            has_any (puts_join p g) told.older (happened.Put p.node j.0 g j.1 j.2) j.3 (λ z. eq-eqb p.node p.node refl z && (text_self g z && j.4 z))
+
+        by : (b : Bool) → passes p (k.stay).base (part p (k.last ∷ k.rest)) ≡ b → (among (present (k.stay).base) p ≡ false) ⊎ FromElsewhere told.older p k.group k.stay k.last → Says
+        by false z c = settled q put z
+        by true z (inl absent) =
+            absurd (let y : true ≡ false = sym (passes_there p (k.stay).base (part p (k.last ∷ k.rest)) z) ∙ absent in cc)
+        by true z (inr c) =
+            absurd (let y : true ≡ false = sym (from_elsewhere c (passes_there p (k.stay).base (part p (k.last ∷ k.rest)) z)) ∙ passes_unfailed p (k.stay).base (part p (k.last ∷ k.rest)) z in cc)
 
   module _ (off : TakenOff st.older p) where
     abbrev off_it : Happened
     off_it = happened.Put p.node off.view off.group off.place off.entry
 
-    firsts_off : Firsts (off.newer ++ off_it ∷ off.older)
-    firsts_off = subst Firsts off.moment firsts_then
+    abbrev off_heard : Happened
+    off_heard = happened.Heard p off.view off.group off.place off.entry off.members off.value
 
-    -- where it had a first place in that list, its join was put
-    its_join : (f : ℕ) → (part p (stays p.node off.group (off_it ∷ off.older))).first ≡ Some f → bytes_eq off.group g ≡ true → list_any (puts_join p g) st.older ≡ true
-    its_join f first same =
-        subst (λ h. list_any (puts_join p h) st.older ≡ true) (text_same off.group g same) (subst (λ z. list_any (puts_join p off.group) z ≡ true) (sym off.moment) (any_right (puts_join p off.group) off.newer (off_it ∷ off.older) (joined p off.group off.newer off.older off.view off.place off.entry f first (firsts_after off.newer (off_it ∷ off.older) firsts_off))))
+    abbrev off_newer : List Happened
+    off_newer = off.newer ++ off_heard ∷ off.between
 
-    taken : (later : list_any (puts_join p g) st.newer ≡ false) → Joined → Says
-    taken later q = by (bytes_eq off.group g) refl (part p (stays p.node off.group (off_it ∷ off.older))).first refl
-      where
-        gone : (f : ℕ) → (part p (stays p.node off.group (off_it ∷ off.older))).first ≡ Some f → Out true p (stays p.node off.group st.older)
-        gone f first =
-            subst (λ z. Out true p (stays p.node off.group z)) (sym off.moment) (gone_out p off.group off.newer off.older off.view off.place off.entry f first off.off firsts_off (subst Seen off.moment seen_then))
+    off_moment : st.older ≡ off_newer ++ off_it ∷ off.older
+    off_moment = off.moment ∙ sym (append_assoc off.newer (off_heard ∷ off.between) (off_it ∷ off.older))
 
-        by : (b : Bool) → bytes_eq off.group g ≡ b → (o : Option ℕ) → (part p (stays p.node off.group (off_it ∷ off.older))).first ≡ o → Says
-        by false e o first = unsettled q (inr (inr (off, inl e)))
-        by true e None first = unsettled q (inr (inr (off, inr first)))
-        by true e (Some f) first =
-            done true later (subst (λ h. Out true p (stays p.node h st.older)) (text_same off.group g e) (gone f first))
+    firsts_off : Firsts (off_newer ++ off_it ∷ off.older)
+    firsts_off = subst Firsts off_moment firsts_then
 
-    -- its join was not put yet
-    apart : list_any (puts_join p g) st.older ≡ false → OffApart st.older g p
-    apart q = by (bytes_eq off.group g) refl (part p (stays p.node off.group (off_it ∷ off.older))).first refl
-      where
-        by : (b : Bool) → bytes_eq off.group g ≡ b → (o : Option ℕ) → (part p (stays p.node off.group (off_it ∷ off.older))).first ≡ o → OffApart st.older g p
-        by false e o first = (off, inl e)
-        by true e None first = (off, inr first)
-        by true e (Some f) first = absurd (let z : true ≡ false = sym (its_join f first e) ∙ q in cc)
+    -- it had a first place there, since it heard the entry
+    first : (f : ℕ) × ((part p (stays p.node off.group (off_it ∷ off.older))).first ≡ Some f)
+    first =
+        let heard : InOrder (off.between ++ off_it ∷ off.older) off_heard = (ordered_after off.newer (off_heard ∷ (off.between ++ off_it ∷ off.older)) (subst Ordered off.moment order_then)).0 in
+        let f = first_of (heard_count p off.view off.group (off.between ++ off_it ∷ off.older)) off.place (part p (stays p.node off.group (off.between ++ off_it ∷ off.older))).first heard.0 in
+        (f.0, ap (λ xs. (part p xs).first) (sym off.still) ∙ f.1)
+
+    -- so its join was put
+    its_join : list_any (puts_join p off.group) st.older ≡ true
+    its_join =
+        ap (list_any (puts_join p off.group)) off_moment ∙ any_right (puts_join p off.group) off_newer (off_it ∷ off.older) (joined p off.group off_newer off.older off.view off.place off.entry first.0 first.1 (firsts_after off_newer (off_it ∷ off.older) firsts_off))
+
+    gone : Out true p (stays p.node off.group st.older)
+    gone =
+        subst (λ z. Out true p (stays p.node off.group z)) (sym off_moment) (gone_out p off.group off_newer off.older off.view off.place off.entry first.0 first.1 off.off firsts_off (subst Seen off_moment seen_then))
+
+    taken : Joined → Says
+    taken q =
+        let same : off.group ≡ g = joined_once off.group q (any_right (puts_join p off.group) st.newer st.older its_join) in
+        done true (none_later p g st.newer st.older seen_now (its_put p g st.older (subst (λ h. list_any (puts_join p h) st.older ≡ true) same its_join))) (subst (λ h. Out true p (stays p.node h st.older)) same gone)
 
   pub says : Says
-  says = by (list_any (puts_join p g) st.newer) refl (list_any (puts_join p g) st.older) refl st.over
+  says = by (list_any (puts_join p g) (st.newer ++ st.older)) refl st.over
     where
-      by : (a : Bool) → list_any (puts_join p g) st.newer ≡ a → (b : Bool) → list_any (puts_join p g) st.older ≡ b → (list_any (asks_join p) st.older ≡ false) ⊎ (WasTold st.older p ⊎ TakenOff st.older p) → Says
-      by true z true q over =
-          absurd (let k : true ≡ false = sym z ∙ none_later p g st.newer st.older seen_now (its_put p g st.older q) in cc)
-      by true z false q (inl never) = unsettled (any_left (puts_join p g) st.newer st.older z) (inl never)
-      by true z false q (inr (inl told)) = unsettled (any_left (puts_join p g) st.newer st.older z) (inr (inl told))
-      by true z false q (inr (inr off)) = unsettled (any_left (puts_join p g) st.newer st.older z) (inr (inr (apart off q)))
-      by false z false q over = done false z (unput_out p g st.older firsts_then q)
-      by false z true q (inl never) =
-          absurd (let k : true ≡ false = sym (asked_there p g st.older seen_then q) ∙ never in cc)
-      by false z true q (inr (inl told)) = unsettled (any_right (puts_join p g) st.newer st.older q) (inr (inl told))
-      by false z true q (inr (inr off)) = taken off z (any_right (puts_join p g) st.newer st.older q)
+      was_told : Joined → (told : WasTold st.older p) → IsRefused told.older p told.number ⊎ ((is_dissolved told.why ≡ true) × IsCut told.older p) → Says
+      was_told q told (inl k) = refused told k
+      was_told q told (inr k) = was_cut told k.1 q
+
+      by : (b : Bool) → list_any (puts_join p g) (st.newer ++ st.older) ≡ b → WasTold st.older p ⊎ TakenOff st.older p → Says
+      by false q over = never_put q
+      by true q (inl told) = was_told q told told.ends
+      by true q (inr off) = taken off q
 
 pub over_did_not_pass : WhoIsOverDidNotPass
 over_did_not_pass c w k v g p st =
-    says (records_of w.before) v g p (traces_seen c w k) (firsts_of w.before (bases_come_first c w k)) st
+    says (records_of w.before) v g p (traces_seen c w k) (firsts_of w.before (bases_come_first c w k)) (ordered_of w.before (heard_in_order c w k)) (entries_of w.before (bases_follow c w k)) (aways_of w.before (bases_away c w k)) (records_of w.before) (λ r h. h) (joined_in_one c w k) (held_asked c w k) st

@@ -1,5 +1,9 @@
-pub mod Grows
 pub mod Ended
+pub mod Records
 pub mod Bases
+pub mod Elsewhere
+pub mod Cut
+pub mod Held
 pub mod Law
 pub mod Causes
+pub mod Renamed

@@ -9,12 +9,12 @@ use Rattle.run_safety.specs.Past.{History, records_of, earlier, EachEvent}
 use Rattle.step_ties.specs.Tied.{Scene}
 use Rattle.failed_rows.specs.Failures.{SaidGoodbye, EntryFails, IsFirst, Since, state_held}
 use Rattle.failed_rows.specs.Scenes.{Played}
-use Rattle.failed_causes.specs.Passed.{DidNotPass, JoinedAndOver}
+use Rattle.failed_causes.specs.Passed.{DidNotPass}
 
--- its own client said goodbye, or it did not pass into the view, or its join was put though it was over
+-- its own client said goodbye, or it did not pass into the view
 abbrev pub ExactCause : History → ViewId → List ℕ → ProviderId → Type 0
 ExactCause before v g p =
-    SaidGoodbye before p ⊎ (DidNotPass (records_of before) v g p ⊎ JoinedAndOver (records_of before) g p)
+    SaidGoodbye before p ⊎ DidNotPass (records_of before) v g p
 
 -- who puts a place first has these causes, in its state before it
 abbrev pub PutHasCause : List Happened → History → Happened → Type 0

@@ -1,20 +1,22 @@
 -- Who is gone without a goodbye: it stands in the base of the view, and did not pass into it.
-use Rattle.std.specs.Prelude.{◌≡◌, ◌⊎◌, ℕ, ◌==◌, ◌&&◌, Bool, true, false, List, [], ◌∷◌, ◌++◌, None}
+use Rattle.std.specs.Prelude.{◌≡◌, ℕ, ◌==◌, ◌&&◌, Bool, true, false, List, [], ◌∷◌, ◌++◌}
 use Rattle.std.specs.List.{list_any}
 use Rattle.std.specs.Str.{bytes_eq}
 use Rattle.rsct_packet.specs.declared.ids.ViewId.{ViewId}
 use Rattle.rsct_packet.specs.declared.ids.ProviderId.{ProviderId}
+use Rattle.rsct_packet.specs.Ids.{same_view}
 use Rattle.rsct_packet.specs.Providers.{among}
+use Rattle.rsct_packet.specs.Search.{Has}
 use Rattle.group_entry.specs.declared.entry.Entry.{Entry}
 use Rattle.proposal_core.specs.Fold.{present}
 use Rattle.node_state.specs.declared.config.Config.{Config}
 use Rattle.node_state.specs.declared.happened.Happened.{Happened}
 use Rattle.node_state.specs.declared.happened.Happened.TheVariants.{Base, Put}
-use Rattle.run_safety.specs.Past.{records_of, earlier, EachRecord}
-use Rattle.run_safety.specs.Stays.{Stay, stays, is_join_of, asks_join, part, passes}
+use Rattle.run_safety.specs.Past.{records_of, earlier, inc_now, EachRecord}
+use Rattle.run_safety.specs.Stays.{Stay, stays, is_join_of, part, passes}
 use Rattle.step_ties.specs.Tied.{Scene}
 use Rattle.step_ties.specs.Runs.{Reached}
-use Rattle.failed_rows.specs.Failures.{WasTold, TakenOff, StoodThere}
+use Rattle.failed_rows.specs.Failures.{StoodThere}
 
 -- the provider's own node puts an entry of the group that names it in a join
 abbrev pub puts_join : ProviderId → List ℕ → Happened → Bool
@@ -37,24 +39,10 @@ pub record DidNotPass (rs : List Happened) (v : ViewId) (g : List ℕ) (p : Prov
   pub unnamed : list_any (is_join_of p) stay.entries ≡ false
   pub later : list_any (puts_join p g) newer ≡ false
 
--- it was taken off a list of another group, or one in which it had no first place: it did not take part there
-abbrev pub OffApart : List Happened → List ℕ → ProviderId → Type 0
-OffApart rs g p =
-    (off : TakenOff rs p) × ((bytes_eq off.group g ≡ false) ⊎ ((part p (stays p.node off.group (Put p.node off.view off.group off.place off.entry ∷ off.older))).first ≡ None))
-
--- Its node put its join, and at that moment it was over only since it was not asked for there yet, or by a telling, or since it was
--- taken off where it did not take part.
-pub record JoinedAndOver (rs : List Happened) (g : List ℕ) (p : ProviderId) : Type 0 where
-  pub newer : List Happened
-  pub older : List Happened
-  pub moment : rs ≡ newer ++ older
-  pub joined : list_any (puts_join p g) rs ≡ true
-  pub why : (list_any (asks_join p) older ≡ false) ⊎ (WasTold older p ⊎ OffApart older g p)
-
--- whatever starts, stops and steps: who stood there although it was over did not pass, or its join was put all the same
+-- whatever starts, stops and steps: who stood there although it was over did not pass
 abbrev pub WhoIsOverDidNotPass : Type 0
 WhoIsOverDidNotPass =
-    (c : Config) (w : Scene) → Reached c w → (v : ViewId) (g : List ℕ) (p : ProviderId) → StoodThere (records_of w.before) v g p → DidNotPass (records_of w.before) v g p ⊎ JoinedAndOver (records_of w.before) g p
+    (c : Config) (w : Scene) → Reached c w → (v : ViewId) (g : List ℕ) (p : ProviderId) → StoodThere (records_of w.before) v g p → DidNotPass (records_of w.before) v g p
 
 -- ---- bases come first
 
@@ -69,3 +57,15 @@ BaseFirst rs _ = Unit {0}
 
 abbrev pub BasesComeFirst : Type 0
 BasesComeFirst = (c : Config) (w : Scene) → Reached c w → EachRecord (λ now before r. BaseFirst (earlier now before) r) w.before
+
+-- ---- bases from elsewhere
+
+-- where a node notes a base from another view than the one that it was in before, whoever is there of the node, in its incarnation,
+-- is on the base's failed list
+abbrev pub ElsewhereFails : List Happened → Happened → Type 0
+ElsewhereFails rs (Base n v g u len s) =
+    (x last : Stay) (older : List Stay) → stays n g rs ≡ x ∷ last ∷ older → same_view u last.view ≡ false → (p : ProviderId) → p.node ≡ n → inc_now n rs ≡ p.inc → Has p (present s) → among s.failed p ≡ true
+ElsewhereFails rs _ = Unit {0}
+
+abbrev pub BasesFromElsewhereFail : Type 0
+BasesFromElsewhereFail = (c : Config) (w : Scene) → Reached c w → EachRecord (λ now before r. ElsewhereFails (earlier now before) r) w.before

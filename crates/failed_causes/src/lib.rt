@@ -2,7 +2,7 @@
 #![tactic(auto)]
 
 ghost use Rattle.failed_causes.specs.Causes.{FailuresAreExact};
-ghost use Rattle.failed_causes.specs.Passed.{WhoIsOverDidNotPass, BasesComeFirst};
+ghost use Rattle.failed_causes.specs.Passed.{WhoIsOverDidNotPass, BasesComeFirst, BasesFromElsewhereFail};
 
 /// Whatever starts, stops and steps, in any order: where a node notes a base, it put nothing of that group since it entered the
 /// view.
@@ -11,17 +11,22 @@ pub fn bases_come_first()
     ensures { BasesComeFirst }
 {}
 
+/// And where the base comes from another view than the node, whoever is there of the node, in its incarnation, is on the base's failed
+/// list.
+#[tactic(auto, using(crate::proofs::Elsewhere::bases_away))]
+pub fn bases_from_elsewhere_fail()
+    ensures { BasesFromElsewhereFail }
+{}
+
 /// Whoever its own node held in a view although it was over is of the base there, did not pass into the view, and is named by no
-/// join that the node put there; unless its node put its join, and it was over only since it was not asked for yet, or by a
-/// telling, or since it was taken off a list in which it did not take part.
+/// join that the node put there.
 #[tactic(auto, using(crate::proofs::Law::over_did_not_pass))]
 pub fn who_is_over_did_not_pass()
     ensures { WhoIsOverDidNotPass }
 {}
 
 /// So where a place of a list is put first, each default row of who failed and each failure leave has its cause: the provider is on
-/// the failed list, or its own client said goodbye, or it did not pass into the view; or its join was put though it was over, as
-/// above.
+/// the failed list, or its own client said goodbye, or it did not pass into the view.
 #[tactic(auto, using(crate::proofs::Causes::failures_are_exact))]
 pub fn failures_are_exact()
     ensures { FailuresAreExact }

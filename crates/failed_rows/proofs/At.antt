@@ -26,15 +26,16 @@ use Rattle.node_state.specs.declared.packet.Packet.{Packet}
 use Rattle.node_state.specs.declared.state.Core.{Core}
 use Rattle.node_state.specs.State.{row_of, with_row, is_this, leader_by, recorded, recorded_all, with_sessions}
 use Rattle.node_state.specs.Sending.{packet_on, sent_on, sent, network_to}
-use Rattle.run_safety.specs.Past.{History, records_of}
+use Rattle.run_safety.specs.Past.{History, records_of, inc_now}
 use Rattle.run_safety.specs.Stays.{Stay, stays, stays_after, asks_join, is_refused}
 use Rattle.node_groups.specs.Places.{InNameOrder}
 use Rattle.node_groups.proofs.NameOrder.{KeepsName, cases_text, row_here, row_there, rows_ordered}
+use Rattle.hearing.proofs.Sessions.{fewer_told}
 use Rattle.honest_votes.proofs.At.{found, leads_row}
-use Rattle.failed_rows.specs.Failures.{WasTold, GoneCause, EachPut}
+use Rattle.failed_rows.specs.Failures.{IsRefused, IsCut, WasTold, GoneCause, EachPut}
 use Rattle.step_ties.proofs.SessionLaws.{provider_same}
 use Rattle.failed_rows.proofs.Living.{IsLive, told_lives, told_slim}
-use Rattle.failed_rows.proofs.Facts.{TallyIs, QueueIs, Track, BasesFit, Quiet, quiet_stays, quiet_puts, quiet_accepted, Of, quiet_of, BodyFails, body_on, quiet_unasked, Lives, lives_on, OwnFor, own_pushed}
+use Rattle.failed_rows.proofs.Facts.{Whys, Takers, takers_pushed, TallyIs, QueueIs, Track, BasesFit, Quiet, quiet_stays, quiet_puts, quiet_accepted, Stepped, quiet_of, BodyFails, body_on, quiet_unasked, Lives, lives_on, OwnFor, own_pushed}
 use Rattle.failed_rows.proofs.Origin.{Origin, SlimIf, slim_self, slim_more, slim_on, slim_free}
 
 -- ---- the node
@@ -44,12 +45,13 @@ use Rattle.failed_rows.proofs.Origin.{Origin, SlimIf, slim_self, slim_more, slim
 -- those of which failures wait
 pub record At (h : History) (said : ProviderId → Type 0) (origin : Origin) (P L M : Type 0) (T G Q : List ℕ → Type 0) (s : Core) : Type 0 where
   pub inc : s.views.inc ≡ origin.born
+  pub counted : inc_now s.views.me (records_of h) ≡ origin.born
   pub own : OwnFor h said origin.born s.sessions s
   pub slim : SlimIf origin.root s.sessions s.records
   pub sends : (p : Packet) → Has p s.sends → BodyFails said (reverse s.records ++ records_of h) p.body
   pub puts : P → BasesFit s.records → EachPut (reverse s.records) h
   pub accepted : M → (r : Happened) → Has r s.records → is_refused r ≡ false
-  pub whose : (r : Happened) → Has r s.records → Of s.views.me r
+  pub whose : (r : Happened) → Has r s.records → Stepped s.views.me r
   pub order : InNameOrder s.groups
   pub tracks : L → (g : List ℕ) → Track (stays s.views.me g (reverse s.records ++ records_of h)) s.views.view (len_in (found s g).list) (state_in (found s g).list)
   pub marks : L → (g : List ℕ) (p : ProviderId) → among (found s g).led.gone p ≡ true → GoneCause h s.views.view g p
@@ -57,11 +59,13 @@ pub record At (h : History) (said : ProviderId → Type 0) (origin : Origin) (P 
   pub queues : BasesFit s.records → (g : List ℕ) → Q g → QueueIs (GoneCause h s.views.view g) (leads_row s (found s g)) (found s g).led.waiting.failures (state_in (found s g).list)
   pub apart : L → BasesFit s.records → (g : List ℕ) → joiners_fit (state_in (found s g).list) ≡ true
   pub led : (g : List ℕ) → G g → leads_row s (found s g) ≡ true
+  pub whys : (g : List ℕ) → Whys (found s g).led
+  pub takers : Takers s.views.me s.sessions (reverse s.records ++ records_of h)
 
 -- from here on a step is measured
 pub at_rooted : (h : History) (said : ProviderId → Type 0) (born : ℕ) (o : Option Core) (P L M : Type 0) (T G Q : List ℕ → Type 0) (s : Core) → At h said (record { born = born; root = o }) P L M T G Q s → At h said (record { born = born; root = Some s }) P L M T G Q s
 at_rooted h said born o P L M T G Q s a =
-    record { inc = a.inc; own = a.own; slim = slim_self s; sends = a.sends; puts = a.puts; accepted = a.accepted; whose = a.whose; order = a.order; tracks = a.tracks; marks = a.marks; tallies = a.tallies; queues = a.queues; apart = a.apart; led = a.led }
+    record { inc = a.inc; counted = a.counted; own = a.own; slim = slim_self s; sends = a.sends; puts = a.puts; accepted = a.accepted; whose = a.whose; order = a.order; tracks = a.tracks; marks = a.marks; tallies = a.tallies; queues = a.queues; apart = a.apart; led = a.led; whys = a.whys; takers = a.takers }
 
 module _ (h : History) (said : ProviderId → Type 0) (origin : Origin) (P L M : Type 0) where
   -- other groups
@@ -69,6 +73,7 @@ module _ (h : History) (said : ProviderId → Type 0) (origin : Origin) (P L M :
   at_for T G Q U V W s less led fewer a =
       record {
         inc = a.inc;
+        counted = a.counted;
         own = a.own;
         slim = a.slim;
         sends = a.sends;
@@ -82,6 +87,8 @@ module _ (h : History) (said : ProviderId → Type 0) (origin : Origin) (P L M :
         queues = λ fit g q. a.queues fit g (fewer g q);
         apart = a.apart;
         led = led;
+        whys = a.whys;
+        takers = a.takers;
       }
 
   module _ (T G Q : List ℕ → Type 0) where
@@ -94,6 +101,7 @@ module _ (h : History) (said : ProviderId → Type 0) (origin : Origin) (P L M :
     at_sent_on s network to b ok a =
         record {
           inc = a.inc;
+          counted = a.counted;
           own = a.own;
           slim = a.slim;
           sends = λ p i. by p (has_append p s.sends (packet_on s network to b ∷ []) i);
@@ -107,6 +115,8 @@ module _ (h : History) (said : ProviderId → Type 0) (origin : Origin) (P L M :
           queues = a.queues;
           apart = a.apart;
           led = a.led;
+          whys = a.whys;
+          takers = a.takers;
         }
       where
         by : (p : Packet) → Has p s.sends ⊎ Has p (packet_on s network to b ∷ []) → BodyFails said (reverse s.records ++ records_of h) p.body
@@ -119,11 +129,12 @@ module _ (h : History) (said : ProviderId → Type 0) (origin : Origin) (P L M :
     at_sent s to b ok a = at_sent_on s (network_to s to) to b ok a
 
     -- a record of no view and no list
-    at_record : (s : Core) (r : Happened) → SlimIf origin.root s.sessions (s.records ++ r ∷ []) → ((g : List ℕ) (xs : List Stay) → stays_after s.views.me g r xs ≡ xs) → ((now : List Happened) → EachPut now h → EachPut (r ∷ now) h) → (M → is_refused r ≡ false) → Of s.views.me r → OwnFor h said origin.born s.sessions (record s { records = s.records ++ r ∷ [] }) → At h said origin P L M T G Q s → At h said origin P L M T G Q (recorded s r)
+    at_record : (s : Core) (r : Happened) → SlimIf origin.root s.sessions (s.records ++ r ∷ []) → ((g : List ℕ) (xs : List Stay) → stays_after s.views.me g r xs ≡ xs) → ((now : List Happened) → EachPut now h → EachPut (r ∷ now) h) → (M → is_refused r ≡ false) → Stepped s.views.me r → OwnFor h said origin.born s.sessions (record s { records = s.records ++ r ∷ [] }) → At h said origin P L M T G Q s → At h said origin P L M T G Q (recorded s r)
     unfolding recorded
     at_record s r slim still puts ok of own a =
         record {
           inc = a.inc;
+          counted = a.counted;
           own = own;
           slim = slim;
           sends = λ p i. subst (λ z. BodyFails said (z ++ records_of h) p.body) (sym turned) (body_on said (r ∷ []) (reverse s.records ++ records_of h) p.body (a.sends p i));
@@ -137,6 +148,8 @@ module _ (h : History) (said : ProviderId → Type 0) (origin : Origin) (P L M :
           queues = λ fit. a.queues (λ x i. fit x (append_has_left x s.records (r ∷ []) i));
           apart = λ l fit. a.apart l (λ x i. fit x (append_has_left x s.records (r ∷ []) i));
           led = a.led;
+          whys = a.whys;
+          takers = takers_pushed h s.views.me s.sessions s.records (r ∷ []) a.takers;
         }
       where
         turned : reverse (s.records ++ r ∷ []) ≡ r ∷ reverse s.records
@@ -147,9 +160,9 @@ module _ (h : History) (said : ProviderId → Type 0) (origin : Origin) (P L M :
         one m x (inr (inl e)) = ap is_refused e ∙ ok m
         one m x (inr (inr z)) = absurd z
 
-        mine : (x : Happened) → Has x s.records ⊎ Has x (r ∷ []) → Of s.views.me x
+        mine : (x : Happened) → Has x s.records ⊎ Has x (r ∷ []) → Stepped s.views.me x
         mine x (inl i) = a.whose x i
-        mine x (inr (inl e)) = subst (Of s.views.me) (sym e) of
+        mine x (inr (inl e)) = subst (Stepped s.views.me) (sym e) of
         mine x (inr (inr z)) = absurd z
 
     pub at_recorded : (s : Core) (r : Happened) → Quiet r → At h said origin P L M T G Q s → At h said origin P L M T G Q (recorded s r)
@@ -193,15 +206,15 @@ module _ (h : History) (said : ProviderId → Type 0) (origin : Origin) (P L M :
     at_recorded_all (r ∷ rs) s none a =
         subst (λ l. At h said origin P L M T G Q (record s { records = l })) (append_assoc s.records (r ∷ []) rs) (at_recorded_all rs (recorded s r) (λ x i. none x (inr i)) (at_recorded s r (none r (inl refl)) a))
 
-    pub at_sessions : (s : Core) (t : SessionState) → SlimIf origin.root t s.records → OwnFor h said origin.born t s → At h said origin P L M T G Q s → At h said origin P L M T G Q (with_sessions s t)
+    pub at_sessions : (s : Core) (t : SessionState) → SlimIf origin.root t s.records → OwnFor h said origin.born t s → Takers s.views.me t (reverse s.records ++ records_of h) → At h said origin P L M T G Q s → At h said origin P L M T G Q (with_sessions s t)
     unfolding with_sessions
-    at_sessions s t slim own a =
-        record { inc = a.inc; own = own; slim = slim; sends = a.sends; puts = a.puts; accepted = a.accepted; whose = a.whose; order = a.order; tracks = a.tracks; marks = a.marks; tallies = a.tallies; queues = a.queues; apart = a.apart; led = a.led }
+    at_sessions s t slim own takers a =
+        record { inc = a.inc; counted = a.counted; own = own; slim = slim; sends = a.sends; puts = a.puts; accepted = a.accepted; whose = a.whose; order = a.order; tracks = a.tracks; marks = a.marks; tallies = a.tallies; queues = a.queues; apart = a.apart; led = a.led; whys = a.whys; takers = takers }
 
     -- a provider is told, and may be dropped
-    pub at_told : (s : Core) (p : ProviderId) (r : ℕ) (y : Why) → ((is_join_request (outstanding s.sessions p) ≡ true) ⊎ (is_dissolved y ≡ true) → (r ≡ p.join) ⊎ (is_dissolved y ≡ true)) → At h said origin P L M T G Q s → At h said origin P L M T G Q (recorded (with_sessions s (telling_taken s.sessions p r y)) (happened.Told p r y))
+    pub at_told : (s : Core) (p : ProviderId) (r : ℕ) (y : Why) → (p.node ≡ s.views.me → p.inc ≡ origin.born → (is_join_request (outstanding s.sessions p) ≡ true) ⊎ (is_dissolved y ≡ true) → IsRefused (reverse s.records ++ records_of h) p r ⊎ ((is_dissolved y ≡ true) × IsCut (reverse s.records ++ records_of h) p)) → At h said origin P L M T G Q s → At h said origin P L M T G Q (recorded (with_sessions s (telling_taken s.sessions p r y)) (happened.Told p r y))
     unfolding recorded with_sessions
-    at_told s p r y ends a = at_sessions (recorded s told) (telling_taken s.sessions p r y) (slim_on origin.root s.sessions (telling_taken s.sessions p r y) (s.records ++ told ∷ []) (told_slim s.sessions p r y) (at_recorded s told tt a).slim) own (at_recorded s told tt a)
+    at_told s p r y ends a = at_sessions (recorded s told) (telling_taken s.sessions p r y) (slim_on origin.root s.sessions (telling_taken s.sessions p r y) (s.records ++ told ∷ []) (told_slim s.sessions p r y) (at_recorded s told tt a).slim) own (λ q x e part. (at_recorded s told tt a).takers q x ((fewer_told s.sessions p r y).providers q x e) part) (at_recorded s told tt a)
       where
         told : Happened
         told = happened.Told p r y
@@ -212,12 +225,12 @@ module _ (h : History) (said : ProviderId → Type 0) (origin : Origin) (P L M :
         own : OwnFor h said origin.born (telling_taken s.sessions p r y) (record s { records = s.records ++ told ∷ [] })
         own q at inc asked = by ((at_recorded s told tt a).own q at inc asked)
           where
-            was_told : q ≡ p → (r ≡ p.join) ⊎ (is_dissolved y ≡ true) → WasTold (told ∷ (reverse s.records ++ records_of h)) q
-            was_told e k = subst (WasTold (told ∷ (reverse s.records ++ records_of h))) (sym e) (record { number = r; why = y; told = inl refl; ends = k })
+            was_told : q ≡ p → IsRefused (reverse s.records ++ records_of h) p r ⊎ ((is_dissolved y ≡ true) × IsCut (reverse s.records ++ records_of h) p) → WasTold (told ∷ (reverse s.records ++ records_of h)) q
+            was_told e k = subst (WasTold (told ∷ (reverse s.records ++ records_of h))) (sym e) (record { number = r; why = y; newer = []; older = reverse s.records ++ records_of h; moment = refl; ends = k })
 
             live : IsLive (telling_taken s.sessions p r y) q ⊎ ((q ≡ p) × ((is_join_request (outstanding s.sessions p) ≡ true) ⊎ (is_dissolved y ≡ true))) → Lives said (telling_taken s.sessions p r y) (reverse (s.records ++ told ∷ []) ++ records_of h) q
             live (inl k) = inl k
-            live (inr k) = inr (inr (inl (subst (λ z. WasTold (z ++ records_of h) q) (sym turned) (was_told k.0 (ends k.1)))))
+            live (inr k) = inr (inr (inl (subst (λ z. WasTold (z ++ records_of h) q) (sym turned) (was_told k.0 (ends (ap (λ (z : ProviderId). z.node) (sym k.0) ∙ at) (ap (λ (z : ProviderId). z.inc) (sym k.0) ∙ inc) k.1)))))
 
             by : Lives said s.sessions (reverse (s.records ++ told ∷ []) ++ records_of h) q → Lives said (telling_taken s.sessions p r y) (reverse (s.records ++ told ∷ []) ++ records_of h) q
             by (inl k) = live (told_lives s.sessions p r y q k)
@@ -227,12 +240,13 @@ module _ (h : History) (said : ProviderId → Type 0) (origin : Origin) (P L M :
     at_views s v me at inc a =
         record {
           inc = inc ∙ a.inc;
+          counted = ap (λ m. inc_now m (records_of h)) me ∙ a.counted;
           own = λ p node. a.own p (node ∙ me);
           slim = a.slim;
           sends = a.sends;
           puts = a.puts;
           accepted = a.accepted;
-          whose = λ r i. subst (λ z. Of z r) (sym me) (a.whose r i);
+          whose = λ r i. subst (λ z. Stepped z r) (sym me) (a.whose r i);
           order = a.order;
           tracks = λ l g. subst (λ (z : ℕ × ViewId). Track (stays z.0 g (reverse s.records ++ records_of h)) z.1 (len_in (found s g).list) (state_in (found s g).list)) (λ i. (sym me i, sym at i)) (a.tracks l g);
           marks = λ l g p i. subst (λ z. GoneCause h z g p) (sym at) (a.marks l g p i);
@@ -240,6 +254,8 @@ module _ (h : History) (said : ProviderId → Type 0) (origin : Origin) (P L M :
           queues = λ fit g q. subst (λ (z : ViewId × Bool). QueueIs (GoneCause h z.0 g) z.1 (found s g).led.waiting.failures (state_in (found s g).list)) (λ i. (sym at i, same g i)) (a.queues fit g q);
           apart = a.apart;
           led = λ g t. sym (same g) ∙ a.led g t;
+          whys = a.whys;
+          takers = subst (λ m. Takers m s.sessions (reverse s.records ++ records_of h)) (sym me) a.takers;
         }
       where
         same : (g : List ℕ) → leads_row s (found s g) ≡ leads_row (record s { views = v }) (found s g)
@@ -247,11 +263,12 @@ module _ (h : History) (said : ProviderId → Type 0) (origin : Origin) (P L M :
 
     -- a row changes, and its list shows the same state
     module _ (U W : List ℕ → Type 0) where
-      pub at_row_for : (s : Core) (g : List ℕ) (f : GroupRow → GroupRow) → KeepsName f → ((x : GroupRow) → (f x).leader ≡ x.leader) → ((x : GroupRow) → len_in (f x).list ≡ len_in x.list) → ((x : GroupRow) → state_in (f x).list ≡ state_in x.list) → (L → (p : ProviderId) → among (f (found s g)).led.gone p ≡ true → GoneCause h s.views.view g p) → ((k : List ℕ) → U k → (g ≡ k → ⊥) → T k) → ((k : List ℕ) → W k → (g ≡ k → ⊥) → Q k) → (U g → TallyIs (GoneCause h s.views.view g) (leads_row s (found s g)) (f (found s g)).led.tally (state_in (found s g).list)) → (BasesFit s.records → W g → QueueIs (GoneCause h s.views.view g) (leads_row s (found s g)) (f (found s g)).led.waiting.failures (state_in (found s g).list)) → At h said origin P L M T G Q s → At h said origin P L M U G W (with_row s g f)
+      pub at_row_for : (s : Core) (g : List ℕ) (f : GroupRow → GroupRow) → KeepsName f → ((x : GroupRow) → (f x).leader ≡ x.leader) → ((x : GroupRow) → len_in (f x).list ≡ len_in x.list) → ((x : GroupRow) → state_in (f x).list ≡ state_in x.list) → ((x : GroupRow) → Whys x.led → Whys (f x).led) → (L → (p : ProviderId) → among (f (found s g)).led.gone p ≡ true → GoneCause h s.views.view g p) → ((k : List ℕ) → U k → (g ≡ k → ⊥) → T k) → ((k : List ℕ) → W k → (g ≡ k → ⊥) → Q k) → (U g → TallyIs (GoneCause h s.views.view g) (leads_row s (found s g)) (f (found s g)).led.tally (state_in (found s g).list)) → (BasesFit s.records → W g → QueueIs (GoneCause h s.views.view g) (leads_row s (found s g)) (f (found s g)).led.waiting.failures (state_in (found s g).list)) → At h said origin P L M T G Q s → At h said origin P L M U G W (with_row s g f)
       unfolding with_row row_of
-      at_row_for s g f keeps leader lens states gone others rest tally queue a =
+      at_row_for s g f keeps leader lens states kept gone others rest tally queue a =
           record {
             inc = a.inc;
+            counted = a.counted;
             own = a.own;
             slim = a.slim;
             sends = a.sends;
@@ -265,6 +282,8 @@ module _ (h : History) (said : ProviderId → Type 0) (origin : Origin) (P L M :
             queues = λ fit k w. waiting fit k w (cases_text g k);
             apart = λ l fit k. fits l fit k (cases_text g k);
             led = λ k i. leads k i (cases_text g k);
+            whys = λ k. why k (cases_text g k);
+            takers = a.takers;
           }
         where
           here : found (with_row s g f) g ≡ f (found s g)
@@ -272,6 +291,10 @@ module _ (h : History) (said : ProviderId → Type 0) (origin : Origin) (P L M :
 
           there : (k : List ℕ) → (g ≡ k → ⊥) → found (with_row s g f) k ≡ found s k
           there k ne = row_there g f keeps s k ne
+
+          why : (k : List ℕ) → (g ≡ k) ⊎ (g ≡ k → ⊥) → Whys (found (with_row s g f) k).led
+          why k (inr ne) = subst (λ (z : GroupRow). Whys z.led) (sym (there k ne)) (a.whys k)
+          why k (inl e) = subst (λ z. Whys (found (with_row s g f) z).led) e (subst (λ (z : GroupRow). Whys z.led) (sym here) (kept (found s g) (a.whys g)))
 
           lead : leads_row s (f (found s g)) ≡ leads_row s (found s g)
           lead = ap (λ o. is_this s.views.me (leader_by s.config.mode s.views.view.coord o)) (leader (found s g))

@@ -1,13 +1,16 @@
 -- Records of a view that is entered, and of its bases.
-use Rattle.std.proofs.Common.{◌≡◌, ℕ, List, [], ◌∷◌, ◌++◌, Option, Some, None, Bool, true, false, refl, sym, ap, ◌∙◌, subst, append_assoc, append-nil}
-use Rattle.std.specs.Prelude.{map, find, reverse, ◌&&◌, if◌then◌else◌}
+use Rattle.std.proofs.Common.{◌≡◌, ℕ, List, [], ◌∷◌, ◌++◌, Option, Some, None, Bool, true, false, refl, sym, ap, ◌∙◌, subst, inl, inr, append_assoc, append-nil}
+use Rattle.std.specs.Prelude.{map, find, reverse, cond, ◌&&◌, if◌then◌else◌}
 use Rattle.std.specs.Str.{bytes_eq}
 use Rattle.std.specs.Option.{option_map}
 use Rattle.std.proofs.lemmas.Bool.{eq-eqb}
 use Rattle.std.proofs.lemmas.List.{reverse-append}
 use Rattle.rsct_packet.specs.declared.ids.ViewId.{ViewId}
 use Rattle.rsct_packet.specs.declared.ids.Member.{Member}
+use Rattle.rsct_packet.specs.Text.{name_lt}
+use Rattle.rsct_packet.specs.Search.{Has}
 use Rattle.proposal_core.specs.Fold.{empty_state}
+use Rattle.proposal_core.specs.declared.group_state.GroupState.{GroupState}
 use Rattle.proposal_core.specs.Lists.{len_in, state_in}
 use Rattle.view_exchange.specs.declared.install.Base.{Base}
 use Rattle.view_exchange.specs.Bases.{base_named}
@@ -19,7 +22,7 @@ use Rattle.node_state.specs.Applying.{base_row}
 use Rattle.run_safety.specs.Past.{History}
 use Rattle.run_safety.specs.Stays.{Stay, stays, with_base}
 use Rattle.node_groups.specs.Places.{has_name, AllAfter, InNameOrder}
-use Rattle.node_groups.proofs.NameOrder.{none_after, text_same}
+use Rattle.node_groups.proofs.NameOrder.{none_after, text_same, text_self, lt_self}
 use Rattle.step_ties.proofs.BaseOrder.{row_of_base, base_noted}
 use Rattle.failed_rows.specs.Failures.{EachPut}
 use Rattle.failed_rows.proofs.Facts.{Track}
@@ -56,6 +59,22 @@ bases_stay n v g (b ∷ bs) acc rest o =
     by true e = ap (λ z. from_base z (with_base b.state old)) (none_named g bs (subst (λ z. AllAfter z (map base_row bs)) (text_same b.name g e) o.0))
     by false e = refl
 
+-- the stay of a view that is entered, with its base
+abbrev pub base_is : Option Base → GroupState
+base_is None = empty_state
+base_is (Some b) = b.state
+
+abbrev pub new_stay : ViewId → GroupState → Stay
+new_stay v s = record { view = v; base = s; entries = [] }
+
+pub bases_entered : (n : ℕ) (v : ViewId) (ms : List Member) (g : List ℕ) (bs : List Base) (acc rest : List Happened) → InNameOrder (map base_row bs) → stays n g (reverse ((acc ++ happened.In n v ms ∷ []) ++ map (base_noted n v) bs) ++ rest) ≡ new_stay v (base_is (base_named bs g)) ∷ stays n g (reverse acc ++ rest)
+bases_entered n v ms g bs acc rest o =
+    bases_stay n v g bs (acc ++ happened.In n v ms ∷ []) rest o ∙ ap (λ z. from_base (base_named bs g) (stays n g (z ++ rest))) (reverse-append acc (happened.In n v ms ∷ [])) ∙ ap (λ z. from_base (base_named bs g) (if z then new_stay v empty_state ∷ stays n g (reverse acc ++ rest) else stays n g (reverse acc ++ rest))) (eq-eqb n n refl) ∙ by (base_named bs g)
+  where
+    by : (b : Option Base) → from_base b (new_stay v empty_state ∷ stays n g (reverse acc ++ rest)) ≡ new_stay v (base_is b) ∷ stays n g (reverse acc ++ rest)
+    by None = refl
+    by (Some b) = refl
+
 -- the list of a view that is entered is its base
 pub bases_track : (n : ℕ) (v : ViewId) (ms : List Member) (g : List ℕ) (bs : List Base) (acc rest : List Happened) → InNameOrder (map base_row bs) → Track (stays n g (reverse ((acc ++ happened.In n v ms ∷ []) ++ map (base_noted n v) bs) ++ rest)) v (len_in (row_found g (find (has_name g) (map base_row bs))).list) (state_in (row_found g (find (has_name g) (map base_row bs))).list)
 unfolding base_row
@@ -75,3 +94,23 @@ bases_track n v ms g bs acc rest o =
     by : (b : Option Base) → Track (from_base b (fresh ∷ older)) v (len_in (row_found g (option_map base_row b)).list) (state_in (row_found g (option_map base_row b)).list)
     by None = record { stay = fresh; older = older; is = refl; view = refl; len_is = refl; state = refl }
     by (Some b) = record { stay = record { view = v; base = b.state; entries = [] }; older = older; is = refl; view = refl; len_is = refl; state = refl }
+
+-- a row is found by its name
+name_later : (h : List ℕ) (rows : List GroupRow) (row : GroupRow) → AllAfter h rows → Has row rows → name_lt h row.name ≡ true
+name_later h [] row a i = absurd i
+name_later h (x ∷ rows) row a (inl e) = ap (λ (z : GroupRow). name_lt h z.name) e ∙ a.0
+name_later h (x ∷ rows) row a (inr i) = name_later h rows row a.1 i
+
+pub found_self : (rows : List GroupRow) (row : GroupRow) → InNameOrder rows → Has row rows → find (has_name row.name) rows ≡ Some row
+found_self [] row o i = absurd i
+found_self (x ∷ rows) row o (inl e) =
+    ap (λ b. cond b (Some x) (find (has_name row.name) rows)) (ap (λ (z : GroupRow). bytes_eq z.name row.name) (sym e) ∙ text_self row.name) ∙ ap (λ z. Some z) (sym e)
+found_self (x ∷ rows) row o (inr i) =
+    ap (λ b. cond b (Some x) (find (has_name row.name) rows)) (other (bytes_eq x.name row.name) refl) ∙ found_self rows row o.1 i
+  where
+    other : (b : Bool) → bytes_eq x.name row.name ≡ b → bytes_eq x.name row.name ≡ false
+    other false q = q
+    other true q =
+        let l : name_lt x.name row.name ≡ true = name_later x.name rows row o.0 i in
+        let k : name_lt x.name x.name ≡ true = subst (λ z. name_lt x.name z ≡ true) (sym (text_same x.name row.name q)) l in
+        let d = lt_self x.name in absurd (cc)

@@ -34,7 +34,7 @@ use Rattle.step_ties.specs.Tied.{Scene, NodeIsIf, Rests}
 use Rattle.step_ties.proofs.SessionLaws.{provider_same}
 use Rattle.honest_votes.proofs.At.{found, leads_row}
 use Rattle.failed_rows.specs.Failures.{GoneCause, RowFails, FailuresHaveCauses, SaidGoodbye}
-use Rattle.failed_rows.proofs.Facts.{VoterFails, TallyWhile, TallyFails, TallyIs, Waits, QueueIs, Track, Of, stood_on, Lives, told_on, off_on, none_asked}
+use Rattle.failed_rows.proofs.Facts.{Whys, Takers, takers_more, VoterFails, TallyWhile, TallyFails, TallyIs, Waits, QueueIs, Track, Of, stood_on, Lives, told_on, off_on, none_asked}
 use Rattle.failed_rows.proofs.Living.{slim_same}
 use Rattle.failed_rows.proofs.Owners.{Owned, owned_slim}
 use Rattle.failed_rows.proofs.Steps.{BodyGone}
@@ -61,7 +61,7 @@ body_gone_on e h (body.View y) k = tt
 body_gone_on e h (body.Lookup v g) k = tt
 body_gone_on e h (body.Name v g n) k = tt
 body_gone_on e h (body.Request v g q r phases x) k = tt
-body_gone_on e h (body.Tell v g q r y) k = tt
+body_gone_on e h (body.Tell v g q r y) k = k
 body_gone_on e h (body.Entry v g place stable x) k = tt
 body_gone_on e h (body.Ack v g n) k = tt
 body_gone_on e h (body.Vote v g proto phase p vote value message) k = tt
@@ -112,6 +112,8 @@ pub record CoreFails (h : History) (s : Core) : Type 0 where
   pub own : (p : ProviderId) → p.node ≡ s.views.me → p.inc ≡ s.views.inc → list_any (asks_join p) (records_of h) ≡ true → Lives (SaidGoodbye h) s.sessions (records_of h) p
   pub mine : (x : Provider) → Has x s.sessions.providers → x.p.node ≡ s.views.me
   pub owners : Owned (λ p. client_of p h) s.sessions
+  pub whys : (g : List ℕ) → Whys (found s g).led
+  pub takers : Takers s.views.me s.sessions (records_of h)
 
 abbrev pub CoreIf : History → Option Core → Type 0
 CoreIf h None = Unit {0}
@@ -197,6 +199,8 @@ core_on n m e h s me ne all k =
       apart = k.apart;
       own = λ p node inc asked. own_on e h s.sessions p (k.own p node inc (sym (none_asked p e.records (records_of h) (λ r i. other_asks n p r (λ q. ne (sym (node ∙ me) ∙ q)) (all r i))) ∙ asked));
       mine = k.mine;
+      whys = k.whys;
+      takers = takers_more s.views.me s.sessions e.records (records_of h) k.takers;
       owners = owned_slim (λ p. client_of p h) (λ p. client_of p (e ∷ h)) s.sessions s.sessions (λ x i. ap (λ b. if b then joining_client e.event else client_of x.p h) (none_any x.p e.records (λ r j. other_asks n x.p r (λ q. ne (sym (k.mine x i ∙ me) ∙ q)) (all r j)))) (slim_same s.sessions s.sessions refl refl refl) k.owners;
     }
 

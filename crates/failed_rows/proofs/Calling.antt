@@ -24,7 +24,8 @@ use Rattle.node_state.specs.State.{holds, frozen, leader_of, with_sessions}
 use Rattle.node_state.specs.Calls.{caller, subscriber, call_refused, changed, last_asked, proposed, ballot_recorded, ballot_sent_if, last_cast, ballot_given, gone_sent, all_gone_sent, goodbye_said, call_row}
 use Rattle.run_safety.specs.Past.{History, records_of}
 use Rattle.honest_votes.proofs.Ending.{Every, NoGroup}
-use Rattle.failed_rows.proofs.Living.{IsLive, NoLoss, NewAsks, joined_lives, left_lives, expelled_lives, state_lives, message_lives, attributes_lives, left_same, expelled_same, state_same, message_same, attributes_same, inited_lives, voted_lives, subscribe_lives, unsubscribe_lives}
+use Rattle.hearing.proofs.Sessions.{fewer_ended}
+use Rattle.failed_rows.proofs.Living.{IsLive, NoLoss, NewAsks, joined_lives, left_lives, expelled_lives, state_lives, message_lives, attributes_lives, left_same, expelled_same, state_same, message_same, attributes_same, inited_lives, voted_lives, subscribe_lives, unsubscribe_lives, NoTaker, same_taker, joined_taker, inited_same, voted_same, subscribe_same, unsubscribe_same}
 use Rattle.failed_rows.proofs.Facts.{Lives, OwnFor}
 use Rattle.failed_rows.proofs.Origin.{Origin, slim_free}
 use Rattle.failed_rows.proofs.At.{At, at_fold, at_recorded, at_call_refused, at_sessions, at_asked}
@@ -70,13 +71,13 @@ module _ (h : History) (said : ProviderId → Type 0) (origin : Origin) (free : 
       by (inl k) = inl (keeps p k)
       by (inr k) = inr k
 
-  at_kept : (s : Core) (t : SessionState) → ((p : ProviderId) → IsLive s.sessions p → IsLive t p) → Full s → Full (with_sessions s t)
-  at_kept s t keeps a = at_sessions h said origin P L M Every NoGroup Every s t (slim_free origin.root t s.records free) (kept_own s t keeps a) a
+  at_kept : (s : Core) (t : SessionState) → ((p : ProviderId) → IsLive s.sessions p → IsLive t p) → NoTaker s.sessions (Ok t) → Full s → Full (with_sessions s t)
+  at_kept s t keeps takes a = at_sessions h said origin P L M Every NoGroup Every s t (slim_free origin.root t s.records free) (kept_own s t keeps a) (λ p y q part. a.takers p y (takes p y q part) part) a
 
-  at_changed : (s : Core) (client : List ℕ) (r : Result SessionState GsFault) → (M → ⊥) → NoLoss s.sessions r → Full s → Full (changed s client r)
+  at_changed : (s : Core) (client : List ℕ) (r : Result SessionState GsFault) → (M → ⊥) → NoLoss s.sessions r → NoTaker s.sessions r → Full s → Full (changed s client r)
   unfolding changed
-  at_changed s client (Ok t) none keeps a = at_kept s t keeps a
-  at_changed s client (Err f) none keeps a = refused_at s client f none a
+  at_changed s client (Ok t) none keeps takes a = at_kept s t keeps takes a
+  at_changed s client (Err f) none keeps takes a = refused_at s client f none a
 
   -- whose requests these are is of the node
   abbrev Mine : Core → Type 0
@@ -92,10 +93,10 @@ module _ (h : History) (said : ProviderId → Type 0) (origin : Origin) (free : 
   MineAfter s (Ok t) = (p : ProviderId) → IsLive t p → p.node ≡ s.views.me
   MineAfter s (Err f) = Unit {0}
 
-  at_proposed : (s : Core) (client : List ℕ) (r : Result SessionState GsFault) → (M → ⊥) → NoLoss s.sessions r × NewAsks r → MineAfter s r → Full s → Full (proposed s client r)
+  at_proposed : (s : Core) (client : List ℕ) (r : Result SessionState GsFault) → (M → ⊥) → NoLoss s.sessions r × NewAsks r → NoTaker s.sessions r → MineAfter s r → Full s → Full (proposed s client r)
   unfolding proposed with_sessions
-  at_proposed s client (Ok t) none keeps mine a = at_last_asked (with_sessions s t) (last_or None t.requests) keeps.1 mine (at_kept s t keeps.0 a)
-  at_proposed s client (Err f) none keeps mine a = refused_at s client f none a
+  at_proposed s client (Ok t) none keeps takes mine a = at_last_asked (with_sessions s t) (last_or None t.requests) keeps.1 mine (at_kept s t keeps.0 takes a)
+  at_proposed s client (Err f) none keeps takes mine a = refused_at s client f none a
 
   at_cast : (s : Core) (k : KeptBallot) (b : Option Filled) → Full s → Full (ballot_recorded s k b)
   unfolding ballot_recorded
@@ -112,10 +113,10 @@ module _ (h : History) (said : ProviderId → Type 0) (origin : Origin) (free : 
   at_last_cast s None a = a
   at_last_cast s (Some k) a = at_cast_sent (ballot_recorded s k k.ballot.filled) k (frozen s) (at_cast s k k.ballot.filled a)
 
-  at_ballot : (s : Core) (client : List ℕ) (r : Result SessionState GsFault) → (M → ⊥) → NoLoss s.sessions r → Full s → Full (ballot_given s client r)
+  at_ballot : (s : Core) (client : List ℕ) (r : Result SessionState GsFault) → (M → ⊥) → NoLoss s.sessions r → NoTaker s.sessions r → Full s → Full (ballot_given s client r)
   unfolding ballot_given
-  at_ballot s client (Ok t) none keeps a = at_last_cast (with_sessions s t) (last_or None t.kept) (at_kept s t keeps a)
-  at_ballot s client (Err f) none keeps a = refused_at s client f none a
+  at_ballot s client (Ok t) none keeps takes a = at_last_cast (with_sessions s t) (last_or None t.kept) (at_kept s t keeps takes a)
+  at_ballot s client (Err f) none keeps takes a = refused_at s client f none a
 
   -- GONE is sent for each provider that a goodbye ends
   at_gone_sent : (s : Core) (x : Provider) → said x.p → Full s → Full (gone_sent s x)
@@ -134,10 +135,10 @@ module _ (h : History) (said : ProviderId → Type 0) (origin : Origin) (free : 
   Ends s xs (Ok t) = OwnFor h said origin.born t s
   Ends s xs (Err f) = Unit {0}
 
-  at_goodbye : (s : Core) (client : List ℕ) (xs : List Provider) (r : Result SessionState GsFault) → (M → IsTaken r) → (IsTaken r → (x : Provider) → Has x xs → said x.p) → Ends s xs r → Full s → Full (goodbye_said s client xs r)
+  at_goodbye : (s : Core) (client : List ℕ) (xs : List Provider) (r : Result SessionState GsFault) → (M → IsTaken r) → (IsTaken r → (x : Provider) → Has x xs → said x.p) → Ends s xs r → NoTaker s.sessions r → Full s → Full (goodbye_said s client xs r)
   unfolding goodbye_said
-  at_goodbye s client xs (Ok t) taken ok ends a = at_all_gone (with_sessions s t) xs (ok tt) (at_sessions h said origin P L M Every NoGroup Every s t (slim_free origin.root t s.records free) ends a)
-  at_goodbye s client xs (Err f) taken ok ends a = refused_at s client f (λ m. taken m) a
+  at_goodbye s client xs (Ok t) taken ok ends takes a = at_all_gone (with_sessions s t) xs (ok tt) (at_sessions h said origin P L M Every NoGroup Every s t (slim_free origin.root t s.records free) ends (λ p y q part. a.takers p y (takes p y q part) part) a)
+  at_goodbye s client xs (Err f) taken ok ends takes a = refused_at s client f (λ m. taken m) a
 
   -- whom a goodbye ends it is said of
   ended_own : (s : Core) (t : ClientToken) → ((x : Provider) → Has x (filter (is_client_of t) s.sessions.providers) → said x.p) → Full s → OwnFor h said origin.born (session_ended s.sessions t) s
@@ -159,6 +160,14 @@ module _ (h : History) (said : ProviderId → Type 0) (origin : Origin) (free : 
       by : (o : Option GsFault) → (IsTaken (unless_fault o (session_ended s.sessions (client_token s.sessions client))) → (x : Provider) → Has x (Ended s.sessions (call.Goodbye client)) → said x.p) → Ends s (Ended s.sessions (call.Goodbye client)) (unless_fault o (session_ended s.sessions (client_token s.sessions client)))
       by None ok = ended_own s (client_token s.sessions client) (ok tt) a
       by (Some f) ok = tt
+
+  goodbye_taker : (s : Core) (client : List ℕ) → ((a b : Provider) → Has a s.sessions.providers → Has b s.sessions.providers → a.p ≡ b.p → a.client ≡ b.client) → NoTaker s.sessions (goodbye_taken s.sessions (client_token s.sessions client))
+  unfolding goodbye_taken
+  goodbye_taker s client owner = by (client_fault s.sessions (client_token s.sessions client))
+    where
+      by : (o : Option GsFault) → NoTaker s.sessions (unless_fault o (session_ended s.sessions (client_token s.sessions client)))
+      by None = λ p y q part. (fewer_ended s.sessions (client_token s.sessions client) owner).providers p y q
+      by (Some f) = tt
 
   -- providers that come in are the node's own
   joined_mine : (s : Core) (t : ClientToken) (g : List ℕ) (instance : ℕ) (attrs : Attrs) → Mine s → s.sessions.me ≡ s.views.me → MineAfter s (joined s.sessions t g instance attrs)
@@ -186,16 +195,16 @@ module _ (h : History) (said : ProviderId → Type 0) (origin : Origin) (free : 
   same_mine s (Ok t) mine e = λ p k. mine p (k.0, subst (Has k.0) e k.1, k.2)
   same_mine s (Err f) mine e = tt
 
-  pub at_call : (s : Core) (c : CallLine) → (M → Taken s.sessions c) → (Taken s.sessions c → (x : Provider) → Has x (Ended s.sessions c) → said x.p) → Mine s → s.sessions.me ≡ s.views.me → Full s → Full (call_row s c)
+  pub at_call : (s : Core) (c : CallLine) → (M → Taken s.sessions c) → (Taken s.sessions c → (x : Provider) → Has x (Ended s.sessions c) → said x.p) → Mine s → ((a b : Provider) → Has a s.sessions.providers → Has b s.sessions.providers → a.p ≡ b.p → a.client ≡ b.client) → s.sessions.me ≡ s.views.me → Full s → Full (call_row s c)
   unfolding call_row
-  at_call s (call.Init node name votes) m ok mine me a = at_changed s name (inited s.sessions name) m (inited_lives s.sessions name) a
-  at_call s (call.Join client g instance attrs) m ok mine me a = at_proposed s client (joined s.sessions (client_token s.sessions client) g instance attrs) m (joined_lives s.sessions (client_token s.sessions client) g instance attrs) (joined_mine s (client_token s.sessions client) g instance attrs mine me) a
-  at_call s (call.Leave client g phases) m ok mine me a = at_proposed s client (left s.sessions (caller s.sessions client g) phases) m (left_lives s.sessions (caller s.sessions client g) phases) (same_mine s (left s.sessions (caller s.sessions client g) phases) mine (left_same s.sessions (caller s.sessions client g) phases)) a
-  at_call s (call.Expel client g phases out) m ok mine me a = at_proposed s client (expelled s.sessions (caller s.sessions client g) phases out) m (expelled_lives s.sessions (caller s.sessions client g) phases out) (same_mine s (expelled s.sessions (caller s.sessions client g) phases out) mine (expelled_same s.sessions (caller s.sessions client g) phases out)) a
-  at_call s (call.ChangeState client g phases value) m ok mine me a = at_proposed s client (state_changed s.sessions (caller s.sessions client g) phases value) m (state_lives s.sessions (caller s.sessions client g) phases value) (same_mine s (state_changed s.sessions (caller s.sessions client g) phases value) mine (state_same s.sessions (caller s.sessions client g) phases value)) a
-  at_call s (call.SendMessage client g phases bytes) m ok mine me a = at_proposed s client (message_sent s.sessions (caller s.sessions client g) phases bytes) m (message_lives s.sessions (caller s.sessions client g) phases bytes) (same_mine s (message_sent s.sessions (caller s.sessions client g) phases bytes) mine (message_same s.sessions (caller s.sessions client g) phases bytes)) a
-  at_call s (call.ChangeAttributes client g phases attrs) m ok mine me a = at_proposed s client (attributes_changed s.sessions (caller s.sessions client g) phases attrs) m (attributes_lives s.sessions (caller s.sessions client g) phases attrs) (same_mine s (attributes_changed s.sessions (caller s.sessions client g) phases attrs) mine (attributes_same s.sessions (caller s.sessions client g) phases attrs)) a
-  at_call s (call.Vote client g v value) m ok mine me a = at_ballot s client (voted s.sessions (caller s.sessions client g) v value) m (voted_lives s.sessions (caller s.sessions client g) v value) a
-  at_call s (call.Subscribe client g) m ok mine me a = at_changed s client (subscribe_taken s.sessions (client_token s.sessions client) g (holds s g)) m (subscribe_lives s.sessions (client_token s.sessions client) g (holds s g)) a
-  at_call s (call.Unsubscribe client g) m ok mine me a = at_changed s client (unsubscribe_taken s.sessions (client_token s.sessions client) (subscriber s.sessions client g)) m (unsubscribe_lives s.sessions (client_token s.sessions client) (subscriber s.sessions client g)) a
-  at_call s (call.Goodbye client) m ok mine me a = at_goodbye s client (filter (is_client_of (client_token s.sessions client)) s.sessions.providers) (goodbye_taken s.sessions (client_token s.sessions client)) m ok (goodbye_ends s client ok a) a
+  at_call s (call.Init node name votes) m ok mine owner me a = at_changed s name (inited s.sessions name) m (inited_lives s.sessions name) (same_taker s.sessions (inited s.sessions name) (inited_same s.sessions name)) a
+  at_call s (call.Join client g instance attrs) m ok mine owner me a = at_proposed s client (joined s.sessions (client_token s.sessions client) g instance attrs) m (joined_lives s.sessions (client_token s.sessions client) g instance attrs) (joined_taker s.sessions (client_token s.sessions client) g instance attrs) (joined_mine s (client_token s.sessions client) g instance attrs mine me) a
+  at_call s (call.Leave client g phases) m ok mine owner me a = at_proposed s client (left s.sessions (caller s.sessions client g) phases) m (left_lives s.sessions (caller s.sessions client g) phases) (same_taker s.sessions (left s.sessions (caller s.sessions client g) phases) (left_same s.sessions (caller s.sessions client g) phases)) (same_mine s (left s.sessions (caller s.sessions client g) phases) mine (left_same s.sessions (caller s.sessions client g) phases)) a
+  at_call s (call.Expel client g phases out) m ok mine owner me a = at_proposed s client (expelled s.sessions (caller s.sessions client g) phases out) m (expelled_lives s.sessions (caller s.sessions client g) phases out) (same_taker s.sessions (expelled s.sessions (caller s.sessions client g) phases out) (expelled_same s.sessions (caller s.sessions client g) phases out)) (same_mine s (expelled s.sessions (caller s.sessions client g) phases out) mine (expelled_same s.sessions (caller s.sessions client g) phases out)) a
+  at_call s (call.ChangeState client g phases value) m ok mine owner me a = at_proposed s client (state_changed s.sessions (caller s.sessions client g) phases value) m (state_lives s.sessions (caller s.sessions client g) phases value) (same_taker s.sessions (state_changed s.sessions (caller s.sessions client g) phases value) (state_same s.sessions (caller s.sessions client g) phases value)) (same_mine s (state_changed s.sessions (caller s.sessions client g) phases value) mine (state_same s.sessions (caller s.sessions client g) phases value)) a
+  at_call s (call.SendMessage client g phases bytes) m ok mine owner me a = at_proposed s client (message_sent s.sessions (caller s.sessions client g) phases bytes) m (message_lives s.sessions (caller s.sessions client g) phases bytes) (same_taker s.sessions (message_sent s.sessions (caller s.sessions client g) phases bytes) (message_same s.sessions (caller s.sessions client g) phases bytes)) (same_mine s (message_sent s.sessions (caller s.sessions client g) phases bytes) mine (message_same s.sessions (caller s.sessions client g) phases bytes)) a
+  at_call s (call.ChangeAttributes client g phases attrs) m ok mine owner me a = at_proposed s client (attributes_changed s.sessions (caller s.sessions client g) phases attrs) m (attributes_lives s.sessions (caller s.sessions client g) phases attrs) (same_taker s.sessions (attributes_changed s.sessions (caller s.sessions client g) phases attrs) (attributes_same s.sessions (caller s.sessions client g) phases attrs)) (same_mine s (attributes_changed s.sessions (caller s.sessions client g) phases attrs) mine (attributes_same s.sessions (caller s.sessions client g) phases attrs)) a
+  at_call s (call.Vote client g v value) m ok mine owner me a = at_ballot s client (voted s.sessions (caller s.sessions client g) v value) m (voted_lives s.sessions (caller s.sessions client g) v value) (same_taker s.sessions (voted s.sessions (caller s.sessions client g) v value) (voted_same s.sessions (caller s.sessions client g) v value)) a
+  at_call s (call.Subscribe client g) m ok mine owner me a = at_changed s client (subscribe_taken s.sessions (client_token s.sessions client) g (holds s g)) m (subscribe_lives s.sessions (client_token s.sessions client) g (holds s g)) (same_taker s.sessions (subscribe_taken s.sessions (client_token s.sessions client) g (holds s g)) (subscribe_same s.sessions (client_token s.sessions client) g (holds s g))) a
+  at_call s (call.Unsubscribe client g) m ok mine owner me a = at_changed s client (unsubscribe_taken s.sessions (client_token s.sessions client) (subscriber s.sessions client g)) m (unsubscribe_lives s.sessions (client_token s.sessions client) (subscriber s.sessions client g)) (same_taker s.sessions (unsubscribe_taken s.sessions (client_token s.sessions client) (subscriber s.sessions client g)) (unsubscribe_same s.sessions (client_token s.sessions client) (subscriber s.sessions client g))) a
+  at_call s (call.Goodbye client) m ok mine owner me a = at_goodbye s client (filter (is_client_of (client_token s.sessions client)) s.sessions.providers) (goodbye_taken s.sessions (client_token s.sessions client)) m ok (goodbye_ends s client ok a) (goodbye_taker s client owner) a

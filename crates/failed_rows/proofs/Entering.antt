@@ -1,12 +1,12 @@
 -- Entering a view, and what a row of views leaves.
-use Rattle.std.proofs.Common.{◌≡◌, ℕ, List, [], ◌∷◌, ◌++◌, Option, Some, None, Bool, true, false, refl, sym, ap, ◌∙◌, subst, inl, inr, ⊎_elim, append_assoc}
-use Rattle.std.specs.Prelude.{◌==◌, ◌&&◌, not, map, filter, fold, find, flat_map, is_some, reverse}
+use Rattle.std.proofs.Common.{◌≡◌, ◌⊎◌, ℕ, List, [], ◌∷◌, ◌++◌, Option, Some, None, Bool, true, false, refl, sym, ap, ◌∙◌, subst, inl, inr, ⊎_elim, append_assoc, append-nil}
+use Rattle.std.specs.Prelude.{◌==◌, ◌&&◌, not, map, filter, fold, find, flat_map, is_some, reverse, if◌then◌else◌}
 use Rattle.std.specs.Str.{bytes_eq}
 use Rattle.std.specs.Option.{option_map}
-use Rattle.std.proofs.lemmas.Bool.{and_parts}
+use Rattle.std.proofs.lemmas.Bool.{and_parts, eq-eqb}
 use Rattle.std.proofs.lemmas.List.{reverse-append}
-use Rattle.rsct_packet.specs.declared.ids.ViewId.{ViewId}
 use Rattle.rsct_packet.specs.declared.ids.ProviderId.{ProviderId}
+use Rattle.rsct_packet.specs.Ids.{same_view}
 use Rattle.rsct_packet.specs.Providers.{among, none_among}
 use Rattle.rsct_packet.specs.Search.{Has}
 use Rattle.rsct_packet.proofs.HasLaws.{has_append, append_has_right, has_map, has_filter, all_has, find_has}
@@ -17,14 +17,14 @@ use Rattle.group_entry.specs.declared.proposal.Proposal.TheVariants.{Join, Leave
 use Rattle.group_entry.specs.declared.entry.Entry.{Entry}
 use Rattle.proposal_core.specs.declared.group_state.GroupState.{GroupState}
 use Rattle.proposal_core.specs.declared.group_state.Running.{Running}
-use Rattle.proposal_core.specs.Fold.{present, joins_of, joiners_in, can_begin, joiners_fit_at, joiners_fit}
+use Rattle.proposal_core.specs.Fold.{empty_state, present, joins_of, joiners_in, can_begin, joiners_fit_at, joiners_fit}
 use Rattle.proposal_core.specs.Lists.{state_in, len_in}
 use Rattle.batch_rules.specs.Waiting.{waits_failure}
 use Rattle.subscribe_core.specs.declared.subs.Subscription.{Subscription}
 use Rattle.client_callbacks.specs.declared.told.Told.TheVariants as told
 use Rattle.client_callbacks.specs.declared.told.Why.TheVariants.{Dissolved}
 use Rattle.session_state.specs.declared.state.Provider.{Provider}
-use Rattle.session_state.specs.State.{provider_of, outstanding}
+use Rattle.session_state.specs.State.{is_provider, provider_of, outstanding}
 use Rattle.view_exchange.specs.declared.install.Install.{Install}
 use Rattle.view_exchange.specs.declared.install.Base.{Base}
 use Rattle.view_exchange.specs.Bases.{bases_of, base_named}
@@ -37,23 +37,24 @@ use Rattle.node_state.specs.declared.happened.Happened.{Happened}
 use Rattle.node_state.specs.declared.happened.Happened.TheVariants as happened
 use Rattle.node_state.specs.declared.packet.Body.TheVariants as body
 use Rattle.node_state.specs.declared.state.Core.{Core}
-use Rattle.node_state.specs.State.{row_found, row_of, list_of, state_of, held_rows, recorded_all, with_row, with_led}
+use Rattle.node_state.specs.State.{row_found, row_of, list_of, state_of, held_rows, recorded, recorded_all, with_sessions, with_row, with_led}
 use Rattle.node_state.specs.Sending.{sent, requests_sent}
 use Rattle.node_state.specs.HandOn.{Answering, subscriber_name, note_of}
 use Rattle.node_state.specs.Leading.{put_and_handed, with_waiting, tally_opened}
 use Rattle.node_state.specs.Applying.{Lacking, lacking, lists_filled, level_set, base_row, base_record, view_entered, is_in_base, number_of, dissolved, dissolved_if, group_dissolved, sides_dissolved, base_note, entering_note, entering_noted, taken_sent, owed_sent, failed_wait, phase_reopened, group_led, groups_led, entered, entered_if, install_applied, views_taken}
-use Rattle.run_safety.specs.Past.{History, records_of}
-use Rattle.run_safety.specs.Stays.{asks_join, is_refused, stays}
+use Rattle.run_safety.specs.Past.{History, records_of, inc_now}
+use Rattle.run_safety.specs.Stays.{Stay, asks_join, is_refused, stays, with_base}
 use Rattle.node_groups.specs.Places.{has_name}
-use Rattle.node_groups.proofs.NameOrder.{row_here}
+use Rattle.node_groups.proofs.NameOrder.{row_here, text_same}
+use Rattle.step_ties.proofs.SessionLaws.{provider_same}
 use Rattle.step_ties.proofs.BaseOrder.{bases_ordered, row_of_base, base_noted}
 use Rattle.hearing.proofs.Handing.{among_is, has_among}
 use Rattle.honest_votes.proofs.At.{found}
 use Rattle.honest_votes.proofs.Ending.{Every, NoGroup}
-use Rattle.failed_rows.specs.Failures.{EachPut}
+use Rattle.failed_rows.specs.Failures.{FromElsewhere, IsCut, EachPut}
 use Rattle.failed_rows.proofs.Queues.{Stays, failed_stays}
-use Rattle.failed_rows.proofs.Bases.{bases_put, bases_track}
-use Rattle.failed_rows.proofs.Facts.{Quiet, BasesFit, Of, BodyFails, body_on, Track, own_pushed}
+use Rattle.failed_rows.proofs.Bases.{bases_put, bases_track, base_is, new_stay, bases_entered, found_self}
+use Rattle.failed_rows.proofs.Facts.{Whys, JoinedIn, takers_pushed, Quiet, BasesFit, Stepped, stepped_incs, BodyFails, body_on, Track, own_pushed, Split, split, turned_split, reverse_has}
 use Rattle.failed_rows.proofs.Living.{slim_same}
 use Rattle.failed_rows.proofs.Origin.{Origin, slim_more, slim_on}
 use Rattle.failed_rows.proofs.At.{At, at_fold, at_sent, at_recorded_all, at_views, at_told}
@@ -99,6 +100,7 @@ module _ (h : History) (said : ProviderId → Type 0) (origin : Origin) (P L M :
   loosened s a =
       record {
         inc = a.inc;
+        counted = a.counted;
         own = a.own;
         slim = a.slim;
         sends = a.sends;
@@ -112,6 +114,8 @@ module _ (h : History) (said : ProviderId → Type 0) (origin : Origin) (P L M :
         queues = λ fit g z. absurd z;
         apart = a.apart;
         led = λ g z. absurd z;
+        whys = a.whys;
+        takers = a.takers;
       }
 
   -- (1)
@@ -126,10 +130,11 @@ module _ (h : History) (said : ProviderId → Type 0) (origin : Origin) (P L M :
 
   -- (2) in a view that is entered nothing is counted yet, and nobody waits
   at_view_entered : (s : Core) (i : Install) → Loose s → Full (view_entered s i (bases_of i))
-  unfolding view_entered level_set base_record base_row base_named views_entered recorded_all joiners_fit joiners_fit_at
+  unfolding view_entered level_set base_record base_row base_named views_entered recorded_all joiners_fit joiners_fit_at provider_of
   at_view_entered s i a =
       record {
         inc = a.inc;
+        counted = a.counted;
         own = own_pushed h said origin.born s.sessions s rs unasked a.own;
         slim = slim_on origin.root s.sessions (level_set s i.members) (s.records ++ rs) (slim_same s.sessions (level_set s i.members) refl refl refl) (slim_more origin.root s.sessions s.records rs unasked a.slim);
         sends = λ p j. subst (λ z. BodyFails said z p.body) (sym turned) (body_on said (reverse rs) (reverse s.records ++ records_of h) p.body (a.sends p j));
@@ -143,6 +148,8 @@ module _ (h : History) (said : ProviderId → Type 0) (origin : Origin) (P L M :
         queues = λ fit g u. inl (ap (λ (x : GroupRow). x.led.waiting.failures) (row_is g) ∙ unqueued g (base_named bs g));
         apart = λ l fit g. ap (λ (x : GroupRow). joiners_fit (state_in x.list)) (row_is g) ∙ fitted fit g;
         led = λ g z. absurd z;
+        whys = λ g. subst (λ (x : GroupRow). Whys x.led) (sym (row_is g)) (unkept g (base_named bs g));
+        takers = takers_pushed h me s.sessions s.records rs a.takers;
       }
     where
       bs : List Base
@@ -168,9 +175,9 @@ module _ (h : History) (said : ProviderId → Type 0) (origin : Origin) (P L M :
       unasked r (inl e) p = ap (asks_join p) e
       unasked r (inr j) p = let k = has_map (base_noted me i.view) r bs j in ap (asks_join p) k.2
 
-      mine : (r : Happened) → Has r rs → Of me r
-      mine r (inl e) = subst (Of me) (sym e) refl
-      mine r (inr j) = let k = has_map (base_noted me i.view) r bs j in subst (Of me) (sym k.2) refl
+      mine : (r : Happened) → Has r rs → Stepped me r
+      mine r (inl e) = subst (Stepped me) (sym e) refl
+      mine r (inr j) = let k = has_map (base_noted me i.view) r bs j in subst (Stepped me) (sym k.2) refl
 
       row_is : (g : List ℕ) → row_found g (find (has_name g) (map base_row bs)) ≡ row_found g (option_map base_row (base_named bs g))
       row_is g = ap (row_found g) (row_of_base g bs)
@@ -178,6 +185,10 @@ module _ (h : History) (said : ProviderId → Type 0) (origin : Origin) (P L M :
       unmarked : (g : List ℕ) (o : Option Base) (p : ProviderId) → among (row_found g (option_map base_row o)).led.gone p ≡ true → ⊥
       unmarked g None p e = cc
       unmarked g (Some b) p e = cc
+
+      unkept : (g : List ℕ) (o : Option Base) → Whys (row_found g (option_map base_row o)).led
+      unkept g None d j = absurd j
+      unkept g (Some b) d j = absurd j
 
       uncounted : (g : List ℕ) (o : Option Base) → (row_found g (option_map base_row o)).led.tally ≡ None
       uncounted g None = refl
@@ -205,28 +216,194 @@ module _ (h : History) (said : ProviderId → Type 0) (origin : Origin) (P L M :
           by None e = refl
           by (Some b) e = fit (base_noted me i.view b) (noted_there b e)
 
-  -- (3)
-  at_dissolved : (s : Core) (p : ProviderId) (r : ℕ) → Full s → Full (dissolved s p r)
-  unfolding dissolved
-  at_dissolved s p r a = at_told h said origin P L M Every NoGroup Every s p r Dissolved (λ j. inr refl) a
+  -- (3) each that is dissolved was held up to then, and is not in the base, or the base came from another view
+  module _ (s : Core) (i : Install) (was : Loose s) where
+    abbrev bases : List Base
+    bases = bases_of i
 
-  at_dissolved_if : (s : Core) (g : List ℕ) (old : ViewId) (b : Option Base) (o : Option Provider) → Full s → Full (dissolved_if s g old b o)
-  unfolding dissolved_if
-  at_dissolved_if s g old b None a = a
-  at_dissolved_if s g old b (Some x) a = by (x.takes_part && bytes_eq x.group g && not (is_in_base old x.p b))
-    where
-      by : (c : Bool) → Full (elim c as (λ _. Core) [ true ↦ dissolved s x.p (number_of (outstanding s.sessions x.p)) | false ↦ s ])
-      by true = at_dissolved s x.p (number_of (outstanding s.sessions x.p)) a
-      by false = a
+    abbrev old_stays : List ℕ → List Stay
+    old_stays g = stays s.views.me g (reverse s.records ++ records_of h)
 
-  at_group_dissolved : (old : ViewId) (bs : List Base) (s : Core) (row : GroupRow) → Full s → Full (group_dissolved old bs s row)
-  unfolding group_dissolved
-  at_group_dissolved old bs s row a =
-      at_fold h said origin P L M Every NoGroup Every (λ (t : Core) p. dissolved_if t row.name old (base_named bs row.name) (provider_of t.sessions p)) (present (state_in row.list)) (λ t p i k. at_dissolved_if t row.name old (base_named bs row.name) (provider_of t.sessions p) k) s a
+    -- where a base was noted the node had been in the view before, in its incarnation
+    record NotedAt (t : Core) (b : Base) : Type 0 where
+      newer : List Happened
+      older : List Happened
+      is : reverse t.records ++ records_of h ≡ newer ++ base_noted s.views.me i.view b ∷ older
+      stayed : (g : List ℕ) → (x : Stay) × (stays s.views.me g older ≡ x ∷ old_stays g)
+      inc : inc_now s.views.me older ≡ origin.born
 
-  at_sides : (s : Core) (rows : List GroupRow) (old : ViewId) (bs : List Base) → Full s → Full (sides_dissolved s rows old bs)
-  unfolding sides_dissolved
-  at_sides s rows old bs a = at_fold h said origin P L M Every NoGroup Every (group_dissolved old bs) rows (λ t row i k. at_group_dissolved old bs t row k) s a
+    record Inside (t : Core) : Type 0 where
+      at : Full t
+      me : t.views.me ≡ s.views.me
+      stayed : (g : List ℕ) → stays s.views.me g (reverse t.records ++ records_of h) ≡ new_stay i.view (base_is (base_named bases g)) ∷ old_stays g
+      noted : (b : Base) → Has b bases → NotedAt t b
+
+    inside_entered : Full (view_entered s i bases) → Inside (view_entered s i bases)
+    unfolding view_entered recorded_all base_record views_entered
+    inside_entered a =
+        record {
+          at = a;
+          me = refl;
+          stayed = λ g. subst (λ z. stays s.views.me g (reverse z ++ records_of h) ≡ new_stay i.view (base_is (base_named bases g)) ∷ old_stays g) (append_assoc s.records (happened.In s.views.me i.view i.members ∷ []) (map (base_noted s.views.me i.view) bases)) (bases_entered s.views.me i.view i.members g bases s.records (records_of h) (bases_ordered i));
+          noted = λ b k. noted_at b (split b bases k);
+        }
+      where
+        rs : List Happened
+        rs = happened.In s.views.me i.view i.members ∷ map (base_noted s.views.me i.view) bases
+
+        me : ℕ
+        me = s.views.me
+
+        entering : Happened
+        entering = happened.In me i.view i.members
+
+        first : List Happened
+        first = s.records ++ entering ∷ []
+
+        -- the bases before leave what was before
+        still : (g : List ℕ) (bs : List Base) (acc : List Happened) → (x : Stay) × (stays me g (reverse acc ++ records_of h) ≡ x ∷ old_stays g) → (x : Stay) × (stays me g (reverse (acc ++ map (base_noted me i.view) bs) ++ records_of h) ≡ x ∷ old_stays g)
+        still g [] acc k = (k.0, ap (λ z. stays me g (reverse z ++ records_of h)) (append-nil acc) ∙ k.1)
+        still g (b ∷ bs) acc k =
+            let z = still g bs (acc ++ base_noted me i.view b ∷ []) (by (me == me && bytes_eq b.name g) refl) in
+            (z.0, ap (λ y. stays me g (reverse y ++ records_of h)) (sym (append_assoc acc (base_noted me i.view b ∷ []) (map (base_noted me i.view) bs))) ∙ z.1)
+          where
+            old : List Stay
+            old = stays me g (reverse acc ++ records_of h)
+
+            by : (t : Bool) → (me == me && bytes_eq b.name g) ≡ t → (x : Stay) × (stays me g (reverse (acc ++ base_noted me i.view b ∷ []) ++ records_of h) ≡ x ∷ old_stays g)
+            by true q =
+                (record (k.0) { base = b.state }, ap (λ z. stays me g (z ++ records_of h)) (reverse-append acc (base_noted me i.view b ∷ [])) ∙ ap (λ z. if z then with_base b.state old else old) q ∙ ap (with_base b.state) k.1)
+            by false q =
+                (k.0, ap (λ z. stays me g (z ++ records_of h)) (reverse-append acc (base_noted me i.view b ∷ [])) ∙ ap (λ z. if z then with_base b.state old else old) q ∙ k.1)
+
+        here : (g : List ℕ) → (x : Stay) × (stays me g (reverse first ++ records_of h) ≡ x ∷ old_stays g)
+        here g =
+            (new_stay i.view empty_state, ap (λ z. stays me g (z ++ records_of h)) (reverse-append s.records (entering ∷ [])) ∙ ap (λ z. if z then new_stay i.view empty_state ∷ old_stays g else old_stays g) (eq-eqb me me refl))
+
+        -- the records are of the step
+        own : (bs : List Base) (r : Happened) → Has r (first ++ map (base_noted me i.view) bs) → Stepped me r
+        own bs r k = by (has_append r first (map (base_noted me i.view) bs) k)
+          where
+            by : Has r first ⊎ Has r (map (base_noted me i.view) bs) → Stepped me r
+            by (inl j) = ⊎_elim (λ (a : Has r s.records). was.whose r a) last (has_append r s.records (entering ∷ []) j)
+              where
+                last : Has r (entering ∷ []) → Stepped me r
+                last (inl e) = subst (Stepped me) (sym e) refl
+                last (inr z) = absurd z
+            by (inr j) = let z = has_map (base_noted me i.view) r bs j in subst (Stepped me) (sym z.2) refl
+
+        map_split : (xs : List Base) (b : Base) (ys : List Base) → map (base_noted me i.view) (xs ++ b ∷ ys) ≡ map (base_noted me i.view) xs ++ base_noted me i.view b ∷ map (base_noted me i.view) ys
+        map_split [] b ys = refl
+        map_split (x ∷ xs) b ys = ap (λ z. base_noted me i.view x ∷ z) (map_split xs b ys)
+
+        noted_at : (b : Base) → Split b bases → NotedAt (view_entered s i bases) b
+        noted_at b k =
+            record {
+              newer = reverse (map (base_noted me i.view) k.after);
+              older = reverse (first ++ map (base_noted me i.view) k.before) ++ records_of h;
+              is = ap (λ z. reverse (s.records ++ entering ∷ map (base_noted me i.view) z) ++ records_of h) k.is ∙ ap (λ z. reverse (s.records ++ entering ∷ z) ++ records_of h) (map_split k.before b k.after) ∙ ap (λ z. reverse z ++ records_of h) (sym (append_assoc s.records (entering ∷ []) (map (base_noted me i.view) k.before ++ base_noted me i.view b ∷ map (base_noted me i.view) k.after)) ∙ sym (append_assoc first (map (base_noted me i.view) k.before) (base_noted me i.view b ∷ map (base_noted me i.view) k.after))) ∙ turned_split (base_noted me i.view b) (first ++ map (base_noted me i.view) k.before) (map (base_noted me i.view) k.after) (records_of h);
+              stayed = λ g. still g k.before first (here g);
+              inc = stepped_incs me me (reverse (first ++ map (base_noted me i.view) k.before)) (records_of h) (λ r j. own k.before r (reverse_has r (first ++ map (base_noted me i.view) k.before) j)) ∙ was.counted;
+            }
+
+    -- it is not in the base, or the base is from another view than the last
+    abbrev CutIn : Core → List ℕ → ProviderId → Stay → GroupState → Type 0
+    CutIn t g p last st = (among (present st) p ≡ false) ⊎ FromElsewhere (reverse t.records ++ records_of h) p g (new_stay i.view st) last
+
+    cut_of : (t : Core) (g : List ℕ) (p : ProviderId) → Inside t → p.node ≡ s.views.me → p.inc ≡ origin.born → Has p (present (state_in (found s g).list)) → is_in_base s.views.view p (base_named bases g) ≡ false → JoinedIn s.views.me p g (reverse t.records ++ records_of h) → IsCut (reverse t.records ++ records_of h) p
+    unfolding is_in_base base_named
+    cut_of t g p k node inc there out joined =
+        record {
+          group = g;
+          stay = new_stay i.view (base_is (base_named bases g));
+          last = track.stay;
+          rest = track.older;
+          stays_so = ap (λ n. stays n g (reverse t.records ++ records_of h)) node ∙ k.stayed g ∙ ap (λ xs. new_stay i.view (base_is (base_named bases g)) ∷ xs) track.is;
+          empty = refl;
+          joined = subst (λ n. JoinedIn n p g (reverse t.records ++ records_of h)) (sym node) joined;
+          held = ap (λ z. among (present z) p) track.state ∙ has_among (present (state_in (found s g).list)) p there;
+          cut = by (base_named bases g) refl out;
+        }
+      where
+        track : Track (old_stays g) s.views.view (len_in (found s g).list) (state_in (found s g).list)
+        track = was.tracks live g
+
+        by : (o : Option Base) → base_named bases g ≡ o → is_in_base s.views.view p o ≡ false → CutIn t g p track.stay (base_is o)
+        by None e q = inl refl
+        by (Some b) e q = among_it (among (present b.state) p) refl q
+          where
+            k_has : Has b bases × (bytes_eq b.name g ≡ true)
+            k_has = find_has (λ (x : Base). bytes_eq x.name g) bases b e
+
+            left_false : (c : Bool) → (c && true) ≡ false → c ≡ false
+            left_false true y = absurd (cc)
+            left_false false y = refl
+
+            among_it : (c : Bool) → among (present b.state) p ≡ c → (same_view b.from s.views.view && among (present b.state) p) ≡ false → CutIn t g p track.stay b.state
+            among_it false z q = inl z
+            among_it true c q =
+                let at : NotedAt t b = k.noted b k_has.0 in
+                let z = at.stayed g in
+                inr (record {
+                  from = b.from;
+                  len = b.len;
+                  newer = at.newer;
+                  older = at.older;
+                  moment = subst (λ (y : ℕ × List ℕ). reverse t.records ++ records_of h ≡ at.newer ++ happened.Base y.0 i.view y.1 b.from b.len b.state ∷ at.older) (λ j. (sym node j, text_same b.name g k_has.1 j)) at.is;
+                  entered = z.0;
+                  rest = track.older;
+                  stays_so = ap (λ n. stays n g at.older) node ∙ z.1 ∙ ap (λ xs. z.0 ∷ xs) track.is;
+                  apart = ap (same_view b.from) track.view ∙ left_false (same_view b.from s.views.view) (ap (λ y. same_view b.from s.views.view && y) (sym c) ∙ q);
+                  inc = ap (λ n. inc_now n at.older) node ∙ at.inc ∙ sym inc;
+                })
+
+    inside_dissolved : (t : Core) (p : ProviderId) (r : ℕ) → (p.node ≡ s.views.me → p.inc ≡ origin.born → IsCut (reverse t.records ++ records_of h) p) → Inside t → Inside (dissolved t p r)
+    unfolding dissolved recorded with_sessions
+    inside_dissolved t p r cut k =
+        record {
+          at = at_told h said origin P L M Every NoGroup Every t p r Dissolved (λ me inc j. inr (refl, cut (me ∙ k.me) inc)) k.at;
+          me = k.me;
+          stayed = λ g. ap (λ z. stays s.views.me g (z ++ records_of h)) turned ∙ k.stayed g;
+          noted = λ b j. let at : NotedAt t b = k.noted b j in record { newer = happened.Told p r Dissolved ∷ at.newer; older = at.older; is = ap (λ z. z ++ records_of h) turned ∙ ap (λ z. happened.Told p r Dissolved ∷ z) at.is; stayed = at.stayed; inc = at.inc };
+        }
+      where
+        turned : reverse (t.records ++ happened.Told p r Dissolved ∷ []) ≡ happened.Told p r Dissolved ∷ reverse t.records
+        turned = reverse-append t.records (happened.Told p r Dissolved ∷ [])
+
+    inside_if : (t : Core) (g : List ℕ) (p : ProviderId) (o : Option Provider) → provider_of t.sessions p ≡ o → Has p (present (state_in (found s g).list)) → Inside t → Inside (dissolved_if t g s.views.view (base_named bases g) o)
+    unfolding dissolved_if provider_of
+    inside_if t g p None e there k = k
+    inside_if t g p (Some x) e there k = by x.takes_part refl (bytes_eq x.group g) refl (is_in_base s.views.view x.p (base_named bases g)) refl
+      where
+        same : x.p ≡ p
+        same = provider_same x.p p (find_has (is_provider p) t.sessions.providers x e).1
+
+        by : (a : Bool) → x.takes_part ≡ a → (b : Bool) → bytes_eq x.group g ≡ b → (c : Bool) → is_in_base s.views.view x.p (base_named bases g) ≡ c → Inside (elim (a && b && not c) as (λ _. Core) [ true ↦ dissolved t x.p (number_of (outstanding t.sessions x.p)) | false ↦ t ])
+        by false part b y c q = k
+        by true part false y c q = k
+        by true part true y true q = k
+        by true part true y false q =
+            inside_dissolved t x.p (number_of (outstanding t.sessions x.p)) (λ node inc. cut_of t g x.p k node inc (subst (λ z. Has z (present (state_in (found s g).list))) (sym same) there) q joined) k
+          where
+            joined : JoinedIn s.views.me x.p g (reverse t.records ++ records_of h)
+            joined =
+                subst (λ (z : ℕ × ProviderId × List ℕ). JoinedIn z.0 z.1 z.2 (reverse t.records ++ records_of h)) (λ j. (k.me j, sym same j, text_same x.group g y j)) ((k.at).takers p x e part)
+
+    inside_group : (row : GroupRow) → found s row.name ≡ row → (ps : List ProviderId) → ((p : ProviderId) → Has p ps → Has p (present (state_in row.list))) → (t : Core) → Inside t → Inside (fold (λ (t : Core) p. dissolved_if t row.name s.views.view (base_named bases row.name) (provider_of t.sessions p)) t ps)
+    inside_group row is [] all t k = k
+    inside_group row is (p ∷ ps) all t k =
+        inside_group row is ps (λ q j. all q (inr j)) (dissolved_if t row.name s.views.view (base_named bases row.name) (provider_of t.sessions p)) (inside_if t row.name p (provider_of t.sessions p) refl (subst (λ (z : GroupRow). Has p (present (state_in z.list))) (sym is) (all p (inl refl))) k)
+
+    inside_sides : (rows : List GroupRow) → ((row : GroupRow) → Has row rows → Has row s.groups) → (t : Core) → Inside t → Inside (fold (group_dissolved s.views.view bases) t rows)
+    unfolding group_dissolved
+    inside_sides [] all t k = k
+    inside_sides (row ∷ rows) all t k =
+        inside_sides rows (λ x j. all x (inr j)) (group_dissolved s.views.view bases t row) (inside_group row (ap (row_found row.name) (found_self s.groups row was.order (all row (inl refl)))) (present (state_in row.list)) (λ p j. j) t k)
+
+    at_sides : Full (view_entered s i bases) → Full (sides_dissolved (view_entered s i bases) (held_rows s) s.views.view bases)
+    unfolding sides_dissolved held_rows
+    at_sides a =
+        (inside_sides (filter (λ (row : GroupRow). is_some row.list) s.groups) (λ row j. (has_filter (λ (row : GroupRow). is_some row.list) row s.groups j).0) (view_entered s i bases) (inside_entered a)).at
 
   -- (4)
   note_quiet : (s : Core) (bs : List Base) (u : Subscription) (r : Happened) → Has r (entering_note s bs u) → Quiet r
@@ -304,9 +481,10 @@ module _ (h : History) (said : ProviderId → Type 0) (origin : Origin) (P L M :
   at_entered f s i xs a =
       let t : Core = lists_filled f s xs in
       let bs : List Base = bases_of i in
+      let filled : Loose t = all_filled f xs s (loosened s a) in
       let v : Core = view_entered t i bs in
       let d : Core = sides_dissolved v (held_rows t) t.views.view bs in
-      let e : Full d = at_sides v (held_rows t) t.views.view bs (at_view_entered t i (all_filled f xs s (loosened s a))) in
+      let e : Full d = at_sides t i filled (at_view_entered t i filled) in
       at_groups_led f (owed_sent (taken_sent (entering_noted d bs))) (at_owed_sent (taken_sent (entering_noted d bs)) (at_taken_sent (entering_noted d bs) (at_entering_noted d bs e)))
 
   at_applied : (f : Answering) (s : Core) (o : Option Install) → Full s → Full (install_applied f s o)

@@ -6,25 +6,33 @@ use Rattle.std.proofs.lemmas.List.{reverse-append}
 use Rattle.rsct_packet.specs.declared.ids.ViewId.{ViewId}
 use Rattle.rsct_packet.specs.declared.ids.ProviderId.{ProviderId}
 use Rattle.rsct_packet.specs.Search.{Has}
-use Rattle.rsct_packet.proofs.HasLaws.{has_append, append_has_right}
+use Rattle.rsct_packet.specs.Providers.{among}
+use Rattle.rsct_packet.proofs.HasLaws.{has_append, append_has_left, append_has_right}
 use Rattle.group_entry.specs.declared.proposal.Cause.{Cause}
 use Rattle.group_entry.specs.declared.proposal.Cause.TheVariants.{Died, Gone, Cast}
 use Rattle.group_entry.specs.declared.proposal.Failure.{Failure}
 use Rattle.group_entry.specs.declared.entry.RowVote.{RowVote}
+use Rattle.group_entry.specs.declared.entry.Entry.{Entry}
 use Rattle.proposal_core.specs.declared.group_state.GroupState.{GroupState}
 use Rattle.proposal_core.specs.declared.group_state.Running.{Running}
-use Rattle.proposal_core.specs.Fold.{joiners_fit}
+use Rattle.proposal_core.specs.Fold.{joiners_fit, present}
 use Rattle.vote_phases.specs.declared.voter.Voter.{Voter}
 use Rattle.vote_phases.specs.Tally.{TallyView}
+use Rattle.client_callbacks.specs.declared.told.Why.{Why}
+use Rattle.session_state.specs.declared.state.Provider.{Provider}
 use Rattle.session_state.specs.declared.state.SessionState.{SessionState}
+use Rattle.session_state.specs.State.{provider_of}
+use Rattle.session_state.specs.HandOn.{is_dissolved}
+use Rattle.node_state.specs.declared.group.Decision.{Decision}
+use Rattle.node_state.specs.declared.group.Led.{Led}
 use Rattle.node_state.specs.declared.happened.Happened.{Happened}
 use Rattle.node_state.specs.declared.happened.Happened.TheVariants as happened
 use Rattle.node_state.specs.declared.packet.Body.{Body}
 use Rattle.node_state.specs.declared.packet.Body.TheVariants as body
 use Rattle.node_state.specs.declared.state.Core.{Core}
-use Rattle.run_safety.specs.Past.{History, records_of}
-use Rattle.run_safety.specs.Stays.{Stay, stays_after, asks_join, is_refused}
-use Rattle.failed_rows.specs.Failures.{state_of_stay, WasTold, TakenOff, StoodThere, RowFails, EachPut}
+use Rattle.run_safety.specs.Past.{History, records_of, inc_after, inc_now}
+use Rattle.run_safety.specs.Stays.{Stay, stays, stays_after, is_join_of, asks_join, is_refused}
+use Rattle.failed_rows.specs.Failures.{state_of_stay, state_held, WasTold, TakenOff, StoodThere, RowFails, EachPut}
 use Rattle.failed_rows.proofs.Queues.{Stays}
 use Rattle.failed_rows.proofs.Living.{IsLive}
 
@@ -148,7 +156,47 @@ Of n (happened.Put m v g i e) = m ≡ n
 Of n (happened.Asked p r g x) = p.node ≡ n
 Of n _ = Unit {0}
 
-pub quiet_of : (n : ℕ) (r : Happened) → Quiet r → Of n r
+-- such a record of a step: no node starts in it
+abbrev pub Stepped : ℕ → Happened → Type 0
+Stepped n (happened.Up m j) = ⊥
+Stepped n r = Of n r
+
+pub stepped_of : (n : ℕ) (r : Happened) → Stepped n r → Of n r
+stepped_of n (happened.Up m j) k = absurd k
+stepped_of n (happened.Down m) k = k
+stepped_of n (happened.Ring m j i ms b) k = k
+stepped_of n (happened.In m v ms) k = k
+stepped_of n (happened.Base m v g u len st) k = k
+stepped_of n (happened.Put m v g i e) k = k
+stepped_of n (happened.Heard p v g i e ms value) k = k
+stepped_of n (happened.Cast p proto phase vote value message) k = k
+stepped_of n (happened.Asked p r g x) k = k
+stepped_of n (happened.Told p r why) k = k
+stepped_of n (happened.Noted m c v i told) k = k
+stepped_of n (happened.Refused m c fault) k = k
+stepped_of n (happened.Shown m line) k = k
+
+-- so the incarnations stay
+stepped_inc : (n m : ℕ) (r : Happened) → Stepped n r → (old : ℕ) → inc_after m r old ≡ old
+stepped_inc n m (happened.Up o j) k old = absurd k
+stepped_inc n m (happened.Down o) k old = refl
+stepped_inc n m (happened.Ring o j i ms b) k old = refl
+stepped_inc n m (happened.In o v ms) k old = refl
+stepped_inc n m (happened.Base o v g u len st) k old = refl
+stepped_inc n m (happened.Put o v g i e) k old = refl
+stepped_inc n m (happened.Heard p v g i e ms value) k old = refl
+stepped_inc n m (happened.Cast p proto phase vote value message) k old = refl
+stepped_inc n m (happened.Asked p r g x) k old = refl
+stepped_inc n m (happened.Told p r why) k old = refl
+stepped_inc n m (happened.Noted o c v i told) k old = refl
+stepped_inc n m (happened.Refused o c fault) k old = refl
+stepped_inc n m (happened.Shown o line) k old = refl
+
+pub stepped_incs : (n m : ℕ) (rs xs : List Happened) → ((r : Happened) → Has r rs → Stepped n r) → inc_now m (rs ++ xs) ≡ inc_now m xs
+stepped_incs n m [] xs all = refl
+stepped_incs n m (r ∷ rs) xs all = stepped_inc n m r (all r (inl refl)) (inc_now m (rs ++ xs)) ∙ stepped_incs n m rs xs (λ q i. all q (inr i))
+
+pub quiet_of : (n : ℕ) (r : Happened) → Quiet r → Stepped n r
 quiet_of n (happened.Up m j) q = absurd q
 quiet_of n (happened.Down m) q = absurd q
 quiet_of n (happened.Ring m j i ms b) q = tt
@@ -165,9 +213,19 @@ quiet_of n (happened.Shown m line) q = tt
 
 -- ---- what is sent
 
--- GONE has its cause: a goodbye of this event, or the node held the provider
+-- no refusal says that a group was dissolved
+abbrev pub NotDissolved : Option Why → Type 0
+NotDissolved None = Unit {0}
+NotDissolved (Some y) = is_dissolved y ≡ false
+
+-- nor does one that a leader keeps
+abbrev pub Whys : Led → Type 0
+Whys l = (d : Decision) → Has d l.decided → NotDissolved d.why
+
+-- GONE has its cause: a goodbye of this event, or the node held the provider; and TELL does not say that a group was dissolved
 abbrev pub BodyFails : (ProviderId → Type 0) → List Happened → Body → Type 0
 BodyFails said rs (body.Gone v g p) = said p ⊎ StoodThere rs v g p
+BodyFails said rs (body.Tell v g p r y) = is_dissolved y ≡ false
 BodyFails said rs _ = Unit {0}
 
 pub stood_on : (newer rs : List Happened) (v : ViewId) (g : List ℕ) (p : ProviderId) → StoodThere rs v g p → StoodThere (newer ++ rs) v g p
@@ -191,7 +249,7 @@ body_on said newer rs (body.View y) k = tt
 body_on said newer rs (body.Lookup v g) k = tt
 body_on said newer rs (body.Name v g n) k = tt
 body_on said newer rs (body.Request v g q r phases x) k = tt
-body_on said newer rs (body.Tell v g q r y) k = tt
+body_on said newer rs (body.Tell v g q r y) k = k
 body_on said newer rs (body.Entry v g place stable e) k = tt
 body_on said newer rs (body.Ack v g n) k = tt
 body_on said newer rs (body.Vote v g proto phase p vote value message) k = tt
@@ -218,7 +276,15 @@ quiet_unasked (happened.Refused m c fault) q p = absurd q
 quiet_unasked (happened.Shown m line) q p = refl
 
 pub told_on : (newer rs : List Happened) (p : ProviderId) → WasTold rs p → WasTold (newer ++ rs) p
-told_on newer rs p k = record { number = k.number; why = k.why; told = append_has_right (happened.Told p k.number k.why) newer rs k.told; ends = k.ends }
+told_on newer rs p k =
+    record {
+      number = k.number;
+      why = k.why;
+      newer = newer ++ k.newer;
+      older = k.older;
+      moment = ap (λ z. newer ++ z) k.moment ∙ sym (append_assoc newer k.newer (happened.Told p k.number k.why ∷ k.older));
+      ends = k.ends;
+    }
 
 pub off_on : (newer rs : List Happened) (p : ProviderId) → TakenOff rs p → TakenOff (newer ++ rs) p
 off_on newer rs p k =
@@ -227,12 +293,93 @@ off_on newer rs p k =
       view = k.view;
       place = k.place;
       entry = k.entry;
+      members = k.members;
+      value = k.value;
       newer = newer ++ k.newer;
+      between = k.between;
       older = k.older;
-      moment = ap (λ z. newer ++ z) k.moment ∙ sym (append_assoc newer k.newer (happened.Put p.node k.view k.group k.place k.entry ∷ k.older));
+      moment = ap (λ z. newer ++ z) k.moment ∙ sym (append_assoc newer k.newer (happened.Heard p k.view k.group k.place k.entry k.members k.value ∷ (k.between ++ happened.Put p.node k.view k.group k.place k.entry ∷ k.older)));
+      still = k.still;
       was = k.was;
       off = k.off;
     }
+
+pub reverse_has : (r : Happened) (xs : List Happened) → Has r (reverse xs) → Has r xs
+reverse_has r [] i = i
+reverse_has r (x ∷ xs) i =
+    ⊎_elim (λ (a : Has r (reverse xs)). inr (reverse_has r xs a)) (λ (a : Has r (x ∷ [])). last a) (has_append r (reverse xs) (x ∷ []) (subst (Has r) (reverse-append (x ∷ []) xs) i))
+  where
+    last : Has r (x ∷ []) → Has r (x ∷ xs)
+    last (inl e) = inl e
+    last (inr z) = absurd z
+
+-- records of no view and no list leave the stays as they are
+pub quiet_all : (n : ℕ) (g : List ℕ) (xs rs : List Happened) → ((r : Happened) → Has r xs → Quiet r) → stays n g (xs ++ rs) ≡ stays n g rs
+quiet_all n g [] rs quiet = refl
+quiet_all n g (x ∷ xs) rs quiet = quiet_stays n g x (quiet x (inl refl)) (stays n g (xs ++ rs)) ∙ quiet_all n g xs rs (λ r i. quiet r (inr i))
+
+-- the entry was put last, and by it the provider is not there any more
+pub record PutOff (rs : List Happened) (p : ProviderId) (v : ViewId) (g : List ℕ) (i : ℕ) (e : Entry) : Type 0 where
+  pub older : List Happened
+  pub moment : rs ≡ happened.Put p.node v g i e ∷ older
+  pub was : (among (present (state_held p.node g older)) p ≡ true) ⊎ (is_join_of p e ≡ true)
+  pub off : among (present (state_held p.node g (happened.Put p.node v g i e ∷ older))) p ≡ false
+
+-- something stands at a place of a list
+pub record Split {A : Type 0} (x : A) (xs : List A) : Type 0 where
+  pub before : List A
+  pub after : List A
+  pub is : xs ≡ before ++ x ∷ after
+
+pub split : {A : Type 0} (x : A) (xs : List A) → Has x xs → Split x xs
+split x [] i = absurd i
+split x (y ∷ ys) (inl e) = record { before = []; after = ys; is = ap (λ z. z ∷ ys) (sym e) }
+split x (y ∷ ys) (inr i) = let k = split x ys i in record { before = y ∷ k.before; after = k.after; is = ap (λ z. y ∷ z) k.is }
+
+pub turned_split : (r : Happened) (xs ys zs : List Happened) → reverse (xs ++ r ∷ ys) ++ zs ≡ reverse ys ++ r ∷ (reverse xs ++ zs)
+turned_split r xs ys zs =
+    ap (λ z. z ++ zs) (reverse-append xs (r ∷ ys)) ∙ ap (λ z. (z ++ reverse xs) ++ zs) (reverse-append (r ∷ []) ys) ∙ append_assoc (reverse ys ++ r ∷ []) (reverse xs) zs ∙ append_assoc (reverse ys) (r ∷ []) (reverse xs ++ zs)
+
+-- who heard it as it was handed on was taken off by it
+pub off_heard : (before : List Happened) (rs new : List Happened) (p : ProviderId) (v : ViewId) (g : List ℕ) (i : ℕ) (e : Entry) (ms : List ProviderId) (value : List ℕ) → ((r : Happened) → Has r new → Quiet r) → Has (happened.Heard p v g i e ms value) new → PutOff (reverse rs ++ before) p v g i e → TakenOff (reverse (rs ++ new) ++ before) p
+off_heard before rs new p v g i e ms value quiet heard k =
+    record {
+      group = g;
+      view = v;
+      place = i;
+      entry = e;
+      members = ms;
+      value = value;
+      newer = reverse at.after;
+      between = reverse at.before;
+      older = k.older;
+      moment = ap (λ z. z ++ before) (reverse-append rs new) ∙ append_assoc (reverse new) (reverse rs) before ∙ ap (λ z. reverse z ++ (reverse rs ++ before)) at.is ∙ turned_split it at.before at.after (reverse rs ++ before) ∙ ap (λ z. reverse at.after ++ it ∷ (reverse at.before ++ z)) k.moment;
+      still = quiet_all p.node g (reverse at.before) (happened.Put p.node v g i e ∷ k.older) (λ r h. quiet r (subst (Has r) (sym at.is) (append_has_left r at.before (it ∷ at.after) (reverse_has r at.before h))));
+      was = k.was;
+      off = k.off;
+    }
+  where
+    it : Happened
+    it = happened.Heard p v g i e ms value
+
+    at : Split it new
+    at = split it new heard
+
+-- its node put its join in the group
+abbrev pub JoinedIn : ℕ → ProviderId → List ℕ → List Happened → Type 0
+JoinedIn n p g rs = (v : ViewId) × (i : ℕ) × (e : Entry) × Has (happened.Put n v g i e) rs × (is_join_of p e ≡ true)
+
+-- so it is with whoever takes part
+abbrev pub Takers : ℕ → SessionState → List Happened → Type 0
+Takers n t rs = (p : ProviderId) (y : Provider) → provider_of t p ≡ Some y → y.takes_part ≡ true → JoinedIn n p y.group rs
+
+pub takers_more : (n : ℕ) (t : SessionState) (newer rs : List Happened) → Takers n t rs → Takers n t (newer ++ rs)
+takers_more n t newer rs k p y q part =
+    let z = k p y q part in (z.0, z.1, z.2, append_has_right (happened.Put n z.0 y.group z.1 z.2) newer rs z.3, z.4)
+
+pub takers_pushed : (h : History) (n : ℕ) (t : SessionState) (rs new : List Happened) → Takers n t (reverse rs ++ records_of h) → Takers n t (reverse (rs ++ new) ++ records_of h)
+takers_pushed h n t rs new k =
+    subst (Takers n t) (sym (ap (λ z. z ++ records_of h) (reverse-append rs new) ∙ append_assoc (reverse new) (reverse rs) (records_of h))) (takers_more n t (reverse new) (reverse rs ++ records_of h) k)
 
 -- the node has the provider, or it is recorded why not
 abbrev pub Lives : (ProviderId → Type 0) → SessionState → List Happened → ProviderId → Type 0
@@ -252,15 +399,6 @@ OwnFor h said born t s =
 pub none_asked : (p : ProviderId) (rs xs : List Happened) → ((r : Happened) → Has r rs → asks_join p r ≡ false) → list_any (asks_join p) (rs ++ xs) ≡ list_any (asks_join p) xs
 none_asked p [] xs all = refl
 none_asked p (r ∷ rs) xs all = ap (λ b. b || list_any (asks_join p) (rs ++ xs)) (all r (inl refl)) ∙ none_asked p rs xs (λ q i. all q (inr i))
-
-pub reverse_has : (r : Happened) (xs : List Happened) → Has r (reverse xs) → Has r xs
-reverse_has r [] i = i
-reverse_has r (x ∷ xs) i =
-    ⊎_elim (λ (a : Has r (reverse xs)). inr (reverse_has r xs a)) (λ (a : Has r (x ∷ [])). last a) (has_append r (reverse xs) (x ∷ []) (subst (Has r) (reverse-append (x ∷ []) xs) i))
-  where
-    last : Has r (x ∷ []) → Has r (x ∷ xs)
-    last (inl e) = inl e
-    last (inr z) = absurd z
 
 -- more is recorded, and nobody asks
 pub own_pushed : (h : History) (said : ProviderId → Type 0) (born : ℕ) (t : SessionState) (s : Core) (rs : List Happened) → ((r : Happened) → Has r rs → (p : ProviderId) → asks_join p r ≡ false) → OwnFor h said born t s → OwnFor h said born t (record s { records = s.records ++ rs })

@@ -102,7 +102,7 @@ line_later : (x : Line) (g : List ℕ) (now : List Happened) (before : History) 
 line_later x g [] before all h = inr h
 line_later x g (r ∷ now) before all h = append_has_right x (lines_at g (earlier now before) r) (lines_with g now before all) (line_later x g now before all h)
 
-base_seen : (n : ℕ) (v : ViewId) (g : List ℕ) (u : ViewId) (len : ℕ) (s : GroupState) (h : History) → Has (happened.Base n v g u len s) (records_of h) → Has (Noted (Based n v (record { old = u; len = len; state = s }))) (lines_of g h)
+pub base_seen : (n : ℕ) (v : ViewId) (g : List ℕ) (u : ViewId) (len : ℕ) (s : GroupState) (h : History) → Has (happened.Base n v g u len s) (records_of h) → Has (Noted (Based n v (record { old = u; len = len; state = s }))) (lines_of g h)
 base_seen n v g u len s [] i = absurd i
 base_seen n v g u len s (e ∷ before) i =
     ⊎_elim (λ (a : Has (happened.Base n v g u len s) e.records). base_in n v g u len s e.records before (lines_of g before) a) (λ (b : Has (happened.Base n v g u len s) (records_of before)). line_later (Noted (Based n v (record { old = u; len = len; state = s }))) g e.records before (lines_of g before) (base_seen n v g u len s before b)) (has_append (happened.Base n v g u len s) e.records (records_of before) i)

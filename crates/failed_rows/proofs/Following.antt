@@ -3,6 +3,8 @@ use Rattle.std.proofs.Common.{◌≡◌, ◌⊎◌, ℕ, List, [], ◌∷◌, �
 use Rattle.std.specs.Prelude.{◌==◌, ◌&&◌, ◌||◌, find, nat_le, nat_lt, is_none, reverse, not, filter, if◌then◌else◌, fold}
 use Rattle.std.specs.Option.{unwrap_or}
 use Rattle.std.proofs.lemmas.Bool.{eqb-true}
+use Rattle.std.proofs.lemmas.List.{reverse-append}
+use Rattle.rsct_packet.specs.declared.ids.ViewId.{ViewId}
 use Rattle.rsct_packet.specs.declared.ids.ProviderId.{ProviderId}
 use Rattle.rsct_packet.specs.declared.ids.ProtoId.{ProtoId}
 use Rattle.rsct_packet.specs.Providers.{among, same_provider}
@@ -42,7 +44,7 @@ use Rattle.node_state.specs.Leading.{put, put_and_handed, with_waiting, with_tal
 use Rattle.node_state.specs.Deciding.{decided}
 use Rattle.node_state.specs.Following.{lookup_row, told_if, tell_row, requests_of, named, is_name_used, name_row, told_again, request_new, request_after, request_at, is_group_refused, request_row, entry_next, entry_elsewhere, entry_row, acked, ack_row, vote_cast, vote_row, tally_failed, gone_waits, marked, gone_present, gone_of, gone_row}
 use Rattle.run_safety.specs.Past.{History, records_of}
-use Rattle.run_safety.specs.Stays.{stays}
+use Rattle.run_safety.specs.Stays.{stays, is_join_of}
 use Rattle.node_groups.specs.Places.{InNameOrder, has_name}
 use Rattle.node_groups.proofs.NameOrder.{cases_text, row_here, row_there, rows_ordered}
 use Rattle.step_ties.proofs.SessionLaws.{provider_same}
@@ -51,9 +53,9 @@ use Rattle.hearing.proofs.Rows.{closes_on}
 use Rattle.honest_votes.proofs.At.{found, leads_row, leads_is}
 use Rattle.honest_votes.proofs.Hands.{handed_longer}
 use Rattle.honest_votes.proofs.Ending.{Every, NoGroup}
-use Rattle.failed_rows.specs.Failures.{GoneCause}
+use Rattle.failed_rows.specs.Failures.{IsRefused, GoneCause}
 use Rattle.failed_rows.proofs.Queues.{among_both}
-use Rattle.failed_rows.proofs.Facts.{TallyFails, TallyIs, QueueIs, BasesFit, Track}
+use Rattle.failed_rows.proofs.Facts.{NotDissolved, Whys, TallyFails, TallyIs, QueueIs, BasesFit, Track}
 use Rattle.failed_rows.proofs.Origin.{Origin}
 use Rattle.failed_rows.proofs.At.{At, at_for, at_fold, at_sent, at_row_for, at_told}
 use Rattle.failed_rows.proofs.Tallies.{failed_fails, voted_fails}
@@ -77,6 +79,11 @@ unfolding vote_cast
 voted_gone l p v value message None = (refl, refl)
 voted_gone l p v value message (Some t) = (refl, refl)
 
+voted_whys : (l : Led) (p : ProviderId) (v : Vote) (value message : Option (List ℕ)) (o : Option TallyView) → Whys l → Whys (vote_cast l p v value message o)
+unfolding vote_cast
+voted_whys l p v value message None k = k
+voted_whys l p v value message (Some t) k = k
+
 -- one more is marked
 marked_is : (ps : List ProviderId) (p q : ProviderId) → among (marked ps p) q ≡ true → (among ps q ≡ true) ⊎ (q ≡ p)
 unfolding marked
@@ -96,7 +103,7 @@ module _ (h : History) (said : ProviderId → Type 0) (origin : Origin) (P L M :
   Full s = At h said origin P L M Every NoGroup Every s
 
   at_names : (s : Core) (ns : List Leader) → Full s → Full (record s { names = ns })
-  at_names s ns a = record { inc = a.inc; own = a.own; slim = a.slim; sends = a.sends; puts = a.puts; accepted = a.accepted; whose = a.whose; order = a.order; tracks = a.tracks; marks = a.marks; tallies = a.tallies; queues = a.queues; apart = a.apart; led = a.led }
+  at_names s ns a = record { inc = a.inc; counted = a.counted; own = a.own; slim = a.slim; sends = a.sends; puts = a.puts; accepted = a.accepted; whose = a.whose; order = a.order; tracks = a.tracks; marks = a.marks; tallies = a.tallies; queues = a.queues; apart = a.apart; led = a.led; whys = a.whys; takers = a.takers }
 
   -- a leader is known
   module _ (s : Core) (g : List ℕ) (n : ℕ) where
@@ -108,6 +115,7 @@ module _ (h : History) (said : ProviderId → Type 0) (origin : Origin) (P L M :
     at_led_by own queue a =
         record {
           inc = a.inc;
+          counted = a.counted;
           own = a.own;
           slim = a.slim;
           sends = a.sends;
@@ -121,6 +129,8 @@ module _ (h : History) (said : ProviderId → Type 0) (origin : Origin) (P L M :
           queues = λ fit k u. waiting fit k (cases_text g k);
           apart = λ l fit k. ap joiners_fit (lists k (cases_text g k)).1 ∙ a.apart l fit k;
           led = λ k z. absurd z;
+          whys = λ k. why k (cases_text g k);
+          takers = a.takers;
         }
       where
         c : Core
@@ -131,6 +141,10 @@ module _ (h : History) (said : ProviderId → Type 0) (origin : Origin) (P L M :
 
         there : (k : List ℕ) → (g ≡ k → ⊥) → found c k ≡ found s k
         there k ne = row_there g led_row (λ x. refl) s k ne
+
+        why : (k : List ℕ) → (g ≡ k) ⊎ (g ≡ k → ⊥) → Whys (found c k).led
+        why k (inl e) = subst (λ z. Whys (found c z).led) e (subst (λ (z : GroupRow). Whys z.led) (sym here) (a.whys g))
+        why k (inr ne) = subst (λ (z : GroupRow). Whys z.led) (sym (there k ne)) (a.whys k)
 
         lists : (k : List ℕ) → (g ≡ k) ⊎ (g ≡ k → ⊥) → (len_in (found c k).list ≡ len_in (found s k).list) × (state_in (found c k).list ≡ state_in (found s k).list)
         lists k (inl e) = subst (λ z. (len_in (found c z).list ≡ len_in (found s z).list) × (state_in (found c z).list ≡ state_in (found s z).list)) e (ap (λ (z : GroupRow). len_in z.list) here, ap (λ (z : GroupRow). state_in z.list) here)
@@ -170,36 +184,47 @@ module _ (h : History) (said : ProviderId → Type 0) (origin : Origin) (P L M :
       by false = a
       by true = at_sent h said origin P L M Every NoGroup Every (record s { names = names.names_after g from s.names }) from (body.Name s.views.view g (unwrap_or (names.looked_up g from s.names) 0)) tt (at_names s (names.names_after g from s.names) a)
 
-  -- requests that are joins have the number of their provider's join
+  -- a join that is outstanding has the number of its provider's join, and its node did not put it
   abbrev Numbered : Core → Type 0
-  Numbered s = (q : Request) → Has q s.sessions.requests → is_join q.proposal ≡ true → q.r ≡ q.p.join
+  Numbered s = (q : Request) → Has q s.sessions.requests → is_join q.proposal ≡ true → IsRefused (reverse s.records ++ records_of h) q.p q.r
 
-  at_told_if : (s : Core) (p : ProviderId) (r : ℕ) (y : Why) (b : Bool) → (b ≡ true → (is_join_request (outstanding s.sessions p) ≡ true) ⊎ (is_dissolved y ≡ true) → (r ≡ p.join) ⊎ (is_dissolved y ≡ true)) → Full s → Full (told_if s p r y b)
+  at_told_if : (s : Core) (p : ProviderId) (r : ℕ) (y : Why) (b : Bool) → (b ≡ true → (is_join_request (outstanding s.sessions p) ≡ true) ⊎ (is_dissolved y ≡ true) → IsRefused (reverse s.records ++ records_of h) p r) → Full s → Full (told_if s p r y b)
   unfolding told_if
   at_told_if s p r y false ends a = a
-  at_told_if s p r y true ends a = at_told h said origin P L M Every NoGroup Every s p r y (ends refl) a
+  at_told_if s p r y true ends a = at_told h said origin P L M Every NoGroup Every s p r y (λ me inc k. inl (ends refl k)) a
 
-  pub at_tell : (s : Core) (p : ProviderId) (r : ℕ) (y : Why) → Numbered s → Full s → Full (tell_row s p r y)
+  pub at_tell : (s : Core) (p : ProviderId) (r : ℕ) (y : Why) → is_dissolved y ≡ false → Numbered s → Full s → Full (tell_row s p r y)
   unfolding tell_row outstanding
-  at_tell s p r y numbered a = at_told_if s p r y (is_numbered r (find (is_asked_by p) s.sessions.requests)) ends a
+  at_tell s p r y fine numbered a = at_told_if s p r y (is_numbered r (find (is_asked_by p) s.sessions.requests)) ends a
     where
-      joins : (o : Option Request) → find (is_asked_by p) s.sessions.requests ≡ o → is_numbered r o ≡ true → is_join_request o ≡ true → r ≡ p.join
+      joins : (o : Option Request) → find (is_asked_by p) s.sessions.requests ≡ o → is_numbered r o ≡ true → is_join_request o ≡ true → IsRefused (reverse s.records ++ records_of h) p r
       joins None e n j = absurd (cc)
       joins (Some q) e n j =
           let k = find_has (is_asked_by p) s.sessions.requests q e in
-          sym (eqb-true q.r r n) ∙ numbered q k.0 j ∙ ap (λ (z : ProviderId). z.join) (provider_same q.p p k.1)
+          subst (λ (z : ProviderId × ℕ). IsRefused (reverse s.records ++ records_of h) z.0 z.1) (λ i. (provider_same q.p p k.1 i, eqb-true q.r r n i)) (numbered q k.0 j)
 
-      ends : is_numbered r (find (is_asked_by p) s.sessions.requests) ≡ true → (is_join_request (find (is_asked_by p) s.sessions.requests) ≡ true) ⊎ (is_dissolved y ≡ true) → (r ≡ p.join) ⊎ (is_dissolved y ≡ true)
-      ends n (inl j) = inl (joins (find (is_asked_by p) s.sessions.requests) refl n j)
-      ends n (inr d) = inr d
+      ends : is_numbered r (find (is_asked_by p) s.sessions.requests) ≡ true → (is_join_request (find (is_asked_by p) s.sessions.requests) ≡ true) ⊎ (is_dissolved y ≡ true) → IsRefused (reverse s.records ++ records_of h) p r
+      ends n (inl j) = joins (find (is_asked_by p) s.sessions.requests) refl n j
+      ends n (inr d) = absurd (let z : true ≡ false = sym d ∙ fine in cc)
 
   told_numbered : (s : Core) (p : ProviderId) (r : ℕ) (y : Why) → Numbered s → Numbered (tell_row s p r y)
   unfolding tell_row told_if recorded with_sessions telling_taken told_of without_providers
   told_numbered s p r y k q i j = by (is_numbered r (outstanding s.sessions p)) (takes_telling s.sessions p r y) (is_join_request (outstanding s.sessions p) || is_dissolved y) i
     where
-      by : (a b c : Bool) → Has q (told_if s p r y a).sessions.requests → q.r ≡ q.p.join
+      -- a telling more
+      told : Happened
+      told = happened.Told p r y
+
+      later : IsRefused (reverse s.records ++ records_of h) q.p q.r → IsRefused (reverse (s.records ++ told ∷ []) ++ records_of h) q.p q.r
+      later z = subst (λ rs. IsRefused (rs ++ records_of h) q.p q.r) (sym (reverse-append s.records (told ∷ []))) (record { join = z.join; in_view = z.in_view; unput = other z })
+        where
+          other : IsRefused (reverse s.records ++ records_of h) q.p q.r → (v : ViewId) (g : List ℕ) (i : ℕ) (e : Entry) → Has (happened.Put q.p.node v g i e) (told ∷ (reverse s.records ++ records_of h)) → is_join_of q.p e ≡ true → ⊥
+          other z v g i e (inl w) = let x : happened.Put q.p.node v g i e ≡ happened.Told p r y = w in absurd (cc)
+          other z v g i e (inr w) = z.unput v g i e w
+
+      by : (a b c : Bool) → Has q (told_if s p r y a).sessions.requests → IsRefused (reverse (told_if s p r y a).records ++ records_of h) q.p q.r
       by false b c i = k q i j
-      by true b c i = k q (fewer i) j
+      by true b c i = later (k q (fewer i) j)
         where
           fewer : Has q (telling_taken s.sessions p r y).requests → Has q s.sessions.requests
           fewer i = at (takes_telling s.sessions p r y) (is_join_request (outstanding s.sessions p) || is_dissolved y) i
@@ -211,7 +236,7 @@ module _ (h : History) (said : ProviderId → Type 0) (origin : Origin) (P L M :
 
   all_told : (qs : List Request) (s : Core) → Numbered s → Full s → Full (fold (λ t (q : Request). tell_row t q.p q.r (GroupsFull 64)) s qs)
   all_told [] s k a = a
-  all_told (q ∷ qs) s k a = all_told qs (tell_row s q.p q.r (GroupsFull 64)) (told_numbered s q.p q.r (GroupsFull 64) k) (at_tell s q.p q.r (GroupsFull 64) k a)
+  all_told (q ∷ qs) s k a = all_told qs (tell_row s q.p q.r (GroupsFull 64)) (told_numbered s q.p q.r (GroupsFull 64) k) (at_tell s q.p q.r (GroupsFull 64) refl k a)
 
   unled : (s : Core) (g : List ℕ) → is_none (leader_in s (found s g)) ≡ true → leads_row s (found s g) ≡ true → ⊥
   unfolding leader_in
@@ -245,10 +270,10 @@ module _ (h : History) (said : ProviderId → Type 0) (origin : Origin) (P L M :
 
   -- ---- REQUEST
 
-  at_told_again : (s : Core) (g : List ℕ) (p : ProviderId) (r : ℕ) (o : Option Why) → Full s → Full (told_again s g p r o)
+  at_told_again : (s : Core) (g : List ℕ) (p : ProviderId) (r : ℕ) (o : Option Why) → NotDissolved o → Full s → Full (told_again s g p r o)
   unfolding told_again
-  at_told_again s g p r None a = a
-  at_told_again s g p r (Some y) a = at_sent h said origin P L M Every NoGroup Every s p.node (body.Tell s.views.view g p r y) tt a
+  at_told_again s g p r None fine a = a
+  at_told_again s g p r (Some y) fine a = at_sent h said origin P L M Every NoGroup Every s p.node (body.Tell s.views.view g p r y) fine a
 
   -- noting itself as leader, the node leads
   module _ (f : Answering) (s : Core) (g : List ℕ) (leads_it : leads (led_by s g s.views.me) g ≡ true) where
@@ -273,24 +298,24 @@ module _ (h : History) (said : ProviderId → Type 0) (origin : Origin) (P L M :
         let t : Core = led_by s g s.views.me in
         all_again (decided f t g p r phases x) g (at_decided h said origin P L M live Every (Only g) Every f t g p r phases x asks tt refl (only_led t g leads_it (at_noted a)))
 
-    at_request_after : (p : ProviderId) (r : ℕ) (phases : Phases) (x : Proposal) (d : Decision) (b c : Bool) → NoFailure x → Full s → Full (request_after f s g p r phases x d b c)
+    at_request_after : (p : ProviderId) (r : ℕ) (phases : Phases) (x : Proposal) (d : Decision) (b c : Bool) → NotDissolved d.why → NoFailure x → Full s → Full (request_after f s g p r phases x d b c)
     unfolding request_after
-    at_request_after p r phases x d true c asks a = a
-    at_request_after p r phases x d false true asks a = at_told_again s g p r d.why a
-    at_request_after p r phases x d false false asks a = at_request_new p r phases x asks a
+    at_request_after p r phases x d true c fine asks a = a
+    at_request_after p r phases x d false true fine asks a = at_told_again s g p r d.why fine a
+    at_request_after p r phases x d false false fine asks a = at_request_new p r phases x asks a
 
-    at_request_at : (p : ProviderId) (r : ℕ) (phases : Phases) (x : Proposal) (o : Option Decision) → NoFailure x → Full s → Full (request_at f s g p r phases x o)
+    at_request_at : (p : ProviderId) (r : ℕ) (phases : Phases) (x : Proposal) (o : Option Decision) → ((d : Decision) → o ≡ Some d → NotDissolved d.why) → NoFailure x → Full s → Full (request_at f s g p r phases x o)
     unfolding request_at
-    at_request_at p r phases x None asks a = at_request_new p r phases x asks a
-    at_request_at p r phases x (Some d) asks a = at_request_after p r phases x d (nat_lt r d.r) (r == d.r) asks a
+    at_request_at p r phases x None fine asks a = at_request_new p r phases x asks a
+    at_request_at p r phases x (Some d) fine asks a = at_request_after p r phases x d (nat_lt r d.r) (r == d.r) (fine d refl) asks a
 
     pub at_request : (from : ℕ) (p : ProviderId) (r : ℕ) (phases : Phases) (x : Proposal) → NoFailure x → Full s → Full (request_row f s from g p r phases x)
-    unfolding request_row
+    unfolding request_row decision_of led_of row_of
     at_request from p r phases x asks a = by (is_group_refused s g)
       where
         by : (b : Bool) → Full (elim b as (λ _. Core) [ true ↦ sent s from (body.Name s.views.view g 0) | false ↦ request_at f s g p r phases x (decision_of (led_of s g) p) ])
         by true = at_sent h said origin P L M Every NoGroup Every s from (body.Name s.views.view g 0) tt a
-        by false = at_request_at p r phases x (decision_of (led_of s g) p) asks a
+        by false = at_request_at p r phases x (decision_of (led_of s g) p) (λ d e. a.whys g d (find_has (λ (y : Decision). same_provider y.p p) (found s g).led.decided d e).0) asks a
 
   -- ---- ENTRY and ACK
 
@@ -357,7 +382,7 @@ module _ (h : History) (said : ProviderId → Type 0) (origin : Origin) (P L M :
   unfolding acked
   at_acked s from g n a =
       let t : Core = with_led s g (λ l. record l { acked = acked_raised from n l.acked }) in
-      at_forgets_least h said origin P L M Every NoGroup Every t g (at_led h said origin P L M Every NoGroup Every s g (λ l. record l { acked = acked_raised from n l.acked }) (λ l. refl) (λ l. refl) (λ l. refl) a)
+      at_forgets_least h said origin P L M Every NoGroup Every t g (at_led h said origin P L M Every NoGroup Every s g (λ l. record l { acked = acked_raised from n l.acked }) (λ l. refl) (λ l. refl) (λ l. refl) (λ l z. z) a)
 
   pub at_ack : (s : Core) (from : ℕ) (g : List ℕ) (n : ℕ) → Full s → Full (ack_row s from g n)
   unfolding ack_row
@@ -378,7 +403,7 @@ module _ (h : History) (said : ProviderId → Type 0) (origin : Origin) (P L M :
           let b : At h said origin P L M Every (Only g) Every s = only_led s g led a in
           let l : Led = (found s g).led in
           let same = voted_gone l p v value message l.tally in
-          at_row_for h said origin P L M Every (Only g) Every Every Every s g (λ row. record row { led = vote_cast row.led p v value message row.led.tally }) (λ x. refl) (λ x. refl) (λ x. refl) (λ x. refl) (λ y q i. b.marks y g q (subst (λ z. among z q ≡ true) same.0 i)) (λ k t ne. t) (λ k t ne. t) (λ t. voted (GoneCause h s.views.view g) (leads_row s (found s g)) l (state_in (found s g).list) p v value message (b.tallies g t)) (λ fit q. subst (λ (z : WaitingView). QueueIs (GoneCause h s.views.view g) (leads_row s (found s g)) z.failures (state_in (found s g).list)) (sym same.1) (b.queues fit g q)) b
+          at_row_for h said origin P L M Every (Only g) Every Every Every s g (λ row. record row { led = vote_cast row.led p v value message row.led.tally }) (λ x. refl) (λ x. refl) (λ x. refl) (λ x. refl) (λ x z. voted_whys x.led p v value message x.led.tally z) (λ y q i. b.marks y g q (subst (λ z. among z q ≡ true) same.0 i)) (λ k t ne. t) (λ k t ne. t) (λ t. voted (GoneCause h s.views.view g) (leads_row s (found s g)) l (state_in (found s g).list) p v value message (b.tallies g t)) (λ fit q. subst (λ (z : WaitingView). QueueIs (GoneCause h s.views.view g) (leads_row s (found s g)) z.failures (state_in (found s g).list)) (sym same.1) (b.queues fit g q)) b
 
       by : (b c : Bool) → leads s g ≡ b → Full (elim (b && c) as (λ _. Core) [ true ↦ closes f (with_led s g (λ l. vote_cast l p v value message l.tally)) g | false ↦ s ])
       by true true q = all_again (closes f (with_led s g (λ l. vote_cast l p v value message l.tally)) g) g (at_closes h said origin P L M Every (Only g) Every f (with_led s g (λ l. vote_cast l p v value message l.tally)) g live tt refl (counted q))
@@ -396,7 +421,7 @@ module _ (h : History) (said : ProviderId → Type 0) (origin : Origin) (P L M :
     unfolding tally_failed with_tally with_led
     at_failed t None view e a = a
     at_failed t (Some y) view e a =
-        at_closes h said origin P L M Every (Only g) Every f (with_tally t g (Some (tally_fail p y))) g live tt refl (at_row_for h said origin P L M Every (Only g) Every Every Every t g (λ row. record row { led = record (row.led) { tally = Some (tally_fail p y) } }) (λ x. refl) (λ x. refl) (λ x. refl) (λ x. refl) (λ l q i. a.marks l g q i) (λ k t ne. t) (λ k t ne. t) (λ u. own (a.tallies g u)) (λ fit q. a.queues fit g q) a)
+        at_closes h said origin P L M Every (Only g) Every f (with_tally t g (Some (tally_fail p y))) g live tt refl (at_row_for h said origin P L M Every (Only g) Every Every Every t g (λ row. record row { led = record (row.led) { tally = Some (tally_fail p y) } }) (λ x. refl) (λ x. refl) (λ x. refl) (λ x. refl) (λ x z. z) (λ l q i. a.marks l g q i) (λ k t ne. t) (λ k t ne. t) (λ u. own (a.tallies g u)) (λ fit q. a.queues fit g q) a)
       where
         own : TallyIs (GoneCause h t.views.view g) (leads_row t (found t g)) (found t g).led.tally (state_in (found t g).list) → TallyIs (GoneCause h t.views.view g) (leads_row t (found t g)) (Some (tally_fail p y)) (state_in (found t g).list)
         own (inl none) = let z : Some y ≡ None = sym e ∙ none in absurd (cc)
@@ -427,7 +452,7 @@ module _ (h : History) (said : ProviderId → Type 0) (origin : Origin) (P L M :
 
         marks : Mine (with_led s g (λ l. record l { gone = marked l.gone p }))
         marks =
-            at_row_for h said origin P L M Every (Only g) Every Every Every s g (λ row. record row { led = record (row.led) { gone = marked row.led.gone p } }) (λ x. refl) (λ x. refl) (λ x. refl) (λ x. refl) (λ l q i. mark l q (marked_is (found s g).led.gone p q i)) (λ k t ne. t) (λ k t ne. t) (λ t. b.tallies g t) (λ fit q. b.queues fit g q) b
+            at_row_for h said origin P L M Every (Only g) Every Every Every s g (λ row. record row { led = record (row.led) { gone = marked row.led.gone p } }) (λ x. refl) (λ x. refl) (λ x. refl) (λ x. refl) (λ x z. z) (λ l q i. mark l q (marked_is (found s g).led.gone p q i)) (λ k t ne. t) (λ k t ne. t) (λ t. b.tallies g t) (λ fit q. b.queues fit g q) b
           where
             mark : L → (q : ProviderId) → (among (found s g).led.gone q ≡ true) ⊎ (q ≡ p) → GoneCause h s.views.view g q
             mark l q (inl i) = b.marks l g q i

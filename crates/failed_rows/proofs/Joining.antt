@@ -1,6 +1,6 @@
 -- What a call makes of who owns which provider: a join is its caller's, and no other call lets a provider come in.
 use Rattle.std.proofs.Common.{◌≡◌, ◌⊎◌, ◌≤◌, ℕ, ◌+◌, List, [], ◌∷◌, ◌++◌, Option, Some, None, Bool, true, false, refl, sym, ap, ◌∙◌, subst, inl, inr, arith}
-use Rattle.std.specs.Prelude.{◌==◌, ◌&&◌, ◌||◌, find, fold, reverse, if◌then◌else◌, Result, Ok, Err}
+use Rattle.std.specs.Prelude.{◌==◌, ◌&&◌, ◌||◌, find, filter, fold, reverse, if◌then◌else◌, Result, Ok, Err}
 use Rattle.std.specs.List.{list_any, last_or}
 use Rattle.std.proofs.lemmas.Bool.{eqb-true, eq-eqb}
 use Rattle.rsct_packet.specs.declared.ids.ProviderId.{ProviderId}
@@ -21,21 +21,21 @@ use Rattle.session_state.specs.declared.state.Provider.{Provider}
 use Rattle.session_state.specs.declared.state.Request.{Request}
 use Rattle.session_state.specs.declared.state.Session.{Session}
 use Rattle.session_state.specs.declared.state.SessionState.{SessionState}
-use Rattle.session_state.specs.State.{is_member_of, client_token}
-use Rattle.session_state.specs.Calls.{or_fault, client_fault, unless_fault, if_session, is_empty, init_fault, session_added, inited, new_provider, join_fault, join_asked, joined, asked, ask_fault, member_asks, request_made, left, expelled, state_changed, message_sent, member_changes, attributes_changed, keeps, subscribe_taken, unsubscribe_taken, session_ended, goodbye_taken}
+use Rattle.session_state.specs.State.{is_member_of, is_client_of, client_token}
+use Rattle.session_state.specs.Calls.{or_fault, client_fault, unless_fault, if_session, is_empty, init_fault, session_added, inited, new_provider, join_fault, join_asked, joined, asked, ask_fault, member_asks, request_made, left, expelled, state_changed, message_sent, member_changes, attributes_changed, keeps, voted, subscribe_taken, unsubscribe_taken, session_ended, goodbye_taken}
 use Rattle.node_state.specs.declared.call.CallLine.{CallLine}
 use Rattle.node_state.specs.declared.call.CallLine.TheVariants as call
 use Rattle.node_state.specs.declared.happened.Happened.{Happened}
 use Rattle.node_state.specs.declared.happened.Happened.TheVariants as happened
 use Rattle.node_state.specs.declared.state.Core.{Core}
-use Rattle.node_state.specs.State.{frozen, leader_of, recorded, with_sessions}
+use Rattle.node_state.specs.State.{frozen, leader_of, holds, recorded, with_sessions}
 use Rattle.node_state.specs.Sending.{request_to, request_sent, kept_sent_to, kept_sent}
 use Rattle.node_state.specs.Calls.{caller, subscriber, call_refused, changed, last_asked, proposed, ballot_recorded, ballot_sent_if, last_cast, ballot_given, gone_sent, all_gone_sent, goodbye_said, call_row}
 use Rattle.run_safety.specs.Stays.{asks_join, is_join_call}
 use Rattle.step_ties.proofs.SessionLaws.{provider_self}
 use Rattle.hearing.proofs.Changes.{Sends, sends_nothing, sends_one, sends_known, sends_fold}
 use Rattle.hearing.proofs.Sessions.{Casts, casts_voted, unless_is}
-use Rattle.failed_rows.proofs.Living.{slim_same, last_is}
+use Rattle.failed_rows.proofs.Living.{slim_same, last_is, NewAsks, left_lives, expelled_lives, state_lives, message_lives, attributes_lives}
 use Rattle.failed_rows.proofs.Owners.{Owned, owned_slim, known_session, owned_added, owned_ended}
 
 -- of which client a provider is after a call that recorded so much
@@ -274,3 +274,142 @@ call_now of (call.Unsubscribe client g) s none low k =
     changed_now of (call.Unsubscribe client g) s client _ none (λ u e. let t : SessionState = record (s.sessions) { subs = unsubscribed (subscriber s.sessions client g) s.sessions.subs } in subst (Owned of) (sym (unless_is _ t u e)) (owned_slim of of s.sessions t (λ x i. refl) (slim_same s.sessions t refl refl refl) k)) k
 call_now of (call.Goodbye client) s none low k =
     said_now of (call.Goodbye client) s client _ _ none (λ u e. subst (Owned of) (sym (unless_is _ (session_ended s.sessions (client_token s.sessions client)) u e)) (owned_ended of s.sessions (client_token s.sessions client) k)) k
+
+-- ---- a call asks for one join at most, with the next number
+
+-- what asks for a join is all that is recorded, its number is the next one, and its provider is of the node's incarnation
+abbrev pub OneAsk : SessionState → List Happened → Type 0
+OneAsk s rs =
+    (p : ProviderId) (g : List ℕ) (x : Proposal) → Has (happened.Asked p p.join g x) rs → (rs ≡ happened.Asked p p.join g x ∷ []) × (p.join ≡ s.last_request + 1) × (p.inc ≡ s.inc)
+
+module _ (s : Core) (none : s.records ≡ []) (low : (x : Provider) → Has x s.sessions.providers → x.p.join ≤ s.sessions.last_request) where
+  abbrev OneOf : List Happened → Type 0
+  OneOf rs = OneAsk s.sessions rs
+
+  one_silent : (rs : List Happened) → rs ≡ [] → OneOf rs
+  one_silent rs e p g x i = absurd (subst (Has (happened.Asked p p.join g x)) e i)
+
+  one_other : (rs : List Happened) (r : Happened) → rs ≡ [] → ((p : ProviderId) (g : List ℕ) (x : Proposal) → happened.Asked p p.join g x ≡ r → ⊥) → OneOf (rs ++ r ∷ [])
+  one_other rs r e other p g x i = absurd (out (subst (λ z. Has (happened.Asked p p.join g x) (z ++ r ∷ [])) e i))
+    where
+      out : Has (happened.Asked p p.join g x) (r ∷ []) → ⊥
+      out (inl q) = other p g x q
+      out (inr z) = z
+
+  one_refused : (client : List ℕ) (f : GsFault) → OneOf (call_refused s client f).records
+  unfolding call_refused recorded
+  one_refused client f = one_other s.records (happened.Refused s.views.me client f) none (λ p g x q. cc)
+
+  one_changed : (client : List ℕ) (r : Result SessionState GsFault) → OneOf (changed s client r).records
+  unfolding changed with_sessions
+  one_changed client (Ok u) = one_silent s.records none
+  one_changed client (Err f) = one_refused client f
+
+  -- a request of a provider that is there has a later number than its join
+  one_asked : (client : List ℕ) (r : Result SessionState GsFault) → ((u : SessionState) → r ≡ Ok u → Asks s.sessions u) → NewAsks r → OneOf (proposed s client r).records
+  unfolding proposed last_asked with_sessions recorded
+  one_asked client (Err f) asks new = one_refused client f
+  one_asked client (Ok u) asks new =
+      let d : Core = record s { sessions = u } in
+      subst (λ o. OneOf (last_asked d o).records) (sym j.last) (subst OneOf (sym (request_sends (recorded d a) q).records) (one_other s.records a none late))
+    where
+      j : Asks s.sessions u
+      j = asks u refl
+
+      q : Request
+      q = j.request
+
+      a : Happened
+      a = happened.Asked q.p q.r q.group q.proposal
+
+      late : (p : ProviderId) (g : List ℕ) (x : Proposal) → happened.Asked p p.join g x ≡ happened.Asked q.p q.r q.group q.proposal → ⊥
+      late p g x e =
+          let k = new q j.last in
+          let who : p ≡ q.p = cc in
+          let number : p.join ≡ q.r = cc in
+          let le : k.0.p.join ≤ s.sessions.last_request = low k.0 (subst (Has k.0) j.providers k.1) in
+          let same : k.0.p.join ≡ p.join = ap (λ (z : ProviderId). z.join) (k.2 ∙ sym who) in
+          let next : q.r ≡ s.sessions.last_request + 1 = j.number in
+          omega (arith, le, same, number, next)
+
+  one_cast : (c : Core) (o : Option KeptBallot) → c.records ≡ [] → OneOf (last_cast c o).records
+  unfolding last_cast ballot_recorded ballot_sent_if recorded
+  one_cast c None e = one_silent c.records e
+  one_cast c (Some b) e = sent (ballot_recorded c b b.ballot.filled) (frozen c) (kept b.ballot.filled)
+    where
+      kept : (o : Option Filled) → OneOf (ballot_recorded c b o).records
+      kept None = one_silent c.records e
+      kept (Some f) = one_other c.records (happened.Cast b.p b.proto b.phase f.vote f.value f.message) e (λ p g x q. cc)
+
+      sent : (t : Core) (z : Bool) → OneOf t.records → OneOf (ballot_sent_if t b z).records
+      sent t true k = k
+      sent t false k = subst OneOf (sym (kept_sends t b).records) k
+
+  one_given : (client : List ℕ) (r : Result SessionState GsFault) → OneOf (ballot_given s client r).records
+  unfolding ballot_given with_sessions
+  one_given client (Ok u) = one_cast (record s { sessions = u }) (last_or None u.kept) none
+  one_given client (Err f) = one_refused client f
+
+  one_said : (client : List ℕ) (xs : List Provider) (r : Result SessionState GsFault) → OneOf (goodbye_said s client xs r).records
+  unfolding goodbye_said with_sessions
+  one_said client xs (Ok u) = subst OneOf (sym (gone_sends (record s { sessions = u }) xs).records) (one_silent s.records none)
+  one_said client xs (Err f) = one_refused client f
+
+  -- a join
+  one_joined : (client g : List ℕ) (instance : ℕ) (attrs : Attrs) (o : Option GsFault) → OneOf (proposed s client (unless_fault o (join_asked s.sessions (client_token s.sessions client) g instance attrs))).records
+  unfolding proposed last_asked with_sessions join_asked recorded
+  one_joined client g instance attrs (Some f) = one_refused client f
+  one_joined client g instance attrs None =
+      subst (λ o. OneOf (last_asked d o).records) (sym (last_is s.sessions.requests request None)) (subst OneOf (sym (request_sends (recorded d a) request).records) one)
+    where
+      new : ProviderId
+      new = new_provider s.sessions instance
+
+      request : Request
+      request = record { p = new; r = s.sessions.last_request + 1; group = g; phases = One; proposal = Join (new ∷ []) attrs None }
+
+      d : Core
+      d = record s { sessions = join_asked s.sessions (client_token s.sessions client) g instance attrs }
+
+      a : Happened
+      a = happened.Asked new (s.sessions.last_request + 1) g (Join (new ∷ []) attrs None)
+
+      at : (p : ProviderId) (k : List ℕ) (x : Proposal) → Has (happened.Asked p p.join k x) (a ∷ []) → (a ∷ [] ≡ happened.Asked p p.join k x ∷ []) × (p.join ≡ s.sessions.last_request + 1) × (p.inc ≡ s.sessions.inc)
+      at p k x (inl e) =
+          let who : p ≡ new = cc in
+          let number : p.join ≡ s.sessions.last_request + 1 = cc in
+          (ap (λ z. z ∷ []) (sym e), number, ap (λ (z : ProviderId). z.inc) who)
+      at p k x (inr z) = absurd z
+
+      one : OneOf (s.records ++ a ∷ [])
+      one = subst (λ z. OneOf (z ++ a ∷ [])) (sym none) at
+
+left_asks : (s : SessionState) (m : MemberToken) (phases : Phases) (u : SessionState) → left s m phases ≡ Ok u → Asks s u
+unfolding left
+left_asks s m phases = made_asks s m phases _ _
+
+expelled_asks : (s : SessionState) (m : MemberToken) (phases : Phases) (out : List ProviderId) (u : SessionState) → expelled s m phases out ≡ Ok u → Asks s u
+unfolding expelled
+expelled_asks s m phases out = made_asks s m phases _ _
+
+state_asks : (s : SessionState) (m : MemberToken) (phases : Phases) (value : List ℕ) (u : SessionState) → state_changed s m phases value ≡ Ok u → Asks s u
+unfolding state_changed
+state_asks s m phases value = made_asks s m phases _ _
+
+message_asks : (s : SessionState) (m : MemberToken) (phases : Phases) (bytes : List ℕ) (u : SessionState) → message_sent s m phases bytes ≡ Ok u → Asks s u
+unfolding message_sent
+message_asks s m phases bytes = made_asks s m phases _ _
+
+pub one_call : (c : CallLine) (s : Core) → s.records ≡ [] → ((x : Provider) → Has x s.sessions.providers → x.p.join ≤ s.sessions.last_request) → OneAsk s.sessions (call_row s c).records
+unfolding call_row joined
+one_call (call.Init node name votes) s none low = one_changed s none low name (inited s.sessions name)
+one_call (call.Join client g instance attrs) s none low = one_joined s none low client g instance attrs (join_fault s.sessions (client_token s.sessions client) g attrs)
+one_call (call.Leave client g phases) s none low = one_asked s none low client (left s.sessions (caller s.sessions client g) phases) (left_asks s.sessions (caller s.sessions client g) phases) (left_lives s.sessions (caller s.sessions client g) phases).1
+one_call (call.Expel client g phases out) s none low = one_asked s none low client (expelled s.sessions (caller s.sessions client g) phases out) (expelled_asks s.sessions (caller s.sessions client g) phases out) (expelled_lives s.sessions (caller s.sessions client g) phases out).1
+one_call (call.ChangeState client g phases value) s none low = one_asked s none low client (state_changed s.sessions (caller s.sessions client g) phases value) (state_asks s.sessions (caller s.sessions client g) phases value) (state_lives s.sessions (caller s.sessions client g) phases value).1
+one_call (call.SendMessage client g phases bytes) s none low = one_asked s none low client (message_sent s.sessions (caller s.sessions client g) phases bytes) (message_asks s.sessions (caller s.sessions client g) phases bytes) (message_lives s.sessions (caller s.sessions client g) phases bytes).1
+one_call (call.ChangeAttributes client g phases attrs) s none low = one_asked s none low client (attributes_changed s.sessions (caller s.sessions client g) phases attrs) (changes_asks s.sessions (caller s.sessions client g) phases attrs) (attributes_lives s.sessions (caller s.sessions client g) phases attrs).1
+one_call (call.Vote client g v value) s none low = one_given s none low client (voted s.sessions (caller s.sessions client g) v value)
+one_call (call.Subscribe client g) s none low = one_changed s none low client (subscribe_taken s.sessions (client_token s.sessions client) g (holds s g))
+one_call (call.Unsubscribe client g) s none low = one_changed s none low client (unsubscribe_taken s.sessions (client_token s.sessions client) (subscriber s.sessions client g))
+one_call (call.Goodbye client) s none low = one_said s none low client (filter (is_client_of (client_token s.sessions client)) s.sessions.providers) (goodbye_taken s.sessions (client_token s.sessions client))

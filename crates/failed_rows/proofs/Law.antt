@@ -14,6 +14,8 @@ use Rattle.node_state.specs.declared.call.CallLine.{CallLine}
 use Rattle.node_state.specs.declared.call.CallLine.TheVariants as call
 use Rattle.node_state.specs.declared.config.Config.{Config}
 use Rattle.node_state.specs.declared.happened.Happened.{Happened}
+use Rattle.node_state.specs.declared.happened.Happened.TheVariants as happened
+use Rattle.group_entry.specs.declared.proposal.Proposal.{Proposal}
 use Rattle.node_state.specs.declared.packet.Body.{Body}
 use Rattle.node_state.specs.declared.packet.Body.TheVariants as body
 use Rattle.node_state.specs.declared.packet.Packet.{Packet}
@@ -22,7 +24,7 @@ use Rattle.node_state.specs.HandOn.{Answering}
 use Rattle.node_state.specs.Calls.{call_row}
 use Rattle.node_state.specs.Step.{NodeEvent, Ticks, Asks, Given, Calls, Garbage, at_work, stepped}
 use Rattle.world_model.specs.declared.event.Event.{Event}
-use Rattle.run_safety.specs.Past.{records_of}
+use Rattle.run_safety.specs.Past.{records_of, inc_now}
 use Rattle.run_safety.specs.Stays.{is_refused, asks_join, client_of, joining_client, goodbye_of, is_named}
 use Rattle.step_ties.specs.Tied.{Scene, NodeIs, NodeIsIf, Rests}
 use Rattle.step_ties.specs.Rows.{over, ended, nothing_yet, starts_too, Arises}
@@ -34,10 +36,11 @@ use Rattle.step_ties.proofs.RunLaw.{reached_rests}
 use Rattle.step_ties.proofs.Turns.{has_turned}
 use Rattle.honest_votes.proofs.At.{found, leads_row}
 use Rattle.honest_votes.proofs.Ending.{Every, NoGroup}
+use Rattle.attending.proofs.Law.{incs_of}
 use Rattle.failed_rows.specs.Failures.{GoneCause, SaidGoodbye}
 use Rattle.failed_rows.specs.Scenes.{Names, Played, Nothing, AllStart, Starts, Stops, Steps, Notes, FailuresAreHonest}
 use Rattle.failed_rows.proofs.Fitting.{noted_fit}
-use Rattle.failed_rows.proofs.Facts.{Of, BasesFit, BodyFails, Lives, reverse_has}
+use Rattle.failed_rows.proofs.Facts.{Of, stepped_of, BasesFit, BodyFails, Lives, reverse_has}
 use Rattle.failed_rows.proofs.Origin.{origin_of, root_of}
 use Rattle.failed_rows.proofs.Owners.{Owned, owned_slim, goodbye_named}
 use Rattle.failed_rows.proofs.Joining.{call_now}
@@ -61,7 +64,7 @@ none_refused : (rs : List Happened) → ((r : Happened) → Has r rs → is_refu
 none_refused [] all = refl
 none_refused (r ∷ rs) all = ap (λ b. b || list_any is_refused rs) (all r (inl refl)) ∙ none_refused rs (λ q i. all q (inr i))
 
-module _ (w : Scene) (n : ℕ) (f : Answering) (s : Core) (e : NodeEvent) (v : Event) (up : w.cores n ≡ Some s) (rests : (g : List ℕ) → Rests g w) (after : (g : List ℕ) → Rests g (ended w n v (stepped f s e))) (arises : Arises w e) (says : Names n e v) (k : Honest w) where
+module _ (w : Scene) (n : ℕ) (f : Answering) (s : Core) (e : NodeEvent) (v : Event) (up : w.cores n ≡ Some s) (rests : (g : List ℕ) → Rests g w) (after : (g : List ℕ) → Rests g (ended w n v (stepped f s e))) (arises : Arises w e) (says : Names n e v) (counts : inc_now n (records_of w.before) ≡ w.incs n) (k : Honest w) where
   abbrev t : Core
   t = stepped f s e
 
@@ -75,10 +78,17 @@ module _ (w : Scene) (n : ℕ) (f : Answering) (s : Core) (e : NodeEvent) (v : E
   were : CoreFails w.before s
   were = subst (CoreIf w.before) up (k.nodes n)
 
+  is_node : NodeIsIf w.config (rests []).ghost [] n (w.incs n) (Some s)
+  is_node = subst (NodeIsIf w.config (rests []).ghost [] n (w.incs n)) up ((rests []).nodes n)
+
+  counted : inc_now s.views.me (records_of w.before) ≡ s.views.inc
+  counted = ap (λ m. inc_now m (records_of w.before)) ((is_node.0).stands.me) ∙ counts ∙ sym is_node.2
+
   begin : CoreFails w.before s → At w.before Said (origin_of s None) (Unit {0}) (Unit {0}) Leaves Every NoGroup Every (at_work s)
   begin c =
       record {
         inc = refl;
+        counted = counted;
         own = λ p node inc asked. begun p (c.own p node inc asked);
         slim = tt;
         sends = λ p i. absurd i;
@@ -92,6 +102,8 @@ module _ (w : Scene) (n : ℕ) (f : Answering) (s : Core) (e : NodeEvent) (v : E
         queues = λ fit g u. c.queues g;
         apart = λ l fit g. c.apart g;
         led = λ g z. absurd z;
+        whys = c.whys;
+        takers = c.takers;
       }
     where
       begun : (p : ProviderId) → Lives (SaidGoodbye w.before) s.sessions (records_of w.before) p → Lives Said s.sessions (records_of w.before) p
@@ -103,7 +115,7 @@ module _ (w : Scene) (n : ℕ) (f : Answering) (s : Core) (e : NodeEvent) (v : E
   at_begin = begin were
 
   calls : Calling (at_work s) Said Leaves e
-  calls = record { mine = λ p i. subst (λ (z : ProviderId). z.node ≡ s.views.me) i.2 ((here.owes.providers i.0 i.1).0 ∙ sym here.stands.me); me = here.owes.me ∙ sym here.stands.me; taken = taken; says = goodbye }
+  calls = record { mine = λ p i. subst (λ (z : ProviderId). z.node ≡ s.views.me) i.2 ((here.owes.providers i.0 i.1).0 ∙ sym here.stands.me); me = here.owes.me ∙ sym here.stands.me; taken = taken; says = goodbye; owner = ((rests []).turns n s up).owner }
     where
       here : NodeIs (rests []).ghost [] n s
       here = (subst (NodeIsIf w.config (rests []).ghost [] n (w.incs n)) up ((rests []).nodes n)).0
@@ -129,6 +141,14 @@ module _ (w : Scene) (n : ℕ) (f : Answering) (s : Core) (e : NodeEvent) (v : E
 
   at : At w.before Said (origin_of s (Some (root_of (at_work s) e))) (Unit {0}) (Unit {0}) Leaves Every NoGroup Every t
   at = at_stepped w n f s Said Leaves e k.sent (λ h. begin_tied h w n s up (rests h)) arises at_begin calls
+
+  -- whoever asks for a join in this event asks by the call
+  pub asked_by_call : (p : ProviderId) (g : List ℕ) (x : Proposal) → Has (happened.Asked p p.join g x) t.records → Has (happened.Asked p p.join g x) (root_of (at_work s) e).records
+  asked_by_call = at.slim.asked
+
+  -- at its own node
+  pub asked_here : (p : ProviderId) (g : List ℕ) (x : Proposal) → Has (happened.Asked p p.join g x) t.records → p.node ≡ t.views.me
+  asked_here p g x i = at.whose (happened.Asked p p.join g x) i
 
   fit : BasesFit t.records
   fit r i = noted_fit (ended w n v t) after r (has_turned r t.records (records_of w.before) (append_has_left r t.records (records_of w.before) i))
@@ -162,7 +182,7 @@ module _ (w : Scene) (n : ℕ) (f : Answering) (s : Core) (e : NodeEvent) (v : E
   sent_gone (body.Lookup u g) c = tt
   sent_gone (body.Name u g m) c = tt
   sent_gone (body.Request u g q r phases x) c = tt
-  sent_gone (body.Tell u g q r y) c = tt
+  sent_gone (body.Tell u g q r y) c = c
   sent_gone (body.Entry u g place stable x) c = tt
   sent_gone (body.Ack u g m) c = tt
   sent_gone (body.Vote u g proto phase p vote value message) c = tt
@@ -187,7 +207,7 @@ module _ (w : Scene) (n : ℕ) (f : Answering) (s : Core) (e : NodeEvent) (v : E
   step_honest =
       record {
         sent = λ p i. by p (has_append p t.sends w.sent i);
-        nodes = each_set (λ m o. CoreIf (over v t ∷ w.before) o) w.cores n (Some t) own (λ m ne. core_if_on n m (over v t) w.before (w.cores m) (who_is w (rests []) m) ne (λ r i. subst (λ z. Of z r) me (at.whose r (reverse_has r t.records i))) (k.nodes m));
+        nodes = each_set (λ m o. CoreIf (over v t ∷ w.before) o) w.cores n (Some t) own (λ m ne. core_if_on n m (over v t) w.before (w.cores m) (who_is w (rests []) m) ne (λ r i. subst (λ z. Of z r) me (stepped_of t.views.me r (at.whose r (reverse_has r t.records i)))) (k.nodes m));
         puts = (at.puts tt fit, k.puts);
       }
     where
@@ -209,19 +229,21 @@ module _ (w : Scene) (n : ℕ) (f : Answering) (s : Core) (e : NodeEvent) (v : E
             apart = λ g. at.apart tt fit g;
             own = λ p node inc asked. own_after p (at.own p node (inc ∙ at.inc) asked);
             mine = λ x i. (here.owes.providers x i).0 ∙ sym me;
+            whys = at.whys;
+            takers = at.takers;
             owners = owned_slim (λ p. if list_any (asks_join p) (reverse root.records) then joining_client (Some v) else client_of p w.before) (λ p. client_of p (over v t ∷ w.before)) root.sessions t.sessions (λ x i. ap (λ b. if b then joining_client (Some v) else client_of x.p w.before) (at.slim.asks x.p)) at.slim.sessions (rooted e says);
           }
 
 -- ---- every scene
 
-played_honest : (c : Config) (w : Scene) → Played c w → Honest w
+pub played_honest : (c : Config) (w : Scene) → Played c w → Honest w
 played_honest c _ Nothing = record { sent = λ p i. absurd i; nodes = λ m. tt; puts = tt }
 played_honest c _ (AllStart fixed) =
     fresh_honest (fold (λ (w : Scene) n. starts_too w n (w.cores n)) (record (nothing_yet c) { before = record { event = None; records = [] } ∷ [] }) (nodes_of c.nodes)) (fold_fresh (nodes_of c.nodes) (record (nothing_yet c) { before = record { event = None; records = [] } ∷ [] }) (record { sent = refl; nodes = λ m. tt; puts = (tt, tt); unasked = λ p. refl }))
 played_honest c _ (Starts w n e k free real down) = start_honest w n e (λ g. reached_rests c w (reached c w k) g) down (played_honest c w k)
 played_honest c _ (Stops w n e s k up) = stop_honest w n e (reached_rests c w (reached c w k) []) (played_honest c w k)
 played_honest c _ (Steps w n f s e v k up arises says) =
-    step_honest w n f s e v up (λ g. reached_rests c w (reached c w k) g) (λ g. reached_rests c (ended w n v (stepped f s e)) (reached c (ended w n v (stepped f s e)) (Steps w n f s e v k up arises says)) g) arises says (played_honest c w k)
+    step_honest w n f s e v up (λ g. reached_rests c w (reached c w k) g) (λ g. reached_rests c (ended w n v (stepped f s e)) (reached c (ended w n v (stepped f s e)) (Steps w n f s e v k up arises says)) g) arises says (incs_of c w (reached c w k) n) (played_honest c w k)
 played_honest c _ (Notes w e rs k notes) = note_honest w e rs (reached_rests c w (reached c w k) []) notes (played_honest c w k)
 
 pub failures_are_honest : FailuresAreHonest

@@ -1,6 +1,6 @@
 -- What the leader of a group does.
 use Rattle.std.proofs.Common.{◌≡◌, ◌⊎◌, ℕ, zero, suc, ◌-◌, max, List, [], ◌∷◌, drop, Option, Some, None, Bool, true, false, refl, sym, ap, ◌∙◌, subst, inl, inr}
-use Rattle.std.specs.Prelude.{not, filter, find, fold, nat_le, if◌then◌else◌}
+use Rattle.std.specs.Prelude.{not, filter, find, fold, nat_le, if◌then◌else◌, reverse, ◌++◌}
 use Rattle.std.proofs.lemmas.Bool.{and_parts}
 use Rattle.rsct_packet.specs.declared.ids.ViewId.{ViewId}
 use Rattle.rsct_packet.specs.declared.ids.ProtoId.{ProtoId}
@@ -31,12 +31,14 @@ use Rattle.view_core.specs.declared.views.Views.{Views}
 use Rattle.node_state.specs.declared.group.GroupRow.{GroupRow}
 use Rattle.node_state.specs.declared.group.Led.{Led}
 use Rattle.node_state.specs.declared.packet.Body.TheVariants as body
+use Rattle.node_state.specs.declared.happened.Happened.{Happened}
+use Rattle.node_state.specs.declared.happened.Happened.TheVariants as happened
 use Rattle.node_state.specs.declared.state.Core.{Core}
 use Rattle.node_state.specs.State.{row_found, row_of, with_row, with_led, led_of, list_of, state_of, len_of, fits_at_end, list_forgotten, forgets_below, leader_of, others, least_acked, recorded}
 use Rattle.node_state.specs.Sending.{sent_all}
 use Rattle.node_state.specs.HandOn.{Answering, handed_on}
 use Rattle.node_state.specs.Leading.{put, forgets_least, with_waiting, waits_if, new_members_wait, appended, appended_if, tally_for, tally_set, tally_opened, closing, closing_of, closing_entry, is_phase, closes_from, closes, begun_many, begins}
-use Rattle.run_safety.specs.Past.{History}
+use Rattle.run_safety.specs.Past.{History, records_of}
 use Rattle.node_groups.specs.Places.{InNameOrder, has_name}
 use Rattle.node_groups.proofs.NameOrder.{row_here}
 use Rattle.step_ties.proofs.Appending.{handed_rows}
@@ -46,13 +48,13 @@ use Rattle.failed_rows.proofs.Queues.{Stays, BringsNone, stays_after, failed_sta
 use Rattle.failed_rows.proofs.Waiting.{one_waits}
 use Rattle.hearing.proofs.Changes.{Sends, sends_all, same_sends, put_order, put_views, handed_onward}
 use Rattle.hearing.proofs.Handing.{has_among}
-use Rattle.failed_rows.proofs.Facts.{TallyWhile, TallyFails, TallyIs, Waits, AllWait, QueueIs, BasesFit}
+use Rattle.failed_rows.proofs.Facts.{Whys, TallyWhile, TallyFails, TallyIs, Waits, AllWait, QueueIs, BasesFit}
 use Rattle.failed_rows.proofs.Origin.{Origin}
 use Rattle.failed_rows.proofs.At.{At, at_for, at_row_for}
 use Rattle.failed_rows.proofs.Tallies.{closing_fails, opened_fails}
 use Rattle.failed_rows.proofs.Sends.{at_sent_all}
 use Rattle.failed_rows.proofs.Hands.{at_handed}
-use Rattle.failed_rows.proofs.Puts.{put_row, held_is, put_holds, taken_off, at_put_for}
+use Rattle.failed_rows.proofs.Puts.{put_row, held_is, put_holds, taken_off, put_there, at_put_for}
 
 -- ---- lists
 
@@ -148,17 +150,17 @@ queue_on gone led fs st v i e f (inl brings) (inr k) = inr (k.0, λ x j. waits_o
 module _ (h : History) (said : ProviderId → Type 0) (origin : Origin) (P L M : Type 0) where
   module _ (T G Q : List ℕ → Type 0) where
     -- what a leader keeps changes, but for the tally, the marks and who waits as a failure
-    pub at_led : (s : Core) (g : List ℕ) (f : Led → Led) → ((l : Led) → (f l).tally ≡ l.tally) → ((l : Led) → (f l).gone ≡ l.gone) → ((l : Led) → (f l).waiting.failures ≡ l.waiting.failures) → At h said origin P L M T G Q s → At h said origin P L M T G Q (with_led s g f)
+    pub at_led : (s : Core) (g : List ℕ) (f : Led → Led) → ((l : Led) → (f l).tally ≡ l.tally) → ((l : Led) → (f l).gone ≡ l.gone) → ((l : Led) → (f l).waiting.failures ≡ l.waiting.failures) → ((l : Led) → Whys l → Whys (f l)) → At h said origin P L M T G Q s → At h said origin P L M T G Q (with_led s g f)
     unfolding with_led
-    at_led s g f same gone waits a =
+    at_led s g f same gone waits kept a =
         let l : Led = (found s g).led in
-        at_row_for h said origin P L M T G Q T Q s g (λ row. record row { led = f row.led }) (λ x. refl) (λ x. refl) (λ x. refl) (λ x. refl) (λ y p i. a.marks y g p (subst (λ z. among z p ≡ true) (gone l) i)) (λ k t ne. t) (λ k t ne. t) (λ t. subst (λ z. TallyIs (GoneCause h s.views.view g) (leads_row s (found s g)) z (state_in (found s g).list)) (sym (same l)) (a.tallies g t)) (λ fit q. subst (λ z. QueueIs (GoneCause h s.views.view g) (leads_row s (found s g)) z (state_in (found s g).list)) (sym (waits l)) (a.queues fit g q)) a
+        at_row_for h said origin P L M T G Q T Q s g (λ row. record row { led = f row.led }) (λ x. refl) (λ x. refl) (λ x. refl) (λ x. refl) (λ x z. kept x.led z) (λ y p i. a.marks y g p (subst (λ z. among z p ≡ true) (gone l) i)) (λ k t ne. t) (λ k t ne. t) (λ t. subst (λ z. TallyIs (GoneCause h s.views.view g) (leads_row s (found s g)) z (state_in (found s g).list)) (sym (same l)) (a.tallies g t)) (λ fit q. subst (λ z. QueueIs (GoneCause h s.views.view g) (leads_row s (found s g)) z (state_in (found s g).list)) (sym (waits l)) (a.queues fit g q)) a
 
     -- those who wait change
     pub at_waiting : (s : Core) (g : List ℕ) (change : WaitingView → WaitingView) → (BasesFit s.records → Q g → QueueIs (GoneCause h s.views.view g) (leads_row s (found s g)) (change (found s g).led.waiting).failures (state_in (found s g).list)) → At h said origin P L M T G Q s → At h said origin P L M T G Q (with_waiting s g change)
     unfolding with_waiting with_led
     at_waiting s g change queue a =
-        at_row_for h said origin P L M T G Q T Q s g (λ row. record row { led = record (row.led) { waiting = change row.led.waiting } }) (λ x. refl) (λ x. refl) (λ x. refl) (λ x. refl) (λ y p i. a.marks y g p i) (λ k t ne. t) (λ k t ne. t) (λ t. a.tallies g t) queue a
+        at_row_for h said origin P L M T G Q T Q s g (λ row. record row { led = record (row.led) { waiting = change row.led.waiting } }) (λ x. refl) (λ x. refl) (λ x. refl) (λ x. refl) (λ x z. z) (λ y p i. a.marks y g p i) (λ k t ne. t) (λ k t ne. t) (λ t. a.tallies g t) queue a
 
     pub queue_all : (gone : ProviderId → Type 0) (led : Bool) (fs : List Failure) (st : GroupState) → QueueIs gone led fs st → AllWait gone st fs
     queue_all gone led fs st (inl none) = subst (AllWait gone st) (sym none) (λ f i. absurd i)
@@ -171,7 +173,7 @@ module _ (h : History) (said : ProviderId → Type 0) (origin : Origin) (P L M :
     pub at_forgets : (s : Core) (g : List ℕ) (n : ℕ) → At h said origin P L M T G Q s → At h said origin P L M T G Q (forgets_below s g n)
     unfolding forgets_below
     at_forgets s g n a =
-        at_row_for h said origin P L M T G Q T Q s g (λ row. record row { list = list_forgotten n row.list }) (λ x. refl) (λ x. refl) (λ x. forgotten_len x.list n) (λ x. forgotten_state x.list n) (λ y p i. a.marks y g p i) (λ k t ne. t) (λ k t ne. t) (λ t. a.tallies g t) (λ fit q. a.queues fit g q) a
+        at_row_for h said origin P L M T G Q T Q s g (λ row. record row { list = list_forgotten n row.list }) (λ x. refl) (λ x. refl) (λ x. forgotten_len x.list n) (λ x. forgotten_state x.list n) (λ x z. z) (λ y p i. a.marks y g p i) (λ k t ne. t) (λ k t ne. t) (λ t. a.tallies g t) (λ fit q. a.queues fit g q) a
 
     pub at_forgets_least : (s : Core) (g : List ℕ) → At h said origin P L M T G Q s → At h said origin P L M T G Q (forgets_least s g)
     unfolding forgets_least
@@ -238,7 +240,7 @@ module _ (h : History) (said : ProviderId → Type 0) (origin : Origin) (P L M :
 
         handed_at : At h said origin P L M U G Q w
         handed_at =
-            at_handed h said origin P L M U G Q f u (leader_of u g) g (len_of s g) (state_of s g) st e (taken_off h said origin P L M T G Q s u g e live a (ap (λ (z : Views). z.me) sends.views) sends.sessions sends.records (λ k. held_is h said origin P L M U G Q t live put_at k)) sent_at
+            at_handed h said origin P L M U G Q f u (leader_of u g) g (len_of s g) (state_of s g) st e s.views.view (ap (λ (z : Views). z.view) sends.views) (subst (λ (z : ℕ × List Happened). Has (happened.Put z.0 s.views.view g (len_of s g) e) (reverse z.1 ++ records_of h)) (λ j. (sym (ap (λ (z : Views). z.me) sends.views) j, sym sends.records j)) (put_there h s g e)) (taken_off h said origin P L M T G Q s u g e live a (ap (λ (z : Views). z.me) sends.views) sends.sessions sends.records (λ k. held_is h said origin P L M U G Q t live put_at k)) sent_at
 
         forgot_at : At h said origin P L M U G Q x
         forgot_at = at_forgets U G Q w g (least_acked w g) handed_at
@@ -269,7 +271,7 @@ module _ (h : History) (said : ProviderId → Type 0) (origin : Origin) (P L M :
     pub at_tally_set : (s : Core) (g : List ℕ) (t : Option TallyView) → (T g → TallyIs (GoneCause h s.views.view g) (leads_row s (found s g)) t (state_in (found s g).list)) → At h said origin P L M (But g T) G Q s → At h said origin P L M T G Q (tally_set s g t)
     unfolding tally_set with_led
     at_tally_set s g t own a =
-        at_row_for h said origin P L M (But g T) G Q T Q s g (λ row. record row { led = record (row.led) { tally = t; given = [] } }) (λ x. refl) (λ x. refl) (λ x. refl) (λ x. refl) (λ y p i. a.marks y g p i) (λ k u ne. (u, ne)) (λ k q ne. q) own (λ fit q. a.queues fit g q) a
+        at_row_for h said origin P L M (But g T) G Q T Q s g (λ row. record row { led = record (row.led) { tally = t; given = [] } }) (λ x. refl) (λ x. refl) (λ x. refl) (λ x. refl) (λ x z. z) (λ y p i. a.marks y g p i) (λ k u ne. (u, ne)) (λ k q ne. q) own (λ fit q. a.queues fit g q) a
 
     pub at_tally_opened : (s : Core) (g : List ℕ) → L → G g → At h said origin P L M (But g T) G Q s → At h said origin P L M T G Q (tally_opened s g)
     unfolding tally_opened state_of list_of led_of row_of

@@ -1,4 +1,5 @@
 pub mod Queues
+pub mod Grows
 pub mod Living
 pub mod Facts
 pub mod Origin
@@ -16,6 +17,7 @@ pub mod Casts
 pub mod Leading
 pub mod Ending
 pub mod Fitting
+pub mod Asked
 pub mod Entering
 pub mod Following
 pub mod Calling
@@ -25,3 +27,4 @@ pub mod Between
 pub mod Starting
 pub mod Law
 pub mod LetGo
+pub mod Groups

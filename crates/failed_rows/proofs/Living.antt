@@ -1,6 +1,6 @@
 -- Which providers a node goes on having, whatever happens to its sessions.
 use Rattle.std.proofs.Common.{◌≡◌, ◌⊎◌, ℕ, List, [], ◌∷◌, ◌++◌, Option, Some, None, Bool, true, false, refl, sym, ap, ◌∙◌, subst, inl, inr}
-use Rattle.std.specs.Prelude.{◌+◌, not, ◌||◌, find, fold, filter, if◌then◌else◌, Result, Ok, Err}
+use Rattle.std.specs.Prelude.{◌+◌, not, cond, ◌||◌, find, fold, filter, if◌then◌else◌, Result, Ok, Err}
 use Rattle.std.specs.List.{last_or, list_any}
 use Rattle.rsct_packet.specs.declared.ids.ProviderId.{ProviderId}
 use Rattle.rsct_packet.specs.Providers.{among, same_provider}
@@ -325,6 +325,67 @@ attributes_same s m phases attrs =
     by : (o : Option Provider) → SameProviders s (member_changes s o phases attrs)
     by None = tt
     by (Some x) = unless_same s (asked s x phases (λ r. Attributes x.p r attrs)) (ask_fault s x (attributes_fault (first_fault attrs x.group))) refl
+
+pub inited_same : (s : SessionState) (name : List ℕ) → SameProviders s (inited s name)
+unfolding inited session_added
+inited_same s name = unless_same s (session_added s name) (init_fault s name) refl
+
+pub subscribe_same : (s : SessionState) (t : ClientToken) (g : List ℕ) (known : Bool) → SameProviders s (subscribe_taken s t g known)
+unfolding subscribe_taken
+subscribe_same s t g known = unless_same s (record s { subs = subscribed t g s.subs }) (subscribe_fault s t g known) refl
+
+pub unsubscribe_same : (s : SessionState) (t : ClientToken) (sub : SubToken) → SameProviders s (unsubscribe_taken s t sub)
+unfolding unsubscribe_taken
+unsubscribe_same s t sub = unless_same s (record s { subs = unsubscribed sub s.subs }) (unsubscribe_fault s t sub) refl
+
+pub voted_same : (s : SessionState) (m : MemberToken) (v : Vote) (value : Option (List ℕ)) → SameProviders s (voted s m v value)
+unfolding voted
+voted_same s m v value = if_same s (is_empty s.sessions) (member_votes s (find (is_member_of m) s.providers) v value) (provider (find (is_member_of m) s.providers))
+  where
+    opened : (x : Provider) (o : Option OpenPhase) → SameProviders s (vote_in s x v value o)
+    opened x None = tt
+    opened x (Some o) = unless_same s (keeps s x o (record { vote = v; value = value; message = None })) (fault_if (list_any (is_kept_for x.p o.proto o.phase) s.kept) fault.VoteNotExpected) refl
+
+    within : (x : Provider) (b : Bool) → SameProviders s (if b then vote_in s x v value x.opened else Err (fault.BadParameter field.Value))
+    within x true = opened x x.opened
+    within x false = tt
+
+    provider : (o : Option Provider) → SameProviders s (member_votes s o v value)
+    provider None = tt
+    provider (Some x) = within x (is_within (value_limit s.level) value)
+
+-- nobody begins to take part
+abbrev pub NoTaker : SessionState → Result SessionState GsFault → Type 0
+NoTaker s (Ok t) = (p : ProviderId) (y : Provider) → provider_of t p ≡ Some y → y.takes_part ≡ true → provider_of s p ≡ Some y
+NoTaker s (Err f) = Unit {0}
+
+pub same_taker : (s : SessionState) (r : Result SessionState GsFault) → SameProviders s r → NoTaker s r
+unfolding provider_of
+same_taker s (Ok t) e = λ p y q part. ap (λ (xs : List Provider). find (is_provider p) xs) (sym e) ∙ q
+same_taker s (Err f) e = tt
+
+pub joined_taker : (s : SessionState) (t : ClientToken) (g : List ℕ) (instance : ℕ) (attrs : Attrs) → NoTaker s (joined s t g instance attrs)
+unfolding joined join_asked provider_of
+joined_taker s t g instance attrs = by (join_fault s t g attrs)
+  where
+    new : Provider
+    new = record { p = new_provider s instance; client = t; group = g; takes_part = false; opened = None }
+
+    old : (xs : List Provider) (p : ProviderId) (y : Provider) → find (is_provider p) (xs ++ new ∷ []) ≡ Some y → y.takes_part ≡ true → find (is_provider p) xs ≡ Some y
+    old [] p y q part = at (is_provider p new) q
+      where
+        at : (b : Bool) → cond b (Some new) None ≡ Some y → None ≡ Some y
+        at true z = let e : new ≡ y = cc in absurd (let k : false ≡ true = ap (λ (x : Provider). x.takes_part) e ∙ part in cc)
+        at false z = z
+    old (x ∷ xs) p y q part = at (is_provider p x) q (λ z. old xs p y z part)
+      where
+        at : (b : Bool) → cond b (Some x) (find (is_provider p) (xs ++ new ∷ [])) ≡ Some y → (find (is_provider p) (xs ++ new ∷ []) ≡ Some y → find (is_provider p) xs ≡ Some y) → cond b (Some x) (find (is_provider p) xs) ≡ Some y
+        at true z rest = z
+        at false z rest = rest z
+
+    by : (o : Option GsFault) → NoTaker s (unless_fault o (join_asked s t g instance attrs))
+    by None = λ p y q part. old s.providers p y q part
+    by (Some f) = tt
 
 -- ---- nobody comes in
 

@@ -26,8 +26,8 @@ use Rattle.run_safety.specs.Stays.{Stay, stays, is_join_of, asks_join, is_refuse
 use Rattle.run_safety.specs.Stays as kept
 use Rattle.node_groups.proofs.NameOrder.{cases_text, text_self, text_other, row_here, row_there, rows_ordered}
 use Rattle.honest_votes.proofs.At.{found, leads_row}
-use Rattle.failed_rows.specs.Failures.{GoneCause, PutHolds, EntryFails, EachPut, state_held, state_of_stay, state_in_stays, TakenOff}
-use Rattle.failed_rows.proofs.Facts.{TallyIs, QueueIs, Track, BasesFit, Of, BodyFails, body_on, own_pushed}
+use Rattle.failed_rows.specs.Failures.{GoneCause, PutHolds, EntryFails, EachPut, state_held, state_of_stay, state_in_stays}
+use Rattle.failed_rows.proofs.Facts.{Whys, takers_pushed, TallyIs, QueueIs, Track, BasesFit, Stepped, BodyFails, body_on, own_pushed, PutOff}
 use Rattle.failed_rows.proofs.Origin.{Origin, slim_more}
 use Rattle.failed_rows.proofs.At.{At}
 use Rattle.session_state.specs.HandOn.{hearers, is_present}
@@ -88,15 +88,10 @@ module _ (h : History) (said : ProviderId → Type 0) (origin : Origin) (P L M :
       subst (λ (z : (List ℕ → GroupState) × GroupState). EntryFails (GoneCause h s.views.view g) z.0 z.1 e) (λ j. ((λ k. sym (held_is s l a k) j), sym (held_is s l a g) j)) ok
 
   -- who is handed an entry and is not there after it was taken off by it
-  pub taken_off : (s t : Core) (g : List ℕ) (e : Entry) → L → At h said origin P L M T G Q s → t.views.me ≡ s.views.me → t.sessions ≡ s.sessions → t.records ≡ (put s g e).records → ((k : List ℕ) → state_held s.views.me k (reverse (put s g e).records ++ records_of h) ≡ state_in (found (put s g e) k).list) → (p : ProviderId) → p.node ≡ t.views.me → Has p (hearers t.sessions g (state_of s g) e) → is_present (state_of (put s g e) g) p ≡ false → TakenOff (reverse t.records ++ records_of h) p
+  pub taken_off : (s t : Core) (g : List ℕ) (e : Entry) → L → At h said origin P L M T G Q s → t.views.me ≡ s.views.me → t.sessions ≡ s.sessions → t.records ≡ (put s g e).records → ((k : List ℕ) → state_held s.views.me k (reverse (put s g e).records ++ records_of h) ≡ state_in (found (put s g e) k).list) → (p : ProviderId) → p.node ≡ t.views.me → Has p (hearers t.sessions g (state_of s g) e) → is_present (state_of (put s g e) g) p ≡ false → PutOff (reverse t.records ++ records_of h) p s.views.view g (len_of s g) e
   unfolding put recorded with_row state_of len_of list_of row_of is_present
   taken_off s t g e live a me sessions records held p node hears off =
       record {
-        group = g;
-        view = s.views.view;
-        place = len_in (found s g).list;
-        entry = e;
-        newer = [];
         older = older;
         moment = ap (λ z. reverse z ++ records_of h) records ∙ turned ∙ ap (λ n. happened.Put n s.views.view g (len_in (found s g).list) e ∷ older) (sym here);
         was = ⊎_elim (λ (z : among (present before) p ≡ true). inl (ap (λ (x : GroupState). among (present x) p) (ap (λ n. state_held n g older) here ∙ held_is s live a g) ∙ z)) (λ (z : is_join_of p e ≡ true). inr z) (hearer_was s.sessions g before e p heard_by);
@@ -124,6 +119,7 @@ module _ (h : History) (said : ProviderId → Type 0) (origin : Origin) (P L M :
     at_put_for s g e holds others rest tally queue a =
         record {
           inc = a.inc;
+          counted = a.counted;
           own = own_pushed h said origin.born s.sessions s (r ∷ []) unasked a.own;
           slim = slim_more origin.root s.sessions s.records (r ∷ []) unasked a.slim;
           sends = λ p i. subst (λ z. BodyFails said (z ++ records_of h) p.body) (sym turned) (body_on said (r ∷ []) (reverse s.records ++ records_of h) p.body (a.sends p i));
@@ -137,6 +133,8 @@ module _ (h : History) (said : ProviderId → Type 0) (origin : Origin) (P L M :
           queues = λ fit k w. waiting (λ x i. fit x (append_has_left x s.records (r ∷ []) i)) k w (cases_text g k);
           apart = λ l fit k. apart l (λ x i. fit x (append_has_left x s.records (r ∷ []) i)) k (cases_text g k);
           led = λ k i. leads k i (cases_text g k);
+          whys = λ k. why k (cases_text g k);
+          takers = takers_pushed h s.views.me s.sessions s.records (r ∷ []) a.takers;
         }
       where
         f : GroupRow → GroupRow
@@ -156,9 +154,9 @@ module _ (h : History) (said : ProviderId → Type 0) (origin : Origin) (P L M :
         one m x (inr (inl q)) = ap is_refused q
         one m x (inr (inr z)) = absurd z
 
-        own : (x : Happened) → Has x s.records ⊎ Has x (r ∷ []) → Of s.views.me x
+        own : (x : Happened) → Has x s.records ⊎ Has x (r ∷ []) → Stepped s.views.me x
         own x (inl i) = a.whose x i
-        own x (inr (inl q)) = subst (Of s.views.me) (sym q) refl
+        own x (inr (inl q)) = subst (Stepped s.views.me) (sym q) refl
         own x (inr (inr z)) = absurd z
 
         unasked : (x : Happened) → Has x (r ∷ []) → (p : ProviderId) → asks_join p x ≡ false
@@ -206,13 +204,23 @@ module _ (h : History) (said : ProviderId → Type 0) (origin : Origin) (P L M :
             put_apart : joiners_fit (state_in (found s g).list) ≡ true → joiners_fit (state_in (f (found s g)).list) ≡ true
             put_apart z = apart_after (state_in (found s g).list) s.views.view (list_or_new (found s g).list).len e z
 
+        why : (k : List ℕ) → (g ≡ k) ⊎ (g ≡ k → ⊥) → Whys (found c k).led
+        why k (inr ne) = subst (λ (z : GroupRow). Whys z.led) (sym (there k ne)) (a.whys k)
+        why k (inl q) = subst (λ z. Whys (found c z).led) q (subst (λ (z : GroupRow). Whys z.led) (sym here) (a.whys g))
+
         leads : (k : List ℕ) → G k → (g ≡ k) ⊎ (g ≡ k → ⊥) → leads_row s (found c k) ≡ true
         leads k i (inl q) = subst (λ z. leads_row s (found c z) ≡ true) q (ap (leads_row s) here ∙ a.led g (subst G (sym q) i))
         leads k i (inr ne) = ap (leads_row s) (there k ne) ∙ a.led k i
+
+-- the put is recorded
+pub put_there : (h : History) (s : Core) (g : List ℕ) (e : Entry) → Has (happened.Put s.views.me s.views.view g (len_of s g) e) (reverse (put s g e).records ++ records_of h)
+unfolding put recorded with_row
+put_there h s g e =
+    subst (λ z. Has (happened.Put s.views.me s.views.view g (len_of s g) e) (z ++ records_of h)) (sym (reverse-append s.records (happened.Put s.views.me s.views.view g (len_of s g) e ∷ []))) (inl refl)
 
 module _ (h : History) (said : ProviderId → Type 0) (origin : Origin) (P L M : Type 0) (T G Q U W : List ℕ → Type 0) where
   pub at_put_and_handed_for : (f : Answering) (s : Core) (to : Option ℕ) (g : List ℕ) (e : Entry) → L → (P → BasesFit s.records → PutHolds (reverse s.records) h (happened.Put s.views.me s.views.view g (len_in (found s g).list) e)) → ((k : List ℕ) → U k → (g ≡ k → ⊥) → T k) → ((k : List ℕ) → W k → (g ≡ k → ⊥) → Q k) → (U g → TallyIs (GoneCause h s.views.view g) (leads_row s (found s g)) (found s g).led.tally (state_in (put_row s (found s g) e).list)) → (BasesFit s.records → W g → QueueIs (GoneCause h s.views.view g) (leads_row s (found s g)) (found s g).led.waiting.failures (state_in (put_row s (found s g) e).list)) → At h said origin P L M T G Q s → At h said origin P L M U G W (put_and_handed f s to g e)
   unfolding put_and_handed put recorded with_row
   at_put_and_handed_for f s to g e live holds others rest tally queue a =
       let t : At h said origin P L M U G W (put s g e) = at_put_for h said origin P L M T G Q U W s g e holds others rest tally queue a in
-      at_handed h said origin P L M U G W f (put s g e) to g (len_of s g) (state_of s g) (state_of (put s g e) g) e (taken_off h said origin P L M T G Q s (put s g e) g e live a refl refl refl (λ k. held_is h said origin P L M U G W (put s g e) live t k)) t
+      at_handed h said origin P L M U G W f (put s g e) to g (len_of s g) (state_of s g) (state_of (put s g e) g) e s.views.view refl (put_there h s g e) (taken_off h said origin P L M T G Q s (put s g e) g e live a refl refl refl (λ k. held_is h said origin P L M U G W (put s g e) live t k)) t

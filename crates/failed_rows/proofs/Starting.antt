@@ -1,6 +1,6 @@
 -- Nodes start and stop.
 use Rattle.std.proofs.Common.{◌≤◌, ◌≡◌, ◌≢◌, ◌⊎◌, ℕ, suc, ◌+◌, List, [], ◌∷◌, ◌++◌, Option, Some, None, Bool, true, false, refl, sym, ap, ◌∙◌, subst, inl, inr, ⊎_elim, append_assoc, append-nil, arith}
-use Rattle.std.specs.Prelude.{◌==◌, ◌&&◌, fold, map, reverse, if◌then◌else◌}
+use Rattle.std.specs.Prelude.{◌==◌, ◌&&◌, fold, map, reverse, if◌then◌else◌, find}
 use Rattle.std.specs.List.{list_any}
 use Rattle.std.proofs.lemmas.Bool.{eq-eqb}
 use Rattle.std.proofs.lemmas.List.{reverse-append}
@@ -19,6 +19,8 @@ use Rattle.node_state.specs.declared.group.GroupRow.{GroupRow}
 use Rattle.node_state.specs.declared.happened.Happened.{Happened}
 use Rattle.node_state.specs.declared.happened.Happened.TheVariants as happened
 use Rattle.node_state.specs.declared.packet.Packet.{Packet}
+use Rattle.session_state.specs.declared.state.Provider.{Provider}
+use Rattle.session_state.specs.State.{is_provider, provider_of}
 use Rattle.node_state.specs.declared.state.Core.{Core}
 use Rattle.node_state.specs.State.{with_sessions}
 use Rattle.node_state.specs.Applying.{level_set}
@@ -39,7 +41,7 @@ use Rattle.step_ties.proofs.Changed.{each_set}
 use Rattle.honest_votes.proofs.At.{found}
 use Rattle.failed_rows.specs.Failures.{EachPut, FailuresHaveCauses}
 use Rattle.failed_rows.proofs.Fitting.{empty_fits, asked_seen}
-use Rattle.failed_rows.proofs.Facts.{Track, Of, none_asked, reverse_has}
+use Rattle.failed_rows.proofs.Facts.{Whys, JoinedIn, Track, Of, none_asked, reverse_has}
 use Rattle.failed_rows.proofs.Owners.{any_has}
 use Rattle.failed_rows.proofs.Steps.{BodyGone}
 use Rattle.failed_rows.proofs.Between.{body_gone_on, CoreFails, CoreIf, Honest, others_stay, core_if_on, who_is}
@@ -57,7 +59,7 @@ fresh_track n g v ms xs rest =
     old = stays n g (reverse xs ++ rest)
 
 pub started_fails : (c : Config) (n j : ℕ) (h : History) (rest : List Happened) → records_of h ≡ reverse (started c n j).records ++ rest → ((p : ProviderId) → p.node ≡ n → p.inc ≡ j → list_any (asks_join p) (records_of h) ≡ false) → CoreFails h (started c n j)
-unfolding started with_sessions level_set views_new joiners_fit joiners_fit_at
+unfolding started with_sessions level_set views_new joiners_fit joiners_fit_at provider_of
 started_fails c n j h rest e unasked =
     record {
       order = tt;
@@ -68,6 +70,8 @@ started_fails c n j h rest e unasked =
       apart = λ g. refl;
       own = λ p node inc asked. absurd (let z : false ≡ true = sym (unasked p node inc) ∙ asked in cc);
       mine = λ x i. absurd i;
+      whys = λ g d i. absurd i;
+      takers = λ p y q. absurd (cc);
       owners = record { owner = λ x i. absurd i; low = λ y i. absurd i; high = λ y i. absurd i; single = λ y z i j e. absurd i };
     }
 
@@ -279,6 +283,7 @@ fold_fresh [] w k = k
 fold_fresh (n ∷ ns) w k = fold_fresh ns (starts_too w n (w.cores n)) (too_fresh w n (w.cores n) k)
 
 pub fresh_fails : (h : History) (m : ℕ) (o : Option Core) → ((p : ProviderId) → list_any (asks_join p) (records_of h) ≡ false) → FreshIf h m o → CoreIf h o
+unfolding provider_of
 fresh_fails h m None unasked k = tt
 fresh_fails h m (Some s) unasked k =
     record {
@@ -290,11 +295,16 @@ fresh_fails h m (Some s) unasked k =
       apart = λ g. ap (λ rows. joiners_fit (state_in (found (record s { groups = rows }) g).list)) k.groups ∙ empty_apart;
       own = λ p node inc asked. absurd (let z : false ≡ true = sym (unasked p) ∙ asked in cc);
       mine = λ x i. absurd (subst (Has x) k.providers i);
+      takers = λ p y q part. none_takes p y q k.providers;
+      whys = λ g. subst (λ rows. Whys (found (record s { groups = rows }) g).led) (sym k.groups) (λ d i. absurd i);
       owners = record { owner = λ x i. absurd (subst (Has x) k.providers i); low = λ y i. absurd (subst (Has y) k.sessions i); high = λ y i. absurd (subst (Has y) k.sessions i); single = λ y z i j e. absurd (subst (Has y) k.sessions i) };
     }
   where
     empty_apart : joiners_fit empty_state ≡ true
     empty_apart = empty_fits
+
+    none_takes : (p : ProviderId) (y : Provider) → provider_of s.sessions p ≡ Some y → s.sessions.providers ≡ [] → JoinedIn s.views.me p y.group (records_of h)
+    none_takes p y q none = let z : None ≡ Some y = ap (λ xs. find (is_provider p) xs) (sym none) ∙ q in absurd (cc)
 
 pub fresh_honest : (w : Scene) → AllFresh w → Honest w
 fresh_honest w k =

@@ -1,5 +1,5 @@
 -- A whole step.
-use Rattle.std.proofs.Common.{◌≡◌, ℕ, List, [], ◌∷◌, ◌++◌, length, Option, Some, None, Bool, true, false, refl, sym, ap, ◌∙◌, subst}
+use Rattle.std.proofs.Common.{◌≡◌, ℕ, List, [], ◌∷◌, ◌++◌, length, Option, Some, None, Bool, true, false, refl, sym, ap, ◌∙◌, subst, inr}
 use Rattle.std.specs.Prelude.{◌==◌, slice_get, reverse}
 use Rattle.std.proofs.lemmas.Bool.{eqb-true, eq-eqb}
 use Rattle.rsct_packet.specs.declared.ids.ViewId.{ViewId}
@@ -14,7 +14,7 @@ use Rattle.group_entry.specs.declared.proposal.Proposal.TheVariants.{Join, Leave
 use Rattle.proposal_core.specs.Lists.{len_in}
 use Rattle.session_state.specs.declared.state.Provider.{Provider}
 use Rattle.session_state.specs.declared.state.Request.{Request}
-use Rattle.session_state.specs.HandOn.{is_join}
+use Rattle.session_state.specs.HandOn.{is_join, is_dissolved}
 use Rattle.view_core.specs.declared.packet.ViewPacket.{ViewPacket}
 use Rattle.view_core.specs.declared.packet.ViewPacket.TheVariants as view
 use Rattle.view_core.specs.declared.views.ViewWork.{ViewWork}
@@ -37,24 +37,28 @@ use Rattle.node_state.specs.Status.{status_text}
 use Rattle.node_state.specs.Ticks.{rings_part, views_part, owed_part, tick_row}
 use Rattle.node_state.specs.Ending.{step_ended}
 use Rattle.node_state.specs.Step.{NodeEvent, Ticks, Asks, Given, Calls, Garbage, is_used, used_if, order_row, view_row, body_row, packet_row, event_row, stepped, at_work}
-use Rattle.run_safety.specs.Past.{History, records_of}
+use Rattle.run_safety.specs.Past.{History, records_of, view_now}
+use Rattle.run_safety.specs.Stays.{is_join_of}
 use Rattle.run_safety.specs.Group.{member}
 use Rattle.run_safety.specs.Group as group
-use Rattle.run_safety.specs.Requests.{requests_of}
-use Rattle.run_safety.specs.Sight.{lines_of}
+use Rattle.run_safety.specs.Requests.{requests_of, carried}
+use Rattle.run_safety.specs.Sight.{lines_with, lines_of}
+use Rattle.run_safety.proofs.SightLaws.{put_seen}
 use Rattle.run_safety.proofs.Whole.{Whole}
 use Rattle.run_safety.proofs.Lives.{whole}
 use Rattle.run_safety.proofs.Parts.{member_parts}
 use Rattle.node_groups.proofs.NameOrder.{row_here}
-use Rattle.step_ties.specs.Tied.{ShowsBody, ShowsEntry, ShowsLeader, ShowsRequest, Scene, opening_of, lines_now, Tied}
+use Rattle.step_ties.specs.Ghost.{asking}
+use Rattle.step_ties.specs.Tied.{Owed, ShowsBody, ShowsEntry, ShowsLeader, ShowsRequest, Scene, opening_of, lines_now, Tied}
 use Rattle.step_ties.specs.Rows.{acted, Arises}
 use Rattle.step_ties.proofs.Acks.{used_is}
 use Rattle.step_ties.proofs.Leads.{leader_inc, leads_known}
 use Rattle.step_ties.proofs.RowWorks.{len_is}
 use Rattle.honest_votes.proofs.At.{found}
 use Rattle.honest_votes.proofs.Ending.{Every, NoGroup}
-use Rattle.failed_rows.specs.Failures.{GoneCause}
+use Rattle.failed_rows.specs.Failures.{IsRefused, GoneCause}
 use Rattle.failed_rows.proofs.Fitting.{put_recorded, put_back}
+use Rattle.failed_rows.proofs.Asked.{join_carried, lost_asked}
 use Rattle.failed_rows.proofs.InView.{InView, stay_asks, stay_prepares, stay_answers, stay_refuses, stay_installs, stay_takes}
 use Rattle.node_state.specs.Calls.{call_row}
 use Rattle.failed_rows.proofs.Origin.{origin_of, root_of}
@@ -110,9 +114,10 @@ request_leads v g q r phases x w n s p is to delivered t used = by s.config.mode
     by Asked led = ap (is_this s.views.me) row ∙ eq-eqb s.views.me s.views.me refl
     by Rings led = ap (is_this s.views.me) row ∙ eq-eqb s.views.me s.views.me refl
 
--- what was sent to a node of who is gone has its cause
+-- what was sent to a node of who is gone has its cause, and no telling says that a group was dissolved
 abbrev pub BodyGone : History → Body → Type 0
 BodyGone h (body.Gone v g p) = GoneCause h v g p
+BodyGone h (body.Tell v g p r y) = is_dissolved y ≡ false
 BodyGone h _ = Unit {0}
 
 -- whatever was asked is no failure leave
@@ -150,20 +155,72 @@ entry_put v g place stable e w n s p is delivered t used at =
     let rec = put_recorded was.0 v g place was.1 (reverse s.records) w.before (lines_of g w.before) (put_back was.0 v g place was.1 w.before) line in
     (was.0, was.1, subst (λ (z : ViewId × ℕ). Has (happened.Put was.0 z.0 g z.1 was.1) (reverse s.records ++ records_of w.before)) (λ i. (k.0 i, eqb-true place (len_of s g) at i)) rec)
 
+-- ---- a join that is outstanding was put in no group
+
+module _ (w : Scene) (n : ℕ) (s : Core) (none : s.records ≡ []) (all : (h : List ℕ) → Tied h w n s) where
+  -- what was put before the event, its group sees
+  put_there : (h : List ℕ) (m : ℕ) (u : ViewId) (k : ℕ) (e : Entry) → Has (happened.Put m u h k e) (records_of w.before) → Has (group.Put m u k e) (group.kept (all h).ghost.all)
+  put_there h m u k e i =
+      let lines : (all h).ghost.all ≡ group.Kept group.Begins ∷ lines_of h w.before = (all h).lines ∙ ap (λ z. lines_with h (reverse z) w.before (lines_of h w.before)) none in
+      subst (λ z. Has (group.Put m u k e) (group.kept z)) (sym lines) (inr (put_seen m u h k e w.before i))
+
+  unput : (q : Request) → Has q s.sessions.requests → q.r ≡ q.p.join → (v : ViewId) (g : List ℕ) (i : ℕ) (e : Entry) → Has (happened.Put q.p.node v g i e) (records_of w.before) → is_join_of q.p e ≡ true → ⊥
+  unput q there join v g i e put names = owed.unput v i e (subst (λ m. Has (group.Put m v i e) (group.kept t.ghost.all)) own.0 line) carries
+    where
+      t : Tied g w n s
+      t = all g
+
+      o : Whole (opening_of w.config) t.ghost.nodes t.ghost.ps t.ghost.all t.ghost.leads t.ghost.bases
+      o = whole t.life
+
+      own : (q.p.node ≡ n) × (q.p.inc ≡ s.views.inc) × Has (asking q.p q.r q.group) t.ghost.asked × Has (q.p, q.r) (requests_of q.proposal)
+      own = t.own.0.owes.own q there
+
+      line : Has (group.Put q.p.node v i e) (group.kept t.ghost.all)
+      line = put_there g q.p.node v i e put
+
+      asked : Has (asking q.p q.p.join g) t.ghost.asked
+      asked =
+          let get : slice_get (o.log v) i ≡ Some e = o.good.inv.records (group.Put q.p.node v i e) line in
+          let a = o.once.asked v i q.p q.p.join e get (join_carried q.p e names) in
+          let b = o.once.sent v q.p q.p.join a.0 a.1 in
+          t.sound.asked q.p q.p.join a.0 b.1
+
+      same : q.group ≡ g
+      same = t.sound.one q.p q.p.join q.group g (subst (λ r. Has (asking q.p r q.group) t.ghost.asked) join own.2) asked
+
+      owed : Owed t.ghost n s.views.inc q
+      owed = t.own.0.owes.requests q there same
+
+      carries : Has {A = ProviderId × ℕ} (q.p, q.r) (carried e)
+      carries = subst (λ r. Has {A = ProviderId × ℕ} (q.p, r) (carried e)) (sym join) (join_carried q.p e names)
+
+  -- so it is one that may be refused
+  pub may_refuse : (q : Request) → Has q s.sessions.requests → is_join q.proposal ≡ true → IsRefused (reverse s.records ++ records_of w.before) q.p q.r
+  may_refuse q i j =
+      record {
+        join = join;
+        in_view = (s.views.view, ap (λ m. view_now m (reverse s.records ++ records_of w.before)) ((all []).own.0.owes.own q i).0 ∙ (all []).placed.0);
+        unput = λ v g k e put. unput q i join v g k e (subst (λ z. Has (happened.Put q.p.node v g k e) (reverse z ++ records_of w.before)) none put);
+      }
+    where
+      join : q.r ≡ q.p.join
+      join = join_number q.p q.r q.proposal j ((all []).own.0.owes.own q i).3
+
 -- what is asked of a call: that it is taken, and what a goodbye says
 pub record Calling (s : Core) (said : ProviderId → Type 0) (M : Type 0) (e : NodeEvent) : Type 0 where
   pub mine : (p : ProviderId) → IsLive s.sessions p → p.node ≡ s.views.me
   pub me : s.sessions.me ≡ s.views.me
   pub taken : (c : CallLine) → e ≡ Calls c → M → Taken s.sessions c
   pub says : (c : CallLine) → e ≡ Calls c → Taken s.sessions c → (x : Provider) → Has x (Ended s.sessions c) → said x.p
+  pub owner : (a b : Provider) → Has a s.sessions.providers → Has b s.sessions.providers → a.p ≡ b.p → a.client ≡ b.client
 
-module _ (w : Scene) (n : ℕ) (f : Answering) (s : Core) (root : Option Core) (said : ProviderId → Type 0) (M : Type 0) (were : (p : Packet) → Has p w.sent → BodyGone w.before p.body) (all : (h : List ℕ) → Tied h w n s) (a : At w.before said (origin_of s root) (Unit {0}) (Unit {0}) M Every NoGroup Every s) where
+module _ (w : Scene) (n : ℕ) (f : Answering) (s : Core) (root : Option Core) (said : ProviderId → Type 0) (M : Type 0) (were : (p : Packet) → Has p w.sent → BodyGone w.before p.body) (nothing : s.records ≡ []) (all : (h : List ℕ) → Tied h w n s) (a : At w.before said (origin_of s root) (Unit {0}) (Unit {0}) M Every NoGroup Every s) where
   abbrev Full : Core → Type 0
   Full c = At w.before said (origin_of s root) (Unit {0}) (Unit {0}) M Every NoGroup Every c
 
-  -- a join that is outstanding has the number of its provider's join
-  numbered : {h : List ℕ} → Tied h w n s → (q : Request) → Has q s.sessions.requests → is_join q.proposal ≡ true → q.r ≡ q.p.join
-  numbered k q i j = join_number q.p q.r q.proposal j (k.own.0.owes.own q i).3
+  numbered : (q : Request) → Has q s.sessions.requests → is_join q.proposal ≡ true → IsRefused (reverse s.records ++ records_of w.before) q.p q.r
+  numbered = may_refuse w n s nothing all
 
   used : (t : Core) (b : Bool) → (b ≡ true → Full t) → Full (used_if s t b)
   unfolding used_if
@@ -187,10 +244,10 @@ module _ (w : Scene) (n : ℕ) (f : Answering) (s : Core) (root : Option Core) (
   body_at p (body.Report rows) is to sent ok = at_report w.before said (origin_of s root) (Unit {0}) (Unit {0}) M tt s rows a
   body_at p (body.View y) is to sent ok = view_at p.from p.inc y
   body_at p (body.Lookup v g) is to sent ok = used (lookup_row s p.from g) (is_used s p v) (λ u. at_lookup w.before said (origin_of s root) (Unit {0}) (Unit {0}) M tt s p.from g a)
-  body_at p (body.Name v g k) is to sent ok = used (name_row s g k) (is_used s p v) (λ u. at_name w.before said (origin_of s root) (Unit {0}) (Unit {0}) M tt s g k (numbered (all g)) a)
+  body_at p (body.Name v g k) is to sent ok = used (name_row s g k) (is_used s p v) (λ u. at_name w.before said (origin_of s root) (Unit {0}) (Unit {0}) M tt s g k numbered a)
   body_at p (body.Request v g q r phases x) is to sent ok =
       used (request_row f s p.from g q r phases x) (is_used s p v) (λ u. at_request w.before said (origin_of s root) (Unit {0}) (Unit {0}) M tt f s g (request_leads v g q r phases x w n s p is to sent (all g) u) p.from q r phases x (no_failure q r x ((subst (ShowsBody (all g).ghost g p.from p.inc p.to) is ((all g).packets p (append_has_right p s.sends w.sent sent))).1)) a)
-  body_at p (body.Tell v g q r why) is to sent ok = used (tell_row s q r why) (is_used s p v) (λ u. at_tell w.before said (origin_of s root) (Unit {0}) (Unit {0}) M tt s q r why (numbered (all g)) a)
+  body_at p (body.Tell v g q r why) is to sent ok = used (tell_row s q r why) (is_used s p v) (λ u. at_tell w.before said (origin_of s root) (Unit {0}) (Unit {0}) M tt s q r why ok numbered a)
   body_at p (body.Entry v g i k e) is to sent ok =
       used (entry_row f s p.from g i k e) (is_used s p v) (λ u. at_entry w.before said (origin_of s root) (Unit {0}) (Unit {0}) M tt f s p.from g k e i (λ at. entry_put v g i k e w n s p is sent (all g) u at) (λ at led. entry_follows v g i k e w n s p is sent (all g) u at led) a)
   body_at p (body.Ack v g k) is to sent ok = used (ack_row s p.from g k) (is_used s p v) (λ u. at_ack w.before said (origin_of s root) (Unit {0}) (Unit {0}) M tt s p.from g k a)
@@ -212,9 +269,9 @@ module _ (w : Scene) (n : ℕ) (f : Answering) (s : Core) (root : Option Core) (
   pub acted_at : (e : NodeEvent) → ((c : CallLine) → e ≡ Calls c → root ≡ None) → Arises w e → Calling s said M e → Full (acted f s e)
   unfolding packet_row
   acted_at Ticks free arises calls =
-      at_led_part w.before said (origin_of s root) (Unit {0}) (Unit {0}) M tt f (owed_part (views_part f (rings_part s))) (at_owed_part w.before said (origin_of s root) (Unit {0}) (Unit {0}) M tt (views_part f (rings_part s)) (at_views_part w.before said (origin_of s root) (Unit {0}) (Unit {0}) M tt f (rings_part s) (at_rings_part w.before said (origin_of s root) (Unit {0}) (Unit {0}) M tt s a)))
+      at_led_part w.before said (origin_of s root) (Unit {0}) (Unit {0}) M tt f (owed_part (views_part f (rings_part s))) (at_owed_part w.before said (origin_of s root) (Unit {0}) (Unit {0}) M tt (views_part f (rings_part s)) (lost_asked w n f s nothing all) (at_views_part w.before said (origin_of s root) (Unit {0}) (Unit {0}) M tt f (rings_part s) (at_rings_part w.before said (origin_of s root) (Unit {0}) (Unit {0}) M tt s a)))
   acted_at (Asks mask) free arises calls = order_at mask
-  acted_at (Calls c) free arises calls = at_call w.before said (origin_of s root) (free c refl) (Unit {0}) (Unit {0}) M s c (calls.taken c refl) (calls.says c refl) calls.mine calls.me a
+  acted_at (Calls c) free arises calls = at_call w.before said (origin_of s root) (free c refl) (Unit {0}) (Unit {0}) M s c (calls.taken c refl) (calls.says c refl) calls.mine calls.owner calls.me a
   acted_at Garbage free arises calls = a
   acted_at (Given p) free arises calls = by (p.to == s.views.me) refl
     where
@@ -239,10 +296,10 @@ at_stepped w n f s said M e were all arises a calls =
 
     -- no call
     other : (e : NodeEvent) → ((c : CallLine) → e ≡ Calls c → Some (at_work s) ≡ None) → Arises w e → Calling (at_work s) said M e → At w.before said (origin_of s (Some (at_work s))) (Unit {0}) (Unit {0}) M Every NoGroup Every (acted f (at_work s) e)
-    other e none arises calls = acted_at w n f (at_work s) (Some (at_work s)) said M were all (rooted (at_work s) a) e none arises calls
+    other e none arises calls = acted_at w n f (at_work s) (Some (at_work s)) said M were refl all (rooted (at_work s) a) e none arises calls
 
     by : (e : NodeEvent) → Arises w e → Calling (at_work s) said M e → At w.before said (origin_of s (Some (root_of (at_work s) e))) (Unit {0}) (Unit {0}) M Every NoGroup Every (acted f (at_work s) e)
-    by (Calls c) arises calls = rooted (call_row (at_work s) c) (acted_at w n f (at_work s) None said M were all a (Calls c) (λ d q. refl) arises calls)
+    by (Calls c) arises calls = rooted (call_row (at_work s) c) (acted_at w n f (at_work s) None said M were refl all a (Calls c) (λ d q. refl) arises calls)
     by Ticks arises calls = other Ticks (λ c q. absurd (cc)) arises calls
     by (Asks mask) arises calls = other (Asks mask) (λ c q. absurd (cc)) arises calls
     by (Given p) arises calls = other (Given p) (λ c q. absurd (cc)) arises calls

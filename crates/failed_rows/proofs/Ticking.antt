@@ -1,14 +1,12 @@
 -- A tick.
 use Rattle.std.proofs.Common.{◌⊎◌, ◌≡◌, ℕ, ◌+◌, ◌-◌, List, [], ◌∷◌, ◌++◌, take, drop, Option, Some, None, Bool, true, false, refl, sym, ap, ◌∙◌, subst, inl, inr}
-use Rattle.std.specs.Prelude.{◌==◌, ◌&&◌, not, filter, fold, find, reverse, is_none, is_some, cond}
-use Rattle.std.specs.Str.{bytes_eq}
+use Rattle.std.specs.Prelude.{◌==◌, ◌&&◌, not, filter, fold, find, reverse, is_none, is_some}
 use Rattle.std.specs.List.{list_any}
 use Rattle.std.proofs.lemmas.Bool.{eqb-true, and_parts}
 use Rattle.rsct_packet.specs.declared.ids.ProviderId.{ProviderId}
 use Rattle.rsct_packet.specs.declared.mask.Mask.{Mask}
 use Rattle.rsct_packet.specs.Mask.{nodes_of}
 use Rattle.rsct_packet.specs.Providers.{among, same_provider}
-use Rattle.rsct_packet.specs.Text.{name_lt}
 use Rattle.rsct_packet.specs.Search.{Has}
 use Rattle.rsct_packet.proofs.HasLaws.{has_filter, find_none}
 use Rattle.group_entry.specs.declared.entry.Entry.{Entry}
@@ -43,13 +41,13 @@ use Rattle.node_state.specs.Applying.{own_parts, views_taken}
 use Rattle.node_state.specs.Ticks.{ring_put, set_records, ring_taken, ring_row_of, ring_row, row_reported, report_row, rings_union, report_of, report_sent, rings_tick, rings_part, ring_ask, views_part, is_lost, lost_told, owed_part, late_appended, announced, ticked_in, tally_ticks, entries_sent, list_sent_again, sent_again, group_ticks, led_part}
 use Rattle.run_safety.specs.Past.{History, records_of}
 use Rattle.run_safety.specs.Stays.{stays, asks_join}
-use Rattle.node_groups.specs.Places.{has_name, AllAfter, InNameOrder}
-use Rattle.node_groups.proofs.NameOrder.{text_self, text_same, lt_self}
+use Rattle.node_groups.specs.Places.{has_name}
 use Rattle.step_ties.proofs.SessionLaws.{provider_self}
 use Rattle.hearing.proofs.Handing.{has_among}
 use Rattle.honest_votes.proofs.At.{found, leads_row}
 use Rattle.honest_votes.proofs.Ending.{Every, NoGroup}
 use Rattle.failed_rows.specs.Failures.{GoneCause, StoodThere, IsOver}
+use Rattle.failed_rows.proofs.Bases.{found_self}
 use Rattle.failed_rows.proofs.InView.{stay_ticks, stay_reminds}
 use Rattle.failed_rows.proofs.Facts.{TallyFails, TallyIs, Quiet, Lives}
 use Rattle.failed_rows.proofs.Origin.{Origin}
@@ -68,26 +66,6 @@ ticked gone led t st (inr k) = inr (k.0, by t k.1)
     by None z = tt
     by (Some t) z = ticked_fails gone st t z
 
--- a row is found by its name
-name_later : (h : List ℕ) (rows : List GroupRow) (row : GroupRow) → AllAfter h rows → Has row rows → name_lt h row.name ≡ true
-name_later h [] row a i = absurd i
-name_later h (x ∷ rows) row a (inl e) = ap (λ (z : GroupRow). name_lt h z.name) e ∙ a.0
-name_later h (x ∷ rows) row a (inr i) = name_later h rows row a.1 i
-
-found_self : (rows : List GroupRow) (row : GroupRow) → InNameOrder rows → Has row rows → find (has_name row.name) rows ≡ Some row
-found_self [] row o i = absurd i
-found_self (x ∷ rows) row o (inl e) =
-    ap (λ b. cond b (Some x) (find (has_name row.name) rows)) (ap (λ (z : GroupRow). bytes_eq z.name row.name) (sym e) ∙ text_self row.name) ∙ ap (λ z. Some z) (sym e)
-found_self (x ∷ rows) row o (inr i) =
-    ap (λ b. cond b (Some x) (find (has_name row.name) rows)) (other (bytes_eq x.name row.name) refl) ∙ found_self rows row o.1 i
-  where
-    other : (b : Bool) → bytes_eq x.name row.name ≡ b → bytes_eq x.name row.name ≡ false
-    other false q = q
-    other true q =
-        let l : name_lt x.name row.name ≡ true = name_later x.name rows row o.0 i in
-        let k : name_lt x.name x.name ≡ true = subst (λ z. name_lt x.name z ≡ true) (sym (text_same x.name row.name q)) l in
-        let d = lt_self x.name in absurd (cc)
-
 module _ (h : History) (said : ProviderId → Type 0) (origin : Origin) (P L M : Type 0) (live : L) where
   abbrev Full : Core → Type 0
   Full s = At h said origin P L M Every NoGroup Every s
@@ -95,10 +73,10 @@ module _ (h : History) (said : ProviderId → Type 0) (origin : Origin) (P L M :
   -- ---- rings and reach
 
   at_rings : (s : Core) (rs : List Ring) → Full s → Full (record s { rings = rs })
-  at_rings s rs a = record { inc = a.inc; own = a.own; slim = a.slim; sends = a.sends; puts = a.puts; accepted = a.accepted; whose = a.whose; order = a.order; tracks = a.tracks; marks = a.marks; tallies = a.tallies; queues = a.queues; apart = a.apart; led = a.led }
+  at_rings s rs a = record { inc = a.inc; counted = a.counted; own = a.own; slim = a.slim; sends = a.sends; puts = a.puts; accepted = a.accepted; whose = a.whose; order = a.order; tracks = a.tracks; marks = a.marks; tallies = a.tallies; queues = a.queues; apart = a.apart; led = a.led; whys = a.whys; takers = a.takers }
 
   at_reach : (s : Core) (r : Reach) → Full s → Full (record s { reach = r })
-  at_reach s r a = record { inc = a.inc; own = a.own; slim = a.slim; sends = a.sends; puts = a.puts; accepted = a.accepted; whose = a.whose; order = a.order; tracks = a.tracks; marks = a.marks; tallies = a.tallies; queues = a.queues; apart = a.apart; led = a.led }
+  at_reach s r a = record { inc = a.inc; counted = a.counted; own = a.own; slim = a.slim; sends = a.sends; puts = a.puts; accepted = a.accepted; whose = a.whose; order = a.order; tracks = a.tracks; marks = a.marks; tallies = a.tallies; queues = a.queues; apart = a.apart; led = a.led; whys = a.whys; takers = a.takers }
 
   set_quiet : (n network : ℕ) (o : Option RingSet) (r : Happened) → Has r (set_records n network o) → Quiet r
   unfolding set_records
@@ -170,34 +148,39 @@ module _ (h : History) (said : ProviderId → Type 0) (origin : Origin) (P L M :
         over = over;
       }
 
+  -- whoever is there was asked for
+  abbrev KnownIn : List GroupRow → List Happened → Type 0
+  KnownIn rows rs =
+      (g : List ℕ) (p : ProviderId) → Has p (present (state_in (row_found g (find (has_name g) rows)).list)) → list_any (asks_join p) (reverse rs ++ records_of h) ≡ true
+
+  abbrev Known : Core → Type 0
+  Known s = KnownIn s.groups s.records
+
   -- so GONE has its cause
-  gone_of : (s : Core) (row : GroupRow) (p : ProviderId) → found s row.name ≡ row → p.node ≡ s.views.me → p.inc ≡ s.views.inc → is_none (provider_of s.sessions p) ≡ true → Has p (present (state_in row.list)) → Full s → said p ⊎ StoodThere (reverse s.records ++ records_of h) s.views.view row.name p
+  gone_of : (s : Core) (row : GroupRow) (p : ProviderId) → Known s → found s row.name ≡ row → p.node ≡ s.views.me → p.inc ≡ s.views.inc → is_none (provider_of s.sessions p) ≡ true → Has p (present (state_in row.list)) → Full s → said p ⊎ StoodThere (reverse s.records ++ records_of h) s.views.view row.name p
   unfolding provider_of
-  gone_of s row p is node inc lost there a = by (list_any (asks_join p) (reverse s.records ++ records_of h)) refl
+  gone_of s row p known is node inc lost there a =
+      over (a.own p node (inc ∙ a.inc) (known row.name p (subst (λ (z : GroupRow). Has p (present (state_in z.list))) (sym is) there)))
     where
       over : Lives said s.sessions (reverse s.records ++ records_of h) p → said p ⊎ StoodThere (reverse s.records ++ records_of h) s.views.view row.name p
       over (inl k) = absurd (find_none (is_provider p) s.sessions.providers k.0 lost k.1 (ap (λ z. same_provider z p) k.2 ∙ provider_self p))
       over (inr (inl k)) = inl k
-      over (inr (inr k)) = inr (stood s row p is node there (inr k) a)
+      over (inr (inr k)) = inr (stood s row p is node there k a)
 
-      by : (b : Bool) → list_any (asks_join p) (reverse s.records ++ records_of h) ≡ b → said p ⊎ StoodThere (reverse s.records ++ records_of h) s.views.view row.name p
-      by false q = inr (stood s row p is node there (inl q) a)
-      by true q = over (a.own p node (inc ∙ a.inc) q)
-
-  at_losts : (row : GroupRow) (ps : List ProviderId) (s : Core) → found s row.name ≡ row → ((p : ProviderId) → Has p ps → (p.node ≡ s.views.me) × (p.inc ≡ s.views.inc) × (is_none (provider_of s.sessions p) ≡ true) × Has p (present (state_in row.list))) → Full s → Full (fold (λ t p. sent_if_known t (leader_of t row.name) (body.Gone t.views.view row.name p)) s ps)
+  at_losts : (row : GroupRow) (ps : List ProviderId) (s : Core) → Known s → found s row.name ≡ row → ((p : ProviderId) → Has p ps → (p.node ≡ s.views.me) × (p.inc ≡ s.views.inc) × (is_none (provider_of s.sessions p) ≡ true) × Has p (present (state_in row.list))) → Full s → Full (fold (λ t p. sent_if_known t (leader_of t row.name) (body.Gone t.views.view row.name p)) s ps)
   unfolding sent_if_known sent sent_on
-  at_losts row [] s is all a = a
-  at_losts row (p ∷ ps) s is all a = by (leader_of s row.name) (at_losts row ps)
+  at_losts row [] s known is all a = a
+  at_losts row (p ∷ ps) s known is all a = by (leader_of s row.name) (at_losts row ps)
     where
-      by : (o : Option ℕ) → ((s : Core) → found s row.name ≡ row → ((p : ProviderId) → Has p ps → (p.node ≡ s.views.me) × (p.inc ≡ s.views.inc) × (is_none (provider_of s.sessions p) ≡ true) × Has p (present (state_in row.list))) → Full s → Full (fold (λ t p. sent_if_known t (leader_of t row.name) (body.Gone t.views.view row.name p)) s ps)) → Full (fold (λ t p. sent_if_known t (leader_of t row.name) (body.Gone t.views.view row.name p)) (sent_if_known s o (body.Gone s.views.view row.name p)) ps)
-      by None rest = rest s is (λ q i. all q (inr i)) a
+      by : (o : Option ℕ) → ((s : Core) → Known s → found s row.name ≡ row → ((p : ProviderId) → Has p ps → (p.node ≡ s.views.me) × (p.inc ≡ s.views.inc) × (is_none (provider_of s.sessions p) ≡ true) × Has p (present (state_in row.list))) → Full s → Full (fold (λ t p. sent_if_known t (leader_of t row.name) (body.Gone t.views.view row.name p)) s ps)) → Full (fold (λ t p. sent_if_known t (leader_of t row.name) (body.Gone t.views.view row.name p)) (sent_if_known s o (body.Gone s.views.view row.name p)) ps)
+      by None rest = rest s known is (λ q i. all q (inr i)) a
       by (Some n) rest =
           let k = all p (inl refl) in
-          rest (sent s n (body.Gone s.views.view row.name p)) is (λ q i. all q (inr i)) (at_sent h said origin P L M Every NoGroup Every s n (body.Gone s.views.view row.name p) (gone_of s row p is k.0 k.1 k.2 k.3 a) a)
+          rest (sent s n (body.Gone s.views.view row.name p)) known is (λ q i. all q (inr i)) (at_sent h said origin P L M Every NoGroup Every s n (body.Gone s.views.view row.name p) (gone_of s row p known is k.0 k.1 k.2 k.3 a) a)
 
-  at_lost : (s : Core) (row : GroupRow) → found s row.name ≡ row → Full s → Full (lost_told s row)
+  at_lost : (s : Core) (row : GroupRow) → Known s → found s row.name ≡ row → Full s → Full (lost_told s row)
   unfolding lost_told is_lost
-  at_lost s row is a = at_losts row (filter (is_lost s) (present (state_in row.list))) s is all a
+  at_lost s row known is a = at_losts row (filter (is_lost s) (present (state_in row.list))) s known is all a
     where
       all : (p : ProviderId) → Has p (filter (is_lost s) (present (state_in row.list))) → (p.node ≡ s.views.me) × (p.inc ≡ s.views.inc) × (is_none (provider_of s.sessions p) ≡ true) × Has p (present (state_in row.list))
       all p i =
@@ -215,18 +198,31 @@ module _ (h : History) (said : ProviderId → Type 0) (origin : Origin) (P L M :
       by None = refl
       by (Some n) = refl
 
+  losts_records : (row : GroupRow) (ps : List ProviderId) (s : Core) → (fold (λ t p. sent_if_known t (leader_of t row.name) (body.Gone t.views.view row.name p)) s ps).records ≡ s.records
+  unfolding sent_if_known sent sent_on
+  losts_records row [] s = refl
+  losts_records row (p ∷ ps) s = losts_records row ps (sent_if_known s (leader_of s row.name) (body.Gone s.views.view row.name p)) ∙ by (leader_of s row.name)
+    where
+      by : (o : Option ℕ) → (sent_if_known s o (body.Gone s.views.view row.name p)).records ≡ s.records
+      by None = refl
+      by (Some n) = refl
+
+  lost_records : (s : Core) (row : GroupRow) → (lost_told s row).records ≡ s.records
+  unfolding lost_told
+  lost_records s row = losts_records row (filter (is_lost s) (present (state_in row.list))) s
+
   lost_rows : (s : Core) (row : GroupRow) → (lost_told s row).groups ≡ s.groups
   unfolding lost_told
   lost_rows s row = losts_rows row (filter (is_lost s) (present (state_in row.list))) s
 
-  at_all_lost : (rows : List GroupRow) (s : Core) → ((row : GroupRow) → Has row rows → Has row s.groups) → Full s → Full (fold lost_told s rows)
-  at_all_lost [] s all a = a
-  at_all_lost (row ∷ rows) s all a =
-      at_all_lost rows (lost_told s row) (λ x i. subst (Has x) (sym (lost_rows s row)) (all x (inr i))) (at_lost s row (ap (row_found row.name) (found_self s.groups row a.order (all row (inl refl)))) a)
+  at_all_lost : (rows : List GroupRow) (s : Core) → Known s → ((row : GroupRow) → Has row rows → Has row s.groups) → Full s → Full (fold lost_told s rows)
+  at_all_lost [] s known all a = a
+  at_all_lost (row ∷ rows) s known all a =
+      at_all_lost rows (lost_told s row) (subst (λ (z : List GroupRow × List Happened). KnownIn z.0 z.1) (λ i. (sym (lost_rows s row) i, sym (lost_records s row) i)) known) (λ x i. subst (Has x) (sym (lost_rows s row)) (all x (inr i))) (at_lost s row known (ap (row_found row.name) (found_self s.groups row a.order (all row (inl refl)))) a)
 
-  pub at_owed_part : (s : Core) → Full s → Full (owed_part s)
+  pub at_owed_part : (s : Core) → Known (requests_sent s) → Full s → Full (owed_part s)
   unfolding owed_part held_rows
-  at_owed_part s a = by (frozen s)
+  at_owed_part s known a = by (frozen s)
     where
       t : Core
       t = requests_sent s
@@ -237,7 +233,7 @@ module _ (h : History) (said : ProviderId → Type 0) (origin : Origin) (P L M :
       by : (b : Bool) → Full (elim b as (λ _. Core) [ true ↦ s | false ↦ votes_sent_again (fold lost_told t rows) ])
       by true = a
       by false =
-          at_votes_again h said origin P L M Every NoGroup Every (fold lost_told t rows) (at_all_lost rows t (λ row i. (has_filter (λ (row : GroupRow). is_some row.list) row t.groups i).0) (at_requests_sent h said origin P L M Every NoGroup Every s a))
+          at_votes_again h said origin P L M Every NoGroup Every (fold lost_told t rows) (at_all_lost rows t known (λ row i. (has_filter (λ (row : GroupRow). is_some row.list) row t.groups i).0) (at_requests_sent h said origin P L M Every NoGroup Every s a))
 
   -- ---- what is led
 
@@ -258,7 +254,7 @@ module _ (h : History) (said : ProviderId → Type 0) (origin : Origin) (P L M :
     at_ticked : (s : Core) (g : List ℕ) → Mine s → Mine (with_tally s g (ticked_in (led_of s g).tally))
     unfolding with_tally with_led led_of row_of
     at_ticked s g a =
-        at_row_for h said origin P L M Every G Every Every Every s g (λ row. record row { led = record (row.led) { tally = ticked_in (found s g).led.tally } }) (λ x. refl) (λ x. refl) (λ x. refl) (λ x. refl) (λ y p i. a.marks y g p i) (λ k t ne. t) (λ k t ne. t) (λ t. ticked (GoneCause h s.views.view g) (leads_row s (found s g)) (found s g).led.tally (state_in (found s g).list) (a.tallies g t)) (λ fit q. a.queues fit g q) a
+        at_row_for h said origin P L M Every G Every Every Every s g (λ row. record row { led = record (row.led) { tally = ticked_in (found s g).led.tally } }) (λ x. refl) (λ x. refl) (λ x. refl) (λ x. refl) (λ x z. z) (λ y p i. a.marks y g p i) (λ k t ne. t) (λ k t ne. t) (λ t. ticked (GoneCause h s.views.view g) (leads_row s (found s g)) (found s g).led.tally (state_in (found s g).list) (a.tallies g t)) (λ fit q. a.queues fit g q) a
 
     at_tally_ticks : (s : Core) (g : List ℕ) (o : Option TallyView) → G g → Mine s → Mine (tally_ticks f s g o)
     unfolding tally_ticks

@@ -3,6 +3,7 @@ use Rattle.std.specs.Prelude.{◌≡◌, ◌⊎◌, ℕ, true, false, List, [], 
 use Rattle.std.specs.List.{list_any}
 use Rattle.rsct_packet.specs.declared.ids.ViewId.{ViewId}
 use Rattle.rsct_packet.specs.declared.ids.ProviderId.{ProviderId}
+use Rattle.rsct_packet.specs.Ids.{same_view}
 use Rattle.rsct_packet.specs.Providers.{among}
 use Rattle.rsct_packet.specs.Search.{Has}
 use Rattle.group_entry.specs.declared.entry.RowVote.{RowVote}
@@ -22,10 +23,10 @@ use Rattle.source_target.specs.Due.{allowed}
 use Rattle.client_callbacks.specs.declared.told.Why.{Why}
 use Rattle.session_state.specs.HandOn.{is_dissolved}
 use Rattle.node_state.specs.declared.happened.Happened.{Happened}
-use Rattle.node_state.specs.declared.happened.Happened.TheVariants.{In, Put, Told}
+use Rattle.node_state.specs.declared.happened.Happened.TheVariants.{In, Base, Put, Heard, Told}
 use Rattle.world_model.specs.Run.{Happening}
-use Rattle.run_safety.specs.Past.{History, records_of, earlier, fold_from, EachEvent}
-use Rattle.run_safety.specs.Stays.{Stay, stays, is_join_of, asks_join, is_refused, client_of, goodbye_of, was_let_go}
+use Rattle.run_safety.specs.Past.{History, records_of, earlier, fold_from, view_now, inc_now, EachEvent}
+use Rattle.run_safety.specs.Stays.{Stay, stays, is_join_of, is_refused, client_of, goodbye_of, was_let_go}
 
 -- ---- the group's state at a node, by its records
 
@@ -55,28 +56,68 @@ pub record SaidGoodbye (before : History) (p : ProviderId) : Type 0 where
 abbrev pub GoodbyesLetGo : Type 0
 GoodbyesLetGo = (before : History) (p : ProviderId) → SaidGoodbye before p → was_let_go p before ≡ true
 
+-- the number is that of its join, its own node was in a view, and had put no entry that names it in a join, of any group
+pub record IsRefused (rs : List Happened) (p : ProviderId) (number : ℕ) : Type 0 where
+  pub join : number ≡ p.join
+  pub in_view : (v : ViewId) × (view_now p.node rs ≡ Some v)
+  pub unput : (v : ViewId) (g : List ℕ) (i : ℕ) (e : Entry) → Has (Put p.node v g i e) rs → is_join_of p e ≡ true → ⊥
+
+-- At some moment since it entered the view the provider's node, which was in the view of `last` before and in the provider's
+-- incarnation, noted the base, from another view.
+pub record FromElsewhere (rs : List Happened) (p : ProviderId) (g : List ℕ) (stay last : Stay) : Type 0 where
+  pub from : ViewId
+  pub len : ℕ
+  pub newer : List Happened
+  pub older : List Happened
+  pub moment : rs ≡ newer ++ Base p.node stay.view g from len stay.base ∷ older
+  pub entered : Stay
+  pub rest : List Stay
+  pub stays_so : stays p.node g older ≡ entered ∷ last ∷ rest
+  pub apart : same_view from last.view ≡ false
+  pub inc : inc_now p.node older ≡ p.inc
+
+-- Its own node has just entered a view, and put nothing there yet; it had put its join in the group, and held it there up to then; and
+-- it is not in the base there, or the base came from another view than the node's.
+pub record IsCut (rs : List Happened) (p : ProviderId) : Type 0 where
+  pub group : List ℕ
+  pub stay : Stay
+  pub last : Stay
+  pub rest : List Stay
+  pub stays_so : stays p.node group rs ≡ stay ∷ last ∷ rest
+  pub empty : stay.entries ≡ []
+  pub joined : (v : ViewId) × (i : ℕ) × (e : Entry) × Has (Put p.node v group i e) rs × (is_join_of p e ≡ true)
+  pub held : among (present (state_of_stay last)) p ≡ true
+  pub cut : (among (present stay.base) p ≡ false) ⊎ FromElsewhere rs p group stay last
+
 -- it was told that its join was refused, or that its group was dissolved
 pub record WasTold (rs : List Happened) (p : ProviderId) : Type 0 where
   pub number : ℕ
   pub why : Why
-  pub told : Has (Told p number why) rs
-  pub ends : (number ≡ p.join) ⊎ (is_dissolved why ≡ true)
+  pub newer : List Happened
+  pub older : List Happened
+  pub moment : rs ≡ newer ++ Told p number why ∷ older
+  pub ends : IsRefused older p number ⊎ ((is_dissolved why ≡ true) × IsCut older p)
 
--- its own node put an entry after which it is neither member nor running joiner, as it was before, or was by that entry
+-- its own node put an entry after which it is neither member nor running joiner, as it was before, or was by that entry; and it heard
+-- that entry, before its node put anything else of the group or left the view
 pub record TakenOff (rs : List Happened) (p : ProviderId) : Type 0 where
   pub group : List ℕ
   pub view : ViewId
   pub place : ℕ
   pub entry : Entry
+  pub members : List ProviderId
+  pub value : List ℕ
   pub newer : List Happened
+  pub between : List Happened
   pub older : List Happened
-  pub moment : rs ≡ newer ++ Put p.node view group place entry ∷ older
+  pub moment : rs ≡ newer ++ Heard p view group place entry members value ∷ (between ++ Put p.node view group place entry ∷ older)
+  pub still : stays p.node group (between ++ Put p.node view group place entry ∷ older) ≡ stays p.node group (Put p.node view group place entry ∷ older)
   pub was : (among (present (state_held p.node group older)) p ≡ true) ⊎ (is_join_of p entry ≡ true)
   pub off : among (present (state_held p.node group (Put p.node view group place entry ∷ older))) p ≡ false
 
--- a provider whose join was asked for at its node is none of it any more, and so it is recorded why
+-- a provider is none of its node any more, and it is recorded why
 abbrev pub IsOver : List Happened → ProviderId → Type 0
-IsOver rs p = (list_any (asks_join p) rs ≡ false) ⊎ (WasTold rs p ⊎ TakenOff rs p)
+IsOver rs p = WasTold rs p ⊎ TakenOff rs p
 
 -- at some moment the provider's own node was in the view and held it as a member or a running joiner, although it was over
 pub record StoodThere (rs : List Happened) (v : ViewId) (g : List ℕ) (p : ProviderId) : Type 0 where

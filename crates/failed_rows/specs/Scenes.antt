@@ -1,9 +1,13 @@
 -- Of every scene that events lead to, where the history names calls.
 use Rattle.std.specs.Prelude.{ℕ, ◌+◌, ◌≡◌, ◌≢◌, true, false, Some, None, List}
+use Rattle.rsct_packet.specs.declared.ids.ProviderId.{ProviderId}
 use Rattle.rsct_packet.specs.Search.{Has}
+use Rattle.group_entry.specs.declared.proposal.Proposal.{Proposal}
 use Rattle.node_state.specs.declared.call.CallLine.{CallLine}
 use Rattle.node_state.specs.declared.config.Config.{Config}
 use Rattle.node_state.specs.declared.happened.Happened.{Happened}
+use Rattle.node_state.specs.declared.happened.Happened.TheVariants.{Asked}
+use Rattle.run_safety.specs.Past.{records_of}
 use Rattle.node_state.specs.declared.state.Core.{Core}
 use Rattle.node_state.specs.Settings.{is_fixed}
 use Rattle.node_state.specs.HandOn.{Answering}
@@ -31,3 +35,8 @@ pub data Played (c : Config) : Scene → Type 0 where
 -- who is said to have failed did
 abbrev pub FailuresAreHonest : Type 0
 FailuresAreHonest = (c : Config) (w : Scene) → Played c w → FailuresHaveCauses w.before
+
+-- the join of each provider is asked for in one group alone
+abbrev pub JoinsHaveOneGroup : Type 0
+JoinsHaveOneGroup =
+    (c : Config) (w : Scene) → Played c w → (p : ProviderId) (g h : List ℕ) (x y : Proposal) → Has (Asked p p.join g x) (records_of w.before) → Has (Asked p p.join h y) (records_of w.before) → g ≡ h

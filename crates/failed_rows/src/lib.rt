@@ -2,7 +2,7 @@
 #![tactic(auto)]
 
 ghost use Rattle.failed_rows.specs.Failures.{GoodbyesLetGo};
-ghost use Rattle.failed_rows.specs.Scenes.{FailuresAreHonest};
+ghost use Rattle.failed_rows.specs.Scenes.{FailuresAreHonest, JoinsHaveOneGroup};
 
 /// Where a place of a list is put first: a default row of who failed has the default vote of the state's attributes, and its
 /// provider is on the failed list of that state, or its own node gave it up; and a failure leave names members of that state
@@ -16,4 +16,10 @@ pub fn failures_are_honest()
 #[tactic(auto, using(crate::proofs::LetGo::goodbyes_let_go))]
 pub fn goodbyes_let_go()
     ensures { GoodbyesLetGo }
+{}
+
+/// The join of each provider is asked for in one group alone, since its number is given once.
+#[tactic(auto, using(crate::proofs::Groups::joins_have_one_group))]
+pub fn joins_have_one_group()
+    ensures { JoinsHaveOneGroup }
 {}

@@ -91,7 +91,8 @@ applied_has s v i (Reject c) p h = inl (by s.running (λ k. k) h)
     by (Some run) same h = same (rejected_has s run.proposal p h)
 applied_has s v i (Late proto phase ps) p h = inl h
 
-after_has : (s : GroupState) (v : ViewId) (i : ℕ) (e : Entry) (p : ProviderId) → Has p (present (after s v i e)) → Has p (present s) ⊎ (is_join_of p e ≡ true)
+-- of those that were there, and those that it names in a join
+pub after_has : (s : GroupState) (v : ViewId) (i : ℕ) (e : Entry) (p : ProviderId) → Has p (present (after s v i e)) → Has p (present s) ⊎ (is_join_of p e ≡ true)
 unfolding after after_if
 after_has s v i e p h = by (fits s e) h
   where
