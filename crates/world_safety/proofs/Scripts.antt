@@ -44,13 +44,12 @@ use Rattle.seen_runs.proofs.Law.{traces_seen}
 use Rattle.seen_runs.specs.Rings.{RingsSeen}
 use Rattle.seen_runs.proofs.Rings.{every_ring_seen}
 use Rattle.run_safety.specs.SafeLists.{Each}
-use Rattle.run_safety.specs.SafeHeard.{InOrder, NotLetGo, Dissolves}
+use Rattle.run_safety.specs.SafeHeard.{InOrder, NotLetGo, AllHear, Dissolves}
 use Rattle.attending.proofs.OrderLaw.{heard_in_order}
 use Rattle.leaving.proofs.Law.{who_is_let_go}
-use Rattle.gapless.specs.Heard.{EachIsHeard}
-use Rattle.gapless.proofs.HeardLaw.{each_put_is_heard}
+use Rattle.gapless.proofs.Quiet.{all_hear}
 use Rattle.gapless.proofs.Just.{just_the_left}
-use Rattle.run_safety.specs.Past.{EachEvent, EachRecord}
+use Rattle.run_safety.specs.Past.{EachEvent, EachRecord, Within}
 use Rattle.run_safety.specs.Past as past
 use Rattle.world_safety.specs.Plays.{EveryAnswerIsSafe, EventsAreSafe, EveryPlayIsSafe, EveryKeptPlayIsSafe}
 use Rattle.world_safety.proofs.Lined.{scripts_may_play}
@@ -70,7 +69,7 @@ answers_safe c es may trace e =
       heard_once = subst PlacesHeardOnce run.5 (places_once c run.0 run.1);
       in_order = subst (Each InOrder) run.5 (heard_in_order c run.0 run.1);
       not_let_go = subst (EachRecord NotLetGo) run.5 (who_is_let_go c run.0 run.6);
-      all_hear = subst EachIsHeard run.5 (each_put_is_heard c run.0 run.6);
+      all_hear = subst (EachEvent (λ event before. Within (AllHear event) event.records before)) run.5 (all_hear c run.0 run.6);
       dissolves = subst (EachEvent Dissolves) run.5 (just_the_left c run.0 run.6);
       named = subst (EachRecord PutNamed) run.5 (entries_named c run.0 run.1);
       cast = subst VotesWereCast run.5 (recorded_votes c run.0 run.1);

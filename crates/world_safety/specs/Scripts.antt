@@ -8,7 +8,7 @@ use Rattle.world_model.specs.Run.{trace_of}
 use Rattle.world_model.specs.Reading.{IsScript, script_of}
 use Rattle.world_model.specs.Play.{events_of, script_records}
 use Rattle.world_model.specs.Kept.{kept_records}
-use Rattle.run_safety.specs.Past.{EachEvent, EachRecord, history_of}
+use Rattle.run_safety.specs.Past.{EachEvent, EachRecord, Within, history_of}
 use Rattle.run_safety.specs.Past as past
 use Rattle.run_safety.specs.SafeLists.{OneEntry}
 use Rattle.run_safety.specs.SafeGroups.{SafeGroups}
@@ -28,8 +28,7 @@ use Rattle.ring_runs.specs.Rings.{AddressesFit, NetworkAgrees}
 use Rattle.seen_runs.specs.Seen.{Seen}
 use Rattle.seen_runs.specs.Rings.{RingsSeen}
 use Rattle.run_safety.specs.SafeLists.{Each}
-use Rattle.run_safety.specs.SafeHeard.{InOrder, NotLetGo, Dissolves}
-use Rattle.gapless.specs.Heard.{EachIsHeard}
+use Rattle.run_safety.specs.SafeHeard.{InOrder, NotLetGo, AllHear, Dissolves}
 use Rattle.world_answers.specs.Answers.{Answered, all_worded}
 use Rattle.world_safety.specs.Events.{run_of_events}
 
@@ -50,7 +49,7 @@ pub record IsSafe (c : Config) (es : List Answered) (rs : List Happened) : Type 
   pub heard_once : PlacesHeardOnce (history_of (run_of_events c es))
   pub in_order : Each InOrder (history_of (run_of_events c es))
   pub not_let_go : EachRecord NotLetGo (history_of (run_of_events c es))
-  pub all_hear : EachIsHeard (history_of (run_of_events c es))
+  pub all_hear : EachEvent (λ event before. Within (AllHear event) event.records before) (history_of (run_of_events c es))
   pub dissolves : EachEvent Dissolves (history_of (run_of_events c es))
   pub named : EachRecord PutNamed (history_of (run_of_events c es))
   pub cast : VotesWereCast (history_of (run_of_events c es))
