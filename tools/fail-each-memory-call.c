@@ -1,5 +1,5 @@
 /* Lets one allocation of a program fail: the one whose number stands in FAIL_ALLOCATION, counted from 1 over malloc, calloc,
-   realloc and the aligned calls. For tools/fail-each-allocation, which has it loaded before the C library. */
+   realloc and the aligned calls. For tools/fail-each-memory-call, which has it loaded before the C library. */
 #define _GNU_SOURCE
 #include <dlfcn.h>
 #include <errno.h>
