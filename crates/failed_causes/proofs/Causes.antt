@@ -1,10 +1,8 @@
 -- So it is with the causes of each entry.
-use Rattle.std.proofs.Common.{◌≡◌, ◌⊎◌, ℕ, List, [], ◌∷◌, true, inl, inr}
+use Rattle.std.proofs.Common.{◌≡◌, ◌⊎◌, ℕ, List, [], ◌∷◌, ◌++◌, true, refl, sym, ◌∙◌, inl, inr, append_assoc}
 use Rattle.rsct_packet.specs.declared.ids.ViewId.{ViewId}
 use Rattle.rsct_packet.specs.declared.ids.ProviderId.{ProviderId}
 use Rattle.rsct_packet.specs.Providers.{among}
-use Rattle.rsct_packet.specs.Search.{Has}
-use Rattle.rsct_packet.proofs.HasLaws.{append_has_right}
 use Rattle.group_entry.specs.declared.entry.RowVote.{RowVote}
 use Rattle.group_entry.specs.declared.entry.RowVote.TheVariants as row_vote
 use Rattle.group_entry.specs.declared.entry.Closed.{Closed}
@@ -17,20 +15,23 @@ use Rattle.group_entry.specs.declared.proposal.Proposal.TheVariants.{Join, Leave
 use Rattle.proposal_core.specs.declared.group_state.GroupState.{GroupState}
 use Rattle.node_state.specs.declared.happened.Happened.{Happened}
 use Rattle.node_state.specs.declared.happened.Happened.TheVariants as happened
-use Rattle.run_safety.specs.Past.{History, records_of, earlier}
+use Rattle.run_safety.specs.Past.{History, records_of, earlier, EachEvent}
 use Rattle.failed_rows.specs.Failures.{GoneCause, RowFails, RowsFail, CauseHolds, LeavesFail, EntryFails, PutHolds, Since, EachPut, FailuresHaveCauses, state_held}
 use Rattle.failed_rows.proofs.Law.{reached, failures_are_honest}
 use Rattle.attending.proofs.OrderLaw.{heard_in_order}
 use Rattle.seen_runs.specs.Seen.{Seen}
+use Rattle.seen_runs.proofs.Scenes.{all_show}
 use Rattle.seen_runs.proofs.Law.{traces_seen}
-use Rattle.failed_causes.specs.Causes.{ExactCause, PutHasCause, EachPutHasCause, FailuresHaveExactCauses, FailuresAreExact}
+use Rattle.failed_causes.specs.Causes.{ExactCause, PutHasCause, EachPutHasCause, FailuresAreExact}
 use Rattle.failed_causes.proofs.Ended.{Firsts}
 use Rattle.failed_causes.proofs.Bases.{bases_come_first, bases_follow}
 use Rattle.failed_causes.proofs.Cut.{Entries, entries_after}
 use Rattle.failed_causes.proofs.Elsewhere.{Aways, aways_of, aways_after, bases_away}
 use Rattle.failed_causes.proofs.Held.{Held, held_asked}
 use Rattle.failed_causes.proofs.Renamed.{joined_in_one}
-use Rattle.failed_causes.proofs.Law.{Ordered, OneGroup, firsts_of, firsts_after, seen_after, ordered_of, ordered_after, entries_of, says}
+use Rattle.failed_causes.proofs.Views.{Rises, rises_of, rises_after}
+use Rattle.failed_causes.proofs.Sent.{JoinsSent, joins_sent}
+use Rattle.failed_causes.proofs.Law.{Ordered, OneGroup, IsFront, firsts_of, firsts_after, seen_after, ordered_of, ordered_after, entries_of, did_not_pass}
 
 -- ---- one cause in place of another
 
@@ -72,13 +73,13 @@ module _ (gone now : ProviderId → Type 0) (on : (p : ProviderId) → gone p �
 
 -- ---- each put
 
-module _ (before : History) (seen : Seen (records_of before)) (firsts : Firsts (records_of before)) (order : Ordered (records_of before)) (entries : Entries (records_of before)) (away : Aways (records_of before)) (all : List Happened) (more : (r : Happened) → Has r (records_of before) → Has r all) (single : OneGroup all) (held : Held all) where
-  exact : (v : ViewId) (g : List ℕ) (p : ProviderId) → GoneCause before v g p → ExactCause before v g p
+module _ (before : History) (seen : Seen (records_of before)) (firsts : Firsts (records_of before)) (order : Ordered (records_of before)) (entries : Entries (records_of before)) (away : Aways (records_of before)) (rises : Rises (records_of before)) (all : List Happened) (front : IsFront (records_of before) all) (single : OneGroup all) (held : Held all) (sent : JoinsSent all) where
+  exact : (v : ViewId) (g : List ℕ) (p : ProviderId) → GoneCause before v g p → ExactCause all before v g p
   exact v g p (inl k) = inl k
-  exact v g p (inr st) = inr (says (records_of before) v g p seen firsts order entries away all more single held st)
+  exact v g p (inr st) = inr (did_not_pass (records_of before) v g p seen firsts order entries away all front single held st rises sent)
 
-  put_on : (r : Happened) (now : List Happened) → PutHolds now before r → PutHasCause now before r
-  put_on (happened.Put n v g i e) now k = λ first. entry_on (GoneCause before v g) (ExactCause before v g) (exact v g) (λ h. state_held n h (earlier now before)) (state_held n g (earlier now before)) e (k first)
+  put_on : (r : Happened) (now : List Happened) → PutHolds now before r → PutHasCause all now before r
+  put_on (happened.Put n v g i e) now k = λ first. entry_on (GoneCause before v g) (ExactCause all before v g) (exact v g) (λ h. state_held n h (earlier now before)) (state_held n g (earlier now before)) e (k first)
   put_on _ now k = tt
 
   since_on : (r : Happened) (A B : Type 0) → (A → B) → Since r A → Since r B
@@ -96,26 +97,27 @@ module _ (before : History) (seen : Seen (records_of before)) (firsts : Firsts (
   since_on (happened.Refused n c fault) A B f k = f k
   since_on (happened.Shown n line) A B f k = f k
 
-  each_on : (now : List Happened) → EachPut now before → EachPutHasCause now before
+  each_on : (now : List Happened) → EachPut now before → EachPutHasCause all now before
   each_on [] k = tt
   each_on (r ∷ now) k =
-      since_on r (PutHolds now before r × EachPut now before) (PutHasCause now before r × EachPutHasCause now before) (pair (each_on now)) k
+      since_on r (PutHolds now before r × EachPut now before) (PutHasCause all now before r × EachPutHasCause all now before) (pair (each_on now)) k
     where
-      pair : (EachPut now before → EachPutHasCause now before) → PutHolds now before r × EachPut now before → PutHasCause now before r × EachPutHasCause now before
+      pair : (EachPut now before → EachPutHasCause all now before) → PutHolds now before r × EachPut now before → PutHasCause all now before r × EachPutHasCause all now before
       pair rest k = (put_on r now k.0, rest k.1)
 
-all_on : (all : List Happened) → OneGroup all → Held all → (h : History) → ((r : Happened) → Has r (records_of h) → Has r all) → Seen (records_of h) → Firsts (records_of h) → Ordered (records_of h) → Entries (records_of h) → Aways (records_of h) → FailuresHaveCauses h → FailuresHaveExactCauses h
-all_on all single held [] more seen firsts order entries away k = tt
-all_on all single held (e ∷ before) more seen firsts order entries away k =
+all_on : (all : List Happened) → OneGroup all → Held all → JoinsSent all → (h : History) → IsFront (records_of h) all → Seen (records_of h) → Firsts (records_of h) → Ordered (records_of h) → Entries (records_of h) → Aways (records_of h) → Rises (records_of h) → FailuresHaveCauses h → EachEvent (λ e before. EachPutHasCause all e.records before) h
+all_on all single held sent [] front seen firsts order entries away rises k = tt
+all_on all single held sent (e ∷ before) front seen firsts order entries away rises k =
     let s = seen_after e.records (records_of before) seen in
     let f = firsts_after e.records (records_of before) firsts in
     let o = ordered_after e.records (records_of before) order in
     let a = entries_after e.records (records_of before) entries in
     let b = aways_after e.records (records_of before) away in
-    let m : (r : Happened) → Has r (records_of before) → Has r all = λ r h. more r (append_has_right r e.records (records_of before) h) in
-    (each_on before s f o a b all m single held e.records k.0, all_on all single held before m s f o a b k.1)
+    let r = rises_after e.records (records_of before) rises in
+    let m : IsFront (records_of before) all = (front.0 ++ e.records, front.1 ∙ sym (append_assoc front.0 e.records (records_of before))) in
+    (each_on before s f o a b r all m single held sent e.records k.0, all_on all single held sent before m s f o a b r k.1)
 
 pub failures_are_exact : FailuresAreExact
 failures_are_exact c w k =
     let r = reached c w k in
-    all_on (records_of w.before) (joined_in_one c w r) (held_asked c w r) w.before (λ q h. h) (traces_seen c w r) (firsts_of w.before (bases_come_first c w r)) (ordered_of w.before (heard_in_order c w r)) (entries_of w.before (bases_follow c w r)) (aways_of w.before (bases_away c w r)) (failures_are_honest c w k)
+    all_on (records_of w.before) (joined_in_one c w r) (held_asked c w r) (joins_sent c w r) w.before ([], refl) (traces_seen c w r) (firsts_of w.before (bases_come_first c w r)) (ordered_of w.before (heard_in_order c w r)) (entries_of w.before (bases_follow c w r)) (aways_of w.before (bases_away c w r)) (rises_of w.before (all_show c w r)) (failures_are_honest c w k)

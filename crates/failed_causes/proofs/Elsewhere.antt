@@ -3,11 +3,9 @@ use Rattle.std.proofs.Common.{◌≡◌, ℕ, List, [], ◌∷◌, ◌++◌, Som
 use Rattle.std.specs.Prelude.{◌==◌, ◌&&◌, reverse, map, if◌then◌else◌}
 use Rattle.std.specs.Str.{bytes_eq}
 use Rattle.std.proofs.lemmas.Bool.{eq-eqb}
-use Rattle.std.proofs.lemmas.Bool.Decides.{nat_tests}
 use Rattle.rsct_packet.specs.declared.ids.ViewId.{ViewId}
 use Rattle.rsct_packet.specs.declared.ids.Member.{Member}
 use Rattle.rsct_packet.specs.declared.ids.ProviderId.{ProviderId}
-use Rattle.rsct_packet.specs.Ids.{same_view}
 use Rattle.rsct_packet.specs.Providers.{among}
 use Rattle.rsct_packet.specs.Search.{Has}
 use Rattle.proposal_core.specs.declared.group_state.GroupState.{GroupState}
@@ -43,6 +41,7 @@ use Rattle.attending.proofs.Living.{lively_now, failed_now}
 use Rattle.attending.proofs.OrderLaw.{reached_orderly}
 use Rattle.attending.proofs.Ordering.{Ordered, Fresh, Lively, ordered_does, entering_recorded, base_recorded_at}
 use Rattle.failed_causes.specs.Passed.{ElsewhereFails, BasesFromElsewhereFail}
+use Rattle.failed_causes.proofs.Bases.{view_self}
 use Rattle.failed_causes.proofs.Records.{NoBase, inner_none, none_pushed, turned_none, hands_none, each_scene}
 
 abbrev pub Away : List Happened → History → Happened → Type 0
@@ -50,20 +49,20 @@ Away now before r = ElsewhereFails (earlier now before) r
 
 -- ---- records of no base
 
-none_away : (r : Happened) (rs : List Happened) → NoBase r → ElsewhereFails rs r
-none_away (happened.Base n v g u len s) rs a = absurd a
-none_away (happened.Up n j) rs a = tt
-none_away (happened.Down n) rs a = tt
-none_away (happened.Ring n net id ms x) rs a = tt
-none_away (happened.In n v ms) rs a = tt
-none_away (happened.Put n v g i e) rs a = tt
-none_away (happened.Heard p v g i e ms value) rs a = tt
-none_away (happened.Cast p proto phase vote value message) rs a = tt
-none_away (happened.Asked p r g x) rs a = tt
-none_away (happened.Told p r why) rs a = tt
-none_away (happened.Noted n c v i told) rs a = tt
-none_away (happened.Refused n c fault) rs a = tt
-none_away (happened.Shown n line) rs a = tt
+none_away : (r : Happened) (now : List Happened) (before : History) → NoBase r → Away now before r
+none_away (happened.Base n v g u len s) now before a = absurd a
+none_away (happened.Up n j) now before a = tt
+none_away (happened.Down n) now before a = tt
+none_away (happened.Ring n net id ms x) now before a = tt
+none_away (happened.In n v ms) now before a = tt
+none_away (happened.Put n v g i e) now before a = tt
+none_away (happened.Heard p v g i e ms value) now before a = tt
+none_away (happened.Cast p proto phase vote value message) now before a = tt
+none_away (happened.Asked p r g x) now before a = tt
+none_away (happened.Told p r why) now before a = tt
+none_away (happened.Noted n c v i told) now before a = tt
+none_away (happened.Refused n c fault) now before a = tt
+none_away (happened.Shown n line) now before a = tt
 
 -- ---- a view is entered
 
@@ -71,12 +70,6 @@ none_away (happened.Shown n line) rs a = tt
 abbrev Failing : ℕ → ℕ → ViewId → List Happened → Type 0
 Failing n inc old rs =
     (u : ViewId) (ms : List Member) (g : List ℕ) (side : ViewId) (len : ℕ) (st : GroupState) → Has (happened.In n u ms) rs → Has (happened.Base n u g side len st) rs → Lt old u → (side ≡ old → ⊥) → (p : ProviderId) → p.node ≡ n → p.inc ≡ inc → Has p (present st) → among st.failed p ≡ true
-
-view_self : (a b : ViewId) → a ≡ b → same_view a b ≡ true
-view_self a b e = subst (λ z. same_view a z ≡ true) e (self a)
-  where
-    self : (a : ViewId) → same_view a a ≡ true
-    self a = grind (arith, nat_tests)
 
 module _ (n inc : ℕ) (before : History) (old : ViewId) (v : ViewId) where
   -- the node's stays at that moment: the new one, and the one before
@@ -112,7 +105,7 @@ module _ (n inc : ℕ) (before : History) (old : ViewId) (last : ℕ) where
   unfolding view_entered recorded_all views_entered base_record
   enters_away s i lt none rs more failing o k =
       let told : Adds Inner inside (sides_dissolved inside (held_rows s) s.views.view bs) = sides_add inside (held_rows s) s.views.view bs in
-      subst (λ z. Within Away z before) (sym (ap reverse told.is ∙ pushed_reverse told.more inside.records)) (none_pushed ElsewhereFails none_away told.more (reverse inside.records) before (λ r h. inner_none r (told.all r h)) (subst (λ z. Within Away z before) (sym (pushed_reverse (entering ∷ map (base_noted s.views.me i.view) bs) s.records)) (subst (λ m. Within Away (pushed (map (base_noted m i.view) bs) (happened.In m i.view i.members ∷ reverse s.records)) before) (sym me) (based_away n inc before old i.view bs (happened.In n i.view i.members ∷ reverse s.records) twice (o.strict.incs n ∙ o.strict.start) fails (tt, k)))))
+      subst (λ z. Within Away z before) (sym (ap reverse told.is ∙ pushed_reverse told.more inside.records)) (none_pushed Away none_away told.more (reverse inside.records) before (λ r h. inner_none r (told.all r h)) (subst (λ z. Within Away z before) (sym (pushed_reverse (entering ∷ map (base_noted s.views.me i.view) bs) s.records)) (subst (λ m. Within Away (pushed (map (base_noted m i.view) bs) (happened.In m i.view i.members ∷ reverse s.records)) before) (sym me) (based_away n inc before old i.view bs (happened.In n i.view i.members ∷ reverse s.records) twice (o.strict.incs n ∙ o.strict.start) fails (tt, k)))))
     where
       bs : List Base
       bs = bases_of i
@@ -145,11 +138,11 @@ module _ (n inc : ℕ) (before : History) (old : ViewId) (last : ℕ) where
   does_away _ _ (Then s t u a b) rs more fine lively fresh failing o k =
       let grown : (r : Happened) → Has r t.records → Has r rs = λ r h. more r (does_grow t u b r h) in
       does_away t u b rs more fine lively fresh failing (ordered_does n inc before old last s t a rs grown fine lively fresh o) (does_away s t a rs grown fine lively fresh failing o k)
-  does_away _ _ (Records s r a) rs more fine lively fresh failing o k = turned_none ElsewhereFails none_away before s.records r (inner_none r a) k
-  does_away _ _ (Hands s c h e bs ordered same) rs more fine lively fresh failing o k = hands_none ElsewhereFails none_away before s c h e bs same k
+  does_away _ _ (Records s r a) rs more fine lively fresh failing o k = turned_none Away none_away before s.records r (inner_none r a) k
+  does_away _ _ (Hands s c h e bs ordered same) rs more fine lively fresh failing o k = hands_none Away none_away before s c h e bs same k
   does_away _ _ (Loses s t f) rs more fine lively fresh failing o k = k
   does_away _ _ (Joins s t g instance attrs none) rs more fine lively fresh failing o k = k
-  does_away _ _ (Votes s x o b found opened unkept) rs more fine lively fresh failing ord k = turned_none ElsewhereFails none_away before s.records (happened.Cast x.p o.proto o.phase b.vote b.value b.message) tt k
+  does_away _ _ (Votes s x o b found opened unkept) rs more fine lively fresh failing ord k = turned_none Away none_away before s.records (happened.Cast x.p o.proto o.phase b.vote b.value b.message) tt k
   does_away _ _ (Enters s i lt none) rs more fine lively fresh failing o k = enters_away s i lt none rs more failing o k
 
 -- ---- every scene
@@ -173,7 +166,7 @@ module _ (c : Config) (w : Scene) (n : ℕ) (f : Answering) (s : Core) (e : Node
       does_away n (w.incs n) w.before s.views.view s.sessions.last_request (at_work s) (stepped f s e) (steps_change c w k n s up f e) (stepped f s e).records (λ r h. h) (step_fine c w n s k up f e v arises) (lively_now c w n f s e v k up arises) (fresh_now c w k n s up) (failed_now c w n f s e v k up arises) begin tt
 
 pub bases_away : BasesFromElsewhereFail
-bases_away c w k = each_scene ElsewhereFails none_away c (λ w n f s e v k up arises. step_away c w n f s e v k up arises) w k
+bases_away c w k = each_scene Away none_away c (λ w n f s e v k up arises. step_away c w n f s e v k up arises) w k
 
 -- ---- record by record
 

@@ -5,6 +5,7 @@ use Rattle.std.specs.List.{list_any}
 use Rattle.std.specs.Str.{bytes_eq}
 use Rattle.std.proofs.lemmas.Bool.{eqb-true, eq-eqb}
 use Rattle.rsct_packet.specs.declared.ids.ViewId.{ViewId}
+use Rattle.rsct_packet.specs.declared.ids.Member.{Member}
 use Rattle.rsct_packet.specs.declared.ids.ProviderId.{ProviderId}
 use Rattle.rsct_packet.specs.Providers.{among}
 use Rattle.rsct_packet.specs.Search.{Has}
@@ -21,6 +22,9 @@ use Rattle.run_safety.specs.Past.{History, EachRecord, Within, records_of, earli
 use Rattle.run_safety.specs.SafeLists.{Each}
 use Rattle.run_safety.specs.SafeHeard.{heard_count, is_after, InOrder}
 use Rattle.run_safety.specs.Stays.{Stay, stays, with_entry, is_join_of, Part, part, passes}
+use Rattle.run_safety.specs.Sight.{inc_in}
+use Rattle.run_safety.specs.ViewOrder.{Le}
+use Rattle.run_safety.proofs.Order.{le_antisym}
 use Rattle.run_safety.proofs.Tests.{has_any}
 use Rattle.node_groups.proofs.NameOrder.{text_same, text_self}
 use Rattle.hearing.proofs.Handing.{among_is}
@@ -28,13 +32,16 @@ use Rattle.attending.proofs.OrderLaw.{heard_in_order}
 use Rattle.failed_rows.specs.Failures.{state_in_stays, state_held, FromElsewhere, IsCut, IsRefused, WasTold, TakenOff, StoodThere}
 use Rattle.failed_rows.proofs.Asked.{join_carried}
 use Rattle.seen_runs.specs.Seen.{Seen, SeenAt, OnceSeen, BeginsOnce, WasTold as WasRefused}
+use Rattle.seen_runs.proofs.Scenes.{all_show}
 use Rattle.seen_runs.proofs.Law.{traces_seen}
 use Rattle.failed_causes.specs.Passed.{puts_join, BaseFirst, DidNotPass, WhoIsOverDidNotPass}
 use Rattle.failed_causes.proofs.Ended.{Out, Firsts, out_on, there_out, first_out, off_out}
 use Rattle.failed_causes.proofs.Bases.{First, bases_come_first, bases_follow}
-use Rattle.failed_causes.proofs.Cut.{Cut, CutOut, Entries, entries_after, cut_on, there_cut}
+use Rattle.failed_causes.proofs.Cut.{Cut, CutOut, Entries, follows_before, entries_after, cut_on, there_cut}
 use Rattle.failed_causes.proofs.Elsewhere.{Aways, aways_of, aways_after, bases_away}
 use Rattle.failed_causes.proofs.Held.{Held, held_asked}
+use Rattle.failed_causes.proofs.Views.{Rises, rises_of, rises_after, now_entered, put_entered, AtStay, AtFront, at_front}
+use Rattle.failed_causes.proofs.Sent.{SentIn, JoinsSent, joins_sent}
 use Rattle.failed_causes.proofs.Renamed.{joined_in_one}
 
 -- ---- one record after another
@@ -70,7 +77,8 @@ ordered_of (e ∷ before) k = ordered_now e.records before k.0 (ordered_of befor
 
 entries_now : (now : List Happened) (before : History) → Within First now before → Entries (records_of before) → Entries (now ++ records_of before)
 entries_now [] before k old = old
-entries_now (r ∷ now) before k old = ((k.0).1, entries_now now before k.1 old)
+entries_now (r ∷ now) before k old =
+    (follows_before r now (records_of before) (k.0).1, entries_now now before k.1 old)
 
 pub entries_of : (h : History) → EachRecord First h → Entries (records_of h)
 entries_of [] k = tt
@@ -279,6 +287,10 @@ passes_unfailed p base x k = by (is_some x.first) (is_none x.last) (among (prese
     by true false c d q = absurd (cc)
     by false b c d q = absurd (cc)
 
+-- these are the first records of a run
+abbrev pub IsFront : List Happened → List Happened → Type 0
+IsFront rs run = (after : List Happened) × (run ≡ after ++ rs)
+
 -- who hears has a first place
 first_of : (count i : ℕ) (o : Option ℕ) → IsTrue (is_after count o i) → (f : ℕ) × (o ≡ Some f)
 first_of count i None k = absurd (let z : false ≡ true = k in cc)
@@ -286,7 +298,10 @@ first_of count i (Some f) k = (f, refl)
 
 -- ---- the law
 
-module _ (rs : List Happened) (v : ViewId) (g : List ℕ) (p : ProviderId) (seen : Seen rs) (firsts : Firsts rs) (order : Ordered rs) (entries : Entries rs) (away : Aways rs) (all : List Happened) (more : (r : Happened) → Has r rs → Has r all) (single : OneGroup all) (held : Held all) (st : StoodThere rs v g p) where
+module _ (rs : List Happened) (v : ViewId) (g : List ℕ) (p : ProviderId) (seen : Seen rs) (firsts : Firsts rs) (order : Ordered rs) (entries : Entries rs) (away : Aways rs) (all : List Happened) (front : IsFront rs all) (single : OneGroup all) (held : Held all) (st : StoodThere rs v g p) where
+  more : (r : Happened) → Has r rs → Has r all
+  more r h = subst (Has r) (sym front.1) (append_has_right r front.0 rs h)
+
   seen_now : Seen (st.newer ++ st.older)
   seen_now = subst Seen st.moment seen
 
@@ -299,27 +314,16 @@ module _ (rs : List Happened) (v : ViewId) (g : List ℕ) (p : ProviderId) (seen
   order_then : Ordered st.older
   order_then = ordered_after st.newer st.older (subst Ordered st.moment order)
 
-  abbrev pub Says : Type 0
-  Says = DidNotPass rs v g p
+  -- what the records of its own node say
+  abbrev Says : Type 0
+  Says =
+      (among (present (st.stay).base) p ≡ true) × (passes p (st.stay).base (part p st.rest) ≡ false) × (list_any (is_join_of p) (st.stay).entries ≡ false) × (list_any (puts_join p g) st.newer ≡ false)
 
   abbrev Joined : Type 0
   Joined = list_any (puts_join p g) (st.newer ++ st.older) ≡ true
 
   finish : list_any (puts_join p g) st.newer ≡ false → (among (present (st.stay).base) p ≡ true) × ((passes p (st.stay).base (part p st.rest) ≡ false) × (list_any (is_join_of p) (st.stay).entries ≡ false)) → Says
-  finish later z =
-      record {
-        newer = st.newer;
-        older = st.older;
-        moment = st.moment;
-        stay = st.stay;
-        rest = st.rest;
-        stays_so = st.stays_so;
-        view = st.view;
-        of_base = z.0;
-        apart = z.1.0;
-        unnamed = z.1.1;
-        later = later;
-      }
+  finish later z = (z.0, z.1.0, z.1.1, later)
 
   done : (a : Bool) → list_any (puts_join p g) st.newer ≡ false → Out a p (stays p.node g st.older) → Says
   done a later out = finish later (there_out a p st.stay st.rest (subst (Out a p) st.stays_so out) st.holds)
@@ -337,18 +341,6 @@ module _ (rs : List Happened) (v : ViewId) (g : List ℕ) (p : ProviderId) (seen
       done false (none_left (puts_join p g) st.newer st.older q) (unput_out p g st.older firsts_then (none_right (puts_join p g) st.newer st.older q))
 
   module _ (told : WasTold st.older p) where
-    refused : IsRefused told.older p told.number → Says
-    refused k = never_put (ap (list_any (puts_join p g)) moment ∙ refused_unput p g told.why told.older now (st.newer ++ told.newer) (subst Seen moment seen_now))
-      where
-        now : IsRefused told.older p p.join
-        now = subst (IsRefused told.older p) k.join k
-
-        moment : st.newer ++ st.older ≡ (st.newer ++ told.newer) ++ happened.Told p p.join told.why ∷ told.older
-        moment =
-            ap (λ z. st.newer ++ z) (told.moment ∙ ap (λ n. told.newer ++ happened.Told p n told.why ∷ told.older) k.join) ∙ sym (append_assoc st.newer told.newer (happened.Told p p.join told.why ∷ told.older))
-
-  -- it was told as its node entered a view
-  module _ (told : WasTold st.older p) (k : IsCut told.older p) where
     abbrev tells_it : Happened
     tells_it = happened.Told p told.number told.why
 
@@ -359,56 +351,78 @@ module _ (rs : List Happened) (v : ViewId) (g : List ℕ) (p : ProviderId) (seen
     there r h =
         more r (subst (Has r) (sym st.moment) (append_has_right r st.newer st.older (subst (Has r) (sym told.moment) (append_has_right r told.newer (tells_it ∷ told.older) (inr h)))))
 
-    -- its node held it in the group of its join
-    same_group : Joined → k.group ≡ g
-    same_group q =
-        let a = asked_in p g (st.newer ++ st.older) seen_now q in
-        let b = held p.node k.group told.older there k.last (subst (Has k.last) (sym k.stays_so) (inr (inl refl))) p k.held in
-        single p k.group g b.0 a.0 b.1 (more (happened.Asked p p.join g a.0) (subst (Has (happened.Asked p p.join g a.0)) (sym st.moment) a.1))
+    -- its join was refused
+    module _ (k : IsRefused told.older p told.number) where
+      tells_refused : st.newer ++ st.older ≡ (st.newer ++ told.newer) ++ happened.Told p p.join told.why ∷ told.older
+      tells_refused = moment_told ∙ ap (λ n. (st.newer ++ told.newer) ++ happened.Told p n told.why ∷ told.older) k.join
 
-    settled : Joined → list_any (puts_join p g) told.older ≡ true → passes p (k.stay).base (part p (k.last ∷ k.rest)) ≡ false → Says
-    settled q put apart =
-        by (cut_on p g told.newer (tells_it ∷ told.older) (subst Firsts told.moment firsts_then) (subst Entries told.moment (entries_after st.newer st.older (subst Entries st.moment entries))) (none_right (puts_join p g) st.newer told.newer none) (cut, refl))
-      where
-        none : list_any (puts_join p g) (st.newer ++ told.newer) ≡ false
-        none = none_later p g (st.newer ++ told.newer) (tells_it ∷ told.older) (subst Seen moment_told seen_now) (its_put p g (tells_it ∷ told.older) put)
+      refused : Says
+      refused =
+          never_put (ap (list_any (puts_join p g)) tells_refused ∙ refused_unput p g told.why told.older (subst (IsRefused told.older p) k.join k) (st.newer ++ told.newer) (subst Seen tells_refused seen_now))
 
-        later : list_any (puts_join p g) st.newer ≡ false
-        later = none_left (puts_join p g) st.newer told.newer none
+    -- it was told as its node entered a view
+    module _ (k : IsCut told.older p) where
+      cut_put : ItsPut p k.group st.older
+      cut_put =
+          let j = k.joined in
+          record {
+            view = j.0;
+            place = j.1;
+            entry = j.2;
+            there = subst (Has (happened.Put p.node j.0 k.group j.1 j.2)) (sym told.moment) (append_has_right (happened.Put p.node j.0 k.group j.1 j.2) told.newer (tells_it ∷ told.older) (inr j.3));
+            joins = j.4;
+          }
 
-        cut : Cut p (stays p.node g told.older)
-        cut =
-            subst (Cut p) (sym (subst (λ h. stays p.node h told.older ≡ k.stay ∷ k.last ∷ k.rest) (same_group q) k.stays_so)) (apart, ap (list_any (is_join_of p)) k.empty)
+      -- its node held it in the group of its join
+      same_group : Joined → k.group ≡ g
+      same_group q =
+          let a = asked_in p g (st.newer ++ st.older) seen_now q in
+          let b = held p.node k.group told.older there k.last (subst (Has k.last) (sym k.stays_so) (inr (inl refl))) p k.held in
+          single p k.group g b.0 a.0 b.1 (more (happened.Asked p p.join g a.0) (subst (Has (happened.Asked p p.join g a.0)) (sym st.moment) a.1))
 
-        by : CutOut p g (told.newer ++ tells_it ∷ told.older) ⊎ Out false p (stays p.node g (told.newer ++ tells_it ∷ told.older)) → Says
-        by (inl c) =
-            finish later (there_cut p st.stay st.rest (subst (Cut p) st.stays_so (subst (λ z. Cut p (stays p.node g z)) (sym told.moment) c.0)) st.holds)
-        by (inr o) = done false later (subst (λ z. Out false p (stays p.node g z)) (sym told.moment) o)
+      settled : Joined → list_any (puts_join p g) told.older ≡ true → passes p (k.stay).base (part p (k.last ∷ k.rest)) ≡ false → Says
+      settled q put apart =
+          by (cut_on p g told.newer (tells_it ∷ told.older) (subst Firsts told.moment firsts_then) (subst Entries told.moment (entries_after st.newer st.older (subst Entries st.moment entries))) (none_right (puts_join p g) st.newer told.newer none) (cut, λ u. refl))
+        where
+          none : list_any (puts_join p g) (st.newer ++ told.newer) ≡ false
+          none = none_later p g (st.newer ++ told.newer) (tells_it ∷ told.older) (subst Seen moment_told seen_now) (its_put p g (tells_it ∷ told.older) put)
 
-    away_then : Aways told.older
-    away_then =
-        (aways_after told.newer (tells_it ∷ told.older) (subst Aways told.moment (aways_after st.newer st.older (subst Aways st.moment away)))).1
+          later : list_any (puts_join p g) st.newer ≡ false
+          later = none_left (puts_join p g) st.newer told.newer none
 
-    -- whoever is there in a base from elsewhere failed
-    from_elsewhere : FromElsewhere told.older p k.group k.stay k.last → among (present (k.stay).base) p ≡ true → among (k.stay).base.failed p ≡ true
-    from_elsewhere c there =
-        let base : Happened = happened.Base p.node (k.stay).view k.group c.from c.len (k.stay).base in
-        (aways_after c.newer (base ∷ c.older) (subst Aways c.moment away_then)).0 c.entered k.last c.rest c.stays_so c.apart p refl c.inc (among_is (present (k.stay).base) p there)
+          cut : Cut p (stays p.node g told.older)
+          cut =
+              subst (Cut p) (sym (subst (λ h. stays p.node h told.older ≡ k.stay ∷ k.last ∷ k.rest) (same_group q) k.stays_so)) (apart, ap (list_any (is_join_of p)) k.empty)
 
-    was_cut : Joined → Says
-    was_cut q = by (passes p (k.stay).base (part p (k.last ∷ k.rest))) refl k.cut
-      where
-        put : list_any (puts_join p g) told.older ≡ true
-        put =
-            let j = subst (λ h. (v : ViewId) × (i : ℕ) × (e : Entry) × Has (happened.Put p.node v h i e) told.older × (is_join_of p e ≡ true)) (same_group q) k.joined in
-            has_any (puts_join p g) told.older (happened.Put p.node j.0 g j.1 j.2) j.3 (λ z. eq-eqb p.node p.node refl z && (text_self g z && j.4 z))
+          by : CutOut p g (told.newer ++ tells_it ∷ told.older) ⊎ Out false p (stays p.node g (told.newer ++ tells_it ∷ told.older)) → Says
+          by (inl c) =
+              finish later (there_cut p st.stay st.rest (subst (Cut p) st.stays_so (subst (λ z. Cut p (stays p.node g z)) (sym told.moment) c.0)) st.holds)
+          by (inr o) = done false later (subst (λ z. Out false p (stays p.node g z)) (sym told.moment) o)
 
-        by : (b : Bool) → passes p (k.stay).base (part p (k.last ∷ k.rest)) ≡ b → (among (present (k.stay).base) p ≡ false) ⊎ FromElsewhere told.older p k.group k.stay k.last → Says
-        by false z c = settled q put z
-        by true z (inl absent) =
-            absurd (let y : true ≡ false = sym (passes_there p (k.stay).base (part p (k.last ∷ k.rest)) z) ∙ absent in cc)
-        by true z (inr c) =
-            absurd (let y : true ≡ false = sym (from_elsewhere c (passes_there p (k.stay).base (part p (k.last ∷ k.rest)) z)) ∙ passes_unfailed p (k.stay).base (part p (k.last ∷ k.rest)) z in cc)
+      away_then : Aways told.older
+      away_then =
+          (aways_after told.newer (tells_it ∷ told.older) (subst Aways told.moment (aways_after st.newer st.older (subst Aways st.moment away)))).1
+
+      -- whoever is there in a base from elsewhere failed
+      from_elsewhere : FromElsewhere told.older p k.group k.stay k.last → among (present (k.stay).base) p ≡ true → among (k.stay).base.failed p ≡ true
+      from_elsewhere c there =
+          let base : Happened = happened.Base p.node (k.stay).view k.group c.from c.len (k.stay).base in
+          (aways_after c.newer (base ∷ c.older) (subst Aways c.moment away_then)).0 c.entered k.last c.rest c.stays_so c.apart p refl c.inc (among_is (present (k.stay).base) p there)
+
+      was_cut : Joined → Says
+      was_cut q = by (passes p (k.stay).base (part p (k.last ∷ k.rest))) refl k.cut
+        where
+          put : list_any (puts_join p g) told.older ≡ true
+          put =
+              let j = subst (λ h. (v : ViewId) × (i : ℕ) × (e : Entry) × Has (happened.Put p.node v h i e) told.older × (is_join_of p e ≡ true)) (same_group q) k.joined in
+              has_any (puts_join p g) told.older (happened.Put p.node j.0 g j.1 j.2) j.3 (λ z. eq-eqb p.node p.node refl z && (text_self g z && j.4 z))
+
+          by : (b : Bool) → passes p (k.stay).base (part p (k.last ∷ k.rest)) ≡ b → (among (present (k.stay).base) p ≡ false) ⊎ FromElsewhere told.older p k.group k.stay k.last → Says
+          by false z c = settled q put z
+          by true z (inl absent) =
+              absurd (let y : true ≡ false = sym (passes_there p (k.stay).base (part p (k.last ∷ k.rest)) z) ∙ absent in cc)
+          by true z (inr c) =
+              absurd (let y : true ≡ false = sym (from_elsewhere c (passes_there p (k.stay).base (part p (k.last ∷ k.rest)) z)) ∙ passes_unfailed p (k.stay).base (part p (k.last ∷ k.rest)) z in cc)
 
   module _ (off : TakenOff st.older p) where
     abbrev off_it : Happened
@@ -447,7 +461,7 @@ module _ (rs : List Happened) (v : ViewId) (g : List ℕ) (p : ProviderId) (seen
         let same : off.group ≡ g = joined_once off.group q (any_right (puts_join p off.group) st.newer st.older its_join) in
         done true (none_later p g st.newer st.older seen_now (its_put p g st.older (subst (λ h. list_any (puts_join p h) st.older ≡ true) same its_join))) (subst (λ h. Out true p (stays p.node h st.older)) same gone)
 
-  pub says : Says
+  says : Says
   says = by (list_any (puts_join p g) (st.newer ++ st.older)) refl st.over
     where
       was_told : Joined → (told : WasTold st.older p) → IsRefused told.older p told.number ⊎ ((is_dissolved told.why ≡ true) × IsCut told.older p) → Says
@@ -459,6 +473,87 @@ module _ (rs : List Happened) (v : ViewId) (g : List ℕ) (p : ProviderId) (seen
       by true q (inl told) = was_told q told told.ends
       by true q (inr off) = taken off q
 
+  -- ---- nor does any other node
+
+  module _ (rises : Rises rs) (sent : JoinsSent all) where
+    older_all : (r : Happened) → Has r st.older → Has r all
+    older_all r h = more r (subst (Has r) (sym st.moment) (append_has_right r st.newer st.older h))
+
+    stood : AtStay p.node g st.older st.stay
+    stood =
+        subst (AtFront p.node g st.older) st.stays_so (at_front p.node g st.older seen_then (rises_after st.newer st.older (subst Rises st.moment rises)))
+
+    -- a node puts an entry into the view's list that names it
+    module _ (m i : ℕ) (e : Entry) (put : Has (happened.Put m v g i e) all) (names : is_join_of p e ≡ true) where
+      sends : SentIn all p g v
+      sends = sent m v g i e p put names
+
+      its_inc : p.inc ≡ inc_in p.node stood.members
+      its_inc =
+          sends.inc stood.members (older_all (happened.In p.node v stood.members) (subst (λ u. Has (happened.In p.node u stood.members) st.older) st.view stood.entered))
+
+      -- a view in which its node was before is no later one
+      by_then : (u : ViewId) (ms : List Member) → Has (happened.In p.node u ms) st.older → p.inc ≡ inc_in p.node ms → Le u v
+      by_then u ms h inc = subst (Le u) st.view (stood.latest u ms h (sym inc ∙ its_inc))
+
+      -- so its node did not put its join there before
+      here : ItsPut p g st.older → ⊥
+      here x =
+          let a = put_entered p.node x.view g x.place x.entry st.older seen_then x.there in
+          let inc : p.inc ≡ inc_in p.node a.0 = (sent p.node x.view g x.place x.entry p (older_all (happened.Put p.node x.view g x.place x.entry) x.there) x.joins).inc a.0 (older_all (happened.In p.node x.view a.0) a.1) in
+          let same : x.view ≡ v = le_antisym x.view v (by_then x.view a.0 a.1 inc) (sends.own x.view x.place x.entry (older_all (happened.Put p.node x.view g x.place x.entry) x.there) x.joins) in
+          let stands : Has x.entry (st.stay).entries = stood.puts x.place x.entry (subst (λ u. Has (happened.Put p.node u g x.place x.entry) st.older) (same ∙ sym st.view) x.there) in
+          let z : true ≡ false = sym (has_any (is_join_of p) (st.stay).entries x.entry stands x.joins) ∙ says.2 in
+          cc
+
+      in_group : (h : List ℕ) → ItsPut p h st.older → ⊥
+      in_group h x =
+          let other : SentIn all p h x.view = sent p.node x.view h x.place x.entry p (older_all (happened.Put p.node x.view h x.place x.entry) x.there) x.joins in
+          let same : h ≡ g = single p h g (other.asked).0 (sends.asked).0 (other.asked).1 (sends.asked).1 in
+          here (subst (λ z. ItsPut p z st.older) same x)
+
+      -- nor was it told of it
+      not_refused : (told : WasTold st.older p) → IsRefused told.older p told.number → ⊥
+      not_refused told k =
+          let u : ViewId = (k.in_view).0 in
+          let a = now_entered p.node u told.older (k.in_view).1 in
+          let moment : all ≡ (front.0 ++ (st.newer ++ told.newer)) ++ happened.Told p p.join told.why ∷ told.older = front.1 ∙ ap (λ z. front.0 ++ z) (st.moment ∙ tells_refused told k) ∙ sym (append_assoc front.0 (st.newer ++ told.newer) (happened.Told p p.join told.why ∷ told.older)) in
+          let t = sends.told (front.0 ++ (st.newer ++ told.newer)) told.older told.why u moment (k.in_view).1 in
+          let le : Le u v = by_then u a.0 (subst (Has (happened.In p.node u a.0)) (sym told.moment) (append_has_right (happened.In p.node u a.0) told.newer (tells_it told ∷ told.older) (inr a.1))) (t.1 a.0 (there told (happened.In p.node u a.0) a.1)) in
+          let z : true ≡ false = sym t.0 ∙ le in
+          cc
+
+      unput : WasTold st.older p ⊎ TakenOff st.older p → ⊥
+      unput (inl told) = by told.ends
+        where
+          by : IsRefused told.older p told.number ⊎ ((is_dissolved told.why ≡ true) × IsCut told.older p) → ⊥
+          by (inl k) = not_refused told k
+          by (inr k) = in_group (k.1).group (cut_put told k.1)
+      unput (inr off) = in_group off.group (its_put p off.group st.older (its_join off))
+
+    named_nowhere : (m i : ℕ) (e : Entry) → Has (happened.Put m v g i e) all → is_join_of p e ≡ false
+    named_nowhere m i e put = by (is_join_of p e) refl
+      where
+        by : (b : Bool) → is_join_of p e ≡ b → is_join_of p e ≡ false
+        by false q = q
+        by true q = absurd (unput m i e put q st.over)
+
+    pub did_not_pass : DidNotPass all rs v g p
+    did_not_pass =
+        record {
+          newer = st.newer;
+          older = st.older;
+          moment = st.moment;
+          stay = st.stay;
+          rest = st.rest;
+          stays_so = st.stays_so;
+          view = st.view;
+          of_base = says.0;
+          apart = says.1;
+          unnamed = named_nowhere;
+          later = says.3;
+        }
+
 pub over_did_not_pass : WhoIsOverDidNotPass
 over_did_not_pass c w k v g p st =
-    says (records_of w.before) v g p (traces_seen c w k) (firsts_of w.before (bases_come_first c w k)) (ordered_of w.before (heard_in_order c w k)) (entries_of w.before (bases_follow c w k)) (aways_of w.before (bases_away c w k)) (records_of w.before) (λ r h. h) (joined_in_one c w k) (held_asked c w k) st
+    did_not_pass (records_of w.before) v g p (traces_seen c w k) (firsts_of w.before (bases_come_first c w k)) (ordered_of w.before (heard_in_order c w k)) (entries_of w.before (bases_follow c w k)) (aways_of w.before (bases_away c w k)) (records_of w.before) ([], refl) (joined_in_one c w k) (held_asked c w k) st (rises_of w.before (all_show c w k)) (joins_sent c w k)

@@ -4,6 +4,8 @@ pub mod Bases
 pub mod Elsewhere
 pub mod Cut
 pub mod Held
+pub mod Views
+pub mod Sent
 pub mod Law
 pub mod Causes
 pub mod Renamed

@@ -22,7 +22,7 @@ use Rattle.node_state.specs.HandOn.{Answering, heard, cast_record, cast_records}
 use Rattle.node_state.specs.Leading.{put}
 use Rattle.node_state.specs.Step.{NodeEvent, started, stepped, first_view, first_members, own_rings, ring_record}
 use Rattle.world_model.specs.declared.event.Event.{Event}
-use Rattle.run_safety.specs.Past.{History, EachRecord, Within, earlier, records_of}
+use Rattle.run_safety.specs.Past.{History, EachRecord, Within}
 use Rattle.step_ties.specs.Tied.{Scene}
 use Rattle.step_ties.specs.Rows.{Arises, nothing_yet, with_records, starts_too}
 use Rattle.step_ties.specs.Runs.{IsNote, Reached, Nothing, AllStart, Starts, Stops, Steps, Notes}
@@ -76,18 +76,15 @@ start_none c n j r (inr i) = by (has_append r (map (ring_record n) rings) (happe
     by (inr (inl e)) = subst NoBase (sym e) tt
     by (inr (inr z)) = absurd z
 
--- P: what is said of a record, of those before it
-module _ (P : List Happened → Happened → Type 0) (none : (r : Happened) (rs : List Happened) → NoBase r → P rs r) where
-  abbrev pub Says : List Happened → History → Happened → Type 0
-  Says now before r = P (earlier now before) r
-
+-- what is said of a record, of those of its event before it, and of the events before
+module _ (Says : List Happened → History → Happened → Type 0) (none : (r : Happened) (now : List Happened) (before : History) → NoBase r → Says now before r) where
   pub none_pushed : (rs now : List Happened) (before : History) → ((r : Happened) → Has r rs → NoBase r) → Within Says now before → Within Says (pushed rs now) before
   none_pushed [] now before all k = k
-  none_pushed (r ∷ rs) now before all k = none_pushed rs (r ∷ now) before (λ q h. all q (inr h)) (none r (earlier now before) (all r (inl refl)), k)
+  none_pushed (r ∷ rs) now before all k = none_pushed rs (r ∷ now) before (λ q h. all q (inr h)) (none r now before (all r (inl refl)), k)
 
   none_added : (rs now : List Happened) (before : History) → ((r : Happened) → Has r rs → NoBase r) → Within Says now before → Within Says (rs ++ now) before
   none_added [] now before all k = k
-  none_added (r ∷ rs) now before all k = (none r (earlier (rs ++ now) before) (all r (inl refl)), none_added rs now before (λ q h. all q (inr h)) k)
+  none_added (r ∷ rs) now before all k = (none r (rs ++ now) before (all r (inl refl)), none_added rs now before (λ q h. all q (inr h)) k)
 
   none_turned : (rs : List Happened) (before : History) → ((r : Happened) → Has r rs → NoBase r) → Within Says (reverse rs) before
   none_turned rs before all = subst (λ z. Within Says z before) (append-nil (reverse rs)) (none_added (reverse rs) [] before (λ r h. all r (reverse_has r rs h)) tt)
@@ -98,7 +95,7 @@ module _ (P : List Happened → Happened → Type 0) (none : (r : Happened) (rs 
 
   pub turned_none : (before : History) (rs : List Happened) (r : Happened) → NoBase r → Within Says (reverse rs) before → Within Says (reverse (rs ++ r ∷ [])) before
   turned_none before rs r a k =
-      subst (λ z. Within Says z before) (sym (reverse-append rs (r ∷ []))) (none r (earlier (reverse rs) before) a, k)
+      subst (λ z. Within Says z before) (sym (reverse-append rs (r ∷ []))) (none r (reverse rs) before a, k)
 
   -- an entry is put and handed on
   pub hands_none : (before : History) (s c : Core) (h : List ℕ) (e : Entry) (bs : List (Option Filled)) → Same (put s h e) c → Within Says (reverse s.records) before → Within Says (reverse (handing c h (len_of s h) (state_of s h) (state_of (put s h e) h) e bs).records) before
@@ -122,6 +119,6 @@ module _ (P : List Happened → Happened → Type 0) (none : (r : Happened) (rs 
       all_start (nodes_of c.nodes) (record (nothing_yet c) { before = record { event = None; records = [] } ∷ [] }) (tt, tt)
   each_scene c steps _ (Starts w n e k free real down) =
       (none_turned (started w.config n (w.incs n + 1)).records w.before (start_none w.config n (w.incs n + 1)), each_scene c steps w k)
-  each_scene c steps _ (Stops w n e s k up) = ((none (happened.Down n) (records_of w.before) tt, tt), each_scene c steps w k)
+  each_scene c steps _ (Stops w n e s k up) = ((none (happened.Down n) [] w.before tt, tt), each_scene c steps w k)
   each_scene c steps _ (Steps w n f s e v k up arises) = (steps w n f s e v k up arises, each_scene c steps w k)
   each_scene c steps _ (Notes w e rs k notes) = (none_turned rs w.before (λ r h. note_none r (notes r h)), each_scene c steps w k)

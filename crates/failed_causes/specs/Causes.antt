@@ -11,23 +11,23 @@ use Rattle.failed_rows.specs.Failures.{SaidGoodbye, EntryFails, IsFirst, Since, 
 use Rattle.failed_rows.specs.Scenes.{Played}
 use Rattle.failed_causes.specs.Passed.{DidNotPass}
 
--- its own client said goodbye, or it did not pass into the view
-abbrev pub ExactCause : History → ViewId → List ℕ → ProviderId → Type 0
-ExactCause before v g p =
-    SaidGoodbye before p ⊎ DidNotPass (records_of before) v g p
+-- by these events its own client said goodbye, or it did not pass into the view of the run
+abbrev pub ExactCause : List Happened → History → ViewId → List ℕ → ProviderId → Type 0
+ExactCause run before v g p =
+    SaidGoodbye before p ⊎ DidNotPass run (records_of before) v g p
 
 -- who puts a place first has these causes, in its state before it
-abbrev pub PutHasCause : List Happened → History → Happened → Type 0
-PutHasCause now before (Put n v g i e) =
-    IsFirst (earlier now before) v g i → EntryFails (ExactCause before v g) (λ h. state_held n h (earlier now before)) (state_held n g (earlier now before)) e
-PutHasCause now before _ = Unit {0}
+abbrev pub PutHasCause : List Happened → List Happened → History → Happened → Type 0
+PutHasCause run now before (Put n v g i e) =
+    IsFirst (earlier now before) v g i → EntryFails (ExactCause run before v g) (λ h. state_held n h (earlier now before)) (state_held n g (earlier now before)) e
+PutHasCause run now before _ = Unit {0}
 
-abbrev pub EachPutHasCause : List Happened → History → Type 0
-EachPutHasCause [] before = Unit {0}
-EachPutHasCause (r ∷ now) before = Since r (PutHasCause now before r × EachPutHasCause now before)
+abbrev pub EachPutHasCause : List Happened → List Happened → History → Type 0
+EachPutHasCause run [] before = Unit {0}
+EachPutHasCause run (r ∷ now) before = Since r (PutHasCause run now before r × EachPutHasCause run now before)
 
 abbrev pub FailuresHaveExactCauses : History → Type 0
-FailuresHaveExactCauses h = EachEvent (λ e before. EachPutHasCause e.records before) h
+FailuresHaveExactCauses h = EachEvent (λ e before. EachPutHasCause (records_of h) e.records before) h
 
 -- of every scene that events lead to, where the history names calls
 abbrev pub FailuresAreExact : Type 0

@@ -24,9 +24,9 @@ puts_join p g (Put m v h i e) = m == p.node && (bytes_eq h g && is_join_of p e)
 puts_join p g _ = false
 
 -- At some moment its own node was in the view, and by that node's records it is a member or a running joiner of the base there,
--- it did not pass into the view as the node entered it, and no entry that the node has put there, then or later, names it in a
--- join.
-pub record DidNotPass (rs : List Happened) (v : ViewId) (g : List ℕ) (p : ProviderId) : Type 0 where
+-- and it did not pass into the view as the node entered it. No entry that any node puts into the view's list, at any time of the
+-- run, names it in a join; nor does one that its own node puts into any list of the group from that moment on.
+pub record DidNotPass (run rs : List Happened) (v : ViewId) (g : List ℕ) (p : ProviderId) : Type 0 where
   pub newer : List Happened
   pub older : List Happened
   pub moment : rs ≡ newer ++ older
@@ -36,13 +36,13 @@ pub record DidNotPass (rs : List Happened) (v : ViewId) (g : List ℕ) (p : Prov
   pub view : stay.view ≡ v
   pub of_base : among (present stay.base) p ≡ true
   pub apart : passes p stay.base (part p rest) ≡ false
-  pub unnamed : list_any (is_join_of p) stay.entries ≡ false
+  pub unnamed : (n i : ℕ) (e : Entry) → Has (Put n v g i e) run → is_join_of p e ≡ false
   pub later : list_any (puts_join p g) newer ≡ false
 
 -- whatever starts, stops and steps: who stood there although it was over did not pass
 abbrev pub WhoIsOverDidNotPass : Type 0
 WhoIsOverDidNotPass =
-    (c : Config) (w : Scene) → Reached c w → (v : ViewId) (g : List ℕ) (p : ProviderId) → StoodThere (records_of w.before) v g p → DidNotPass (records_of w.before) v g p
+    (c : Config) (w : Scene) → Reached c w → (v : ViewId) (g : List ℕ) (p : ProviderId) → StoodThere (records_of w.before) v g p → DidNotPass (records_of w.before) (records_of w.before) v g p
 
 -- ---- bases come first
 

@@ -3,9 +3,16 @@
 
 ghost use Rattle.failed_causes.specs.Causes.{FailuresAreExact};
 ghost use Rattle.failed_causes.specs.Passed.{WhoIsOverDidNotPass, BasesComeFirst, BasesFromElsewhereFail};
+ghost use Rattle.failed_causes.specs.Entering.{EachBaseFollows};
 
-/// Whatever starts, stops and steps, in any order: where a node notes a base, it put nothing of that group since it entered the
-/// view.
+/// Whatever starts, stops and steps, in any order: a node notes the bases of a view in the event in which it enters the view,
+/// directly after that.
+#[tactic(auto, using(crate::proofs::Bases::each_base_follows))]
+pub fn bases_follow_entering()
+    ensures { EachBaseFollows }
+{}
+
+/// So where a node notes a base, it put nothing of that group since it entered the view.
 #[tactic(auto, using(crate::proofs::Bases::bases_come_first))]
 pub fn bases_come_first()
     ensures { BasesComeFirst }
@@ -19,7 +26,7 @@ pub fn bases_from_elsewhere_fail()
 {}
 
 /// Whoever its own node held in a view although it was over is of the base there, did not pass into the view, and is named by no
-/// join that the node put there.
+/// join of the view's list, whichever node puts it and whenever.
 #[tactic(auto, using(crate::proofs::Law::over_did_not_pass))]
 pub fn who_is_over_did_not_pass()
     ensures { WhoIsOverDidNotPass }

@@ -34,6 +34,8 @@ use Rattle.failed_rows.specs.Failures.{FailuresHaveCauses}
 use Rattle.failed_rows.proofs.Law.{failures_are_honest}
 use Rattle.failed_causes.specs.Causes.{FailuresHaveExactCauses}
 use Rattle.failed_causes.proofs.Causes.{failures_are_exact}
+use Rattle.failed_causes.specs.Entering.{BasesFollowEntering}
+use Rattle.failed_causes.proofs.Bases.{each_base_follows}
 use Rattle.source_order.specs.Sources.{ReflectionsRise, ReflectionsClimb, JoinsCarryLengths, FirstsFollowSources, JoinsOverSources}
 use Rattle.source_order.proofs.Law.{reflections_rise, reflections_climb, joins_carry_lengths, firsts_follow_sources, joins_over_sources}
 use Rattle.late_rows.proofs.Law.{who_is_late_had_time, who_is_late_was_announced}
@@ -71,6 +73,7 @@ answers_safe c es may trace e =
       not_let_go = subst (EachRecord NotLetGo) run.5 (who_is_let_go c run.0 run.6);
       all_hear = subst (EachEvent (λ event before. Within (AllHear event) event.records before)) run.5 (all_hear c run.0 run.6);
       dissolves = subst (EachEvent Dissolves) run.5 (just_the_left c run.0 run.6);
+      bases_follow = subst BasesFollowEntering run.5 (each_base_follows c run.0 run.1);
       named = subst (EachRecord PutNamed) run.5 (entries_named c run.0 run.1);
       cast = subst VotesWereCast run.5 (recorded_votes c run.0 run.1);
       cast_once = subst CastsOnce run.5 (cast_once c run.0 run.1);

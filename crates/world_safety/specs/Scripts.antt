@@ -23,6 +23,7 @@ use Rattle.single_casts.specs.Single.{CastsOnce, CastsAfterNotice}
 use Rattle.carried_values.specs.Carried.{FirstBallotsCarry}
 use Rattle.failed_rows.specs.Failures.{FailuresHaveCauses}
 use Rattle.failed_causes.specs.Causes.{FailuresHaveExactCauses}
+use Rattle.failed_causes.specs.Entering.{BasesFollowEntering}
 use Rattle.source_order.specs.Sources.{ReflectionsRise, ReflectionsClimb, JoinsCarryLengths, FirstsFollowSources, JoinsOverSources}
 use Rattle.ring_runs.specs.Rings.{AddressesFit, NetworkAgrees}
 use Rattle.seen_runs.specs.Seen.{Seen}
@@ -35,11 +36,12 @@ use Rattle.world_safety.specs.Events.{run_of_events}
 -- These are the records of the run of these events with these answers, and it is safe: what each group sees of it, and that each view
 -- and group has one list; each provider hears in a row, at the puts of its node, each place once, without a gap, from its first place
 -- to its last, nothing once it was let go, and each put of its node at which it takes part; just who is left behind as its node
--- enters a view is told that its group was dissolved; no entry names a joiner twice; what closes a phase has a row for each voter, the
--- votes among them were cast, once in each phase and after its notice, who was late had its time, and was announced in a view of
--- level 2; what such an entry carries is of the earliest ballot that has it; who is said to have failed did, and where it is gone
--- without a goodbye it did not pass; reflections rise, and they and joins into a group with a source are as the source is; the rings
--- of each network whose addresses differ agree; and the records show that by themselves, as far as records can.
+-- enters a view is told that its group was dissolved; the bases of a view are noted as their node enters it, in that event; no entry
+-- names a joiner twice; what closes a phase has a row for each voter, the votes among them were cast, once in each phase and after
+-- its notice, who was late had its time, and was announced in a view of level 2; what such an entry carries is of the earliest ballot
+-- that has it; who is said to have failed did, and where it is gone without a goodbye it did not pass, and no join of that list names
+-- it; reflections rise, and they and joins into a group with a source are as the source is; the rings of each network whose addresses
+-- differ agree; and the records show that by themselves, as far as records can.
 pub record IsSafe (c : Config) (es : List Answered) (rs : List Happened) : Type 0 where
   pub records : trace_of (run_of_events c es) ≡ rs
   pub safe : SafeGroups (opening_of c) (history_of (run_of_events c es))
@@ -51,6 +53,7 @@ pub record IsSafe (c : Config) (es : List Answered) (rs : List Happened) : Type 
   pub not_let_go : EachRecord NotLetGo (history_of (run_of_events c es))
   pub all_hear : EachEvent (λ event before. Within (AllHear event) event.records before) (history_of (run_of_events c es))
   pub dissolves : EachEvent Dissolves (history_of (run_of_events c es))
+  pub bases_follow : BasesFollowEntering (history_of (run_of_events c es))
   pub named : EachRecord PutNamed (history_of (run_of_events c es))
   pub cast : VotesWereCast (history_of (run_of_events c es))
   pub cast_once : CastsOnce (history_of (run_of_events c es))
