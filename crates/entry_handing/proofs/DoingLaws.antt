@@ -1,11 +1,25 @@
 -- How rows that are done one after another come together.
-use Rattle.std.proofs.Common.{◌≡◌, ℕ, ◌+◌, ◌≤◌, List, [], ◌∷◌, ◌++◌, length, Option, refl, sym, ap, subst, ◌∙◌, arith}
-use Rattle.session_state.specs.declared.state.SessionState.{SessionState}
+use Rattle.std.proofs.Common.{◌≡◌, ◌⊎◌, inl, inr, ℕ, ◌+◌, ◌<◌, ◌≤◌, List, [], ◌∷◌, ◌++◌, length, take, get_or, Option, None, refl, sym, ap, subst, ◌∙◌, arith, append_assoc, append-nil}
+use Rattle.std.specs.Option.{unwrap_or}
+use Rattle.std.specs.Prelude.{find}
+use Rattle.std.specs.List.{fold}
+use Rattle.std.proofs.lemmas.List.{take_all}
+use Rattle.std.proofs.lemmas.List.Sums.{fold_more}
+use Rattle.rsct_packet.specs.Search.{place_where}
+use Rattle.subscribe_core.specs.declared.subs.ClientToken.{ClientToken}
 use Rattle.client_callbacks.specs.declared.votes.VoteItem.{VoteItem}
+use Rattle.client_callbacks.specs.Handed.{Handed}
+use Rattle.session_state.specs.declared.state.Session.{Session}
+use Rattle.session_state.specs.declared.state.SessionState.{SessionState}
+use Rattle.session_state.specs.State.{is_session, provider_of, place_of, outstanding, name_in, client_name}
+use Rattle.node_state.specs.declared.happened.Happened.{Happened}
+use Rattle.node_state.specs.declared.happened.Happened.TheVariants as happened
 use Rattle.node_state.specs.declared.state.Core.{Core}
 use Rattle.node_state.specs.HandOn.{Answering}
-use Rattle.session_state.specs.declared.state.Session.{Session}
-use Rattle.entry_handing.specs.Doing.{Question, Agrees, Rise, AreFilled, Follows, Does, Ready}
+use Rattle.node_groups.specs.Handed.{handed_in, StaysOf, IsDropped, KeepsOwners}
+use Rattle.node_groups.proofs.KeepLaws.{owners_themselves, owners_then}
+use Rattle.entry_handing.specs.Received.{Handing, IsFor, AreFor, told_by, given_to, after_handings, Receive}
+use Rattle.entry_handing.specs.Doing.{Question, Agrees, Rise, AreFilled, Joins, IsNothing, Follows, Does, Ready}
 
 -- ---- questions
 
@@ -33,53 +47,192 @@ agrees_rest : (f : Answering) (xs ys : List Question) → Agrees f (xs ++ ys) �
 agrees_rest f [] ys h = h
 agrees_rest f (q ∷ xs) ys h = agrees_rest f xs ys h.1
 
+-- ---- what is handed
+
+pub told_both : (xs ys : List Handing) → told_by (xs ++ ys) ≡ told_by xs ++ told_by ys
+told_both [] ys = refl
+told_both (h ∷ xs) ys = ap (λ (rs : List Happened). h.what ∷ rs) (told_both xs ys)
+
+name_back : (s t : SessionState) (c : ClientToken) → t.sessions ≡ s.sessions → client_name t c ≡ client_name s c
+unfolding client_name
+name_back s t c lives = ap (λ (xs : List Session). name_in (find (is_session c) xs)) lives
+
+-- whose it is behind a change, its it is before
+is_for_back : (s t : SessionState) (place : Option ℕ) (r : Happened) → KeepsOwners s t → t.sessions ≡ s.sessions → IsFor t place r → IsFor s place r
+is_for_back s t place (happened.Heard p v g i e members value) keeps lives h = by (keeps p)
+  where
+    by : StaysOf s t p ⊎ IsDropped t p → (place ≡ place_of s p) × (provider_of s p ≡ None → ⊥)
+    by (inl a) = (h.0 ∙ a.place, λ e. h.1 (a.live e))
+    by (inr d) = absurd (h.1 d.live)
+is_for_back s t place (happened.Told p r why) keeps lives h = by (keeps p)
+  where
+    by : StaysOf s t p ⊎ IsDropped t p → (place ≡ place_of s p) × (provider_of s p ≡ None → outstanding s p ≡ None → ⊥)
+    by (inl a) = (h.0 ∙ a.place, λ e o. h.1 (a.live e) (a.asked o))
+    by (inr d) = absurd (h.1 d.live d.asked)
+is_for_back s t place (happened.Noted n name v i x) keeps lives h =
+    (h.0, h.1 ∙ ap (λ (xs : List Session). place_where (is_session h.0) xs) lives, h.2 ∙ ap (λ (o : Option (List ℕ)). unwrap_or o []) (name_back s t h.0 lives))
+is_for_back s t place (happened.Up n i) keeps lives h = absurd h
+is_for_back s t place (happened.Down n) keeps lives h = absurd h
+is_for_back s t place (happened.Ring n network ring members neighbour) keeps lives h = absurd h
+is_for_back s t place (happened.In n v ms) keeps lives h = absurd h
+is_for_back s t place (happened.Base n v g old len st) keeps lives h = absurd h
+is_for_back s t place (happened.Put n v g i e) keeps lives h = absurd h
+is_for_back s t place (happened.Cast p proto phase vote value message) keeps lives h = absurd h
+is_for_back s t place (happened.Asked p r g x) keeps lives h = absurd h
+is_for_back s t place (happened.Refused n client fault) keeps lives h = absurd h
+is_for_back s t place (happened.Shown n line) keeps lives h = absurd h
+
+pub are_for_back : (s t : SessionState) (hs : List Handing) → KeepsOwners s t → t.sessions ≡ s.sessions → AreFor t hs → AreFor s hs
+are_for_back s t [] keeps lives h = tt
+are_for_back s t (x ∷ hs) keeps lives h = (is_for_back s t x.place x.what keeps lives h.0, are_for_back s t hs keeps lives h.1)
+
+pub are_for_both : (s : SessionState) (xs ys : List Handing) → AreFor s xs → AreFor s ys → AreFor s (xs ++ ys)
+are_for_both s [] ys a b = b
+are_for_both s (x ∷ xs) ys a b = (a.0, are_for_both s xs ys a.1 b)
+
+after_both : (xs ys : List Handing) (rss : List (List Happened)) → after_handings (xs ++ ys) rss ≡ after_handings ys (after_handings xs rss)
+unfolding after_handings
+after_both [] ys rss = refl
+after_both (h ∷ xs) ys rss = after_both xs ys (given_to h.place h.what rss)
+
+pub receive_then : {C : Type 0} (R : C → List Handed → Type 0) (cs ds es : List C) → Joins (Receive R cs ds) (Receive R ds es) (Receive R cs es)
+receive_then R cs ds es xs ys a b rss h = rw (after_both xs ys rss) (b (after_handings xs rss) (a rss h))
+
+pub joins_nothing : (P : List Handing → Type 0) → Joins P IsNothing P
+joins_nothing P xs ys p none = rw (none, append-nil xs) p
+
+-- nothing is handed to anyone
+pub receive_nothing : {C : Type 0} (R : C → List Handed → Type 0) (cs : List C) → Receive R cs cs []
+unfolding after_handings
+receive_nothing R cs rss h = h
+
 -- ---- rows
 
 pub follows_itself : (s : Core) → Follows s s
-follows_itself s = record { grows = omega arith; lives = refl }
+follows_itself s = record { grows = omega arith; lives = refl; handed = refl; owners = owners_themselves s.sessions }
 
 pub follows_then : (s t u : Core) → Follows s t → Follows t u → Follows s u
 follows_then s t u a b =
     let first : length s.records ≤ length t.records = a.grows in
-    let next : length t.records ≤ length u.records = b.grows in record { grows = omega arith; lives = b.lives ∙ a.lives }
+    let next : length t.records ≤ length u.records = b.grows in
+    record { grows = omega arith; lives = b.lives ∙ a.lives; handed = b.handed ∙ a.handed; owners = owners_then s.sessions t.sessions u.sessions a.owners b.owners }
 
 -- one row after another
-pub does_then : (scripts : List (Option (List (Option VoteItem)))) (s t u : Core) (a : Answering → Core) (b : Answering → Core → Core) → Does scripts s t a → Does scripts t u (λ f. b f t) → Does scripts s u (λ f. b f (a f))
-does_then scripts s t u a b first next =
+pub does_then : (scripts : List (Option (List (Option VoteItem)))) (P Q W : List Handing → Type 0) → Joins P Q W → (s t u : Core) (a : Answering → Core) (b : Answering → Core → Core) → Does scripts P s t a → Does scripts Q t u (λ f. b f t) → Does scripts W s u (λ f. b f (a f))
+does_then scripts P Q W join s t u a b first next =
     record {
       asked = first.asked ++ next.asked;
       filled = filled_both scripts s.sessions.sessions first.asked next.asked first.filled (subst (λ ss. AreFilled scripts ss next.asked) first.lives next.filled);
       placed = rise_both (length s.records) (length t.records) (length u.records) first.asked next.asked first.placed next.placed;
       lives = next.lives ∙ first.lives;
       does = λ f h. next.does f (agrees_rest f first.asked next.asked h) ∙ ap (b f) (first.does f (agrees_front f first.asked next.asked h));
+      handings = first.handings ++ next.handings;
+      told = next.told
+          ∙ (ap (λ (rs : List Happened). rs ++ told_by next.handings) first.told
+          ∙ (append_assoc (handed_in s.records) (told_by first.handings) (told_by next.handings)
+          ∙ ap (λ (rs : List Happened). handed_in s.records ++ rs) (sym (told_both first.handings next.handings))));
+      owned = are_for_both s.sessions first.handings next.handings first.owned (are_for_back s.sessions t.sessions next.handings first.owners first.lives next.owned);
+      owners = owners_then s.sessions t.sessions u.sessions first.owners next.owners;
+      received = join first.handings next.handings first.received next.received;
     }
 
--- what asks no client
-pub does_plain : (scripts : List (Option (List (Option VoteItem)))) (s t k : Core) → t ≡ k → Follows s t → Does scripts s t (λ f. k)
-does_plain scripts s t k e on = record { asked = []; filled = tt; placed = on.grows; lives = on.lives; does = λ f h. e }
+-- what asks no client, and hands nothing to any
+pub does_plain : (scripts : List (Option (List (Option VoteItem)))) (P : List Handing → Type 0) (s t k : Core) → P [] → t ≡ k → Follows s t → Does scripts P s t (λ f. k)
+does_plain scripts P s t k p e on =
+    record {
+      asked = [];
+      filled = tt;
+      placed = on.grows;
+      lives = on.lives;
+      does = λ f h. e;
+      handings = [];
+      told = on.handed ∙ sym (append-nil (handed_in s.records));
+      owned = tt;
+      owners = on.owners;
+      received = p;
+    }
 
 -- nothing at all
-pub does_nothing : (scripts : List (Option (List (Option VoteItem)))) (s : Core) → Does scripts s s (λ f. s)
-does_nothing scripts s = does_plain scripts s s s refl (follows_itself s)
+pub does_nothing : (scripts : List (Option (List (Option VoteItem)))) (P : List Handing → Type 0) (s : Core) → P [] → Does scripts P s s (λ f. s)
+does_nothing scripts P s p = does_plain scripts P s s s p refl (follows_itself s)
 
 -- a change before
-pub does_after : (scripts : List (Option (List (Option VoteItem)))) (s t u : Core) (a : Answering → Core) → Follows s t → Does scripts t u a → Does scripts s u a
-does_after scripts s t u a on next =
+pub does_after : (scripts : List (Option (List (Option VoteItem)))) (P : List Handing → Type 0) (s t u : Core) (a : Answering → Core) → Follows s t → Does scripts P t u a → Does scripts P s u a
+does_after scripts P s t u a on next =
     record {
       asked = next.asked;
       filled = subst (λ ss. AreFilled scripts ss next.asked) on.lives next.filled;
       placed = rise_lower (length s.records) (length t.records) (length u.records) next.asked on.grows next.placed;
       lives = next.lives ∙ on.lives;
       does = next.does;
+      handings = next.handings;
+      told = next.told ∙ ap (λ (rs : List Happened). rs ++ told_by next.handings) on.handed;
+      owned = are_for_back s.sessions t.sessions next.handings on.owners on.lives next.owned;
+      owners = owners_then s.sessions t.sessions u.sessions on.owners next.owners;
+      received = next.received;
     }
 
 -- a change behind
-pub does_before : (scripts : List (Option (List (Option VoteItem)))) (s t u : Core) (a : Answering → Core) (k : Core → Core) → Does scripts s t a → u ≡ k t → Follows t u → Does scripts s u (λ f. k (a f))
-does_before scripts s t u a k first e on = does_then scripts s t u a (λ f. k) first (does_plain scripts t u (k t) e on)
+pub does_before : (scripts : List (Option (List (Option VoteItem)))) (P : List Handing → Type 0) (s t u : Core) (a : Answering → Core) (k : Core → Core) → Does scripts P s t a → u ≡ k t → Follows t u → Does scripts P s u (λ f. k (a f))
+does_before scripts P s t u a k first e on =
+    record {
+      asked = first.asked;
+      filled = first.filled;
+      placed = rise_upper (length s.records) (length t.records) (length u.records) first.asked on.grows first.placed;
+      lives = on.lives ∙ first.lives;
+      does = λ f h. e ∙ ap k (first.does f h);
+      handings = first.handings;
+      told = on.handed ∙ first.told;
+      owned = first.owned;
+      owners = owners_then s.sessions t.sessions u.sessions first.owners on.owners;
+      received = first.received;
+    }
+
+-- what is handed, in other words
+pub does_weaker : (scripts : List (Option (List (Option VoteItem)))) (P Q : List Handing → Type 0) (s t : Core) (a : Answering → Core) → ((hs : List Handing) → P hs → Q hs) → Does scripts P s t a → Does scripts Q s t a
+does_weaker scripts P Q s t a weaker done =
+    record {
+      asked = done.asked;
+      filled = done.filled;
+      placed = done.placed;
+      lives = done.lives;
+      does = done.does;
+      handings = done.handings;
+      told = done.told;
+      owned = done.owned;
+      owners = done.owners;
+      received = weaker done.handings done.received;
+    }
 
 -- the same row in other words
-pub does_as : (scripts : List (Option (List (Option VoteItem)))) (s t : Core) (a b : Answering → Core) → ((f : Answering) → a f ≡ b f) → Does scripts s t a → Does scripts s t b
-does_as scripts s t a b same done = record { asked = done.asked; filled = done.filled; placed = done.placed; lives = done.lives; does = λ f h. done.does f h ∙ same f }
+pub does_as : (scripts : List (Option (List (Option VoteItem)))) (P : List Handing → Type 0) (s t : Core) (a b : Answering → Core) → ((f : Answering) → a f ≡ b f) → Does scripts P s t a → Does scripts P s t b
+does_as scripts P s t a b same done =
+    record {
+      asked = done.asked;
+      filled = done.filled;
+      placed = done.placed;
+      lives = done.lives;
+      does = λ f h. done.does f h ∙ same f;
+      handings = done.handings;
+      told = done.told;
+      owned = done.owned;
+      owners = done.owners;
+      received = done.received;
+    }
+
+-- ---- one after another over a list
+
+-- one more of a list
+pub does_more : {X : Type 0} (scripts : List (Option (List (Option VoteItem)))) (P Q W : List Handing → Type 0) → Joins P Q W → (s t u : Core) (h : Answering → Core → X → Core) (xs : List X) (k : ℕ) (x : X) → k < length xs → x ≡ get_or xs k x
+    → Does scripts P s t (λ f. fold (h f) s (take k xs)) → Does scripts Q t u (λ f. h f t x) → Does scripts W s u (λ f. fold (h f) s (take (k + 1) xs))
+does_more scripts P Q W join s t u h xs k x lt is first next =
+    does_as scripts W s u (λ f. h f (fold (h f) s (take k xs)) x) (λ f. fold (h f) s (take (k + 1) xs))
+    (λ f. sym (fold_more (h f) s xs k x lt ∙ ap (h f (fold (h f) s (take k xs))) (sym is)))
+    (does_then scripts P Q W join s t u (λ f. fold (h f) s (take k xs)) (λ f y. h f y x) first next)
+
+-- and so all of it
+pub does_all : {X : Type 0} (scripts : List (Option (List (Option VoteItem)))) (P : List Handing → Type 0) (s t : Core) (h : Answering → Core → X → Core) (xs : List X) (k : ℕ) → length xs ≤ k → Does scripts P s t (λ f. fold (h f) s (take k xs)) → Does scripts P s t (λ f. fold (h f) s xs)
+does_all scripts P s t h xs k past done = subst (λ zs. Does scripts P s t (λ f. fold (h f) s zs)) (take_all k xs past) done
 
 -- ---- what leaves records, sessions and views as they are
 
@@ -102,7 +255,13 @@ pub beside_grows : (s t : Core) → Beside s t → length s.records ≤ length t
 beside_grows s t b = let e : length t.records ≡ length s.records = ap length b.records in omega arith
 
 pub beside_follows : (s t : Core) → Beside s t → Follows s t
-beside_follows s t b = record { grows = beside_grows s t b; lives = ap (λ (x : SessionState). x.sessions) b.sessions }
+beside_follows s t b =
+    record {
+      grows = beside_grows s t b;
+      lives = ap (λ (x : SessionState). x.sessions) b.sessions;
+      handed = ap handed_in b.records;
+      owners = subst (λ (x : SessionState). KeepsOwners s.sessions x) (sym b.sessions) (owners_themselves s.sessions);
+    }
 
 -- as many clients as sessions, where the sessions are as before
 pub ready_same : {C : Type 0} (s t : Core) (cs ds : List C) → t.sessions.sessions ≡ s.sessions.sessions → t.sessions.level ≡ s.sessions.level → length ds ≡ length cs → Ready s cs → Ready t ds

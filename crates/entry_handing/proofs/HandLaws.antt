@@ -1,8 +1,9 @@
 -- What handing an entry on does: the row of its definition, for all answers that agree with what clients filled.
-use Rattle.std.proofs.Common.{◌≡◌, ℕ, ◌+◌, ◌≤◌, Bool, true, false, ◌&&◌, ◌++◌, List, [], ◌∷◌, length, map, filter, Option, Some, None, is_some, refl, sym, ap, ◌∙◌, arith, length-append}
+use Rattle.std.proofs.Common.{◌≡◌, ℕ, ◌+◌, ◌≤◌, Bool, true, false, ◌&&◌, ◌++◌, List, [], ◌∷◌, length, map, filter, cond, Option, Some, None, is_some, refl, sym, ap, subst, ◌∙◌, arith, append_assoc, append-nil, length-append}
 use Rattle.std.specs.List.{fold, flat_map}
 use Rattle.std.specs.Option.{unwrap_or}
 use Rattle.std.specs.Prelude.{find}
+use Rattle.std.proofs.lemmas.List.Elements.{filter-append}
 use Rattle.rsct_packet.specs.declared.ids.ProviderId.{ProviderId}
 use Rattle.rsct_packet.specs.declared.ids.ProtoId.{ProtoId}
 use Rattle.rsct_packet.specs.declared.ids.ViewId.{ViewId}
@@ -10,7 +11,7 @@ use Rattle.rsct_packet.specs.Providers.{among}
 use Rattle.group_entry.specs.declared.entry.Entry.{Entry}
 use Rattle.proposal_core.specs.declared.group_state.GroupState.{GroupState}
 use Rattle.proposal_core.specs.declared.group_state.Running.{Running}
-use Rattle.proposal_core.specs.Fold.{voters, voters_at}
+use Rattle.proposal_core.specs.Fold.{joiners_in, voters, voters_at}
 use Rattle.subscribe_core.specs.declared.subs.Subscription.{Subscription}
 use Rattle.subscribe_core.specs.Subs.{SubsView, is_of_group, differs}
 use Rattle.client_callbacks.specs.declared.ballot.Filled.{Filled}
@@ -20,9 +21,10 @@ use Rattle.client_callbacks.specs.Ballots.{BallotView}
 use Rattle.session_state.specs.declared.casts.Cast.{Cast}
 use Rattle.session_state.specs.declared.state.Session.{Session}
 use Rattle.session_state.specs.declared.state.SessionState.{SessionState}
-use Rattle.session_state.specs.State.{is_session, name_in, client_name}
+use Rattle.session_state.specs.declared.state.Provider.{Provider}
+use Rattle.session_state.specs.State.{is_session, provider_of, name_in, client_name}
 use Rattle.session_state.specs.Calls.{SameSessions}
-use Rattle.session_state.specs.HandOn.{opens_phase, asks, cast_with, cast_of, casts_of, casts_out, hearers, beginners}
+use Rattle.session_state.specs.HandOn.{opens_phase, asks, hears, hearers_in, brought_by, cast_with, cast_of, casts_of, casts_out, hearers, beginners}
 use Rattle.session_state.specs.HandOn as session
 use Rattle.client_session.specs.Notices.{Fillings}
 use Rattle.node_state.specs.declared.happened.Happened.{Happened}
@@ -32,10 +34,13 @@ use Rattle.node_state.specs.declared.state.Core.{Core}
 use Rattle.node_state.specs.State.{frozen, recorded_all, with_sessions}
 use Rattle.node_state.specs.Sending.{sent_on, sent, sent_if_known}
 use Rattle.node_state.specs.HandOn.{Answering, answer_if, records_of_notice, fills, cast_record, cast_records, heard, subscriber_name, note_of, notes, noted, ballot_sent, cast_sent_of, casts_sent, handed_on}
-use Rattle.entry_handing.specs.Telling.{heard_in, note_in}
-use Rattle.entry_handing.specs.Doing.{Question, Agrees, Rise, AreFilled, Does, Ready}
-use Rattle.entry_handing.proofs.DoingLaws.{rise_lower, rise_upper, Beside, beside_itself, beside_then, beside_as, beside_grows, ready_same, ready_beside}
+use Rattle.node_groups.specs.Handed.{is_handed, handed_in, KeepsOwners}
+use Rattle.entry_handing.specs.Received.{Handing, AreFor, told_by}
+use Rattle.entry_handing.specs.Telling.{heard_in, note_in, heard_handings, note_handing, noted_handings}
+use Rattle.entry_handing.specs.Doing.{Joins, Question, Agrees, Rise, AreFilled, Does, Ready}
+use Rattle.entry_handing.proofs.DoingLaws.{rise_lower, rise_upper, told_both, are_for_back, are_for_both, Beside, beside_itself, beside_then, beside_as, beside_grows, ready_same, ready_beside}
 use Rattle.entry_handing.proofs.KeepLaws.{SameNames, heard_same}
+use Rattle.entry_handing.proofs.OwnerLaws.{heard_owners}
 
 -- ---- who is asked
 
@@ -252,32 +257,150 @@ comes_to s t u w v to g i before after e x cs view sessions handing noting sendi
     sending
     ∙ ap (λ (z : Core). casts_sent z g to cs) (noting ∙ (ap (λ (z : Core). noted z g i before after) first ∙ noted_aside (recorded_all s rs) y g i before after same))
 
-pub handed_does : (scripts : List (Option (List (Option VoteItem)))) (s t u w : Core) (v : ViewId) (to : Option ℕ) (g : List ℕ) (i : ℕ) (before after : GroupState) (e : Entry) (bs : List (Option Filled)) (cs : List Cast)
+-- ---- what is handed
+
+-- the records of what is heard tell it, in order, with no other that is handed to a client
+filled_unhanded : (p : ProviderId) (proto : ProtoId) (phase : ℕ) (b : Option Filled) → handed_in (cast_record p proto phase b) ≡ []
+unfolding cast_record
+filled_unhanded p proto phase None = refl
+filled_unhanded p proto phase (Some b) = refl
+
+cast_unhanded : (p : ProviderId) (c : Option (ProtoId × ℕ × BallotView)) → handed_in (cast_records p c) ≡ []
+unfolding cast_records
+cast_unhanded p None = refl
+cast_unhanded p (Some c) = filled_unhanded p c.0 c.1 (c.2).filled
+
+heard_told : (scripts : List (Option (List (Option VoteItem)))) (s : SessionState) (level : ℕ) (v : ViewId) (g : List ℕ) (i : ℕ) (e : Entry) (after : GroupState) (ps : List ProviderId) (bs : List (Option Filled)) → Fillings scripts s e after ps bs
+    → handed_in (flat_map (heard_in v g i e after) (casts_of e after level ps bs)) ≡ told_by (heard_handings s v g i e after ps)
+unfolding cast_of
+heard_told scripts s level v g i e after [] bs h = refl
+heard_told scripts s level v g i e after (p ∷ ps) [] h = absurd h
+heard_told scripts s level v g i e after (p ∷ ps) (b ∷ bs) h =
+    let c : Cast = cast_of e after level p b in
+    let rest : List Happened = flat_map (heard_in v g i e after) (casts_of e after level ps bs) in
+    ap (λ (rs : List Happened). happened.Heard p v g i e after.members after.value ∷ rs)
+    (filter-append is_handed (cast_records c.p c.cast) rest
+    ∙ (ap (λ (rs : List Happened). rs ++ handed_in rest) (cast_unhanded c.p c.cast) ∙ heard_told scripts s level v g i e after ps bs h.1))
+
+notes_told : (me : ℕ) (v : ViewId) (s : SessionState) (g : List ℕ) (place : Option ℕ) (st : GroupState) (us : List Subscription) → handed_in (map (note_in me v s g place st) us) ≡ told_by (map (note_handing me v s g place st) us)
+notes_told me v s g place st [] = refl
+notes_told me v s g place st (u ∷ us) = ap (λ (rs : List Happened). note_in me v s g place st u ∷ rs) (notes_told me v s g place st us)
+
+noted_told_head : (b : Bool) (s : Core) (g : List ℕ) (i : ℕ) (st : GroupState)
+    → let t : Core = elim b [ true ↦ notes s g (Some i) st | false ↦ s ] in
+    let hs : List Handing = elim b [ true ↦ map (note_handing s.views.me s.views.view s.sessions g (Some i) st) (filter (is_of_group g) s.sessions.subs.live) | false ↦ [] ] in
+    handed_in t.records ≡ handed_in s.records ++ told_by hs
+unfolding notes note_of recorded_all
+noted_told_head true s g i st =
+    let us : List Subscription = filter (is_of_group g) s.sessions.subs.live in
+    filter-append is_handed s.records (map (note_in s.views.me s.views.view s.sessions g (Some i) st) us)
+    ∙ ap (λ (rs : List Happened). handed_in s.records ++ rs) (notes_told s.views.me s.views.view s.sessions g (Some i) st us)
+noted_told_head false s g i st = sym (append-nil (handed_in s.records))
+
+noted_told : (s : Core) (g : List ℕ) (i : ℕ) (before after : GroupState) → handed_in (noted s g i before after).records ≡ handed_in s.records ++ told_by (noted_handings s g i before after)
+unfolding noted noted_handings
+noted_told s g i before after = noted_told_head (differs before after) s g i after
+
+notes_owned : (me : ℕ) (v : ViewId) (s : SessionState) (g : List ℕ) (place : Option ℕ) (st : GroupState) (us : List Subscription) → AreFor s (map (note_handing me v s g place st) us)
+unfolding subscriber_name
+notes_owned me v s g place st [] = tt
+notes_owned me v s g place st (u ∷ us) = ((u.client, refl, refl), notes_owned me v s g place st us)
+
+noted_owned_head : (b : Bool) (s : Core) (g : List ℕ) (i : ℕ) (st : GroupState)
+    → let hs : List Handing = elim b [ true ↦ map (note_handing s.views.me s.views.view s.sessions g (Some i) st) (filter (is_of_group g) s.sessions.subs.live) | false ↦ [] ] in AreFor s.sessions hs
+noted_owned_head true s g i st = notes_owned s.views.me s.views.view s.sessions g (Some i) st (filter (is_of_group g) s.sessions.subs.live)
+noted_owned_head false s g i st = tt
+
+noted_owned : (s : Core) (g : List ℕ) (i : ℕ) (before after : GroupState) → AreFor s.sessions (noted_handings s g i before after)
+unfolding noted_handings
+noted_owned s g i before after = noted_owned_head (differs before after) s g i after
+
+-- who hears is live
+hears_live : (g : List ℕ) (part : Bool) (o : Option Provider) → hears g part o ≡ true → o ≡ None → ⊥
+hears_live g part (Some x) h e = absurd cc
+hears_live g true None h e = absurd cc
+hears_live g false None h e = absurd cc
+
+abbrev AreLive : SessionState → List ProviderId → Type 0
+AreLive s [] = Unit {0}
+AreLive s (p ∷ ps) = (provider_of s p ≡ None → ⊥) × AreLive s ps
+
+live_both : (s : SessionState) (ps qs : List ProviderId) → AreLive s ps → AreLive s qs → AreLive s (ps ++ qs)
+live_both s [] qs a b = b
+live_both s (p ∷ ps) qs a b = (a.0, live_both s ps qs a.1 b)
+
+live_head : (s : SessionState) (g : List ℕ) (part : Bool) (p : ProviderId) (rest : List ProviderId) (b : Bool) → hears g part (provider_of s p) ≡ b → AreLive s rest → AreLive s (cond b (p ∷ rest) rest)
+live_head s g part p rest true e h = (hears_live g part (provider_of s p) e, h)
+live_head s g part p rest false e h = h
+
+live_in : (s : SessionState) (g : List ℕ) (part : Bool) (ps : List ProviderId) → AreLive s (hearers_in s g part ps)
+unfolding hearers_in
+live_in s g part [] = tt
+live_in s g part (p ∷ ps) = live_head s g part p (hearers_in s g part ps) (hears g part (provider_of s p)) refl (live_in s g part ps)
+
+heard_owned_in : (s : SessionState) (v : ViewId) (g : List ℕ) (i : ℕ) (e : Entry) (after : GroupState) (ps : List ProviderId) → AreLive s ps → AreFor s (heard_handings s v g i e after ps)
+heard_owned_in s v g i e after [] h = tt
+heard_owned_in s v g i e after (p ∷ ps) h = ((refl, h.0), heard_owned_in s v g i e after ps h.1)
+
+heard_owned : (s : SessionState) (v : ViewId) (g : List ℕ) (i : ℕ) (e : Entry) (before after : GroupState) → AreFor s (heard_handings s v g i e after (hearers s g before e))
+unfolding hearers beginners
+heard_owned s v g i e before after =
+    heard_owned_in s v g i e after (hearers s g before e)
+    (live_both s (hearers_in s g true before.members ++ hearers_in s g true (joiners_in before.running)) (hearers_in s g false (brought_by e))
+    (live_both s (hearers_in s g true before.members) (hearers_in s g true (joiners_in before.running)) (live_in s g true before.members) (live_in s g true (joiners_in before.running))) (live_in s g false (brought_by e)))
+
+told_sessions : (s : Core) (x : SessionState) (rs : List Happened) → (recorded_all (with_sessions s x) rs).sessions ≡ x
+unfolding recorded_all with_sessions
+told_sessions s x rs = refl
+
+with_owners : (s : SessionState) (g : List ℕ) (before after : GroupState) (e : Entry) (cs : List Cast) → KeepsOwners s (sessions_with s g before after e cs)
+unfolding sessions_with
+with_owners s g before after e cs = heard_owners s g after e (hearers s g before e) (beginners s g e) cs
+
+pub handed_does : (scripts : List (Option (List (Option VoteItem)))) (P Q W : List Handing → Type 0) → Joins P Q W → (s t u w : Core) (v : ViewId) (to : Option ℕ) (g : List ℕ) (i : ℕ) (before after : GroupState) (e : Entry) (bs : List (Option Filled)) (cs : List Cast)
     → v ≡ s.views.view → SameSessions s.sessions t.sessions → Fillings scripts s.sessions e after (hearers s.sessions g before e) bs → cs ≡ casts_out s.sessions g before after e bs
-    → t ≡ recorded_all (with_sessions s (session.handed_on s.sessions g before after e bs)) (flat_map (heard_in v g i e after) cs)
-    → u ≡ noted t g i before after → w ≡ casts_sent u g to cs → Does scripts s w (λ f. handed_on f s to g i before after e)
-handed_does scripts s t u w v to g i before after e bs cs view same fillings casting handing noting sending =
-    let casts : cs ≡ casts_of e after s.sessions.level (hearers s.sessions g before e) bs = casting ∙ out_as s.sessions g before after e bs in
+    → t ≡ recorded_all (with_sessions s (session.handed_on s.sessions g before after e bs)) (flat_map (heard_in v g i e after) cs) → P (heard_handings s.sessions v g i e after (hearers s.sessions g before e))
+    → u ≡ noted t g i before after → Q (noted_handings t g i before after) → w ≡ casts_sent u g to cs → Does scripts W s w (λ f. handed_on f s to g i before after e)
+handed_does scripts P Q W join s t u w v to g i before after e bs cs view same fillings casting handing heard noting noted sending =
+    let ps : List ProviderId = hearers s.sessions g before e in
+    let casts : cs ≡ casts_of e after s.sessions.level ps bs = casting ∙ out_as s.sessions g before after e bs in
     let sessions : session.handed_on s.sessions g before after e bs ≡ sessions_with s.sessions g before after e cs = sessions_as s.sessions g before after e bs ∙ ap (sessions_with s.sessions g before after e) (sym casting) in
     let made : w ≡ handed_with s to g i before after e cs = comes_to s t u w v to g i before after e _ cs view sessions handing noting sending in
-    let told : length t.records ≡ length s.records + length (flat_map (heard_in v g i e after) cs) =
-    ap (λ (x : Core). length x.records) handing ∙ (ap length (told_records s _ _) ∙ length-append s.records (flat_map (heard_in v g i e after) cs)) in
+    let records : t.records ≡ s.records ++ flat_map (heard_in v g i e after) cs = ap (λ (x : Core). x.records) handing ∙ told_records s _ _ in
+    let told : length t.records ≡ length s.records + length (flat_map (heard_in v g i e after) cs) = ap length records ∙ length-append s.records (flat_map (heard_in v g i e after) cs) in
     let next : length t.records ≤ length u.records = rw noting (noted_grows t g i before after) in
-    let last : length u.records ≤ length w.records = beside_grows u w (beside_as u (casts_sent u g to cs) w sending (casts_sent_beside u g to cs)) in
-    let upto : length t.records ≡ length s.records + length (flat_map (heard_in v g i e after) (casts_of e after s.sessions.level (hearers s.sessions g before e) bs)) =
+    let beside : Beside u w = beside_as u (casts_sent u g to cs) w sending (casts_sent_beside u g to cs) in
+    let last : length u.records ≤ length w.records = beside_grows u w beside in
+    let upto : length t.records ≡ length s.records + length (flat_map (heard_in v g i e after) (casts_of e after s.sessions.level ps bs)) =
     told ∙ ap (λ (xs : List Cast). length s.records + length (flat_map (heard_in v g i e after) xs)) casts in
     let kept : u.sessions ≡ t.sessions = ap (λ (x : Core). x.sessions) noting ∙ noted_keeps t g i before after in
-    let beside : w.sessions ≡ u.sessions = (beside_as u (casts_sent u g to cs) w sending (casts_sent_beside u g to cs)).sessions in
+    let after_sessions : t.sessions ≡ session.handed_on s.sessions g before after e bs = ap (λ (x : Core). x.sessions) handing ∙ told_sessions s _ _ in
+    let mine : List Handing = heard_handings s.sessions v g i e after ps in
+    let theirs : List Handing = noted_handings t g i before after in
+    let owners : KeepsOwners s.sessions t.sessions = subst (λ (x : SessionState). KeepsOwners s.sessions x) (sym (after_sessions ∙ sessions)) (with_owners s.sessions g before after e cs) in
+    let first : handed_in t.records ≡ handed_in s.records ++ told_by mine =
+    ap handed_in (records ∙ ap (λ (xs : List Cast). s.records ++ flat_map (heard_in v g i e after) xs) casts)
+    ∙ (filter-append is_handed s.records (flat_map (heard_in v g i e after) (casts_of e after s.sessions.level ps bs))
+    ∙ ap (λ (rs : List Happened). handed_in s.records ++ rs) (heard_told scripts s.sessions s.sessions.level v g i e after ps bs fillings)) in
+    let second : handed_in u.records ≡ handed_in t.records ++ told_by theirs = ap (λ (x : Core). handed_in x.records) noting ∙ noted_told t g i before after in
     record {
-      asked = questions (length s.records) s.sessions e after (hearers s.sessions g before e) bs;
-      filled = questions_filled scripts (length s.records) s.sessions e after (hearers s.sessions g before e) bs fillings;
+      asked = questions (length s.records) s.sessions e after ps bs;
+      filled = questions_filled scripts (length s.records) s.sessions e after ps bs fillings;
       placed = rise_upper (length s.records) (length t.records) (length w.records) _ (omega arith)
-          (questions_placed scripts (length s.records) (length t.records) s.sessions.level v g i s.sessions e after (hearers s.sessions g before e) bs fillings upto);
-      lives = ap (λ (x : SessionState). x.sessions) beside ∙ (ap (λ (x : SessionState). x.sessions) kept ∙ same.0);
+          (questions_placed scripts (length s.records) (length t.records) s.sessions.level v g i s.sessions e after ps bs fillings upto);
+      lives = ap (λ (x : SessionState). x.sessions) beside.sessions ∙ (ap (λ (x : SessionState). x.sessions) kept ∙ same.0);
       does = λ f h.
           made
-          ∙ (ap (handed_with s to g i before after e) (casts ∙ sym (casts_agree scripts f (length s.records) s.sessions s.sessions.level e after (hearers s.sessions g before e) bs fillings h))
+          ∙ (ap (handed_with s to g i before after e) (casts ∙ sym (casts_agree scripts f (length s.records) s.sessions s.sessions.level e after ps bs fillings h))
           ∙ handed_as f s to g i before after e);
+      handings = mine ++ theirs;
+      told = ap handed_in beside.records
+          ∙ (second
+          ∙ (ap (λ (rs : List Happened). rs ++ told_by theirs) first
+          ∙ (append_assoc (handed_in s.records) (told_by mine) (told_by theirs) ∙ ap (λ (rs : List Happened). handed_in s.records ++ rs) (sym (told_both mine theirs)))));
+      owned = are_for_both s.sessions mine theirs (heard_owned s.sessions v g i e before after) (are_for_back s.sessions t.sessions theirs owners same.0 (noted_owned t g i before after));
+      owners = subst (λ (x : SessionState). KeepsOwners s.sessions x) (sym (beside.sessions ∙ kept)) owners;
+      received = join mine theirs heard noted;
     }
 
 -- as many clients as sessions

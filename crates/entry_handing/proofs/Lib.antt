@@ -1,3 +1,5 @@
 pub mod DoingLaws
 pub mod HandLaws
 pub mod KeepLaws
+pub mod OwnerLaws
+pub mod ReceiveLaws

@@ -1,6 +1,6 @@
 -- What a row does where clients answer. Each question that the row asks a client is listed with its answer, so
 -- that a row is what its definition gives for any answers that agree with these.
-use Rattle.std.specs.Prelude.{◌≡◌, ℕ, ◌≤◌, ◌+◌, List, [], ◌∷◌, length, Option, IsTrue}
+use Rattle.std.specs.Prelude.{◌≡◌, ℕ, ◌≤◌, ◌+◌, ◌++◌, List, [], ◌∷◌, length, Option, IsTrue}
 use Rattle.rsct_packet.specs.declared.ids.ProviderId.{ProviderId}
 use Rattle.group_entry.specs.declared.entry.Entry.{Entry}
 use Rattle.proposal_core.specs.declared.group_state.GroupState.{GroupState}
@@ -13,6 +13,8 @@ use Rattle.session_state.specs.HandOn.{asks}
 use Rattle.client_session.specs.Notices.{Filling}
 use Rattle.node_state.specs.declared.state.Core.{Core}
 use Rattle.node_state.specs.HandOn.{Answering, answer_if}
+use Rattle.node_groups.specs.Handed.{handed_in, KeepsOwners}
+use Rattle.entry_handing.specs.Received.{Handing, AreFor, told_by}
 
 -- the client of p is handed a notice, before which so many records stand, and leaves its ballot like this
 pub record Question : Type 0 where
@@ -41,18 +43,33 @@ abbrev pub AreFilled : List (Option (List (Option VoteItem))) → List Session �
 AreFilled scripts lives [] = Unit {0}
 AreFilled scripts lives (q ∷ qs) = (q.sessions.sessions ≡ lives) × (Filling scripts q.sessions q.entry q.after q.p q.filled × AreFilled scripts lives qs)
 
--- no record is lost, and the sessions are the same ones
+-- no record is lost, the sessions are the same ones, nothing is handed to a client, and each provider stays its client's
 pub record Follows (s t : Core) : Type 0 where
   pub grows : length s.records ≤ length t.records
   pub lives : t.sessions.sessions ≡ s.sessions.sessions
+  pub handed : handed_in t.records ≡ handed_in s.records
+  pub owners : KeepsOwners s.sessions t.sessions
 
--- t is what the row makes of s, for all answers that agree with those of the clients, which vote by these scripts
-pub record Does (scripts : List (Option (List (Option VoteItem)))) (s t : Core) (row : Answering → Core) : Type 0 where
+-- what holds of one part and of the next holds of both
+abbrev pub Joins : (List Handing → Type 0) → (List Handing → Type 0) → (List Handing → Type 0) → Type 0
+Joins P Q W = (xs ys : List Handing) → P xs → Q ys → W (xs ++ ys)
+
+abbrev pub IsNothing : List Handing → Type 0
+IsNothing hs = hs ≡ []
+
+-- t is what the row makes of s, for all answers that agree with those of the clients, which vote by these scripts.
+-- What was handed to the clients is what the row's records tell, each to the client whose it is, and P holds of it.
+pub record Does (scripts : List (Option (List (Option VoteItem)))) (P : List Handing → Type 0) (s t : Core) (row : Answering → Core) : Type 0 where
   pub asked : List Question
   pub filled : AreFilled scripts s.sessions.sessions asked
   pub placed : Rise (length s.records) (length t.records) asked
   pub lives : t.sessions.sessions ≡ s.sessions.sessions
   pub does : (f : Answering) → Agrees f asked → t ≡ row f
+  pub handings : List Handing
+  pub told : handed_in t.records ≡ handed_in s.records ++ told_by handings
+  pub owned : AreFor s.sessions handings
+  pub owners : KeepsOwners s.sessions t.sessions
+  pub received : P handings
 
 -- as many clients as sessions, at a level that there is
 pub record Ready {C : Type 0} (s : Core) (clients : List C) : Type 0 where

@@ -8,7 +8,8 @@ ghost use Rattle.session_state.specs.Calls.{SameSessions};
 ghost use Rattle.session_state.specs.HandOn as session;
 ghost use Rattle.node_state.specs.State.{recorded_all, with_sessions};
 ghost use Rattle.node_state.specs.HandOn.{noted, ballot_sent, cast_sent_of, casts_sent, handed_on};
-ghost use Rattle.entry_handing.specs.Telling.{heard_in};
+ghost use Rattle.entry_handing.specs.Telling.{heard_in, heard_handings, noted_handings};
+ghost use Rattle.entry_handing.specs.Received.{Receive};
 ghost use Rattle.entry_handing.specs.Doing.{Ready, Does};
 
 use crate::noting::{News, note_all, record_all_heard};
@@ -96,7 +97,7 @@ fn send_casts(
 }
 
 /// Tells the subscribers of a group what it has become, where its members or its value differ.
-#[tactic(auto, unfolding(node_state::specs::HandOn::noted, node_state::specs::HandOn::notes, node_state::specs::HandOn::note_of, node_state::specs::State::recorded_all))]
+#[tactic(auto, unfolding(node_state::specs::HandOn::noted, node_state::specs::HandOn::notes, node_state::specs::HandOn::note_of, node_state::specs::State::recorded_all, crate::specs::Telling::noted_handings), using(crate::proofs::DoingLaws::receive_nothing))]
 fn note<C: Callbacks>(
     core: &mut Core,
     clients: &mut Vec<C>,
@@ -109,6 +110,7 @@ fn note<C: Callbacks>(
     requires aligned { length clients.old.items ≡ length core.old.sessions.sessions }
     ensures length { length clients.new.items ≡ length clients.old.items }
     ensures scripts { OnOk result (map C.script clients.new.items ≡ map C.script clients.old.items) }
+    ensures received { OnOk result (Receive C.stands_for clients.old.items clients.new.items (noted_handings core.old g.now i before.now after.now)) }
     ensures core { OnOk result (core.new ≡ noted core.old g.now i before.now after.now) }
 {
     if !differ(before, after) {
@@ -138,6 +140,7 @@ fn hand<C: Callbacks>(
     requires empty { casts.old ≡ [] }
     ensures length { length clients.new.items ≡ length clients.old.items }
     ensures scripts { OnOk result (map C.script clients.new.items ≡ map C.script clients.old.items) }
+    ensures received { OnOk result (Receive C.stands_for clients.old.items clients.new.items (heard_handings core.old.sessions n.now.view n.now.group.now n.now.place n.now.entry.now n.now.after.now (hearers core.old.sessions n.now.group.now before.now n.now.entry.now))) }
     ensures same { SameSessions core.old.sessions core.new.sessions }
     ensures handed { OnOk result ((bs : List (Option Filled)) × Fillings (map C.script clients.old.items) core.old.sessions n.now.entry.now n.now.after.now (hearers core.old.sessions n.now.group.now before.now n.now.entry.now) bs × (casts.new ≡ casts_out core.old.sessions n.now.group.now before.now n.now.after.now n.now.entry.now bs) × (core.new ≡ recorded_all (with_sessions core.old (session.handed_on core.old.sessions n.now.group.now before.now n.now.after.now n.now.entry.now bs)) (flat_map (heard_in n.now.view n.now.group.now n.now.place n.now.entry.now n.now.after.now) casts.new))) }
 {
@@ -159,7 +162,7 @@ pub fn hand_on<C: Callbacks>(
     requires view { n.now.view ≡ core.old.views.view }
     ensures ready { OnOk result (Ready core.new clients.new.items) }
     ensures scripts { OnOk result (map C.script clients.new.items ≡ map C.script clients.old.items) }
-    ensures does { OnOk result (Does (map C.script clients.old.items) core.old core.new (λ f. handed_on f core.old to n.now.group.now n.now.place before.now n.now.after.now n.now.entry.now)) }
+    ensures does { OnOk result (Does (map C.script clients.old.items) (Receive C.stands_for clients.old.items clients.new.items) core.old core.new (λ f. handed_on f core.old to n.now.group.now n.now.place before.now n.now.after.now n.now.entry.now)) }
 {
     let mut casts = List::new(alloc);
     hand(core, clients, alloc, n, before, &mut casts)?;

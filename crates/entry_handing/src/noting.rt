@@ -6,7 +6,8 @@ ghost use Rattle.session_state.specs.State.{is_session};
 ghost use Rattle.client_callbacks.specs.declared.told.Told.TheVariants as told;
 ghost use Rattle.node_state.specs.declared.happened.Happened.TheVariants as happened;
 ghost use Rattle.node_state.specs.HandOn.{cast_record, cast_records, subscriber_name};
-ghost use Rattle.entry_handing.specs.Telling.{heard_in, note_in};
+ghost use Rattle.entry_handing.specs.Telling.{heard_in, note_in, note_handing};
+ghost use Rattle.entry_handing.specs.Received.{Receive};
 
 use client_callbacks::{Callbacks, Filled, Told};
 use client_session::tell_at;
@@ -159,6 +160,7 @@ fn note_one<C: Callbacks>(
     requires aligned { length clients.old.items ≡ length sessions.now.sessions }
     ensures length { length clients.new.items ≡ length clients.old.items }
     ensures scripts { OnOk result (map C.script clients.new.items ≡ map C.script clients.old.items) }
+    ensures received { OnOk result (Receive C.stands_for clients.old.items clients.new.items (note_handing n.now.node n.now.view sessions.now n.now.group.now n.now.place n.now.state.now u.now ∷ [])) }
     ensures records { OnOk result (records.new ≡ records.old ++ note_in n.now.node n.now.view sessions.now n.now.group.now n.now.place n.now.state.now u.now ∷ []) }
 {
     let told = told_of(alloc, n)?;
@@ -185,6 +187,7 @@ pub fn note_all<C: Callbacks>(
     requires aligned { length clients.old.items ≡ length sessions.now.sessions }
     ensures length { length clients.new.items ≡ length clients.old.items }
     ensures scripts { OnOk result (map C.script clients.new.items ≡ map C.script clients.old.items) }
+    ensures received { OnOk result (Receive C.stands_for clients.old.items clients.new.items (map (note_handing n.now.node n.now.view sessions.now n.now.group.now n.now.place n.now.state.now) (filter (is_of_group n.now.group.now) sessions.now.subs.live))) }
     ensures records { OnOk result (records.new ≡ records.old ++ map (note_in n.now.node n.now.view sessions.now n.now.group.now n.now.place n.now.state.now) (filter (is_of_group n.now.group.now) sessions.now.subs.live)) }
 {
     for u in sessions.subs.live() {

@@ -13,6 +13,7 @@ use Rattle.node_state.specs.Leading.{put_and_handed, forgets_least}
 use Rattle.node_state.specs.Following.{entry_next, entry_elsewhere, entry_row, acked}
 use Rattle.node_groups.specs.Keeps.{Keeps}
 use Rattle.node_groups.proofs.KeepLaws.{keeps_itself, keeps_then, keeps_as, led_keeps, sent_keeps}
+use Rattle.entry_handing.specs.Received.{Handing}
 use Rattle.entry_handing.specs.Doing.{Does}
 use Rattle.entry_handing.proofs.DoingLaws.{does_before}
 use Rattle.group_leading.proofs.WorkLaws.{keeps_follows}
@@ -29,11 +30,11 @@ followed_keeps from g stable t =
     let u : Core = sent t from (body.Ack t.views.view g (len_of t g)) in
     keeps_then t u _ (sent_keeps t from _) (keeps_then u (led_by u g from) _ (leader_keeps u g from) (forgets_keep (led_by u g from) g stable))
 
-pub next_does : (scripts : List (Option (List (Option VoteItem)))) (s t u : Core) (from : ℕ) (g : List ℕ) (stable : ℕ) (e : Entry) → Does scripts s t (λ f. put_and_handed f s (Some from) g e) → u ≡ followed from g stable t
-    → Does scripts s u (λ f. entry_next f s from g stable e true)
+pub next_does : (scripts : List (Option (List (Option VoteItem)))) (P : List Handing → Type 0) (s t u : Core) (from : ℕ) (g : List ℕ) (stable : ℕ) (e : Entry) → Does scripts P s t (λ f. put_and_handed f s (Some from) g e) → u ≡ followed from g stable t
+    → Does scripts P s u (λ f. entry_next f s from g stable e true)
 unfolding entry_next
-next_does scripts s t u from g stable e putting following =
-    does_before scripts s t u (λ f. put_and_handed f s (Some from) g e) (followed from g stable) putting following (keeps_follows t u (keeps_as t (followed from g stable t) u following (followed_keeps from g stable t)))
+next_does scripts P s t u from g stable e putting following =
+    does_before scripts P s t u (λ f. put_and_handed f s (Some from) g e) (followed from g stable) putting following (keeps_follows t u (keeps_as t (followed from g stable t) u following (followed_keeps from g stable t)))
 
 elsewhere_if_keeps : (s : Core) (from : ℕ) (g : List ℕ) (stable : ℕ) (is_held : Bool) → Keeps s (elim is_held [ true ↦ forgets_below s g stable | false ↦ s ])
 elsewhere_if_keeps s from g stable true = forgets_keep s g stable

@@ -23,6 +23,7 @@ use Rattle.node_groups.specs.Places.{has_name, AllAfter, InNameOrder}
 use Rattle.node_groups.proofs.NameOrder.{after_less, none_after}
 use Rattle.node_groups.proofs.TallyLaws.{changed_in, same_rows}
 use Rattle.node_groups.proofs.KeepLaws.{keeps_itself, keeps_as, led_keeps}
+use Rattle.entry_handing.specs.Received.{Handing}
 use Rattle.entry_handing.specs.Doing.{Does}
 use Rattle.entry_handing.proofs.DoingLaws.{does_as, does_before}
 use Rattle.group_leading.proofs.WorkLaws.{keeps_follows}
@@ -39,8 +40,8 @@ unfolding tally_failed
 tally_none f s g p None e = refl
 tally_none f s g p (Some t) e = absurd (cc)
 
-pub unfailed_does : (scripts : List (Option (List (Option VoteItem)))) (s : Core) (g : List ℕ) (p : ProviderId) → is_some (led_of s g).tally ≡ false → Does scripts s s (λ f. tally_failed f s g p (led_of s g).tally)
-unfailed_does scripts s g p none = does_row scripts s s s (λ f. tally_failed f s g p (led_of s g).tally) (keeps_itself s) (λ f. tally_none f s g p (led_of s g).tally none) refl
+pub unfailed_does : (scripts : List (Option (List (Option VoteItem)))) (P : List Handing → Type 0) → P [] → (s : Core) (g : List ℕ) (p : ProviderId) → is_some (led_of s g).tally ≡ false → Does scripts P s s (λ f. tally_failed f s g p (led_of s g).tally)
+unfailed_does scripts P q s g p none = does_row scripts P q s s s (λ f. tally_failed f s g p (led_of s g).tally) (keeps_itself s) (λ f. tally_none f s g p (led_of s g).tally none) refl
 
 tally_some : (f : Answering) (s : Core) (g : List ℕ) (p : ProviderId) (tally : Option TallyView) → is_some tally ≡ true → closes f (with_tally s g (option_map (tally_fail p) tally)) g ≡ tally_failed f s g p tally
 unfolding tally_failed
@@ -51,11 +52,11 @@ tally_keeps : (s : Core) (g : List ℕ) (tally : Option TallyView) → Keeps s (
 unfolding with_tally
 tally_keeps s g tally = led_keeps s g (λ l. record l { tally = tally })
 
-pub failing_does : (scripts : List (Option (List (Option VoteItem)))) (s t u : Core) (g : List ℕ) (p : ProviderId) → is_some (led_of s g).tally ≡ true
-    → t ≡ with_tally s g (option_map (tally_fail p) (led_of s g).tally) → Does scripts t u (λ f. closes f t g) → Does scripts s u (λ f. tally_failed f s g p (led_of s g).tally)
-failing_does scripts s t u g p some failing closing =
-    does_as scripts s u (λ f. closes f (with_tally s g (option_map (tally_fail p) (led_of s g).tally)) g) (λ f. tally_failed f s g p (led_of s g).tally) (λ f. tally_some f s g p (led_of s g).tally some)
-    (does_behind scripts s t u (with_tally s g (option_map (tally_fail p) (led_of s g).tally)) (λ f x. closes f x g) (tally_keeps s g _) failing closing)
+pub failing_does : (scripts : List (Option (List (Option VoteItem)))) (P : List Handing → Type 0) (s t u : Core) (g : List ℕ) (p : ProviderId) → is_some (led_of s g).tally ≡ true
+    → t ≡ with_tally s g (option_map (tally_fail p) (led_of s g).tally) → Does scripts P t u (λ f. closes f t g) → Does scripts P s u (λ f. tally_failed f s g p (led_of s g).tally)
+failing_does scripts P s t u g p some failing closing =
+    does_as scripts P s u (λ f. closes f (with_tally s g (option_map (tally_fail p) (led_of s g).tally)) g) (λ f. tally_failed f s g p (led_of s g).tally) (λ f. tally_some f s g p (led_of s g).tally some)
+    (does_behind scripts P s t u (with_tally s g (option_map (tally_fail p) (led_of s g).tally)) (λ f x. closes f x g) (tally_keeps s g _) failing closing)
 
 -- ---- it waits as a failure
 
@@ -67,12 +68,12 @@ pub gone_waits_keeps : (s : Core) (g : List ℕ) (p : ProviderId) → Keeps s (g
 unfolding gone_waits
 gone_waits_keeps s g p = waits_if_keeps (among (state_of s g).members p) s g p
 
-pub present_does : (scripts : List (Option (List (Option VoteItem)))) (s t u w : Core) (g : List ℕ) (p : ProviderId) → t ≡ with_led s g (λ l. record l { gone = marked l.gone p })
-    → Does scripts t u (λ f. tally_failed f t g p (led_of t g).tally) → w ≡ gone_waits u g p → Does scripts s w (λ f. gone_present f s g p)
+pub present_does : (scripts : List (Option (List (Option VoteItem)))) (P : List Handing → Type 0) (s t u w : Core) (g : List ℕ) (p : ProviderId) → t ≡ with_led s g (λ l. record l { gone = marked l.gone p })
+    → Does scripts P t u (λ f. tally_failed f t g p (led_of t g).tally) → w ≡ gone_waits u g p → Does scripts P s w (λ f. gone_present f s g p)
 unfolding gone_present
-present_does scripts s t u w g p marking failing waiting =
-    does_behind scripts s t w _ (λ f x. gone_waits (tally_failed f x g p (led_of x g).tally) g p) (led_keeps s g _) marking
-    (does_before scripts t u w (λ f. tally_failed f t g p (led_of t g).tally) (λ x. gone_waits x g p) failing waiting (keeps_follows u w (keeps_as u (gone_waits u g p) w waiting (gone_waits_keeps u g p))))
+present_does scripts P s t u w g p marking failing waiting =
+    does_behind scripts P s t w _ (λ f x. gone_waits (tally_failed f x g p (led_of x g).tally) g p) (led_keeps s g _) marking
+    (does_before scripts P t u w (λ f. tally_failed f t g p (led_of t g).tally) (λ x. gone_waits x g p) failing waiting (keeps_follows u w (keeps_as u (gone_waits u g p) w waiting (gone_waits_keeps u g p))))
 
 -- ---- a join that waits
 
@@ -142,7 +143,7 @@ pub gone_here : (f : Answering) (s : Core) (g : List ℕ) (p : ProviderId) → l
 unfolding gone_of
 gone_here f s g p e here = ap (λ (b : Bool). gone_of f s g p b (among (led_of s g).waiting.joins p)) (sym here) ∙ gone_led f s g p e
 
-pub away_does : (scripts : List (Option (List (Option VoteItem)))) (s t : Core) (g : List ℕ) (p : ProviderId) → leads s g ≡ true → among (present (state_of s g)) p ≡ false
-    → ((f : Answering) → t ≡ gone_of f s g p false (among (led_of s g).waiting.joins p)) → Keeps s t → Does scripts s t (λ f. gone_row f s g p)
-away_does scripts s t g p e away dropped keeps =
-    does_row scripts s t t (λ f. gone_row f s g p) keeps (λ f. dropped f ∙ (ap (λ (b : Bool). gone_of f s g p b (among (led_of s g).waiting.joins p)) (sym away) ∙ gone_led f s g p e)) refl
+pub away_does : (scripts : List (Option (List (Option VoteItem)))) (P : List Handing → Type 0) → P [] → (s t : Core) (g : List ℕ) (p : ProviderId) → leads s g ≡ true → among (present (state_of s g)) p ≡ false
+    → ((f : Answering) → t ≡ gone_of f s g p false (among (led_of s g).waiting.joins p)) → Keeps s t → Does scripts P s t (λ f. gone_row f s g p)
+away_does scripts P q s t g p e away dropped keeps =
+    does_row scripts P q s t t (λ f. gone_row f s g p) keeps (λ f. dropped f ∙ (ap (λ (b : Bool). gone_of f s g p b (among (led_of s g).waiting.joins p)) (sym away) ∙ gone_led f s g p e)) refl

@@ -7,12 +7,15 @@ use Rattle.client_callbacks.specs.declared.votes.VoteItem.{VoteItem}
 use Rattle.node_state.specs.declared.state.Core.{Core}
 use Rattle.node_state.specs.State.{led_by, list_forgotten, forgets_below}
 use Rattle.node_state.specs.HandOn.{Answering}
-use Rattle.node_groups.specs.Keeps.{Keeps}
-use Rattle.node_groups.proofs.KeepLaws.{keeps_itself, keeps_then, keeps_as, row_keeps}
+use Rattle.node_groups.specs.Keeps.{Stays, Keeps}
+use Rattle.node_groups.proofs.KeepLaws.{stays_itself, stays_then, stays_as, keeps_as, row_keeps}
+use Rattle.entry_handing.specs.Received.{Handing}
 use Rattle.entry_handing.specs.Doing.{Does}
-use Rattle.entry_handing.proofs.DoingLaws.{does_plain, does_after, does_as}
+use Rattle.entry_handing.proofs.DoingLaws.{does_after, does_as}
 use Rattle.group_leading.specs.Working.{AtWork}
+use Rattle.group_leading.proofs.AnswerLaws.{does_some}
 use Rattle.group_leading.proofs.WorkLaws.{keeps_follows, work_kept}
+use Rattle.request_deciding.proofs.DecidingLaws.{kept_does}
 
 -- ---- changes
 
@@ -24,28 +27,28 @@ pub forgets_keep : (s : Core) (g : List ℕ) (n : ℕ) → Keeps s (forgets_belo
 unfolding forgets_below
 forgets_keep s g n = row_keeps s g (λ row. record row { list = list_forgotten n row.list }) (λ x. refl)
 
-pub fold_keeps : {A : Type 0} (f : Core → A → Core) → ((s : Core) (a : A) → Keeps s (f s a)) → (s : Core) (xs : List A) → Keeps s (fold f s xs)
-fold_keeps f keeps s [] = keeps_itself s
-fold_keeps f keeps s (x ∷ xs) = keeps_then s (f s x) (fold f (f s x) xs) (keeps s x) (fold_keeps f keeps (f s x) xs)
+pub fold_stays : {A : Type 0} (f : Core → A → Core) → ((s : Core) (a : A) → Stays s (f s a)) → (s : Core) (xs : List A) → Stays s (fold f s xs)
+fold_stays f stays s [] = stays_itself s
+fold_stays f stays s (x ∷ xs) = stays_then s (f s x) (fold f (f s x) xs) (stays s x) (fold_stays f stays (f s x) xs)
 
 -- ---- rows
 
 -- a change that is the whole row
-pub does_row : (scripts : List (Option (List (Option VoteItem)))) (s t k : Core) (row : Answering → Core) → Keeps s k → ((f : Answering) → k ≡ row f) → t ≡ k → Does scripts s t row
-does_row scripts s t k row keeps same e = does_as scripts s t (λ f. k) row same (does_plain scripts s t k e (keeps_follows s t (keeps_as s k t e keeps)))
+pub does_row : (scripts : List (Option (List (Option VoteItem)))) (P : List Handing → Type 0) → P [] → (s t k : Core) (row : Answering → Core) → Keeps s k → ((f : Answering) → k ≡ row f) → t ≡ k → Does scripts P s t row
+does_row scripts P p s t k row keeps same e = kept_does scripts P p s t row (λ f. e ∙ same f) (keeps_as s k t e keeps)
 
 pub work_row : {C : Type 0} (s t k : Core) (clients : List C) → AtWork s clients → Keeps s k → t ≡ k → AtWork t clients
 work_row s t k clients w keeps e = work_kept s t clients (keeps_as s k t e keeps) w
 
 -- a row behind a change
-pub does_behind : (scripts : List (Option (List (Option VoteItem)))) (s t u k : Core) (row : Answering → Core → Core) → Keeps s k → t ≡ k → Does scripts t u (λ f. row f t) → Does scripts s u (λ f. row f k)
-does_behind scripts s t u k row keeps e next =
-    does_as scripts s u (λ f. row f t) (λ f. row f k) (λ f. ap (row f) e) (does_after scripts s t u (λ f. row f t) (keeps_follows s t (keeps_as s k t e keeps)) next)
+pub does_behind : (scripts : List (Option (List (Option VoteItem)))) (P : List Handing → Type 0) (s t u k : Core) (row : Answering → Core → Core) → Keeps s k → t ≡ k → Does scripts P t u (λ f. row f t) → Does scripts P s u (λ f. row f k)
+does_behind scripts P s t u k row keeps e next =
+    does_as scripts P s u (λ f. row f t) (λ f. row f k) (λ f. ap (row f) e) (does_after scripts P s t u (λ f. row f t) (keeps_follows s t (keeps_as s k t e keeps)) next)
 
 -- as many clients as sessions again, where clients were told
-pub work_told : {C : Type 0} (s t k : Core) (cs ds : List C) → AtWork s cs → Keeps s k → t ≡ k → length ds ≡ length t.sessions.sessions → AtWork t ds
-work_told s t k cs ds w keeps e aligned =
-    let kept : Keeps s t = keeps_as s k t e keeps in
+pub work_told : {C : Type 0} (scripts : List (Option (List (Option VoteItem)))) (P : List Handing → Type 0) (s t k : Core) (cs ds : List C) → AtWork s cs → Stays s k → Does scripts P s t (λ f. k) → length ds ≡ length t.sessions.sessions → AtWork t ds
+work_told scripts P s t k cs ds w stays telling aligned =
+    let kept : Stays s t = stays_as s k t (does_some scripts P s t (λ f. k) telling).1 stays in
     record { ready = record { level = rw kept.sessions.1 w.ready.level; aligned = aligned }; order = kept.order w.order }
 
 -- from two clauses

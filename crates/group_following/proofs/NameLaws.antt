@@ -11,11 +11,10 @@ use Rattle.node_state.specs.declared.state.Core.{Core}
 use Rattle.node_state.specs.State.{with_row, led_by}
 use Rattle.node_state.specs.Sending.{sent, request_sent}
 use Rattle.node_state.specs.Following.{tell_row, requests_of, named, is_name_used, name_row}
-use Rattle.node_groups.specs.Keeps.{Keeps}
-use Rattle.node_groups.proofs.KeepLaws.{keeps_then, keeps_as, sent_keeps}
-use Rattle.owed_sending.proofs.SendLaws.{groups_keep}
-use Rattle.group_following.proofs.KeepLaws.{fold_keeps}
-use Rattle.group_following.proofs.TellLaws.{tell_keeps}
+use Rattle.node_groups.specs.Keeps.{Stays, Keeps}
+use Rattle.node_groups.proofs.KeepLaws.{owners_themselves, keeps_then, keeps_as, sent_keeps}
+use Rattle.group_following.proofs.KeepLaws.{fold_stays}
+use Rattle.group_following.proofs.TellLaws.{tell_stays}
 
 -- ---- LOOKUP
 
@@ -31,7 +30,9 @@ full_stays g asker table h = stays_at g asker table _ _ h
 -- a table of names, and an answer
 pub looked_keeps : (s t : Core) (table : List Leader) (to : ℕ) (b : Body) → t ≡ sent (record s { names = table }) to b → Keeps s t
 looked_keeps s t table to b e =
-    let u : Core = record s { names = table } in keeps_as s (sent u to b) t e (keeps_then s u (sent u to b) (groups_keep s u (omega arith) (refl, refl) refl) (sent_keeps u to b))
+    let u : Core = record s { names = table } in
+    let kept : Keeps s u = record { records = omega arith; sessions = (refl, refl); order = λ o. o; handed = refl; owners = owners_themselves s.sessions } in
+    keeps_as s (sent u to b) t e (keeps_then s u (sent u to b) kept (sent_keeps u to b))
 
 -- ---- NAME
 
@@ -44,9 +45,9 @@ pub name_unused : (s : Core) (g : List ℕ) (n : ℕ) → is_name_used s g n ≡
 unfolding name_row
 name_unused s g n e = rw (e, name_row) refl
 
-pub name_refused : (s t : Core) (g : List ℕ) (n : ℕ) → is_name_used s g n ≡ true → n ≡ 0 → t ≡ fold (λ u (q : Request). tell_row u q.p q.r (GroupsFull 64)) s (requests_of s g) → t ≡ name_row s g n
+pub name_refused : (s : Core) (g : List ℕ) (n : ℕ) → is_name_used s g n ≡ true → n ≡ 0 → fold (λ t (q : Request). tell_row t q.p q.r (GroupsFull 64)) s (requests_of s g) ≡ name_row s g n
 unfolding name_row named
-name_refused s t g n used none told = rw (used, none, name_row) told
+name_refused s g n used none = rw (used, none, name_row) refl
 
 named_if : (s t : Core) (g : List ℕ) (n : ℕ) (is_none : Bool) → is_none ≡ false → t ≡ fold request_sent (led_by s g n) (requests_of s g) → t ≡ named s g n is_none
 unfolding named
@@ -57,5 +58,5 @@ pub name_led : (s t : Core) (g : List ℕ) (n : ℕ) → is_name_used s g n ≡ 
 unfolding name_row
 name_led s t g n used some led = rw (used, name_row) (named_if s t g n (n == 0) (ne_eqb n 0 some) led)
 
-pub refused_keeps : (s : Core) (g : List ℕ) → Keeps s (fold (λ u (q : Request). tell_row u q.p q.r (GroupsFull 64)) s (requests_of s g))
-refused_keeps s g = fold_keeps (λ u (q : Request). tell_row u q.p q.r (GroupsFull 64)) (λ u q. tell_keeps u q.p q.r (GroupsFull 64)) s (requests_of s g)
+pub refused_stays : (s : Core) (g : List ℕ) → Stays s (fold (λ t (q : Request). tell_row t q.p q.r (GroupsFull 64)) s (requests_of s g))
+refused_stays s g = fold_stays (λ t (q : Request). tell_row t q.p q.r (GroupsFull 64)) (λ t q. tell_stays t q.p q.r (GroupsFull 64)) s (requests_of s g)

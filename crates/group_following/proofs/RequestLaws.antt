@@ -17,6 +17,7 @@ use Rattle.node_state.specs.Deciding.{decided}
 use Rattle.node_state.specs.Following.{told_again, request_new, request_after, request_at, is_group_refused, request_row}
 use Rattle.node_groups.specs.Keeps.{Keeps}
 use Rattle.node_groups.proofs.KeepLaws.{keeps_itself, sent_keeps}
+use Rattle.entry_handing.specs.Received.{Handing}
 use Rattle.entry_handing.specs.Doing.{Does}
 use Rattle.group_following.proofs.KeepLaws.{leader_keeps, does_behind}
 
@@ -65,7 +66,7 @@ unfolding request_after
 request_next f s from g p r phases x d e some late other =
     ap (λ (b : Bool). request_after f s g p r phases x d false b) (sym (ne_eqb r d.r other)) ∙ request_from f s from g p r phases x d e some late
 
-pub new_does : (scripts : List (Option (List (Option VoteItem)))) (s t u : Core) (g : List ℕ) (p : ProviderId) (r : ℕ) (phases : Phases) (x : Proposal) → t ≡ led_by s g s.views.me → Does scripts t u (λ f. decided f t g p r phases x)
-    → Does scripts s u (λ f. request_new f s g p r phases x)
+pub new_does : (scripts : List (Option (List (Option VoteItem)))) (P : List Handing → Type 0) (s t u : Core) (g : List ℕ) (p : ProviderId) (r : ℕ) (phases : Phases) (x : Proposal) → t ≡ led_by s g s.views.me → Does scripts P t u (λ f. decided f t g p r phases x)
+    → Does scripts P s u (λ f. request_new f s g p r phases x)
 unfolding request_new
-new_does scripts s t u g p r phases x e next = does_behind scripts s t u (led_by s g s.views.me) (λ f y. decided f y g p r phases x) (leader_keeps s g s.views.me) e next
+new_does scripts P s t u g p r phases x e next = does_behind scripts P s t u (led_by s g s.views.me) (λ f y. decided f y g p r phases x) (leader_keeps s g s.views.me) e next

@@ -1,21 +1,37 @@
--- A telling keeps what a node at work keeps.
-use Rattle.std.proofs.Common.{ℕ, Bool, true, false, ◌||◌, not, [], ◌∷◌, filter, length-append, refl, arith}
+-- What a telling does, and what it keeps.
+use Rattle.std.proofs.Common.{◌≡◌, ℕ, Bool, true, false, ◌||◌, ◌&&◌, not, List, [], ◌∷◌, ◌++◌, filter, Option, Some, None, is_some, length-append, refl, sym, ap, subst, arith}
 use Rattle.std.specs.Prelude.{if◌then◌else◌}
+use Rattle.std.proofs.lemmas.List.Elements.{filter-append}
 use Rattle.rsct_packet.specs.declared.ids.ProviderId.{ProviderId}
 use Rattle.rsct_packet.specs.Providers.{among}
+use Rattle.client_callbacks.specs.declared.told.Told.TheVariants as told
 use Rattle.client_callbacks.specs.declared.told.Why.{Why}
+use Rattle.client_callbacks.specs.declared.votes.VoteItem.{VoteItem}
+use Rattle.client_callbacks.specs.Handed.{Handed, Informed}
+use Rattle.session_state.specs.declared.state.Provider.{Provider}
 use Rattle.session_state.specs.declared.state.Request.{Request}
 use Rattle.session_state.specs.declared.state.SessionState.{SessionState}
-use Rattle.session_state.specs.State.{outstanding, without_providers}
+use Rattle.session_state.specs.State.{provider_of, place_for, place_of, outstanding, without_providers}
 use Rattle.session_state.specs.Calls.{SameSessions}
 use Rattle.session_state.specs.HandOn.{is_numbered, is_dissolved, is_join_request, takes_telling, told_of, telling_taken}
+use Rattle.client_session.specs.Clients.{StandFor, add_for}
+use Rattle.client_session.specs.Notices.{told_lists}
+use Rattle.node_state.specs.declared.happened.Happened.{Happened}
 use Rattle.node_state.specs.declared.happened.Happened.TheVariants as happened
 use Rattle.node_state.specs.declared.state.Core.{Core}
-use Rattle.node_state.specs.State.{recorded, with_sessions}
+use Rattle.node_state.specs.State.{recorded_all, recorded, with_sessions}
 use Rattle.node_state.specs.Following.{told_if, tell_row}
-use Rattle.node_groups.specs.Keeps.{Keeps}
-use Rattle.node_groups.proofs.KeepLaws.{keeps_itself}
-use Rattle.owed_sending.proofs.SendLaws.{groups_keep}
+use Rattle.node_groups.specs.Handed.{is_handed}
+use Rattle.node_groups.specs.Keeps.{Stays}
+use Rattle.node_groups.proofs.KeepLaws.{stays_itself}
+use Rattle.entry_handing.specs.Received.{Receive}
+use Rattle.entry_handing.specs.Doing.{Does}
+use Rattle.entry_handing.proofs.DoingLaws.{receive_nothing, does_plain, follows_itself}
+use Rattle.entry_handing.proofs.OwnerLaws.{telling_owners}
+use Rattle.entry_handing.proofs.ReceiveLaws.{receive_one}
+use Rattle.owed_sending.proofs.SendLaws.{groups_stay}
+
+-- ---- what is kept
 
 same_if : (takes drops : Bool) (x a b : SessionState) → SameSessions x a → SameSessions x b → SameSessions x (if takes then (if drops then a else b) else x)
 same_if true true x a b left right = left
@@ -28,11 +44,64 @@ telling_same x p r y =
     same_if (takes_telling x p r y) (is_join_request (outstanding x p) || is_dissolved y) x (without_providers x (p ∷ []))
     (record x { requests = filter (λ (q : Request). not (among (p ∷ []) q.p)) x.requests }) (refl, refl) (refl, refl)
 
-told_if_keeps : (s : Core) (p : ProviderId) (r : ℕ) (y : Why) (is_outstanding : Bool) → Keeps s (told_if s p r y is_outstanding)
-unfolding told_if recorded with_sessions
-told_if_keeps s p r y false = keeps_itself s
-told_if_keeps s p r y true = groups_keep s _ (omega (arith, length-append s.records (happened.Told p r y ∷ []))) (telling_same s.sessions p r y) refl
+told_if_stays : (s : Core) (p : ProviderId) (r : ℕ) (y : Why) (is_outstanding : Bool) → Stays s (told_if s p r y is_outstanding)
+unfolding told_if recorded recorded_all with_sessions
+told_if_stays s p r y false = stays_itself s
+told_if_stays s p r y true = groups_stay s _ (omega (arith, length-append s.records (happened.Told p r y ∷ []))) (telling_same s.sessions p r y) refl
 
-pub tell_keeps : (s : Core) (p : ProviderId) (r : ℕ) (y : Why) → Keeps s (tell_row s p r y)
+pub tell_stays : (s : Core) (p : ProviderId) (r : ℕ) (y : Why) → Stays s (tell_row s p r y)
 unfolding tell_row
-tell_keeps s p r y = told_if_keeps s p r y (is_numbered r (outstanding s.sessions p))
+tell_stays s p r y = told_if_stays s p r y (is_numbered r (outstanding s.sessions p))
+
+-- ---- what the client is told
+
+told_where : (s : SessionState) (o : Option Provider) (asks dissolves : Bool) (x : Handed) (hs : List (List Handed)) → asks ≡ true
+    → (if is_some o && (asks || dissolves) then add_for (place_for s o) x hs else hs) ≡ add_for (place_for s o) x hs
+told_where s None asks dissolves x hs e = refl
+told_where s (Some q) true dissolves x hs e = refl
+told_where s (Some q) false dissolves x hs e = absurd (cc)
+
+-- of its outstanding request, where the provider is live; and where it is not there is no such client
+told_for : (s : SessionState) (p : ProviderId) (r : ℕ) (y : Why) (hs : List (List Handed)) → is_numbered r (outstanding s p) ≡ true → told_lists s p r y hs ≡ add_for (place_of s p) (Informed (told.Refused p r y)) hs
+unfolding told_lists takes_telling place_of
+told_for s p r y hs e = told_where s (provider_of s p) (is_numbered r (outstanding s p)) (is_dissolved y) (Informed (told.Refused p r y)) hs e
+
+asked_there : (r : ℕ) (o : Option Request) → is_numbered r o ≡ true → o ≡ None → ⊥
+asked_there r None e none = cc
+asked_there r (Some q) e none = cc
+
+-- ---- the row
+
+pub untold_does : {C : Type 0} (R : C → List Handed → Type 0) (scripts : List (Option (List (Option VoteItem)))) (cs : List C) (s : Core) (p : ProviderId) (r : ℕ) (y : Why) → is_numbered r (outstanding s.sessions p) ≡ false
+    → Does scripts (Receive R cs cs) s s (λ f. tell_row s p r y)
+unfolding told_if tell_row
+untold_does R scripts cs s p r y e = does_plain scripts (Receive R cs cs) s s (tell_row s p r y) (receive_nothing R cs) (ap (told_if s p r y) (sym e)) (follows_itself s)
+
+told_if_does : {C : Type 0} (R : C → List Handed → Type 0) (scripts : List (Option (List (Option VoteItem)))) (cs ds : List C) (s : Core) (p : ProviderId) (r : ℕ) (y : Why) → is_numbered r (outstanding s.sessions p) ≡ true
+    → ((hs : List (List Handed)) → StandFor R cs hs → StandFor R ds (told_lists s.sessions p r y hs)) → Does scripts (Receive R cs ds) s (told_if s p r y true) (λ f. told_if s p r y true)
+unfolding told_if recorded recorded_all with_sessions
+told_if_does R scripts cs ds s p r y e stand = record {
+  asked = [];
+  filled = tt;
+  placed = omega (arith, length-append s.records (happened.Told p r y ∷ []));
+  lives = (telling_same s.sessions p r y).0;
+  does = λ f h. refl;
+  handings = record { place = place_of s.sessions p; what = happened.Told p r y } ∷ [];
+  told = filter-append is_handed s.records (happened.Told p r y ∷ []);
+  owned = ((refl, λ gone none. asked_there r (outstanding s.sessions p) e none), tt);
+  owners = telling_owners s.sessions p r y;
+  received = receive_one R cs ds (place_of s.sessions p) (Informed (told.Refused p r y)) (happened.Told p r y) refl (λ hs h. subst (StandFor R ds) (told_for s.sessions p r y hs e) (stand hs h));
+}
+
+told_row : (s : Core) (x : SessionState) (rs : List Happened) (p : ProviderId) (r : ℕ) (y : Why) → is_numbered r (outstanding s.sessions p) ≡ true → x ≡ telling_taken s.sessions p r y → rs ≡ s.records ++ happened.Told p r y ∷ []
+    → record s { sessions = x; records = rs } ≡ tell_row s p r y
+unfolding told_if recorded recorded_all with_sessions tell_row
+told_row s x rs p r y e taken recording = rw (e, taken, recording) refl
+
+pub told_does : {C : Type 0} (R : C → List Handed → Type 0) (scripts : List (Option (List (Option VoteItem)))) (cs ds : List C) (s : Core) (x : SessionState) (rs : List Happened) (p : ProviderId) (r : ℕ) (y : Why) → is_numbered r (outstanding s.sessions p) ≡ true
+    → ((hs : List (List Handed)) → StandFor R cs hs → StandFor R ds (told_lists s.sessions p r y hs)) → x ≡ telling_taken s.sessions p r y → rs ≡ s.records ++ happened.Told p r y ∷ []
+    → Does scripts (Receive R cs ds) s (record s { sessions = x; records = rs }) (λ f. tell_row s p r y)
+unfolding tell_row
+told_does R scripts cs ds s x rs p r y e stand taken recording =
+    rw (told_row s x rs p r y e taken recording)
+    (subst (λ (b : Bool). Does scripts (Receive R cs ds) s (told_if s p r y b) (λ f. told_if s p r y b)) (sym e) (told_if_does R scripts cs ds s p r y e stand))

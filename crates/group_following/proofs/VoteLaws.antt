@@ -11,6 +11,7 @@ use Rattle.node_state.specs.HandOn.{Answering}
 use Rattle.node_state.specs.Leading.{closes}
 use Rattle.node_state.specs.Following.{vote_cast, vote_row}
 use Rattle.node_groups.proofs.KeepLaws.{led_keeps}
+use Rattle.entry_handing.specs.Received.{Handing}
 use Rattle.entry_handing.specs.Doing.{Does}
 use Rattle.entry_handing.proofs.DoingLaws.{does_as}
 use Rattle.group_following.proofs.KeepLaws.{does_behind}
@@ -25,9 +26,9 @@ vote_used : (f : Answering) (s : Core) (g : List ℕ) (proto : ProtoId) (phase :
 unfolding vote_row
 vote_used f s g proto phase p v value message e = rw (e, vote_row) refl
 
-pub vote_does : (scripts : List (Option (List (Option VoteItem)))) (s t u : Core) (g : List ℕ) (proto : ProtoId) (phase : ℕ) (p : ProviderId) (v : Vote) (value message : Option (List ℕ)) → (leads s g && runs proto phase (state_of s g).running) ≡ true
-    → t ≡ with_led s g (λ l. vote_cast l p v value message l.tally) → Does scripts t u (λ f. closes f t g) → Does scripts s u (λ f. vote_row f s g proto phase p v value message)
-vote_does scripts s t u g proto phase p v value message e casting closing =
+pub vote_does : (scripts : List (Option (List (Option VoteItem)))) (P : List Handing → Type 0) (s t u : Core) (g : List ℕ) (proto : ProtoId) (phase : ℕ) (p : ProviderId) (v : Vote) (value message : Option (List ℕ)) → (leads s g && runs proto phase (state_of s g).running) ≡ true
+    → t ≡ with_led s g (λ l. vote_cast l p v value message l.tally) → Does scripts P t u (λ f. closes f t g) → Does scripts P s u (λ f. vote_row f s g proto phase p v value message)
+vote_does scripts P s t u g proto phase p v value message e casting closing =
     let k : Core = with_led s g (λ l. vote_cast l p v value message l.tally) in
-    does_as scripts s u (λ f. closes f k g) (λ f. vote_row f s g proto phase p v value message) (λ f. vote_used f s g proto phase p v value message e)
-    (does_behind scripts s t u k (λ f x. closes f x g) (led_keeps s g (λ l. vote_cast l p v value message l.tally)) casting closing)
+    does_as scripts P s u (λ f. closes f k g) (λ f. vote_row f s g proto phase p v value message) (λ f. vote_used f s g proto phase p v value message e)
+    (does_behind scripts P s t u k (λ f x. closes f x g) (led_keeps s g (λ l. vote_cast l p v value message l.tally)) casting closing)

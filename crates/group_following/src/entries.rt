@@ -1,5 +1,6 @@
 //! The entries of a list, and their acknowledgement.
 ghost use Rattle.std.specs.Prelude.{◌≡◌, OnOk, IsTrue, map, true, nat_lt};
+ghost use Rattle.entry_handing.specs.Received.{Receive};
 ghost use Rattle.entry_handing.specs.Doing.{Does};
 ghost use Rattle.node_groups.specs.Keeps.{Keeps};
 ghost use Rattle.group_leading.specs.Working.{AtWork};
@@ -54,7 +55,7 @@ fn put_next<C: Callbacks>(
     requires fits { IsTrue (fits_at_end core.old g.now e.now) }
     ensures work { OnOk result (AtWork core.new clients.new.items) }
     ensures scripts { OnOk result (map C.script clients.new.items ≡ map C.script clients.old.items) }
-    ensures does { OnOk result (Does (map C.script clients.old.items) core.old core.new (λ f. entry_next f core.old from g.now stable e.now true)) }
+    ensures does { OnOk result (Does (map C.script clients.old.items) (Receive C.stands_for clients.old.items clients.new.items) core.old core.new (λ f. entry_next f core.old from g.now stable e.now true)) }
 {
     put_and_hand(core, clients, alloc, Some(from), g, e)?;
     follow(core, alloc, from, g, stable)
@@ -97,7 +98,7 @@ pub fn take_entry<C: Callbacks>(
     requires work { AtWork core.old clients.old.items }
     ensures work { OnOk result (AtWork core.new clients.new.items) }
     ensures scripts { OnOk result (map C.script clients.new.items ≡ map C.script clients.old.items) }
-    ensures does { OnOk result (Does (map C.script clients.old.items) core.old core.new (λ f. entry_row f core.old from g.now place stable e.now)) }
+    ensures does { OnOk result (Does (map C.script clients.old.items) (Receive C.stands_for clients.old.items clients.new.items) core.old core.new (λ f. entry_row f core.old from g.now place stable e.now)) }
 {
     if place != len_of(core, g.bytes()) {
         return pass_over(core, alloc, from, g, place, stable);

@@ -2,6 +2,7 @@
 ghost use Rattle.std.specs.Prelude.{◌≡◌, OnOk, map, false};
 ghost use Rattle.rsct_packet.specs.Providers.{among};
 ghost use Rattle.proposal_core.specs.Fold.{joiners_in, present};
+ghost use Rattle.entry_handing.specs.Received.{Receive};
 ghost use Rattle.entry_handing.specs.Doing.{Does};
 ghost use Rattle.node_groups.specs.Keeps.{Keeps};
 ghost use Rattle.node_groups.specs.Places.{InNameOrder};
@@ -66,7 +67,7 @@ fn fail_vote<C: Callbacks>(
     requires work { AtWork core.old clients.old.items }
     ensures work { OnOk result (AtWork core.new clients.new.items) }
     ensures scripts { OnOk result (map C.script clients.new.items ≡ map C.script clients.old.items) }
-    ensures does { OnOk result (Does (map C.script clients.old.items) core.old core.new (λ f. tally_failed f core.old g.now p (led_of core.old g.now).tally)) }
+    ensures does { OnOk result (Does (map C.script clients.old.items) (Receive C.stands_for clients.old.items clients.new.items) core.old core.new (λ f. tally_failed f core.old g.now p (led_of core.old g.now).tally)) }
 {
     if tally_of(core, g.bytes()).is_none() {
         return Ok(());
@@ -97,7 +98,7 @@ fn leave<C: Callbacks>(
     requires work { AtWork core.old clients.old.items }
     ensures work { OnOk result (AtWork core.new clients.new.items) }
     ensures scripts { OnOk result (map C.script clients.new.items ≡ map C.script clients.old.items) }
-    ensures does { OnOk result (Does (map C.script clients.old.items) core.old core.new (λ f. gone_present f core.old g.now p)) }
+    ensures does { OnOk result (Does (map C.script clients.old.items) (Receive C.stands_for clients.old.items clients.new.items) core.old core.new (λ f. gone_present f core.old g.now p)) }
 {
     mark_gone(core, alloc, g, p)?;
     fail_vote(core, clients, alloc, g, p)?;
@@ -127,7 +128,7 @@ pub fn take_gone<C: Callbacks>(
     requires work { AtWork core.old clients.old.items }
     ensures work { OnOk result (AtWork core.new clients.new.items) }
     ensures scripts { OnOk result (map C.script clients.new.items ≡ map C.script clients.old.items) }
-    ensures does { OnOk result (Does (map C.script clients.old.items) core.old core.new (λ f. gone_row f core.old g.now p)) }
+    ensures does { OnOk result (Does (map C.script clients.old.items) (Receive C.stands_for clients.old.items clients.new.items) core.old core.new (λ f. gone_row f core.old g.now p)) }
 {
     if !leads(core, g.bytes()) {
         return Ok(());

@@ -5,6 +5,7 @@ ghost use Rattle.std.specs.Option.{unwrap_or};
 ghost use Rattle.client_callbacks.specs.declared.told.Why.TheVariants.{GroupsFull};
 ghost use Rattle.session_state.specs.declared.state.Request.{Request};
 ghost use Rattle.name_server.specs.Names.{looked_up, names_after};
+ghost use Rattle.entry_handing.specs.Received.{Receive};
 ghost use Rattle.entry_handing.specs.Doing.{Does};
 ghost use Rattle.node_groups.specs.Keeps.{Keeps};
 ghost use Rattle.group_leading.specs.Working.{AtWork};
@@ -101,7 +102,7 @@ fn refuse_requests<C: Callbacks>(
     requires aligned { length clients.old.items ≡ length core.old.sessions.sessions }
     ensures aligned { OnOk result (length clients.new.items ≡ length core.new.sessions.sessions) }
     ensures scripts { OnOk result (map C.script clients.new.items ≡ map C.script clients.old.items) }
-    ensures row { OnOk result (core.new ≡ fold (λ t (q : Request). tell_row t q.p q.r (GroupsFull 64)) core.old (requests_of core.old g.now)) }
+    ensures does { OnOk result (Does (map C.script clients.old.items) (Receive C.stands_for clients.old.items clients.new.items) core.old core.new (λ f. fold (λ t (q : Request). tell_row t q.p q.r (GroupsFull 64)) core.old (requests_of core.old g.now))) }
 {
     let requests = requests_of(core, alloc, g)?;
     tell_each(core, clients, requests.as_slice(), Why::GroupsFull(64))
@@ -128,7 +129,7 @@ pub fn take_name<C: Callbacks>(
     requires work { AtWork core.old clients.old.items }
     ensures work { OnOk result (AtWork core.new clients.new.items) }
     ensures scripts { OnOk result (map C.script clients.new.items ≡ map C.script clients.old.items) }
-    ensures does { OnOk result (Does (map C.script clients.old.items) core.old core.new (λ f. name_row core.old g.now n)) }
+    ensures does { OnOk result (Does (map C.script clients.old.items) (Receive C.stands_for clients.old.items clients.new.items) core.old core.new (λ f. name_row core.old g.now n)) }
 {
     if !is_name_used(core, g.bytes(), n) {
         return Ok(());

@@ -1,5 +1,6 @@
 //! Requests that come to the leader of a group.
 ghost use Rattle.std.specs.Prelude.{◌≡◌, OnOk, map};
+ghost use Rattle.entry_handing.specs.Received.{Receive};
 ghost use Rattle.entry_handing.specs.Doing.{Does};
 ghost use Rattle.group_leading.specs.Working.{AtWork};
 ghost use Rattle.node_state.specs.Following.{told_again, request_new, is_group_refused, request_row};
@@ -67,7 +68,7 @@ fn decide_new<C: Callbacks>(
     requires work { AtWork core.old clients.old.items }
     ensures work { OnOk result (AtWork core.new clients.new.items) }
     ensures scripts { OnOk result (map C.script clients.new.items ≡ map C.script clients.old.items) }
-    ensures does { OnOk result (Does (map C.script clients.old.items) core.old core.new (λ f. request_new f core.old g.now p r phases x.now)) }
+    ensures does { OnOk result (Does (map C.script clients.old.items) (Receive C.stands_for clients.old.items clients.new.items) core.old core.new (λ f. request_new f core.old g.now p r phases x.now)) }
 {
     set_leader(core, alloc, g, core.views.me)?;
     decide(core, clients, alloc, g, p, r, phases, x)
@@ -88,7 +89,7 @@ pub fn take_request<C: Callbacks>(
     requires work { AtWork core.old clients.old.items }
     ensures work { OnOk result (AtWork core.new clients.new.items) }
     ensures scripts { OnOk result (map C.script clients.new.items ≡ map C.script clients.old.items) }
-    ensures does { OnOk result (Does (map C.script clients.old.items) core.old core.new (λ f. request_row f core.old from g.now p r phases x.now)) }
+    ensures does { OnOk result (Does (map C.script clients.old.items) (Receive C.stands_for clients.old.items clients.new.items) core.old core.new (λ f. request_row f core.old from g.now p r phases x.now)) }
 {
     if is_group_refused(core, g.bytes()) {
         return send_name(core, alloc, from, g, 0);

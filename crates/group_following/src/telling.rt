@@ -1,8 +1,12 @@
 //! Telling clients that their requests are refused.
-ghost use Rattle.std.specs.Prelude.{◌≡◌, OnOk, map, length};
+ghost use Rattle.std.specs.Prelude.{◌≡◌, List, OnOk, map, length};
 ghost use Rattle.std.specs.List.{fold};
+ghost use Rattle.client_callbacks.specs.Handed.{Handed};
 ghost use Rattle.session_state.specs.State.{outstanding};
 ghost use Rattle.session_state.specs.HandOn.{is_numbered, telling_taken};
+ghost use Rattle.client_session.specs.Clients.{StandFor};
+ghost use Rattle.client_session.specs.Notices.{told_lists};
+ghost use Rattle.entry_handing.specs.Received.{Receive};
 ghost use Rattle.entry_handing.specs.Doing.{Does};
 ghost use Rattle.group_leading.specs.Working.{AtWork};
 ghost use Rattle.node_state.specs.Following.{tell_row};
@@ -25,7 +29,7 @@ fn is_outstanding(sessions: &SessionState, p: ProviderId, r: u32) -> bool
 }
 
 /// Tells the client of a live provider that its request is refused, which ends the request.
-#[tactic(auto, unfolding(session_state::specs::HandOn::telling_taken))]
+#[tactic(auto, unfolding(session_state::specs::HandOn::telling_taken, client_session::specs::Notices::told_lists))]
 fn tell_client<C: Callbacks>(
     sessions: &mut SessionState,
     clients: &mut Vec<C>,
@@ -37,6 +41,7 @@ fn tell_client<C: Callbacks>(
     ensures aligned { OnOk result (length clients.new.items ≡ length sessions.new.sessions) }
     ensures scripts { OnOk result (map C.script clients.new.items ≡ map C.script clients.old.items) }
     ensures state { OnOk result (sessions.new ≡ telling_taken sessions.old p r why) }
+    ensures stand { (hs : List (List Handed)) → StandFor C.stands_for clients.old.items hs → OnOk result (StandFor C.stands_for clients.new.items (told_lists sessions.old p r why hs)) }
 {
     if !sessions.takes_telling(p, r, why) {
         return Ok(());
@@ -48,7 +53,6 @@ fn tell_client<C: Callbacks>(
 }
 
 /// Tells a client that its outstanding request is refused, and records it.
-#[tactic(auto, unfolding(node_state::specs::Following::tell_row, node_state::specs::Following::told_if, node_state::specs::State::recorded, node_state::specs::State::with_sessions))]
 fn tell<C: Callbacks>(
     core: &mut Core,
     clients: &mut Vec<C>,
@@ -59,7 +63,7 @@ fn tell<C: Callbacks>(
     requires aligned { length clients.old.items ≡ length core.old.sessions.sessions }
     ensures aligned { OnOk result (length clients.new.items ≡ length core.new.sessions.sessions) }
     ensures scripts { OnOk result (map C.script clients.new.items ≡ map C.script clients.old.items) }
-    ensures row { OnOk result (core.new ≡ tell_row core.old p r why) }
+    ensures does { OnOk result (Does (map C.script clients.old.items) (Receive C.stands_for clients.old.items clients.new.items) core.old core.new (λ f. tell_row core.old p r why)) }
 {
     if !is_outstanding(&core.sessions, p, r) {
         return Ok(());
@@ -69,7 +73,6 @@ fn tell<C: Callbacks>(
 }
 
 /// Tells clients that these outstanding requests are refused.
-#[tactic(auto, using(std::proofs::lemmas::List::Sums::fold_more))]
 pub(crate) fn tell_each<C: Callbacks>(
     core: &mut Core,
     clients: &mut Vec<C>,
@@ -79,7 +82,7 @@ pub(crate) fn tell_each<C: Callbacks>(
     requires aligned { length clients.old.items ≡ length core.old.sessions.sessions }
     ensures aligned { OnOk result (length clients.new.items ≡ length core.new.sessions.sessions) }
     ensures scripts { OnOk result (map C.script clients.new.items ≡ map C.script clients.old.items) }
-    ensures row { OnOk result (core.new ≡ fold (λ t x. tell_row t x.0 x.1 why) core.old requests.now) }
+    ensures does { OnOk result (Does (map C.script clients.old.items) (Receive C.stands_for clients.old.items clients.new.items) core.old core.new (λ f. fold (λ t x. tell_row t x.0 x.1 why) core.old requests.now)) }
 {
     for (p, r) in requests {
         tell(core, clients, *p, *r, why)?;
@@ -99,7 +102,7 @@ pub fn take_tell<C: Callbacks>(
     requires work { AtWork core.old clients.old.items }
     ensures work { OnOk result (AtWork core.new clients.new.items) }
     ensures scripts { OnOk result (map C.script clients.new.items ≡ map C.script clients.old.items) }
-    ensures does { OnOk result (Does (map C.script clients.old.items) core.old core.new (λ f. tell_row core.old p r y)) }
+    ensures does { OnOk result (Does (map C.script clients.old.items) (Receive C.stands_for clients.old.items clients.new.items) core.old core.new (λ f. tell_row core.old p r y)) }
 {
     tell(core, clients, p, r, y)
 }

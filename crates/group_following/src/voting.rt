@@ -1,6 +1,7 @@
 //! Ballots that come to the leader of a group.
 ghost use Rattle.std.specs.Prelude.{◌≡◌, ◌&&◌, IfOk, OnOk, map, option_copied};
 ghost use Rattle.proposal_core.specs.Fold.{runs};
+ghost use Rattle.entry_handing.specs.Received.{Receive};
 ghost use Rattle.entry_handing.specs.Doing.{Does};
 ghost use Rattle.group_leading.specs.Working.{AtWork};
 ghost use Rattle.node_state.specs.State.{leads, state_of};
@@ -48,7 +49,7 @@ pub fn take_vote<C: Callbacks>(
     requires work { AtWork core.old clients.old.items }
     ensures work { OnOk result (AtWork core.new clients.new.items) }
     ensures scripts { OnOk result (map C.script clients.new.items ≡ map C.script clients.old.items) }
-    ensures does { OnOk result (Does (map C.script clients.old.items) core.old core.new (λ f. vote_row f core.old g.now proto phase p vote (option_copied value.entry) (option_copied message.entry))) }
+    ensures does { OnOk result (Does (map C.script clients.old.items) (Receive C.stands_for clients.old.items clients.new.items) core.old core.new (λ f. vote_row f core.old g.now proto phase p vote (option_copied value.entry) (option_copied message.entry))) }
 {
     if !takes_votes(core, g.bytes(), proto, phase) {
         return Ok(());

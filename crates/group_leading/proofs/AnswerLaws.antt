@@ -10,6 +10,7 @@ use Rattle.session_state.specs.declared.state.SessionState.{SessionState}
 use Rattle.session_state.specs.HandOn.{asks}
 use Rattle.node_state.specs.declared.state.Core.{Core}
 use Rattle.node_state.specs.HandOn.{Answering, answer_if}
+use Rattle.entry_handing.specs.Received.{Handing}
 use Rattle.entry_handing.specs.Doing.{Question, Agrees, Rise, Does}
 
 -- at the place of a question, what was filled there
@@ -37,5 +38,5 @@ agrees_some low high (q ∷ qs) r =
     )
 
 -- so what a row does is its definition for some answers
-pub does_some : (scripts : List (Option (List (Option VoteItem)))) (s t : Core) (row : Answering → Core) → Does scripts s t row → (f : Answering) × (t ≡ row f)
-does_some scripts s t row d = (answers_of d.asked, d.does (answers_of d.asked) (agrees_some (length s.records) (length t.records) d.asked d.placed))
+pub does_some : (scripts : List (Option (List (Option VoteItem)))) (P : List Handing → Type 0) (s t : Core) (row : Answering → Core) → Does scripts P s t row → (f : Answering) × (t ≡ row f)
+does_some scripts P s t row d = (answers_of d.asked, d.does (answers_of d.asked) (agrees_some (length s.records) (length t.records) d.asked d.placed))

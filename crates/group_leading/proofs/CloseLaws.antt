@@ -1,5 +1,5 @@
 -- What opening, closing and beginning do.
-use Rattle.std.proofs.Common.{◌≡◌, ℕ, zero, suc, ◌-◌, ◌<◌, Bool, true, false, ◌&&◌, List, Option, Some, None, refl, sym, ap, ◌∙◌, arith}
+use Rattle.std.proofs.Common.{◌≡◌, ℕ, zero, suc, ◌-◌, ◌<◌, Bool, true, false, ◌&&◌, List, [], Option, Some, None, refl, sym, ap, ◌∙◌, arith}
 use Rattle.group_entry.specs.declared.proposal.Proposal.{Proposal}
 use Rattle.group_entry.specs.declared.entry.Entry.{Entry}
 use Rattle.group_entry.specs.declared.entry.Entry.TheVariants.{Begin}
@@ -12,7 +12,8 @@ use Rattle.node_state.specs.State.{nothing_led, fits_at_end}
 use Rattle.node_state.specs.HandOn.{Answering}
 use Rattle.node_state.specs.Leading.{appended, tally_set, tally_opened, closing_entry, is_phase, closes_from, closes, begun_many}
 use Rattle.node_groups.specs.Keeps.{Keeps}
-use Rattle.entry_handing.specs.Doing.{Does}
+use Rattle.entry_handing.specs.Received.{Handing}
+use Rattle.entry_handing.specs.Doing.{Joins, Does}
 use Rattle.entry_handing.proofs.DoingLaws.{does_nothing, does_then, does_after, does_before, does_as}
 use Rattle.group_leading.specs.Closing.{next_closing, goes_on, closed_with, closed_if, closed_where}
 use Rattle.group_leading.proofs.WorkLaws.{keeps_follows}
@@ -28,31 +29,31 @@ pub nothing_led_closes : (run : Option Running) → None ≡ closing_entry nothi
 unfolding closing_entry
 nothing_led_closes run = refl
 
-pub closed_next : (scripts : List (Option (List (Option VoteItem)))) (s t u : Core) (g : List ℕ) (e : Entry) (opens : Bool) → opens ≡ true → Does scripts s t (λ f. appended f s g e) → u ≡ tally_opened t g → Keeps t u → Does scripts s u (λ f. closed_with f s g e opens)
+pub closed_next : (scripts : List (Option (List (Option VoteItem)))) (P : List Handing → Type 0) (s t u : Core) (g : List ℕ) (e : Entry) (opens : Bool) → opens ≡ true → Does scripts P s t (λ f. appended f s g e) → u ≡ tally_opened t g → Keeps t u → Does scripts P s u (λ f. closed_with f s g e opens)
 unfolding closed_with
-closed_next scripts s t u g e opens h appending opening keeps =
-    rw h (does_before scripts s t u (λ f. appended f s g e) (λ x. tally_opened x g) appending opening (keeps_follows t u keeps))
+closed_next scripts P s t u g e opens h appending opening keeps =
+    rw h (does_before scripts P s t u (λ f. appended f s g e) (λ x. tally_opened x g) appending opening (keeps_follows t u keeps))
 
-pub closed_last : (scripts : List (Option (List (Option VoteItem)))) (s t u : Core) (g : List ℕ) (e : Entry) (opens : Bool) → opens ≡ false → Does scripts s t (λ f. appended f s g e) → u ≡ tally_set t g None → Keeps t u → Does scripts s u (λ f. closed_with f s g e opens)
+pub closed_last : (scripts : List (Option (List (Option VoteItem)))) (P : List Handing → Type 0) (s t u : Core) (g : List ℕ) (e : Entry) (opens : Bool) → opens ≡ false → Does scripts P s t (λ f. appended f s g e) → u ≡ tally_set t g None → Keeps t u → Does scripts P s u (λ f. closed_with f s g e opens)
 unfolding closed_with
-closed_last scripts s t u g e opens h appending ending keeps =
-    rw h (does_before scripts s t u (λ f. appended f s g e) (λ x. tally_set x g None) appending ending (keeps_follows t u keeps))
+closed_last scripts P s t u g e opens h appending ending keeps =
+    rw h (does_before scripts P s t u (λ f. appended f s g e) (λ x. tally_set x g None) appending ending (keeps_follows t u keeps))
 
-pub closed_here : (scripts : List (Option (List (Option VoteItem)))) (s t : Core) (g : List ℕ) (e : Entry) (fits : Bool) → fits ≡ true → Does scripts s t (λ f. closed_with f s g e (is_phase e)) → Does scripts s t (λ f. closed_if f s g e fits)
+pub closed_here : (scripts : List (Option (List (Option VoteItem)))) (P : List Handing → Type 0) (s t : Core) (g : List ℕ) (e : Entry) (fits : Bool) → fits ≡ true → Does scripts P s t (λ f. closed_with f s g e (is_phase e)) → Does scripts P s t (λ f. closed_if f s g e fits)
 unfolding closed_if
-closed_here scripts s t g e fits h closing = rw h closing
+closed_here scripts P s t g e fits h closing = rw h closing
 
-pub closed_nowhere : (scripts : List (Option (List (Option VoteItem)))) (s : Core) (g : List ℕ) (e : Entry) (fits : Bool) → fits ≡ false → Does scripts s s (λ f. closed_if f s g e fits)
+pub closed_nowhere : (scripts : List (Option (List (Option VoteItem)))) (P : List Handing → Type 0) → P [] → (s : Core) (g : List ℕ) (e : Entry) (fits : Bool) → fits ≡ false → Does scripts P s s (λ f. closed_if f s g e fits)
 unfolding closed_if
-closed_nowhere scripts s g e fits h = rw h (does_nothing scripts s)
+closed_nowhere scripts P p s g e fits h = rw h (does_nothing scripts P s p)
 
-pub closed_none : (scripts : List (Option (List (Option VoteItem)))) (s : Core) (g : List ℕ) (o : Option Entry) → None ≡ o → Does scripts s s (λ f. closed_where f s g o)
+pub closed_none : (scripts : List (Option (List (Option VoteItem)))) (P : List Handing → Type 0) → P [] → (s : Core) (g : List ℕ) (o : Option Entry) → None ≡ o → Does scripts P s s (λ f. closed_where f s g o)
 unfolding closed_where
-closed_none scripts s g o h = rw (← h) (does_nothing scripts s)
+closed_none scripts P p s g o h = rw (← h) (does_nothing scripts P s p)
 
-pub closed_some : (scripts : List (Option (List (Option VoteItem)))) (s t : Core) (g : List ℕ) (e : Entry) (o : Option Entry) → Some e ≡ o → Does scripts s t (λ f. closed_if f s g e (fits_at_end s g e)) → Does scripts s t (λ f. closed_where f s g o)
+pub closed_some : (scripts : List (Option (List (Option VoteItem)))) (P : List Handing → Type 0) (s t : Core) (g : List ℕ) (e : Entry) (o : Option Entry) → Some e ≡ o → Does scripts P s t (λ f. closed_if f s g e (fits_at_end s g e)) → Does scripts P s t (λ f. closed_where f s g o)
 unfolding closed_where
-closed_some scripts s t g e o h closing = rw (← h) closing
+closed_some scripts P s t g e o h closing = rw (← h) closing
 
 pub goes_nowhere : (s : Core) (g : List ℕ) (o : Option Entry) → None ≡ o → false ≡ goes_on s g o
 unfolding goes_on
@@ -95,33 +96,33 @@ unfolding closes_from
 closes_at zero f s g lt = absurd (omega arith)
 closes_at (suc n) f s g lt = let less : suc n - 1 ≡ n = omega arith in rw less (after_entry n f s g (next_closing s g))
 
-pub no_phase : (scripts : List (Option (List (Option VoteItem)))) (s : Core) (g : List ℕ) (n : ℕ) → n ≡ 0 → Does scripts s s (λ f. closes_from n f s g)
+pub no_phase : (scripts : List (Option (List (Option VoteItem)))) (P : List Handing → Type 0) → P [] → (s : Core) (g : List ℕ) (n : ℕ) → n ≡ 0 → Does scripts P s s (λ f. closes_from n f s g)
 unfolding closes_from
-no_phase scripts s g n h = rw h (does_nothing scripts s)
+no_phase scripts P p s g n h = rw h (does_nothing scripts P s p)
 
-pub last_phase : (scripts : List (Option (List (Option VoteItem)))) (s t : Core) (g : List ℕ) (n : ℕ) → 0 < n → goes_on s g (next_closing s g) ≡ false → Does scripts s t (λ f. closed_where f s g (next_closing s g)) → Does scripts s t (λ f. closes_from n f s g)
-last_phase scripts s t g n lt last closing =
-    does_as scripts s t (λ f. closed_where f s g (next_closing s g)) (λ f. closes_from n f s g) (λ f. sym (closes_at n f s g lt ∙ ap (closes_after (n - 1) f s g (next_closing s g)) last)) closing
+pub last_phase : (scripts : List (Option (List (Option VoteItem)))) (P : List Handing → Type 0) (s t : Core) (g : List ℕ) (n : ℕ) → 0 < n → goes_on s g (next_closing s g) ≡ false → Does scripts P s t (λ f. closed_where f s g (next_closing s g)) → Does scripts P s t (λ f. closes_from n f s g)
+last_phase scripts P s t g n lt last closing =
+    does_as scripts P s t (λ f. closed_where f s g (next_closing s g)) (λ f. closes_from n f s g) (λ f. sym (closes_at n f s g lt ∙ ap (closes_after (n - 1) f s g (next_closing s g)) last)) closing
 
-pub next_phase : (scripts : List (Option (List (Option VoteItem)))) (s t u : Core) (g : List ℕ) (n : ℕ) → 0 < n → goes_on s g (next_closing s g) ≡ true → Does scripts s t (λ f. closed_where f s g (next_closing s g)) → Does scripts t u (λ f. closes_from (n - 1) f t g)
-    → Does scripts s u (λ f. closes_from n f s g)
-next_phase scripts s t u g n lt opens closing next =
-    does_as scripts s u (λ f. closes_from (n - 1) f (closed_where f s g (next_closing s g)) g) (λ f. closes_from n f s g) (λ f. sym (closes_at n f s g lt ∙ ap (closes_after (n - 1) f s g (next_closing s g)) opens))
-    (does_then scripts s t u (λ f. closed_where f s g (next_closing s g)) (λ f x. closes_from (n - 1) f x g) closing next)
+pub next_phase : (scripts : List (Option (List (Option VoteItem)))) (P Q W : List Handing → Type 0) → Joins P Q W → (s t u : Core) (g : List ℕ) (n : ℕ) → 0 < n → goes_on s g (next_closing s g) ≡ true → Does scripts P s t (λ f. closed_where f s g (next_closing s g)) → Does scripts Q t u (λ f. closes_from (n - 1) f t g)
+    → Does scripts W s u (λ f. closes_from n f s g)
+next_phase scripts P Q W join s t u g n lt opens closing next =
+    does_as scripts W s u (λ f. closes_from (n - 1) f (closed_where f s g (next_closing s g)) g) (λ f. closes_from n f s g) (λ f. sym (closes_at n f s g lt ∙ ap (closes_after (n - 1) f s g (next_closing s g)) opens))
+    (does_then scripts P Q W join s t u (λ f. closed_where f s g (next_closing s g)) (λ f x. closes_from (n - 1) f x g) closing next)
 
 -- ---- beginning
 
-pub opened_does : (scripts : List (Option (List (Option VoteItem)))) (s t u w : Core) (g : List ℕ) (e : Entry) → Does scripts s t (λ f. appended f s g e) → u ≡ tally_opened t g → Keeps t u → Does scripts u w (λ f. closes f u g)
-    → Does scripts s w (λ f. closes f (tally_opened (appended f s g e) g) g)
-opened_does scripts s t u w g e appending opening keeps closing =
-    let next : Does scripts t w (λ f. closes f (tally_opened t g) g) =
-    does_as scripts t w (λ f. closes f u g) (λ f. closes f (tally_opened t g) g) (λ f. ap (λ (x : Core). closes f x g) opening) (does_after scripts t u w (λ f. closes f u g) (keeps_follows t u keeps) closing) in
-    does_then scripts s t w (λ f. appended f s g e) (λ f x. closes f (tally_opened x g) g) appending next
+pub opened_does : (scripts : List (Option (List (Option VoteItem)))) (P Q W : List Handing → Type 0) → Joins P Q W → (s t u w : Core) (g : List ℕ) (e : Entry) → Does scripts P s t (λ f. appended f s g e) → u ≡ tally_opened t g → Keeps t u → Does scripts Q u w (λ f. closes f u g)
+    → Does scripts W s w (λ f. closes f (tally_opened (appended f s g e) g) g)
+opened_does scripts P Q W join s t u w g e appending opening keeps closing =
+    let next : Does scripts Q t w (λ f. closes f (tally_opened t g) g) =
+    does_as scripts Q t w (λ f. closes f u g) (λ f. closes f (tally_opened t g) g) (λ f. ap (λ (x : Core). closes f x g) opening) (does_after scripts Q t u w (λ f. closes f u g) (keeps_follows t u keeps) closing) in
+    does_then scripts P Q W join s t w (λ f. appended f s g e) (λ f x. closes f (tally_opened x g) g) appending next
 
-pub begun_where : (scripts : List (Option (List (Option VoteItem)))) (s t : Core) (g : List ℕ) (x : Proposal) (fits : Bool) → fits ≡ true → Does scripts s t (λ f. closes f (tally_opened (appended f s g (Begin x)) g) g) → Does scripts s t (λ f. begun_many f s g x fits)
+pub begun_where : (scripts : List (Option (List (Option VoteItem)))) (P : List Handing → Type 0) (s t : Core) (g : List ℕ) (x : Proposal) (fits : Bool) → fits ≡ true → Does scripts P s t (λ f. closes f (tally_opened (appended f s g (Begin x)) g) g) → Does scripts P s t (λ f. begun_many f s g x fits)
 unfolding begun_many
-begun_where scripts s t g x fits h d = rw h d
+begun_where scripts P s t g x fits h d = rw h d
 
-pub begun_nowhere : (scripts : List (Option (List (Option VoteItem)))) (s : Core) (g : List ℕ) (x : Proposal) (fits : Bool) → fits ≡ false → Does scripts s s (λ f. begun_many f s g x fits)
+pub begun_nowhere : (scripts : List (Option (List (Option VoteItem)))) (P : List Handing → Type 0) → P [] → (s : Core) (g : List ℕ) (x : Proposal) (fits : Bool) → fits ≡ false → Does scripts P s s (λ f. begun_many f s g x fits)
 unfolding begun_many
-begun_nowhere scripts s g x fits h = rw h (does_nothing scripts s)
+begun_nowhere scripts P p s g x fits h = rw h (does_nothing scripts P s p)

@@ -17,6 +17,7 @@ use Rattle.node_state.specs.State.{frozen, recorded_all, with_sessions}
 use Rattle.node_state.specs.Sending.{sent_on, sent, sent_if_known}
 use Rattle.node_state.specs.HandOn.{Answering, notes, noted, ballot_sent, cast_sent_of, casts_sent, handed_on}
 use Rattle.node_groups.specs.Places.{InNameOrder}
+use Rattle.entry_handing.specs.Received.{Handing}
 use Rattle.entry_handing.specs.Doing.{Does}
 use Rattle.group_leading.proofs.AnswerLaws.{does_some}
 
@@ -63,8 +64,8 @@ handed_groups : (f : Answering) (s : Core) (to : Option ℕ) (g : List ℕ) (i :
 unfolding handed_on with_sessions recorded_all
 handed_groups f s to g i before after e = casts_groups _ g to _ ∙ noted_groups (record s { records = _ }) g i before after
 
-pub handed_order : (scripts : List (Option (List (Option VoteItem)))) (s t : Core) (to : Option ℕ) (g : List ℕ) (i : ℕ) (before after : GroupState) (e : Entry)
-    → Does scripts s t (λ f. handed_on f s to g i before after e) → InNameOrder s.groups → InNameOrder t.groups
-handed_order scripts s t to g i before after e d o =
-    let some = does_some scripts s t (λ f. handed_on f s to g i before after e) d in
+pub handed_order : (scripts : List (Option (List (Option VoteItem)))) (P : List Handing → Type 0) (s t : Core) (to : Option ℕ) (g : List ℕ) (i : ℕ) (before after : GroupState) (e : Entry)
+    → Does scripts P s t (λ f. handed_on f s to g i before after e) → InNameOrder s.groups → InNameOrder t.groups
+handed_order scripts P s t to g i before after e d o =
+    let some = does_some scripts P s t (λ f. handed_on f s to g i before after e) d in
     subst (λ (rows : List GroupRow). InNameOrder rows) (sym (ap (λ (x : Core). x.groups) some.1 ∙ handed_groups some.0 s to g i before after e)) o

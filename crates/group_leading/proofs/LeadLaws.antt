@@ -16,6 +16,7 @@ use Rattle.node_state.specs.HandOn.{handed_on}
 use Rattle.node_state.specs.Leading.{put, put_and_handed, forgets_least, with_waiting, waits_if, new_members_wait, appended, appended_if}
 use Rattle.node_groups.specs.Keeps.{Keeps}
 use Rattle.node_groups.proofs.KeepLaws.{keeps_itself, keeps_then, keeps_as, led_keeps, sent_keeps}
+use Rattle.entry_handing.specs.Received.{Handing}
 use Rattle.entry_handing.specs.Doing.{Does, Ready}
 use Rattle.entry_handing.proofs.DoingLaws.{does_nothing, does_after, does_before, does_as}
 use Rattle.group_leading.specs.Appending.{sent_and_handed, append_finished}
@@ -70,51 +71,51 @@ new_members_keeps s g before after = each_waits_keeps s g (among after.failed) (
 
 -- ---- putting and appending
 
-pub handed_work : {C : Type 0} (scripts : List (Option (List (Option VoteItem)))) (s t : Core) (cs ds : List C) (to : Option ℕ) (g : List ℕ) (i : ℕ) (before after : GroupState) (e : Entry) → AtWork s cs
-    → Ready t ds × Does scripts s t (λ f. handed_on f s to g i before after e) → AtWork t ds
-handed_work scripts s t cs ds to g i before after e work handing =
-    record { ready = handing.0; order = handed_order scripts s t to g i before after e handing.1 work.order }
+pub handed_work : {C : Type 0} (scripts : List (Option (List (Option VoteItem)))) (P : List Handing → Type 0) (s t : Core) (cs ds : List C) (to : Option ℕ) (g : List ℕ) (i : ℕ) (before after : GroupState) (e : Entry) → AtWork s cs
+    → Ready t ds × Does scripts P s t (λ f. handed_on f s to g i before after e) → AtWork t ds
+handed_work scripts P s t cs ds to g i before after e work handing =
+    record { ready = handing.0; order = handed_order scripts P s t to g i before after e handing.1 work.order }
 
-pub put_and_handed_does : (scripts : List (Option (List (Option VoteItem)))) (s t u : Core) (to : Option ℕ) (g : List ℕ) (e : Entry) (i : ℕ) (before : GroupState) → t ≡ put s g e → Keeps s t → i ≡ len_of s g → before ≡ state_of s g
-    → Does scripts t u (λ f. handed_on f t to g i before (state_of t g) e) → Does scripts s u (λ f. put_and_handed f s to g e)
+pub put_and_handed_does : (scripts : List (Option (List (Option VoteItem)))) (P : List Handing → Type 0) (s t u : Core) (to : Option ℕ) (g : List ℕ) (e : Entry) (i : ℕ) (before : GroupState) → t ≡ put s g e → Keeps s t → i ≡ len_of s g → before ≡ state_of s g
+    → Does scripts P t u (λ f. handed_on f t to g i before (state_of t g) e) → Does scripts P s u (λ f. put_and_handed f s to g e)
 unfolding put_and_handed
-put_and_handed_does scripts s t u to g e i before putting keeps at old handing =
-    does_as scripts s u (λ f. handed_on f t to g i before (state_of t g) e) (λ f. put_and_handed f s to g e) (λ f. rw (putting, at, old) refl)
-    (does_after scripts s t u (λ f. handed_on f t to g i before (state_of t g) e) (keeps_follows s t keeps) handing)
+put_and_handed_does scripts P s t u to g e i before putting keeps at old handing =
+    does_as scripts P s u (λ f. handed_on f t to g i before (state_of t g) e) (λ f. put_and_handed f s to g e) (λ f. rw (putting, at, old) refl)
+    (does_after scripts P s t u (λ f. handed_on f t to g i before (state_of t g) e) (keeps_follows s t keeps) handing)
 
 pub sent_keeps_as : (s t : Core) (ns : List ℕ) (b : Body) → t ≡ sent_all s ns b → Keeps s t
 sent_keeps_as s t ns b sending = keeps_as s (sent_all s ns b) t sending (sent_all_keeps s ns b)
 
-pub sent_and_handed_does : (scripts : List (Option (List (Option VoteItem)))) (s t u : Core) (g : List ℕ) (i : ℕ) (before after : GroupState) (e : Entry) → t ≡ sent_all s (others s) (body.Entry s.views.view g i (least_acked s g) e)
-    → Does scripts t u (λ f. handed_on f t (leader_of t g) g i before after e) → Does scripts s u (λ f. sent_and_handed f s g i before after e)
+pub sent_and_handed_does : (scripts : List (Option (List (Option VoteItem)))) (P : List Handing → Type 0) (s t u : Core) (g : List ℕ) (i : ℕ) (before after : GroupState) (e : Entry) → t ≡ sent_all s (others s) (body.Entry s.views.view g i (least_acked s g) e)
+    → Does scripts P t u (λ f. handed_on f t (leader_of t g) g i before after e) → Does scripts P s u (λ f. sent_and_handed f s g i before after e)
 unfolding sent_and_handed
-sent_and_handed_does scripts s t u g i before after e sending handing =
-    does_as scripts s u (λ f. handed_on f t (leader_of t g) g i before after e) (λ f. sent_and_handed f s g i before after e) (λ f. rw sending refl)
-    (does_after scripts s t u (λ f. handed_on f t (leader_of t g) g i before after e) (keeps_follows s t (sent_keeps_as s t _ _ sending)) handing)
+sent_and_handed_does scripts P s t u g i before after e sending handing =
+    does_as scripts P s u (λ f. handed_on f t (leader_of t g) g i before after e) (λ f. sent_and_handed f s g i before after e) (λ f. rw sending refl)
+    (does_after scripts P s t u (λ f. handed_on f t (leader_of t g) g i before after e) (keeps_follows s t (sent_keeps_as s t _ _ sending)) handing)
 
 pub waiting_keeps : (s t u : Core) (g : List ℕ) (before after : GroupState) → Keeps s t → u ≡ new_members_wait t g before after → Keeps s u
 waiting_keeps s t u g before after forgets waiting = keeps_then s t u forgets (keeps_as t (new_members_wait t g before after) u waiting (new_members_keeps t g before after))
 
-pub append_finished_does : (scripts : List (Option (List (Option VoteItem)))) (s t u w : Core) (g : List ℕ) (i : ℕ) (before after : GroupState) (e : Entry) → after ≡ state_of s g → Does scripts s t (λ f. sent_and_handed f s g i before after e)
-    → u ≡ forgets_least t g → Keeps t u → w ≡ new_members_wait u g before after → Does scripts s w (λ f. append_finished f s g i before e)
+pub append_finished_does : (scripts : List (Option (List (Option VoteItem)))) (P : List Handing → Type 0) (s t u w : Core) (g : List ℕ) (i : ℕ) (before after : GroupState) (e : Entry) → after ≡ state_of s g → Does scripts P s t (λ f. sent_and_handed f s g i before after e)
+    → u ≡ forgets_least t g → Keeps t u → w ≡ new_members_wait u g before after → Does scripts P s w (λ f. append_finished f s g i before e)
 unfolding append_finished
-append_finished_does scripts s t u w g i before after e new handing forgetting forgets waiting =
+append_finished_does scripts P s t u w g i before after e new handing forgetting forgets waiting =
     let behind : w ≡ new_members_wait (forgets_least t g) g before after = waiting ∙ ap (λ (x : Core). new_members_wait x g before after) forgetting in
     rw (← new)
-    (does_before scripts s t w (λ f. sent_and_handed f s g i before after e) (λ x. new_members_wait (forgets_least x g) g before after) handing behind (keeps_follows t w (waiting_keeps t u w g before after forgets waiting)))
+    (does_before scripts P s t w (λ f. sent_and_handed f s g i before after e) (λ x. new_members_wait (forgets_least x g) g before after) handing behind (keeps_follows t w (waiting_keeps t u w g before after forgets waiting)))
 
-pub appended_does : (scripts : List (Option (List (Option VoteItem)))) (s t u : Core) (g : List ℕ) (e : Entry) (i : ℕ) (before : GroupState) → t ≡ put s g e → Keeps s t → i ≡ len_of s g → before ≡ state_of s g
-    → Does scripts t u (λ f. append_finished f t g i before e) → Does scripts s u (λ f. appended f s g e)
+pub appended_does : (scripts : List (Option (List (Option VoteItem)))) (P : List Handing → Type 0) (s t u : Core) (g : List ℕ) (e : Entry) (i : ℕ) (before : GroupState) → t ≡ put s g e → Keeps s t → i ≡ len_of s g → before ≡ state_of s g
+    → Does scripts P t u (λ f. append_finished f t g i before e) → Does scripts P s u (λ f. appended f s g e)
 unfolding appended append_finished sent_and_handed
-appended_does scripts s t u g e i before putting keeps at old finishing =
-    does_as scripts s u (λ f. append_finished f t g i before e) (λ f. appended f s g e) (λ f. rw (putting, at, old) refl)
-    (does_after scripts s t u (λ f. append_finished f t g i before e) (keeps_follows s t keeps) finishing)
+appended_does scripts P s t u g e i before putting keeps at old finishing =
+    does_as scripts P s u (λ f. append_finished f t g i before e) (λ f. appended f s g e) (λ f. rw (putting, at, old) refl)
+    (does_after scripts P s t u (λ f. append_finished f t g i before e) (keeps_follows s t keeps) finishing)
 
 -- where it fits, and where it does not
-pub appended_where : (scripts : List (Option (List (Option VoteItem)))) (s t : Core) (g : List ℕ) (e : Entry) (fits : Bool) → fits ≡ true → Does scripts s t (λ f. appended f s g e) → Does scripts s t (λ f. appended_if f s g e fits)
+pub appended_where : (scripts : List (Option (List (Option VoteItem)))) (P : List Handing → Type 0) (s t : Core) (g : List ℕ) (e : Entry) (fits : Bool) → fits ≡ true → Does scripts P s t (λ f. appended f s g e) → Does scripts P s t (λ f. appended_if f s g e fits)
 unfolding appended_if
-appended_where scripts s t g e fits h d = rw h d
+appended_where scripts P s t g e fits h d = rw h d
 
-pub appended_nowhere : (scripts : List (Option (List (Option VoteItem)))) (s : Core) (g : List ℕ) (e : Entry) (fits : Bool) → fits ≡ false → Does scripts s s (λ f. appended_if f s g e fits)
+pub appended_nowhere : (scripts : List (Option (List (Option VoteItem)))) (P : List Handing → Type 0) → P [] → (s : Core) (g : List ℕ) (e : Entry) (fits : Bool) → fits ≡ false → Does scripts P s s (λ f. appended_if f s g e fits)
 unfolding appended_if
-appended_nowhere scripts s g e fits h = rw h (does_nothing scripts s)
+appended_nowhere scripts P p s g e fits h = rw h (does_nothing scripts P s p)

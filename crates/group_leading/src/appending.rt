@@ -6,6 +6,7 @@ ghost use Rattle.node_state.specs.State.{state_of, fits_at_end, others, least_ac
 ghost use Rattle.node_state.specs.Sending.{sent_all};
 ghost use Rattle.node_state.specs.Leading.{put_and_handed, appended, appended_if};
 ghost use Rattle.node_state.specs.HandOn.{handed_on};
+ghost use Rattle.entry_handing.specs.Received.{Receive};
 ghost use Rattle.entry_handing.specs.Doing.{Does};
 ghost use Rattle.group_leading.specs.Appending.{sent_and_handed, append_finished};
 ghost use Rattle.group_leading.specs.Working.{AtWork};
@@ -71,7 +72,7 @@ fn hand<C: Callbacks>(
     requires joiners { IsTrue (joiners_fit after.now) }
     ensures work { OnOk result (AtWork core.new clients.new.items) }
     ensures scripts { OnOk result (map C.script clients.new.items ≡ map C.script clients.old.items) }
-    ensures does { OnOk result (Does (map C.script clients.old.items) core.old core.new (λ f. handed_on f core.old to g.now place before.now after.now e.now)) }
+    ensures does { OnOk result (Does (map C.script clients.old.items) (Receive C.stands_for clients.old.items clients.new.items) core.old core.new (λ f. handed_on f core.old to g.now place before.now after.now e.now)) }
 {
     let voters = after.voters(alloc)?;
     let n = NewEntry {
@@ -99,7 +100,7 @@ fn hand_put<C: Callbacks>(
     requires work { AtWork core.old clients.old.items }
     ensures work { OnOk result (AtWork core.new clients.new.items) }
     ensures scripts { OnOk result (map C.script clients.new.items ≡ map C.script clients.old.items) }
-    ensures does { OnOk result (Does (map C.script clients.old.items) core.old core.new (λ f. handed_on f core.old to g.now place before.now (state_of core.old g.now) e.now)) }
+    ensures does { OnOk result (Does (map C.script clients.old.items) (Receive C.stands_for clients.old.items clients.new.items) core.old core.new (λ f. handed_on f core.old to g.now place before.now (state_of core.old g.now) e.now)) }
 {
     let after = state_of(core, alloc, g.bytes())?;
     hand(core, clients, alloc, to, g, place, e, before, &after)
@@ -118,7 +119,7 @@ pub fn put_and_hand<C: Callbacks>(
     requires fits { IsTrue (fits_at_end core.old g.now e.now) }
     ensures work { OnOk result (AtWork core.new clients.new.items) }
     ensures scripts { OnOk result (map C.script clients.new.items ≡ map C.script clients.old.items) }
-    ensures does { OnOk result (Does (map C.script clients.old.items) core.old core.new (λ f. put_and_handed f core.old to g.now e.now)) }
+    ensures does { OnOk result (Does (map C.script clients.old.items) (Receive C.stands_for clients.old.items clients.new.items) core.old core.new (λ f. put_and_handed f core.old to g.now e.now)) }
 {
     let place = len_of(core, g.bytes());
     let before = state_of(core, alloc, g.bytes())?;
@@ -141,7 +142,7 @@ fn send_and_hand<C: Callbacks>(
     requires joiners { IsTrue (joiners_fit after.now) }
     ensures work { OnOk result (AtWork core.new clients.new.items) }
     ensures scripts { OnOk result (map C.script clients.new.items ≡ map C.script clients.old.items) }
-    ensures does { OnOk result (Does (map C.script clients.old.items) core.old core.new (λ f. sent_and_handed f core.old g.now place before.now after.now e.now)) }
+    ensures does { OnOk result (Does (map C.script clients.old.items) (Receive C.stands_for clients.old.items clients.new.items) core.old core.new (λ f. sent_and_handed f core.old g.now place before.now after.now e.now)) }
 {
     send_entry_to_others(core, alloc, g, place, e)?;
     let leader = leader_of(core, g.bytes());
@@ -162,7 +163,7 @@ fn finish_append<C: Callbacks>(
     requires work { AtWork core.old clients.old.items }
     ensures work { OnOk result (AtWork core.new clients.new.items) }
     ensures scripts { OnOk result (map C.script clients.new.items ≡ map C.script clients.old.items) }
-    ensures does { OnOk result (Does (map C.script clients.old.items) core.old core.new (λ f. append_finished f core.old g.now place before.now e.now)) }
+    ensures does { OnOk result (Does (map C.script clients.old.items) (Receive C.stands_for clients.old.items clients.new.items) core.old core.new (λ f. append_finished f core.old g.now place before.now e.now)) }
 {
     let after = state_of(core, alloc, g.bytes())?;
     send_and_hand(core, clients, alloc, g, place, e, before, &after)?;
@@ -182,7 +183,7 @@ pub fn append<C: Callbacks>(
     requires fits { IsTrue (fits_at_end core.old g.now e.now) }
     ensures work { OnOk result (AtWork core.new clients.new.items) }
     ensures scripts { OnOk result (map C.script clients.new.items ≡ map C.script clients.old.items) }
-    ensures does { OnOk result (Does (map C.script clients.old.items) core.old core.new (λ f. appended f core.old g.now e.now)) }
+    ensures does { OnOk result (Does (map C.script clients.old.items) (Receive C.stands_for clients.old.items clients.new.items) core.old core.new (λ f. appended f core.old g.now e.now)) }
 {
     let place = len_of(core, g.bytes());
     let before = state_of(core, alloc, g.bytes())?;
@@ -201,7 +202,7 @@ pub fn append_if_fits<C: Callbacks>(
     requires work { AtWork core.old clients.old.items }
     ensures work { OnOk result (AtWork core.new clients.new.items) }
     ensures scripts { OnOk result (map C.script clients.new.items ≡ map C.script clients.old.items) }
-    ensures does { OnOk result (Does (map C.script clients.old.items) core.old core.new (λ f. appended_if f core.old g.now e.now (fits_at_end core.old g.now e.now))) }
+    ensures does { OnOk result (Does (map C.script clients.old.items) (Receive C.stands_for clients.old.items clients.new.items) core.old core.new (λ f. appended_if f core.old g.now e.now (fits_at_end core.old g.now e.now))) }
 {
     if fits_at_end(core, alloc, g.bytes(), e) {
         return append(core, clients, alloc, g, e);

@@ -3,6 +3,7 @@ ghost use Rattle.std.specs.Prelude.{◌≡◌, OnOk, IsTrue, map};
 ghost use Rattle.group_entry.specs.declared.entry.Entry.TheVariants as entry;
 ghost use Rattle.node_state.specs.State.{fits_at_end};
 ghost use Rattle.node_state.specs.Leading.{appended, appended_if, tally_opened, closes, begun_many, begins};
+ghost use Rattle.entry_handing.specs.Received.{Receive};
 ghost use Rattle.entry_handing.specs.Doing.{Does};
 ghost use Rattle.group_leading.specs.Working.{AtWork};
 
@@ -28,7 +29,7 @@ fn open_phase<C: Callbacks>(
     requires fits { IsTrue (fits_at_end core.old g.now e.now) }
     ensures work { OnOk result (AtWork core.new clients.new.items) }
     ensures scripts { OnOk result (map C.script clients.new.items ≡ map C.script clients.old.items) }
-    ensures does { OnOk result (Does (map C.script clients.old.items) core.old core.new (λ f. closes f (tally_opened (appended f core.old g.now e.now) g.now) g.now)) }
+    ensures does { OnOk result (Does (map C.script clients.old.items) (Receive C.stands_for clients.old.items clients.new.items) core.old core.new (λ f. closes f (tally_opened (appended f core.old g.now e.now) g.now) g.now)) }
 {
     append(core, clients, alloc, g, e)?;
     open_tally(core, alloc, g)?;
@@ -46,7 +47,7 @@ fn begin_many<C: Callbacks>(
     requires work { AtWork core.old clients.old.items }
     ensures work { OnOk result (AtWork core.new clients.new.items) }
     ensures scripts { OnOk result (map C.script clients.new.items ≡ map C.script clients.old.items) }
-    ensures does { OnOk result (Does (map C.script clients.old.items) core.old core.new (λ f. begun_many f core.old g.now x.now (fits_at_end core.old g.now (entry.Begin x.now)))) }
+    ensures does { OnOk result (Does (map C.script clients.old.items) (Receive C.stands_for clients.old.items clients.new.items) core.old core.new (λ f. begun_many f core.old g.now x.now (fits_at_end core.old g.now (entry.Begin x.now)))) }
 {
     let e = Entry::Begin(x.copy(alloc)?);
     if fits_at_end(core, alloc, g.bytes(), &e) {
@@ -66,7 +67,7 @@ fn begin_once<C: Callbacks>(
     requires work { AtWork core.old clients.old.items }
     ensures work { OnOk result (AtWork core.new clients.new.items) }
     ensures scripts { OnOk result (map C.script clients.new.items ≡ map C.script clients.old.items) }
-    ensures does { OnOk result (Does (map C.script clients.old.items) core.old core.new (λ f. appended_if f core.old g.now (entry.Once x.now) (fits_at_end core.old g.now (entry.Once x.now)))) }
+    ensures does { OnOk result (Does (map C.script clients.old.items) (Receive C.stands_for clients.old.items clients.new.items) core.old core.new (λ f. appended_if f core.old g.now (entry.Once x.now) (fits_at_end core.old g.now (entry.Once x.now)))) }
 {
     let e = Entry::Once(x.copy(alloc)?);
     append_if_fits(core, clients, alloc, g, &e)
@@ -85,7 +86,7 @@ pub fn begin<C: Callbacks>(
     requires work { AtWork core.old clients.old.items }
     ensures work { OnOk result (AtWork core.new clients.new.items) }
     ensures scripts { OnOk result (map C.script clients.new.items ≡ map C.script clients.old.items) }
-    ensures does { OnOk result (Does (map C.script clients.old.items) core.old core.new (λ f. begins f core.old g.now x.now phases)) }
+    ensures does { OnOk result (Does (map C.script clients.old.items) (Receive C.stands_for clients.old.items clients.new.items) core.old core.new (λ f. begins f core.old g.now x.now phases)) }
 {
     match phases {
         Phases::One => begin_once(core, clients, alloc, g, x),

@@ -2,6 +2,7 @@
 ghost use Rattle.std.specs.Prelude.{◌≡◌, ◌&&◌, OnOk, IfOk, IsTrue, map};
 ghost use Rattle.node_state.specs.State.{fits_at_end};
 ghost use Rattle.node_state.specs.Leading.{tally_opened, is_phase, closes_from, closes};
+ghost use Rattle.entry_handing.specs.Received.{Receive};
 ghost use Rattle.entry_handing.specs.Doing.{Does};
 ghost use Rattle.node_groups.specs.Keeps.{Keeps};
 ghost use Rattle.group_leading.specs.Closing.{next_closing, goes_on, closed_with, closed_if, closed_where};
@@ -58,7 +59,7 @@ fn close_with<C: Callbacks>(
     ensures next { IfOk result (λ b. b ≡ is_phase e.now) }
     ensures work { OnOk result (AtWork core.new clients.new.items) }
     ensures scripts { OnOk result (map C.script clients.new.items ≡ map C.script clients.old.items) }
-    ensures does { OnOk result (Does (map C.script clients.old.items) core.old core.new (λ f. closed_with f core.old g.now e.now (is_phase e.now))) }
+    ensures does { OnOk result (Does (map C.script clients.old.items) (Receive C.stands_for clients.old.items clients.new.items) core.old core.new (λ f. closed_with f core.old g.now e.now (is_phase e.now))) }
 {
     append(core, clients, alloc, g, e)?;
     if is_phase(e) {
@@ -82,7 +83,7 @@ fn close_if_fits<C: Callbacks>(
     ensures next { IfOk result (λ b. b ≡ (fits_at_end core.old g.now e.now && is_phase e.now)) }
     ensures work { OnOk result (AtWork core.new clients.new.items) }
     ensures scripts { OnOk result (map C.script clients.new.items ≡ map C.script clients.old.items) }
-    ensures does { OnOk result (Does (map C.script clients.old.items) core.old core.new (λ f. closed_if f core.old g.now e.now (fits_at_end core.old g.now e.now))) }
+    ensures does { OnOk result (Does (map C.script clients.old.items) (Receive C.stands_for clients.old.items clients.new.items) core.old core.new (λ f. closed_if f core.old g.now e.now (fits_at_end core.old g.now e.now))) }
 {
     if fits_at_end(core, alloc, g.bytes(), e) {
         return close_with(core, clients, alloc, g, e);
@@ -101,7 +102,7 @@ fn close_one<C: Callbacks>(
     ensures next { IfOk result (λ b. b ≡ goes_on core.old g.now (next_closing core.old g.now)) }
     ensures work { OnOk result (AtWork core.new clients.new.items) }
     ensures scripts { OnOk result (map C.script clients.new.items ≡ map C.script clients.old.items) }
-    ensures does { OnOk result (Does (map C.script clients.old.items) core.old core.new (λ f. closed_where f core.old g.now (next_closing core.old g.now))) }
+    ensures does { OnOk result (Does (map C.script clients.old.items) (Receive C.stands_for clients.old.items clients.new.items) core.old core.new (λ f. closed_where f core.old g.now (next_closing core.old g.now))) }
 {
     match next_closing(core, alloc, g)? {
         None => Ok(false),
@@ -120,7 +121,7 @@ fn close_from<C: Callbacks>(
     requires { AtWork core.old clients.old.items }
     ensures work { OnOk result (AtWork core.new clients.new.items) }
     ensures scripts { OnOk result (map C.script clients.new.items ≡ map C.script clients.old.items) }
-    ensures does { OnOk result (Does (map C.script clients.old.items) core.old core.new (λ f. closes_from most f core.old g.now)) }
+    ensures does { OnOk result (Does (map C.script clients.old.items) (Receive C.stands_for clients.old.items clients.new.items) core.old core.new (λ f. closes_from most f core.old g.now)) }
 {
     if most == 0 {
         return Ok(());
@@ -143,7 +144,7 @@ pub fn close<C: Callbacks>(
     requires work { AtWork core.old clients.old.items }
     ensures work { OnOk result (AtWork core.new clients.new.items) }
     ensures scripts { OnOk result (map C.script clients.new.items ≡ map C.script clients.old.items) }
-    ensures does { OnOk result (Does (map C.script clients.old.items) core.old core.new (λ f. closes f core.old g.now)) }
+    ensures does { OnOk result (Does (map C.script clients.old.items) (Receive C.stands_for clients.old.items clients.new.items) core.old core.new (λ f. closes f core.old g.now)) }
 {
     close_from(core, clients, alloc, g, MAX_PHASES)
 }

@@ -1,5 +1,5 @@
 -- How the parts of an event come together.
-use Rattle.std.proofs.Common.{◌≡◌, ℕ, ◌≤◌, Bool, true, false, List, [], length, Option, Some, None, refl, sym, ap, subst, ◌∙◌, arith}
+use Rattle.std.proofs.Common.{◌≡◌, ℕ, ◌==◌, Bool, true, false, List, [], Option, Some, None, refl, sym, ap, subst, arith, ne_eqb}
 use Rattle.rsct_packet.specs.declared.mask.Mask.{Mask}
 use Rattle.client_callbacks.specs.declared.votes.VoteItem.{VoteItem}
 use Rattle.session_state.specs.declared.state.SessionState.{SessionState}
@@ -14,12 +14,14 @@ use Rattle.node_state.specs.Ending.{step_ended}
 use Rattle.node_state.specs.Calls.{call_row}
 use Rattle.node_state.specs.Bytes.{event_in}
 use Rattle.node_state.specs.Step.{Asks, Calls, order_row, packet_row, used_if, event_row, at_work, stepped}
-use Rattle.entry_handing.specs.Doing.{Does}
-use Rattle.entry_handing.proofs.DoingLaws.{does_then, does_plain, does_nothing, does_before, ready_same}
+use Rattle.entry_handing.specs.Received.{Handing}
+use Rattle.entry_handing.specs.Doing.{Joins, Does}
+use Rattle.entry_handing.proofs.DoingLaws.{does_then, does_plain, does_nothing, does_after, does_before, does_as, ready_same}
+use Rattle.node_groups.proofs.KeepLaws.{owners_themselves}
 use Rattle.node_groups.specs.Keeps.{Keeps}
 use Rattle.group_leading.specs.Working.{AtWork}
 use Rattle.group_leading.proofs.WorkLaws.{keeps_follows}
-use Rattle.node_step.specs.Event.{datagram_row}
+use Rattle.node_step.specs.Event.{called, datagram_row}
 
 abbrev Scripts : Type 0
 Scripts = List (Option (List (Option VoteItem)))
@@ -40,50 +42,67 @@ work_cleared s cs w = work_beside s (at_work s) cs refl refl w
 -- ---- rows
 
 -- a row of clients that vote by the same scripts
-pub does_by : (old new : Scripts) (s t : Core) (row : Answering → Core) → new ≡ old → Does new s t row → Does old s t row
-does_by old new s t row e d = subst (λ ss. Does ss s t row) e d
+pub does_by : (old new : Scripts) (P : List Handing → Type 0) (s t : Core) (row : Answering → Core) → new ≡ old → Does new P s t row → Does old P s t row
+does_by old new P s t row e d = subst (λ ss. Does ss P s t row) e d
 
--- a row that asks no client
-pub plain_does : (ss : Scripts) (s t k : Core) → t ≡ k → Keeps s t → Does ss s t (λ f. k)
-plain_does ss s t k e keeps = does_plain ss s t k e (keeps_follows s t keeps)
+-- a row that asks no client, and hands nothing to any
+pub plain_does : (ss : Scripts) (P : List Handing → Type 0) → P [] → (s t k : Core) → t ≡ k → Keeps s t → Does ss P s t (λ f. k)
+plain_does ss P p s t k e keeps = does_plain ss P s t k p e (keeps_follows s t keeps)
 
 -- a packet that is used, and one that is not
-pub used_does : (ss : Scripts) (s t : Core) (row : Answering → Core) (b : Bool) → b ≡ true → Does ss s t row → Does ss s t (λ f. used_if s (row f) b)
+pub used_does : (ss : Scripts) (P : List Handing → Type 0) (s t : Core) (row : Answering → Core) (b : Bool) → b ≡ true → Does ss P s t row → Does ss P s t (λ f. used_if s (row f) b)
 unfolding used_if
-used_does ss s t row b e d = subst (λ x. Does ss s t (λ f. used_if s (row f) x)) (sym e) d
+used_does ss P s t row b e d = subst (λ x. Does ss P s t (λ f. used_if s (row f) x)) (sym e) d
 
-pub unused_does : (ss : Scripts) (s : Core) (row : Answering → Core) (b : Bool) → b ≡ false → Does ss s s (λ f. used_if s (row f) b)
+pub unused_does : (ss : Scripts) (P : List Handing → Type 0) → P [] → (s : Core) (row : Answering → Core) (b : Bool) → b ≡ false → Does ss P s s (λ f. used_if s (row f) b)
 unfolding used_if
-unused_does ss s row b e = subst (λ x. Does ss s s (λ f. used_if s (row f) x)) (sym e) (does_nothing ss s)
+unused_does ss P p s row b e = subst (λ x. Does ss P s s (λ f. used_if s (row f) x)) (sym e) (does_nothing ss P s p)
+
+-- a packet for another node, and bytes that are no packet
+pub away_does : (ss : Scripts) (P : List Handing → Type 0) → P [] → (s : Core) (x : Packet) → (x.to ≡ s.views.me → ⊥) → Does ss P s s (λ f. packet_row f s x)
+unfolding packet_row
+away_does ss P p s x e = let away : (x.to == s.views.me) ≡ false = ne_eqb x.to s.views.me e in rw (packet_row, away) (does_nothing ss P s p)
+
+pub dropped_does : (ss : Scripts) (P : List Handing → Type 0) → P [] → (s : Core) (o : Option Packet) → o ≡ None → Does ss P s s (λ f. datagram_row f s o)
+unfolding datagram_row
+dropped_does ss P p s None e = does_nothing ss P s p
+dropped_does ss P p s (Some x) e = absurd cc
 
 pub sent_on_keeps : (s t : Core) (network to : ℕ) (b : Body) → t ≡ sent_on s network to b → Keeps s t
 unfolding sent_on
-sent_on_keeps s t network to b e = rw e (record { records = omega arith; sessions = (refl, refl); order = λ h. h })
+sent_on_keeps s t network to b e = rw e (record { records = omega arith; sessions = (refl, refl); order = λ h. h; handed = refl; owners = owners_themselves s.sessions })
 
 -- ---- events
 
-pub tick_does : (ss : Scripts) (s a b c d t : Core) → a ≡ rings_part s → Keeps s a → Does ss a b (λ f. views_part f a) → c ≡ owed_part b → Keeps b c → Does ss c d (λ f. led_part f c) → Does ss d t (λ f. step_ended f d) → Does ss s t (λ f. tick_row f s)
+pub tick_does : (ss : Scripts) (P Q V W X : List Handing → Type 0) → Joins P Q V → Joins V W X → (s a b c d t : Core) → a ≡ rings_part s → Keeps s a → Does ss P a b (λ f. views_part f a) → c ≡ owed_part b → Keeps b c → Does ss Q c d (λ f. led_part f c) → Does ss W d t (λ f. step_ended f d)
+    → Does ss X s t (λ f. tick_row f s)
 unfolding tick_row
-tick_does ss s a b c d t rings first views owed next led ends =
-    let one : Does ss s b (λ f. views_part f (rings_part s)) = does_then ss s a b (λ f. rings_part s) views_part (plain_does ss s a (rings_part s) rings first) views in
-    let two : Does ss s c (λ f. owed_part (views_part f (rings_part s))) = does_before ss s b c (λ f. views_part f (rings_part s)) owed_part one owed (keeps_follows b c next) in
-    let three : Does ss s d (λ f. led_part f (owed_part (views_part f (rings_part s)))) = does_then ss s c d (λ f. owed_part (views_part f (rings_part s))) led_part two led in
-    does_then ss s d t (λ f. led_part f (owed_part (views_part f (rings_part s)))) step_ended three ends
+tick_does ss P Q V W X first_two all s a b c d t rings first views owed next led ends =
+    let one : Does ss P s b (λ f. views_part f (rings_part s)) =
+    does_as ss P s b (λ f. views_part f a) (λ f. views_part f (rings_part s)) (λ f. ap (views_part f) rings) (does_after ss P s a b (λ f. views_part f a) (keeps_follows s a first) views) in
+    let two : Does ss P s c (λ f. owed_part (views_part f (rings_part s))) = does_before ss P s b c (λ f. views_part f (rings_part s)) owed_part one owed (keeps_follows b c next) in
+    let three : Does ss V s d (λ f. led_part f (owed_part (views_part f (rings_part s)))) = does_then ss P Q V first_two s c d (λ f. owed_part (views_part f (rings_part s))) led_part two led in
+    does_then ss V W X all s d t (λ f. led_part f (owed_part (views_part f (rings_part s)))) step_ended three ends
 
-pub order_does : (ss : Scripts) (s a t : Core) (mask : Mask) → Does ss s a (λ f. order_row f s mask) → Does ss a t (λ f. step_ended f a) → Does ss s t (λ f. event_row f s (Asks mask))
+pub order_does : (ss : Scripts) (P Q W : List Handing → Type 0) → Joins P Q W → (s a t : Core) (mask : Mask) → Does ss P s a (λ f. order_row f s mask) → Does ss Q a t (λ f. step_ended f a) → Does ss W s t (λ f. event_row f s (Asks mask))
 unfolding event_row
-order_does ss s a t mask first ends = does_then ss s a t (λ f. order_row f s mask) step_ended first ends
+order_does ss P Q W join s a t mask first ends = does_then ss P Q W join s a t (λ f. order_row f s mask) step_ended first ends
 
-pub datagram_does : (ss : Scripts) (s a t : Core) (p : Option Packet) → Does ss s a (λ f. datagram_row f s p) → Does ss a t (λ f. step_ended f a) → Does ss s t (λ f. event_row f s (event_in p))
+pub datagram_does : (ss : Scripts) (P Q W : List Handing → Type 0) → Joins P Q W → (s a t : Core) (p : Option Packet) → Does ss P s a (λ f. datagram_row f s p) → Does ss Q a t (λ f. step_ended f a) → Does ss W s t (λ f. event_row f s (event_in p))
 unfolding event_row datagram_row
-datagram_does ss s a t None first ends = does_then ss s a t (λ f. s) step_ended first ends
-datagram_does ss s a t (Some p) first ends = does_then ss s a t (λ f. packet_row f s p) step_ended first ends
+datagram_does ss P Q W join s a t None first ends = does_then ss P Q W join s a t (λ f. s) step_ended first ends
+datagram_does ss P Q W join s a t (Some p) first ends = does_then ss P Q W join s a t (λ f. packet_row f s p) step_ended first ends
 
-pub call_does : (ss : Scripts) (s a t : Core) (c : CallLine) → a ≡ call_row s c → Keeps s a → Does ss a t (λ f. step_ended f a) → Does ss s t (λ f. event_row f s (Calls c))
+-- no packet is a call
+pub received_does : (ss : Scripts) (P : List Handing → Type 0) (s t : Core) (p : Option Packet) → Does ss P s t (λ f. event_row f s (event_in p)) → Does ss P (called s (event_in p)) t (λ f. event_row f s (event_in p))
+received_does ss P s t None d = d
+received_does ss P s t (Some p) d = d
+
+pub call_does : (ss : Scripts) (P : List Handing → Type 0) (s a t : Core) (c : CallLine) → a ≡ call_row s c → Does ss P a t (λ f. step_ended f a) → Does ss P (call_row s c) t (λ f. event_row f s (Calls c))
 unfolding event_row
-call_does ss s a t c call keeps ends = does_then ss s a t (λ f. call_row s c) step_ended (plain_does ss s a (call_row s c) call keeps) ends
+call_does ss P s a t c call ends = subst (λ (x : Core). Does ss P x t (λ f. step_ended f x)) call ends
 
 -- the end of a step after a call that begins or ends a session
-pub session_does : (ss : Scripts) (s a t : Core) (c : CallLine) → a ≡ call_row (at_work s) c → Does ss a t (λ f. step_ended f a) → Does ss (call_row (at_work s) c) t (λ f. stepped f s (Calls c))
-unfolding stepped event_row
-session_does ss s a t c call ends = subst (λ (x : Core). Does ss x t (λ f. step_ended f x)) call ends
+pub session_does : (ss : Scripts) (P : List Handing → Type 0) (s a t : Core) (c : CallLine) → a ≡ call_row (at_work s) c → Does ss P a t (λ f. step_ended f a) → Does ss P (call_row (at_work s) c) t (λ f. stepped f s (Calls c))
+unfolding stepped
+session_does ss P s a t c call ends = call_does ss P (at_work s) a t c call ends

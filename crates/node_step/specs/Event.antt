@@ -1,9 +1,10 @@
 -- What happens to a node, in the words of its step.
-use Rattle.std.specs.Prelude.{Bool, true, List, Option, Some, None}
+use Rattle.std.specs.Prelude.{Bool, true, Option, Some, None}
 use Rattle.node_state.specs.declared.packet.Packet.{Packet}
 use Rattle.node_state.specs.declared.state.Core.{Core}
 use Rattle.node_state.specs.HandOn.{Answering}
 use Rattle.node_state.specs.Bytes.{event_of}
+use Rattle.node_state.specs.Calls.{call_row}
 use Rattle.node_state.specs.Step.{Ticks, Asks, Calls, packet_row}
 use Rattle.node_state.specs.Step as step
 use Rattle.session_calls.specs.Calling.{is_within_session}
@@ -20,6 +21,14 @@ event_in (event.Call c) = Calls c.now
 abbrev pub is_taken : NodeEvent → Bool
 is_taken (event.Call c) = is_within_session c.now
 is_taken _ = true
+
+-- the node when a call is taken, before any row hands something to a client
+abbrev pub called : Core → step.NodeEvent → Core
+called s Ticks = s
+called s (Asks mask) = s
+called s (step.Given p) = s
+called s step.Garbage = s
+called s (Calls c) = call_row s c
 
 -- what a datagram makes before the end of the step: bytes that are no packet make nothing
 unfoldable pub datagram_row : Answering → Core → Option Packet → Core

@@ -1,12 +1,14 @@
 //! What happens to a node, and what it makes of it.
 ghost use Rattle.std.specs.Prelude.{◌≡◌, OnOk, IsTrue, map};
+ghost use Rattle.entry_handing.specs.Received.{Receive};
 ghost use Rattle.entry_handing.specs.Doing.{Does};
 ghost use Rattle.group_leading.specs.Working.{AtWork};
 ghost use Rattle.node_state.specs.Bytes.{event_of};
 ghost use Rattle.node_state.specs.Ticks.{tick_row};
+ghost use Rattle.node_state.specs.Calls.{call_row};
 ghost use Rattle.node_state.specs.Step.{Asks, Calls, at_work, event_row, stepped};
 ghost use Rattle.session_calls.specs.Calling.{is_within_session};
-ghost use Rattle.node_step.specs.Event.{event_in, is_taken};
+ghost use Rattle.node_step.specs.Event.{called, event_in, is_taken};
 
 use crate::packets::take_datagram;
 use client_callbacks::Callbacks;
@@ -44,7 +46,7 @@ fn tick<C: Callbacks>(core: &mut Core, clients: &mut Vec<C>, alloc: Global) -> R
     requires work { AtWork core.old clients.old.items }
     ensures work { OnOk result (AtWork core.new clients.new.items) }
     ensures scripts { OnOk result (map C.script clients.new.items ≡ map C.script clients.old.items) }
-    ensures does { OnOk result (Does (map C.script clients.old.items) core.old core.new (λ f. tick_row f core.old)) }
+    ensures does { OnOk result (Does (map C.script clients.old.items) (Receive C.stands_for clients.old.items clients.new.items) core.old core.new (λ f. tick_row f core.old)) }
 {
     tick_rings(core, alloc)?;
     tick_views(core, clients, alloc)?;
@@ -63,7 +65,7 @@ fn obey<C: Callbacks>(
     requires work { AtWork core.old clients.old.items }
     ensures work { OnOk result (AtWork core.new clients.new.items) }
     ensures scripts { OnOk result (map C.script clients.new.items ≡ map C.script clients.old.items) }
-    ensures does { OnOk result (Does (map C.script clients.old.items) core.old core.new (λ f. event_row f core.old (Asks mask))) }
+    ensures does { OnOk result (Does (map C.script clients.old.items) (Receive C.stands_for clients.old.items clients.new.items) core.old core.new (λ f. event_row f core.old (Asks mask))) }
 {
     take_order(core, clients, alloc, mask)?;
     end_step(core, clients, alloc)
@@ -79,7 +81,7 @@ fn receive<C: Callbacks>(
     requires work { AtWork core.old clients.old.items }
     ensures work { OnOk result (AtWork core.new clients.new.items) }
     ensures scripts { OnOk result (map C.script clients.new.items ≡ map C.script clients.old.items) }
-    ensures does { OnOk result (Does (map C.script clients.old.items) core.old core.new (λ f. event_row f core.old (event_of bytes.now))) }
+    ensures does { OnOk result (Does (map C.script clients.old.items) (Receive C.stands_for clients.old.items clients.new.items) core.old core.new (λ f. event_row f core.old (event_of bytes.now))) }
 {
     take_datagram(core, clients, alloc, bytes)?;
     end_step(core, clients, alloc)
@@ -97,7 +99,7 @@ fn answer<C: Callbacks>(
     requires work { AtWork core.old clients.old.items }
     ensures work { OnOk result (AtWork core.new clients.new.items) }
     ensures scripts { OnOk result (map C.script clients.new.items ≡ map C.script clients.old.items) }
-    ensures does { OnOk result (Does (map C.script clients.old.items) core.old core.new (λ f. event_row f core.old (Calls c.now))) }
+    ensures does { OnOk result (Does (map C.script clients.old.items) (Receive C.stands_for clients.old.items clients.new.items) (call_row core.old c.now) core.new (λ f. event_row f core.old (Calls c.now))) }
 {
     take_call(core, alloc, c)?;
     end_step(core, clients, alloc)
@@ -114,7 +116,7 @@ fn take_cleared<C: Callbacks>(
     requires work { AtWork core.old clients.old.items }
     ensures work { OnOk result (AtWork core.new clients.new.items) }
     ensures scripts { OnOk result (map C.script clients.new.items ≡ map C.script clients.old.items) }
-    ensures does { OnOk result (Does (map C.script clients.old.items) core.old core.new (λ f. event_row f core.old (event_in e.entry))) }
+    ensures does { OnOk result (Does (map C.script clients.old.items) (Receive C.stands_for clients.old.items clients.new.items) (called core.old (event_in e.entry)) core.new (λ f. event_row f core.old (event_in e.entry))) }
 {
     match e {
         NodeEvent::Tick => tick(core, clients, alloc),
@@ -136,7 +138,7 @@ pub fn take_event<C: Callbacks>(
     requires work { AtWork core.old clients.old.items }
     ensures work { OnOk result (AtWork core.new clients.new.items) }
     ensures scripts { OnOk result (map C.script clients.new.items ≡ map C.script clients.old.items) }
-    ensures does { OnOk result (Does (map C.script clients.old.items) (at_work core.old) core.new (λ f. stepped f core.old (event_in e.entry))) }
+    ensures does { OnOk result (Does (map C.script clients.old.items) (Receive C.stands_for clients.old.items clients.new.items) (called (at_work core.old) (event_in e.entry)) core.new (λ f. stepped f core.old (event_in e.entry))) }
 {
     clear(core, alloc);
     take_cleared(core, clients, alloc, e)

@@ -6,6 +6,7 @@ ghost use Rattle.rsct_packet.specs.Format.{OptionFits};
 ghost use Rattle.rsct_packet.specs.Fields.{AreShort};
 ghost use Rattle.group_entry.specs.ProposalCodec.{IsProposal, proposal_in};
 ghost use Rattle.group_entry.specs.EntryCodec.{IsEntry, entry_in};
+ghost use Rattle.entry_handing.specs.Received.{Receive};
 ghost use Rattle.entry_handing.specs.Doing.{Does};
 ghost use Rattle.node_groups.specs.Keeps.{Keeps};
 ghost use Rattle.group_leading.specs.Working.{AtWork};
@@ -85,7 +86,7 @@ pub fn take_name_packet<C: Callbacks>(
     requires work { AtWork core.old clients.old.items }
     ensures work { OnOk result (AtWork core.new clients.new.items) }
     ensures scripts { OnOk result (map C.script clients.new.items ≡ map C.script clients.old.items) }
-    ensures does { OnOk result (Does (map C.script clients.old.items) core.old core.new (λ f. used_if core.old (name_row core.old x.now.group.name x.now.leader) (is_used core.old (packet_in p.now) x.now.group.view))) }
+    ensures does { OnOk result (Does (map C.script clients.old.items) (Receive C.stands_for clients.old.items clients.new.items) core.old core.new (λ f. used_if core.old (name_row core.old x.now.group.name x.now.leader) (is_used core.old (packet_in p.now) x.now.group.view))) }
 {
     if !is_used(core, p, x.group.view()) {
         return Ok(());
@@ -111,7 +112,7 @@ pub fn take_request_packet<C: Callbacks>(
     requires work { AtWork core.old clients.old.items }
     ensures work { OnOk result (AtWork core.new clients.new.items) }
     ensures scripts { OnOk result (map C.script clients.new.items ≡ map C.script clients.old.items) }
-    ensures does { OnOk result (Does (map C.script clients.old.items) core.old core.new (λ f. used_if core.old (request_row f core.old p.now.from g.now.name by r phases (proposal_in x.now)) (is_used core.old (packet_in p.now) g.now.view))) }
+    ensures does { OnOk result (Does (map C.script clients.old.items) (Receive C.stands_for clients.old.items clients.new.items) core.old core.new (λ f. used_if core.old (request_row f core.old p.now.from g.now.name by r phases (proposal_in x.now)) (is_used core.old (packet_in p.now) g.now.view))) }
 {
     if !is_used(core, p, g.view()) {
         return Ok(());
@@ -137,7 +138,7 @@ pub fn take_tell_packet<C: Callbacks>(
     requires work { AtWork core.old clients.old.items }
     ensures work { OnOk result (AtWork core.new clients.new.items) }
     ensures scripts { OnOk result (map C.script clients.new.items ≡ map C.script clients.old.items) }
-    ensures does { OnOk result (Does (map C.script clients.old.items) core.old core.new (λ f. used_if core.old (tell_row core.old by r why) (is_used core.old (packet_in p.now) g.now.view))) }
+    ensures does { OnOk result (Does (map C.script clients.old.items) (Receive C.stands_for clients.old.items clients.new.items) core.old core.new (λ f. used_if core.old (tell_row core.old by r why) (is_used core.old (packet_in p.now) g.now.view))) }
 {
     if !is_used(core, p, g.view()) {
         return Ok(());
@@ -161,7 +162,7 @@ pub fn take_entry_packet<C: Callbacks>(
     requires work { AtWork core.old clients.old.items }
     ensures work { OnOk result (AtWork core.new clients.new.items) }
     ensures scripts { OnOk result (map C.script clients.new.items ≡ map C.script clients.old.items) }
-    ensures does { OnOk result (Does (map C.script clients.old.items) core.old core.new (λ f. used_if core.old (entry_row f core.old p.now.from g.now.name place stable (entry_in e.now)) (is_used core.old (packet_in p.now) g.now.view))) }
+    ensures does { OnOk result (Does (map C.script clients.old.items) (Receive C.stands_for clients.old.items clients.new.items) core.old core.new (λ f. used_if core.old (entry_row f core.old p.now.from g.now.name place stable (entry_in e.now)) (is_used core.old (packet_in p.now) g.now.view))) }
 {
     if !is_used(core, p, g.view()) {
         return Ok(());
@@ -210,7 +211,7 @@ pub fn take_vote_packet<C: Callbacks>(
     requires work { AtWork core.old clients.old.items }
     ensures work { OnOk result (AtWork core.new clients.new.items) }
     ensures scripts { OnOk result (map C.script clients.new.items ≡ map C.script clients.old.items) }
-    ensures does { OnOk result (Does (map C.script clients.old.items) core.old core.new (λ f. used_if core.old (vote_row f core.old g.now.name proto phase by vote (option_copied value.entry) (option_copied message.entry)) (is_used core.old (packet_in p.now) g.now.view))) }
+    ensures does { OnOk result (Does (map C.script clients.old.items) (Receive C.stands_for clients.old.items clients.new.items) core.old core.new (λ f. used_if core.old (vote_row f core.old g.now.name proto phase by vote (option_copied value.entry) (option_copied message.entry)) (is_used core.old (packet_in p.now) g.now.view))) }
 {
     if !is_used(core, p, g.view()) {
         return Ok(());
@@ -244,7 +245,7 @@ pub fn take_gone_packet<C: Callbacks>(
     requires work { AtWork core.old clients.old.items }
     ensures work { OnOk result (AtWork core.new clients.new.items) }
     ensures scripts { OnOk result (map C.script clients.new.items ≡ map C.script clients.old.items) }
-    ensures does { OnOk result (Does (map C.script clients.old.items) core.old core.new (λ f. used_if core.old (gone_row f core.old x.now.group.name x.now.p) (is_used core.old (packet_in p.now) x.now.group.view))) }
+    ensures does { OnOk result (Does (map C.script clients.old.items) (Receive C.stands_for clients.old.items clients.new.items) core.old core.new (λ f. used_if core.old (gone_row f core.old x.now.group.name x.now.p) (is_used core.old (packet_in p.now) x.now.group.view))) }
 {
     if !is_used(core, p, x.group.view()) {
         return Ok(());

@@ -3,11 +3,12 @@ ghost use Rattle.std.specs.Prelude.{◌≡◌, ◌↔◌, ℕ, [], List, false, 
 ghost use Rattle.session_state.specs.State.{client_token, client_place};
 ghost use Rattle.session_state.specs.Calls.{inited, removed_at};
 ghost use Rattle.session_calls.specs.Calling.{clients_with};
+ghost use Rattle.entry_handing.specs.Received.{Receive};
 ghost use Rattle.entry_handing.specs.Doing.{Does};
 ghost use Rattle.node_state.specs.declared.call.CallLine.TheVariants as call;
 ghost use Rattle.node_state.specs.Calls.{call_row};
 ghost use Rattle.node_state.specs.Step.{Calls, at_work, started, stepped};
-ghost use Rattle.node_step.specs.Event.{event_in, is_taken};
+ghost use Rattle.node_step.specs.Event.{called, event_in, is_taken};
 
 use crate::events::{NodeEvent, take_event};
 use crate::sessions::{close_session, open_session};
@@ -105,7 +106,7 @@ impl<C: Callbacks> Node<C> {
     pub fn step(&mut self, alloc: Global, e: NodeEvent<'_>) -> Result<(), StepFault>
         requires taken { IsTrue (is_taken e) }
         ensures scripts { OnOk result (map C.script self.new.clients ≡ map C.script self.old.clients) }
-        ensures does { OnOk result (Does (map C.script self.old.clients) (at_work self.old.core) self.new.core (λ f. stepped f self.old.core (event_in e.entry))) }
+        ensures does { OnOk result (Does (map C.script self.old.clients) (Receive C.stands_for self.old.clients self.new.clients) (called (at_work self.old.core) (event_in e.entry)) self.new.core (λ f. stepped f self.old.core (event_in e.entry))) }
         ensures goes_on { OnOk result (self.new.halted ≡ false) }
         ensures halts { IsErrOf result StepFault.NoMemory → IsTrue self.new.halted }
         ensures halted { IsErrOf result StepFault.Halted ↔ IsTrue self.old.halted }
@@ -127,7 +128,7 @@ impl<C: Callbacks> Node<C> {
     /// refused. The words of the call beside the name are any.
     pub fn begin_session(&mut self, alloc: Global, name: &[u8], c: C) -> Result<(), StepFault>
         ensures scripts { OnOk result (map C.script self.new.clients ≡ map C.script (clients_with c self.old.clients (inited self.old.core.sessions name.now))) }
-        ensures does { OnOk result ((node : ℕ) (votes : List ℕ) → Does (map C.script self.new.clients) (call_row (at_work self.old.core) (call.Init node name.now votes)) self.new.core (λ f. stepped f self.old.core (Calls (call.Init node name.now votes)))) }
+        ensures does { OnOk result ((node : ℕ) (votes : List ℕ) → Does (map C.script self.new.clients) (Receive C.stands_for (clients_with c self.old.clients (inited self.old.core.sessions name.now)) self.new.clients) (call_row (at_work self.old.core) (call.Init node name.now votes)) self.new.core (λ f. stepped f self.old.core (Calls (call.Init node name.now votes)))) }
         ensures goes_on { OnOk result (self.new.halted ≡ false) }
         ensures halts { IsErrOf result StepFault.NoMemory → IsTrue self.new.halted }
         ensures halted { IsErrOf result StepFault.Halted ↔ IsTrue self.old.halted }
@@ -148,7 +149,7 @@ impl<C: Callbacks> Node<C> {
     /// The client of this name says goodbye: its session ends, and its object is let go; or it is refused.
     pub fn say_goodbye(&mut self, alloc: Global, client: &[u8]) -> Result<(), StepFault>
         ensures scripts { OnOk result (map C.script self.new.clients ≡ map C.script (removed_at (client_place self.old.core.sessions (client_token self.old.core.sessions client.now)) self.old.clients)) }
-        ensures does { OnOk result (Does (map C.script self.new.clients) (call_row (at_work self.old.core) (call.Goodbye client.now)) self.new.core (λ f. stepped f self.old.core (Calls (call.Goodbye client.now)))) }
+        ensures does { OnOk result (Does (map C.script self.new.clients) (Receive C.stands_for (removed_at (client_place self.old.core.sessions (client_token self.old.core.sessions client.now)) self.old.clients) self.new.clients) (call_row (at_work self.old.core) (call.Goodbye client.now)) self.new.core (λ f. stepped f self.old.core (Calls (call.Goodbye client.now)))) }
         ensures goes_on { OnOk result (self.new.halted ≡ false) }
         ensures halts { IsErrOf result StepFault.NoMemory → IsTrue self.new.halted }
         ensures halted { IsErrOf result StepFault.Halted ↔ IsTrue self.old.halted }

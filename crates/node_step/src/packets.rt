@@ -1,5 +1,6 @@
 //! The table of packets: what a node makes of each.
 ghost use Rattle.std.specs.Prelude.{◌≡◌, IfSome, OnOk, map, option_map};
+ghost use Rattle.entry_handing.specs.Received.{Receive};
 ghost use Rattle.entry_handing.specs.Doing.{Does};
 ghost use Rattle.group_leading.specs.Working.{AtWork};
 ghost use Rattle.node_groups.specs.Keeps.{Keeps};
@@ -67,7 +68,7 @@ fn take_body<C: Callbacks>(
     requires work { AtWork core.old clients.old.items }
     ensures work { OnOk result (AtWork core.new clients.new.items) }
     ensures scripts { OnOk result (map C.script clients.new.items ≡ map C.script clients.old.items) }
-    ensures does { OnOk result (Does (map C.script clients.old.items) core.old core.new (λ f. body_row f core.old (packet_in p.now) (packet_in p.now).body)) }
+    ensures does { OnOk result (Does (map C.script clients.old.items) (Receive C.stands_for clients.old.items clients.new.items) core.old core.new (λ f. body_row f core.old (packet_in p.now) (packet_in p.now).body)) }
 {
     match &p.body {
         BodyRef::Ring(packet) => {
@@ -130,7 +131,7 @@ fn take_packet<C: Callbacks>(
     requires work { AtWork core.old clients.old.items }
     ensures work { OnOk result (AtWork core.new clients.new.items) }
     ensures scripts { OnOk result (map C.script clients.new.items ≡ map C.script clients.old.items) }
-    ensures does { OnOk result (Does (map C.script clients.old.items) core.old core.new (λ f. packet_row f core.old (packet_in p.now))) }
+    ensures does { OnOk result (Does (map C.script clients.old.items) (Receive C.stands_for clients.old.items clients.new.items) core.old core.new (λ f. packet_row f core.old (packet_in p.now))) }
 {
     if p.to != core.views.me {
         return Ok(());
@@ -158,7 +159,7 @@ pub fn take_datagram<C: Callbacks>(
     requires work { AtWork core.old clients.old.items }
     ensures work { OnOk result (AtWork core.new clients.new.items) }
     ensures scripts { OnOk result (map C.script clients.new.items ≡ map C.script clients.old.items) }
-    ensures does { OnOk result (Does (map C.script clients.old.items) core.old core.new (λ f. datagram_row f core.old (packet_of bytes.now))) }
+    ensures does { OnOk result (Does (map C.script clients.old.items) (Receive C.stands_for clients.old.items clients.new.items) core.old core.new (λ f. datagram_row f core.old (packet_of bytes.now))) }
 {
     match packet_read(bytes) {
         None => Ok(()),

@@ -3,6 +3,7 @@ ghost use Rattle.std.specs.Prelude.{◌≡◌, ℕ, List, OnOk, map};
 ghost use Rattle.session_state.specs.State.{client_token, client_place};
 ghost use Rattle.session_state.specs.Calls.{inited, removed_at};
 ghost use Rattle.session_calls.specs.Calling.{clients_with};
+ghost use Rattle.entry_handing.specs.Received.{Receive};
 ghost use Rattle.entry_handing.specs.Doing.{Does};
 ghost use Rattle.group_leading.specs.Working.{AtWork};
 ghost use Rattle.node_state.specs.declared.call.CallLine.TheVariants as call;
@@ -29,7 +30,7 @@ pub fn open_session<C: Callbacks>(
     requires work { AtWork core.old clients.old.items }
     ensures work { OnOk result (AtWork core.new clients.new.items) }
     ensures scripts { OnOk result (map C.script clients.new.items ≡ map C.script (clients_with c clients.old.items (inited core.old.sessions name.now))) }
-    ensures does { OnOk result ((node : ℕ) (votes : List ℕ) → Does (map C.script clients.new.items) (call_row (at_work core.old) (call.Init node name.now votes)) core.new (λ f. stepped f core.old (Calls (call.Init node name.now votes)))) }
+    ensures does { OnOk result ((node : ℕ) (votes : List ℕ) → Does (map C.script clients.new.items) (Receive C.stands_for (clients_with c clients.old.items (inited core.old.sessions name.now)) clients.new.items) (call_row (at_work core.old) (call.Init node name.now votes)) core.new (λ f. stepped f core.old (Calls (call.Init node name.now votes)))) }
 {
     clear(core, alloc);
     take_init(core, clients, alloc, name, c)?;
@@ -47,7 +48,7 @@ pub fn close_session<C: Callbacks>(
     requires work { AtWork core.old clients.old.items }
     ensures work { OnOk result (AtWork core.new clients.new.items) }
     ensures scripts { OnOk result (map C.script clients.new.items ≡ map C.script (removed_at (client_place core.old.sessions (client_token core.old.sessions client.now)) clients.old.items)) }
-    ensures does { OnOk result (Does (map C.script clients.new.items) (call_row (at_work core.old) (call.Goodbye client.now)) core.new (λ f. stepped f core.old (Calls (call.Goodbye client.now)))) }
+    ensures does { OnOk result (Does (map C.script clients.new.items) (Receive C.stands_for (removed_at (client_place core.old.sessions (client_token core.old.sessions client.now)) clients.old.items) clients.new.items) (call_row (at_work core.old) (call.Goodbye client.now)) core.new (λ f. stepped f core.old (Calls (call.Goodbye client.now)))) }
 {
     clear(core, alloc);
     take_goodbye(core, clients, alloc, client)?;

@@ -2,6 +2,7 @@
 ghost use Rattle.std.specs.Prelude.{◌≡◌, OnOk, map};
 ghost use Rattle.view_exchange.specs.SourcesInPlace.{install_in};
 ghost use Rattle.view_core.specs.declared.packet.ViewPacket.TheVariants as packet;
+ghost use Rattle.entry_handing.specs.Received.{Receive};
 ghost use Rattle.entry_handing.specs.Doing.{Does};
 ghost use Rattle.group_leading.specs.Working.{AtWork};
 ghost use Rattle.node_state.specs.Step.{view_row};
@@ -28,7 +29,7 @@ pub fn take_prepare<C: Callbacks>(
     requires work { AtWork core.old clients.old.items }
     ensures work { OnOk result (AtWork core.new clients.new.items) }
     ensures scripts { OnOk result (map C.script clients.new.items ≡ map C.script clients.old.items) }
-    ensures does { OnOk result (Does (map C.script clients.old.items) core.old core.new (λ f. view_row f core.old p.now.from p.now.inc (packet.Prepare view mask))) }
+    ensures does { OnOk result (Does (map C.script clients.old.items) (Receive C.stands_for clients.old.items clients.new.items) core.old core.new (λ f. view_row f core.old p.now.from p.now.inc (packet.Prepare view mask))) }
 {
     let event = ViewEvent::Prepare {
         from: p.from,
@@ -52,7 +53,7 @@ pub fn take_answer<C: Callbacks>(
     requires work { AtWork core.old clients.old.items }
     ensures work { OnOk result (AtWork core.new clients.new.items) }
     ensures scripts { OnOk result (map C.script clients.new.items ≡ map C.script clients.old.items) }
-    ensures does { OnOk result (Does (map C.script clients.old.items) core.old core.new (λ f. view_row f core.old p.now.from p.now.inc (packet.Answer view answer.now.view answer.now.parts))) }
+    ensures does { OnOk result (Does (map C.script clients.old.items) (Receive C.stands_for clients.old.items clients.new.items) core.old core.new (λ f. view_row f core.old p.now.from p.now.inc (packet.Answer view answer.now.view answer.now.parts))) }
 {
     let event = ViewEvent::Answer {
         from: p.from,
@@ -79,7 +80,7 @@ pub fn take_refuse<C: Callbacks>(
     requires work { AtWork core.old clients.old.items }
     ensures work { OnOk result (AtWork core.new clients.new.items) }
     ensures scripts { OnOk result (map C.script clients.new.items ≡ map C.script clients.old.items) }
-    ensures does { OnOk result (Does (map C.script clients.old.items) core.old core.new (λ f. view_row f core.old p.now.from p.now.inc (packet.Refuse view number))) }
+    ensures does { OnOk result (Does (map C.script clients.old.items) (Receive C.stands_for clients.old.items clients.new.items) core.old core.new (λ f. view_row f core.old p.now.from p.now.inc (packet.Refuse view number))) }
 {
     take_view(core, clients, alloc, ViewEvent::Refuse { view, number })
 }
@@ -96,7 +97,7 @@ pub fn take_install<C: Callbacks>(
     requires work { AtWork core.old clients.old.items }
     ensures work { OnOk result (AtWork core.new clients.new.items) }
     ensures scripts { OnOk result (map C.script clients.new.items ≡ map C.script clients.old.items) }
-    ensures does { OnOk result (Does (map C.script clients.old.items) core.old core.new (λ f. view_row f core.old p.now.from p.now.inc (packet.Install (install_in install.now)))) }
+    ensures does { OnOk result (Does (map C.script clients.old.items) (Receive C.stands_for clients.old.items clients.new.items) core.old core.new (λ f. view_row f core.old p.now.from p.now.inc (packet.Install (install_in install.now)))) }
 {
     let install = install.own(alloc)?;
     take_view(core, clients, alloc, ViewEvent::Install { install })
@@ -114,7 +115,7 @@ pub fn take_taken<C: Callbacks>(
     requires work { AtWork core.old clients.old.items }
     ensures work { OnOk result (AtWork core.new clients.new.items) }
     ensures scripts { OnOk result (map C.script clients.new.items ≡ map C.script clients.old.items) }
-    ensures does { OnOk result (Does (map C.script clients.old.items) core.old core.new (λ f. view_row f core.old p.now.from p.now.inc (packet.Taken view))) }
+    ensures does { OnOk result (Does (map C.script clients.old.items) (Receive C.stands_for clients.old.items clients.new.items) core.old core.new (λ f. view_row f core.old p.now.from p.now.inc (packet.Taken view))) }
 {
     take_view(
         core,

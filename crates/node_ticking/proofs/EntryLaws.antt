@@ -4,14 +4,13 @@ use Rattle.std.specs.Prelude.{fold, slice_get}
 use Rattle.group_entry.specs.declared.entry.Entry.{Entry}
 use Rattle.proposal_core.specs.GroupView.{GroupView}
 use Rattle.proposal_core.specs.Lists.{entry_at}
-use Rattle.node_state.specs.declared.packet.Body.{Body}
 use Rattle.node_state.specs.declared.packet.Body.TheVariants as body
 use Rattle.node_state.specs.declared.state.Core.{Core}
 use Rattle.node_state.specs.State.{acked_by, least_acked, row_of}
-use Rattle.node_state.specs.Sending.{sent_on, sent}
+use Rattle.node_state.specs.Sending.{sent}
 use Rattle.node_state.specs.Ticks.{entries_sent, list_sent_again, sent_again}
 use Rattle.node_groups.specs.Keeps.{Keeps}
-use Rattle.node_groups.proofs.KeepLaws.{keeps_itself, keeps_then}
+use Rattle.node_groups.proofs.KeepLaws.{keeps_itself, keeps_then, sent_keeps}
 
 -- ---- copies
 
@@ -72,15 +71,11 @@ entries_more to g i stable [] e s = rw (add-zero i) refl
 entries_more to g i stable (x ∷ xs) e s =
     let a : i + suc (length xs) ≡ i + 1 + length xs = omega arith in rw a (entries_more to g (i + 1) stable xs e (sent s to (body.Entry s.views.view g i stable x)))
 
-keeps_sent : (s : Core) (to : ℕ) (b : Body) → Keeps s (sent s to b)
-unfolding sent sent_on
-keeps_sent s to b = record { records = omega arith; sessions = (refl, refl); order = λ o. o }
-
 pub keeps_entries : (to : ℕ) (g : List ℕ) (i stable : ℕ) (es : List Entry) (s : Core) → Keeps s (entries_sent to g i stable es s)
 unfolding entries_sent
 keeps_entries to g i stable [] s = keeps_itself s
 keeps_entries to g i stable (e ∷ es) s =
-    keeps_then _ _ _ (keeps_sent s to (body.Entry s.views.view g i stable e)) (keeps_entries to g (i + 1) stable es (sent s to (body.Entry s.views.view g i stable e)))
+    keeps_then _ _ _ (sent_keeps s to (body.Entry s.views.view g i stable e)) (keeps_entries to g (i + 1) stable es (sent s to (body.Entry s.views.view g i stable e)))
 
 keeps_list : (s : Core) (g : List ℕ) (n first : ℕ) (l : Option GroupView) → Keeps s (list_sent_again s g n first l)
 unfolding list_sent_again

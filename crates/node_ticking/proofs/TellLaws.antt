@@ -12,7 +12,7 @@ use Rattle.node_state.specs.State.{leader_of}
 use Rattle.node_state.specs.Sending.{sent_on, sent, sent_if_known}
 use Rattle.node_state.specs.Ticks.{is_lost, lost_told}
 use Rattle.node_groups.specs.Keeps.{Keeps}
-use Rattle.node_groups.proofs.KeepLaws.{keeps_itself, keeps_then}
+use Rattle.node_groups.proofs.KeepLaws.{keeps_itself, keeps_then, sent_keeps}
 use Rattle.node_ticking.specs.Telling.{told_if, told_at}
 
 abbrev is_held : GroupRow → Bool
@@ -40,9 +40,9 @@ told_more s (row ∷ rows) (suc i) h =
 -- ---- what is kept
 
 keeps_sent : (s : Core) (to : Option ℕ) (b : Body) → Keeps s (sent_if_known s to b)
-unfolding sent_if_known sent sent_on
+unfolding sent_if_known
 keeps_sent s None b = keeps_itself s
-keeps_sent s (Some n) b = record { records = omega arith; sessions = (refl, refl); order = λ o. o }
+keeps_sent s (Some n) b = sent_keeps s n b
 
 sent_groups : (s : Core) (to : Option ℕ) (b : Body) → (sent_if_known s to b).groups ≡ s.groups
 unfolding sent_if_known sent sent_on

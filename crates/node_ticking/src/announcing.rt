@@ -1,5 +1,6 @@
 //! At level 2 an entry announces who passes the time limit in a tick.
 ghost use Rattle.std.specs.Prelude.{◌≡◌, IfOk, OnOk, map};
+ghost use Rattle.entry_handing.specs.Received.{Receive};
 ghost use Rattle.entry_handing.specs.Doing.{Does};
 ghost use Rattle.group_leading.specs.Working.{AtWork};
 ghost use Rattle.node_state.specs.State.{led_of};
@@ -62,7 +63,7 @@ pub fn announce<C: Callbacks>(
     requires work { AtWork core.old clients.old.items }
     ensures work { OnOk result (AtWork core.new clients.new.items) }
     ensures scripts { OnOk result (map C.script clients.new.items ≡ map C.script clients.old.items) }
-    ensures does { OnOk result (Does (map C.script clients.old.items) core.old core.new (λ f. appended_late f core.old g.now (late_entry core.old g.now (led_of core.old g.now).tally))) }
+    ensures does { OnOk result (Does (map C.script clients.old.items) (Receive C.stands_for clients.old.items clients.new.items) core.old core.new (λ f. appended_late f core.old g.now (late_entry core.old g.now (led_of core.old g.now).tally))) }
 {
     match late_entry(core, alloc, g)? {
         None => Ok(()),

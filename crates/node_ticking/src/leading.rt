@@ -1,5 +1,6 @@
 //! The part of a tick on what a node leads.
 ghost use Rattle.std.specs.Prelude.{◌≡◌, OnOk, false, fold, is_none, map};
+ghost use Rattle.entry_handing.specs.Received.{Receive};
 ghost use Rattle.entry_handing.specs.Doing.{Does};
 ghost use Rattle.group_leading.specs.Working.{AtWork};
 ghost use Rattle.node_state.specs.State.{led_groups, led_of};
@@ -34,7 +35,7 @@ fn tick_open<C: Callbacks>(
     requires opened { is_none (led_of core.old g.now).tally ≡ false }
     ensures work { OnOk result (AtWork core.new clients.new.items) }
     ensures scripts { OnOk result (map C.script clients.new.items ≡ map C.script clients.old.items) }
-    ensures does { OnOk result (Does (map C.script clients.old.items) core.old core.new (λ f. tally_ticks f core.old g.now (led_of core.old g.now).tally)) }
+    ensures does { OnOk result (Does (map C.script clients.old.items) (Receive C.stands_for clients.old.items clients.new.items) core.old core.new (λ f. tally_ticks f core.old g.now (led_of core.old g.now).tally)) }
 {
     announce(core, clients, alloc, g)?;
     tick_tally(core, alloc, g)?;
@@ -51,7 +52,7 @@ fn tick_phase<C: Callbacks>(
     requires work { AtWork core.old clients.old.items }
     ensures work { OnOk result (AtWork core.new clients.new.items) }
     ensures scripts { OnOk result (map C.script clients.new.items ≡ map C.script clients.old.items) }
-    ensures does { OnOk result (Does (map C.script clients.old.items) core.old core.new (λ f. tally_ticks f core.old g.now (led_of core.old g.now).tally)) }
+    ensures does { OnOk result (Does (map C.script clients.old.items) (Receive C.stands_for clients.old.items clients.new.items) core.old core.new (λ f. tally_ticks f core.old g.now (led_of core.old g.now).tally)) }
 {
     if has_no_tally(core, g) {
         return Ok(());
@@ -69,7 +70,7 @@ fn tick_group<C: Callbacks>(
     requires work { AtWork core.old clients.old.items }
     ensures work { OnOk result (AtWork core.new clients.new.items) }
     ensures scripts { OnOk result (map C.script clients.new.items ≡ map C.script clients.old.items) }
-    ensures does { OnOk result (Does (map C.script clients.old.items) core.old core.new (λ f. group_ticks f core.old g.now)) }
+    ensures does { OnOk result (Does (map C.script clients.old.items) (Receive C.stands_for clients.old.items clients.new.items) core.old core.new (λ f. group_ticks f core.old g.now)) }
 {
     tick_phase(core, clients, alloc, g)?;
     send_to_others(core, alloc, g)?;
@@ -86,7 +87,7 @@ fn tick_groups<C: Callbacks>(
     requires work { AtWork core.old clients.old.items }
     ensures work { OnOk result (AtWork core.new clients.new.items) }
     ensures scripts { OnOk result (map C.script clients.new.items ≡ map C.script clients.old.items) }
-    ensures does { OnOk result (Does (map C.script clients.old.items) core.old core.new (λ f. fold (group_ticks f) core.old names.now)) }
+    ensures does { OnOk result (Does (map C.script clients.old.items) (Receive C.stands_for clients.old.items clients.new.items) core.old core.new (λ f. fold (group_ticks f) core.old names.now)) }
 {
     match names {
         [] => Ok(()),
@@ -106,7 +107,7 @@ fn tick_each_led<C: Callbacks>(
     requires work { AtWork core.old clients.old.items }
     ensures work { OnOk result (AtWork core.new clients.new.items) }
     ensures scripts { OnOk result (map C.script clients.new.items ≡ map C.script clients.old.items) }
-    ensures does { OnOk result (Does (map C.script clients.old.items) core.old core.new (λ f. fold (group_ticks f) core.old (led_groups core.old))) }
+    ensures does { OnOk result (Does (map C.script clients.old.items) (Receive C.stands_for clients.old.items clients.new.items) core.old core.new (λ f. fold (group_ticks f) core.old (led_groups core.old))) }
 {
     let names = led_groups(core, alloc)?;
     tick_groups(core, clients, alloc, names.as_slice())
@@ -122,7 +123,7 @@ pub fn tick_led<C: Callbacks>(
     requires work { AtWork core.old clients.old.items }
     ensures work { OnOk result (AtWork core.new clients.new.items) }
     ensures scripts { OnOk result (map C.script clients.new.items ≡ map C.script clients.old.items) }
-    ensures does { OnOk result (Does (map C.script clients.old.items) core.old core.new (λ f. led_part f core.old)) }
+    ensures does { OnOk result (Does (map C.script clients.old.items) (Receive C.stands_for clients.old.items clients.new.items) core.old core.new (λ f. led_part f core.old)) }
 {
     if is_frozen(core) {
         return Ok(());

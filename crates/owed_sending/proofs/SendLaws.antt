@@ -11,9 +11,9 @@ use Rattle.node_state.specs.State.{row_of, list_of, state_of, frozen, leader_in,
 use Rattle.node_state.specs.Sending.{ring_network, network_to, level_for, domain_at, packet_on, sent_on, sent, sent_if_known, request_to, request_sent, requests_sent, vote_of, kept_sent_to, kept_sent, kept_sent_if, kept_sent_again, votes_sent_again}
 use Rattle.node_state.specs.Following.{requests_of}
 use Rattle.session_state.specs.Calls.{SameSessions}
-use Rattle.node_groups.specs.Keeps.{Keeps}
+use Rattle.node_groups.specs.Keeps.{Stays, Keeps}
 use Rattle.node_groups.specs.Places.{InNameOrder}
-use Rattle.node_groups.proofs.KeepLaws.{keeps_as}
+use Rattle.node_groups.proofs.KeepLaws.{owners_themselves, keeps_as}
 
 -- ---- what sends alone
 
@@ -25,11 +25,12 @@ alone_then : (s t u : Core) → SendsAlone s t → SendsAlone t u → SendsAlone
 alone_then s t u a b = b ∙ ap (λ (x : Core). record x { sends = u.sends }) a
 
 -- what leaves the groups as they are
-pub groups_keep : (s t : Core) → length s.records ≤ length t.records → SameSessions s.sessions t.sessions → t.groups ≡ s.groups → Keeps s t
-groups_keep s t grows same groups = record { records = grows; sessions = same; order = λ o. subst InNameOrder (sym groups) o }
+pub groups_stay : (s t : Core) → length s.records ≤ length t.records → SameSessions s.sessions t.sessions → t.groups ≡ s.groups → Stays s t
+groups_stay s t grows same groups = record { records = grows; sessions = same; order = λ o. subst InNameOrder (sym groups) o }
 
 alone_keeps : (s t : Core) → SendsAlone s t → Keeps s t
-alone_keeps s t e = keeps_as s (record s { sends = t.sends }) t e (groups_keep s (record s { sends = t.sends }) (omega arith) (refl, refl) refl)
+alone_keeps s t e =
+    keeps_as s (record s { sends = t.sends }) t e (record { records = omega arith; sessions = (refl, refl); order = λ o. o; handed = refl; owners = owners_themselves s.sessions })
 
 -- s where these requests and ballots wait
 abbrev pub apart : Core → List Request → List KeptBallot → Core

@@ -8,6 +8,7 @@ use Rattle.group_attr.specs.declared.attrs.Attrs.{Attrs}
 use Rattle.group_attr.specs.declared.attrs.Phases.{Phases}
 use Rattle.group_attr.specs.Agree.{agree}
 use Rattle.group_entry.specs.declared.proposal.Proposal.{Proposal}
+use Rattle.group_entry.specs.declared.proposal.Proposal.TheVariants.{Join}
 use Rattle.proposal_core.specs.Fold.{max_providers, present}
 use Rattle.batch_rules.specs.Waiting.{WaitingView, same_instance, has_instance, max_waiting}
 use Rattle.batch_rules.specs.Next.{added_as}
@@ -19,14 +20,16 @@ use Rattle.node_state.specs.declared.group.GroupRow.{GroupRow}
 use Rattle.node_state.specs.declared.state.Core.{Core}
 use Rattle.node_state.specs.State.{row_of, row_found, with_led, led_of, state_of}
 use Rattle.node_state.specs.Leading.{begins}
-use Rattle.node_state.specs.Deciding.{decision_kept, refused, lacks_source, source_len, is_idle_empty, meant_attrs, join_refusal, join_waits}
+use Rattle.node_state.specs.HandOn.{Answering}
+use Rattle.node_state.specs.Deciding.{decision_kept, refused, lacks_source, source_len, is_idle_empty, meant_attrs, join_refusal, join_waits, decided_join, other_refusal, decided_other, decided}
 use Rattle.node_groups.specs.Places.{InNameOrder, has_name, stops_at, row_opened}
 use Rattle.node_groups.specs.Keeps.{Keeps}
 use Rattle.node_groups.proofs.KeepLaws.{keeps_then, keeps_as, led_keeps, sent_keeps}
 use Rattle.node_groups.proofs.NameOrder.{row_here}
 use Rattle.node_groups.proofs.RowLaws.{opened_row}
+use Rattle.entry_handing.specs.Received.{Handing}
 use Rattle.entry_handing.specs.Doing.{Does}
-use Rattle.entry_handing.proofs.DoingLaws.{does_after, does_as}
+use Rattle.entry_handing.proofs.DoingLaws.{does_plain, does_after, does_as}
 use Rattle.group_leading.proofs.WorkLaws.{keeps_follows}
 
 -- ---- what is kept
@@ -47,12 +50,28 @@ unfolding join_waits
 waiting_keeps s t g p r a idle e =
     keeps_as s (join_waits s g p r a idle) t e (keeps_then s (decision_kept s g p r None) _ (decision_keeps s g p r None) (led_keeps (decision_kept s g p r None) g _))
 
+-- what hands nothing on
+pub kept_does : (scripts : List (Option (List (Option VoteItem)))) (P : List Handing → Type 0) → P [] → (s t : Core) (row : Answering → Core) → ((f : Answering) → t ≡ row f) → Keeps s t → Does scripts P s t row
+kept_does scripts P q s t row same keeps = does_as scripts P s t (λ f. t) row same (does_plain scripts P s t t q refl (keeps_follows s t keeps))
+
+pub refused_does : (scripts : List (Option (List (Option VoteItem)))) (P : List Handing → Type 0) → P [] → (s t : Core) (g : List ℕ) (p : ProviderId) (r : ℕ) (phases : Phases) (x : Proposal) (y : Why) → Some y ≡ other_refusal s g p x
+    → (t ≡ refused s g p r y) × Keeps s t → Does scripts P s t (λ f. decided_other f s g p r phases x (other_refusal s g p x))
+unfolding decided_other
+refused_does scripts P q s t g p r phases x y e refusal =
+    kept_does scripts P q s t (λ f. decided_other f s g p r phases x (other_refusal s g p x)) (λ f. refusal.0 ∙ ap (decided_other f s g p r phases x) e) refusal.1
+
+pub join_does : (scripts : List (Option (List (Option VoteItem)))) (P : List Handing → Type 0) → P [] → (s t : Core) (g : List ℕ) (p : ProviderId) (r : ℕ) (phases : Phases) (x : Proposal) (ps : List ProviderId) (a : Attrs) (n : Option ℕ) → x ≡ Join ps a n
+    → (t ≡ decided_join s g p r a (join_refusal s g p a)) × Keeps s t → Does scripts P s t (λ f. decided f s g p r phases x)
+unfolding decided
+join_does scripts P q s t g p r phases x ps a n e joining =
+    kept_does scripts P q s t (λ f. decided f s g p r phases x) (λ f. joining.0 ∙ ap (decided f s g p r phases) (sym e)) joining.1
+
 -- ---- a request that begins
 
-pub granted : (scripts : List (Option (List (Option VoteItem)))) (s t u : Core) (g : List ℕ) (p : ProviderId) (r : ℕ) (x : Proposal) (phases : Phases) → t ≡ decision_kept s g p r None → Keeps s t
-    → Does scripts t u (λ f. begins f t g x phases) → Does scripts s u (λ f. begins f (decision_kept s g p r None) g x phases)
-granted scripts s t u g p r x phases kept keeps done =
-    does_after scripts s t u _ (keeps_follows s t keeps) (does_as scripts t u _ _ (λ f. ap (λ (z : Core). begins f z g x phases) kept) done)
+pub granted : (scripts : List (Option (List (Option VoteItem)))) (P : List Handing → Type 0) (s t u : Core) (g : List ℕ) (p : ProviderId) (r : ℕ) (x : Proposal) (phases : Phases) → t ≡ decision_kept s g p r None → Keeps s t
+    → Does scripts P t u (λ f. begins f t g x phases) → Does scripts P s u (λ f. begins f (decision_kept s g p r None) g x phases)
+granted scripts P s t u g p r x phases kept keeps done =
+    does_after scripts P s t u _ (keeps_follows s t keeps) (does_as scripts P t u _ _ (λ f. ap (λ (z : Core). begins f z g x phases) kept) done)
 
 -- ---- a join that is not refused
 

@@ -3,6 +3,7 @@ ghost use Rattle.std.specs.Prelude.{◌≡◌, IfOk, OnOk, None, map, not};
 ghost use Rattle.std.specs.List.{list_any};
 ghost use Rattle.rsct_packet.specs.Providers.{among};
 ghost use Rattle.group_attr.specs.Agree.{same_source};
+ghost use Rattle.entry_handing.specs.Received.{Receive};
 ghost use Rattle.entry_handing.specs.Doing.{Does};
 ghost use Rattle.group_leading.specs.Working.{AtWork};
 ghost use Rattle.node_state.specs.Leading.{begins};
@@ -119,7 +120,7 @@ fn grant<C: Callbacks>(
     requires work { AtWork core.old clients.old.items }
     ensures work { OnOk result (AtWork core.new clients.new.items) }
     ensures scripts { OnOk result (map C.script clients.new.items ≡ map C.script clients.old.items) }
-    ensures does { OnOk result (Does (map C.script clients.old.items) core.old core.new (λ f. begins f (decision_kept core.old g.now p r None) g.now x.now phases)) }
+    ensures does { OnOk result (Does (map C.script clients.old.items) (Receive C.stands_for clients.old.items clients.new.items) core.old core.new (λ f. begins f (decision_kept core.old g.now p r None) g.now x.now phases)) }
 {
     keep_decision(core, alloc, g, p, r, None)?;
     begin(core, clients, alloc, g, x, phases)
@@ -140,7 +141,7 @@ pub(crate) fn decide_change<C: Callbacks>(
     requires work { AtWork core.old clients.old.items }
     ensures work { OnOk result (AtWork core.new clients.new.items) }
     ensures scripts { OnOk result (map C.script clients.new.items ≡ map C.script clients.old.items) }
-    ensures does { OnOk result (Does (map C.script clients.old.items) core.old core.new (λ f. decided_other f core.old g.now p r phases x.now (other_refusal core.old g.now p x.now))) }
+    ensures does { OnOk result (Does (map C.script clients.old.items) (Receive C.stands_for clients.old.items clients.new.items) core.old core.new (λ f. decided_other f core.old g.now p r phases x.now (other_refusal core.old g.now p x.now))) }
 {
     match other_refusal(core, alloc, g.bytes(), p, x)? {
         None => grant(core, clients, alloc, g, p, r, phases, x),

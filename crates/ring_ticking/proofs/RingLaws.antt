@@ -1,22 +1,22 @@
 -- Where a ring is put, and what is kept meanwhile.
-use Rattle.std.proofs.Common.{◌≡◌, ℕ, suc, ◌+◌, ◌<◌, ◌≤◌, ◌==◌, nat_lt, Bool, true, false, not, List, [], ◌∷◌, ◌++◌, length, take, drop, Some, None, refl, ap, arith, cond, length-append}
+use Rattle.std.proofs.Common.{◌≡◌, ℕ, suc, ◌+◌, ◌<◌, ◌≤◌, ◌==◌, nat_lt, Bool, true, false, not, List, [], ◌∷◌, ◌++◌, length, take, drop, Option, Some, None, refl, ap, arith, cond}
 use Rattle.std.specs.Prelude.{fold}
 use Rattle.std.specs.List.{position, position_or_len}
 use Rattle.adapter_ring.specs.declared.ring.Ring.{Ring}
+use Rattle.adapter_ring.specs.declared.ring.RingSet.{RingSet}
 use Rattle.adapter_ring.specs.declared.work.RingWork.{RingWork}
 use Rattle.adapter_ring.specs.declared.packet.RingSend.{RingSend}
 use Rattle.adapter_ring.specs.declared.packet.RingEvent.TheVariants as ring_event
 use Rattle.adapter_ring.specs.Rings.{ring_stepped}
 use Rattle.node_reach.specs.declared.reach.Reach.{Reach}
-use Rattle.node_state.specs.declared.happened.Happened.{Happened}
 use Rattle.node_state.specs.declared.packet.Body.{Body}
 use Rattle.node_state.specs.declared.packet.Body.TheVariants as body
 use Rattle.node_state.specs.declared.state.Core.{Core}
-use Rattle.node_state.specs.State.{recorded_all}
 use Rattle.node_state.specs.Sending.{sent_on, sent, sent_all}
-use Rattle.node_state.specs.Ticks.{ring_put, ring_taken}
+use Rattle.node_state.specs.Ticks.{ring_put, set_records, ring_taken}
+use Rattle.node_groups.specs.Handed.{handed_in}
 use Rattle.node_groups.specs.Keeps.{Keeps}
-use Rattle.node_groups.proofs.KeepLaws.{keeps_itself, keeps_then}
+use Rattle.node_groups.proofs.KeepLaws.{owners_themselves, keeps_itself, keeps_then, records_keep}
 
 -- ---- the place of a ring
 
@@ -62,25 +62,27 @@ put_nowhere xs r e = put_past r xs (missed (position_or_len (is_on r.net) xs) (l
 
 keeps_sent_on : (s : Core) (network to : ℕ) (b : Body) → Keeps s (sent_on s network to b)
 unfolding sent_on
-keeps_sent_on s network to b = record { records = omega arith; sessions = (refl, refl); order = λ o. o }
+keeps_sent_on s network to b = record { records = omega arith; sessions = (refl, refl); order = λ o. o; handed = refl; owners = owners_themselves s.sessions }
 
 keeps_sends : (s : Core) (xs : List RingSend) → Keeps s (fold (λ u (x : RingSend). sent_on u x.network x.to (body.Ring x.packet)) s xs)
 keeps_sends s [] = keeps_itself s
 keeps_sends s (x ∷ xs) = keeps_then _ _ _ (keeps_sent_on s x.network x.to (body.Ring x.packet)) (keeps_sends (sent_on s x.network x.to (body.Ring x.packet)) xs)
 
-keeps_recorded : (s : Core) (rs : List Happened) → Keeps s (recorded_all s rs)
-unfolding recorded_all
-keeps_recorded s rs = record { records = omega (arith, length-append s.records rs); sessions = (refl, refl); order = λ o. o }
-
 keeps_rings : (s : Core) (rs : List Ring) → Keeps s (record s { rings = rs })
-keeps_rings s rs = record { records = omega arith; sessions = (refl, refl); order = λ o. o }
+keeps_rings s rs = record { records = omega arith; sessions = (refl, refl); order = λ o. o; handed = refl; owners = owners_themselves s.sessions }
 
 keeps_reach : (s : Core) (r : Reach) → Keeps s (record s { reach = r })
-keeps_reach s r = record { records = omega arith; sessions = (refl, refl); order = λ o. o }
+keeps_reach s r = record { records = omega arith; sessions = (refl, refl); order = λ o. o; handed = refl; owners = owners_themselves s.sessions }
+
+-- a ring's records are handed to no client
+ring_unhanded : (n net : ℕ) (set : Option RingSet) → handed_in (set_records n net set) ≡ []
+unfolding set_records
+ring_unhanded n net None = refl
+ring_unhanded n net (Some r) = refl
 
 pub keeps_taken : (s : Core) (w : RingWork) → Keeps s (ring_taken s w)
 unfolding ring_taken
-keeps_taken s w = keeps_then _ _ _ (keeps_then _ _ _ (keeps_rings s (ring_put s.rings w.ring)) (keeps_sends (record s { rings = ring_put s.rings w.ring }) w.sends)) (keeps_recorded _ _)
+keeps_taken s w = keeps_then _ _ _ (keeps_then _ _ _ (keeps_rings s (ring_put s.rings w.ring)) (keeps_sends (record s { rings = ring_put s.rings w.ring }) w.sends)) (records_keep _ _ (ring_unhanded _ _ w.set))
 
 pub keeps_ticks : (s : Core) (rs : List Ring) → Keeps s (fold (λ u (r : Ring). ring_taken u (ring_stepped r ring_event.Tick)) s rs)
 keeps_ticks s [] = keeps_itself s

@@ -20,36 +20,36 @@ use Rattle.node_state.specs.declared.state.Core.{Core}
 use Rattle.node_state.specs.State.{recorded, with_sessions, leader_of}
 use Rattle.node_state.specs.Sending.{sent_on, sent, sent_if_known}
 use Rattle.node_state.specs.Calls.{call_refused, changed, last_asked, proposed, last_cast, ballot_given, ballot_recorded, gone_sent, all_gone_sent, goodbye_said}
-use Rattle.node_groups.specs.Keeps.{Keeps}
-use Rattle.node_groups.proofs.KeepLaws.{keeps_itself, keeps_as, record_keeps}
+use Rattle.node_groups.specs.Keeps.{Stays}
+use Rattle.node_groups.proofs.KeepLaws.{stays_itself, stays_as, record_stays}
 
 -- ---- what is kept
 
-pub recorded_keeps : (s t : Core) (r : Happened) → t ≡ recorded s r → Keeps s t
-recorded_keeps s t r e = keeps_as s (recorded s r) t e (record_keeps s r)
+pub recorded_keeps : (s t : Core) (r : Happened) → t ≡ recorded s r → Stays s t
+recorded_keeps s t r e = stays_as s (recorded s r) t e (record_stays s r)
 
-pub refused_keeps : (s t : Core) (client : List ℕ) (f : GsFault) → t ≡ call_refused s client f → Keeps s t
+pub refused_keeps : (s t : Core) (client : List ℕ) (f : GsFault) → t ≡ call_refused s client f → Stays s t
 unfolding call_refused
 refused_keeps s t client f e = recorded_keeps s t _ e
 
-pub ballot_recorded_keeps : (s t : Core) (k : KeptBallot) (b : Option Filled) → t ≡ ballot_recorded s k b → Keeps s t
+pub ballot_recorded_keeps : (s t : Core) (k : KeptBallot) (b : Option Filled) → t ≡ ballot_recorded s k b → Stays s t
 unfolding ballot_recorded
-ballot_recorded_keeps s t k None e = rw e (keeps_itself s)
+ballot_recorded_keeps s t k None e = rw e (stays_itself s)
 ballot_recorded_keeps s t k (Some b) e = recorded_keeps s t _ e
 
-sent_known_keeps : (s : Core) (to : Option ℕ) (b : Body) → Keeps s (sent_if_known s to b)
+sent_known_keeps : (s : Core) (to : Option ℕ) (b : Body) → Stays s (sent_if_known s to b)
 unfolding sent_if_known sent sent_on
-sent_known_keeps s None b = keeps_itself s
+sent_known_keeps s None b = stays_itself s
 sent_known_keeps s (Some n) b = record { records = omega arith; sessions = (refl, refl); order = λ h. h }
 
-pub gone_keeps : (s t : Core) (x : Provider) → t ≡ gone_sent s x → Keeps s t
+pub gone_keeps : (s t : Core) (x : Provider) → t ≡ gone_sent s x → Stays s t
 unfolding gone_sent
 gone_keeps s t x e = rw e (sent_known_keeps s (leader_of s x.group) _)
 
 -- sessions that may differ, of the same clients
-pub sessions_keep : (s t : Core) → SameSessions s.sessions t.sessions → t ≡ with_sessions s t.sessions → Keeps s t
+pub sessions_keep : (s t : Core) → SameSessions s.sessions t.sessions → t ≡ with_sessions s t.sessions → Stays s t
 unfolding with_sessions
-sessions_keep s t same rest = keeps_as s (with_sessions s t.sessions) t rest (record { records = omega arith; sessions = same; order = λ o. o })
+sessions_keep s t same rest = stays_as s (with_sessions s t.sessions) t rest (record { records = omega arith; sessions = same; order = λ o. o })
 
 -- ---- the last of a list
 

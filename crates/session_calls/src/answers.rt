@@ -5,7 +5,7 @@ ghost use Rattle.session_state.specs.Calls.{Answers, SameSessions};
 ghost use Rattle.node_state.specs.declared.state.Core.{Core};
 ghost use Rattle.node_state.specs.Calls.{call_refused, changed};
 ghost use Rattle.node_state.specs.State.{with_sessions};
-ghost use Rattle.node_groups.specs.Keeps.{Keeps};
+ghost use Rattle.node_groups.specs.Keeps.{Stays};
 
 use node_state::{Core, Happened};
 use rsct_packet::{List, NoMemory};
@@ -17,7 +17,7 @@ use std::alloc::Global;
 pub fn refuse(core: &mut Core, alloc: Global, client: &[u8], fault: GsFault) -> Result<(), NoMemory>
     ensures row { OnOk result (core.new ≡ call_refused core.old client.now fault) }
     ensures refusal { OnOk result (¬ (fault ≡ GsFault.NoMemory)) }
-    ensures keeps { OnOk result (Keeps core.old core.new) }
+    ensures keeps { OnOk result (Stays core.old core.new) }
 {
     if let GsFault::NoMemory = fault {
         return Err(NoMemory);
@@ -38,7 +38,7 @@ pub fn change<X: Drop>(
     answer: Result<X, GsFault>,
 ) -> Result<(), NoMemory>
     ensures row { (s : Core) (r : Result SessionState GsFault) → Answers answer s.sessions core.old.sessions r → core.old ≡ with_sessions s core.old.sessions → OnOk result (core.new ≡ changed s client.now r) }
-    ensures keeps { (s : Core) → SameSessions s.sessions core.old.sessions → core.old ≡ with_sessions s core.old.sessions → OnOk result (Keeps s core.new) }
+    ensures keeps { (s : Core) → SameSessions s.sessions core.old.sessions → core.old ≡ with_sessions s core.old.sessions → OnOk result (Stays s core.new) }
 {
     match answer {
         Ok(_) => Ok(()),

@@ -5,7 +5,7 @@ ghost use Rattle.session_state.specs.State.{client_token};
 ghost use Rattle.session_state.specs.Calls.{joined, left, expelled, state_changed, message_sent, attributes_changed, voted, subscribe_taken, unsubscribe_taken};
 ghost use Rattle.node_state.specs.State.{holds};
 ghost use Rattle.node_state.specs.Calls.{caller, subscriber, changed, proposed, ballot_given, call_row};
-ghost use Rattle.node_groups.specs.Keeps.{Keeps};
+ghost use Rattle.node_groups.specs.Keeps.{Stays};
 ghost use Rattle.session_calls.specs.Calling.{is_within_session};
 
 use crate::answers::change;
@@ -46,7 +46,7 @@ fn join(
     attrs: &Attrs,
 ) -> Result<(), NoMemory>
     ensures row { OnOk result (core.new ≡ proposed core.old client.now (joined core.old.sessions (client_token core.old.sessions client.now) g.now instance attrs.now)) }
-    ensures keeps { OnOk result (Keeps core.old core.new) }
+    ensures keeps { OnOk result (Stays core.old core.new) }
 {
     let attrs = attrs.copy(alloc)?;
     let t = client_token(&core.sessions, client);
@@ -62,7 +62,7 @@ fn leave(
     phases: Phases,
 ) -> Result<(), NoMemory>
     ensures row { OnOk result (core.new ≡ proposed core.old client.now (left core.old.sessions (caller core.old.sessions client.now g.now) phases)) }
-    ensures keeps { OnOk result (Keeps core.old core.new) }
+    ensures keeps { OnOk result (Stays core.old core.new) }
 {
     let m = caller(&core.sessions, client, g);
     let answer = core.sessions.leave(alloc, m, phases);
@@ -78,7 +78,7 @@ fn expel(
     out: &[ProviderId],
 ) -> Result<(), NoMemory>
     ensures row { OnOk result (core.new ≡ proposed core.old client.now (expelled core.old.sessions (caller core.old.sessions client.now g.now) phases out.now)) }
-    ensures keeps { OnOk result (Keeps core.old core.new) }
+    ensures keeps { OnOk result (Stays core.old core.new) }
 {
     let m = caller(&core.sessions, client, g);
     let answer = core.sessions.expel(alloc, m, phases, out);
@@ -94,7 +94,7 @@ fn change_state(
     value: &[u8],
 ) -> Result<(), NoMemory>
     ensures row { OnOk result (core.new ≡ proposed core.old client.now (state_changed core.old.sessions (caller core.old.sessions client.now g.now) phases value.now)) }
-    ensures keeps { OnOk result (Keeps core.old core.new) }
+    ensures keeps { OnOk result (Stays core.old core.new) }
 {
     let m = caller(&core.sessions, client, g);
     let answer = core.sessions.change_state(alloc, m, phases, value);
@@ -110,7 +110,7 @@ fn send_message(
     bytes: &[u8],
 ) -> Result<(), NoMemory>
     ensures row { OnOk result (core.new ≡ proposed core.old client.now (message_sent core.old.sessions (caller core.old.sessions client.now g.now) phases bytes.now)) }
-    ensures keeps { OnOk result (Keeps core.old core.new) }
+    ensures keeps { OnOk result (Stays core.old core.new) }
 {
     let m = caller(&core.sessions, client, g);
     let answer = core.sessions.send_message(alloc, m, phases, bytes);
@@ -126,7 +126,7 @@ fn change_attributes(
     attrs: &Attrs,
 ) -> Result<(), NoMemory>
     ensures row { OnOk result (core.new ≡ proposed core.old client.now (attributes_changed core.old.sessions (caller core.old.sessions client.now g.now) phases attrs.now)) }
-    ensures keeps { OnOk result (Keeps core.old core.new) }
+    ensures keeps { OnOk result (Stays core.old core.new) }
 {
     let attrs = attrs.copy(alloc)?;
     let m = caller(&core.sessions, client, g);
@@ -154,7 +154,7 @@ fn vote(
 ) -> Result<(), NoMemory>
     requires level { IsTrue (is_level core.old.sessions.level) }
     ensures row { OnOk result (core.new ≡ ballot_given core.old client.now (voted core.old.sessions (caller core.old.sessions client.now g.now) vote value.now)) }
-    ensures keeps { OnOk result (Keeps core.old core.new) }
+    ensures keeps { OnOk result (Stays core.old core.new) }
 {
     let m = caller(&core.sessions, client, g);
     let answer = core.sessions.vote(alloc, m, vote, bytes_of(value));
@@ -163,7 +163,7 @@ fn vote(
 
 fn subscribe(core: &mut Core, alloc: Global, client: &[u8], g: &[u8]) -> Result<(), NoMemory>
     ensures row { OnOk result (core.new ≡ changed core.old client.now (subscribe_taken core.old.sessions (client_token core.old.sessions client.now) g.now (holds core.old g.now))) }
-    ensures keeps { OnOk result (Keeps core.old core.new) }
+    ensures keeps { OnOk result (Stays core.old core.new) }
 {
     let known = holds(core, g);
     let t = client_token(&core.sessions, client);
@@ -173,7 +173,7 @@ fn subscribe(core: &mut Core, alloc: Global, client: &[u8], g: &[u8]) -> Result<
 
 fn unsubscribe(core: &mut Core, alloc: Global, client: &[u8], g: &[u8]) -> Result<(), NoMemory>
     ensures row { OnOk result (core.new ≡ changed core.old client.now (unsubscribe_taken core.old.sessions (client_token core.old.sessions client.now) (subscriber core.old.sessions client.now g.now))) }
-    ensures keeps { OnOk result (Keeps core.old core.new) }
+    ensures keeps { OnOk result (Stays core.old core.new) }
 {
     let t = client_token(&core.sessions, client);
     let s = subscriber(&core.sessions, client, g);
@@ -187,7 +187,7 @@ pub fn take_call(core: &mut Core, alloc: Global, c: &CallLine) -> Result<(), NoM
     requires within { IsTrue (is_within_session c.now) }
     requires level { IsTrue (is_level core.old.sessions.level) }
     ensures row { OnOk result (core.new ≡ call_row core.old c.now) }
-    ensures keeps { OnOk result (Keeps core.old core.new) }
+    ensures keeps { OnOk result (Stays core.old core.new) }
 {
     match c {
         CallLine::Join {

@@ -7,7 +7,7 @@ ghost use Rattle.session_state.specs.Calls.{Answers, SameSessions};
 ghost use Rattle.node_state.specs.declared.state.Core.{Core};
 ghost use Rattle.node_state.specs.Calls.{ballot_recorded, ballot_given, last_cast};
 ghost use Rattle.node_state.specs.State.{with_sessions};
-ghost use Rattle.node_groups.specs.Keeps.{Keeps};
+ghost use Rattle.node_groups.specs.Keeps.{Stays};
 
 use crate::answers::refuse;
 use node_sending::is_frozen;
@@ -21,7 +21,7 @@ use std::alloc::Global;
 #[tactic(auto, unfolding(node_state::specs::Calls::ballot_recorded, node_state::specs::State::recorded), using(crate::proofs::CallLaws::ballot_recorded_keeps))]
 fn record_ballot(core: &mut Core, alloc: Global, k: &KeptBallot) -> Result<(), NoMemory>
     ensures row { OnOk result (core.new ≡ ballot_recorded core.old k.now k.now.ballot.filled) }
-    ensures keeps { OnOk result (Keeps core.old core.new) }
+    ensures keeps { OnOk result (Stays core.old core.new) }
 {
     match k.ballot.filled() {
         None => Ok(()),
@@ -43,7 +43,7 @@ fn record_ballot(core: &mut Core, alloc: Global, k: &KeptBallot) -> Result<(), N
 #[tactic(auto, unfolding(node_state::specs::Calls::last_cast, node_state::specs::Calls::ballot_sent_if), using(crate::proofs::CallLaws::last_there))]
 fn cast_last(core: &mut Core, alloc: Global) -> Result<(), NoMemory>
     ensures row { OnOk result (core.new ≡ last_cast core.old (last_or None core.old.sessions.kept)) }
-    ensures keeps { OnOk result (Keeps core.old core.new) }
+    ensures keeps { OnOk result (Stays core.old core.new) }
 {
     let frozen = is_frozen(core);
     let k = match core.sessions.kept.as_slice().last() {
@@ -65,7 +65,7 @@ pub fn give_ballot(
     answer: Result<(), GsFault>,
 ) -> Result<(), NoMemory>
     ensures row { (s : Core) (r : Result SessionState GsFault) → Answers answer s.sessions core.old.sessions r → core.old ≡ with_sessions s core.old.sessions → OnOk result (core.new ≡ ballot_given s client.now r) }
-    ensures keeps { (s : Core) → SameSessions s.sessions core.old.sessions → core.old ≡ with_sessions s core.old.sessions → OnOk result (Keeps s core.new) }
+    ensures keeps { (s : Core) → SameSessions s.sessions core.old.sessions → core.old ≡ with_sessions s core.old.sessions → OnOk result (Stays s core.new) }
 {
     match answer {
         Ok(()) => cast_last(core, alloc),

@@ -8,7 +8,7 @@ ghost use Rattle.node_state.specs.declared.happened.Happened.TheVariants as happ
 ghost use Rattle.node_state.specs.declared.state.Core.{Core};
 ghost use Rattle.node_state.specs.Calls.{last_asked, proposed};
 ghost use Rattle.node_state.specs.State.{recorded, with_sessions};
-ghost use Rattle.node_groups.specs.Keeps.{Keeps};
+ghost use Rattle.node_groups.specs.Keeps.{Stays};
 
 use crate::answers::refuse;
 use node_state::{Core, Happened};
@@ -21,7 +21,7 @@ use std::alloc::Global;
 #[tactic(auto, unfolding(node_state::specs::State::recorded), using(crate::proofs::CallLaws::recorded_keeps))]
 fn record_asked(core: &mut Core, alloc: Global, q: &Request) -> Result<(), NoMemory>
     ensures row { OnOk result (core.new ≡ recorded core.old (happened.Asked q.now.p q.now.r q.now.group q.now.proposal)) }
-    ensures keeps { OnOk result (Keeps core.old core.new) }
+    ensures keeps { OnOk result (Stays core.old core.new) }
 {
     core.records.push(Happened::Asked {
         p: q.p,
@@ -35,7 +35,7 @@ fn record_asked(core: &mut Core, alloc: Global, q: &Request) -> Result<(), NoMem
 #[tactic(auto, unfolding(node_state::specs::Calls::last_asked), using(crate::proofs::CallLaws::last_there))]
 fn ask_last(core: &mut Core, alloc: Global) -> Result<(), NoMemory>
     ensures row { OnOk result (core.new ≡ last_asked core.old (last_or None core.old.sessions.requests)) }
-    ensures keeps { OnOk result (Keeps core.old core.new) }
+    ensures keeps { OnOk result (Stays core.old core.new) }
 {
     let q = match core.sessions.requests.as_slice().last() {
         None => return Ok(()),
@@ -53,7 +53,7 @@ pub fn propose<X: Drop>(
     answer: Result<X, GsFault>,
 ) -> Result<(), NoMemory>
     ensures row { (s : Core) (r : Result SessionState GsFault) → Answers answer s.sessions core.old.sessions r → core.old ≡ with_sessions s core.old.sessions → OnOk result (core.new ≡ proposed s client.now r) }
-    ensures keeps { (s : Core) → SameSessions s.sessions core.old.sessions → core.old ≡ with_sessions s core.old.sessions → OnOk result (Keeps s core.new) }
+    ensures keeps { (s : Core) → SameSessions s.sessions core.old.sessions → core.old ≡ with_sessions s core.old.sessions → OnOk result (Stays s core.new) }
 {
     match answer {
         Ok(_) => ask_last(core, alloc),

@@ -5,7 +5,7 @@ ghost use Rattle.session_state.specs.Calls.{inited, removed_at};
 ghost use Rattle.session_state.specs.State.{client_token, client_place, is_client_of};
 ghost use Rattle.node_state.specs.declared.call.CallLine.TheVariants as call;
 ghost use Rattle.node_state.specs.Calls.{changed, gone_sent, all_gone_sent, call_row};
-ghost use Rattle.node_groups.specs.Keeps.{Keeps};
+ghost use Rattle.node_groups.specs.Keeps.{Stays};
 ghost use Rattle.group_leading.specs.Working.{AtWork};
 ghost use Rattle.session_calls.specs.Calling.{clients_with};
 
@@ -74,7 +74,7 @@ fn providers_of(
 #[tactic(auto, unfolding(node_state::specs::Calls::gone_sent), using(crate::proofs::CallLaws::gone_keeps))]
 fn send_gone(core: &mut Core, alloc: Global, x: &Provider) -> Result<(), NoMemory>
     ensures row { OnOk result (core.new ≡ gone_sent core.old x.now) }
-    ensures keeps { OnOk result (Keeps core.old core.new) }
+    ensures keeps { OnOk result (Stays core.old core.new) }
 {
     let leader = leader_of(core, x.group.bytes());
     let gone = Body::Gone {
@@ -86,10 +86,10 @@ fn send_gone(core: &mut Core, alloc: Global, x: &Provider) -> Result<(), NoMemor
 }
 
 /// Tells it of each of these.
-#[tactic(auto, using(std::proofs::lemmas::List::Sums::fold_more, node_groups::proofs::KeepLaws::keeps_itself, node_groups::proofs::KeepLaws::keeps_then))]
+#[tactic(auto, using(std::proofs::lemmas::List::Sums::fold_more, node_groups::proofs::KeepLaws::stays_itself, node_groups::proofs::KeepLaws::stays_then))]
 fn send_each_gone(core: &mut Core, alloc: Global, ended: &[Provider]) -> Result<(), NoMemory>
     ensures row { OnOk result (core.new ≡ fold gone_sent core.old ended.now) }
-    ensures keeps { OnOk result (Keeps core.old core.new) }
+    ensures keeps { OnOk result (Stays core.old core.new) }
 {
     for x in ended {
         send_gone(core, alloc, x)?;
@@ -98,10 +98,10 @@ fn send_each_gone(core: &mut Core, alloc: Global, ended: &[Provider]) -> Result<
 }
 
 /// Tells it of each of these, where the node is not frozen.
-#[tactic(auto, unfolding(node_state::specs::Calls::all_gone_sent), using(node_groups::proofs::KeepLaws::keeps_itself))]
+#[tactic(auto, unfolding(node_state::specs::Calls::all_gone_sent), using(node_groups::proofs::KeepLaws::stays_itself))]
 fn send_all_gone(core: &mut Core, alloc: Global, ended: &[Provider]) -> Result<(), NoMemory>
     ensures row { OnOk result (core.new ≡ all_gone_sent core.old ended.now) }
-    ensures keeps { OnOk result (Keeps core.old core.new) }
+    ensures keeps { OnOk result (Stays core.old core.new) }
 {
     if is_frozen(core) {
         return Ok(());

@@ -1,15 +1,23 @@
 -- What a pass does where clients answer.
-use Rattle.std.specs.Prelude.{Bool, List, Option}
+use Rattle.std.specs.Prelude.{◌≡◌, ◌++◌, Bool, List, Option}
 use Rattle.client_callbacks.specs.declared.votes.VoteItem.{VoteItem}
 use Rattle.node_state.specs.declared.state.Core.{Core}
 use Rattle.node_state.specs.HandOn.{Answering}
 use Rattle.node_state.specs.Ending.{Pass}
+use Rattle.entry_handing.specs.Received.{Handing}
 use Rattle.entry_handing.specs.Doing.{Does}
 
 abbrev pub passed : Core → Bool → Pass
 passed s began = record { core = s; began = began }
 
--- t, and whether something has begun, is what the row makes of s: what is done next with these two is done with
--- what the row makes of s
-pub record DoesPass (scripts : List (Option (List (Option VoteItem)))) (s t : Core) (began : Bool) (row : Answering → Pass) : Type 0 where
-  pub next : (u : Core) (rest : Answering → Pass → Core) → Does scripts t u (λ f. rest f (passed t began)) → Does scripts s u (λ f. rest f (row f))
+abbrev pub AreThese : List Handing → List Handing → Type 0
+AreThese hs xs = xs ≡ hs
+
+-- some of which P holds, and then these
+abbrev pub Before : (List Handing → Type 0) → List Handing → List Handing → Type 0
+Before P hs xs = (ys : List Handing) × P ys × (xs ≡ ys ++ hs)
+
+-- t, and whether something has begun, is what the row makes of s, and P holds of what was handed to clients: what is
+-- done next with these two is done with what the row makes of s
+pub record DoesPass (scripts : List (Option (List (Option VoteItem)))) (P : List Handing → Type 0) (s t : Core) (began : Bool) (row : Answering → Pass) : Type 0 where
+  pub next : (u : Core) (rest : Answering → Pass → Core) (hs : List Handing) → Does scripts (AreThese hs) t u (λ f. rest f (passed t began)) → Does scripts (Before P hs) s u (λ f. rest f (row f))

@@ -6,6 +6,7 @@ ghost use Rattle.node_state.specs.Ending.{attrs_for, carried_len, source_refused
 ghost use Rattle.node_groups.specs.Keeps.{Keeps};
 ghost use Rattle.node_groups.specs.Places.{InNameOrder};
 ghost use Rattle.step_ending.specs.Joining.{chosen_joins, chosen_attrs, sourced, unsourced, joins_chosen};
+ghost use Rattle.entry_handing.specs.Received.{Receive};
 ghost use Rattle.step_ending.specs.Passing.{DoesPass};
 
 use crate::queues::take_joins;
@@ -147,7 +148,7 @@ pub fn begin_joins<C: Callbacks>(
     requires work { AtWork core.old clients.old.items }
     ensures work { OnOk result (AtWork core.new clients.new.items) }
     ensures scripts { OnOk result (map C.script clients.new.items ≡ map C.script clients.old.items) }
-    ensures does { IfOk result (λ began. DoesPass (map C.script clients.old.items) core.old core.new began (λ f. joins_begin n f core.old g.now)) }
+    ensures does { IfOk result (λ began. DoesPass (map C.script clients.old.items) (Receive C.stands_for clients.old.items clients.new.items) core.old core.new began (λ f. joins_begin n f core.old g.now)) }
 {
     if n == 0 {
         return Ok(false);

@@ -6,6 +6,7 @@ ghost use Rattle.source_target.specs.Due as target;
 ghost use Rattle.node_state.specs.State.{state_of};
 ghost use Rattle.node_state.specs.Deciding.{known_state};
 ghost use Rattle.node_state.specs.Ending.{due_begins, source_begins};
+ghost use Rattle.entry_handing.specs.Received.{Receive};
 ghost use Rattle.step_ending.specs.Passing.{DoesPass};
 
 use client_callbacks::Callbacks;
@@ -54,7 +55,7 @@ fn begin_owed<C: Callbacks>(
     requires work { AtWork core.old clients.old.items }
     ensures work { OnOk result (AtWork core.new clients.new.items) }
     ensures scripts { OnOk result (map C.script clients.new.items ≡ map C.script clients.old.items) }
-    ensures does { IfOk result (λ began. DoesPass (map C.script clients.old.items) core.old core.new began (λ f. due_begins f core.old g.now state.now h.now (target.due state.now (known_state core.old h.now)))) }
+    ensures does { IfOk result (λ began. DoesPass (map C.script clients.old.items) (Receive C.stands_for clients.old.items clients.new.items) core.old core.new began (λ f. due_begins f core.old g.now state.now h.now (target.due state.now (known_state core.old h.now)))) }
 {
     match due(alloc, state, known_state(core, h.bytes()))? {
         None => Ok(false),
@@ -97,7 +98,7 @@ pub fn begin_due<C: Callbacks>(
     requires work { AtWork core.old clients.old.items }
     ensures work { OnOk result (AtWork core.new clients.new.items) }
     ensures scripts { OnOk result (map C.script clients.new.items ≡ map C.script clients.old.items) }
-    ensures does { IfOk result (λ began. DoesPass (map C.script clients.old.items) core.old core.new began (λ f. source_begins f core.old g.now (state_of core.old g.now) (state_of core.old g.now).attrs.source)) }
+    ensures does { IfOk result (λ began. DoesPass (map C.script clients.old.items) (Receive C.stands_for clients.old.items clients.new.items) core.old core.new began (λ f. source_begins f core.old g.now (state_of core.old g.now) (state_of core.old g.now).attrs.source)) }
 {
     let state = state_of(core, alloc, g.bytes())?;
     match &state.attrs.source {

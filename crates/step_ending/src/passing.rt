@@ -3,6 +3,7 @@ ghost use Rattle.std.specs.Prelude.{◌≡◌, IfOk, OnOk, fold, length, map};
 ghost use Rattle.group_leading.specs.Working.{AtWork};
 ghost use Rattle.node_state.specs.State.{row_of, list_of, led_of};
 ghost use Rattle.node_state.specs.Ending.{quiet, failures_begin, or_due, or_joins, may_begin, first_begins, group_begins, one_pass};
+ghost use Rattle.entry_handing.specs.Received.{Receive};
 ghost use Rattle.step_ending.specs.Passing.{passed, DoesPass};
 
 use crate::failing::begin_failures;
@@ -37,7 +38,7 @@ fn begin_due_or_joins<C: Callbacks>(
     requires work { AtWork core.old clients.old.items }
     ensures work { OnOk result (AtWork core.new clients.new.items) }
     ensures scripts { OnOk result (map C.script clients.new.items ≡ map C.script clients.old.items) }
-    ensures does { IfOk result (λ began. DoesPass (map C.script clients.old.items) core.old core.new began (λ f. or_joins f g.now (or_due f g.now (quiet core.old)))) }
+    ensures does { IfOk result (λ began. DoesPass (map C.script clients.old.items) (Receive C.stands_for clients.old.items clients.new.items) core.old core.new began (λ f. or_joins f g.now (or_due f g.now (quiet core.old)))) }
 {
     if begin_due(core, clients, alloc, g)? {
         return Ok(true);
@@ -57,7 +58,7 @@ fn begin_waiting<C: Callbacks>(
     requires work { AtWork core.old clients.old.items }
     ensures work { OnOk result (AtWork core.new clients.new.items) }
     ensures scripts { OnOk result (map C.script clients.new.items ≡ map C.script clients.old.items) }
-    ensures does { IfOk result (λ began. DoesPass (map C.script clients.old.items) core.old core.new began (λ f. or_joins f g.now (or_due f g.now (failures_begin (length (led_of core.old g.now).waiting.failures) f core.old g.now)))) }
+    ensures does { IfOk result (λ began. DoesPass (map C.script clients.old.items) (Receive C.stands_for clients.old.items clients.new.items) core.old core.new began (λ f. or_joins f g.now (or_due f g.now (failures_begin (length (led_of core.old g.now).waiting.failures) f core.old g.now)))) }
 {
     let failures = waiting_failures(core, g.bytes());
     if begin_failures(core, clients, alloc, g, failures)? {
@@ -77,7 +78,7 @@ fn begin_first<C: Callbacks>(
     requires work { AtWork core.old clients.old.items }
     ensures work { OnOk result (AtWork core.new clients.new.items) }
     ensures scripts { OnOk result (map C.script clients.new.items ≡ map C.script clients.old.items) }
-    ensures does { IfOk result (λ began. DoesPass (map C.script clients.old.items) core.old core.new began (λ f. first_begins f core.old g.now (row_of core.old g.now))) }
+    ensures does { IfOk result (λ began. DoesPass (map C.script clients.old.items) (Receive C.stands_for clients.old.items clients.new.items) core.old core.new began (λ f. first_begins f core.old g.now (row_of core.old g.now))) }
 {
     if !may_begin(core, g.bytes()) {
         return Ok(false);
@@ -98,7 +99,7 @@ fn begin_in_group<C: Callbacks>(
     requires work { AtWork core.old clients.old.items }
     ensures work { OnOk result (AtWork core.new clients.new.items) }
     ensures scripts { OnOk result (map C.script clients.new.items ≡ map C.script clients.old.items) }
-    ensures does { IfOk result (λ b. DoesPass (map C.script clients.old.items) core.old core.new b (λ f. group_begins n f g.now (passed core.old began))) }
+    ensures does { IfOk result (λ b. DoesPass (map C.script clients.old.items) (Receive C.stands_for clients.old.items clients.new.items) core.old core.new b (λ f. group_begins n f g.now (passed core.old began))) }
 {
     if n == 0 {
         return Ok(began);
@@ -121,7 +122,7 @@ fn begin_in_each<C: Callbacks>(
     requires work { AtWork core.old clients.old.items }
     ensures work { OnOk result (AtWork core.new clients.new.items) }
     ensures scripts { OnOk result (map C.script clients.new.items ≡ map C.script clients.old.items) }
-    ensures does { IfOk result (λ b. DoesPass (map C.script clients.old.items) core.old core.new b (λ f. fold (λ p g. group_begins most f g p) (passed core.old began) names.now)) }
+    ensures does { IfOk result (λ b. DoesPass (map C.script clients.old.items) (Receive C.stands_for clients.old.items clients.new.items) core.old core.new b (λ f. fold (λ p g. group_begins most f g p) (passed core.old began) names.now)) }
 {
     match names {
         [] => Ok(began),
@@ -144,7 +145,7 @@ pub fn pass<C: Callbacks>(
     requires work { AtWork core.old clients.old.items }
     ensures work { OnOk result (AtWork core.new clients.new.items) }
     ensures scripts { OnOk result (map C.script clients.new.items ≡ map C.script clients.old.items) }
-    ensures does { IfOk result (λ began. DoesPass (map C.script clients.old.items) core.old core.new began (λ f. one_pass most f core.old)) }
+    ensures does { IfOk result (λ began. DoesPass (map C.script clients.old.items) (Receive C.stands_for clients.old.items clients.new.items) core.old core.new began (λ f. one_pass most f core.old)) }
 {
     let names = led_groups(core, alloc)?;
     begin_in_each(core, clients, alloc, names.as_slice(), most, false)

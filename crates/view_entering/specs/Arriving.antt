@@ -1,5 +1,5 @@
 -- What a node does at an install that no client answers, and what it is told.
-use Rattle.std.specs.Prelude.{ℕ, true, false, List, [], ◌∷◌, fold, Option, Some, None}
+use Rattle.std.specs.Prelude.{ℕ, true, false, List, [], ◌∷◌, fold, map, Option, Some, None}
 use Rattle.std.specs.Str.{bytes_eq}
 use Rattle.rsct_packet.specs.declared.ids.ViewId.{ViewId}
 use Rattle.rsct_packet.specs.declared.ids.Member.{Member}
@@ -7,6 +7,7 @@ use Rattle.group_attr.specs.Attrs.{host_membership}
 use Rattle.subscribe_core.specs.declared.subs.Subscription.{Subscription}
 use Rattle.client_callbacks.specs.declared.told.Told.TheVariants as told
 use Rattle.session_state.specs.declared.state.SessionState.{SessionState}
+use Rattle.session_state.specs.State.{client_place}
 use Rattle.view_exchange.specs.declared.install.Install.{Install}
 use Rattle.view_exchange.specs.declared.install.Base.{Base}
 use Rattle.view_exchange.specs.Bases.{base_named}
@@ -20,6 +21,7 @@ use Rattle.node_state.specs.State.{held_rows}
 use Rattle.node_state.specs.Sending.{sent}
 use Rattle.node_state.specs.HandOn.{subscriber_name}
 use Rattle.node_state.specs.Applying.{view_entered, sides_dissolved, entering_noted, taken_sent, owed_sent}
+use Rattle.entry_handing.specs.Received.{Handing}
 
 -- an event of views is taken: its state stands, and what it sends is sent
 unfoldable pub views_sent : Core → ViewWork → Core
@@ -45,3 +47,11 @@ notes_at n v ms s bs u =
       | true ↦ happened.Noted n (subscriber_name s u) v None (told.Hosts v ms) ∷ []
       | false ↦ note_at n v s u (base_named bs u.group)
     ]
+
+-- what is handed to the client at a place, as a record tells it
+abbrev pub handed_at : Option ℕ → Happened → Handing
+handed_at place r = record { place = place; what = r }
+
+-- what the client of the subscription is handed
+abbrev pub note_handings : ℕ → ViewId → List Member → SessionState → List Base → Subscription → List Handing
+note_handings n v ms s bs u = map (handed_at (client_place s u.client)) (notes_at n v ms s bs u)

@@ -5,9 +5,13 @@ ghost use Rattle.std.specs.Str.{bytes_eq};
 ghost use Rattle.proposal_core.specs.Fold.{joiners_in};
 ghost use Rattle.client_callbacks.specs.declared.told.Why.TheVariants as why;
 ghost use Rattle.session_state.specs.HandOn.{telling_taken};
-ghost use Rattle.session_state.specs.State.{provider_of, outstanding, is_asked_by};
+ghost use Rattle.session_state.specs.State.{provider_of, place_of, outstanding, is_asked_by};
 ghost use Rattle.view_exchange.specs.Bases.{base_named};
-ghost use Rattle.node_groups.specs.Keeps.{Keeps};
+ghost use Rattle.node_groups.specs.Keeps.{Stays};
+ghost use Rattle.entry_handing.specs.Received.{Receive};
+ghost use Rattle.entry_handing.specs.Doing.{Does};
+ghost use Rattle.node_state.specs.declared.happened.Happened.TheVariants as happened;
+ghost use Rattle.view_entering.specs.Arriving.{handed_at};
 ghost use Rattle.session_state.specs.Calls.{SameSessions};
 ghost use Rattle.node_state.specs.Applying.{is_in_base, number_of, dissolved, dissolved_if, group_dissolved, sides_dissolved};
 
@@ -91,6 +95,7 @@ fn tell_dissolved<C: Callbacks>(
     requires aligned { length clients.old.items ≡ length sessions.old.sessions }
     ensures length { length clients.new.items ≡ length clients.old.items }
     ensures scripts { OnOk result (map C.script clients.new.items ≡ map C.script clients.old.items) }
+    ensures received { OnOk result (Receive C.stands_for clients.old.items clients.new.items (handed_at (place_of sessions.old p) (happened.Told p r why.Dissolved) ∷ [])) }
     ensures state { OnOk result (sessions.new ≡ telling_taken sessions.old p r why.Dissolved) }
     ensures same { OnOk result (SameSessions sessions.old sessions.new) }
 {
@@ -104,7 +109,7 @@ fn tell_dissolved<C: Callbacks>(
 }
 
 /// Dissolves a provider, and records it.
-#[tactic(auto, unfolding(node_state::specs::Applying::dissolved, node_state::specs::State::recorded, node_state::specs::State::with_sessions), using(crate::proofs::WorkLaws::told_keeps))]
+#[tactic(auto, unfolding(node_state::specs::Applying::dissolved, node_state::specs::State::recorded, node_state::specs::State::with_sessions), using(crate::proofs::ToldLaws::told_stays))]
 fn dissolve<C: Callbacks>(
     core: &mut Core,
     clients: &mut Vec<C>,
@@ -114,8 +119,9 @@ fn dissolve<C: Callbacks>(
     requires aligned { length clients.old.items ≡ length core.old.sessions.sessions }
     ensures length { length clients.new.items ≡ length clients.old.items }
     ensures scripts { OnOk result (map C.script clients.new.items ≡ map C.script clients.old.items) }
+    ensures received { OnOk result (Receive C.stands_for clients.old.items clients.new.items (handed_at (place_of core.old.sessions p) (happened.Told p r why.Dissolved) ∷ [])) }
     ensures row { OnOk result (core.new ≡ dissolved core.old p r) }
-    ensures keeps { OnOk result (Keeps core.old core.new) }
+    ensures stays { OnOk result (Stays core.old core.new) }
 {
     tell_dissolved(&mut core.sessions, clients, p, r)?;
     core.records.push(Happened::Told {
@@ -126,7 +132,7 @@ fn dissolve<C: Callbacks>(
 }
 
 /// Dissolves a provider that takes part in the group and does not live in its base.
-#[tactic(auto, unfolding(node_state::specs::Applying::dissolved_if, session_state::specs::State::provider_of), using(node_groups::proofs::KeepLaws::keeps_itself))]
+#[tactic(auto, using(node_groups::proofs::KeepLaws::stays_itself))]
 fn dissolve_if<C: Callbacks>(
     core: &mut Core,
     clients: &mut Vec<C>,
@@ -138,8 +144,8 @@ fn dissolve_if<C: Callbacks>(
     requires aligned { length clients.old.items ≡ length core.old.sessions.sessions }
     ensures length { length clients.new.items ≡ length clients.old.items }
     ensures scripts { OnOk result (map C.script clients.new.items ≡ map C.script clients.old.items) }
-    ensures row { OnOk result (core.new ≡ dissolved_if core.old g.now old (option_copied base.entry) (provider_of core.old.sessions p)) }
-    ensures keeps { OnOk result (Keeps core.old core.new) }
+    ensures does { OnOk result (Does (map C.script clients.old.items) (Receive C.stands_for clients.old.items clients.new.items) core.old core.new (λ f. dissolved_if core.old g.now old (option_copied base.entry) (provider_of core.old.sessions p))) }
+    ensures stays { OnOk result (Stays core.old core.new) }
 {
     match core.sessions.providers.get(p) {
         None => Ok(()),
@@ -155,7 +161,6 @@ fn dissolve_if<C: Callbacks>(
 }
 
 /// Dissolves those of these that take part in the group and do not live in its base.
-#[tactic(auto, using(std::proofs::lemmas::List::Sums::fold_more, node_groups::proofs::KeepLaws::keeps_itself, node_groups::proofs::KeepLaws::keeps_then))]
 fn dissolve_each<C: Callbacks>(
     core: &mut Core,
     clients: &mut Vec<C>,
@@ -167,8 +172,8 @@ fn dissolve_each<C: Callbacks>(
     requires aligned { length clients.old.items ≡ length core.old.sessions.sessions }
     ensures length { length clients.new.items ≡ length clients.old.items }
     ensures scripts { OnOk result (map C.script clients.new.items ≡ map C.script clients.old.items) }
-    ensures row { OnOk result (core.new ≡ fold (λ t p. dissolved_if t g.now old (option_copied base.entry) (provider_of t.sessions p)) core.old ps.now) }
-    ensures keeps { OnOk result (Keeps core.old core.new) }
+    ensures does { OnOk result (Does (map C.script clients.old.items) (Receive C.stands_for clients.old.items clients.new.items) core.old core.new (λ f. fold (λ t p. dissolved_if t g.now old (option_copied base.entry) (provider_of t.sessions p)) core.old ps.now)) }
+    ensures stays { OnOk result (Stays core.old core.new) }
 {
     for p in ps {
         dissolve_if(core, clients, g, old, base, *p)?;
@@ -177,7 +182,7 @@ fn dissolve_each<C: Callbacks>(
 }
 
 /// Dissolves those of a group's list, members and then running joiners, that do not live in the group's base.
-#[tactic(auto, unfolding(node_state::specs::Applying::group_dissolved), using(std::proofs::lemmas::Grind::common_steps, node_groups::proofs::KeepLaws::keeps_itself, node_groups::proofs::KeepLaws::keeps_then))]
+#[tactic(auto, using(node_groups::proofs::KeepLaws::stays_itself, node_groups::proofs::KeepLaws::stays_then))]
 fn dissolve_group<C: Callbacks>(
     core: &mut Core,
     clients: &mut Vec<C>,
@@ -188,8 +193,8 @@ fn dissolve_group<C: Callbacks>(
     requires aligned { length clients.old.items ≡ length core.old.sessions.sessions }
     ensures length { length clients.new.items ≡ length clients.old.items }
     ensures scripts { OnOk result (map C.script clients.new.items ≡ map C.script clients.old.items) }
-    ensures row { OnOk result (core.new ≡ fold (group_dissolved old bases.now) core.old (filter (λ x. is_some x.list) (row.now ∷ []))) }
-    ensures keeps { OnOk result (Keeps core.old core.new) }
+    ensures does { OnOk result (Does (map C.script clients.old.items) (Receive C.stands_for clients.old.items clients.new.items) core.old core.new (λ f. fold (group_dissolved old bases.now) core.old (filter (λ x. is_some x.list) (row.now ∷ [])))) }
+    ensures stays { OnOk result (Stays core.old core.new) }
 {
     match &row.list {
         None => Ok(()),
@@ -217,7 +222,6 @@ fn dissolve_group<C: Callbacks>(
 }
 
 /// Dissolves, in the order of these rows of the old view, those of their lists that do not live in their bases.
-#[tactic(auto, unfolding(node_state::specs::Applying::sides_dissolved), using(crate::proofs::SideLaws::sides_more, node_groups::proofs::KeepLaws::keeps_itself, node_groups::proofs::KeepLaws::keeps_then))]
 pub(crate) fn dissolve_sides<C: Callbacks>(
     core: &mut Core,
     clients: &mut Vec<C>,
@@ -228,8 +232,8 @@ pub(crate) fn dissolve_sides<C: Callbacks>(
     requires aligned { length clients.old.items ≡ length core.old.sessions.sessions }
     ensures length { length clients.new.items ≡ length clients.old.items }
     ensures scripts { OnOk result (map C.script clients.new.items ≡ map C.script clients.old.items) }
-    ensures row { OnOk result (core.new ≡ sides_dissolved core.old (filter (λ x. is_some x.list) rows.now) old bases.now) }
-    ensures keeps { OnOk result (Keeps core.old core.new) }
+    ensures does { OnOk result (Does (map C.script clients.old.items) (Receive C.stands_for clients.old.items clients.new.items) core.old core.new (λ f. sides_dissolved core.old (filter (λ x. is_some x.list) rows.now) old bases.now)) }
+    ensures stays { OnOk result (Stays core.old core.new) }
 {
     for row in rows {
         dissolve_group(core, clients, row, old, bases)?;

@@ -3,11 +3,12 @@ ghost use Rattle.std.specs.Prelude.{◌≡◌, ◌++◌, ◌∷◌, OnOk, IfOk, 
 ghost use Rattle.rsct_packet.specs.Format.{EachFits};
 ghost use Rattle.name_server.specs.Names.{names_differ};
 ghost use Rattle.view_exchange.specs.Bases.{bases_of};
-ghost use Rattle.entry_handing.specs.Doing.{Does, Follows};
+ghost use Rattle.entry_handing.specs.Received.{Receive};
+ghost use Rattle.entry_handing.specs.Doing.{Does};
 ghost use Rattle.node_groups.specs.Keeps.{Keeps};
 ghost use Rattle.node_groups.specs.Places.{InNameOrder};
 ghost use Rattle.group_leading.specs.Working.{AtWork};
-ghost use Rattle.node_state.specs.State.{recorded_all, held_rows};
+ghost use Rattle.node_state.specs.State.{recorded_all};
 ghost use Rattle.node_state.specs.Applying.{base_row, base_leader, base_record, view_entered, taken_sent, owed_sent, groups_led, install_applied};
 ghost use Rattle.node_state.specs.declared.happened.Happened.TheVariants as happened;
 ghost use Rattle.view_entering.specs.Carried.{IsSound};
@@ -121,7 +122,6 @@ fn send_owed(core: &mut Core, alloc: Global) -> Result<(), NoMemory>
 }
 
 /// Enters the view of an install, tells clients what has become of their groups, and sends what is outstanding.
-#[tactic(auto, unfolding(crate::specs::Arriving::arrived, node_state::specs::State::held_rows))]
 fn arrive<C: Callbacks>(
     core: &mut Core,
     clients: &mut Vec<C>,
@@ -134,8 +134,7 @@ fn arrive<C: Callbacks>(
     requires order { InNameOrder (map base_row bases.now) }
     ensures work { OnOk result (AtWork core.new clients.new.items) }
     ensures scripts { OnOk result (map C.script clients.new.items ≡ map C.script clients.old.items) }
-    ensures row { OnOk result (core.new ≡ arrived core.old i bases.now) }
-    ensures follows { OnOk result (Follows core.old core.new) }
+    ensures does { OnOk result (Does (map C.script clients.old.items) (Receive C.stands_for clients.old.items clients.new.items) core.old core.new (λ f. arrived core.old i bases.now)) }
 {
     let old = core.views.view;
     let rows = start_anew(core, alloc, i, bases)?;
@@ -155,7 +154,7 @@ fn enter<C: Callbacks>(
     requires work { AtWork core.old clients.old.items }
     ensures work { OnOk result (AtWork core.new clients.new.items) }
     ensures scripts { OnOk result (map C.script clients.new.items ≡ map C.script clients.old.items) }
-    ensures does { OnOk result (Does (map C.script clients.old.items) core.old core.new (λ f. groups_led f (arrived core.old i (bases_of i)))) }
+    ensures does { OnOk result (Does (map C.script clients.old.items) (Receive C.stands_for clients.old.items clients.new.items) core.old core.new (λ f. groups_led f (arrived core.old i (bases_of i)))) }
 {
     let bases = bases_of(alloc, &i)?;
     arrive(core, clients, alloc, i, bases.as_slice())?;
@@ -172,7 +171,7 @@ pub(crate) fn apply<C: Callbacks>(
     requires work { AtWork core.old clients.old.items }
     ensures work { OnOk result (AtWork core.new clients.new.items) }
     ensures scripts { OnOk result (map C.script clients.new.items ≡ map C.script clients.old.items) }
-    ensures does { OnOk result (Does (map C.script clients.old.items) core.old core.new (λ f. install_applied f core.old (Some i))) }
+    ensures does { OnOk result (Does (map C.script clients.old.items) (Receive C.stands_for clients.old.items clients.new.items) core.old core.new (λ f. install_applied f core.old (Some i))) }
 {
     if !fill(core, clients, alloc, &i)? {
         return Ok(());

@@ -1,5 +1,6 @@
 //! What the node's lists lack of those that an install carries of its old view.
 ghost use Rattle.std.specs.Prelude.{◌≡◌, OnOk, IfOk, Some, None, map, find, is_some, option_copied};
+ghost use Rattle.entry_handing.specs.Received.{Receive};
 ghost use Rattle.entry_handing.specs.Doing.{Does};
 ghost use Rattle.group_leading.specs.Working.{AtWork};
 ghost use Rattle.view_exchange.specs.Bases.{source_at};
@@ -100,7 +101,7 @@ fn fill_one<C: Callbacks>(
     requires work { AtWork core.old clients.old.items }
     ensures work { OnOk result (AtWork core.new clients.new.items) }
     ensures scripts { OnOk result (map C.script clients.new.items ≡ map C.script clients.old.items) }
-    ensures does { OnOk result (Does (map C.script clients.old.items) core.old core.new (λ f. put_and_handed f core.old None g.now e.now)) }
+    ensures does { OnOk result (Does (map C.script clients.old.items) (Receive C.stands_for clients.old.items clients.new.items) core.old core.new (λ f. put_and_handed f core.old None g.now e.now)) }
 {
     if !fits_at_end(core, alloc, g.bytes(), e) {
         return Err(NoMemory);
@@ -119,7 +120,7 @@ fn fill_list<C: Callbacks>(
     requires work { AtWork core.old clients.old.items }
     ensures work { OnOk result (AtWork core.new clients.new.items) }
     ensures scripts { OnOk result (map C.script clients.new.items ≡ map C.script clients.old.items) }
-    ensures does { OnOk result (Does (map C.script clients.old.items) core.old core.new (λ f. list_filled f g.now core.old entries.now)) }
+    ensures does { OnOk result (Does (map C.script clients.old.items) (Receive C.stands_for clients.old.items clients.new.items) core.old core.new (λ f. list_filled f g.now core.old entries.now)) }
 {
     for e in entries {
         fill_one(core, clients, alloc, g, e)?;
@@ -137,7 +138,7 @@ fn fill_lists<C: Callbacks>(
     requires work { AtWork core.old clients.old.items }
     ensures work { OnOk result (AtWork core.new clients.new.items) }
     ensures scripts { OnOk result (map C.script clients.new.items ≡ map C.script clients.old.items) }
-    ensures does { OnOk result (Does (map C.script clients.old.items) core.old core.new (λ f. lists_filled f core.old (map lacking_at missing.now))) }
+    ensures does { OnOk result (Does (map C.script clients.old.items) (Receive C.stands_for clients.old.items clients.new.items) core.old core.new (λ f. lists_filled f core.old (map lacking_at missing.now))) }
 {
     for m in missing {
         fill_list(core, clients, alloc, m.group, m.entries)?;
@@ -157,7 +158,7 @@ pub(crate) fn fill<C: Callbacks>(
     ensures goes { IfOk result (λ b. b ≡ is_some (lacking core.old i.now)) }
     ensures work { OnOk result (AtWork core.new clients.new.items) }
     ensures scripts { OnOk result (map C.script clients.new.items ≡ map C.script clients.old.items) }
-    ensures does { OnOk result (Does (map C.script clients.old.items) core.old core.new (λ f. filled_if f core.old (lacking core.old i.now))) }
+    ensures does { OnOk result (Does (map C.script clients.old.items) (Receive C.stands_for clients.old.items clients.new.items) core.old core.new (λ f. filled_if f core.old (lacking core.old i.now))) }
 {
     match all_missing(core, alloc, i)? {
         None => Ok(false),

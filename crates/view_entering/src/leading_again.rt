@@ -2,6 +2,7 @@
 ghost use Rattle.std.specs.Prelude.{◌≡◌, OnOk, IfOk, filter, is_some, map};
 ghost use Rattle.std.specs.List.{fold};
 ghost use Rattle.rsct_packet.specs.Providers.{among};
+ghost use Rattle.entry_handing.specs.Received.{Receive};
 ghost use Rattle.entry_handing.specs.Doing.{Does};
 ghost use Rattle.group_leading.specs.Working.{AtWork};
 ghost use Rattle.node_groups.specs.Keeps.{Keeps};
@@ -38,7 +39,7 @@ fn reopen<C: Callbacks>(
     requires work { AtWork core.old clients.old.items }
     ensures work { OnOk result (AtWork core.new clients.new.items) }
     ensures scripts { OnOk result (map C.script clients.new.items ≡ map C.script clients.old.items) }
-    ensures does { OnOk result (Does (map C.script clients.old.items) core.old core.new (λ f. phase_reopened f core.old g.now runs)) }
+    ensures does { OnOk result (Does (map C.script clients.old.items) (Receive C.stands_for clients.old.items clients.new.items) core.old core.new (λ f. phase_reopened f core.old g.now runs)) }
 {
     if !runs {
         return Ok(());
@@ -72,7 +73,7 @@ fn lead<C: Callbacks>(
     requires work { AtWork core.old clients.old.items }
     ensures work { OnOk result (AtWork core.new clients.new.items) }
     ensures scripts { OnOk result (map C.script clients.new.items ≡ map C.script clients.old.items) }
-    ensures does { OnOk result (Does (map C.script clients.old.items) core.old core.new (λ f. group_led f core.old g.now)) }
+    ensures does { OnOk result (Does (map C.script clients.old.items) (Receive C.stands_for clients.old.items clients.new.items) core.old core.new (λ f. group_led f core.old g.now)) }
 {
     let state = state_of(core, alloc, g.bytes())?;
     let failed = failed_members(alloc, &state)?;
@@ -89,7 +90,7 @@ fn lead_each<C: Callbacks>(
     requires work { AtWork core.old clients.old.items }
     ensures work { OnOk result (AtWork core.new clients.new.items) }
     ensures scripts { OnOk result (map C.script clients.new.items ≡ map C.script clients.old.items) }
-    ensures does { OnOk result (Does (map C.script clients.old.items) core.old core.new (λ f. fold (group_led f) core.old groups.now)) }
+    ensures does { OnOk result (Does (map C.script clients.old.items) (Receive C.stands_for clients.old.items clients.new.items) core.old core.new (λ f. fold (group_led f) core.old groups.now)) }
 {
     for g in groups {
         lead(core, clients, alloc, g)?;
@@ -106,7 +107,7 @@ pub(crate) fn lead_groups<C: Callbacks>(
     requires work { AtWork core.old clients.old.items }
     ensures work { OnOk result (AtWork core.new clients.new.items) }
     ensures scripts { OnOk result (map C.script clients.new.items ≡ map C.script clients.old.items) }
-    ensures does { OnOk result (Does (map C.script clients.old.items) core.old core.new (λ f. groups_led f core.old)) }
+    ensures does { OnOk result (Does (map C.script clients.old.items) (Receive C.stands_for clients.old.items clients.new.items) core.old core.new (λ f. groups_led f core.old)) }
 {
     let groups = led_groups(core, alloc)?;
     lead_each(core, clients, alloc, groups.as_slice())

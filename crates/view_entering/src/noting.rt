@@ -1,14 +1,16 @@
 //! What subscribers are told at an install.
 ghost use Rattle.std.specs.Prelude.{◌≡◌, ◌++◌, ◌∷◌, [], OnOk, IfOk, None, find, length, map, option_copied};
 ghost use Rattle.std.specs.List.{flat_map};
-ghost use Rattle.session_state.specs.State.{is_session};
+ghost use Rattle.session_state.specs.State.{is_session, client_place};
 ghost use Rattle.client_callbacks.specs.declared.told.Told.TheVariants as told;
 ghost use Rattle.node_state.specs.declared.happened.Happened.TheVariants as happened;
 ghost use Rattle.node_state.specs.HandOn.{subscriber_name};
 ghost use Rattle.view_exchange.specs.Bases.{base_named};
 ghost use Rattle.node_state.specs.Applying.{entering_noted};
-ghost use Rattle.node_groups.specs.Keeps.{Keeps};
-ghost use Rattle.view_entering.specs.Arriving.{note_at, notes_at};
+ghost use Rattle.node_groups.specs.Keeps.{Stays};
+ghost use Rattle.entry_handing.specs.Received.{Receive};
+ghost use Rattle.entry_handing.specs.Doing.{Does};
+ghost use Rattle.view_entering.specs.Arriving.{note_at, notes_at, handed_at, note_handings};
 
 use crate::dissolving::base_named;
 use client_callbacks::{Callbacks, Told};
@@ -64,6 +66,7 @@ fn tell<C: Callbacks>(
     requires aligned { length clients.old.items ≡ length sessions.now.sessions }
     ensures length { length clients.new.items ≡ length clients.old.items }
     ensures scripts { OnOk result (map C.script clients.new.items ≡ map C.script clients.old.items) }
+    ensures received { OnOk result (Receive C.stands_for clients.old.items clients.new.items (handed_at (client_place sessions.now u.now.client) (happened.Noted a.now.node (subscriber_name sessions.now u.now) a.now.view None told) ∷ [])) }
     ensures records { OnOk result (records.new ≡ records.old ++ happened.Noted a.now.node (subscriber_name sessions.now u.now) a.now.view None told ∷ []) }
 {
     let client = subscriber_name(alloc, sessions, u)?;
@@ -110,6 +113,7 @@ fn tell_base<C: Callbacks>(
     requires aligned { length clients.old.items ≡ length sessions.now.sessions }
     ensures length { length clients.new.items ≡ length clients.old.items }
     ensures scripts { OnOk result (map C.script clients.new.items ≡ map C.script clients.old.items) }
+    ensures received { OnOk result (Receive C.stands_for clients.old.items clients.new.items (map (handed_at (client_place sessions.now u.now.client)) (note_at a.now.node a.now.view sessions.now u.now (base_named a.now.bases.now u.now.group)))) }
     ensures records { OnOk result (records.new ≡ records.old ++ note_at a.now.node a.now.view sessions.now u.now (base_named a.now.bases.now u.now.group)) }
 {
     match base_named(a.bases, u.group.as_slice()) {
@@ -133,6 +137,7 @@ fn tell_one<C: Callbacks>(
     requires aligned { length clients.old.items ≡ length sessions.now.sessions }
     ensures length { length clients.new.items ≡ length clients.old.items }
     ensures scripts { OnOk result (map C.script clients.new.items ≡ map C.script clients.old.items) }
+    ensures received { OnOk result (Receive C.stands_for clients.old.items clients.new.items (note_handings a.now.node a.now.view a.now.members.now sessions.now a.now.bases.now u.now)) }
     ensures records { OnOk result (records.new ≡ records.old ++ notes_at a.now.node a.now.view a.now.members.now sessions.now a.now.bases.now u.now) }
 {
     if u.group.as_slice() == HOST_MEMBERSHIP {
@@ -144,7 +149,6 @@ fn tell_one<C: Callbacks>(
 }
 
 /// Tells the clients of all subscriptions, oldest first.
-#[tactic(auto, using(std::proofs::lemmas::List::flat_map_more, std::proofs::lemmas::Grind::common_steps))]
 fn tell_all<C: Callbacks>(
     sessions: &SessionState,
     clients: &mut Vec<C>,
@@ -155,6 +159,7 @@ fn tell_all<C: Callbacks>(
     requires aligned { length clients.old.items ≡ length sessions.now.sessions }
     ensures length { length clients.new.items ≡ length clients.old.items }
     ensures scripts { OnOk result (map C.script clients.new.items ≡ map C.script clients.old.items) }
+    ensures received { OnOk result (Receive C.stands_for clients.old.items clients.new.items (flat_map (note_handings a.now.node a.now.view a.now.members.now sessions.now a.now.bases.now) sessions.now.subs.live)) }
     ensures records { OnOk result (records.new ≡ records.old ++ flat_map (notes_at a.now.node a.now.view a.now.members.now sessions.now a.now.bases.now) sessions.now.subs.live) }
 {
     for u in sessions.subs.live() {
@@ -164,7 +169,7 @@ fn tell_all<C: Callbacks>(
 }
 
 /// Tells the clients of subscriptions who the hosts of the view are and what their groups begin with, oldest first.
-#[tactic(auto, unfolding(node_state::specs::Applying::entering_noted, node_state::specs::Applying::entering_note, node_state::specs::Applying::base_note, node_state::specs::HandOn::note_of, node_state::specs::State::recorded_all), using(crate::proofs::WorkLaws::noted_keeps))]
+#[tactic(auto, unfolding(node_state::specs::State::recorded_all), using(crate::proofs::ToldLaws::noted_stays))]
 pub(crate) fn note_bases<C: Callbacks>(
     core: &mut Core,
     clients: &mut Vec<C>,
@@ -174,8 +179,8 @@ pub(crate) fn note_bases<C: Callbacks>(
     requires aligned { length clients.old.items ≡ length core.old.sessions.sessions }
     ensures length { length clients.new.items ≡ length clients.old.items }
     ensures scripts { OnOk result (map C.script clients.new.items ≡ map C.script clients.old.items) }
-    ensures row { OnOk result (core.new ≡ entering_noted core.old bases.now) }
-    ensures keeps { OnOk result (Keeps core.old core.new) }
+    ensures does { OnOk result (Does (map C.script clients.old.items) (Receive C.stands_for clients.old.items clients.new.items) core.old core.new (λ f. entering_noted core.old bases.now)) }
+    ensures stays { OnOk result (Stays core.old core.new) }
 {
     let arrival = Arrival {
         node: core.views.me,

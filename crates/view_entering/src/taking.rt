@@ -1,6 +1,7 @@
 //! What the rows of views make of a node.
 ghost use Rattle.std.specs.Prelude.{◌≡◌, OnOk, IfOk, map};
 ghost use Rattle.std.specs.List.{fold};
+ghost use Rattle.entry_handing.specs.Received.{Receive};
 ghost use Rattle.entry_handing.specs.Doing.{Does};
 ghost use Rattle.group_leading.specs.Working.{AtWork};
 ghost use Rattle.view_core.specs.Steps.{view_stepped};
@@ -60,7 +61,7 @@ pub fn take_view<C: Callbacks>(
     requires work { AtWork core.old clients.old.items }
     ensures work { OnOk result (AtWork core.new clients.new.items) }
     ensures scripts { OnOk result (map C.script clients.new.items ≡ map C.script clients.old.items) }
-    ensures does { OnOk result (Does (map C.script clients.old.items) core.old core.new (λ f. views_taken f core.old (view_stepped core.old.views e.entry (own_parts core.old)))) }
+    ensures does { OnOk result (Does (map C.script clients.old.items) (Receive C.stands_for clients.old.items clients.new.items) core.old core.new (λ f. views_taken f core.old (view_stepped core.old.views e.entry (own_parts core.old)))) }
 {
     match step(core, alloc, e)? {
         None => Ok(()),
@@ -78,7 +79,7 @@ pub fn take_order<C: Callbacks>(
     requires work { AtWork core.old clients.old.items }
     ensures work { OnOk result (AtWork core.new clients.new.items) }
     ensures scripts { OnOk result (map C.script clients.new.items ≡ map C.script clients.old.items) }
-    ensures does { OnOk result (Does (map C.script clients.old.items) core.old core.new (λ f. order_row f core.old mask)) }
+    ensures does { OnOk result (Does (map C.script clients.old.items) (Receive C.stands_for clients.old.items clients.new.items) core.old core.new (λ f. order_row f core.old mask)) }
 {
     if is_fixed(core.config.mode) {
         return Ok(());
@@ -95,7 +96,7 @@ pub fn tick_views<C: Callbacks>(
     requires work { AtWork core.old clients.old.items }
     ensures work { OnOk result (AtWork core.new clients.new.items) }
     ensures scripts { OnOk result (map C.script clients.new.items ≡ map C.script clients.old.items) }
-    ensures does { OnOk result (Does (map C.script clients.old.items) core.old core.new (λ f. views_part f core.old)) }
+    ensures does { OnOk result (Does (map C.script clients.old.items) (Receive C.stands_for clients.old.items clients.new.items) core.old core.new (λ f. views_part f core.old)) }
 {
     let ring_ask = ring_ask(core);
     take_view(core, clients, alloc, ViewEvent::Tick { ring_ask })?;

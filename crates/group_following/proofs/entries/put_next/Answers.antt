@@ -13,5 +13,5 @@ returns-clause-work g c =
 pub returns-clause-does : goal.returns-clause-does
 returns-clause-does g c =
     on_ok_weaker c.follow.result
-    (next_does _ c.args.core.now c.put_and_hand.new.core c.follow.new.core c.args.from c.args.g.now c.args.stable c.args.e.now c.in_ok-put_and_hand.ensures.does)
+    (next_does _ _ c.args.core.now c.put_and_hand.new.core c.follow.new.core c.args.from c.args.g.now c.args.stable c.args.e.now c.in_ok-put_and_hand.ensures.does)
     c.follow.ensures

@@ -3,32 +3,32 @@ use Rattle.std.proofs.Common.{◌≡◌, true, refl, sym}
 use Rattle.std.proofs.lemmas.Result.{on_ok_weaker}
 use Rattle.node_state.specs.Following.{is_name_used, name_row}
 use Rattle.node_groups.proofs.KeepLaws.{keeps_itself}
-use Rattle.entry_handing.proofs.DoingLaws.{does_plain}
+use Rattle.entry_handing.proofs.DoingLaws.{receive_nothing, does_plain, does_as}
 use Rattle.group_leading.proofs.WorkLaws.{keeps_follows}
 use Rattle.group_following.proofs.KeepLaws.{does_row, work_told, on_ok_two}
-use Rattle.group_following.proofs.NameLaws.{name_unused, name_refused, name_led, refused_keeps}
+use Rattle.group_following.proofs.NameLaws.{name_unused, name_refused, name_led, refused_stays}
 use Rattle.group_following.proofs.naming.take_name.Goals as goal
 
 pub returns-then-not-is_name_used-clause-does : goal.returns-then-not-is_name_used-clause-does
 returns-then-not-is_name_used-clause-does g c =
-    does_row _ c.args.core.now c.args.core.now c.args.core.now _ (keeps_itself c.args.core.now) (λ f. name_unused c.args.core.now c.args.g.now c.args.n (sym (rw c.bytes.ensures.value at c.if-not-is_name_used.ensures))) refl
+    does_row _ _ (receive_nothing _ _) c.args.core.now c.args.core.now c.args.core.now _ (keeps_itself c.args.core.now) (λ f. name_unused c.args.core.now c.args.g.now c.args.n (sym (rw c.bytes.ensures.value at c.if-not-is_name_used.ensures))) refl
 
 pub returns-then-n-eq0-clause-work : goal.returns-then-n-eq0-clause-work
 returns-then-n-eq0-clause-work g c =
     on_ok_two c.refuse_requests.result
-    (λ told aligned. work_told c.args.core.now c.refuse_requests.new.core _ c.args.clients.now.items c.refuse_requests.new.clients.items c.requires.work (refused_keeps c.args.core.now c.args.g.now) (rw c.bytes-then-n-eq0.ensures.value at told) aligned)
-    c.refuse_requests.ensures.row c.refuse_requests.ensures.aligned
+    (work_told _ _ c.args.core.now c.refuse_requests.new.core _ c.args.clients.now.items c.refuse_requests.new.clients.items c.requires.work (refused_stays c.args.core.now c.args.g.now))
+    (rw c.bytes-then-n-eq0.ensures.value at c.refuse_requests.ensures.does) c.refuse_requests.ensures.aligned
 
 pub returns-then-n-eq0-clause-does : goal.returns-then-n-eq0-clause-does
 returns-then-n-eq0-clause-does g c =
     let used : is_name_used c.args.core.now c.args.g.now c.args.n ≡ true = sym (rw c.bytes.ensures.value at c.if-not-is_name_used.ensures) in
     on_ok_weaker c.refuse_requests.result
-    (λ told. does_row _ c.args.core.now c.refuse_requests.new.core _ _ (refused_keeps c.args.core.now c.args.g.now) (λ f. name_refused c.args.core.now _ c.args.g.now c.args.n used c.if-n-eq0.true refl) (rw c.bytes-then-n-eq0.ensures.value at told))
-    c.refuse_requests.ensures.row
+    (does_as _ _ c.args.core.now c.refuse_requests.new.core _ _ (λ f. name_refused c.args.core.now c.args.g.now c.args.n used c.if-n-eq0.true))
+    (rw c.bytes-then-n-eq0.ensures.value at c.refuse_requests.ensures.does)
 
 pub returns-clause-does : goal.returns-clause-does
 returns-clause-does g c =
     let used : is_name_used c.args.core.now c.args.g.now c.args.n ≡ true = sym (rw c.bytes.ensures.value at c.if-not-is_name_used.ensures) in
     on_ok_two c.know_leader.result
-    (λ led keeps. does_plain _ c.args.core.now c.know_leader.new.core (name_row c.args.core.now c.args.g.now c.args.n) (name_led c.args.core.now c.know_leader.new.core c.args.g.now c.args.n used c.if-n-eq0.false led) (keeps_follows c.args.core.now c.know_leader.new.core keeps))
+    (λ led keeps. does_plain _ _ c.args.core.now c.know_leader.new.core (name_row c.args.core.now c.args.g.now c.args.n) (receive_nothing _ _) (name_led c.args.core.now c.know_leader.new.core c.args.g.now c.args.n used c.if-n-eq0.false led) (keeps_follows c.args.core.now c.know_leader.new.core keeps))
     c.know_leader.ensures.row c.know_leader.ensures.keeps

@@ -6,5 +6,5 @@ use Rattle.group_following.proofs.requesting.decide_new.Goals as goal
 pub returns-clause-does : goal.returns-clause-does
 returns-clause-does g c =
     on_ok_weaker c.decide.result
-    (new_does _ c.args.core.now c.set_leader.new.core c.decide.new.core c.args.g.now c.args.p c.args.r c.args.phases c.args.x.now c.in_ok-set_leader.ensures.row)
+    (new_does _ _ c.args.core.now c.set_leader.new.core c.decide.new.core c.args.g.now c.args.p c.args.r c.args.phases c.args.x.now c.in_ok-set_leader.ensures.row)
     c.decide.ensures.does

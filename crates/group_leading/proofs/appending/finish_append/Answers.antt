@@ -14,6 +14,6 @@ returns-clause-work g c =
 pub returns-clause-does : goal.returns-clause-does
 returns-clause-does g c =
     on_ok_weaker c.new_members_wait.result
-    (λ waiting. append_finished_does _ c.args.core.now c.send_and_hand.new.core c.forget_least.new.core c.new_members_wait.new.core c.args.g.now c.args.place c.args.before.now c.in_ok-after.after c.args.e.now
+    (λ waiting. append_finished_does _ _ c.args.core.now c.send_and_hand.new.core c.forget_least.new.core c.new_members_wait.new.core c.args.g.now c.args.place c.args.before.now c.in_ok-after.after c.args.e.now
     (rw c.bytes.ensures.value at c.in_ok-after.ensures.value) c.in_ok-send_and_hand.ensures.does c.in_ok-forget_least.ensures.row c.in_ok-forget_least.ensures.keeps waiting)
     c.new_members_wait.ensures

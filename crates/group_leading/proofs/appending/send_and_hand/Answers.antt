@@ -11,6 +11,6 @@ hand-requires-clause-work g c =
 pub returns-clause-does : goal.returns-clause-does
 returns-clause-does g c =
     on_ok_weaker c.hand.result
-    (λ handing. sent_and_handed_does _ c.args.core.now c.send_entry_to_others.new.core c.hand.new.core c.args.g.now c.args.place c.args.before.now c.args.after.now c.args.e.now c.in_ok-send_entry_to_others.ensures
+    (λ handing. sent_and_handed_does _ _ c.args.core.now c.send_entry_to_others.new.core c.hand.new.core c.args.g.now c.args.place c.args.before.now c.args.after.now c.args.e.now c.in_ok-send_entry_to_others.ensures
     (rw (← (rw c.bytes.ensures.value at c.leader_of-leader.ensures)) handing))
     c.hand.ensures.does

@@ -7,5 +7,5 @@ use Rattle.node_groups.proofs.changes.put.Goals as goal
 pub returns-clause-keeps : goal.returns-clause-keeps
 returns-clause-keeps c =
     on_ok_weaker c.record_put.result
-    (λ recording. keeps_then c.args.core.now c.put_entry.new.core c.record_put.new.core (keeps_as _ _ _ c.in_ok-put_entry.ensures (row_keeps _ _ _ (λ x. refl))) (keeps_as _ _ _ recording (record_keeps _ _)))
+    (λ recording. keeps_then c.args.core.now c.put_entry.new.core c.record_put.new.core (keeps_as _ _ _ c.in_ok-put_entry.ensures (row_keeps _ _ _ (λ x. refl))) (keeps_as _ _ _ recording (record_keeps _ _ refl)))
     c.record_put.ensures

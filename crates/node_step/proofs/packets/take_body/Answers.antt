@@ -1,5 +1,9 @@
 -- NAME and TELL, which ask no client.
 use Rattle.node_state.specs.Step.{body_row}
+use Rattle.std.proofs.lemmas.Result.{on_ok_weaker}
+use Rattle.entry_handing.proofs.DoingLaws.{receive_nothing, does_nothing}
+use Rattle.group_leading.proofs.WorkLaws.{on_ok_both}
+use Rattle.node_step.proofs.StepLaws.{plain_does}
 use Rattle.node_step.proofs.packets.take_body.Goals as goal
 
 pub returns-in-Name-clause-does : goal.returns-in-Name-clause-does
@@ -9,3 +13,42 @@ returns-in-Name-clause-does g c = rw c.in-Name.is c.take_name_packet.ensures.doe
 pub returns-in-Tell-clause-does : goal.returns-in-Tell-clause-does
 unfolding body_row
 returns-in-Tell-clause-does g c = rw c.in-Tell.is c.take_tell_packet.ensures.does
+
+pub returns-in-Ring-clause-does : goal.returns-in-Ring-clause-does
+unfolding body_row
+returns-in-Ring-clause-does g c =
+    rw c.in-Ring.is
+    (on_ok_weaker c.take_ring_packet.result (λ both. plain_does _ _ (receive_nothing _ _) c.args.core.now c.take_ring_packet.new.core _ both.0 both.1)
+    (on_ok_both _ _ c.take_ring_packet.result c.take_ring_packet.ensures.row c.take_ring_packet.ensures.keeps))
+
+pub returns-in-Report-clause-does : goal.returns-in-Report-clause-does
+unfolding body_row
+returns-in-Report-clause-does g c =
+    rw c.in-Report.is
+    (on_ok_weaker c.take_report_packet.result (λ both. plain_does _ _ (receive_nothing _ _) c.args.core.now c.take_report_packet.new.core _ both.0 both.1)
+    (on_ok_both _ _ c.take_report_packet.result c.take_report_packet.ensures.row c.take_report_packet.ensures.keeps))
+
+pub returns-in-Lookup-clause-does : goal.returns-in-Lookup-clause-does
+unfolding body_row
+returns-in-Lookup-clause-does g c =
+    rw c.in-Lookup.is
+    (on_ok_weaker c.take_lookup_packet.result (λ both. plain_does _ _ (receive_nothing _ _) c.args.core.now c.take_lookup_packet.new.core _ both.0 both.1)
+    (on_ok_both _ _ c.take_lookup_packet.result c.take_lookup_packet.ensures.row c.take_lookup_packet.ensures.keeps))
+
+pub returns-in-Ack-clause-does : goal.returns-in-Ack-clause-does
+unfolding body_row
+returns-in-Ack-clause-does g c =
+    rw c.in-Ack.is
+    (on_ok_weaker c.take_ack_packet.result (λ both. plain_does _ _ (receive_nothing _ _) c.args.core.now c.take_ack_packet.new.core _ both.0 both.1)
+    (on_ok_both _ _ c.take_ack_packet.result c.take_ack_packet.ensures.row c.take_ack_packet.ensures.keeps))
+
+pub returns-in-Query-clause-does : goal.returns-in-Query-clause-does
+unfolding body_row
+returns-in-Query-clause-does g c =
+    rw c.in-Query.is
+    (on_ok_weaker c.take_query.result (λ both. plain_does _ _ (receive_nothing _ _) c.args.core.now c.take_query.new.core _ both.0 both.1)
+    (on_ok_both _ _ c.take_query.result c.take_query.ensures.row c.take_query.ensures.keeps))
+
+pub returns-in-Reply-clause-does : goal.returns-in-Reply-clause-does
+unfolding body_row
+returns-in-Reply-clause-does g c = rw c.in-Reply.is (does_nothing _ _ _ (receive_nothing _ _))

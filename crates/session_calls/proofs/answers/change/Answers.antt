@@ -2,7 +2,7 @@
 use Rattle.std.proofs.Common.{refl}
 use Rattle.std.proofs.lemmas.Result.{on_ok_weaker}
 use Rattle.node_state.specs.Calls.{changed}
-use Rattle.node_groups.proofs.KeepLaws.{keeps_then}
+use Rattle.node_groups.proofs.KeepLaws.{stays_then}
 use Rattle.group_leading.proofs.WorkLaws.{on_ok_both}
 use Rattle.session_calls.proofs.CallLaws.{changed_leaves, refused_leaves, sessions_keep}
 use Rattle.session_calls.proofs.answers.change.Goals as goal
@@ -22,5 +22,5 @@ pub returns-clause-keeps : goal.returns-clause-keeps
 returns-clause-keeps g c = λ s same e.
     elim c.match-answer.branch [
       | in-Ok w ↦ rw (w.result-is, w.core-is) (sessions_keep s c.args.core.now same e)
-      | in-Err w ↦ rw (w.result-is, w.core-is) (on_ok_weaker w.refuse.result (λ k. keeps_then s c.args.core.now w.refuse.new.core (sessions_keep s c.args.core.now same e) k) w.refuse.ensures.keeps)
+      | in-Err w ↦ rw (w.result-is, w.core-is) (on_ok_weaker w.refuse.result (λ k. stays_then s c.args.core.now w.refuse.new.core (sessions_keep s c.args.core.now same e) k) w.refuse.ensures.keeps)
     ]

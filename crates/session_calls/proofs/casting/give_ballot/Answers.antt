@@ -2,7 +2,7 @@
 use Rattle.std.proofs.Common.{refl}
 use Rattle.std.proofs.lemmas.Result.{on_ok_weaker}
 use Rattle.node_state.specs.Calls.{ballot_given}
-use Rattle.node_groups.proofs.KeepLaws.{keeps_then}
+use Rattle.node_groups.proofs.KeepLaws.{stays_then}
 use Rattle.group_leading.proofs.WorkLaws.{on_ok_both}
 use Rattle.session_calls.proofs.CallLaws.{given_leaves, refused_leaves, sessions_keep}
 use Rattle.session_calls.proofs.casting.give_ballot.Goals as goal
@@ -13,7 +13,7 @@ returns-in-Ok-clause-row c = λ s r a e.
 
 pub returns-in-Ok-clause-keeps : goal.returns-in-Ok-clause-keeps
 returns-in-Ok-clause-keeps c = λ s same e.
-    on_ok_weaker c.cast_last.result (λ k. keeps_then s c.args.core.now c.cast_last.new.core (sessions_keep s c.args.core.now same e) k) c.cast_last.ensures.keeps
+    on_ok_weaker c.cast_last.result (λ k. stays_then s c.args.core.now c.cast_last.new.core (sessions_keep s c.args.core.now same e) k) c.cast_last.ensures.keeps
 
 pub returns-in-Err-clause-row : goal.returns-in-Err-clause-row
 unfolding ballot_given
@@ -23,4 +23,4 @@ returns-in-Err-clause-row c = λ s r a e.
 
 pub returns-in-Err-clause-keeps : goal.returns-in-Err-clause-keeps
 returns-in-Err-clause-keeps c = λ s same e.
-    on_ok_weaker c.refuse.result (λ k. keeps_then s c.args.core.now c.refuse.new.core (sessions_keep s c.args.core.now same e) k) c.refuse.ensures.keeps
+    on_ok_weaker c.refuse.result (λ k. stays_then s c.args.core.now c.refuse.new.core (sessions_keep s c.args.core.now same e) k) c.refuse.ensures.keeps

@@ -2,7 +2,7 @@
 use Rattle.std.proofs.Common.{refl}
 use Rattle.std.proofs.lemmas.Result.{on_ok_weaker}
 use Rattle.node_state.specs.Calls.{proposed}
-use Rattle.node_groups.proofs.KeepLaws.{keeps_then}
+use Rattle.node_groups.proofs.KeepLaws.{stays_then}
 use Rattle.group_leading.proofs.WorkLaws.{on_ok_both}
 use Rattle.session_calls.proofs.CallLaws.{proposed_leaves, refused_leaves, sessions_keep}
 use Rattle.session_calls.proofs.proposing.propose.Goals as goal
@@ -21,6 +21,6 @@ returns-clause-row g c = λ s r a e.
 pub returns-clause-keeps : goal.returns-clause-keeps
 returns-clause-keeps g c = λ s same e.
     elim c.match-answer.branch [
-      | in-Ok w ↦ rw (w.result-is, w.core-is) (on_ok_weaker w.ask_last.result (λ k. keeps_then s c.args.core.now w.ask_last.new.core (sessions_keep s c.args.core.now same e) k) w.ask_last.ensures.keeps)
-      | in-Err w ↦ rw (w.result-is, w.core-is) (on_ok_weaker w.refuse.result (λ k. keeps_then s c.args.core.now w.refuse.new.core (sessions_keep s c.args.core.now same e) k) w.refuse.ensures.keeps)
+      | in-Ok w ↦ rw (w.result-is, w.core-is) (on_ok_weaker w.ask_last.result (λ k. stays_then s c.args.core.now w.ask_last.new.core (sessions_keep s c.args.core.now same e) k) w.ask_last.ensures.keeps)
+      | in-Err w ↦ rw (w.result-is, w.core-is) (on_ok_weaker w.refuse.result (λ k. stays_then s c.args.core.now w.refuse.new.core (sessions_keep s c.args.core.now same e) k) w.refuse.ensures.keeps)
     ]

@@ -2,14 +2,16 @@
 use Rattle.std.proofs.Common.{◌≡◌, take, map, filter, length}
 use Rattle.std.specs.Prelude.{is_some}
 use Rattle.std.specs.List.{fold}
-use Rattle.node_groups.specs.Keeps.{Keeps}
+use Rattle.node_groups.specs.Keeps.{Stays}
 use Rattle.node_state.specs.declared.group.GroupRow.{GroupRow}
 use Rattle.node_state.specs.Applying.{group_dissolved}
+use Rattle.entry_handing.specs.Received.{Receive}
+use Rattle.entry_handing.specs.Doing.{Does}
 use Rattle.view_entering.proofs.dissolving.dissolve_sides.Given as goal
 
 abbrev pub invariant-loop-row : goal.invariant-loop-row
 invariant-loop-row g l =
     (length l.clients.items ≡ length l.initial.clients.items)
     × (map g.C.Callbacks.script l.clients.items ≡ map g.C.Callbacks.script l.initial.clients.items)
-    × (l.core ≡ fold (group_dissolved l.old l.bases) l.initial.core (filter (λ (x : GroupRow). is_some x.list) (take l.row-index l.rows)))
-    × Keeps l.initial.core l.core
+    × Does (map g.C.Callbacks.script l.initial.clients.items) (Receive g.C.Callbacks.stands_for l.initial.clients.items l.clients.items) l.initial.core l.core (λ f. fold (group_dissolved l.old l.bases) l.initial.core (filter (λ (x : GroupRow). is_some x.list) (take l.row-index l.rows)))
+    × Stays l.initial.core l.core

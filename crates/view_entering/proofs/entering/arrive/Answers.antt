@@ -1,8 +1,10 @@
 -- The view is entered, and then told of and sent in.
-use Rattle.std.proofs.Common.{refl, ◌∙◌}
+use Rattle.std.proofs.Common.{◌∙◌}
 use Rattle.std.proofs.lemmas.Result.{on_ok_weaker}
+use Rattle.entry_handing.proofs.DoingLaws.{receive_then}
+use Rattle.group_leading.proofs.WorkLaws.{on_ok_both}
 use Rattle.view_entering.proofs.BaseOrder.{leaders_differ}
-use Rattle.view_entering.proofs.WorkLaws.{arrives, arrived_work, arrived_follows, entered_aligned, kept_aligned}
+use Rattle.view_entering.proofs.WorkLaws.{arrive_does, arrived_work, entered_aligned, stays_aligned}
 use Rattle.view_entering.proofs.entering.arrive.Goals as goal
 
 pub start_anew-requires-clause-differ : goal.start_anew-requires-clause-differ
@@ -14,7 +16,7 @@ dissolve_sides-requires g c = record { aligned = entered_aligned c.args.core.now
 pub note_bases-requires : goal.note_bases-requires
 note_bases-requires g c = record {
   aligned =
-      kept_aligned c.start_anew.new.core c.dissolve_sides.new.core c.args.clients.now.items c.dissolve_sides.new.clients.items c.in_ok-dissolve_sides.ensures.keeps c.dissolve_sides.ensures.length
+      stays_aligned c.start_anew.new.core c.dissolve_sides.new.core c.args.clients.now.items c.dissolve_sides.new.clients.items c.in_ok-dissolve_sides.ensures.stays c.dissolve_sides.ensures.length
       (entered_aligned c.args.core.now c.start_anew.new.core c.args.i c.args.bases.now c.args.clients.now.items c.in_ok-rows.ensures.core c.requires.work);
 }
 
@@ -22,19 +24,13 @@ pub returns-clause-work : goal.returns-clause-work
 returns-clause-work g c =
     on_ok_weaker c.send_owed.result
     (λ keeps. arrived_work c.args.core.now c.start_anew.new.core c.dissolve_sides.new.core c.note_bases.new.core c.send_taken.new.core c.send_owed.new.core c.args.i c.args.bases.now c.args.clients.now.items c.note_bases.new.clients.items
-    c.requires.work c.requires.order c.in_ok-rows.ensures.core c.in_ok-dissolve_sides.ensures.keeps c.in_ok-note_bases.ensures.keeps c.in_ok-send_taken.ensures.keeps keeps (c.note_bases.ensures.length ∙ c.dissolve_sides.ensures.length))
+    c.requires.work c.requires.order c.in_ok-rows.ensures.core c.in_ok-dissolve_sides.ensures.stays c.in_ok-note_bases.ensures.stays c.in_ok-send_taken.ensures.keeps keeps (c.note_bases.ensures.length ∙ c.dissolve_sides.ensures.length))
     c.send_owed.ensures.keeps
 
-pub returns-clause-row : goal.returns-clause-row
-returns-clause-row g c =
+pub returns-clause-does : goal.returns-clause-does
+returns-clause-does g c =
     on_ok_weaker c.send_owed.result
-    (λ owing. arrives c.args.core.now c.start_anew.new.core c.dissolve_sides.new.core c.note_bases.new.core c.send_taken.new.core c.send_owed.new.core c.args.i c.args.bases.now c.as_slice.result.now c.args.core.now.views.view
-    refl (cc (c.as_slice.ensures.value, c.rows.view_is, c.in_ok-rows.ensures.rows)) c.in_ok-rows.ensures.core c.in_ok-dissolve_sides.ensures.row c.in_ok-note_bases.ensures.row c.in_ok-send_taken.ensures.row owing)
-    c.send_owed.ensures.row
-
-pub returns-clause-follows : goal.returns-clause-follows
-returns-clause-follows g c =
-    on_ok_weaker c.send_owed.result
-    (λ keeps. arrived_follows c.args.core.now c.start_anew.new.core c.dissolve_sides.new.core c.note_bases.new.core c.send_taken.new.core c.send_owed.new.core c.args.i c.args.bases.now
-    c.in_ok-rows.ensures.core c.in_ok-dissolve_sides.ensures.keeps c.in_ok-note_bases.ensures.keeps c.in_ok-send_taken.ensures.keeps keeps)
-    c.send_owed.ensures.keeps
+    (λ owing. arrive_does _ _ _ _ (receive_then _ _ _ _) c.args.core.now c.start_anew.new.core c.dissolve_sides.new.core c.note_bases.new.core c.send_taken.new.core c.send_owed.new.core c.args.i c.args.bases.now c.as_slice.result.now
+    (cc (c.as_slice.ensures.value, c.rows.view_is, c.in_ok-rows.ensures.rows)) c.in_ok-rows.ensures.core c.in_ok-dissolve_sides.ensures.does (rw c.in_ok-dissolve_sides.ensures.scripts at c.in_ok-note_bases.ensures.does)
+    c.in_ok-send_taken.ensures.row c.in_ok-send_taken.ensures.keeps owing.0 owing.1)
+    (on_ok_both _ _ c.send_owed.result c.send_owed.ensures.row c.send_owed.ensures.keeps)

@@ -1,6 +1,7 @@
 -- The bases are those of the install, in the order of their names.
 use Rattle.std.proofs.Common.{◌∙◌}
 use Rattle.std.proofs.lemmas.Result.{on_ok_weaker}
+use Rattle.entry_handing.proofs.DoingLaws.{receive_then}
 use Rattle.view_entering.proofs.BaseOrder.{bases_ordered}
 use Rattle.view_entering.proofs.WorkLaws.{enter_does}
 use Rattle.view_entering.proofs.entering.enter.Goals as goal
@@ -14,5 +15,5 @@ arrive-requires-clause-sound g c = rw c.as_slice.ensures c.in_ok-bases.ensures.s
 pub returns-clause-does : goal.returns-clause-does
 returns-clause-does g c =
     on_ok_weaker c.lead_groups.result
-    (λ leading. enter_does _ c.args.core.now c.arrive.new.core c.lead_groups.new.core c.args.i c.as_slice.result.now (c.as_slice.ensures ∙ c.in_ok-bases.ensures.value) c.in_ok-arrive.ensures.row c.in_ok-arrive.ensures.follows leading)
+    (λ leading. enter_does _ _ _ _ (receive_then _ _ _ _) c.args.core.now c.arrive.new.core c.lead_groups.new.core c.args.i c.as_slice.result.now (c.as_slice.ensures ∙ c.in_ok-bases.ensures.value) c.in_ok-arrive.ensures.does leading)
     (rw c.in_ok-arrive.ensures.scripts at c.lead_groups.ensures.does)

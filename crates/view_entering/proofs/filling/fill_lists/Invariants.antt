@@ -1,6 +1,7 @@
 -- The lists that were filled so far.
 use Rattle.std.proofs.Common.{◌≡◌, take, map}
 use Rattle.std.specs.List.{fold}
+use Rattle.entry_handing.specs.Received.{Receive}
 use Rattle.entry_handing.specs.Doing.{Does}
 use Rattle.group_leading.specs.Working.{AtWork}
 use Rattle.view_entering.specs.declared.filling.Missing.{Missing}
@@ -11,4 +12,4 @@ abbrev pub invariant-loop-m : goal.invariant-loop-m
 invariant-loop-m g l =
     AtWork l.core l.clients.items
     × (map g.C.Callbacks.script l.clients.items ≡ map g.C.Callbacks.script l.initial.clients.items)
-    × Does (map g.C.Callbacks.script l.initial.clients.items) l.initial.core l.core (λ f. fold (λ t (m : Missing). list_filled f m.group.now t m.entries.now) l.initial.core (take l.m-index l.missing))
+    × Does (map g.C.Callbacks.script l.initial.clients.items) (Receive g.C.Callbacks.stands_for l.initial.clients.items l.clients.items) l.initial.core l.core (λ f. fold (λ t (m : Missing). list_filled f m.group.now t m.entries.now) l.initial.core (take l.m-index l.missing))

@@ -7,6 +7,6 @@ use Rattle.view_entering.proofs.leading_again.lead.Goals as goal
 pub returns-clause-does : goal.returns-clause-does
 returns-clause-does g c =
     on_ok_weaker c.reopen.result
-    (λ leading. led_does _ c.args.core.now c.wait_failed.new.core c.reopen.new.core c.args.g.now c.in_ok-state.state c.as_slice.result.now c.is_some.result
+    (λ leading. led_does _ _ c.args.core.now c.wait_failed.new.core c.reopen.new.core c.args.g.now c.in_ok-state.state c.as_slice.result.now c.is_some.result
     (rw c.bytes.ensures.value at c.in_ok-state.ensures.value) (c.as_slice.ensures.value ∙ c.in_ok-failed.ensures) c.is_some.ensures c.in_ok-wait_failed.ensures.row c.in_ok-wait_failed.ensures.keeps leading)
     c.reopen.ensures.does

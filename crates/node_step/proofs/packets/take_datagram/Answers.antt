@@ -1,0 +1,10 @@
+-- Bytes that are no packet make nothing.
+use Rattle.std.proofs.Common.{sym, ap, ◌∙◌}
+use Rattle.std.specs.Option.{option_map}
+use Rattle.entry_handing.proofs.DoingLaws.{receive_nothing}
+use Rattle.packet_codec.specs.InPlace.{packet_in}
+use Rattle.node_step.proofs.StepLaws.{dropped_does}
+use Rattle.node_step.proofs.packets.take_datagram.Goals as goal
+
+pub returns-in-None-clause-does : goal.returns-in-None-clause-does
+returns-in-None-clause-does g c = dropped_does _ _ (receive_nothing _ _) c.args.core.now _ (sym c.packet_read.ensures.value ∙ ap (option_map packet_in) c.in-None.is)

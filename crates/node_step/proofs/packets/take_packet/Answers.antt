@@ -1,0 +1,8 @@
+-- A packet for another node is dropped.
+use Rattle.entry_handing.proofs.DoingLaws.{receive_nothing}
+use Rattle.packet_codec.specs.InPlace.{packet_in}
+use Rattle.node_step.proofs.StepLaws.{away_does}
+use Rattle.node_step.proofs.packets.take_packet.Goals as goal
+
+pub returns-then-p-core-clause-does : goal.returns-then-p-core-clause-does
+returns-then-p-core-clause-does g c = away_does _ _ (receive_nothing _ _) c.args.core.now (packet_in c.args.p.now) c.if-p-core.true

@@ -1,0 +1,7 @@
+-- Nothing is put where a list does not go on to the install.
+use Rattle.entry_handing.proofs.DoingLaws.{receive_nothing}
+use Rattle.view_entering.proofs.WorkLaws.{nothing_filled}
+use Rattle.view_entering.proofs.filling.fill.Goals as goal
+
+pub returns-in-None-clause-does : goal.returns-in-None-clause-does
+returns-in-None-clause-does g c = nothing_filled _ _ (receive_nothing _ _) c.args.core.now _ (rw c.in-None.is at c.in_ok-all_missing.ensures)
