@@ -4,11 +4,12 @@ use Rattle.std.specs.Io.KnownBytes.{Appends}
 use Rattle.std.proofs.KnownBytes.{Appends-nil}
 use Rattle.hags_io.specs.Edges.{GrowsByFront}
 use Rattle.rsct_packet.specs.Lists.{reverse_onto}
+use Rattle.client_callbacks.specs.Handed.{Handed}
 use Rattle.node_state.specs.declared.happened.Happened.{Happened}
 use Rattle.node_state.specs.declared.packet.Packet.{Packet}
 use Rattle.world_model.specs.declared.event.Event.{Event}
 use Rattle.world_model.specs.World.{World, happens}
-use Rattle.world_runs.specs.Runs.{SameRun}
+use Rattle.world_runs.specs.Runs.{SameRun, Recorded}
 use Rattle.world_answers.proofs.Limits.{one_runs, one_ends, tells_of_runs}
 use Rattle.world_answers.proofs.Waits.{same_goes}
 use Rattle.world_answers.proofs.Adding.{event_adds}
@@ -18,14 +19,17 @@ use Rattle.world_play.specs.declared.fault.WorldFault.TheVariants as world_fault
 use Rattle.node_state.specs.HandOn.{Answering}
 use Rattle.world_answers.specs.Answers.{Items, Answered, happens_by, goes_on}
 use Rattle.world_answers.specs.Plays.{AnsweredPlay, with_answers, PlaysEvent}
+use Rattle.world_play.specs.declared.world.World as kept
 use Rattle.world_play.specs.Standing.{Holds, Goes, Passes, Comes}
+use Rattle.world_play.specs.Hands.{Hears}
 use Rattle.transcript.specs.declared.kinds.Kinds.{Kinds}
 use Rattle.transcript.specs.Kinds.{kinds_text}
 use Rattle.net_script.specs.declared.stage.Stage.{Stage}
 use Rattle.net_script.specs.declared.faults.PutFault.{PutFault}
 use Rattle.net_script.specs.declared.faults.PutFault.TheVariants as put_fault
 use Rattle.net_script.specs.Faults.{fault_of_world, fault_of_put}
-use Rattle.net_script.specs.Stage.{At, Moved, Broke, Stopped, LeadsTo}
+use Rattle.net_script.specs.Stage.{At, RunHears, Moved, Broke, Stopped, LeadsTo}
+use Rattle.net_script.proofs.HandLaws.{hands_same}
 use Rattle.net_script.proofs.StageLaws.{broke_none}
 
 -- what is sent where nothing waits is sent where something does
@@ -45,45 +49,6 @@ module _ {C : Type 0} {script : C → Option Items} {said : Items → Option Ite
   -- what comes of an event is played
   pub event_played : {P : World → World → Type 0} (s : Stage C) (p : AnsweredPlay) (v : World) (e : Event) → At script said s p v → (g : Comes script said s.world P (λ f w. happens_by f w e) (λ w. happens w e)) → PlaysEvent said p e (with_answers p e g.answers)
   event_played s p v e h g = record { answers = g.answers; made = refl; worded = λ all u same. g.worded all u (holds_same s p v u h same) }
-
-  -- an event happened within the limit
-  pub event_moved : (s t : Stage C) (p : AnsweredPlay) (v : World) (e : Event) (none rs : List Happened) → none ≡ [] → At script said s p v → t ≡ record s { world = t.world }
-      → (g : Comes script said s.world (Goes script said s.world t.world none rs) (λ f w. happens_by f w e) (λ w. happens w e))
-      → Moved script said s t p (with_answers p e g.answers) v (happens_by g.answers v e) (answered e g.answers ∷ []) rs
-  event_moved s t p v e none rs empty h same comes =
-      let x : Answered = answered e comes.answers in
-      let g : Goes script said s.world t.world none rs p.world (goes_on p.world x) = comes.comes p.world h.stands in
-      record {
-        happens = refl;
-        runs = one_runs s.world.limit s.world.kept t.world.kept v x g.sent (sent_same p.world v x g.sent h.same g.sends) g.within;
-        limit = g.limit;
-        recorded = trace_same p.world v x rs h.same (g.trace ∙ ap (λ xs. reverse_onto xs p.world.trace) (ap (λ xs. xs ++ g.records) (sym empty) ∙ sym g.out));
-        at = record { stands = g.stands; cuts = h.cuts ∙ sym (ap (λ (z : Stage C). z.cuts) same); same = same_goes p.world v x h.same };
-      }
-
-  -- and was written
-  pub event_went : {U : Type 0} (u : U) (k : Kinds) (a b : Option (List ℕ)) (s t : Stage C) (p : AnsweredPlay) (v : World) (e : Event) (none rs : List Happened) → none ≡ [] → At script said s p v → t ≡ record s { world = t.world }
-      → Comes script said s.world (Goes script said s.world t.world none rs) (λ f w. happens_by f w e) (λ w. happens w e) → Appends a b (kinds_text k rs)
-      → LeadsTo script said (Ok u) k a b s t p (PlaysEvent said p e) v
-  event_went u k a b s t p v e none rs empty h same g w = record {
-    play = with_answers p e g.answers;
-    made = event_played s p v e h g;
-    outcome = record { events = answered e g.answers ∷ []; records = rs; world = happens_by g.answers v e; moved = event_moved s t p v e none rs empty h same g; written = w };
-  }
-
-  event_broke : (k : Kinds) (a b : Option (List ℕ)) (s t : Stage C) (p q : AnsweredPlay) (v u : World) (es : List Answered) (rs : List Happened) → Moved script said s t p q v u es rs → GrowsByFront a b (kinds_text k rs) → Broke k a b s p q v
-  event_broke k a b s t p q v u es rs m w =
-      record { events = es; records = rs; happens = m.happens; tells = tells_of_runs s.world.limit s.world.kept t.world.kept v u es rs m.runs m.recorded; front = w }
-
-  put_broke : (f : PutFault) (k : Kinds) (a b : Option (List ℕ)) (s t : Stage C) (p q : AnsweredPlay) (v u : World) (es : List Answered) (rs : List Happened) → Moved script said s t p q v u es rs → GrowsByFront a b (kinds_text k rs) → Stopped (fault_of_put f) k a b s p q v
-  put_broke put_fault.WriteFault k a b s t p q v u es rs m w = event_broke k a b s t p q v u es rs m w
-  put_broke put_fault.NoMemory k a b s t p q v u es rs m w = event_broke k a b s t p q v u es rs m w
-
-  pub event_put_stops : (f : PutFault) (k : Kinds) (a b : Option (List ℕ)) (s t : Stage C) (p : AnsweredPlay) (v : World) (e : Event) (none rs : List Happened) → none ≡ [] → At script said s p v → t ≡ record s { world = t.world }
-      → Comes script said s.world (Goes script said s.world t.world none rs) (λ f w. happens_by f w e) (λ w. happens w e) → GrowsByFront a b (kinds_text k rs)
-      → (q : AnsweredPlay) × PlaysEvent said p e q × Stopped (fault_of_put f) k a b s p q v
-  event_put_stops f k a b s t p v e none rs empty h same g w =
-      (with_answers p e g.answers, event_played s p v e h g, put_broke f k a b s t p (with_answers p e g.answers) v (happens_by g.answers v e) (answered e g.answers ∷ []) rs (event_moved s t p v e none rs empty h same g) w)
 
   -- an event did not happen
   pub event_stops : (f : WorldFault) (k : Kinds) (a : Option (List ℕ)) (s : Stage C) (p : AnsweredPlay) (v : World) (e : Event) → At script said s p v
@@ -109,3 +74,56 @@ module _ {C : Type 0} {script : C → Option Items} {said : Items → Option Ite
           written = Appends-nil a;
         },
       )
+
+  -- what an event hands to clients
+  event_hears : (R : C → List Handed → Type 0) (s : Stage C) (d : kept.World C) (p : AnsweredPlay) (v : World) (e : Event) (a : Answering) (none rs : List Happened) → none ≡ [] → At script said s p v → Recorded v (happens_by a v e) rs → Hears R script said s.world d none rs e
+      → RunHears R s.world.nodes d.nodes v (answered e a ∷ [])
+  event_hears R s d p v e a none rs empty h recorded hears old stand =
+      let x = hears p.world h.stands old stand in
+      let all : rs ≡ x.0 = x.2 ∙ ap (λ xs. xs ++ x.0) empty in
+      (x.1, (x.0, x.1, recorded ∙ ap (λ xs. reverse_onto xs v.trace) all, hands_same p.world v e x.0 old x.1 h.same x.3, refl), x.4)
+
+module _ {C : Type 0} {script : C → Option Items} {said : Items → Option Items} {R : C → List Handed → Type 0} where
+  -- an event happened within the limit
+  pub event_moved : (s t : Stage C) (p : AnsweredPlay) (v : World) (e : Event) (none rs : List Happened) → none ≡ [] → At script said s p v → t ≡ record s { world = t.world }
+      → (g : Comes script said s.world (Goes script said s.world t.world none rs) (λ f w. happens_by f w e) (λ w. happens w e))
+      → Hears R script said s.world t.world none rs e → Moved script said R s t p (with_answers p e g.answers) v (happens_by g.answers v e) (answered e g.answers ∷ []) rs
+  event_moved s t p v e none rs empty h same comes hears =
+      let x : Answered = answered e comes.answers in
+      let g : Goes script said s.world t.world none rs p.world (goes_on p.world x) = comes.comes p.world h.stands in
+      let recorded : Recorded v (goes_on v x) rs = trace_same p.world v x rs h.same (g.trace ∙ ap (λ xs. reverse_onto xs p.world.trace) (ap (λ xs. xs ++ g.records) (sym empty) ∙ sym g.out)) in
+      record {
+        happens = refl;
+        runs = one_runs s.world.limit s.world.kept t.world.kept v x g.sent (sent_same p.world v x g.sent h.same g.sends) g.within;
+        limit = g.limit;
+        recorded = recorded;
+        comes = refl;
+        hears = event_hears R s t.world p v e comes.answers none rs empty h recorded hears;
+        at = record { stands = g.stands; cuts = h.cuts ∙ sym (ap (λ (z : Stage C). z.cuts) same); same = same_goes p.world v x h.same };
+      }
+
+  -- and was written
+  pub event_went : {U : Type 0} (u : U) (k : Kinds) (a b : Option (List ℕ)) (s t : Stage C) (p : AnsweredPlay) (v : World) (e : Event) (none rs : List Happened) → none ≡ [] → At script said s p v → t ≡ record s { world = t.world }
+      → Comes script said s.world (Goes script said s.world t.world none rs) (λ f w. happens_by f w e) (λ w. happens w e) → Hears R script said s.world t.world none rs e → Appends a b (kinds_text k rs)
+      → LeadsTo script said R (Ok u) k a b s t p (PlaysEvent said p e) v
+  event_went u k a b s t p v e none rs empty h same g hears w = record {
+    play = with_answers p e g.answers;
+    made = event_played s p v e h g;
+    outcome = record { events = answered e g.answers ∷ []; records = rs; world = happens_by g.answers v e; moved = event_moved s t p v e none rs empty h same g hears; written = w };
+  }
+
+  event_broke : (k : Kinds) (a b : Option (List ℕ)) (s t : Stage C) (p q : AnsweredPlay) (v u : World) (es : List Answered) (rs : List Happened) → Moved script said R s t p q v u es rs → GrowsByFront a b (kinds_text k rs) → Broke k a b s p q v
+  event_broke k a b s t p q v u es rs m w =
+      record { events = es; records = rs; happens = m.happens; tells = tells_of_runs s.world.limit s.world.kept t.world.kept v u es rs m.runs m.recorded; front = w }
+
+  put_broke : (f : PutFault) (k : Kinds) (a b : Option (List ℕ)) (s t : Stage C) (p q : AnsweredPlay) (v u : World) (es : List Answered) (rs : List Happened) → Moved script said R s t p q v u es rs → GrowsByFront a b (kinds_text k rs) → Stopped (fault_of_put f) k a b s p q v
+  put_broke put_fault.WriteFault k a b s t p q v u es rs m w = event_broke k a b s t p q v u es rs m w
+  put_broke put_fault.NoMemory k a b s t p q v u es rs m w = event_broke k a b s t p q v u es rs m w
+
+module _ {C : Type 0} {script : C → Option Items} {said : Items → Option Items} where
+  -- it happened, and was not written whole
+  pub event_put_stops : (R : C → List Handed → Type 0) (f : PutFault) (k : Kinds) (a b : Option (List ℕ)) (s t : Stage C) (p : AnsweredPlay) (v : World) (e : Event) (none rs : List Happened) → none ≡ [] → At script said s p v → t ≡ record s { world = t.world }
+      → Comes script said s.world (Goes script said s.world t.world none rs) (λ f w. happens_by f w e) (λ w. happens w e) → Hears R script said s.world t.world none rs e → GrowsByFront a b (kinds_text k rs)
+      → (q : AnsweredPlay) × PlaysEvent said p e q × Stopped (fault_of_put f) k a b s p q v
+  event_put_stops R f k a b s t p v e none rs empty h same g hears w =
+      (with_answers p e g.answers, event_played s p v e h g, put_broke {R = R} f k a b s t p (with_answers p e g.answers) v (happens_by g.answers v e) (answered e g.answers ∷ []) rs (event_moved s t p v e none rs empty h same g hears) w)

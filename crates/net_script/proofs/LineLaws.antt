@@ -1,6 +1,7 @@
 -- Lines that are no plain events.
 use Rattle.std.proofs.Common.{◌≡◌, ℕ, not, List, Option, refl, ◌∙◌, ap}
 use Rattle.std.specs.Prelude.{filter}
+use Rattle.client_callbacks.specs.Handed.{Handed}
 use Rattle.world_model.specs.declared.script.Line.{Line}
 use Rattle.world_model.specs.World.{World}
 use Rattle.world_model.specs.Play.{Cut, drops}
@@ -43,19 +44,20 @@ module _ {C : Type 0} {script : C → Option Items} {said : Items → Option Ite
     same = h.same;
   })
 
-  pub dropped : (k : Kinds) (o : Option (List ℕ)) (s t : Stage C) (a b : ℕ)
-      → t ≡ record s { world = record (s.world) { packets = record (s.world.packets) { waiting = filter (λ x. not (is_between a b x)) s.world.packets.waiting } } }
-      → (p : AnsweredPlay) → (v : World) → At script said s p v → Went script said k o o s t p (in_that_world p (drops p.world a b)) v
-  dropped k o s t a b same p v h =
-      let q : AnsweredPlay = in_that_world p (drops p.world a b) in
-      went_still k o s t p q v (moved_still s t p q v refl (ap (λ (z : Stage C). z.world.limit) same) (ap (λ (z : Stage C). z.world.kept) same) (dropped_at s t p v a b h same))
-
   -- ---- cuts
 
   cut_at : (s t : Stage C) (p : AnsweredPlay) (v : World) (cuts : List Cut) → At script said s p v → t ≡ record s { cuts = cuts } → At script said t (record p { cuts = cuts }) v
   cut_at s t p v cuts h same = rw same (record { stands = h.stands; cuts = refl; same = h.same })
 
-  pub recut : (k : Kinds) (o : Option (List ℕ)) (s t : Stage C) (cuts : List Cut) → t ≡ record s { cuts = cuts } → (p : AnsweredPlay) → (v : World) → At script said s p v → Went script said k o o s t p (record p { cuts = cuts }) v
+module _ {C : Type 0} {script : C → Option Items} {said : Items → Option Items} {R : C → List Handed → Type 0} where
+  pub dropped : (k : Kinds) (o : Option (List ℕ)) (s t : Stage C) (a b : ℕ)
+      → t ≡ record s { world = record (s.world) { packets = record (s.world.packets) { waiting = filter (λ x. not (is_between a b x)) s.world.packets.waiting } } }
+      → (p : AnsweredPlay) → (v : World) → At script said s p v → Went script said R k o o s t p (in_that_world p (drops p.world a b)) v
+  dropped k o s t a b same p v h =
+      let q : AnsweredPlay = in_that_world p (drops p.world a b) in
+      went_still k o s t p q v (moved_still s t p q v refl (ap (λ (z : Stage C). z.world.limit) same) (ap (λ (z : Stage C). z.world.kept) same) (ap (λ (z : Stage C). z.world.nodes) same) (dropped_at s t p v a b h same))
+
+  pub recut : (k : Kinds) (o : Option (List ℕ)) (s t : Stage C) (cuts : List Cut) → t ≡ record s { cuts = cuts } → (p : AnsweredPlay) → (v : World) → At script said s p v → Went script said R k o o s t p (record p { cuts = cuts }) v
   recut k o s t cuts same p v h =
       let q : AnsweredPlay = record p { cuts = cuts } in
-      went_still k o s t p q v (moved_still s t p q v refl (ap (λ (z : Stage C). z.world.limit) same) (ap (λ (z : Stage C). z.world.kept) same) (cut_at s t p v cuts h same))
+      went_still k o s t p q v (moved_still s t p q v refl (ap (λ (z : Stage C). z.world.limit) same) (ap (λ (z : Stage C). z.world.kept) same) (ap (λ (z : Stage C). z.world.nodes) same) (cut_at s t p v cuts h same))

@@ -1,5 +1,6 @@
 -- A list of things to play, one after another: ticks or lines.
 use Rattle.std.proofs.Common.{◌≡◌, ℕ, ◌+◌, ◌<◌, ◌≤◌, List, length, drop, get_or, Option, Ok, Err, refl, sym, subst}
+use Rattle.client_callbacks.specs.Handed.{Handed}
 use Rattle.world_model.specs.World.{World}
 use Rattle.world_answers.specs.Answers.{Items}
 use Rattle.world_answers.specs.Plays.{AnsweredPlay, PlaysEach}
@@ -13,28 +14,28 @@ use Rattle.net_script.proofs.TextLaws.{next_item, no_item}
 use Rattle.net_script.proofs.StageLaws.{went_none, then_went, then_stopped, stopped_on}
 
 -- of what is to be played, the play is this far
-pub record CameTo {C : Type 0} (script : C → Option Items) (said : Items → Option Items) (k : Kinds) (a b : Option (List ℕ)) (s t : Stage C) (p : AnsweredPlay) (v : World) (X : Type 0) (M : AnsweredPlay → X → AnsweredPlay → Type 0) (all left : List X) : Type 0 where
+pub record CameTo {C : Type 0} (script : C → Option Items) (said : Items → Option Items) (R : C → List Handed → Type 0) (k : Kinds) (a b : Option (List ℕ)) (s t : Stage C) (p : AnsweredPlay) (v : World) (X : Type 0) (M : AnsweredPlay → X → AnsweredPlay → Type 0) (all left : List X) : Type 0 where
   pub played : AnsweredPlay
-  pub went : Went script said k a b s t p played v
+  pub went : Went script said R k a b s t p played v
   pub rest : (q : AnsweredPlay) → PlaysEach M played left q → PlaysEach M p all q
 
-abbrev pub ComesTo : {C : Type 0} → (C → Option Items) → (Items → Option Items) → Kinds → Option (List ℕ) → Option (List ℕ) → Stage C → Stage C → (X : Type 0) → (AnsweredPlay → X → AnsweredPlay → Type 0) → List X → List X → Type 0
-ComesTo script said k a b s t X M all left = (p : AnsweredPlay) → (v : World) → At script said s p v → CameTo script said k a b s t p v X M all left
+abbrev pub ComesTo : {C : Type 0} → (C → Option Items) → (Items → Option Items) → (C → List Handed → Type 0) → Kinds → Option (List ℕ) → Option (List ℕ) → Stage C → Stage C → (X : Type 0) → (AnsweredPlay → X → AnsweredPlay → Type 0) → List X → List X → Type 0
+ComesTo script said R k a b s t X M all left = (p : AnsweredPlay) → (v : World) → At script said s p v → CameTo script said R k a b s t p v X M all left
 
 -- each of what is to be played can be played, and only adds events
 pub record Playable (said : Items → Option Items) (X : Type 0) (M : AnsweredPlay → X → AnsweredPlay → Type 0) : Type 0 where
   pub goes : (p : AnsweredPlay) (x : X) → (q : AnsweredPlay) × M p x q
   pub adds : (p : AnsweredPlay) (x : X) (q : AnsweredPlay) → M p x q → Adds said p q
 
-module _ {C : Type 0} {script : C → Option Items} {said : Items → Option Items} where
-  pub list_begins : (k : Kinds) (a : Option (List ℕ)) (s : Stage C) (X : Type 0) (M : AnsweredPlay → X → AnsweredPlay → Type 0) (all : List X) → ComesTo script said k a a s s X M all all
+module _ {C : Type 0} {script : C → Option Items} {said : Items → Option Items} {R : C → List Handed → Type 0} where
+  pub list_begins : (k : Kinds) (a : Option (List ℕ)) (s : Stage C) (X : Type 0) (M : AnsweredPlay → X → AnsweredPlay → Type 0) (all : List X) → ComesTo script said R k a a s s X M all all
   list_begins k a s X M all p v h = record { played = p; went = went_none k a s p v h; rest = λ q m. m }
 
   pub list_next : {U : Type 0} {u : U} (k : Kinds) (a b c : Option (List ℕ)) (s m t : Stage C) (X : Type 0) (M : AnsweredPlay → X → AnsweredPlay → Type 0) (x : X) (all : List X) (i : ℕ) → i < length all → x ≡ get_or all i x
-      → ComesTo script said k a b s m X M all (drop i all) → ((q : AnsweredPlay) → (w : World) → At script said m q w → LeadsTo script said (Ok u) k b c m t q (M q x) w) → ComesTo script said k a c s t X M all (drop (i + 1) all)
+      → ComesTo script said R k a b s m X M all (drop i all) → ((q : AnsweredPlay) → (w : World) → At script said m q w → LeadsTo script said R (Ok u) k b c m t q (M q x) w) → ComesTo script said R k a c s t X M all (drop (i + 1) all)
   list_next {U} {u} k a b c s m t X M x all i lt is before next p v h =
-      let g : CameTo script said k a b s m p v X M all (drop i all) = before p v h in
-      let l : LeadsTo script said (Ok u) k b c m t g.played (M g.played x) g.went.world = next g.played g.went.world g.went.moved.at in
+      let g : CameTo script said R k a b s m p v X M all (drop i all) = before p v h in
+      let l : LeadsTo script said R (Ok u) k b c m t g.played (M g.played x) g.went.world = next g.played g.went.world g.went.moved.at in
       record {
         played = l.play;
         went = then_went k a b c s m t p g.played l.play v g.went l.outcome;
@@ -42,17 +43,17 @@ module _ {C : Type 0} {script : C → Option Items} {said : Items → Option Ite
       }
 
   pub list_stops : {U : Type 0} (e : PlayFault) (k : Kinds) (a b c : Option (List ℕ)) (s m n : Stage C) (X : Type 0) (M : AnsweredPlay → X → AnsweredPlay → Type 0) (x : X) (all : List X) (i : ℕ) → Playable said X M → i < length all → x ≡ get_or all i x
-      → ComesTo script said k a b s m X M all (drop i all) → ((q : AnsweredPlay) → (w : World) → At script said m q w → LeadsTo {U = U} script said (Err e) k b c m n q (M q x) w)
+      → ComesTo script said R k a b s m X M all (drop i all) → ((q : AnsweredPlay) → (w : World) → At script said m q w → LeadsTo {U = U} script said R (Err e) k b c m n q (M q x) w)
       → (p : AnsweredPlay) → (v : World) → At script said s p v → (q : AnsweredPlay) × PlaysEach M p all q × Stopped e k a c s p q v
   list_stops {U} e k a b c s m n X M x all i playable lt is before next p v h =
-      let g : CameTo script said k a b s m p v X M all (drop i all) = before p v h in
-      let l : LeadsTo {U = U} script said (Err e) k b c m n g.played (M g.played x) g.went.world = next g.played g.went.world g.went.moved.at in
+      let g : CameTo script said R k a b s m p v X M all (drop i all) = before p v h in
+      let l : LeadsTo {U = U} script said R (Err e) k b c m n g.played (M g.played x) g.went.world = next g.played g.went.world g.went.moved.at in
       let q = each_goes said M playable.goes l.play (drop (i + 1) all) in
       let more = each_adds M playable.adds l.play (drop (i + 1) all) q.0 q.1 in
       (q.0, g.rest q.0 (subst (λ xs. PlaysEach M g.played xs q.0) (sym (next_item i x all lt is)) (l.play, l.made, q.1)), stopped_on e k a c s p l.play q.0 v more.events (then_stopped e k a b c s m p g.played l.play v g.went l.outcome) more.grew)
 
-  pub list_ends : {U : Type 0} (u : U) (k : Kinds) (a b : Option (List ℕ)) (s t : Stage C) (X : Type 0) (M : AnsweredPlay → X → AnsweredPlay → Type 0) (all : List X) (i : ℕ) → length all ≤ i → ComesTo script said k a b s t X M all (drop i all)
-      → (p : AnsweredPlay) → (v : World) → At script said s p v → LeadsTo script said (Ok u) k a b s t p (PlaysEach M p all) v
+  pub list_ends : {U : Type 0} (u : U) (k : Kinds) (a b : Option (List ℕ)) (s t : Stage C) (X : Type 0) (M : AnsweredPlay → X → AnsweredPlay → Type 0) (all : List X) (i : ℕ) → length all ≤ i → ComesTo script said R k a b s t X M all (drop i all)
+      → (p : AnsweredPlay) → (v : World) → At script said s p v → LeadsTo script said R (Ok u) k a b s t p (PlaysEach M p all) v
   list_ends u k a b s t X M all i le before p v h =
-      let g : CameTo script said k a b s t p v X M all (drop i all) = before p v h in
+      let g : CameTo script said R k a b s t p v X M all (drop i all) = before p v h in
       record { play = g.played; made = g.rest g.played (subst (λ xs. PlaysEach M g.played xs g.played) (sym (no_item i all le)) refl); outcome = g.went }

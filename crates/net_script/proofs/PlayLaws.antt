@@ -6,6 +6,7 @@ use Rattle.std.proofs.KnownBytes.{Appends-nil, Appends-trans}
 use Rattle.hags_io.specs.Edges.{GrowsByFront}
 use Rattle.hags_io.proofs.ByteLaws.{front_on}
 use Rattle.rsct_packet.specs.Lists.{reverse_onto}
+use Rattle.client_callbacks.specs.Handed.{Handed}
 use Rattle.node_state.specs.declared.happened.Happened.{Happened}
 use Rattle.node_state.specs.declared.config.Config.{Config}
 use Rattle.world_model.specs.declared.script.Line.{Line}
@@ -23,6 +24,7 @@ use Rattle.world_answers.proofs.Going.{lines_go}
 use Rattle.world_answers.proofs.Limits.{tells_none}
 use Rattle.world_play.specs.declared.world.World as kept
 use Rattle.world_play.specs.Standing.{Goes, bytes_after, kept_empty}
+use Rattle.world_play.specs.Hands.{LogsStand, RunHands, empty_logs}
 use Rattle.transcript.specs.declared.kinds.Kinds.{Kinds}
 use Rattle.transcript.specs.Kinds.{kinds_text}
 use Rattle.net_script.specs.declared.stage.Stage.{Stage}
@@ -32,7 +34,7 @@ use Rattle.net_script.specs.declared.faults.PutFault.{PutFault}
 use Rattle.net_script.specs.declared.faults.PutFault.TheVariants as put_fault
 use Rattle.net_script.specs.Faults.{fault_of_put}
 use Rattle.net_script.specs.Stage.{At, Went, Passed, Broke, Stopped, LeadsTo}
-use Rattle.net_script.specs.Ends.{records_in, records_within, StopsAs, EndsAs, PlayedAs}
+use Rattle.net_script.specs.Ends.{records_in, records_within, StopsAs, EndsAs, ClientsStand, PlayedAs}
 use Rattle.net_script.proofs.SafePlays.{answered_play_is_safe, answered_front_is_safe}
 use Rattle.net_script.proofs.TextLaws.{kinds_append, none_front}
 
@@ -108,19 +110,6 @@ module _ {C : Type 0} {script : C → Option Items} {said : Items → Option Ite
         trace = first_trace c limit s.world none rs empty g;
       }
 
-  -- ---- all was played
-
-  play_done : (kinds : Kinds) (a b c : Option (List ℕ)) (limit : ℕ) (s t : Stage C) (f : Config) (p : AnsweredPlay) (first : List Happened) → Opened script said limit s f first → Appends a b (kinds_text kinds first)
-      → Went script said kinds b c s t (starting f) p (world_new f) → EndsAs script said (Ok t.world) kinds limit f p a c
-  play_done kinds a b c limit s t f p first o begun w =
-      let runs : AnsweredRuns limit 0 (world_new f) w.events t.world.kept w.world = subst (λ k. AnsweredRuns limit k (world_new f) w.events t.world.kept w.world) o.kept (subst (λ l. AnsweredRuns l s.world.kept (world_new f) w.events t.world.kept w.world) o.limited w.moved.runs) in
-      let trace : p.world.trace ≡ reverse_onto w.records (world_new f).trace = sym (ap (λ (z : World). z.trace) w.moved.at.same) ∙ w.moved.recorded in (
-        ap (λ (z : Ended). z.passed) (whole_runs limit t.world.kept f p w.events w.world w.moved.happens runs),
-        ap (λ (z : Ended). reverse_onto z.world.trace []) (whole_runs limit t.world.kept f p w.events w.world w.moved.happens runs) ∙ ap (λ (z : World). reverse_onto z.trace []) w.moved.at.same,
-        text_on kinds a b c first w.records (records_in p) (all_so_far first w.records (world_new f) p.world.trace o.trace trace) begun w.written,
-        w.moved.at.stands,
-      )
-
   -- ---- it ended early
 
   play_passed : (n : ℕ) (kinds : Kinds) (a b c : Option (List ℕ)) (limit : ℕ) (s : Stage C) (f : Config) (p : AnsweredPlay) (first : List Happened) → Opened script said limit s f first → Appends a b (kinds_text kinds first)
@@ -145,19 +134,38 @@ module _ {C : Type 0} {script : C → Option Items} {said : Items → Option Ite
   play_stopped play_fault.WriteFault kinds a b c limit s f p first o begun w = broke_front kinds a b c limit s f p first o begun w
   play_stopped play_fault.NoMemory kinds a b c limit s f p first o begun w = broke_front kinds a b c limit s f p first o begun w
 
+module _ {C : Type 0} {script : C → Option Items} {said : Items → Option Items} {R : C → List Handed → Type 0} where
+  -- ---- all was played
+
+  play_done : (kinds : Kinds) (a b c : Option (List ℕ)) (limit : ℕ) (s t : Stage C) (f : Config) (p : AnsweredPlay) (first : List Happened) → Opened script said limit s f first → Appends a b (kinds_text kinds first)
+      → Went script said R kinds b c s t (starting f) p (world_new f) → EndsAs script said (Ok t.world) kinds limit f p a c
+  play_done kinds a b c limit s t f p first o begun w =
+      let runs : AnsweredRuns limit 0 (world_new f) w.events t.world.kept w.world = subst (λ k. AnsweredRuns limit k (world_new f) w.events t.world.kept w.world) o.kept (subst (λ l. AnsweredRuns l s.world.kept (world_new f) w.events t.world.kept w.world) o.limited w.moved.runs) in
+      let trace : p.world.trace ≡ reverse_onto w.records (world_new f).trace = sym (ap (λ (z : World). z.trace) w.moved.at.same) ∙ w.moved.recorded in (
+        ap (λ (z : Ended). z.passed) (whole_runs limit t.world.kept f p w.events w.world w.moved.happens runs),
+        ap (λ (z : Ended). reverse_onto z.world.trace []) (whole_runs limit t.world.kept f p w.events w.world w.moved.happens runs) ∙ ap (λ (z : World). reverse_onto z.trace []) w.moved.at.same,
+        text_on kinds a b c first w.records (records_in p) (all_so_far first w.records (world_new f) p.world.trace o.trace trace) begun w.written,
+        w.moved.at.stands,
+      )
+
+  clients_stand : (kinds : Kinds) (b c : Option (List ℕ)) (s t : Stage C) (f : Config) (p : AnsweredPlay) → LogsStand R s.world.nodes (empty_logs (world_new f)) → Went script said R kinds b c s t (starting f) p (world_new f) → ClientsStand R (Ok t.world) f p
+  clients_stand kinds b c s t f p empty w =
+      let x = w.moved.hears (empty_logs (world_new f)) empty in
+      (x.0, subst (λ es. RunHands (world_new f) es (empty_logs (world_new f)) x.0) (sym (answered_all f p w.events w.moved.happens)) x.1, x.2)
+
   -- ---- as the play of the lines ended
 
-  pub played_done : {U : Type 0} {u : U} (kinds : Kinds) (a b c : Option (List ℕ)) (limit : ℕ) (s t : Stage C) (x : Script) (first : List Happened) → Opened script said limit s x.config first → Appends a b (kinds_text kinds first)
-      → ((p : AnsweredPlay) → (v : World) → At script said s p v → LeadsTo script said (Ok u) kinds b c s t p (PlaysLines said p x.lines) v) → PlayedAs script said (Ok t.world) kinds limit x a c
-  played_done kinds a b c limit s t x first o begun next =
+  pub played_done : {U : Type 0} {u : U} (kinds : Kinds) (a b c : Option (List ℕ)) (limit : ℕ) (s t : Stage C) (x : Script) (first : List Happened) → Opened script said limit s x.config first → LogsStand R s.world.nodes (empty_logs (world_new x.config)) → Appends a b (kinds_text kinds first)
+      → ((p : AnsweredPlay) → (v : World) → At script said s p v → LeadsTo script said R (Ok u) kinds b c s t p (PlaysLines said p x.lines) v) → PlayedAs script said R (Ok t.world) kinds limit x a c
+  played_done kinds a b c limit s t x first o empty begun next =
       let l = next (starting x.config) (world_new x.config) o.at in
-      record { play = l.play; lines = l.made; ends = play_done kinds a b c limit s t x.config l.play first o begun l.outcome; safe = answered_play_is_safe said x l.play l.made; safe_front = answered_front_is_safe said limit x l.play l.made }
+      record { play = l.play; lines = l.made; ends = play_done kinds a b c limit s t x.config l.play first o begun l.outcome; hands = clients_stand kinds b c s t x.config l.play empty l.outcome; safe = answered_play_is_safe said x l.play l.made; safe_front = answered_front_is_safe said limit x l.play l.made }
 
   pub played_stopped : {U : Type 0} (e : PlayFault) (kinds : Kinds) (a b c : Option (List ℕ)) (limit : ℕ) (s t : Stage C) (x : Script) (first : List Happened) → Opened script said limit s x.config first → Appends a b (kinds_text kinds first)
-      → ((p : AnsweredPlay) → (v : World) → At script said s p v → LeadsTo {U = U} script said (Err e) kinds b c s t p (PlaysLines said p x.lines) v) → PlayedAs script said (Err e) kinds limit x a c
+      → ((p : AnsweredPlay) → (v : World) → At script said s p v → LeadsTo {U = U} script said R (Err e) kinds b c s t p (PlaysLines said p x.lines) v) → PlayedAs script said R (Err e) kinds limit x a c
   played_stopped e kinds a b c limit s t x first o begun next =
       let l = next (starting x.config) (world_new x.config) o.at in
-      record { play = l.play; lines = l.made; ends = play_stopped e kinds a b c limit s x.config l.play first o begun l.outcome; safe = answered_play_is_safe said x l.play l.made; safe_front = answered_front_is_safe said limit x l.play l.made }
+      record { play = l.play; lines = l.made; ends = play_stopped e kinds a b c limit s x.config l.play first o begun l.outcome; hands = tt; safe = answered_play_is_safe said x l.play l.made; safe_front = answered_front_is_safe said limit x l.play l.made }
 
 -- ---- it ended before the first line
 
@@ -170,16 +178,20 @@ ended_err : {C : Type 0} (script : C → Option Items) (said : Items → Option 
 ended_err script said (Ok w) f kinds limit c p a b h g = absurd h.1
 ended_err script said (Err e) f kinds limit c p a b h g = subst (λ z. StopsAs z kinds limit c p a b) (sym h.1) g
 
+ended_hands : {C : Type 0} (R : C → List Handed → Type 0) (r : Result (kept.World C) PlayFault) (c : Config) (p : AnsweredPlay) → IsErr r → ClientsStand R r c p
+ended_hands R (Ok w) c p h = absurd cc
+ended_hands R (Err e) c p h = tt
+
 -- some nodes could not start
-pub starts_stopped : {C : Type 0} (script : C → Option Items) (said : Items → Option Items) (r : Result (kept.World C) PlayFault) (kinds : Kinds) (limit : ℕ) (x : Script) (a : Option (List ℕ)) → IsErr r × IsErrAnd r (λ e. e ≡ play_fault.NoMemory)
-    → PlayedAs script said r kinds limit x a a
-starts_stopped script said r kinds limit x a h =
+pub starts_stopped : {C : Type 0} (script : C → Option Items) (said : Items → Option Items) (R : C → List Handed → Type 0) (r : Result (kept.World C) PlayFault) (kinds : Kinds) (limit : ℕ) (x : Script) (a : Option (List ℕ)) → IsErr r × IsErrAnd r (λ e. e ≡ play_fault.NoMemory)
+    → PlayedAs script said R r kinds limit x a a
+starts_stopped script said R r kinds limit x a h =
     let p = lines_go said (starting x.config) x.lines in
-    record { play = p.0; lines = p.1; ends = ended_err script said r play_fault.NoMemory kinds limit x.config p.0 a a h (none_front a (kinds_text kinds (records_within limit x.config p.0))); safe = answered_play_is_safe said x p.0 p.1; safe_front = answered_front_is_safe said limit x p.0 p.1 }
+    record { play = p.0; lines = p.1; ends = ended_err script said r play_fault.NoMemory kinds limit x.config p.0 a a h (none_front a (kinds_text kinds (records_within limit x.config p.0))); hands = ended_hands R r x.config p.0 h.0; safe = answered_play_is_safe said x p.0 p.1; safe_front = answered_front_is_safe said limit x p.0 p.1 }
 
 -- what they recorded could not be written
-pub starts_cut : {C : Type 0} (script : C → Option Items) (said : Items → Option Items) (r : Result (kept.World C) PlayFault) (f : PutFault) (kinds : Kinds) (limit : ℕ) (x : Script) (a b : Option (List ℕ)) (first : List Happened) → IsErr r × IsErrAnd r (λ e. e ≡ fault_of_put f)
-    → (world_new x.config).trace ≡ reverse_onto first [] → GrowsByFront a b (kinds_text kinds first) → PlayedAs script said r kinds limit x a b
-starts_cut script said r f kinds limit x a b first h trace g =
+pub starts_cut : {C : Type 0} (script : C → Option Items) (said : Items → Option Items) (R : C → List Handed → Type 0) (r : Result (kept.World C) PlayFault) (f : PutFault) (kinds : Kinds) (limit : ℕ) (x : Script) (a b : Option (List ℕ)) (first : List Happened) → IsErr r × IsErrAnd r (λ e. e ≡ fault_of_put f)
+    → (world_new x.config).trace ≡ reverse_onto first [] → GrowsByFront a b (kinds_text kinds first) → PlayedAs script said R r kinds limit x a b
+starts_cut script said R r f kinds limit x a b first h trace g =
     let p = first_front said kinds a b limit x.config x.lines first trace g in
-    record { play = p.0; lines = p.1; ends = ended_err script said r (fault_of_put f) kinds limit x.config p.0 a b h (front_stops f kinds limit x.config p.0 a b p.2); safe = answered_play_is_safe said x p.0 p.1; safe_front = answered_front_is_safe said limit x p.0 p.1 }
+    record { play = p.0; lines = p.1; ends = ended_err script said r (fault_of_put f) kinds limit x.config p.0 a b h (front_stops f kinds limit x.config p.0 a b p.2); hands = ended_hands R r x.config p.0 h.0; safe = answered_play_is_safe said x p.0 p.1; safe_front = answered_front_is_safe said limit x p.0 p.1 }

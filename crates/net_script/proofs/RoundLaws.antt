@@ -1,5 +1,6 @@
 -- Rounds of ticks and flows.
 use Rattle.std.proofs.Common.{◌≡◌, ℕ, suc, ◌+◌, ◌-◌, ◌<◌, ◌≤◌, List, [], ◌∷◌, map, Option, Result, Ok, Err, refl, ◌∙◌, ap, subst, arith}
+use Rattle.client_callbacks.specs.Handed.{Handed}
 use Rattle.node_step.specs.Node.{NodeView}
 use Rattle.world_model.specs.World.{World}
 use Rattle.world_model.specs.World as world
@@ -27,36 +28,36 @@ numbers_same script said (n ∷ ns) (x ∷ xs) h = ap (λ k. k ∷ map number_in
 pub ticks_playable : (said : Items → Option Items) → Playable said ℕ (PlaysTick said)
 ticks_playable said = record { goes = tick_goes said; adds = λ p n q h. event_adds p (event.Tick n) q h }
 
-pub record Rounded {C : Type 0} (script : C → Option Items) (said : Items → Option Items) (k : Kinds) (a b : Option (List ℕ)) (s t : Stage C) (p : AnsweredPlay) (v : World) (count left : ℕ) : Type 0 where
+pub record Rounded {C : Type 0} (script : C → Option Items) (said : Items → Option Items) (R : C → List Handed → Type 0) (k : Kinds) (a b : Option (List ℕ)) (s t : Stage C) (p : AnsweredPlay) (v : World) (count left : ℕ) : Type 0 where
   pub played : AnsweredPlay
-  pub went : Went script said k a b s t p played v
+  pub went : Went script said R k a b s t p played v
   pub rest : (q : AnsweredPlay) → PlaysRounds said left played q → PlaysRounds said count p q
 
-abbrev pub RoundsTo : {C : Type 0} → (C → Option Items) → (Items → Option Items) → Kinds → Option (List ℕ) → Option (List ℕ) → Stage C → Stage C → ℕ → ℕ → Type 0
-RoundsTo script said k a b s t count left = (p : AnsweredPlay) → (v : World) → At script said s p v → Rounded script said k a b s t p v count left
+abbrev pub RoundsTo : {C : Type 0} → (C → Option Items) → (Items → Option Items) → (C → List Handed → Type 0) → Kinds → Option (List ℕ) → Option (List ℕ) → Stage C → Stage C → ℕ → ℕ → Type 0
+RoundsTo script said R k a b s t count left = (p : AnsweredPlay) → (v : World) → At script said s p v → Rounded script said R k a b s t p v count left
 
-module _ {C : Type 0} {script : C → Option Items} {said : Items → Option Items} where
+module _ {C : Type 0} {script : C → Option Items} {said : Items → Option Items} {R : C → List Handed → Type 0} where
   -- the nodes that are up tick
   pub all_ticked : {U : Type 0} (r : Result U PlayFault) (k : Kinds) (a b : Option (List ℕ)) (s t : Stage C) (ns : List ℕ) → ns ≡ map number_in s.world.nodes
-      → ((p : AnsweredPlay) → (v : World) → At script said s p v → LeadsTo script said r k a b s t p (PlaysEach (PlaysTick said) p ns) v)
-      → (p : AnsweredPlay) → (v : World) → At script said s p v → LeadsTo script said r k a b s t p (PlaysTicks said p) v
+      → ((p : AnsweredPlay) → (v : World) → At script said s p v → LeadsTo script said R r k a b s t p (PlaysEach (PlaysTick said) p ns) v)
+      → (p : AnsweredPlay) → (v : World) → At script said s p v → LeadsTo script said R r k a b s t p (PlaysTicks said p) v
   all_ticked r k a b s t ns e next p v h =
-      let l : LeadsTo script said r k a b s t p (PlaysEach (PlaysTick said) p ns) v = next p v h in
+      let l : LeadsTo script said R r k a b s t p (PlaysEach (PlaysTick said) p ns) v = next p v h in
       record { play = l.play; made = subst (λ ms. PlaysEach (PlaysTick said) p ms l.play) (e ∙ numbers_same script said s.world.nodes p.world.nodes h.stands.nodes) l.made; outcome = l.outcome }
 
   -- ---- rounds
 
-  pub rounds_begin : (k : Kinds) (a : Option (List ℕ)) (s : Stage C) (count left : ℕ) → left ≡ count → RoundsTo script said k a a s s count left
+  pub rounds_begin : (k : Kinds) (a : Option (List ℕ)) (s : Stage C) (count left : ℕ) → left ≡ count → RoundsTo script said R k a a s s count left
   rounds_begin k a s count left e p v h = record { played = p; went = went_none k a s p v h; rest = λ q m. subst (λ n. PlaysRounds said n p q) e m }
 
-  pub round_next : {U V : Type 0} {u : U} {w : V} (k : Kinds) (a b c d : Option (List ℕ)) (s m o t : Stage C) (count i : ℕ) → i < count → RoundsTo script said k a b s m count (count - i)
-      → ((q : AnsweredPlay) → (z : World) → At script said m q z → LeadsTo script said (Ok u) k b c m o q (PlaysTicks said q) z) → ((q : AnsweredPlay) → (z : World) → At script said o q z → LeadsTo script said (Ok w) k c d o t q (PlaysFlow said flow_limit q) z)
-      → RoundsTo script said k a d s t count (count - (i + 1))
+  pub round_next : {U V : Type 0} {u : U} {w : V} (k : Kinds) (a b c d : Option (List ℕ)) (s m o t : Stage C) (count i : ℕ) → i < count → RoundsTo script said R k a b s m count (count - i)
+      → ((q : AnsweredPlay) → (z : World) → At script said m q z → LeadsTo script said R (Ok u) k b c m o q (PlaysTicks said q) z) → ((q : AnsweredPlay) → (z : World) → At script said o q z → LeadsTo script said R (Ok w) k c d o t q (PlaysFlow said flow_limit q) z)
+      → RoundsTo script said R k a d s t count (count - (i + 1))
   round_next {U} {V} {u} {w} k a b c d s m o t count i lt before ticked flowed p v h =
-      let f : Rounded script said k a b s m p v count (count - i) = before p v h in
-      let x : LeadsTo script said (Ok u) k b c m o f.played (PlaysTicks said f.played) f.went.world = ticked f.played f.went.world f.went.moved.at in
-      let g : Went script said k a c s o p x.play v = then_went k a b c s m o p f.played x.play v f.went x.outcome in
-      let y : LeadsTo script said (Ok w) k c d o t x.play (PlaysFlow said flow_limit x.play) g.world = flowed x.play g.world g.moved.at in
+      let f : Rounded script said R k a b s m p v count (count - i) = before p v h in
+      let x : LeadsTo script said R (Ok u) k b c m o f.played (PlaysTicks said f.played) f.went.world = ticked f.played f.went.world f.went.moved.at in
+      let g : Went script said R k a c s o p x.play v = then_went k a b c s m o p f.played x.play v f.went x.outcome in
+      let y : LeadsTo script said R (Ok w) k c d o t x.play (PlaysFlow said flow_limit x.play) g.world = flowed x.play g.world g.moved.at in
       let less : suc (count - (i + 1)) ≡ count - i = omega arith in
       record {
         played = y.play;
@@ -65,12 +66,12 @@ module _ {C : Type 0} {script : C → Option Items} {said : Items → Option Ite
       }
 
   -- it stopped at a tick
-  pub round_stops : {U : Type 0} (e : PlayFault) (k : Kinds) (a b c : Option (List ℕ)) (s m n : Stage C) (count i : ℕ) → i < count → RoundsTo script said k a b s m count (count - i)
-      → ((q : AnsweredPlay) → (z : World) → At script said m q z → LeadsTo {U = U} script said (Err e) k b c m n q (PlaysTicks said q) z)
+  pub round_stops : {U : Type 0} (e : PlayFault) (k : Kinds) (a b c : Option (List ℕ)) (s m n : Stage C) (count i : ℕ) → i < count → RoundsTo script said R k a b s m count (count - i)
+      → ((q : AnsweredPlay) → (z : World) → At script said m q z → LeadsTo {U = U} script said R (Err e) k b c m n q (PlaysTicks said q) z)
       → (p : AnsweredPlay) → (v : World) → At script said s p v → (q : AnsweredPlay) × PlaysRounds said count p q × Stopped e k a c s p q v
   round_stops {U} e k a b c s m n count i lt before next p v h =
-      let f : Rounded script said k a b s m p v count (count - i) = before p v h in
-      let x : LeadsTo {U = U} script said (Err e) k b c m n f.played (PlaysTicks said f.played) f.went.world = next f.played f.went.world f.went.moved.at in
+      let f : Rounded script said R k a b s m p v count (count - i) = before p v h in
+      let x : LeadsTo {U = U} script said R (Err e) k b c m n f.played (PlaysTicks said f.played) f.went.world = next f.played f.went.world f.went.moved.at in
       let less : suc (count - (i + 1)) ≡ count - i = omega arith in
       let y = flow_goes said flow_limit x.play in
       let q = rounds_go said (count - (i + 1)) y.0 in
@@ -82,14 +83,14 @@ module _ {C : Type 0} {script : C → Option Items} {said : Items → Option Ite
       )
 
   -- it stopped in a flow
-  pub round_stops_flowing : {U V : Type 0} {u : U} (e : PlayFault) (k : Kinds) (a b c d : Option (List ℕ)) (s m o n : Stage C) (count i : ℕ) → i < count → RoundsTo script said k a b s m count (count - i)
-      → ((q : AnsweredPlay) → (z : World) → At script said m q z → LeadsTo script said (Ok u) k b c m o q (PlaysTicks said q) z) → ((q : AnsweredPlay) → (z : World) → At script said o q z → LeadsTo {U = V} script said (Err e) k c d o n q (PlaysFlow said flow_limit q) z)
+  pub round_stops_flowing : {U V : Type 0} {u : U} (e : PlayFault) (k : Kinds) (a b c d : Option (List ℕ)) (s m o n : Stage C) (count i : ℕ) → i < count → RoundsTo script said R k a b s m count (count - i)
+      → ((q : AnsweredPlay) → (z : World) → At script said m q z → LeadsTo script said R (Ok u) k b c m o q (PlaysTicks said q) z) → ((q : AnsweredPlay) → (z : World) → At script said o q z → LeadsTo {U = V} script said R (Err e) k c d o n q (PlaysFlow said flow_limit q) z)
       → (p : AnsweredPlay) → (v : World) → At script said s p v → (q : AnsweredPlay) × PlaysRounds said count p q × Stopped e k a d s p q v
   round_stops_flowing {U} {V} {u} e k a b c d s m o n count i lt before ticked next p v h =
-      let f : Rounded script said k a b s m p v count (count - i) = before p v h in
-      let x : LeadsTo script said (Ok u) k b c m o f.played (PlaysTicks said f.played) f.went.world = ticked f.played f.went.world f.went.moved.at in
-      let g : Went script said k a c s o p x.play v = then_went k a b c s m o p f.played x.play v f.went x.outcome in
-      let y : LeadsTo {U = V} script said (Err e) k c d o n x.play (PlaysFlow said flow_limit x.play) g.world = next x.play g.world g.moved.at in
+      let f : Rounded script said R k a b s m p v count (count - i) = before p v h in
+      let x : LeadsTo script said R (Ok u) k b c m o f.played (PlaysTicks said f.played) f.went.world = ticked f.played f.went.world f.went.moved.at in
+      let g : Went script said R k a c s o p x.play v = then_went k a b c s m o p f.played x.play v f.went x.outcome in
+      let y : LeadsTo {U = V} script said R (Err e) k c d o n x.play (PlaysFlow said flow_limit x.play) g.world = next x.play g.world g.moved.at in
       let less : suc (count - (i + 1)) ≡ count - i = omega arith in
       let q = rounds_go said (count - (i + 1)) y.play in
       let more = rounds_add (count - (i + 1)) y.play q.0 q.1 in (
@@ -98,9 +99,9 @@ module _ {C : Type 0} {script : C → Option Items} {said : Items → Option Ite
         stopped_on e k a d s p y.play q.0 v more.events (then_stopped e k a c d s o p x.play y.play v g y.outcome) more.grew,
       )
 
-  pub rounds_end : {U : Type 0} (u : U) (k : Kinds) (a b : Option (List ℕ)) (s t : Stage C) (count i : ℕ) → count ≤ i → RoundsTo script said k a b s t count (count - i)
-      → (p : AnsweredPlay) → (v : World) → At script said s p v → LeadsTo script said (Ok u) k a b s t p (PlaysRounds said count p) v
+  pub rounds_end : {U : Type 0} (u : U) (k : Kinds) (a b : Option (List ℕ)) (s t : Stage C) (count i : ℕ) → count ≤ i → RoundsTo script said R k a b s t count (count - i)
+      → (p : AnsweredPlay) → (v : World) → At script said s p v → LeadsTo script said R (Ok u) k a b s t p (PlaysRounds said count p) v
   rounds_end u k a b s t count i le before p v h =
-      let f : Rounded script said k a b s t p v count (count - i) = before p v h in
+      let f : Rounded script said R k a b s t p v count (count - i) = before p v h in
       let z : 0 ≡ count - i = omega arith in
       record { play = f.played; made = f.rest f.played (subst (λ n. PlaysRounds said n f.played f.played) z (rounds_over said f.played)); outcome = f.went }

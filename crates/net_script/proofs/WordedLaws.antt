@@ -4,6 +4,7 @@ use Rattle.std.specs.Io.KnownBytes.{Appends}
 use Rattle.std.proofs.KnownBytes.{Appends-nil}
 use Rattle.hags_io.specs.Edges.{GrowsByFront}
 use Rattle.rsct_packet.specs.Lists.{reverse_onto}
+use Rattle.client_callbacks.specs.Handed.{Handed}
 use Rattle.node_state.specs.declared.config.Config.{Config}
 use Rattle.world_model.specs.declared.script.Line.{Line}
 use Rattle.world_model.specs.declared.script.Script.{Script}
@@ -79,24 +80,24 @@ stops_front (play_fault.Kept n) kinds limit c p a b h = all_front a b (kinds_tex
 stops_front play_fault.WriteFault kinds limit c p a b h = h
 stops_front play_fault.NoMemory kinds limit c p a b h = h
 
-module _ {C : Type 0} {script : C → Option Items} {said : Items → Option Items} where
-  pub says_done : (all : AllWorded said) (w : kept.World C) (kinds : Kinds) (limit : ℕ) (x : Script) (a b : Option (List ℕ)) → x.begun ≡ true → PlayedAs script said (Ok w) kinds limit x a b → (kept_past limit x ≡ None) × Appends a b (kinds_text kinds (script_records x))
+module _ {C : Type 0} {script : C → Option Items} {said : Items → Option Items} {R : C → List Handed → Type 0} where
+  pub says_done : (all : AllWorded said) (w : kept.World C) (kinds : Kinds) (limit : ℕ) (x : Script) (a b : Option (List ℕ)) → x.begun ≡ true → PlayedAs script said R (Ok w) kinds limit x a b → (kept_past limit x ≡ None) × Appends a b (kinds_text kinds (script_records x))
   says_done all w kinds limit x a b e p =
       (past_same said all limit x p.play None e p.lines p.ends.0, subst (λ rs. Appends a b (kinds_text kinds rs)) (sym (records_same said all x p.play e p.lines)) p.ends.2)
 
-  pub says_kept : (all : AllWorded said) (f : PlayFault) (n : ℕ) (kinds : Kinds) (limit : ℕ) (x : Script) (a b : Option (List ℕ)) → f ≡ play_fault.Kept n → x.begun ≡ true → PlayedAs script said (Err f) kinds limit x a b → (kept_past limit x ≡ Some n) × Appends a b (kinds_text kinds (kept_records limit x))
+  pub says_kept : (all : AllWorded said) (f : PlayFault) (n : ℕ) (kinds : Kinds) (limit : ℕ) (x : Script) (a b : Option (List ℕ)) → f ≡ play_fault.Kept n → x.begun ≡ true → PlayedAs script said R (Err f) kinds limit x a b → (kept_past limit x ≡ Some n) × Appends a b (kinds_text kinds (kept_records limit x))
   says_kept all f n kinds limit x a b is e p =
       let ends : StopsAs (play_fault.Kept n) kinds limit x.config p.play a b = subst (λ z. StopsAs z kinds limit x.config p.play a b) is p.ends in
       (past_same said all limit x p.play (Some n) e p.lines ends.0, subst (λ rs. Appends a b (kinds_text kinds rs)) (sym (kept_same said all limit x p.play e p.lines)) ends.1)
 
-  done_front : (all : AllWorded said) (w : kept.World C) (kinds : Kinds) (limit : ℕ) (x : Script) (a b : Option (List ℕ)) → x.begun ≡ true → PlayedAs script said (Ok w) kinds limit x a b → GrowsByFront a b (kinds_text kinds (kept_records limit x))
+  done_front : (all : AllWorded said) (w : kept.World C) (kinds : Kinds) (limit : ℕ) (x : Script) (a b : Option (List ℕ)) → x.begun ≡ true → PlayedAs script said R (Ok w) kinds limit x a b → GrowsByFront a b (kinds_text kinds (kept_records limit x))
   done_front all w kinds limit x a b e p =
       all_front a b (kinds_text kinds (kept_records limit x)) (subst (λ rs. Appends a b (kinds_text kinds rs)) (sym (kept_same said all limit x p.play e p.lines ∙ p.ends.1)) p.ends.2)
 
-  stopped_front : (all : AllWorded said) (f : PlayFault) (kinds : Kinds) (limit : ℕ) (x : Script) (a b : Option (List ℕ)) → x.begun ≡ true → PlayedAs script said (Err f) kinds limit x a b → GrowsByFront a b (kinds_text kinds (kept_records limit x))
+  stopped_front : (all : AllWorded said) (f : PlayFault) (kinds : Kinds) (limit : ℕ) (x : Script) (a b : Option (List ℕ)) → x.begun ≡ true → PlayedAs script said R (Err f) kinds limit x a b → GrowsByFront a b (kinds_text kinds (kept_records limit x))
   stopped_front all f kinds limit x a b e p =
       subst (λ rs. GrowsByFront a b (kinds_text kinds rs)) (sym (kept_same said all limit x p.play e p.lines)) (stops_front f kinds limit x.config p.play a b p.ends)
 
-  pub says_front : (all : AllWorded said) (r : Result (kept.World C) PlayFault) (kinds : Kinds) (limit : ℕ) (x : Script) (a b : Option (List ℕ)) → x.begun ≡ true → PlayedAs script said r kinds limit x a b → GrowsByFront a b (kinds_text kinds (kept_records limit x))
+  pub says_front : (all : AllWorded said) (r : Result (kept.World C) PlayFault) (kinds : Kinds) (limit : ℕ) (x : Script) (a b : Option (List ℕ)) → x.begun ≡ true → PlayedAs script said R r kinds limit x a b → GrowsByFront a b (kinds_text kinds (kept_records limit x))
   says_front all (Ok w) kinds limit x a b e p = done_front all w kinds limit x a b e p
   says_front all (Err f) kinds limit x a b e p = stopped_front all f kinds limit x a b e p

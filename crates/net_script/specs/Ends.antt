@@ -3,15 +3,18 @@ use Rattle.std.specs.Prelude.{◌≡◌, ℕ, List, [], ◌++◌, Option, Some, 
 use Rattle.std.specs.Io.KnownBytes.{Appends}
 use Rattle.hags_io.specs.Edges.{GrowsByFront}
 use Rattle.rsct_packet.specs.Lists.{reverse_onto}
+use Rattle.client_callbacks.specs.Handed.{Handed}
 use Rattle.node_state.specs.declared.config.Config.{Config}
 use Rattle.node_state.specs.declared.happened.Happened.{Happened}
 use Rattle.world_model.specs.declared.script.Script.{Script}
+use Rattle.world_model.specs.World.{world_new}
 use Rattle.world_answers.specs.Answers.{Items, Answered}
 use Rattle.world_answers.specs.Plays.{AnsweredPlay, starting, PlaysLines}
 use Rattle.world_answers.specs.Limits.{answered_in, limited}
 use Rattle.world_play.specs.Safe.{IsSafe, MayPlay}
 use Rattle.world_play.specs.declared.world.World.{World}
 use Rattle.world_play.specs.Standing.{Stands}
+use Rattle.world_play.specs.Hands.{Logs, LogsStand, RunHands, empty_logs}
 use Rattle.transcript.specs.declared.kinds.Kinds.{Kinds}
 use Rattle.transcript.specs.Kinds.{kinds_text}
 use Rattle.net_script.specs.declared.faults.PlayFault.{PlayFault}
@@ -40,11 +43,18 @@ EndsAs script said (Err e) kinds limit c p old new = StopsAs e kinds limit c p o
 abbrev pub FrontIsSafe : ℕ → Config → AnsweredPlay → Type 0
 FrontIsSafe limit c p = (es : List Answered) × (fs : List Answered) × (answered_in p ≡ es ++ fs) × IsSafe c es (records_within limit c p)
 
--- the script was played: with what the clients answered, its lines come to this play, and it ended like this; where the
--- lines of the script may happen the run of the play is safe, the whole one and up to the event that passes the limit
-pub record PlayedAs {C : Type 0} (script : C → Option Items) (said : Items → Option Items) (r : Result (World C) PlayFault) (kinds : Kinds) (limit : ℕ) (x : Script) (old new : Option (List ℕ)) : Type 0 where
+-- each client of the world at the end stands for what the run of the play handed to it, in order
+abbrev pub ClientsStand : {C : Type 0} → (C → List Handed → Type 0) → Result (World C) PlayFault → Config → AnsweredPlay → Type 0
+ClientsStand R (Ok w) c p = (logs : Logs) × RunHands (world_new c) (answered_in p) (empty_logs (world_new c)) logs × LogsStand R w.nodes logs
+ClientsStand R (Err e) c p = Unit {0}
+
+-- the script was played: with what the clients answered, its lines come to this play, and it ended like this; its clients
+-- stand for what they were handed; and where the lines of the script may happen the run of the play is safe, the whole
+-- one and up to the event that passes the limit
+pub record PlayedAs {C : Type 0} (script : C → Option Items) (said : Items → Option Items) (R : C → List Handed → Type 0) (r : Result (World C) PlayFault) (kinds : Kinds) (limit : ℕ) (x : Script) (old new : Option (List ℕ)) : Type 0 where
   pub play : AnsweredPlay
   pub lines : PlaysLines said (starting x.config) x.lines play
   pub ends : EndsAs script said r kinds limit x.config play old new
+  pub hands : ClientsStand R r x.config play
   pub safe : MayPlay x → IsSafe x.config (answered_in play) (records_in play)
   pub safe_front : MayPlay x → FrontIsSafe limit x.config play

@@ -38,7 +38,7 @@ fn pass<C: Made, K: Sink>(
     x: Waiting,
     out: &mut K,
 ) -> Result<(), PlayFault>
-    ensures outcome { (p : AnsweredPlay) → (v : world.World) → At C.script C.script_of stage.old p v → (y : Sent) → (ys : List Sent) → p.world.queue ≡ y ∷ ys → waits_as y ≡ x → LeadsTo C.script C.script_of result kinds (K.held out.old) (K.held out.new) stage.old stage.new p (TakesPacket C.script_of p y ys (is_some (node_at p.world y.packet.to)) (is_cut p.cuts y.packet)) v }
+    ensures outcome { (p : AnsweredPlay) → (v : world.World) → At C.script C.script_of stage.old p v → (y : Sent) → (ys : List Sent) → p.world.queue ≡ y ∷ ys → waits_as y ≡ x → LeadsTo C.script C.script_of C.stands_for result kinds (K.held out.old) (K.held out.new) stage.old stage.new p (TakesPacket C.script_of p y ys (is_some (node_at p.world y.packet.to)) (is_cut p.cuts y.packet)) v }
     ensures later { K.faults out.old ≤ K.faults out.new }
     ensures fault { result ≡ Err PlayFault.WriteFault → Rose (K.faults out.old) (K.faults out.new) }
 {
@@ -57,7 +57,7 @@ pub fn flow<C: Made, K: Sink>(
     kinds: Kinds,
     out: &mut K,
 ) -> Result<(), PlayFault>
-    ensures outcome { (p : AnsweredPlay) → (v : world.World) → At C.script C.script_of stage.old p v → LeadsTo C.script C.script_of result kinds (K.held out.old) (K.held out.new) stage.old stage.new p (PlaysFlow C.script_of flow_limit p) v }
+    ensures outcome { (p : AnsweredPlay) → (v : world.World) → At C.script C.script_of stage.old p v → LeadsTo C.script C.script_of C.stands_for result kinds (K.held out.old) (K.held out.new) stage.old stage.new p (PlaysFlow C.script_of flow_limit p) v }
     ensures later { K.faults out.old ≤ K.faults out.new }
     ensures fault { result ≡ Err PlayFault.WriteFault → Rose (K.faults out.old) (K.faults out.new) }
 {

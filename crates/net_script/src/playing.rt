@@ -32,7 +32,7 @@ fn play_begun<C: Made, K: Sink>(
     limit: u64,
     out: &mut K,
 ) -> Result<World<C>, PlayFault>
-    ensures played { PlayedAs C.script C.script_of result kinds limit script.now (K.held out.old) (K.held out.new) }
+    ensures played { PlayedAs C.script C.script_of C.stands_for result kinds limit script.now (K.held out.old) (K.held out.new) }
     ensures later { K.faults out.old ≤ K.faults out.new }
     ensures fault { result ≡ Err PlayFault.WriteFault → Rose (K.faults out.old) (K.faults out.new) }
 {
@@ -73,8 +73,8 @@ fn play_nothing<C: Made>(alloc: Global, script: &Script, limit: u64) -> Result<W
 /// and up to the event whose packets pass the limit. Of a script without a `begin` line nothing is written, and the world
 /// is that with which its run would begin.
 ///
-/// Not said: that a client at the end stands for the list of what it was handed. Sessions say it of each client, but
-/// what hands entries on to them, up to the step of a node, says nothing of it.
+/// Each client of the world at the end stands for what the run handed to it since its session began, in order, as the
+/// records of the run tell it (`hands`).
 pub fn play_as<C: Made, K: Sink>(
     alloc: Global,
     script: &Script,
@@ -82,7 +82,7 @@ pub fn play_as<C: Made, K: Sink>(
     limit: u64,
     out: &mut K,
 ) -> Result<World<C>, PlayFault>
-    ensures played { script.now.begun ≡ true → PlayedAs C.script C.script_of result kinds limit script.now (K.held out.old) (K.held out.new) }
+    ensures played { script.now.begun ≡ true → PlayedAs C.script C.script_of C.stands_for result kinds limit script.now (K.held out.old) (K.held out.new) }
     ensures unbegun { script.now.begun ≡ false → (K.held out.new ≡ K.held out.old) × IfOk result (λ w. Stands C.script C.script_of w (world_new script.now.config)) }
     ensures not_kept { script.now.begun ≡ false → (n : ℕ) → IsErrOf result (PlayFault.Kept n) → ⊥ }
     ensures later { K.faults out.old ≤ K.faults out.new }

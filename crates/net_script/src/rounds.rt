@@ -23,7 +23,7 @@ fn tick_each<C: Made, K: Sink>(
     ns: &[u8],
     out: &mut K,
 ) -> Result<(), PlayFault>
-    ensures outcome { (p : AnsweredPlay) → (v : world.World) → At C.script C.script_of stage.old p v → LeadsTo C.script C.script_of result kinds (K.held out.old) (K.held out.new) stage.old stage.new p (PlaysEach (PlaysTick C.script_of) p ns.now) v }
+    ensures outcome { (p : AnsweredPlay) → (v : world.World) → At C.script C.script_of stage.old p v → LeadsTo C.script C.script_of C.stands_for result kinds (K.held out.old) (K.held out.new) stage.old stage.new p (PlaysEach (PlaysTick C.script_of) p ns.now) v }
     ensures later { K.faults out.old ≤ K.faults out.new }
     ensures fault { result ≡ Err PlayFault.WriteFault → Rose (K.faults out.old) (K.faults out.new) }
 {
@@ -40,7 +40,7 @@ fn tick_all<C: Made, K: Sink>(
     kinds: Kinds,
     out: &mut K,
 ) -> Result<(), PlayFault>
-    ensures outcome { (p : AnsweredPlay) → (v : world.World) → At C.script C.script_of stage.old p v → LeadsTo C.script C.script_of result kinds (K.held out.old) (K.held out.new) stage.old stage.new p (PlaysTicks C.script_of p) v }
+    ensures outcome { (p : AnsweredPlay) → (v : world.World) → At C.script C.script_of stage.old p v → LeadsTo C.script C.script_of C.stands_for result kinds (K.held out.old) (K.held out.new) stage.old stage.new p (PlaysTicks C.script_of p) v }
     ensures later { K.faults out.old ≤ K.faults out.new }
     ensures fault { result ≡ Err PlayFault.WriteFault → Rose (K.faults out.old) (K.faults out.new) }
 {
@@ -56,7 +56,7 @@ pub fn run<C: Made, K: Sink>(
     count: u16,
     out: &mut K,
 ) -> Result<(), PlayFault>
-    ensures outcome { (p : AnsweredPlay) → (v : world.World) → At C.script C.script_of stage.old p v → LeadsTo C.script C.script_of result kinds (K.held out.old) (K.held out.new) stage.old stage.new p (PlaysRounds C.script_of count p) v }
+    ensures outcome { (p : AnsweredPlay) → (v : world.World) → At C.script C.script_of stage.old p v → LeadsTo C.script C.script_of C.stands_for result kinds (K.held out.old) (K.held out.new) stage.old stage.new p (PlaysRounds C.script_of count p) v }
     ensures later { K.faults out.old ≤ K.faults out.new }
     ensures fault { result ≡ Err PlayFault.WriteFault → Rose (K.faults out.old) (K.faults out.new) }
 {

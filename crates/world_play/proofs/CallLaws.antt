@@ -27,6 +27,7 @@ use Rattle.node_state.specs.State.{frozen, recorded, with_sessions}
 use Rattle.node_state.specs.HandOn.{Answering}
 use Rattle.node_state.specs.Calls.{caller_of, call_refused, changed, gone_sent, all_gone_sent, goodbye_said, call_row}
 use Rattle.node_state.specs.Step.{Calls, at_work, stepped}
+use Rattle.entry_handing.specs.Received.{Handing}
 use Rattle.entry_handing.specs.Doing.{Does}
 use Rattle.group_leading.proofs.AnswerLaws.{does_some}
 use Rattle.node_step.specs.Node.{NodeView}
@@ -166,17 +167,17 @@ module _ {C : Type 0} {script : C → Option Items} {said : Items → Option Ite
 
   -- ---- a session that begins
 
-  pub init_done : FillTheirScripts → (n m o : NodeView C) (l : Left) (c : C) (name votes : List ℕ) (k : ℕ) → false ≡ list_any (is_session (record { n = n.core.sessions.last_client + 1 })) n.core.sessions.sessions
+  pub init_done : FillTheirScripts → (n m o : NodeView C) (l : Left) (c : C) (P : List Handing → Type 0) (name votes : List ℕ) (k : ℕ) → false ≡ list_any (is_session (record { n = n.core.sessions.last_client + 1 })) n.core.sessions.sessions
       → script c ≡ said (silent_or (unwrap_or (votes_word votes) [])) → map script m.clients ≡ map script (clients_with c n.clients (inited n.core.sessions name))
-      → Does (map script m.clients) (call_row (at_work n.core) (call.Init k name votes)) m.core (λ f. stepped f n.core (Calls (call.Init k name votes))) → Leaves m o l n.core.views.me → CallDone script said n o l (call.Init k name votes)
+      → Does (map script m.clients) P (call_row (at_work n.core) (call.Init k name votes)) m.core (λ f. stepped f n.core (Calls (call.Init k name votes))) → Leaves m o l n.core.views.me → CallDone script said n o l (call.Init k name votes)
   unfolding scripts_after script_of inited call_row
-  init_done fill n m o l c name votes k fresh items after d left =
-      let some : (f : Answering) × (m.core ≡ stepped f n.core (Calls (call.Init k name votes))) = does_some (map script m.clients) (call_row (at_work n.core) (call.Init k name votes)) m.core (λ f. stepped f n.core (Calls (call.Init k name votes))) d in (
+  init_done fill n m o l c P name votes k fresh items after d left =
+      let some : (f : Answering) × (m.core ≡ stepped f n.core (Calls (call.Init k name votes))) = does_some (map script m.clients) P (call_row (at_work n.core) (call.Init k name votes)) m.core (λ f. stepped f n.core (Calls (call.Init k name votes))) d in (
         some.0,
         λ x h.
             let last : x.core.sessions.last_client ≡ n.core.sessions.last_client = ap (λ (s : Core). s.sessions.last_client) (sym h.core) in
             let s : Script = record { token = record { n = x.core.sessions.last_client + 1 }; items = unwrap_or (votes_word votes) [] } in
-            row_done fill n m o l x (s ∷ x.scripts) (call_row (at_work n.core) (call.Init k name votes)) (Calls (call.Init k name votes)) some.0 h
+            row_done fill n m o l x (s ∷ x.scripts) P (call_row (at_work n.core) (call.Init k name votes)) (Calls (call.Init k name votes)) some.0 h
             (after ∙ begun_votes script said (init_fault n.core.sessions name) s x.scripts (at_work n.core) name c n.clients (ap (λ z. z + 1) last)
             (ap (λ z. list_any (is_session (record { n = z + 1 })) n.core.sessions.sessions) last ∙ sym fresh) items (h.votes ∙ ap (votes_in said x.scripts) (sym (same_lives n x h))))
             d some.1 left,
@@ -184,16 +185,16 @@ module _ {C : Type 0} {script : C → Option Items} {said : Items → Option Ite
 
   -- ---- a session that ends
 
-  pub goodbye_done : FillTheirScripts → (n m o : NodeView C) (l : Left) (client : List ℕ) → map script m.clients ≡ map script (removed_at (client_place n.core.sessions (client_token n.core.sessions client)) n.clients)
-      → Does (map script m.clients) (call_row (at_work n.core) (call.Goodbye client)) m.core (λ f. stepped f n.core (Calls (call.Goodbye client))) → Leaves m o l n.core.views.me → CallDone script said n o l (call.Goodbye client)
+  pub goodbye_done : FillTheirScripts → (n m o : NodeView C) (l : Left) (P : List Handing → Type 0) (client : List ℕ) → map script m.clients ≡ map script (removed_at (client_place n.core.sessions (client_token n.core.sessions client)) n.clients)
+      → Does (map script m.clients) P (call_row (at_work n.core) (call.Goodbye client)) m.core (λ f. stepped f n.core (Calls (call.Goodbye client))) → Leaves m o l n.core.views.me → CallDone script said n o l (call.Goodbye client)
   unfolding scripts_after call_row
-  goodbye_done fill n m o l client after d left =
+  goodbye_done fill n m o l P client after d left =
       let place : Option ℕ = client_place n.core.sessions (client_token n.core.sessions client) in
-      let some : (f : Answering) × (m.core ≡ stepped f n.core (Calls (call.Goodbye client))) = does_some (map script m.clients) (call_row (at_work n.core) (call.Goodbye client)) m.core (λ f. stepped f n.core (Calls (call.Goodbye client))) d in (
+      let some : (f : Answering) × (m.core ≡ stepped f n.core (Calls (call.Goodbye client))) = does_some (map script m.clients) P (call_row (at_work n.core) (call.Goodbye client)) m.core (λ f. stepped f n.core (Calls (call.Goodbye client))) d in (
         some.0,
         λ x h.
             let votes : map script n.clients ≡ votes_in said x.scripts n.core.sessions.sessions = h.votes ∙ ap (votes_in said x.scripts) (sym (same_lives n x h)) in
-            row_done fill n m o l x x.scripts (call_row (at_work n.core) (call.Goodbye client)) (Calls (call.Goodbye client)) some.0 h
+            row_done fill n m o l x x.scripts P (call_row (at_work n.core) (call.Goodbye client)) (Calls (call.Goodbye client)) some.0 h
             (after ∙ (map_left script place n.clients ∙ (ap (removed_at place) votes ∙ (sym (map_left (votes_by said x.scripts) place n.core.sessions.sessions) ∙ ap (votes_in said x.scripts) (sym (said_sessions (at_work n.core) client _ _ refl))))))
             d some.1 left,
       )

@@ -94,25 +94,27 @@ module _ {C : Type 0} {script : C → Option Items} {said : Items → Option Ite
 
   -- ---- the packet and its receiver
 
-  kth_same : (c : World C) (a b k : ℕ) (w : world.World) → Holds script said c w → kth_between w a b k ≡ kth_in k (find_pair a b (world_pairs c.packets.pairs))
+  pub kth_same : (c : World C) (a b k : ℕ) (w : world.World) → Holds script said c w → kth_between w a b k ≡ kth_in k (find_pair a b (world_pairs c.packets.pairs))
   unfolding kth_between
   kth_same c a b k w h = ap (λ ps. kth_in k (find (is_pair a b) ps)) h.pairs
+
+  -- the receiver is down, or there is no such packet
+  pub missing_either : (c : World C) (a b k : ℕ) → (is_some (find (is_me b) c.nodes) && is_some (kth_in k (find_pair a b (world_pairs c.packets.pairs)))) ≡ false
+      → (w : world.World) → Holds script said c w → (is_some (find (is_node b) w.nodes) && is_some (kth_between w a b k)) ≡ false
+  missing_either c a b k e w h =
+      ap (λ z. z && is_some (kth_between w a b k)) (stands_found script said b c.nodes w.nodes h.nodes) ∙ (ap (λ z. is_some (find (is_me b) c.nodes) && is_some z) (kth_same c a b k w h) ∙ e)
 
   pub gives_nothing : (c : World C) (a b k : ℕ) (out : List Happened) → (is_some (find (is_me b) c.nodes) && is_some (kth_in k (find_pair a b (world_pairs c.packets.pairs)))) ≡ false
       → Comes script said c (Goes script said c c out out) (delivered a b k) (λ w. delivers w a b k)
   unfolding delivers node_at
   gives_nothing c a b k out e = record {
     answers = none;
-    comes = λ w h. subst (Goes script said c c out out w) (sym (not_given_by none w a b k (find (is_node b) w.nodes) (kth_between w a b k) (missing w (stands_hold c w h)))) (goes_nowhere c out w h);
-    worded = λ all w h. not_given_by none w a b k (find (is_node b) w.nodes) (kth_between w a b k) (missing w h) ∙ sym (not_given w a b k (find (is_node b) w.nodes) (kth_between w a b k) (missing w h));
+    comes = λ w h. subst (Goes script said c c out out w) (sym (not_given_by none w a b k (find (is_node b) w.nodes) (kth_between w a b k) (missing_either c a b k e w (stands_hold c w h)))) (goes_nowhere c out w h);
+    worded = λ all w h. not_given_by none w a b k (find (is_node b) w.nodes) (kth_between w a b k) (missing_either c a b k e w h) ∙ sym (not_given w a b k (find (is_node b) w.nodes) (kth_between w a b k) (missing_either c a b k e w h));
   }
     where
       none : Answering
       none = λ n s e after p. None
-
-      missing : (w : world.World) → Holds script said c w → (is_some (find (is_node b) w.nodes) && is_some (kth_between w a b k)) ≡ false
-      missing w h =
-          ap (λ z. z && is_some (kth_between w a b k)) (stands_found script said b c.nodes w.nodes h.nodes) ∙ (ap (λ z. is_some (find (is_me b) c.nodes) && is_some z) (kth_same c a b k w h) ∙ e)
 
   handled_trace : (w v : world.World) (a b k : ℕ) (c m d : World C) (before after : List Happened) → m.kept ≡ c.kept → m.limit ≡ c.limit → Goes script said m d before after (handled w a b k) v → Goes script said c d before after w v
   unfolding handled

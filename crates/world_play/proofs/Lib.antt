@@ -1,11 +1,16 @@
 pub mod VoteLaws
 pub mod NodeLaws
 pub mod PacketLaws
+pub mod CalledLaws
 pub mod StepLaws
 pub mod StartLaws
 pub mod WorldLaws
 pub mod ComingLaws
 pub mod GivingLaws
 pub mod CallLaws
+pub mod HandLaws
+pub mod LogLaws
+pub mod HearLaws
 pub mod BeginLaws
+pub mod EmptyLaws
 pub mod SafeLaws

@@ -4,6 +4,7 @@ ghost use Rattle.std.specs.List.{fold};
 ghost use Rattle.world_model.specs.World.{empty_world, node_starts, world_new};
 ghost use Rattle.world_model.specs.World as world;
 ghost use Rattle.world_play.specs.Standing.{Stands, Goes, kept_empty};
+ghost use Rattle.world_play.specs.Hands.{LogsStand, empty_logs};
 ghost use Rattle.world_play.specs.Safe.{SafeOn};
 ghost use Rattle.world_safety.specs.Scripts.{IsSafeRun};
 
@@ -32,9 +33,10 @@ impl<C: Made> World<C> {
     }
 
     /// Nodes start, in this order.
-    #[tactic(auto, using(crate::proofs::BeginLaws::starts_first, crate::proofs::BeginLaws::starts_next, crate::proofs::BeginLaws::starts_done))]
+    #[tactic(auto, using(crate::proofs::BeginLaws::starts_done, crate::proofs::EmptyLaws::empty_done))]
     fn start_all(&mut self, alloc: Global, ns: &[u8], out: &mut Records) -> Result<(), NoMemory>
-        ensures { OnOk result ((w : world.World) → Stands C.script C.script_of self.old w → Goes C.script C.script_of self.old self.new out.old out.new w (fold node_starts w ns.now)) }
+        ensures goes { OnOk result ((w : world.World) → Stands C.script C.script_of self.old w → Goes C.script C.script_of self.old self.new out.old out.new w (fold node_starts w ns.now)) }
+        ensures hears { OnOk result ((w : world.World) → Stands C.script C.script_of self.old w → LogsStand C.stands_for self.old.nodes (empty_logs w) → LogsStand C.stands_for self.new.nodes (empty_logs (fold node_starts w ns.now))) }
     {
         let mut left = ns;
         while let Some((n, rest)) = left.split_first() {
@@ -51,7 +53,8 @@ impl<C: Made> World<C> {
         limit: u64,
         out: &mut Records,
     ) -> Result<World<C>, NoMemory>
-        ensures { IfOk result (λ c. Goes C.script C.script_of (kept_empty config limit) c out.old out.new (empty_world config) (world_new config)) }
+        ensures goes { IfOk result (λ c. Goes C.script C.script_of (kept_empty config limit) c out.old out.new (empty_world config) (world_new config)) }
+        ensures hears { IfOk result (λ c. LogsStand C.stands_for c.nodes (empty_logs (world_new config))) }
     {
         let mut world = World::<C>::empty(alloc, config, limit);
         match config.mode {
@@ -73,6 +76,7 @@ impl<C: Made> World<C> {
         out: &mut Records,
     ) -> Result<World<C>, NoMemory>
         ensures goes { IfOk result (λ c. Goes C.script C.script_of (kept_empty config limit) c out.old out.new (empty_world config) (world_new config)) }
+        ensures hears { IfOk result (λ c. LogsStand C.stands_for c.nodes (empty_logs (world_new config))) }
         ensures safe { IfOk result (λ c. SafeOn C.script C.script_of c (world_new config) (IsSafeRun config []) [] out.old out.new) }
     {
         World::<C>::begun(alloc, config, limit, out)

@@ -8,9 +8,11 @@ ghost use Rattle.node_state.specs.declared.call.CallLine.TheVariants as call;
 ghost use Rattle.node_state.specs.declared.happened.Happened.TheVariants as happened;
 ghost use Rattle.session_state.specs.declared.fault.GsFault.TheVariants as fault;
 ghost use Rattle.node_state.specs.Calls.{caller_of};
+ghost use Rattle.node_state.specs.Step.{Calls};
 ghost use Rattle.world_model.specs.World.{node_at, calls_if};
 ghost use Rattle.world_answers.specs.Answers.{calls_by_if};
 ghost use Rattle.world_play.specs.Standing.{silent_or, CallDone, Goes, Passes, Comes};
+ghost use Rattle.world_play.specs.Hands.{NodeHands, StepHears, HearsAs};
 
 use crate::fault::WorldFault;
 use crate::stepping::{Left, leave, step_node};
@@ -84,7 +86,8 @@ fn begin_session<C: Made>(
     name: &[u8],
     votes: &[u8],
 ) -> Result<Left, NoMemory>
-    ensures { IfOk result (λ l. (k : ℕ) → CallDone C.script C.script_of node.old node.new l (call.Init k name.now votes.now)) }
+    ensures done { IfOk result (λ l. (k : ℕ) → CallDone C.script C.script_of node.old node.new l (call.Init k name.now votes.now)) }
+    ensures hears { IfOk result (λ l. (k : ℕ) → StepHears C.stands_for node.old node.new l.records (Calls (call.Init k name.now votes.now))) }
 {
     scripted_clients_fill_their_scripts();
     let me = node.core().views.me;
@@ -100,7 +103,8 @@ fn begin_session<C: Made>(
 
 /// A client says goodbye.
 fn say_goodbye<C: Made>(node: &mut Node<C>, alloc: Global, client: &[u8]) -> Result<Left, NoMemory>
-    ensures { IfOk result (λ l. CallDone C.script C.script_of node.old node.new l (call.Goodbye client.now)) }
+    ensures done { IfOk result (λ l. CallDone C.script C.script_of node.old node.new l (call.Goodbye client.now)) }
+    ensures hears { IfOk result (λ l. StepHears C.stands_for node.old node.new l.records (Calls (call.Goodbye client.now))) }
 {
     scripted_clients_fill_their_scripts();
     let me = node.core().views.me;
@@ -112,7 +116,8 @@ fn say_goodbye<C: Made>(node: &mut Node<C>, alloc: Global, client: &[u8]) -> Res
 
 /// A client of the node calls.
 pub fn call_node<C: Made>(node: &mut Node<C>, alloc: Global, c: &CallLine) -> Result<Left, NoMemory>
-    ensures { IfOk result (λ l. CallDone C.script C.script_of node.old node.new l c.now) }
+    ensures done { IfOk result (λ l. CallDone C.script C.script_of node.old node.new l c.now) }
+    ensures hears { IfOk result (λ l. StepHears C.stands_for node.old node.new l.records (Calls c.now)) }
 {
     match c {
         CallLine::Init { name, votes, .. } => {
@@ -144,6 +149,7 @@ impl<C: Made> World<C> {
         out: &mut Records,
     ) -> Result<(), WorldFault>
         ensures goes { OnOk result (Comes C.script C.script_of self.old (Goes C.script C.script_of self.old self.new out.old out.new) (λ f w. calls_by_if f w n c.now (node_at w n)) (λ w. calls_if w n c.now (node_at w n))) }
+        ensures hears { OnOk result (HearsAs C.stands_for C.script C.script_of self.old self.new.nodes out.old out.new (λ w rs old new. NodeHands (node_at w n) n (Calls c.now) rs old new)) }
         ensures passes { (k : ℕ) → IsErrOf result (WorldFault.TooMuchKept k) → Comes C.script C.script_of self.old (Passes k self.old) (λ f w. calls_by_if f w n c.now (node_at w n)) (λ w. calls_if w n c.now (node_at w n)) }
         ensures kept { (k : ℕ) → IsErrOf result (WorldFault.TooMuchKept k) → out.new ≡ out.old }
     {

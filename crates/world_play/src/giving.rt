@@ -1,9 +1,11 @@
 //! Packets that are given to nodes.
-ghost use Rattle.std.specs.Prelude.{◌≡◌, ℕ, OnOk, IsErrOf, IsTrue, is_some, find, ◌&&◌};
+ghost use Rattle.std.specs.Prelude.{◌≡◌, ℕ, OnOk, IsErrOf, is_some, find, ◌&&◌};
+ghost use Rattle.world_model.specs.declared.event.Event.TheVariants as event;
 ghost use Rattle.world_model.specs.World.{node_at, kth_in, kth_between, delivers};
 ghost use Rattle.world_answers.specs.Answers.{delivers_by_if};
 ghost use Rattle.world_packets.specs.Packets.{world_pairs, find_pair};
 ghost use Rattle.world_play.specs.Standing.{is_me, Goes, Passes, Comes};
+ghost use Rattle.world_play.specs.Hands.{Hears};
 
 use crate::fault::WorldFault;
 use crate::world::World;
@@ -31,6 +33,7 @@ impl<C: Made> World<C> {
         out: &mut Records,
     ) -> Result<(), WorldFault>
         ensures goes { OnOk result (Comes C.script C.script_of self.old (Goes C.script C.script_of self.old self.new out.old out.new) (λ f w. delivers_by_if f w a b k (node_at w b) (kth_between w a b k)) (λ w. delivers w a b k)) }
+        ensures hears { OnOk result (Hears C.stands_for C.script C.script_of self.old self.new out.old out.new (event.Deliver a b k)) }
         ensures passes { (n : ℕ) → IsErrOf result (WorldFault.TooMuchKept n) → Comes C.script C.script_of self.old (Passes n self.old) (λ f w. delivers_by_if f w a b k (node_at w b) (kth_between w a b k)) (λ w. delivers w a b k) }
         ensures kept { (n : ℕ) → IsErrOf result (WorldFault.TooMuchKept n) → out.new ≡ out.old }
     {

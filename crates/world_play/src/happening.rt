@@ -4,6 +4,7 @@ ghost use Rattle.node_state.specs.Step.{Garbage};
 ghost use Rattle.world_model.specs.World.{node_at, node_steps, happens};
 ghost use Rattle.world_answers.specs.Answers.{step_by_if, happens_by};
 ghost use Rattle.world_play.specs.Standing.{Goes, Passes, Comes};
+ghost use Rattle.world_play.specs.Hands.{NodeHands, HearsAs, Hears};
 ghost use Rattle.world_play.specs.Safe.{AnswersSafely, GoesSafely};
 
 use crate::fault::WorldFault;
@@ -18,6 +19,7 @@ impl<C: Made> World<C> {
     /// A node is given bytes that are no packet.
     fn give_garbage(&mut self, alloc: Global, n: u8, out: &mut Records) -> Result<(), WorldFault>
         ensures goes { OnOk result (Comes C.script C.script_of self.old (Goes C.script C.script_of self.old self.new out.old out.new) (λ f w. step_by_if f w Garbage (node_at w n)) (λ w. node_steps w n Garbage)) }
+        ensures hears { OnOk result (HearsAs C.stands_for C.script C.script_of self.old self.new.nodes out.old out.new (λ w rs old new. NodeHands (node_at w n) n Garbage rs old new)) }
         ensures passes { (k : ℕ) → IsErrOf result (WorldFault.TooMuchKept k) → Comes C.script C.script_of self.old (Passes k self.old) (λ f w. step_by_if f w Garbage (node_at w n)) (λ w. node_steps w n Garbage) }
         ensures kept { (k : ℕ) → IsErrOf result (WorldFault.TooMuchKept k) → out.new ≡ out.old }
     {
@@ -28,6 +30,7 @@ impl<C: Made> World<C> {
     #[tactic(auto, unfolding(world_model::specs::World::happens, world_answers::specs::Answers::happens_by))]
     fn happen(&mut self, alloc: Global, e: &Event, out: &mut Records) -> Result<(), WorldFault>
         ensures goes { OnOk result (Comes C.script C.script_of self.old (Goes C.script C.script_of self.old self.new out.old out.new) (λ f w. happens_by f w e.now) (λ w. happens w e.now)) }
+        ensures hears { OnOk result (Hears C.stands_for C.script C.script_of self.old self.new out.old out.new e.now) }
         ensures passes { (k : ℕ) → IsErrOf result (WorldFault.TooMuchKept k) → Comes C.script C.script_of self.old (Passes k self.old) (λ f w. happens_by f w e.now) (λ w. happens w e.now) }
         ensures kept { (k : ℕ) → IsErrOf result (WorldFault.TooMuchKept k) → out.new ≡ out.old }
     {
@@ -51,6 +54,7 @@ impl<C: Made> World<C> {
         ensures goes { OnOk result (Comes C.script C.script_of self.old (Goes C.script C.script_of self.old self.new out.old out.new) (λ f w. happens_by f w e.now) (λ w. happens w e.now)) }
         ensures answers { OnOk result (AnswersSafely C.script C.script_of self.old self.new out.old out.new e.now) }
         ensures safe { OnOk result (GoesSafely C.script C.script_of self.old self.new out.old out.new e.now) }
+        ensures hears { OnOk result (Hears C.stands_for C.script C.script_of self.old self.new out.old out.new e.now) }
         ensures passes { (k : ℕ) → IsErrOf result (WorldFault.TooMuchKept k) → Comes C.script C.script_of self.old (Passes k self.old) (λ f w. happens_by f w e.now) (λ w. happens w e.now) }
         ensures kept { (k : ℕ) → IsErrOf result (WorldFault.TooMuchKept k) → out.new ≡ out.old }
     {

@@ -1,10 +1,11 @@
 //! The nodes of a world that are up, ascending.
-ghost use Rattle.std.specs.Prelude.{◌≡◌, ◌<◌, ◌≤◌, [], ℕ, length, IfSome, IfOk, OnOk, IsTrue, find, is_some, option_copied, map};
+ghost use Rattle.std.specs.Prelude.{◌≡◌, ◌<◌, ◌≤◌, [], length, IfSome, IfOk, OnOk, IsTrue, find, is_some, option_copied, map};
 ghost use Rattle.rsct_packet.specs.Search.{place_where, front_len, insert_before};
 ghost use Rattle.rsct_packet.specs.Lists.{drop_where};
 ghost use Rattle.node_state.specs.Step.{Calls};
 ghost use Rattle.node_step.specs.Event.{event_in, is_taken};
 ghost use Rattle.world_play.specs.Standing.{is_me, comes_before, number_in, StepsIn, with_scripts};
+ghost use Rattle.world_play.specs.Hands.{NodesHear};
 
 use crate::calling::call_node;
 use crate::stepping::{Left, step_node};
@@ -137,7 +138,8 @@ impl<C: Made> Nodes<C> {
     #[tactic(auto, using(crate::proofs::NodeLaws::steps_at, crate::proofs::NodeLaws::stands_nowhere))]
     pub fn step(&mut self, alloc: Global, n: u8, e: NodeEvent<'_>) -> Result<Option<Left>, NoMemory>
         requires taken { IsTrue (is_taken e) }
-        ensures { IfOk result (λ left. StepsIn C.script C.script_of self.old self.new n left (λ x. x) (event_in e.entry)) }
+        ensures steps { IfOk result (λ left. StepsIn C.script C.script_of self.old self.new n left (λ x. x) (event_in e.entry)) }
+        ensures hears { IfOk result (λ left. NodesHear C.stands_for C.script C.script_of self.old self.new n left (event_in e.entry)) }
     {
         match place_of(self.rows.as_slice(), n) {
             None => Ok(None),
@@ -148,7 +150,8 @@ impl<C: Made> Nodes<C> {
     /// A client of a node calls; answers what that left, or none where the node is not up.
     #[tactic(auto, using(crate::proofs::CallLaws::call_at, crate::proofs::NodeLaws::stands_nowhere))]
     pub fn call(&mut self, alloc: Global, n: u8, c: &CallLine) -> Result<Option<Left>, NoMemory>
-        ensures { IfOk result (λ left. StepsIn C.script C.script_of self.old self.new n left (with_scripts c.now) (Calls c.now)) }
+        ensures steps { IfOk result (λ left. StepsIn C.script C.script_of self.old self.new n left (with_scripts c.now) (Calls c.now)) }
+        ensures hears { IfOk result (λ left. NodesHear C.stands_for C.script C.script_of self.old self.new n left (Calls c.now)) }
     {
         match place_of(self.rows.as_slice(), n) {
             None => Ok(None),

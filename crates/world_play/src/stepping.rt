@@ -1,7 +1,8 @@
 //! Steps of nodes.
-ghost use Rattle.std.specs.Prelude.{◌≡◌, IfOk, IsTrue};
+ghost use Rattle.std.specs.Prelude.{IfOk, IsTrue};
 ghost use Rattle.node_step.specs.Event.{event_in, is_taken};
 ghost use Rattle.world_play.specs.Standing.{Leaves, StepsAs};
+ghost use Rattle.world_play.specs.Hands.{StepHears};
 
 use client_callbacks::{Callbacks, Made};
 use client_session::scripted_clients_fill_their_scripts;
@@ -36,7 +37,8 @@ pub fn step_node<C: Made>(
     e: NodeEvent<'_>,
 ) -> Result<Left, NoMemory>
     requires taken { IsTrue (is_taken e) }
-    ensures { IfOk result (λ l. StepsAs C.script C.script_of node.old node.new l (event_in e.entry)) }
+    ensures steps { IfOk result (λ l. StepsAs C.script C.script_of node.old node.new l (event_in e.entry)) }
+    ensures hears { IfOk result (λ l. StepHears C.stands_for node.old node.new l.records (event_in e.entry)) }
 {
     scripted_clients_fill_their_scripts();
     let me = node.core().views.me;

@@ -4,6 +4,7 @@ ghost use Rattle.node_step.specs.Event.{event_in, is_taken};
 ghost use Rattle.world_model.specs.World.{node_at, node_steps};
 ghost use Rattle.world_answers.specs.Answers.{step_by_if};
 ghost use Rattle.world_play.specs.Standing.{Goes, Passes, Comes, Settled, bytes_after};
+ghost use Rattle.world_play.specs.Hands.{NodeHands, HearsAs};
 
 use crate::fault::WorldFault;
 use crate::nodes::Nodes;
@@ -61,6 +62,7 @@ impl<C: Made> World<C> {
     ) -> Result<(), WorldFault>
         requires taken { IsTrue (is_taken e) }
         ensures goes { OnOk result (Comes C.script C.script_of self.old (Goes C.script C.script_of self.old self.new out.old out.new) (λ f w. step_by_if f w (event_in e.entry) (node_at w n)) (λ w. node_steps w n (event_in e.entry))) }
+        ensures hears { OnOk result (HearsAs C.stands_for C.script C.script_of self.old self.new.nodes out.old out.new (λ w rs old new. NodeHands (node_at w n) n (event_in e.entry) rs old new)) }
         ensures passes { (k : ℕ) → IsErrOf result (WorldFault.TooMuchKept k) → Comes C.script C.script_of self.old (Passes k self.old) (λ f w. step_by_if f w (event_in e.entry) (node_at w n)) (λ w. node_steps w n (event_in e.entry)) }
         ensures kept { (k : ℕ) → IsErrOf result (WorldFault.TooMuchKept k) → out.new ≡ out.old }
     {

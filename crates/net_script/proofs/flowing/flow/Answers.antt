@@ -16,7 +16,7 @@ returns-in_default-clause-outcome g c =
 pub returns-in_err-pass-clause-outcome : goal.returns-in_err-pass-clause-outcome
 returns-in_err-pass-clause-outcome g c p v h =
     let some : first_of c.loop-i.stage.world.packets.waiting ≡ Some c.in-Some.x = sym c.first.ensures ∙ c.in-Some.is in
-    leads_stopped g.C.Callbacks.script g.C.Made.script_of c.from_residual.result c.in_err-pass.field-0.0 c.args.kinds _ _ c.args.stage.now _ p _ v c.from_residual.ensures
+    leads_stopped g.C.Callbacks.script g.C.Made.script_of g.C.Callbacks.stands_for c.from_residual.result c.in_err-pass.field-0.0 c.args.kinds _ _ c.args.stage.now _ p _ v c.from_residual.ensures
     (flow_stops c.in_err-pass.field-0.0 c.args.kinds _ _ _ c.args.stage.now c.loop-i.stage _ c.in-Some.x flow_limit c.loop-i._i c.loop-i-test.true c.loop-i.invariant.0 some c.in_err-pass.ensures.outcome p v h)
 
 pub loop-i-preserved : goal.loop-i-preserved

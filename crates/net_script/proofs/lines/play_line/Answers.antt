@@ -10,28 +10,28 @@ use Rattle.net_script.proofs.lines.play_line.Goals as goal
 pub returns-in-Plain-clause-outcome : goal.returns-in-Plain-clause-outcome
 returns-in-Plain-clause-outcome g c p v h =
     subst
-    (λ l. LeadsTo g.C.Callbacks.script g.C.Made.script_of c.happen.result c.args.kinds (g.K.Sink.held c.args.out.now) (g.K.Sink.held c.happen.new.out) c.args.stage.now c.happen.new.stage p (PlaysLine g.C.Made.script_of p l) v)
+    (λ l. LeadsTo g.C.Callbacks.script g.C.Made.script_of g.C.Callbacks.stands_for c.happen.result c.args.kinds (g.K.Sink.held c.args.out.now) (g.K.Sink.held c.happen.new.out) c.args.stage.now c.happen.new.stage p (PlaysLine g.C.Made.script_of p l) v)
     (sym c.in-Plain.is) (c.happen.ensures.outcome p v h)
 
 pub returns-in-Flow-clause-outcome : goal.returns-in-Flow-clause-outcome
 returns-in-Flow-clause-outcome g c p v h =
     subst
-    (λ l. LeadsTo g.C.Callbacks.script g.C.Made.script_of c.flow.result c.args.kinds (g.K.Sink.held c.args.out.now) (g.K.Sink.held c.flow.new.out) c.args.stage.now c.flow.new.stage p (PlaysLine g.C.Made.script_of p l) v)
+    (λ l. LeadsTo g.C.Callbacks.script g.C.Made.script_of g.C.Callbacks.stands_for c.flow.result c.args.kinds (g.K.Sink.held c.args.out.now) (g.K.Sink.held c.flow.new.out) c.args.stage.now c.flow.new.stage p (PlaysLine g.C.Made.script_of p l) v)
     (sym c.in-Flow.is) (c.flow.ensures.outcome p v h)
 
 pub returns-in-Run-clause-outcome : goal.returns-in-Run-clause-outcome
 returns-in-Run-clause-outcome g c p v h =
     subst
-    (λ l. LeadsTo g.C.Callbacks.script g.C.Made.script_of c.run.result c.args.kinds (g.K.Sink.held c.args.out.now) (g.K.Sink.held c.run.new.out) c.args.stage.now c.run.new.stage p (PlaysLine g.C.Made.script_of p l) v)
+    (λ l. LeadsTo g.C.Callbacks.script g.C.Made.script_of g.C.Callbacks.stands_for c.run.result c.args.kinds (g.K.Sink.held c.args.out.now) (g.K.Sink.held c.run.new.out) c.args.stage.now c.run.new.stage p (PlaysLine g.C.Made.script_of p l) v)
     (sym c.in-Run.is) (c.run.ensures.outcome p v h)
 
 pub returns-in_err-lose-in-Drop-clause-outcome : goal.returns-in_err-lose-in-Drop-clause-outcome
 returns-in_err-lose-in-Drop-clause-outcome g c p v h =
-    leads_stopped g.C.Callbacks.script g.C.Made.script_of c.from_residual.result play_fault.NoMemory c.args.kinds _ _ c.args.stage.now _ p _ v c.from_residual.ensures (line_broken g.C.Made.script_of c.args.kinds _ c.args.stage.now p c.args.line.now v)
+    leads_stopped g.C.Callbacks.script g.C.Made.script_of g.C.Callbacks.stands_for c.from_residual.result play_fault.NoMemory c.args.kinds _ _ c.args.stage.now _ p _ v c.from_residual.ensures (line_broken g.C.Made.script_of c.args.kinds _ c.args.stage.now p c.args.line.now v)
 
 pub returns-in_err-cut-in-Cut-clause-outcome : goal.returns-in_err-cut-in-Cut-clause-outcome
 returns-in_err-cut-in-Cut-clause-outcome g c p v h =
-    leads_stopped g.C.Callbacks.script g.C.Made.script_of c.from_residual-in_err-cut-in-Cut.result play_fault.NoMemory c.args.kinds _ _ c.args.stage.now _ p _ v c.from_residual-in_err-cut-in-Cut.ensures (line_broken g.C.Made.script_of c.args.kinds _ c.args.stage.now p c.args.line.now v)
+    leads_stopped g.C.Callbacks.script g.C.Made.script_of g.C.Callbacks.stands_for c.from_residual-in_err-cut-in-Cut.result play_fault.NoMemory c.args.kinds _ _ c.args.stage.now _ p _ v c.from_residual-in_err-cut-in-Cut.ensures (line_broken g.C.Made.script_of c.args.kinds _ c.args.stage.now p c.args.line.now v)
 
 pub returns-in_ok-lose-in-Drop-clause-outcome : goal.returns-in_ok-lose-in-Drop-clause-outcome
 returns-in_ok-lose-in-Drop-clause-outcome g c p v h =

@@ -11,7 +11,7 @@ loop-line-init g c = (list_begins c.args.kinds _ c.args.stage.now Line (PlaysLin
 
 pub returns-in_err-play_line-clause-outcome : goal.returns-in_err-play_line-clause-outcome
 returns-in_err-play_line-clause-outcome g c p v h =
-    leads_stopped g.C.Callbacks.script g.C.Made.script_of c.from_residual.result c.in_err-play_line.field-0.0 c.args.kinds _ _ c.args.stage.now _ p _ v c.from_residual.ensures
+    leads_stopped g.C.Callbacks.script g.C.Made.script_of g.C.Callbacks.stands_for c.from_residual.result c.in_err-play_line.field-0.0 c.args.kinds _ _ c.args.stage.now _ p _ v c.from_residual.ensures
     (list_stops c.in_err-play_line.field-0.0 c.args.kinds _ _ _ c.args.stage.now c.loop-line.stage _ Line (PlaysLine g.C.Made.script_of) c.line-item.result c.args.lines.now c.loop-line.line-index (lines_playable g.C.Made.script_of) c.loop-line-test.true c.line-item.is c.loop-line.invariant.0 c.in_err-play_line.ensures.outcome p v h)
 
 pub loop-line-preserved : goal.loop-line-preserved

@@ -8,12 +8,12 @@ loop-i-init g c = let whole : c.args.count - 0 ≡ c.args.count = omega arith in
 
 pub returns-in_err-tick_all-clause-outcome : goal.returns-in_err-tick_all-clause-outcome
 returns-in_err-tick_all-clause-outcome g c p v h =
-    leads_stopped g.C.Callbacks.script g.C.Made.script_of c.from_residual.result c.in_err-tick_all.field-0.0 c.args.kinds _ _ c.args.stage.now _ p _ v c.from_residual.ensures
+    leads_stopped g.C.Callbacks.script g.C.Made.script_of g.C.Callbacks.stands_for c.from_residual.result c.in_err-tick_all.field-0.0 c.args.kinds _ _ c.args.stage.now _ p _ v c.from_residual.ensures
     (round_stops c.in_err-tick_all.field-0.0 c.args.kinds _ _ _ c.args.stage.now c.loop-i.stage _ c.args.count c.loop-i._i c.loop-i-test.true c.loop-i.invariant.0 c.in_err-tick_all.ensures.outcome p v h)
 
 pub returns-in_err-flow-clause-outcome : goal.returns-in_err-flow-clause-outcome
 returns-in_err-flow-clause-outcome g c p v h =
-    leads_stopped g.C.Callbacks.script g.C.Made.script_of c.from_residual-in_err-flow.result c.in_err-flow.field-0.0 c.args.kinds _ _ c.args.stage.now _ p _ v c.from_residual-in_err-flow.ensures
+    leads_stopped g.C.Callbacks.script g.C.Made.script_of g.C.Callbacks.stands_for c.from_residual-in_err-flow.result c.in_err-flow.field-0.0 c.args.kinds _ _ c.args.stage.now _ p _ v c.from_residual-in_err-flow.ensures
     (round_stops_flowing c.in_err-flow.field-0.0 c.args.kinds _ _ _ _ c.args.stage.now c.loop-i.stage c.tick_all.new.stage _ c.args.count c.loop-i._i c.loop-i-test.true c.loop-i.invariant.0 c.in_ok-tick_all.ensures.outcome c.in_err-flow.ensures.outcome p v h)
 
 pub loop-i-preserved : goal.loop-i-preserved

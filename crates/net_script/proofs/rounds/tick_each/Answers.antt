@@ -11,7 +11,7 @@ loop-n-init g c = (list_begins c.args.kinds _ c.args.stage.now ℕ (PlaysTick g.
 
 pub returns-in_err-happen-clause-outcome : goal.returns-in_err-happen-clause-outcome
 returns-in_err-happen-clause-outcome g c p v h =
-    leads_stopped g.C.Callbacks.script g.C.Made.script_of c.from_residual.result c.in_err-happen.field-0.0 c.args.kinds _ _ c.args.stage.now _ p _ v c.from_residual.ensures
+    leads_stopped g.C.Callbacks.script g.C.Made.script_of g.C.Callbacks.stands_for c.from_residual.result c.in_err-happen.field-0.0 c.args.kinds _ _ c.args.stage.now _ p _ v c.from_residual.ensures
     (list_stops c.in_err-happen.field-0.0 c.args.kinds _ _ _ c.args.stage.now c.loop-n.stage _ ℕ (PlaysTick g.C.Made.script_of) (get_or c.args.ns.now c.loop-n.n-index 0) c.args.ns.now c.loop-n.n-index (ticks_playable g.C.Made.script_of) c.loop-n-test.true (same_item c.loop-n.n-index 0 _ c.args.ns.now c.loop-n-test.true) c.loop-n.invariant.0 c.in_err-happen.ensures.outcome p v h)
 
 pub loop-n-preserved : goal.loop-n-preserved

@@ -1,0 +1,246 @@
+-- What a call leaves before the end of its step: it hands nothing to a client, and within a session the sessions stay.
+use Rattle.std.proofs.Common.{◌≡◌, ℕ, Bool, true, false, List, [], ◌∷◌, Option, Some, None, Result, Ok, Err, IsTrue, refl, sym, ap, ◌∙◌}
+use Rattle.std.specs.Prelude.{find, fold, if◌then◌else◌}
+use Rattle.std.specs.List.{last_or}
+use Rattle.group_attr.specs.declared.attrs.Attrs.{Attrs}
+use Rattle.group_attr.specs.declared.attrs.Phases.{Phases}
+use Rattle.group_entry.specs.declared.entry.Vote.{Vote}
+use Rattle.group_entry.specs.declared.proposal.Proposal.{Proposal}
+use Rattle.group_entry.specs.declared.proposal.Proposal.TheVariants.{Attributes}
+use Rattle.client_callbacks.specs.declared.ballot.Filled.{Filled}
+use Rattle.session_state.specs.declared.fault.Field.TheVariants as field
+use Rattle.session_state.specs.declared.fault.GsFault.{GsFault}
+use Rattle.session_state.specs.declared.fault.GsFault.TheVariants as fault
+use Rattle.session_state.specs.declared.state.KeptBallot.{KeptBallot}
+use Rattle.session_state.specs.declared.state.MemberToken.{MemberToken}
+use Rattle.session_state.specs.declared.state.OpenPhase.{OpenPhase}
+use Rattle.session_state.specs.declared.state.Provider.{Provider}
+use Rattle.session_state.specs.declared.state.Request.{Request}
+use Rattle.session_state.specs.declared.state.SessionState.{SessionState}
+use Rattle.session_state.specs.State.{is_member_of, client_token}
+use Rattle.session_state.specs.Calls.{is_empty, unless_fault, ask_fault, asked, member_asks, if_session, request_made, member_changes, attributes_changed, vote_in, member_votes, voted, joined, join_fault, join_asked, left, expelled, state_changed, message_sent, subscribe_taken, unsubscribe_taken}
+use Rattle.node_state.specs.declared.call.CallLine.{CallLine}
+use Rattle.node_state.specs.declared.call.CallLine.TheVariants as call
+use Rattle.node_state.specs.declared.happened.Happened.TheVariants as happened
+use Rattle.node_state.specs.declared.packet.Body.{Body}
+use Rattle.node_state.specs.declared.state.Core.{Core}
+use Rattle.node_state.specs.State.{frozen, leader_of, with_sessions, recorded}
+use Rattle.node_state.specs.Sending.{sent_if_known, request_to, request_sent, kept_sent_to, kept_sent}
+use Rattle.node_state.specs.Calls.{caller, call_refused, changed, last_asked, proposed, ballot_recorded, ballot_sent_if, last_cast, ballot_given, gone_sent, all_gone_sent, goodbye_said, call_row}
+use Rattle.node_state.specs.Step.{NodeEvent, Ticks, Asks, Given, Calls, at_work}
+use Rattle.node_state.specs.Step as step
+use Rattle.node_groups.specs.Handed.{handed_in}
+use Rattle.node_groups.specs.Keeps.{Keeps}
+use Rattle.node_groups.proofs.KeepLaws.{keeps_itself, record_keeps, sent_keeps}
+use Rattle.session_calls.specs.Calling.{is_within_session}
+use Rattle.node_step.specs.Event.{called}
+
+-- the same sessions, and nothing more is handed
+pub record Quiet (s t : Core) : Type 0 where
+  pub lives : t.sessions.sessions ≡ s.sessions.sessions
+  pub unhanded : handed_in t.records ≡ handed_in s.records
+
+quiet : (s t : Core) → Keeps s t → Quiet s t
+quiet s t k = record { lives = k.sessions.0; unhanded = k.handed }
+
+quiet_then : (s t u : Core) → Quiet s t → Quiet t u → Quiet s u
+quiet_then s t u a b = record { lives = b.lives ∙ a.lives; unhanded = b.unhanded ∙ a.unhanded }
+
+quiet_with : (s : Core) (u : SessionState) → u.sessions ≡ s.sessions.sessions → Quiet s (with_sessions s u)
+unfolding with_sessions
+quiet_with s u e = record { lives = e; unhanded = refl }
+
+quiet_refused : (s : Core) (client : List ℕ) (f : GsFault) → Quiet s (call_refused s client f)
+unfolding call_refused
+quiet_refused s client f = quiet s (call_refused s client f) (record_keeps s (happened.Refused s.views.me client f) refl)
+
+-- ---- what is sent
+
+known_quiet : (s : Core) (to : Option ℕ) (b : Body) → Quiet s (sent_if_known s to b)
+unfolding sent_if_known
+known_quiet s None b = quiet s s (keeps_itself s)
+known_quiet s (Some n) b = quiet s (sent_if_known s (Some n) b) (sent_keeps s n b)
+
+to_quiet : (s : Core) (q : Request) (to : Option ℕ) → Quiet s (request_to s q to)
+unfolding request_to
+to_quiet s q None = quiet s (request_to s q None) (sent_keeps s s.views.view.coord _)
+to_quiet s q (Some n) = quiet s (request_to s q (Some n)) (sent_keeps s n _)
+
+request_quiet : (s : Core) (q : Request) → Quiet s (request_sent s q)
+unfolding request_sent
+request_quiet s q = by (frozen s)
+  where
+    by : (b : Bool) → Quiet s (elim b as (λ x. Core) [ true ↦ s | false ↦ request_to s q (leader_of s q.group) ])
+    by true = quiet s s (keeps_itself s)
+    by false = to_quiet s q (leader_of s q.group)
+
+kept_to_quiet : (s : Core) (k : KeptBallot) (to : Option ℕ) (b : Option Filled) → Quiet s (kept_sent_to s k to b)
+unfolding kept_sent_to
+kept_to_quiet s k to None = quiet s s (keeps_itself s)
+kept_to_quiet s k to (Some b) = known_quiet s to _
+
+kept_quiet : (s : Core) (k : KeptBallot) → Quiet s (kept_sent s k)
+unfolding kept_sent
+kept_quiet s k = kept_to_quiet s k (leader_of s k.group) k.ballot.filled
+
+each_gone_quiet : (s : Core) (xs : List Provider) → Quiet s (fold gone_sent s xs)
+unfolding gone_sent
+each_gone_quiet s [] = quiet s s (keeps_itself s)
+each_gone_quiet s (x ∷ xs) = quiet_then s (gone_sent s x) (fold gone_sent s (x ∷ xs)) (known_quiet s (leader_of s x.group) _) (each_gone_quiet (gone_sent s x) xs)
+
+all_gone_quiet : (s : Core) (xs : List Provider) → Quiet s (all_gone_sent s xs)
+unfolding all_gone_sent
+all_gone_quiet s xs = by (frozen s)
+  where
+    by : (b : Bool) → Quiet s (elim b as (λ x. Core) [ true ↦ s | false ↦ fold gone_sent s xs ])
+    by true = quiet s s (keeps_itself s)
+    by false = each_gone_quiet s xs
+
+-- ---- what is recorded
+
+asked_quiet : (s : Core) (o : Option Request) → Quiet s (last_asked s o)
+unfolding last_asked
+asked_quiet s None = quiet s s (keeps_itself s)
+asked_quiet s (Some q) =
+    let t : Core = recorded s (happened.Asked q.p q.r q.group q.proposal) in
+    quiet_then s t (last_asked s (Some q)) (quiet s t (record_keeps s (happened.Asked q.p q.r q.group q.proposal) refl)) (request_quiet t q)
+
+cast_quiet : (s : Core) (k : KeptBallot) (b : Option Filled) → Quiet s (ballot_recorded s k b)
+unfolding ballot_recorded
+cast_quiet s k None = quiet s s (keeps_itself s)
+cast_quiet s k (Some b) = quiet s (ballot_recorded s k (Some b)) (record_keeps s (happened.Cast k.p k.proto k.phase b.vote b.value b.message) refl)
+
+ballot_quiet : (s : Core) (k : KeptBallot) (b : Bool) → Quiet s (ballot_sent_if s k b)
+unfolding ballot_sent_if
+ballot_quiet s k true = quiet s s (keeps_itself s)
+ballot_quiet s k false = kept_quiet s k
+
+last_cast_quiet : (s : Core) (o : Option KeptBallot) → Quiet s (last_cast s o)
+unfolding last_cast
+last_cast_quiet s None = quiet s s (keeps_itself s)
+last_cast_quiet s (Some k) = quiet_then s (ballot_recorded s k k.ballot.filled) (last_cast s (Some k)) (cast_quiet s k k.ballot.filled) (ballot_quiet (ballot_recorded s k k.ballot.filled) k (frozen s))
+
+-- ---- calls whose sessions stay
+
+abbrev Same : SessionState → Result SessionState GsFault → Type 0
+Same s r = (u : SessionState) → r ≡ Ok u → u.sessions ≡ s.sessions
+
+changed_quiet : (s : Core) (client : List ℕ) (r : Result SessionState GsFault) → Same s.sessions r → Quiet s (changed s client r)
+unfolding changed
+changed_quiet s client (Ok u) same = quiet_with s u (same u refl)
+changed_quiet s client (Err f) same = quiet_refused s client f
+
+proposed_quiet : (s : Core) (client : List ℕ) (r : Result SessionState GsFault) → Same s.sessions r → Quiet s (proposed s client r)
+unfolding proposed
+proposed_quiet s client (Ok u) same =
+    quiet_then s (with_sessions s u) (proposed s client (Ok u)) (quiet_with s u (same u refl)) (asked_quiet (with_sessions s u) (last_or None u.requests))
+proposed_quiet s client (Err f) same = quiet_refused s client f
+
+given_quiet : (s : Core) (client : List ℕ) (r : Result SessionState GsFault) → Same s.sessions r → Quiet s (ballot_given s client r)
+unfolding ballot_given
+given_quiet s client (Ok u) same =
+    quiet_then s (with_sessions s u) (ballot_given s client (Ok u)) (quiet_with s u (same u refl)) (last_cast_quiet (with_sessions s u) (last_or None u.kept))
+given_quiet s client (Err f) same = quiet_refused s client f
+
+module _ (s : SessionState) where
+  unless_same : (o : Option GsFault) (t : SessionState) → t.sessions ≡ s.sessions → Same s (unless_fault o t)
+  unless_same None t same u e = let is : t ≡ u = cc in ap (λ (z : SessionState). z.sessions) (sym is) ∙ same
+  unless_same (Some f) t same u e = absurd cc
+
+  if_same : (b : Bool) (r : Result SessionState GsFault) → Same s r → Same s (if_session b r)
+  if_same true r same u e = absurd cc
+  if_same false r same u e = same u e
+
+  made_same : (m : MemberToken) (phases : Phases) (f : Option GsFault) (make : Provider → ℕ → Proposal) → Same s (request_made s m phases f make)
+  unfolding request_made asked
+  made_same m phases f make = if_same (is_empty s.sessions) _ (by (find (is_member_of m) s.providers))
+    where
+      by : (o : Option Provider) → Same s (member_asks s o phases f make)
+      by None u e = absurd cc
+      by (Some x) u e = unless_same (ask_fault s x f) (asked s x phases (make x)) refl u e
+
+  attributes_same : (m : MemberToken) (phases : Phases) (attrs : Attrs) → Same s (attributes_changed s m phases attrs)
+  unfolding attributes_changed asked
+  attributes_same m phases attrs = if_same (is_empty s.sessions) _ (by (find (is_member_of m) s.providers))
+    where
+      by : (o : Option Provider) → Same s (member_changes s o phases attrs)
+      by None u e = absurd cc
+      by (Some x) u e = unless_same _ (asked s x phases (λ r. Attributes x.p r attrs)) refl u e
+
+  votes_same : (m : MemberToken) (v : Vote) (value : Option (List ℕ)) → Same s (voted s m v value)
+  unfolding voted
+  votes_same m v value = if_same (is_empty s.sessions) _ (by (find (is_member_of m) s.providers))
+    where
+      in_phase : (x : Provider) (o : Option OpenPhase) → Same s (vote_in s x v value o)
+      in_phase x None u e = absurd cc
+      in_phase x (Some o) u e = unless_same _ _ refl u e
+
+      fits : (x : Provider) (b : Bool) → Same s (if b then vote_in s x v value x.opened else Err (fault.BadParameter field.Value))
+      fits x true u e = in_phase x x.opened u e
+      fits x false u e = absurd cc
+
+      by : (o : Option Provider) → Same s (member_votes s o v value)
+      by None u e = absurd cc
+      by (Some x) u e = fits x _ u e
+
+-- ---- the calls
+
+within_quiet : (s : Core) (c : CallLine) → IsTrue (is_within_session c) → Quiet s (call_row s c)
+unfolding call_row joined left expelled state_changed message_sent subscribe_taken unsubscribe_taken join_asked
+within_quiet s (call.Init node name votes) h = absurd cc
+within_quiet s (call.Join client g instance attrs) h = proposed_quiet s client _ (unless_same s.sessions (join_fault s.sessions (client_token s.sessions client) g attrs) (join_asked s.sessions (client_token s.sessions client) g instance attrs) refl)
+within_quiet s (call.Leave client g phases) h = proposed_quiet s client _ (made_same s.sessions (caller s.sessions client g) phases _ _)
+within_quiet s (call.Expel client g phases out) h = proposed_quiet s client _ (made_same s.sessions (caller s.sessions client g) phases _ _)
+within_quiet s (call.ChangeState client g phases value) h = proposed_quiet s client _ (made_same s.sessions (caller s.sessions client g) phases _ _)
+within_quiet s (call.SendMessage client g phases bytes) h = proposed_quiet s client _ (made_same s.sessions (caller s.sessions client g) phases _ _)
+within_quiet s (call.ChangeAttributes client g phases attrs) h = proposed_quiet s client _ (attributes_same s.sessions (caller s.sessions client g) phases attrs)
+within_quiet s (call.Vote client g v value) h = given_quiet s client _ (votes_same s.sessions (caller s.sessions client g) v value)
+within_quiet s (call.Subscribe client g) h = changed_quiet s client _ (unless_same s.sessions _ _ refl)
+within_quiet s (call.Unsubscribe client g) h = changed_quiet s client _ (unless_same s.sessions _ _ refl)
+within_quiet s (call.Goodbye client) h = absurd cc
+
+init_unhanded : (s : Core) (client : List ℕ) (r : Result SessionState GsFault) → handed_in (changed s client r).records ≡ handed_in s.records
+unfolding changed with_sessions
+init_unhanded s client (Ok u) = refl
+init_unhanded s client (Err f) = (quiet_refused s client f).unhanded
+
+goodbye_unhanded : (s : Core) (client : List ℕ) (ended : List Provider) (r : Result SessionState GsFault) → handed_in (goodbye_said s client ended r).records ≡ handed_in s.records
+unfolding goodbye_said with_sessions
+goodbye_unhanded s client ended (Ok u) = (all_gone_quiet (with_sessions s u) ended).unhanded
+goodbye_unhanded s client ended (Err f) = (quiet_refused s client f).unhanded
+
+call_unhanded : (s : Core) (c : CallLine) → handed_in (call_row s c).records ≡ handed_in s.records
+unfolding call_row
+call_unhanded s (call.Init node name votes) = init_unhanded s name _
+call_unhanded s (call.Goodbye client) = goodbye_unhanded s client _ _
+call_unhanded s (call.Join client g instance attrs) = (within_quiet s (call.Join client g instance attrs) refl).unhanded
+call_unhanded s (call.Leave client g phases) = (within_quiet s (call.Leave client g phases) refl).unhanded
+call_unhanded s (call.Expel client g phases out) = (within_quiet s (call.Expel client g phases out) refl).unhanded
+call_unhanded s (call.ChangeState client g phases value) = (within_quiet s (call.ChangeState client g phases value) refl).unhanded
+call_unhanded s (call.SendMessage client g phases bytes) = (within_quiet s (call.SendMessage client g phases bytes) refl).unhanded
+call_unhanded s (call.ChangeAttributes client g phases attrs) = (within_quiet s (call.ChangeAttributes client g phases attrs) refl).unhanded
+call_unhanded s (call.Vote client g v value) = (within_quiet s (call.Vote client g v value) refl).unhanded
+call_unhanded s (call.Subscribe client g) = (within_quiet s (call.Subscribe client g) refl).unhanded
+call_unhanded s (call.Unsubscribe client g) = (within_quiet s (call.Unsubscribe client g) refl).unhanded
+
+-- ---- events
+
+-- no event hands anything to a client before its rows
+pub called_unhanded : (s : Core) (ev : NodeEvent) → handed_in (called (at_work s) ev).records ≡ []
+called_unhanded s Ticks = refl
+called_unhanded s (Asks mask) = refl
+called_unhanded s (Given p) = refl
+called_unhanded s step.Garbage = refl
+called_unhanded s (Calls c) = call_unhanded (at_work s) c
+
+-- the event neither begins nor ends a session
+abbrev pub is_within : NodeEvent → Bool
+is_within (Calls c) = is_within_session c
+is_within _ = true
+
+pub called_lives : (s : Core) (ev : NodeEvent) → IsTrue (is_within ev) → (called (at_work s) ev).sessions.sessions ≡ s.sessions.sessions
+called_lives s Ticks h = refl
+called_lives s (Asks mask) h = refl
+called_lives s (Given p) h = refl
+called_lives s step.Garbage h = refl
+called_lives s (Calls c) h = (within_quiet (at_work s) c h).lives
