@@ -16,8 +16,9 @@ use Rattle.node_state.specs.declared.happened.Happened.{Happened}
 use Rattle.node_state.specs.declared.happened.Happened.TheVariants as happened
 use Rattle.node_state.specs.declared.state.Core.{Core}
 use Rattle.node_state.specs.HandOn.{Answering}
-use Rattle.node_groups.specs.Handed.{handed_in, StaysOf, IsDropped, KeepsOwners}
-use Rattle.node_groups.proofs.KeepLaws.{owners_themselves, owners_then}
+use Rattle.session_state.specs.Owners.{StaysOf, IsDropped, KeepsOwners}
+use Rattle.node_state.specs.Handed.{handed_in}
+use Rattle.session_state.proofs.OwnerLaws.{owners_themselves, owners_then}
 use Rattle.entry_handing.specs.Received.{Handing, IsFor, AreFor, told_by, given_to, after_handings, Receive}
 use Rattle.entry_handing.specs.Doing.{Question, Agrees, Rise, AreFilled, Joins, IsNothing, Follows, Does, Ready}
 

@@ -34,7 +34,8 @@ use Rattle.node_state.specs.declared.state.Core.{Core}
 use Rattle.node_state.specs.State.{frozen, recorded_all, with_sessions}
 use Rattle.node_state.specs.Sending.{sent_on, sent, sent_if_known}
 use Rattle.node_state.specs.HandOn.{Answering, answer_if, records_of_notice, fills, cast_record, cast_records, heard, subscriber_name, note_of, notes, noted, ballot_sent, cast_sent_of, casts_sent, handed_on}
-use Rattle.node_groups.specs.Handed.{is_handed, handed_in, KeepsOwners}
+use Rattle.session_state.specs.Owners.{KeepsOwners}
+use Rattle.node_state.specs.Handed.{is_handed, handed_in}
 use Rattle.entry_handing.specs.Received.{Handing, AreFor, told_by}
 use Rattle.entry_handing.specs.Telling.{heard_in, note_in, heard_handings, note_handing, noted_handings}
 use Rattle.entry_handing.specs.Doing.{Joins, Question, Agrees, Rise, AreFilled, Does, Ready}

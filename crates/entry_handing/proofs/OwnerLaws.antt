@@ -20,8 +20,8 @@ use Rattle.session_state.specs.declared.state.Session.{Session}
 use Rattle.session_state.specs.declared.state.SessionState.{SessionState}
 use Rattle.session_state.specs.State.{is_session, is_provider, is_asked_by, is_request, provider_of, place_for, place_of, outstanding, with_provider, request_ended, without_providers}
 use Rattle.session_state.specs.HandOn.{kept_ended, kept_after, taking_part, part_taken, asks, opened_after, phases_opened, casts_kept, proposal_begun, requests_after, removed_from, heard, is_late, running_phase, is_dissolved, is_join_request, takes_telling, told_of, telling_taken}
-use Rattle.node_groups.specs.Handed.{StaysOf, IsDropped, KeepsOwners}
-use Rattle.node_groups.proofs.KeepLaws.{owners_themselves, owners_then}
+use Rattle.session_state.specs.Owners.{StaysOf, IsDropped, KeepsOwners}
+use Rattle.session_state.proofs.OwnerLaws.{owners_themselves, owners_then}
 
 -- ---- who is found
 

@@ -13,7 +13,8 @@ use Rattle.session_state.specs.HandOn.{asks}
 use Rattle.client_session.specs.Notices.{Filling}
 use Rattle.node_state.specs.declared.state.Core.{Core}
 use Rattle.node_state.specs.HandOn.{Answering, answer_if}
-use Rattle.node_groups.specs.Handed.{handed_in, KeepsOwners}
+use Rattle.session_state.specs.Owners.{KeepsOwners}
+use Rattle.node_state.specs.Handed.{handed_in}
 use Rattle.entry_handing.specs.Received.{Handing, AreFor, told_by}
 
 -- the client of p is handed a notice, before which so many records stand, and leaves its ballot like this

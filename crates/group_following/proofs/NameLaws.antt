@@ -12,7 +12,8 @@ use Rattle.node_state.specs.State.{with_row, led_by}
 use Rattle.node_state.specs.Sending.{sent, request_sent}
 use Rattle.node_state.specs.Following.{tell_row, requests_of, named, is_name_used, name_row}
 use Rattle.node_groups.specs.Keeps.{Stays, Keeps}
-use Rattle.node_groups.proofs.KeepLaws.{owners_themselves, keeps_then, keeps_as, sent_keeps}
+use Rattle.session_state.proofs.OwnerLaws.{owners_themselves}
+use Rattle.node_groups.proofs.KeepLaws.{keeps_then, keeps_as, sent_keeps}
 use Rattle.group_following.proofs.KeepLaws.{fold_stays}
 use Rattle.group_following.proofs.TellLaws.{tell_stays}
 

@@ -21,7 +21,7 @@ use Rattle.node_state.specs.declared.happened.Happened.TheVariants as happened
 use Rattle.node_state.specs.declared.state.Core.{Core}
 use Rattle.node_state.specs.State.{recorded_all, recorded, with_sessions}
 use Rattle.node_state.specs.Following.{told_if, tell_row}
-use Rattle.node_groups.specs.Handed.{is_handed}
+use Rattle.node_state.specs.Handed.{is_handed}
 use Rattle.node_groups.specs.Keeps.{Stays}
 use Rattle.node_groups.proofs.KeepLaws.{stays_itself}
 use Rattle.entry_handing.specs.Received.{Receive}

@@ -1,8 +1,7 @@
 -- What the changes of a node's groups keep.
-use Rattle.std.proofs.Common.{◌≡◌, ◌⊎◌, inl, inr, ℕ, Bool, false, List, [], ◌∷◌, ◌++◌, filter, refl, sym, ap, subst, ◌∙◌, arith, length-append, append-nil}
+use Rattle.std.proofs.Common.{◌≡◌, ℕ, false, List, [], ◌∷◌, ◌++◌, refl, sym, ap, subst, ◌∙◌, arith, length-append, append-nil}
 use Rattle.std.proofs.lemmas.List.Elements.{filter-append}
-use Rattle.rsct_packet.specs.declared.ids.ProviderId.{ProviderId}
-use Rattle.session_state.specs.declared.state.SessionState.{SessionState}
+use Rattle.session_state.proofs.OwnerLaws.{owners_themselves, owners_then}
 use Rattle.node_state.specs.declared.group.GroupRow.{GroupRow}
 use Rattle.node_state.specs.declared.group.Led.{Led}
 use Rattle.node_state.specs.declared.happened.Happened.{Happened}
@@ -10,24 +9,9 @@ use Rattle.node_state.specs.declared.packet.Body.{Body}
 use Rattle.node_state.specs.declared.state.Core.{Core}
 use Rattle.node_state.specs.State.{rows_with, with_row, with_led, recorded, recorded_all}
 use Rattle.node_state.specs.Sending.{sent_on, sent}
-use Rattle.node_groups.specs.Handed.{is_handed, handed_in, StaysOf, IsDropped, KeepsOwners}
+use Rattle.node_state.specs.Handed.{is_handed, handed_in}
 use Rattle.node_groups.specs.Keeps.{Stays, Keeps}
 use Rattle.node_groups.proofs.NameOrder.{KeepsName, order_with}
-
--- ---- whose the providers are
-
-pub owners_themselves : (s : SessionState) → KeepsOwners s s
-owners_themselves s p = inl (record { place = refl; live = λ e. e; asked = λ e. e })
-
-owner_then : (s t u : SessionState) (p : ProviderId) → StaysOf s t p ⊎ IsDropped t p → StaysOf t u p ⊎ IsDropped u p → StaysOf s u p ⊎ IsDropped u p
-owner_then s t u p (inl a) (inl b) = inl (record { place = b.place ∙ a.place; live = λ e. b.live (a.live e); asked = λ e. b.asked (a.asked e) })
-owner_then s t u p (inr a) (inl b) = inr (record { live = b.live a.live; asked = b.asked a.asked })
-owner_then s t u p a (inr b) = inr b
-
-pub owners_then : (s t u : SessionState) → KeepsOwners s t → KeepsOwners t u → KeepsOwners s u
-owners_then s t u a b p = owner_then s t u p (a p) (b p)
-
--- ---- what is kept
 
 pub keeps_itself : (s : Core) → Keeps s s
 keeps_itself s = record { records = omega arith; sessions = (refl, refl); order = λ o. o; handed = refl; owners = owners_themselves s.sessions }

@@ -2,7 +2,8 @@
 use Rattle.std.specs.Prelude.{◌≡◌, ◌≤◌, length}
 use Rattle.session_state.specs.Calls.{SameSessions}
 use Rattle.node_state.specs.declared.state.Core.{Core}
-use Rattle.node_groups.specs.Handed.{handed_in, KeepsOwners}
+use Rattle.session_state.specs.Owners.{KeepsOwners}
+use Rattle.node_state.specs.Handed.{handed_in}
 use Rattle.node_groups.specs.Places.{InNameOrder}
 
 -- no record is lost, the sessions and their level are the same, and the rows of groups stay in the order of their names

@@ -2,6 +2,7 @@ pub mod Wording
 pub mod Settings
 pub mod State
 pub mod Sending
+pub mod Handed
 pub mod HandOn
 pub mod Leading
 pub mod Deciding

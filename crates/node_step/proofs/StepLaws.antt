@@ -17,7 +17,7 @@ use Rattle.node_state.specs.Step.{Asks, Calls, order_row, packet_row, used_if, e
 use Rattle.entry_handing.specs.Received.{Handing}
 use Rattle.entry_handing.specs.Doing.{Joins, Does}
 use Rattle.entry_handing.proofs.DoingLaws.{does_then, does_plain, does_nothing, does_after, does_before, does_as, ready_same}
-use Rattle.node_groups.proofs.KeepLaws.{owners_themselves}
+use Rattle.session_state.proofs.OwnerLaws.{owners_themselves}
 use Rattle.node_groups.specs.Keeps.{Keeps}
 use Rattle.group_leading.specs.Working.{AtWork}
 use Rattle.group_leading.proofs.WorkLaws.{keeps_follows}

@@ -13,7 +13,8 @@ use Rattle.node_state.specs.Following.{requests_of}
 use Rattle.session_state.specs.Calls.{SameSessions}
 use Rattle.node_groups.specs.Keeps.{Stays, Keeps}
 use Rattle.node_groups.specs.Places.{InNameOrder}
-use Rattle.node_groups.proofs.KeepLaws.{owners_themselves, keeps_as}
+use Rattle.session_state.proofs.OwnerLaws.{owners_themselves}
+use Rattle.node_groups.proofs.KeepLaws.{keeps_as}
 
 -- ---- what sends alone
 

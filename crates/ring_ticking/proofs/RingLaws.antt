@@ -14,9 +14,10 @@ use Rattle.node_state.specs.declared.packet.Body.TheVariants as body
 use Rattle.node_state.specs.declared.state.Core.{Core}
 use Rattle.node_state.specs.Sending.{sent_on, sent, sent_all}
 use Rattle.node_state.specs.Ticks.{ring_put, set_records, ring_taken}
-use Rattle.node_groups.specs.Handed.{handed_in}
+use Rattle.node_state.specs.Handed.{handed_in}
 use Rattle.node_groups.specs.Keeps.{Keeps}
-use Rattle.node_groups.proofs.KeepLaws.{owners_themselves, keeps_itself, keeps_then, records_keep}
+use Rattle.session_state.proofs.OwnerLaws.{owners_themselves}
+use Rattle.node_groups.proofs.KeepLaws.{keeps_itself, keeps_then, records_keep}
 
 -- ---- the place of a ring
 

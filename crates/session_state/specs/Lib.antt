@@ -1,3 +1,4 @@
 pub mod State
+pub mod Owners
 pub mod Calls
 pub mod HandOn

@@ -30,9 +30,10 @@ use Rattle.node_state.specs.declared.state.Core.{Core}
 use Rattle.node_state.specs.State.{recorded, recorded_all, with_sessions}
 use Rattle.node_state.specs.HandOn.{subscriber_name, note_of}
 use Rattle.node_state.specs.Applying.{is_in_base, number_of, dissolved, dissolved_if, base_note, entering_note, entering_noted}
-use Rattle.node_groups.specs.Handed.{is_handed, handed_in, KeepsOwners}
+use Rattle.session_state.specs.Owners.{KeepsOwners}
+use Rattle.node_state.specs.Handed.{is_handed, handed_in}
 use Rattle.node_groups.specs.Keeps.{Stays}
-use Rattle.node_groups.proofs.KeepLaws.{owners_themselves}
+use Rattle.session_state.proofs.OwnerLaws.{owners_themselves}
 use Rattle.entry_handing.specs.Received.{Handing, AreFor, told_by, after_handings, Receive}
 use Rattle.entry_handing.specs.Doing.{Does}
 use Rattle.entry_handing.proofs.DoingLaws.{does_nothing, does_as, receive_then}

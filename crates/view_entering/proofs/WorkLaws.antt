@@ -37,9 +37,11 @@ use Rattle.node_state.specs.Applying.{Lacking, own_parts, lacking, lists_filled,
 use Rattle.node_state.specs.Step.{order_row}
 use Rattle.node_state.specs.Ticks.{ring_ask, views_part}
 use Rattle.node_groups.specs.Places.{InNameOrder}
-use Rattle.node_groups.specs.Handed.{is_handed, handed_in, KeepsOwners}
+use Rattle.session_state.specs.Owners.{KeepsOwners}
+use Rattle.node_state.specs.Handed.{is_handed, handed_in}
 use Rattle.node_groups.specs.Keeps.{Stays, Keeps}
-use Rattle.node_groups.proofs.KeepLaws.{owners_themselves, keeps_itself, keeps_then, keeps_stays, keeps_as, stays_then, sent_keeps}
+use Rattle.session_state.proofs.OwnerLaws.{owners_themselves}
+use Rattle.node_groups.proofs.KeepLaws.{keeps_itself, keeps_then, keeps_stays, keeps_as, stays_then, sent_keeps}
 use Rattle.group_leading.specs.Working.{AtWork}
 use Rattle.group_leading.proofs.WorkLaws.{keeps_follows, work_kept}
 use Rattle.entry_handing.specs.Received.{Handing}

@@ -29,7 +29,7 @@ use Rattle.node_state.specs.Sending.{sent_if_known, request_to, request_sent, ke
 use Rattle.node_state.specs.Calls.{caller, call_refused, changed, last_asked, proposed, ballot_recorded, ballot_sent_if, last_cast, ballot_given, gone_sent, all_gone_sent, goodbye_said, call_row}
 use Rattle.node_state.specs.Step.{NodeEvent, Ticks, Asks, Given, Calls, at_work}
 use Rattle.node_state.specs.Step as step
-use Rattle.node_groups.specs.Handed.{handed_in}
+use Rattle.node_state.specs.Handed.{handed_in}
 use Rattle.node_groups.specs.Keeps.{Keeps}
 use Rattle.node_groups.proofs.KeepLaws.{keeps_itself, record_keeps, sent_keeps}
 use Rattle.session_calls.specs.Calling.{is_within_session}

@@ -9,7 +9,7 @@ use Rattle.node_state.specs.declared.config.Config.{Config}
 use Rattle.node_state.specs.declared.config.Mode.TheVariants.{Fixed, Asked, Rings}
 use Rattle.node_state.specs.declared.happened.Happened.{Happened}
 use Rattle.node_state.specs.Step.{started}
-use Rattle.node_groups.specs.Handed.{handed_in}
+use Rattle.node_state.specs.Handed.{handed_in}
 use Rattle.world_model.specs.declared.event.Event.TheVariants as event
 use Rattle.world_model.specs.World.{node_at, traced, started_at, starts_if, node_starts, empty_world, world_of, world_new}
 use Rattle.world_model.specs.World as world

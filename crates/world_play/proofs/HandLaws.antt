@@ -15,7 +15,7 @@ use Rattle.node_state.specs.declared.state.Core.{Core}
 use Rattle.node_state.specs.Bytes.{packet_of, event_in, event_of}
 use Rattle.node_state.specs.HandOn.{Answering}
 use Rattle.node_state.specs.Step.{NodeEvent, Calls, at_work}
-use Rattle.node_groups.specs.Handed.{handed_in}
+use Rattle.node_state.specs.Handed.{handed_in}
 use Rattle.entry_handing.specs.Received.{TellAll, WereHanded, AreFor, told_by, after_handings, Receive}
 use Rattle.entry_handing.specs.Doing.{Does}
 use Rattle.node_step.specs.declared.events.NodeEvent.TheVariants as event

@@ -17,7 +17,7 @@ use Rattle.node_state.specs.Calls.{caller_of}
 use Rattle.node_state.specs.HandOn.{Answering}
 use Rattle.node_state.specs.State.{with_sessions}
 use Rattle.node_state.specs.Step.{NodeEvent, Given, Calls, own_rings, first_view, first_members, ring_record, started}
-use Rattle.node_groups.specs.Handed.{is_handed, handed_in}
+use Rattle.node_state.specs.Handed.{is_handed, handed_in}
 use Rattle.entry_handing.specs.Received.{WereHanded}
 use Rattle.node_step.specs.Node.{NodeView}
 use Rattle.world_model.specs.World.{Script, is_node, node_at, kth_in, kth_between}

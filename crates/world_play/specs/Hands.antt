@@ -13,7 +13,7 @@ use Rattle.node_state.specs.declared.state.Core.{Core}
 use Rattle.rsct_packet.specs.Ids.{last_u32}
 use Rattle.node_state.specs.Step.{NodeEvent, Ticks, Asks, Given, Calls, at_work}
 use Rattle.node_state.specs.Step as step
-use Rattle.node_groups.specs.Handed.{handed_in}
+use Rattle.node_state.specs.Handed.{handed_in}
 use Rattle.session_calls.specs.Calling.{clients_with}
 use Rattle.entry_handing.specs.Received.{WereHanded, Handing, AreFor, told_by, after_handings}
 use Rattle.node_step.specs.Node.{NodeView}

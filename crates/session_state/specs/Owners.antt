@@ -1,20 +1,8 @@
--- What a step hands to clients, as its records tell it, and whose each of its providers is.
-use Rattle.std.specs.Prelude.{◌≡◌, ◌⊎◌, Bool, true, false, List, filter, Option, None}
+-- Whose the providers of a node are, and stay.
+use Rattle.std.specs.Prelude.{◌≡◌, ◌⊎◌, None}
 use Rattle.rsct_packet.specs.declared.ids.ProviderId.{ProviderId}
 use Rattle.session_state.specs.declared.state.SessionState.{SessionState}
 use Rattle.session_state.specs.State.{provider_of, place_of, outstanding}
-use Rattle.node_state.specs.declared.happened.Happened.{Happened}
-use Rattle.node_state.specs.declared.happened.Happened.TheVariants as happened
-
--- a client was handed this, or told
-abbrev pub is_handed : Happened → Bool
-is_handed (happened.Heard p v g i e members value) = true
-is_handed (happened.Told p r why) = true
-is_handed (happened.Noted node client v i told) = true
-is_handed _ = false
-
-abbrev pub handed_in : List Happened → List Happened
-handed_in rs = filter is_handed rs
 
 -- the provider is the same client's as before, and is no more there than before, nor is a request of it outstanding
 -- that was not
