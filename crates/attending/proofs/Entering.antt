@@ -23,14 +23,14 @@ use Rattle.node_state.specs.declared.group.GroupRow.{GroupRow}
 use Rattle.node_state.specs.declared.happened.Happened.{Happened}
 use Rattle.node_state.specs.declared.happened.Happened.TheVariants as happened
 use Rattle.node_state.specs.declared.state.Core.{Core}
-use Rattle.node_state.specs.State.{row_found, row_of, list_of, state_of, len_of, held_rows, recorded_all}
+use Rattle.node_state.specs.State.{InNameOrder, AllAfter, row_found, row_of, list_of, state_of, len_of, held_rows, recorded_all}
 use Rattle.node_state.specs.Applying.{level_set, base_row, base_record, view_entered, is_in_base, dissolved_if, group_dissolved, sides_dissolved}
 use Rattle.run_safety.specs.ViewOrder.{Lt}
 use Rattle.run_safety.specs.Past.{History, earlier}
 use Rattle.run_safety.specs.SafeHeard.{heard_count}
 use Rattle.run_safety.specs.Stays.{Stay, stays, with_base, part}
 use Rattle.run_safety.proofs.Order.{lt_not_same, lt_trans}
-use Rattle.node_groups.specs.Places.{InNameOrder, AllAfter, has_name}
+use Rattle.node_groups.specs.Places.{has_name}
 use Rattle.node_groups.proofs.NameOrder.{none_after, text_same}
 use Rattle.step_ties.proofs.BaseOrder.{bases_ordered, row_of_base, base_noted}
 use Rattle.hearing.specs.Hearing.{last_heard}

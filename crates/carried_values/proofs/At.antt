@@ -20,10 +20,9 @@ use Rattle.node_state.specs.declared.packet.Body.{Body}
 use Rattle.node_state.specs.declared.packet.Body.TheVariants as body
 use Rattle.node_state.specs.declared.packet.Packet.{Packet}
 use Rattle.node_state.specs.declared.state.Core.{Core}
-use Rattle.node_state.specs.State.{with_row, row_of, is_this, leader_by, recorded, recorded_all, with_sessions}
+use Rattle.node_state.specs.State.{InNameOrder, with_row, row_of, is_this, leader_by, recorded, recorded_all, with_sessions}
 use Rattle.node_state.specs.Sending.{packet_on, sent_on, sent, network_to}
 use Rattle.run_safety.specs.Past.{History, records_of, earlier}
-use Rattle.node_groups.specs.Places.{InNameOrder}
 use Rattle.node_groups.proofs.NameOrder.{KeepsName, cases_text, row_here, row_there, rows_ordered}
 use Rattle.closing_rows.proofs.Entered.{Since}
 use Rattle.closing_rows.proofs.At.{leads_row, found, Silent}

@@ -1,11 +1,13 @@
 -- How rows that are done one after another come together.
-use Rattle.std.proofs.Common.{◌≡◌, ◌⊎◌, inl, inr, ℕ, ◌+◌, ◌<◌, ◌≤◌, List, [], ◌∷◌, ◌++◌, length, take, get_or, Option, None, refl, sym, ap, subst, ◌∙◌, arith, append_assoc, append-nil}
+use Rattle.std.proofs.Common.{◌≡◌, ◌⊎◌, inl, inr, ℕ, ◌+◌, ◌<◌, ◌≤◌, List, [], ◌∷◌, ◌++◌, length, take, get_or, Option, None, refl, sym, ap, subst, ◌∙◌, arith, append_assoc, append-nil, length-append}
 use Rattle.std.specs.Option.{unwrap_or}
 use Rattle.std.specs.Prelude.{find}
 use Rattle.std.specs.List.{fold}
 use Rattle.std.proofs.lemmas.List.{take_all}
 use Rattle.std.proofs.lemmas.List.Sums.{fold_more}
+use Rattle.std.proofs.lemmas.List.Elements.{filter-append}
 use Rattle.rsct_packet.specs.Search.{place_where}
+use Rattle.proposal_core.specs.declared.group_state.GroupState.{GroupState}
 use Rattle.subscribe_core.specs.declared.subs.ClientToken.{ClientToken}
 use Rattle.client_callbacks.specs.declared.votes.VoteItem.{VoteItem}
 use Rattle.client_callbacks.specs.Handed.{Handed}
@@ -17,10 +19,12 @@ use Rattle.node_state.specs.declared.happened.Happened.TheVariants as happened
 use Rattle.node_state.specs.declared.state.Core.{Core}
 use Rattle.node_state.specs.HandOn.{Answering}
 use Rattle.session_state.specs.Owners.{StaysOf, IsDropped, KeepsOwners}
-use Rattle.node_state.specs.Handed.{handed_in}
+use Rattle.node_state.specs.State.{state_of}
+use Rattle.node_state.specs.Handed.{is_handed, handed_in, state_then, state_along, Along, Logged, logged_in}
+use Rattle.node_state.proofs.AlongLaws.{along_same, along_itself, along_then, logged_same, logged_both}
 use Rattle.session_state.proofs.OwnerLaws.{owners_themselves, owners_then}
-use Rattle.entry_handing.specs.Received.{Handing, IsFor, AreFor, told_by, given_to, after_handings, Receive}
-use Rattle.entry_handing.specs.Doing.{Question, Agrees, Rise, AreFilled, Joins, IsNothing, Follows, Does, Ready}
+use Rattle.entry_handing.specs.Received.{Handing, IsFor, AreFor, told_by, logged, logged_by, given_to, after_handings, Receive}
+use Rattle.entry_handing.specs.Doing.{Question, Agrees, Rise, AreFilled, Joins, IsNothing, Follows, Stated, Does, Ready}
 
 -- ---- questions
 
@@ -91,10 +95,10 @@ pub are_for_both : (s : SessionState) (xs ys : List Handing) → AreFor s xs →
 are_for_both s [] ys a b = b
 are_for_both s (x ∷ xs) ys a b = (a.0, are_for_both s xs ys a.1 b)
 
-after_both : (xs ys : List Handing) (rss : List (List Happened)) → after_handings (xs ++ ys) rss ≡ after_handings ys (after_handings xs rss)
+after_both : (xs ys : List Handing) (rss : List (List Logged)) → after_handings (xs ++ ys) rss ≡ after_handings ys (after_handings xs rss)
 unfolding after_handings
 after_both [] ys rss = refl
-after_both (h ∷ xs) ys rss = after_both xs ys (given_to h.place h.what rss)
+after_both (h ∷ xs) ys rss = after_both xs ys (given_to h.place (logged h) rss)
 
 pub receive_then : {C : Type 0} (R : C → List Handed → Type 0) (cs ds es : List C) → Joins (Receive R cs ds) (Receive R ds es) (Receive R cs es)
 receive_then R cs ds es xs ys a b rss h = rw (after_both xs ys rss) (b (after_handings xs rss) (a rss h))
@@ -107,19 +111,66 @@ pub receive_nothing : {C : Type 0} (R : C → List Handed → Type 0) (cs : List
 unfolding after_handings
 receive_nothing R cs rss h = h
 
+-- ---- the states of groups along the records of what is handed
+
+pub logged_apart : (xs ys : List Handing) → logged_by (xs ++ ys) ≡ logged_by xs ++ logged_by ys
+logged_apart [] ys = refl
+logged_apart (h ∷ xs) ys = ap (λ (ls : List Logged). logged h ∷ ls) (logged_apart xs ys)
+
+pub stated_then : (s t u : Core) (a : Along s t) (b : Along t u) (xs ys : List Handing) → Stated s a.records xs → Stated t b.records ys → Stated s (a.records ++ b.records) (xs ++ ys)
+stated_then s t u a b xs ys first next o =
+    logged_both a.records b.records (state_of s)
+    ∙ (ap (λ (ls : List Logged). ls ++ logged_in b.records (λ g. state_along g a.records (state_of s g))) (first o)
+    ∙ (ap (λ (ls : List Logged). logged_by xs ++ ls) (logged_same b.records (λ g. state_along g a.records (state_of s g)) (state_of t) (λ g. sym (a.states o g)) ∙ next (a.order o))
+    ∙ sym (logged_apart xs ys)))
+
+unlogged : (rs : List Happened) (states : List ℕ → GroupState) → handed_in rs ≡ [] → logged_in rs states ≡ []
+unlogged [] states h = refl
+unlogged (happened.Heard p v g i e members value ∷ rs) states h = absurd cc
+unlogged (happened.Told p r why ∷ rs) states h = absurd cc
+unlogged (happened.Noted node client v i told ∷ rs) states h = absurd cc
+unlogged (happened.Up n i ∷ rs) states h = unlogged rs (λ k. state_then k (happened.Up n i) (states k)) h
+unlogged (happened.Down n ∷ rs) states h = unlogged rs (λ k. state_then k (happened.Down n) (states k)) h
+unlogged (happened.Ring n network ring members neighbour ∷ rs) states h = unlogged rs (λ k. state_then k (happened.Ring n network ring members neighbour) (states k)) h
+unlogged (happened.In n v ms ∷ rs) states h = unlogged rs (λ k. state_then k (happened.In n v ms) (states k)) h
+unlogged (happened.Base n v g old len st ∷ rs) states h = unlogged rs (λ k. state_then k (happened.Base n v g old len st) (states k)) h
+unlogged (happened.Put n v g i e ∷ rs) states h = unlogged rs (λ k. state_then k (happened.Put n v g i e) (states k)) h
+unlogged (happened.Cast p proto phase vote value message ∷ rs) states h = unlogged rs (λ k. state_then k (happened.Cast p proto phase vote value message) (states k)) h
+unlogged (happened.Asked p r g x ∷ rs) states h = unlogged rs (λ k. state_then k (happened.Asked p r g x) (states k)) h
+unlogged (happened.Refused n client fault ∷ rs) states h = unlogged rs (λ k. state_then k (happened.Refused n client fault) (states k)) h
+unlogged (happened.Shown n line ∷ rs) states h = unlogged rs (λ k. state_then k (happened.Shown n line) (states k)) h
+
+-- nothing came behind
+none_behind : {A : Type 0} (xs ys : List A) → xs ++ ys ≡ xs → ys ≡ []
+none_behind xs [] e = refl
+none_behind xs (y ∷ ys) e = let n : length (xs ++ y ∷ ys) ≡ length xs = ap length e in let m : length (xs ++ y ∷ ys) ≡ length xs + length (y ∷ ys) = length-append xs (y ∷ ys) in absurd (omega (arith, n, m))
+
+-- where nothing is handed, the records tell nothing
+pub unstated : (s t : Core) (a : Along s t) → handed_in t.records ≡ handed_in s.records → Stated s a.records []
+unstated s t a handed o =
+    unlogged a.records (state_of s)
+    (none_behind (handed_in s.records) (handed_in a.records) (sym (filter-append is_handed s.records a.records) ∙ (ap handed_in (sym a.more) ∙ handed)))
+
+pub stated_after : (s t u : Core) (a : Along s t) (b : Along t u) (hs : List Handing) → handed_in t.records ≡ handed_in s.records → Stated t b.records hs → Stated s (a.records ++ b.records) hs
+stated_after s t u a b hs handed next = stated_then s t u a b [] hs (unstated s t a handed) next
+
+pub stated_before : (s t u : Core) (a : Along s t) (b : Along t u) (hs : List Handing) → Stated s a.records hs → handed_in u.records ≡ handed_in t.records → Stated s (a.records ++ b.records) hs
+stated_before s t u a b hs first handed o = stated_then s t u a b hs [] first (unstated t u b handed) o ∙ ap logged_by (append-nil hs)
+
 -- ---- rows
 
 pub follows_itself : (s : Core) → Follows s s
-follows_itself s = record { grows = omega arith; lives = refl; handed = refl; owners = owners_themselves s.sessions }
+follows_itself s = record { grows = omega arith; lives = refl; handed = refl; owners = owners_themselves s.sessions; along = along_itself s }
 
 pub follows_then : (s t u : Core) → Follows s t → Follows t u → Follows s u
 follows_then s t u a b =
     let first : length s.records ≤ length t.records = a.grows in
     let next : length t.records ≤ length u.records = b.grows in
-    record { grows = omega arith; lives = b.lives ∙ a.lives; handed = b.handed ∙ a.handed; owners = owners_then s.sessions t.sessions u.sessions a.owners b.owners }
+    record { grows = omega arith; lives = b.lives ∙ a.lives; handed = b.handed ∙ a.handed; owners = owners_then s.sessions t.sessions u.sessions a.owners b.owners; along = along_then s t u a.along b.along }
 
 -- one row after another
 pub does_then : (scripts : List (Option (List (Option VoteItem)))) (P Q W : List Handing → Type 0) → Joins P Q W → (s t u : Core) (a : Answering → Core) (b : Answering → Core → Core) → Does scripts P s t a → Does scripts Q t u (λ f. b f t) → Does scripts W s u (λ f. b f (a f))
+unfolding along_then
 does_then scripts P Q W join s t u a b first next =
     record {
       asked = first.asked ++ next.asked;
@@ -134,6 +185,8 @@ does_then scripts P Q W join s t u a b first next =
           ∙ ap (λ (rs : List Happened). handed_in s.records ++ rs) (sym (told_both first.handings next.handings))));
       owned = are_for_both s.sessions first.handings next.handings first.owned (are_for_back s.sessions t.sessions next.handings first.owners first.lives next.owned);
       owners = owners_then s.sessions t.sessions u.sessions first.owners next.owners;
+      along = along_then s t u first.along next.along;
+      stated = stated_then s t u first.along next.along first.handings next.handings first.stated next.stated;
       received = join first.handings next.handings first.received next.received;
     }
 
@@ -150,6 +203,8 @@ does_plain scripts P s t k p e on =
       told = on.handed ∙ sym (append-nil (handed_in s.records));
       owned = tt;
       owners = on.owners;
+      along = on.along;
+      stated = unstated s t on.along on.handed;
       received = p;
     }
 
@@ -159,6 +214,7 @@ does_nothing scripts P s p = does_plain scripts P s s s p refl (follows_itself s
 
 -- a change before
 pub does_after : (scripts : List (Option (List (Option VoteItem)))) (P : List Handing → Type 0) (s t u : Core) (a : Answering → Core) → Follows s t → Does scripts P t u a → Does scripts P s u a
+unfolding along_then
 does_after scripts P s t u a on next =
     record {
       asked = next.asked;
@@ -170,11 +226,14 @@ does_after scripts P s t u a on next =
       told = next.told ∙ ap (λ (rs : List Happened). rs ++ told_by next.handings) on.handed;
       owned = are_for_back s.sessions t.sessions next.handings on.owners on.lives next.owned;
       owners = owners_then s.sessions t.sessions u.sessions on.owners next.owners;
+      along = along_then s t u on.along next.along;
+      stated = stated_after s t u on.along next.along next.handings on.handed next.stated;
       received = next.received;
     }
 
 -- a change behind
 pub does_before : (scripts : List (Option (List (Option VoteItem)))) (P : List Handing → Type 0) (s t u : Core) (a : Answering → Core) (k : Core → Core) → Does scripts P s t a → u ≡ k t → Follows t u → Does scripts P s u (λ f. k (a f))
+unfolding along_then
 does_before scripts P s t u a k first e on =
     record {
       asked = first.asked;
@@ -186,6 +245,8 @@ does_before scripts P s t u a k first e on =
       told = on.handed ∙ first.told;
       owned = first.owned;
       owners = owners_then s.sessions t.sessions u.sessions first.owners on.owners;
+      along = along_then s t u first.along on.along;
+      stated = stated_before s t u first.along on.along first.handings first.stated on.handed;
       received = first.received;
     }
 
@@ -202,6 +263,8 @@ does_weaker scripts P Q s t a weaker done =
       told = done.told;
       owned = done.owned;
       owners = done.owners;
+      along = done.along;
+      stated = done.stated;
       received = weaker done.handings done.received;
     }
 
@@ -218,6 +281,8 @@ does_as scripts P s t a b same done =
       told = done.told;
       owned = done.owned;
       owners = done.owners;
+      along = done.along;
+      stated = done.stated;
       received = done.received;
     }
 
@@ -235,22 +300,23 @@ does_more scripts P Q W join s t u h xs k x lt is first next =
 pub does_all : {X : Type 0} (scripts : List (Option (List (Option VoteItem)))) (P : List Handing → Type 0) (s t : Core) (h : Answering → Core → X → Core) (xs : List X) (k : ℕ) → length xs ≤ k → Does scripts P s t (λ f. fold (h f) s (take k xs)) → Does scripts P s t (λ f. fold (h f) s xs)
 does_all scripts P s t h xs k past done = subst (λ zs. Does scripts P s t (λ f. fold (h f) s zs)) (take_all k xs past) done
 
--- ---- what leaves records, sessions and views as they are
+-- ---- what leaves records, sessions, views and groups as they are
 
 pub record Beside (s t : Core) : Type 0 where
   pub records : t.records ≡ s.records
   pub sessions : t.sessions ≡ s.sessions
   pub views : t.views ≡ s.views
+  pub groups : t.groups ≡ s.groups
 
 pub beside_itself : (s : Core) → Beside s s
-beside_itself s = record { records = refl; sessions = refl; views = refl }
+beside_itself s = record { records = refl; sessions = refl; views = refl; groups = refl }
 
 pub beside_then : (s t u : Core) → Beside s t → Beside t u → Beside s u
-beside_then s t u a b = record { records = b.records ∙ a.records; sessions = b.sessions ∙ a.sessions; views = b.views ∙ a.views }
+beside_then s t u a b = record { records = b.records ∙ a.records; sessions = b.sessions ∙ a.sessions; views = b.views ∙ a.views; groups = b.groups ∙ a.groups }
 
 pub beside_as : (s t u : Core) → u ≡ t → Beside s t → Beside s u
 beside_as s t u e a =
-    record { records = ap (λ (x : Core). x.records) e ∙ a.records; sessions = ap (λ (x : Core). x.sessions) e ∙ a.sessions; views = ap (λ (x : Core). x.views) e ∙ a.views }
+    record { records = ap (λ (x : Core). x.records) e ∙ a.records; sessions = ap (λ (x : Core). x.sessions) e ∙ a.sessions; views = ap (λ (x : Core). x.views) e ∙ a.views; groups = ap (λ (x : Core). x.groups) e ∙ a.groups }
 
 pub beside_grows : (s t : Core) → Beside s t → length s.records ≤ length t.records
 beside_grows s t b = let e : length t.records ≡ length s.records = ap length b.records in omega arith
@@ -262,6 +328,7 @@ beside_follows s t b =
       lives = ap (λ (x : SessionState). x.sessions) b.sessions;
       handed = ap handed_in b.records;
       owners = subst (λ (x : SessionState). KeepsOwners s.sessions x) (sym b.sessions) (owners_themselves s.sessions);
+      along = along_same s t b.records b.groups;
     }
 
 -- as many clients as sessions, where the sessions are as before

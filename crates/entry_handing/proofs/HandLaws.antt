@@ -31,17 +31,19 @@ use Rattle.node_state.specs.declared.happened.Happened.{Happened}
 use Rattle.node_state.specs.declared.happened.Happened.TheVariants as happened
 use Rattle.node_state.specs.declared.packet.Body.{Body}
 use Rattle.node_state.specs.declared.state.Core.{Core}
-use Rattle.node_state.specs.State.{frozen, recorded_all, with_sessions}
+use Rattle.node_state.specs.State.{frozen, state_of, recorded_all, with_sessions}
 use Rattle.node_state.specs.Sending.{sent_on, sent, sent_if_known}
 use Rattle.node_state.specs.HandOn.{Answering, answer_if, records_of_notice, fills, cast_record, cast_records, heard, subscriber_name, note_of, notes, noted, ballot_sent, cast_sent_of, casts_sent, handed_on}
 use Rattle.session_state.specs.Owners.{KeepsOwners}
-use Rattle.node_state.specs.Handed.{is_handed, handed_in}
-use Rattle.entry_handing.specs.Received.{Handing, AreFor, told_by}
+use Rattle.node_state.specs.Handed.{is_handed, handed_in, state_along, Logged, logged_in}
+use Rattle.node_state.proofs.AlongLaws.{LeavesStates, leaves_both, along_records, logged_both}
+use Rattle.entry_handing.specs.Received.{Handing, AreFor, told_by, logged_by}
 use Rattle.entry_handing.specs.Telling.{heard_in, note_in, heard_handings, note_handing, noted_handings}
 use Rattle.entry_handing.specs.Doing.{Joins, Question, Agrees, Rise, AreFilled, Does, Ready}
-use Rattle.entry_handing.proofs.DoingLaws.{rise_lower, rise_upper, told_both, are_for_back, are_for_both, Beside, beside_itself, beside_then, beside_as, beside_grows, ready_same, ready_beside}
+use Rattle.entry_handing.proofs.DoingLaws.{rise_lower, rise_upper, told_both, logged_apart, are_for_back, are_for_both, Beside, beside_itself, beside_then, beside_as, beside_grows, ready_same, ready_beside}
 use Rattle.entry_handing.proofs.KeepLaws.{SameNames, heard_same}
 use Rattle.entry_handing.proofs.OwnerLaws.{heard_owners}
+use Rattle.entry_handing.proofs.StateLaws.{heard_leaves, heard_stated, noted_leave, noted_stated, noted_records, told_groups}
 
 -- ---- who is asked
 
@@ -178,7 +180,7 @@ noted_keeps s g i before after = keeps_head (differs before after) s g (Some i) 
 
 pub sent_beside : (s : Core) (to : ℕ) (b : Body) → Beside s (sent s to b)
 unfolding sent sent_on
-sent_beside s to b = record { records = refl; sessions = refl; views = refl }
+sent_beside s to b = record { records = refl; sessions = refl; views = refl; groups = refl }
 
 pub sent_if_known_beside : (s : Core) (to : Option ℕ) (b : Body) → Beside s (sent_if_known s to b)
 unfolding sent_if_known
@@ -359,10 +361,11 @@ unfolding sessions_with
 with_owners s g before after e cs = heard_owners s g after e (hearers s g before e) (beginners s g e) cs
 
 pub handed_does : (scripts : List (Option (List (Option VoteItem)))) (P Q W : List Handing → Type 0) → Joins P Q W → (s t u w : Core) (v : ViewId) (to : Option ℕ) (g : List ℕ) (i : ℕ) (before after : GroupState) (e : Entry) (bs : List (Option Filled)) (cs : List Cast)
-    → v ≡ s.views.view → SameSessions s.sessions t.sessions → Fillings scripts s.sessions e after (hearers s.sessions g before e) bs → cs ≡ casts_out s.sessions g before after e bs
+    → v ≡ s.views.view → SameSessions s.sessions t.sessions → Fillings scripts s.sessions e after (hearers s.sessions g before e) bs → cs ≡ casts_out s.sessions g before after e bs → after ≡ state_of s g
     → t ≡ recorded_all (with_sessions s (session.handed_on s.sessions g before after e bs)) (flat_map (heard_in v g i e after) cs) → P (heard_handings s.sessions v g i e after (hearers s.sessions g before e))
     → u ≡ noted t g i before after → Q (noted_handings t g i before after) → w ≡ casts_sent u g to cs → Does scripts W s w (λ f. handed_on f s to g i before after e)
-handed_does scripts P Q W join s t u w v to g i before after e bs cs view same fillings casting handing heard noting noted sending =
+unfolding along_records
+handed_does scripts P Q W join s t u w v to g i before after e bs cs view same fillings casting state handing heard noting noted sending =
     let ps : List ProviderId = hearers s.sessions g before e in
     let casts : cs ≡ casts_of e after s.sessions.level ps bs = casting ∙ out_as s.sessions g before after e bs in
     let sessions : session.handed_on s.sessions g before after e bs ≡ sessions_with s.sessions g before after e cs = sessions_as s.sessions g before after e bs ∙ ap (sessions_with s.sessions g before after e) (sym casting) in
@@ -383,6 +386,14 @@ handed_does scripts P Q W join s t u w v to g i before after e bs cs view same f
     ap handed_in (records ∙ ap (λ (xs : List Cast). s.records ++ flat_map (heard_in v g i e after) xs) casts)
     ∙ (filter-append is_handed s.records (flat_map (heard_in v g i e after) (casts_of e after s.sessions.level ps bs))
     ∙ ap (λ (rs : List Happened). handed_in s.records ++ rs) (heard_told scripts s.sessions s.sessions.level v g i e after ps bs fillings)) in
+    let heards : List Happened = flat_map (heard_in v g i e after) (casts_of e after s.sessions.level ps bs) in
+    let also : (u.records ≡ t.records ++ told_by theirs) × (u.groups ≡ t.groups) = rw noting (noted_records t g i before after) in
+    let more : w.records ≡ s.records ++ (heards ++ told_by theirs) =
+    beside.records
+    ∙ (also.0
+    ∙ (ap (λ (rs : List Happened). rs ++ told_by theirs) (records ∙ ap (λ (xs : List Cast). s.records ++ flat_map (heard_in v g i e after) xs) casts) ∙ append_assoc s.records heards (told_by theirs))) in
+    let groups : w.groups ≡ s.groups = beside.groups ∙ (also.1 ∙ (ap (λ (x : Core). x.groups) handing ∙ told_groups s _ _)) in
+    let heards_leave : LeavesStates heards = heard_leaves v g i e after (casts_of e after s.sessions.level ps bs) in
     let second : handed_in u.records ≡ handed_in t.records ++ told_by theirs = ap (λ (x : Core). handed_in x.records) noting ∙ noted_told t g i before after in
     record {
       asked = questions (length s.records) s.sessions e after ps bs;
@@ -401,6 +412,11 @@ handed_does scripts P Q W join s t u w v to g i before after e bs cs view same f
           ∙ (append_assoc (handed_in s.records) (told_by mine) (told_by theirs) ∙ ap (λ (rs : List Happened). handed_in s.records ++ rs) (sym (told_both mine theirs)))));
       owned = are_for_both s.sessions mine theirs (heard_owned s.sessions v g i e before after) (are_for_back s.sessions t.sessions theirs owners same.0 (noted_owned t g i before after));
       owners = subst (λ (x : SessionState). KeepsOwners s.sessions x) (sym (beside.sessions ∙ kept)) owners;
+      along = along_records s w (heards ++ told_by theirs) more groups (leaves_both heards (told_by theirs) heards_leave (noted_leave t g i before after));
+      stated = λ o.
+          logged_both heards (told_by theirs) (state_of s)
+          ∙ (ap (λ (ls : List Logged). ls ++ logged_in (told_by theirs) (λ h. state_along h heards (state_of s h))) (heard_stated scripts s.sessions s.sessions.level v g i e after ps bs (state_of s) fillings state)
+          ∙ (ap (λ (ls : List Logged). logged_by mine ++ ls) (noted_stated t g i before after (λ h. state_along h heards (state_of s h))) ∙ sym (logged_apart mine theirs)));
       received = join mine theirs heard noted;
     }
 

@@ -3,3 +3,4 @@ pub mod HandLaws
 pub mod KeepLaws
 pub mod OwnerLaws
 pub mod ReceiveLaws
+pub mod StateLaws

@@ -14,8 +14,10 @@ use Rattle.client_session.specs.Notices.{Filling}
 use Rattle.node_state.specs.declared.state.Core.{Core}
 use Rattle.node_state.specs.HandOn.{Answering, answer_if}
 use Rattle.session_state.specs.Owners.{KeepsOwners}
-use Rattle.node_state.specs.Handed.{handed_in}
-use Rattle.entry_handing.specs.Received.{Handing, AreFor, told_by}
+use Rattle.node_state.specs.declared.happened.Happened.{Happened}
+use Rattle.node_state.specs.State.{InNameOrder, state_of}
+use Rattle.node_state.specs.Handed.{handed_in, Along, logged_in}
+use Rattle.entry_handing.specs.Received.{Handing, AreFor, told_by, logged_by}
 
 -- the client of p is handed a notice, before which so many records stand, and leaves its ballot like this
 pub record Question : Type 0 where
@@ -44,12 +46,18 @@ abbrev pub AreFilled : List (Option (List (Option VoteItem))) → List Session �
 AreFilled scripts lives [] = Unit {0}
 AreFilled scripts lives (q ∷ qs) = (q.sessions.sessions ≡ lives) × (Filling scripts q.sessions q.entry q.after q.p q.filled × AreFilled scripts lives qs)
 
--- no record is lost, the sessions are the same ones, nothing is handed to a client, and each provider stays its client's
+-- no record is lost, the sessions are the same ones, nothing is handed to a client, each provider stays its client's, and
+-- the states of groups are as the records tell
 pub record Follows (s t : Core) : Type 0 where
   pub grows : length s.records ≤ length t.records
   pub lives : t.sessions.sessions ≡ s.sessions.sessions
   pub handed : handed_in t.records ≡ handed_in s.records
   pub owners : KeepsOwners s.sessions t.sessions
+  pub along : Along s t
+
+-- with the states that the records make of those in s, these tell just what was handed
+abbrev pub Stated : Core → List Happened → List Handing → Type 0
+Stated s rs hs = InNameOrder s.groups → logged_in rs (state_of s) ≡ logged_by hs
 
 -- what holds of one part and of the next holds of both
 abbrev pub Joins : (List Handing → Type 0) → (List Handing → Type 0) → (List Handing → Type 0) → Type 0
@@ -59,7 +67,8 @@ abbrev pub IsNothing : List Handing → Type 0
 IsNothing hs = hs ≡ []
 
 -- t is what the row makes of s, for all answers that agree with those of the clients, which vote by these scripts.
--- What was handed to the clients is what the row's records tell, each to the client whose it is, and P holds of it.
+-- What was handed to the clients is what the row's records tell, each to the client whose it is, with the state of its
+-- group after it, and P holds of it.
 pub record Does (scripts : List (Option (List (Option VoteItem)))) (P : List Handing → Type 0) (s t : Core) (row : Answering → Core) : Type 0 where
   pub asked : List Question
   pub filled : AreFilled scripts s.sessions.sessions asked
@@ -70,6 +79,8 @@ pub record Does (scripts : List (Option (List (Option VoteItem)))) (P : List Han
   pub told : handed_in t.records ≡ handed_in s.records ++ told_by handings
   pub owned : AreFor s.sessions handings
   pub owners : KeepsOwners s.sessions t.sessions
+  pub along : Along s t
+  pub stated : Stated s along.records handings
   pub received : P handings
 
 -- as many clients as sessions, at a level that there is

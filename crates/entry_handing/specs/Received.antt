@@ -11,32 +11,36 @@ use Rattle.client_session.specs.Clients.{StandFor}
 use Rattle.client_session.specs.Notices.{notice_to}
 use Rattle.node_state.specs.declared.happened.Happened.{Happened}
 use Rattle.node_state.specs.declared.happened.Happened.TheVariants as happened
+use Rattle.node_state.specs.Handed.{Logged}
 
 -- ---- what a record tells
 
--- the record tells that this was handed: a notice with the members and the value after it, or a telling
-abbrev pub Tells : Handed → Happened → Type 0
-Tells x (happened.Heard p v g i e members value) = (after : GroupState) × (x ≡ Notified (notice_to v g i e after p)) × (after.members ≡ members) × (after.value ≡ value)
-Tells x (happened.Told p r why) = x ≡ Informed (told.Refused p r why)
-Tells x (happened.Noted n client v i t) = x ≡ Informed t
-Tells x _ = ⊥
+-- the record tells that this was handed: a notice with this state after it, or a telling
+abbrev pub TellsWith : Handed → GroupState → Happened → Type 0
+TellsWith x after (happened.Heard p v g i e members value) = (x ≡ Notified (notice_to v g i e after p)) × (after.members ≡ members) × (after.value ≡ value)
+TellsWith x after (happened.Told p r why) = x ≡ Informed (told.Refused p r why)
+TellsWith x after (happened.Noted n client v i t) = x ≡ Informed t
+TellsWith x after _ = ⊥
+
+abbrev pub Tells : Handed → Logged → Type 0
+Tells x r = TellsWith x r.after r.what
 
 -- one after another
-abbrev pub TellEach : List Handed → List Happened → Type 0
+abbrev pub TellEach : List Handed → List Logged → Type 0
 TellEach [] [] = Unit {0}
 TellEach [] (r ∷ rs) = ⊥
 TellEach (x ∷ xs) [] = ⊥
 TellEach (x ∷ xs) (r ∷ rs) = Tells x r × TellEach xs rs
 
 -- of each client
-abbrev pub TellAll : List (List Handed) → List (List Happened) → Type 0
+abbrev pub TellAll : List (List Handed) → List (List Logged) → Type 0
 TellAll [] [] = Unit {0}
 TellAll [] (rs ∷ rss) = ⊥
 TellAll (xs ∷ xss) [] = ⊥
 TellAll (xs ∷ xss) (rs ∷ rss) = TellEach xs rs × TellAll xss rss
 
 -- each client stands for what these records tell that it was handed, in order
-pub record WereHanded {C : Type 0} (R : C → List Handed → Type 0) (clients : List C) (rss : List (List Happened)) : Type 0 where
+pub record WereHanded {C : Type 0} (R : C → List Handed → Type 0) (clients : List C) (rss : List (List Logged)) : Type 0 where
   pub lists : List (List Handed)
   pub stand : StandFor R clients lists
   pub told : TellAll lists rss
@@ -47,6 +51,7 @@ pub record WereHanded {C : Type 0} (R : C → List Handed → Type 0) (clients :
 pub record Handing : Type 0 where
   pub place : Option ℕ
   pub what : Happened
+  pub after : GroupState
 
 -- the client is that of the record's provider, which is live or whose request is outstanding; or that of its name
 abbrev pub IsFor : SessionState → Option ℕ → Happened → Type 0
@@ -63,20 +68,27 @@ abbrev pub told_by : List Handing → List Happened
 told_by [] = []
 told_by (h ∷ hs) = h.what ∷ told_by hs
 
+abbrev pub logged : Handing → Logged
+logged h = record { what = h.what; after = h.after }
+
+abbrev pub logged_by : List Handing → List Logged
+logged_by [] = []
+logged_by (h ∷ hs) = logged h ∷ logged_by hs
+
 -- the records of clients with one more at the end of one's
-abbrev pub given_at : ℕ → Happened → List (List Happened) → List (List Happened)
+abbrev pub given_at : ℕ → Logged → List (List Logged) → List (List Logged)
 given_at i r [] = []
 given_at zero r (rs ∷ rss) = (rs ++ r ∷ []) ∷ rss
 given_at (suc i) r (rs ∷ rss) = rs ∷ given_at i r rss
 
-abbrev pub given_to : Option ℕ → Happened → List (List Happened) → List (List Happened)
+abbrev pub given_to : Option ℕ → Logged → List (List Logged) → List (List Logged)
 given_to None r rss = rss
 given_to (Some i) r rss = given_at i r rss
 
 -- the records of clients after these were handed to them
-unfoldable pub after_handings : List Handing → List (List Happened) → List (List Happened)
-after_handings hs rss = fold (λ (t : List (List Happened)) (h : Handing). given_to h.place h.what t) rss hs
+unfoldable pub after_handings : List Handing → List (List Logged) → List (List Logged)
+after_handings hs rss = fold (λ (t : List (List Logged)) (h : Handing). given_to h.place (logged h) t) rss hs
 
 -- these, and no others, were handed to the clients
 abbrev pub Receive : {C : Type 0} → (C → List Handed → Type 0) → List C → List C → List Handing → Type 0
-Receive R old new hs = (rss : List (List Happened)) → WereHanded R old rss → WereHanded R new (after_handings hs rss)
+Receive R old new hs = (rss : List (List Logged)) → WereHanded R old rss → WereHanded R new (after_handings hs rss)

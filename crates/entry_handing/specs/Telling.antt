@@ -4,6 +4,7 @@ use Rattle.rsct_packet.specs.declared.ids.ProviderId.{ProviderId}
 use Rattle.rsct_packet.specs.declared.ids.ViewId.{ViewId}
 use Rattle.group_entry.specs.declared.entry.Entry.{Entry}
 use Rattle.proposal_core.specs.declared.group_state.GroupState.{GroupState}
+use Rattle.proposal_core.specs.Fold.{empty_state}
 use Rattle.subscribe_core.specs.declared.subs.Subscription.{Subscription}
 use Rattle.subscribe_core.specs.Subs.{is_of_group, differs}
 use Rattle.client_callbacks.specs.declared.told.Told.TheVariants as told
@@ -27,7 +28,7 @@ note_in me v t g place st u = happened.Noted me (subscriber_name t u) v place (t
 -- ---- what clients are handed
 
 abbrev pub heard_handing : SessionState → ViewId → List ℕ → ℕ → Entry → GroupState → ProviderId → Handing
-heard_handing s v g i e after p = record { place = place_of s p; what = happened.Heard p v g i e after.members after.value }
+heard_handing s v g i e after p = record { place = place_of s p; what = happened.Heard p v g i e after.members after.value; after = after }
 
 -- by each of ps
 abbrev pub heard_handings : SessionState → ViewId → List ℕ → ℕ → Entry → GroupState → List ProviderId → List Handing
@@ -35,7 +36,7 @@ heard_handings s v g i e after ps = map (heard_handing s v g i e after) ps
 
 -- by the client of a subscription
 abbrev pub note_handing : ℕ → ViewId → SessionState → List ℕ → Option ℕ → GroupState → Subscription → Handing
-note_handing me v t g place st u = record { place = client_place t u.client; what = note_in me v t g place st u }
+note_handing me v t g place st u = record { place = client_place t u.client; what = note_in me v t g place st u; after = empty_state }
 
 -- by the subscribers of a group, where its members or its value differ
 unfoldable pub noted_handings : Core → List ℕ → ℕ → GroupState → GroupState → List Handing

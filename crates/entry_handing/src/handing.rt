@@ -6,7 +6,7 @@ ghost use Rattle.client_session.specs.Notices.{Fillings};
 ghost use Rattle.session_state.specs.HandOn.{casts_out, hearers};
 ghost use Rattle.session_state.specs.Calls.{SameSessions};
 ghost use Rattle.session_state.specs.HandOn as session;
-ghost use Rattle.node_state.specs.State.{recorded_all, with_sessions};
+ghost use Rattle.node_state.specs.State.{state_of, recorded_all, with_sessions};
 ghost use Rattle.node_state.specs.HandOn.{noted, ballot_sent, cast_sent_of, casts_sent, handed_on};
 ghost use Rattle.entry_handing.specs.Telling.{heard_in, heard_handings, noted_handings};
 ghost use Rattle.entry_handing.specs.Received.{Receive};
@@ -149,7 +149,8 @@ fn hand<C: Callbacks>(
 }
 
 /// Hands an entry of the view on: clients hear it and cast, subscribers are told, and the ballots go to `to`, which
-/// may be unknown, where the node is not frozen. `before` is the group's state before the entry.
+/// may be unknown, where the node is not frozen. `before` is the group's state before the entry; `n.after` is that of
+/// the node's list, which has the entry already.
 pub fn hand_on<C: Callbacks>(
     core: &mut Core,
     clients: &mut Vec<C>,
@@ -160,6 +161,7 @@ pub fn hand_on<C: Callbacks>(
 ) -> Result<(), NoMemory>
     requires ready { Ready core.old clients.old.items }
     requires view { n.now.view ≡ core.old.views.view }
+    requires state { n.now.after.now ≡ state_of core.old n.now.group.now }
     ensures ready { OnOk result (Ready core.new clients.new.items) }
     ensures scripts { OnOk result (map C.script clients.new.items ≡ map C.script clients.old.items) }
     ensures does { OnOk result (Does (map C.script clients.old.items) (Receive C.stands_for clients.old.items clients.new.items) core.old core.new (λ f. handed_on f core.old to n.now.group.now n.now.place before.now n.now.after.now n.now.entry.now)) }

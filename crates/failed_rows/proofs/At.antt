@@ -24,11 +24,10 @@ use Rattle.node_state.specs.declared.happened.Happened.TheVariants as happened
 use Rattle.node_state.specs.declared.packet.Body.{Body}
 use Rattle.node_state.specs.declared.packet.Packet.{Packet}
 use Rattle.node_state.specs.declared.state.Core.{Core}
-use Rattle.node_state.specs.State.{row_of, with_row, is_this, leader_by, recorded, recorded_all, with_sessions}
+use Rattle.node_state.specs.State.{InNameOrder, row_of, with_row, is_this, leader_by, recorded, recorded_all, with_sessions}
 use Rattle.node_state.specs.Sending.{packet_on, sent_on, sent, network_to}
 use Rattle.run_safety.specs.Past.{History, records_of, inc_now}
 use Rattle.run_safety.specs.Stays.{Stay, stays, stays_after, asks_join, is_refused}
-use Rattle.node_groups.specs.Places.{InNameOrder}
 use Rattle.node_groups.proofs.NameOrder.{KeepsName, cases_text, row_here, row_there, rows_ordered}
 use Rattle.hearing.proofs.Sessions.{fewer_told}
 use Rattle.honest_votes.proofs.At.{found, leads_row}

@@ -29,7 +29,7 @@ use Rattle.node_state.specs.declared.state.Core.{Core}
 use Rattle.world_model.specs.Run.{Happening}
 use Rattle.run_safety.specs.Past.{History, records_of}
 use Rattle.run_safety.specs.Stays.{Stay, stays, stays_after, with_base, with_entry, asks_join, client_of, joining_client}
-use Rattle.node_groups.specs.Places.{InNameOrder}
+use Rattle.node_state.specs.State.{InNameOrder}
 use Rattle.step_ties.specs.Tied.{Scene, NodeIsIf, Rests}
 use Rattle.step_ties.proofs.SessionLaws.{provider_same}
 use Rattle.honest_votes.proofs.At.{found, leads_row}

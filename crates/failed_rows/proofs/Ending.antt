@@ -31,14 +31,13 @@ use Rattle.node_state.specs.declared.group.Decision.{Decision}
 use Rattle.node_state.specs.declared.group.GroupRow.{GroupRow}
 use Rattle.node_state.specs.declared.packet.Body.TheVariants as body
 use Rattle.node_state.specs.declared.state.Core.{Core}
-use Rattle.node_state.specs.State.{row_of, with_row, with_led, led_of, list_of, state_of, frozen, led_groups, decisions_with}
+use Rattle.node_state.specs.State.{InNameOrder, row_of, with_row, with_led, led_of, list_of, state_of, frozen, led_groups, decisions_with}
 use Rattle.node_state.specs.Sending.{sent, sent_on}
 use Rattle.node_state.specs.HandOn.{Answering}
 use Rattle.node_state.specs.Leading.{with_waiting, begins}
 use Rattle.node_state.specs.Deciding.{decision_kept, refused, known_state, lacks_source, source_len, is_idle_empty, join_refusal, attrs_kept, join_waits, decided_join, has_other_source, is_no_member, full_refusal, collide_refusal, other_refusal, decided_other, decided, meant_attrs}
 use Rattle.node_state.specs.Ending.{Pass, quiet, begun_now, failures_begin, due_begins, source_begins, attrs_for, carried_len, source_refused, joins_begin, or_due, or_joins, may_begin, first_begins, group_begins, one_pass, passes, most_begun, step_ended}
 use Rattle.run_safety.specs.Past.{History}
-use Rattle.node_groups.specs.Places.{InNameOrder}
 use Rattle.node_groups.proofs.NameOrder.{row_here, rows_ordered}
 use Rattle.step_ties.proofs.LedGroups.{led_are_led}
 use Rattle.honest_votes.proofs.At.{found, leads_row, leads_is}

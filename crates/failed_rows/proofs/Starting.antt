@@ -22,7 +22,7 @@ use Rattle.node_state.specs.declared.packet.Packet.{Packet}
 use Rattle.session_state.specs.declared.state.Provider.{Provider}
 use Rattle.session_state.specs.State.{is_provider, provider_of}
 use Rattle.node_state.specs.declared.state.Core.{Core}
-use Rattle.node_state.specs.State.{with_sessions}
+use Rattle.node_state.specs.State.{InNameOrder, with_sessions}
 use Rattle.node_state.specs.Applying.{level_set}
 use Rattle.node_state.specs.Step.{started, first_view, first_members, own_rings, ring_record}
 use Rattle.world_model.specs.Run.{Happening}
@@ -31,7 +31,6 @@ use Rattle.run_safety.specs.Past.{History, records_of}
 use Rattle.run_safety.specs.Stays.{Stay, stays, asks_join}
 use Rattle.run_safety.specs.Group.{Noted}
 use Rattle.run_safety.specs.Group as group
-use Rattle.node_groups.specs.Places.{InNameOrder}
 use Rattle.step_ties.specs.Ghost.{asking}
 use Rattle.step_ties.specs.Tied.{Scene, NodeIsIf, Rests}
 use Rattle.step_ties.proofs.SessionLaws.{provider_same}

@@ -16,11 +16,10 @@ use Rattle.view_core.specs.Views.{views_entered}
 use Rattle.node_state.specs.declared.happened.Happened.{Happened}
 use Rattle.node_state.specs.declared.happened.Happened.TheVariants as happened
 use Rattle.node_state.specs.declared.state.Core.{Core}
-use Rattle.node_state.specs.State.{with_row, state_of, len_of, recorded, recorded_all, with_sessions}
+use Rattle.node_state.specs.State.{InNameOrder, with_row, state_of, len_of, recorded, recorded_all, with_sessions}
 use Rattle.node_state.specs.HandOn.{heard}
 use Rattle.node_state.specs.Leading.{put}
 use Rattle.node_state.specs.Applying.{level_set, base_record, view_entered}
-use Rattle.node_groups.specs.Places.{InNameOrder}
 use Rattle.step_ties.proofs.BaseOrder.{bases_ordered}
 use Rattle.hearing.specs.Changes.{Same, handing}
 use Rattle.hearing.proofs.Attending.{heard_at}

@@ -24,13 +24,12 @@ use Rattle.node_state.specs.declared.group.GroupRow.{GroupRow}
 use Rattle.node_state.specs.declared.happened.Happened.{Happened}
 use Rattle.node_state.specs.declared.happened.Happened.TheVariants as happened
 use Rattle.node_state.specs.declared.state.Core.{Core}
-use Rattle.node_state.specs.State.{row_of, with_row, list_of, state_of, len_of, recorded, recorded_all, with_sessions}
+use Rattle.node_state.specs.State.{InNameOrder, row_of, with_row, list_of, state_of, len_of, recorded, recorded_all, with_sessions}
 use Rattle.node_state.specs.HandOn.{heard}
 use Rattle.node_state.specs.Leading.{put}
 use Rattle.node_state.specs.Applying.{level_set, base_row, base_record, view_entered}
 use Rattle.run_safety.specs.Past.{History, Within, earlier, records_of}
 use Rattle.run_safety.specs.Stays.{stays}
-use Rattle.node_groups.specs.Places.{InNameOrder}
 use Rattle.node_groups.proofs.NameOrder.{row_here, row_there}
 use Rattle.step_ties.proofs.BaseOrder.{bases_ordered, base_noted}
 use Rattle.hearing.specs.Changes.{Same, handing}

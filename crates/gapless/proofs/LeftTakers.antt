@@ -17,7 +17,7 @@ use Rattle.run_safety.specs.Past.{earlier, records_of}
 use Rattle.step_ties.specs.Tied.{Scene}
 use Rattle.step_ties.specs.Rows.{ended, Arises}
 use Rattle.step_ties.specs.Runs.{Reached, Steps}
-use Rattle.node_groups.specs.Places.{InNameOrder}
+use Rattle.node_state.specs.State.{InNameOrder}
 use Rattle.hearing.proofs.Listening.{reverse_has}
 use Rattle.leaving.proofs.Events.{same_dissolved}
 use Rattle.seen_runs.specs.Seen.{Seen}

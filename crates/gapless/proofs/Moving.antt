@@ -27,7 +27,7 @@ use Rattle.node_state.specs.declared.packet.Body.TheVariants as body
 use Rattle.node_state.specs.declared.packet.Packet.{Packet}
 use Rattle.node_state.specs.declared.state.Core.{Core}
 use Rattle.node_state.specs.Settings.{is_fixed}
-use Rattle.node_state.specs.State.{row_of, list_of, state_of, len_of, held_rows, recorded_all}
+use Rattle.node_state.specs.State.{InNameOrder, row_of, list_of, state_of, len_of, held_rows, recorded_all}
 use Rattle.node_state.specs.Sending.{sent}
 use Rattle.node_state.specs.HandOn.{Answering}
 use Rattle.node_state.specs.Leading.{put_and_handed}
@@ -36,7 +36,6 @@ use Rattle.node_state.specs.Ticks.{ring_ask, rings_part, views_part, owed_part, 
 use Rattle.node_state.specs.Step.{NodeEvent, Ticks, Asks, Given, Calls, Garbage, order_row, view_row, body_row, packet_row, event_row, stepped, at_work}
 use Rattle.node_state.specs.Ending.{step_ended}
 use Rattle.run_safety.specs.ViewOrder.{is_before, Lt}
-use Rattle.node_groups.specs.Places.{InNameOrder}
 use Rattle.hearing.specs.Changes.{Same, Does, Stays, Then, entering}
 use Rattle.hearing.proofs.Changes.{Sends, sends_fold, sends_one, Onward, same_sends, put_handed_onward}
 use Rattle.hearing.proofs.Rows.{onward_fold, rings_onward}

@@ -19,7 +19,7 @@ use Rattle.node_state.specs.declared.group.GroupRow.{GroupRow}
 use Rattle.node_state.specs.declared.happened.Happened.{Happened}
 use Rattle.node_state.specs.declared.happened.Happened.TheVariants as happened
 use Rattle.node_state.specs.declared.state.Core.{Core}
-use Rattle.node_state.specs.State.{row_of, list_of, state_of, len_of}
+use Rattle.node_state.specs.State.{InNameOrder, row_of, list_of, state_of, len_of}
 use Rattle.node_state.specs.HandOn.{Answering}
 use Rattle.node_state.specs.Calls.{call_row}
 use Rattle.node_state.specs.Step.{NodeEvent, Ticks, Asks, Given, Calls, Garbage, at_work, stepped}
@@ -28,7 +28,6 @@ use Rattle.world_model.specs.declared.event.Event.{Event}
 use Rattle.world_model.specs.declared.event.Event.TheVariants as event
 use Rattle.run_safety.specs.Past.{History, Within, earlier, records_of, inc_now}
 use Rattle.run_safety.specs.Stays.{Stay, stays, part, takes_part, client_of, is_named, goodbye_of, is_refused, ends, lets_go, was_let_go}
-use Rattle.node_groups.specs.Places.{InNameOrder}
 use Rattle.step_ties.specs.Tied.{Scene, NodeIsIf, Rests, InTurn}
 use Rattle.step_ties.specs.Rows.{over, ended, Arises}
 use Rattle.step_ties.specs.Runs.{Reached}

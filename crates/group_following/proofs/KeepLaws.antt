@@ -8,7 +8,7 @@ use Rattle.node_state.specs.declared.state.Core.{Core}
 use Rattle.node_state.specs.State.{led_by, list_forgotten, forgets_below}
 use Rattle.node_state.specs.HandOn.{Answering}
 use Rattle.node_groups.specs.Keeps.{Stays, Keeps}
-use Rattle.node_groups.proofs.KeepLaws.{stays_itself, stays_then, stays_as, keeps_as, row_keeps}
+use Rattle.node_groups.proofs.KeepLaws.{stays_itself, stays_then, stays_as, keeps_as, row_keeps, forgotten_state}
 use Rattle.entry_handing.specs.Received.{Handing}
 use Rattle.entry_handing.specs.Doing.{Does}
 use Rattle.entry_handing.proofs.DoingLaws.{does_after, does_as}
@@ -21,11 +21,11 @@ use Rattle.request_deciding.proofs.DecidingLaws.{kept_does}
 
 pub leader_keeps : (s : Core) (g : List ℕ) (n : ℕ) → Keeps s (led_by s g n)
 unfolding led_by
-leader_keeps s g n = row_keeps s g (λ row. record row { leader = Some n }) (λ x. refl)
+leader_keeps s g n = row_keeps s g (λ row. record row { leader = Some n }) (λ x. refl) (λ x. refl)
 
 pub forgets_keep : (s : Core) (g : List ℕ) (n : ℕ) → Keeps s (forgets_below s g n)
 unfolding forgets_below
-forgets_keep s g n = row_keeps s g (λ row. record row { list = list_forgotten n row.list }) (λ x. refl)
+forgets_keep s g n = row_keeps s g (λ row. record row { list = list_forgotten n row.list }) (λ x. refl) (λ x. forgotten_state n x.list)
 
 pub fold_stays : {A : Type 0} (f : Core → A → Core) → ((s : Core) (a : A) → Stays s (f s a)) → (s : Core) (xs : List A) → Stays s (fold f s xs)
 fold_stays f stays s [] = stays_itself s

@@ -13,6 +13,7 @@ use Rattle.node_state.specs.Sending.{sent, request_sent}
 use Rattle.node_state.specs.Following.{tell_row, requests_of, named, is_name_used, name_row}
 use Rattle.node_groups.specs.Keeps.{Stays, Keeps}
 use Rattle.session_state.proofs.OwnerLaws.{owners_themselves}
+use Rattle.node_state.proofs.AlongLaws.{along_same}
 use Rattle.node_groups.proofs.KeepLaws.{keeps_then, keeps_as, sent_keeps}
 use Rattle.group_following.proofs.KeepLaws.{fold_stays}
 use Rattle.group_following.proofs.TellLaws.{tell_stays}
@@ -32,7 +33,7 @@ full_stays g asker table h = stays_at g asker table _ _ h
 pub looked_keeps : (s t : Core) (table : List Leader) (to : ℕ) (b : Body) → t ≡ sent (record s { names = table }) to b → Keeps s t
 looked_keeps s t table to b e =
     let u : Core = record s { names = table } in
-    let kept : Keeps s u = record { records = omega arith; sessions = (refl, refl); order = λ o. o; handed = refl; owners = owners_themselves s.sessions } in
+    let kept : Keeps s u = record { records = omega arith; sessions = (refl, refl); order = λ o. o; handed = refl; owners = owners_themselves s.sessions; along = along_same s u refl refl } in
     keeps_as s (sent u to b) t e (keeps_then s u (sent u to b) kept (sent_keeps u to b))
 
 -- ---- NAME

@@ -5,9 +5,8 @@ ghost use Rattle.proposal_core.specs.Fold.{joiners_in, present};
 ghost use Rattle.entry_handing.specs.Received.{Receive};
 ghost use Rattle.entry_handing.specs.Doing.{Does};
 ghost use Rattle.node_groups.specs.Keeps.{Keeps};
-ghost use Rattle.node_groups.specs.Places.{InNameOrder};
 ghost use Rattle.group_leading.specs.Working.{AtWork};
-ghost use Rattle.node_state.specs.State.{led_of, state_of};
+ghost use Rattle.node_state.specs.State.{InNameOrder, led_of, state_of};
 ghost use Rattle.node_state.specs.HandOn.{Answering};
 ghost use Rattle.node_state.specs.Following.{tally_failed, gone_waits, gone_of, gone_present, gone_row};
 

@@ -13,10 +13,9 @@ use Rattle.session_state.specs.declared.casts.Cast.{Cast}
 use Rattle.node_state.specs.declared.group.GroupRow.{GroupRow}
 use Rattle.node_state.specs.declared.packet.Body.{Body}
 use Rattle.node_state.specs.declared.state.Core.{Core}
-use Rattle.node_state.specs.State.{frozen, recorded_all, with_sessions}
+use Rattle.node_state.specs.State.{InNameOrder, frozen, recorded_all, with_sessions}
 use Rattle.node_state.specs.Sending.{sent_on, sent, sent_if_known}
 use Rattle.node_state.specs.HandOn.{Answering, notes, noted, ballot_sent, cast_sent_of, casts_sent, handed_on}
-use Rattle.node_groups.specs.Places.{InNameOrder}
 use Rattle.entry_handing.specs.Received.{Handing}
 use Rattle.entry_handing.specs.Doing.{Does}
 use Rattle.group_leading.proofs.AnswerLaws.{does_some}

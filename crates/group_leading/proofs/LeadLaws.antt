@@ -14,6 +14,7 @@ use Rattle.node_state.specs.State.{led_of, state_of, len_of, leader_of, others, 
 use Rattle.node_state.specs.Sending.{sent_on, sent, sent_all}
 use Rattle.node_state.specs.HandOn.{handed_on}
 use Rattle.node_state.specs.Leading.{put, put_and_handed, forgets_least, with_waiting, waits_if, new_members_wait, appended, appended_if}
+use Rattle.node_state.proofs.AlongLaws.{state_as}
 use Rattle.node_groups.specs.Keeps.{Keeps}
 use Rattle.node_groups.proofs.KeepLaws.{keeps_itself, keeps_then, keeps_as, led_keeps, sent_keeps}
 use Rattle.entry_handing.specs.Received.{Handing}
@@ -82,6 +83,16 @@ unfolding put_and_handed
 put_and_handed_does scripts P s t u to g e i before putting keeps at old handing =
     does_as scripts P s u (λ f. handed_on f t to g i before (state_of t g) e) (λ f. put_and_handed f s to g e) (λ f. rw (putting, at, old) refl)
     (does_after scripts P s t u (λ f. handed_on f t to g i before (state_of t g) e) (keeps_follows s t keeps) handing)
+
+each_sent_groups : (s : Core) (ns : List ℕ) (b : Body) → (fold (λ t n. sent t n b) s ns).groups ≡ s.groups
+unfolding sent sent_on
+each_sent_groups s [] b = refl
+each_sent_groups s (n ∷ ns) b = each_sent_groups (sent s n b) ns b
+
+-- what is sent leaves the states of groups
+pub sent_state : (s t : Core) (ns : List ℕ) (b : Body) (g : List ℕ) → t ≡ sent_all s ns b → state_of t g ≡ state_of s g
+unfolding sent_all
+sent_state s t ns b g sending = state_as s t g (ap (λ (x : Core). x.groups) sending ∙ each_sent_groups s ns b)
 
 pub sent_keeps_as : (s t : Core) (ns : List ℕ) (b : Body) → t ≡ sent_all s ns b → Keeps s t
 sent_keeps_as s t ns b sending = keeps_as s (sent_all s ns b) t sending (sent_all_keeps s ns b)

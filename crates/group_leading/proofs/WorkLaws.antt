@@ -8,7 +8,7 @@ use Rattle.entry_handing.proofs.DoingLaws.{ready_same}
 use Rattle.group_leading.specs.Working.{AtWork}
 
 pub keeps_follows : (s t : Core) → Keeps s t → Follows s t
-keeps_follows s t k = record { grows = k.records; lives = k.sessions.0; handed = k.handed; owners = k.owners }
+keeps_follows s t k = record { grows = k.records; lives = k.sessions.0; handed = k.handed; owners = k.owners; along = k.along }
 
 -- with other clients, but as many of them
 pub ready_kept : {C : Type 0} (s t : Core) (cs ds : List C) → Keeps s t → length ds ≡ length cs → Ready s cs → Ready t ds

@@ -70,6 +70,7 @@ fn hand<C: Callbacks>(
 ) -> Result<(), NoMemory>
     requires work { AtWork core.old clients.old.items }
     requires joiners { IsTrue (joiners_fit after.now) }
+    requires state { after.now ≡ state_of core.old g.now }
     ensures work { OnOk result (AtWork core.new clients.new.items) }
     ensures scripts { OnOk result (map C.script clients.new.items ≡ map C.script clients.old.items) }
     ensures does { OnOk result (Does (map C.script clients.old.items) (Receive C.stands_for clients.old.items clients.new.items) core.old core.new (λ f. handed_on f core.old to g.now place before.now after.now e.now)) }
@@ -140,6 +141,7 @@ fn send_and_hand<C: Callbacks>(
 ) -> Result<(), NoMemory>
     requires work { AtWork core.old clients.old.items }
     requires joiners { IsTrue (joiners_fit after.now) }
+    requires state { after.now ≡ state_of core.old g.now }
     ensures work { OnOk result (AtWork core.new clients.new.items) }
     ensures scripts { OnOk result (map C.script clients.new.items ≡ map C.script clients.old.items) }
     ensures does { OnOk result (Does (map C.script clients.old.items) (Receive C.stands_for clients.old.items clients.new.items) core.old core.new (λ f. sent_and_handed f core.old g.now place before.now after.now e.now)) }

@@ -22,11 +22,10 @@ use Rattle.node_state.specs.declared.happened.Happened.{Happened}
 use Rattle.node_state.specs.declared.happened.Happened.TheVariants as happened
 use Rattle.node_state.specs.declared.packet.Body.{Body}
 use Rattle.node_state.specs.declared.state.Core.{Core}
-use Rattle.node_state.specs.State.{row_of, with_row, with_led, list_of, state_of, len_of, frozen, recorded, recorded_all, with_sessions}
+use Rattle.node_state.specs.State.{InNameOrder, row_of, with_row, with_led, list_of, state_of, len_of, frozen, recorded, recorded_all, with_sessions}
 use Rattle.node_state.specs.Sending.{sent_on, sent, sent_all, sent_if_known}
 use Rattle.node_state.specs.HandOn.{Answering, fills, cast_record, cast_records, heard, note_of, notes, noted, ballot_sent, cast_sent_of, casts_sent, handed_on}
 use Rattle.node_state.specs.Leading.{put, put_and_handed}
-use Rattle.node_groups.specs.Places.{InNameOrder}
 use Rattle.hearing.specs.Changes.{Same, Aside, Inner, Unentered, handing, Does, Stays, Then, Records, Hands}
 use Rattle.node_groups.proofs.NameOrder.{KeepsName, cases_text, row_here, row_there, rows_ordered}
 

@@ -27,14 +27,13 @@ use Rattle.vote_phases.specs.Tally.{TallyView}
 use Rattle.node_state.specs.declared.group.GroupRow.{GroupRow}
 use Rattle.node_state.specs.declared.packet.Body.TheVariants as body
 use Rattle.node_state.specs.declared.state.Core.{Core}
-use Rattle.node_state.specs.State.{row_of, with_led, led_of, state_of, len_of, list_forgotten, forgets_below, frozen, led_groups, leader_of, others, least_acked, fits_at_end, decisions_with}
+use Rattle.node_state.specs.State.{InNameOrder, row_of, with_led, led_of, state_of, len_of, list_forgotten, forgets_below, frozen, led_groups, leader_of, others, least_acked, fits_at_end, decisions_with}
 use Rattle.node_state.specs.Sending.{sent_all}
 use Rattle.node_state.specs.HandOn.{Answering, handed_on}
 use Rattle.node_state.specs.Leading.{put, forgets_least, with_waiting, waits_if, new_members_wait, appended, appended_if, begun_many, begins, tally_set, tally_for, tally_opened, closing_entry, is_phase, closes_from, closes}
 use Rattle.proposal_core.specs.Fold.{max_phases}
 use Rattle.node_state.specs.Deciding.{decision_kept, refused, known_state, lacks_source, source_len}
 use Rattle.node_state.specs.Ending.{Pass, quiet, begun_now, failures_begin, due_begins, source_begins, attrs_for, carried_len, source_refused, joins_begin, or_due, or_joins, may_begin, first_begins, group_begins, one_pass, passes, most_begun, step_ended}
-use Rattle.node_groups.specs.Places.{InNameOrder}
 use Rattle.hearing.proofs.Changes.{Sends, Onward, onward_same, onward_then, onward_sends, onward_row, onward_led, sends_one, sends_all, same_sends, put_order, put_views, handed_onward}
 
 -- ---- appending

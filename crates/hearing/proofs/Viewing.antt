@@ -40,7 +40,7 @@ use Rattle.node_state.specs.declared.packet.Body.TheVariants as body
 use Rattle.node_state.specs.declared.packet.Packet.{Packet}
 use Rattle.node_state.specs.declared.state.Core.{Core}
 use Rattle.node_state.specs.Settings.{is_fixed}
-use Rattle.node_state.specs.State.{state_of, len_of, list_of, row_of, held_rows, led_groups, recorded, recorded_all, with_sessions}
+use Rattle.node_state.specs.State.{InNameOrder, state_of, len_of, list_of, row_of, held_rows, led_groups, recorded, recorded_all, with_sessions}
 use Rattle.node_state.specs.Sending.{sent, requests_sent, votes_sent_again}
 use Rattle.node_state.specs.HandOn.{Answering, note_of, subscriber_name}
 use Rattle.node_state.specs.Leading.{put_and_handed, with_waiting, tally_opened, closes}
@@ -51,7 +51,6 @@ use Rattle.node_state.specs.Status.{status_text}
 use Rattle.node_state.specs.Calls.{call_row}
 use Rattle.node_state.specs.Step.{NodeEvent, Ticks, Asks, Given, Calls, Garbage, is_used, used_if, order_row, view_row, body_row, packet_row, event_row, stepped, at_work}
 use Rattle.run_safety.specs.ViewOrder.{is_before, Lt}
-use Rattle.node_groups.specs.Places.{InNameOrder}
 use Rattle.step_ties.proofs.BaseOrder.{bases_ordered}
 use Rattle.hearing.specs.Changes.{Same, Does, Stays, Then, Enters, Inner, entering, Unentered}
 use Rattle.hearing.proofs.Changes.{Sends, sends_nothing, sends_fold, sends_on, sends_one, Keeps, Onward, onward_same, onward_then, onward_sends, onward_records, put_handed_onward}

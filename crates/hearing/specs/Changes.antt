@@ -21,13 +21,12 @@ use Rattle.view_exchange.specs.Bases.{bases_of}
 use Rattle.node_state.specs.declared.happened.Happened.{Happened}
 use Rattle.node_state.specs.declared.happened.Happened.TheVariants as happened
 use Rattle.node_state.specs.declared.state.Core.{Core}
-use Rattle.node_state.specs.State.{state_of, len_of, held_rows, recorded, recorded_all, with_sessions}
+use Rattle.node_state.specs.State.{InNameOrder, state_of, len_of, held_rows, recorded, recorded_all, with_sessions}
 use Rattle.node_state.specs.HandOn.{Answering, heard}
 use Rattle.node_state.specs.Leading.{put}
 use Rattle.node_state.specs.Applying.{view_entered, sides_dissolved}
 use Rattle.node_state.specs.Step.{NodeEvent, at_work, stepped}
 use Rattle.run_safety.specs.ViewOrder.{Lt}
-use Rattle.node_groups.specs.Places.{InNameOrder}
 use Rattle.step_ties.specs.Tied.{Scene}
 use Rattle.step_ties.specs.Runs.{Reached}
 use Rattle.node_state.specs.declared.config.Config.{Config}

@@ -15,13 +15,12 @@ use Rattle.node_state.specs.declared.happened.Happened.{Happened}
 use Rattle.node_state.specs.declared.happened.Happened.TheVariants as happened
 use Rattle.node_state.specs.declared.packet.Packet.{Packet}
 use Rattle.node_state.specs.declared.state.Core.{Core}
-use Rattle.node_state.specs.State.{row_of, led_of, list_of, state_of, with_sessions}
+use Rattle.node_state.specs.State.{InNameOrder, row_of, led_of, list_of, state_of, with_sessions}
 use Rattle.node_state.specs.HandOn.{Answering}
 use Rattle.node_state.specs.Applying.{level_set}
 use Rattle.node_state.specs.Step.{NodeEvent, at_work, started, stepped, first_view, first_members, own_rings, ring_record}
 use Rattle.world_model.specs.declared.event.Event.{Event}
 use Rattle.run_safety.specs.Past.{History, records_of, Within}
-use Rattle.node_groups.specs.Places.{InNameOrder}
 use Rattle.step_ties.specs.Tied.{Scene, Rests}
 use Rattle.step_ties.specs.Rows.{ended, start_with, stopped, nothing_yet, with_records, starts_too, Arises}
 use Rattle.step_ties.specs.Runs.{IsNote, noted, Reached, Nothing, AllStart, Starts, Stops, Steps, Notes}

@@ -36,16 +36,16 @@ use Rattle.node_state.specs.declared.happened.Happened.TheVariants as happened
 use Rattle.node_state.specs.declared.packet.Body.TheVariants as body
 use Rattle.node_state.specs.declared.state.Core.{Core}
 use Rattle.node_state.specs.Settings.{view_level}
-use Rattle.node_state.specs.State.{row_found, row_of, list_of, state_of, len_of, held_rows, recorded, recorded_all, with_sessions, with_row}
+use Rattle.node_state.specs.State.{AllAfter, InNameOrder, row_found, row_of, list_of, state_of, len_of, held_rows, recorded, recorded_all, with_sessions, with_row}
 use Rattle.node_state.specs.Sending.{sent, requests_sent}
 use Rattle.node_state.specs.HandOn.{Answering, subscriber_name, note_of}
 use Rattle.node_state.specs.Leading.{put, put_and_handed, with_waiting, tally_opened}
 use Rattle.node_state.specs.Applying.{Lacking, lacking, lists_filled, level_set, base_row, base_record, view_entered, is_in_base, number_of, dissolved, dissolved_if, group_dissolved, sides_dissolved, base_note, entering_note, entering_noted, taken_sent, owed_sent, failed_wait, phase_reopened, group_led, groups_led, entered, entered_if, install_applied, views_taken}
 use Rattle.run_safety.specs.Past.{History, records_of, Within}
-use Rattle.run_safety.specs.Stays.{Stay, stays_after, stays}
+use Rattle.run_safety.specs.Stays.{Stay, stays}
 use Rattle.run_safety.specs.Stays as stay
 use Rattle.run_safety.specs.SafeHeard.{enters}
-use Rattle.node_groups.specs.Places.{AllAfter, InNameOrder, has_name}
+use Rattle.node_groups.specs.Places.{has_name}
 use Rattle.node_groups.proofs.NameOrder.{text_same, text_other, none_after, row_here, row_there, cases_text, text_self}
 use Rattle.step_ties.proofs.Appending.{handed_rows}
 use Rattle.step_ties.proofs.BaseOrder.{bases_ordered, row_of_base, base_noted}

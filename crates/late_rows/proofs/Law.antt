@@ -18,7 +18,7 @@ use Rattle.node_state.specs.declared.happened.Happened.{Happened}
 use Rattle.node_state.specs.declared.happened.Happened.TheVariants as happened
 use Rattle.node_state.specs.declared.state.Core.{Core}
 use Rattle.node_state.specs.Settings.{view_level}
-use Rattle.node_state.specs.State.{with_sessions}
+use Rattle.node_state.specs.State.{InNameOrder, with_sessions}
 use Rattle.node_state.specs.HandOn.{Answering}
 use Rattle.node_state.specs.Applying.{level_set}
 use Rattle.node_state.specs.Step.{NodeEvent, Ticks, Asks, Given, Calls, Garbage, at_work, started, stepped, first_view, first_members, own_rings, ring_record}
@@ -27,7 +27,6 @@ use Rattle.run_safety.specs.Past.{History, records_of, Within}
 use Rattle.run_safety.specs.Stays.{Stay, stays_after, stays}
 use Rattle.run_safety.specs.Stays as stay
 use Rattle.run_safety.specs.SafeHeard.{enters}
-use Rattle.node_groups.specs.Places.{InNameOrder}
 use Rattle.step_ties.specs.Tied.{Scene, Rests}
 use Rattle.step_ties.specs.Rows.{ended, start_with, stopped, nothing_yet, with_records, starts_too, Arises}
 use Rattle.step_ties.specs.Runs.{IsNote, noted, Reached, Nothing, AllStart, Starts, Stops, Steps, Notes}

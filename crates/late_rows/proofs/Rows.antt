@@ -14,11 +14,10 @@ use Rattle.node_state.specs.declared.group.GroupRow.{GroupRow}
 use Rattle.node_state.specs.declared.packet.Body.{Body}
 use Rattle.node_state.specs.declared.packet.Body.TheVariants as body
 use Rattle.node_state.specs.declared.state.Core.{Core}
-use Rattle.node_state.specs.State.{row_of, with_row, with_led, led_of, state_of, len_of, list_forgotten, forgets_below, leader_of, others, least_acked, recorded}
+use Rattle.node_state.specs.State.{InNameOrder, row_of, with_row, with_led, led_of, state_of, len_of, list_forgotten, forgets_below, leader_of, others, least_acked, recorded}
 use Rattle.node_state.specs.Sending.{sent_all}
 use Rattle.node_state.specs.HandOn.{Answering, handed_on}
 use Rattle.node_state.specs.Leading.{put, forgets_least, with_waiting, waits_if, new_members_wait, appended}
-use Rattle.node_groups.specs.Places.{InNameOrder}
 use Rattle.node_groups.proofs.NameOrder.{KeepsName, row_here, rows_ordered}
 use Rattle.step_ties.proofs.Appending.{sent_all_is, handed_rows}
 use Rattle.late_rows.proofs.At.{found_in, found}

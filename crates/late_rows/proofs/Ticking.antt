@@ -34,12 +34,11 @@ use Rattle.node_state.specs.declared.happened.Happened.TheVariants as happened
 use Rattle.node_state.specs.declared.packet.Body.TheVariants as body
 use Rattle.node_state.specs.declared.state.Core.{Core}
 use Rattle.node_state.specs.Settings.{is_rings}
-use Rattle.node_state.specs.State.{row_of, led_of, list_of, state_of, len_of, held_rows, fits_at_end, frozen, leader_of, leads_in, led_groups, others, acked_by, least_acked, with_row, with_led}
+use Rattle.node_state.specs.State.{AllAfter, InNameOrder, row_of, led_of, list_of, state_of, len_of, held_rows, fits_at_end, frozen, leader_of, leads_in, led_groups, others, acked_by, least_acked, with_row, with_led}
 use Rattle.node_state.specs.Sending.{sent, sent_on, sent_if_known, requests_sent, votes_sent_again}
 use Rattle.node_state.specs.HandOn.{Answering}
 use Rattle.node_state.specs.Leading.{appended, appended_if, with_tally, closing_entry, closes}
 use Rattle.node_state.specs.Ticks.{ring_put, set_records, ring_taken, ring_row_of, ring_row, report_row, rings_union, report_of, report_sent, rings_tick, rings_part, is_lost, lost_told, owed_part, late_appended, announced, ticked_in, tally_ticks, entries_sent, list_sent_again, sent_again, group_ticks, led_part}
-use Rattle.node_groups.specs.Places.{AllAfter, InNameOrder}
 use Rattle.run_safety.specs.Past.{records_of}
 use Rattle.run_safety.specs.Stays.{stays}
 use Rattle.run_safety.specs.Stays as stay

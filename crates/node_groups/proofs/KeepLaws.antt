@@ -1,20 +1,29 @@
 -- What the changes of a node's groups keep.
-use Rattle.std.proofs.Common.{◌≡◌, ℕ, false, List, [], ◌∷◌, ◌++◌, refl, sym, ap, subst, ◌∙◌, arith, length-append, append-nil}
+use Rattle.std.proofs.Common.{◌≡◌, ◌⊎◌, inl, inr, ℕ, ◌-◌, Bool, true, false, List, [], ◌∷◌, ◌++◌, Option, Some, None, max, refl, sym, ap, subst, ◌∙◌, arith, length-append, append-nil}
+use Rattle.std.specs.Prelude.{drop, nat_le, if◌then◌else◌}
+use Rattle.std.specs.Str.{bytes_eq}
 use Rattle.std.proofs.lemmas.List.Elements.{filter-append}
+use Rattle.group_entry.specs.declared.entry.Entry.{Entry}
+use Rattle.proposal_core.specs.Fold.{after}
+use Rattle.proposal_core.specs.GroupView.{GroupView}
+use Rattle.proposal_core.specs.Lists.{list_or_new, state_in, with_entry, forgotten}
 use Rattle.session_state.proofs.OwnerLaws.{owners_themselves, owners_then}
 use Rattle.node_state.specs.declared.group.GroupRow.{GroupRow}
 use Rattle.node_state.specs.declared.group.Led.{Led}
 use Rattle.node_state.specs.declared.happened.Happened.{Happened}
+use Rattle.node_state.specs.declared.happened.Happened.TheVariants as happened
 use Rattle.node_state.specs.declared.packet.Body.{Body}
 use Rattle.node_state.specs.declared.state.Core.{Core}
-use Rattle.node_state.specs.State.{rows_with, with_row, with_led, recorded, recorded_all}
+use Rattle.node_state.specs.State.{InNameOrder, row_of, rows_with, with_row, with_led, list_of, state_of, len_of, list_forgotten, recorded, recorded_all}
 use Rattle.node_state.specs.Sending.{sent_on, sent}
-use Rattle.node_state.specs.Handed.{is_handed, handed_in}
+use Rattle.node_state.specs.Leading.{put}
+use Rattle.node_state.specs.Handed.{is_handed, handed_in, state_along}
+use Rattle.node_state.proofs.AlongLaws.{LeavesStates, state_as, along_records, along_same, along_itself, along_then}
 use Rattle.node_groups.specs.Keeps.{Stays, Keeps}
-use Rattle.node_groups.proofs.NameOrder.{KeepsName, order_with}
+use Rattle.node_groups.proofs.NameOrder.{text_self, text_other, cases_text, KeepsName, order_with, row_here, row_there}
 
 pub keeps_itself : (s : Core) → Keeps s s
-keeps_itself s = record { records = omega arith; sessions = (refl, refl); order = λ o. o; handed = refl; owners = owners_themselves s.sessions }
+keeps_itself s = record { records = omega arith; sessions = (refl, refl); order = λ o. o; handed = refl; owners = owners_themselves s.sessions; along = along_itself s }
 
 pub keeps_then : (s t u : Core) → Keeps s t → Keeps t u → Keeps s u
 keeps_then s t u a b =
@@ -24,6 +33,7 @@ keeps_then s t u a b =
       order = λ o. b.order (a.order o);
       handed = b.handed ∙ a.handed;
       owners = owners_then s.sessions t.sessions u.sessions a.owners b.owners;
+      along = along_then s t u a.along b.along;
     }
 
 pub keeps_stays : (s t : Core) → Keeps s t → Stays s t
@@ -43,34 +53,100 @@ stays_as s t u e k = subst (λ (x : Core). Stays s x) (sym e) k
 pub keeps_as : (s t u : Core) → u ≡ t → Keeps s t → Keeps s u
 keeps_as s t u e k = subst (λ (x : Core). Keeps s x) (sym e) k
 
--- the rows with one changed that keeps its name
-pub keeps_rows : (s : Core) (rows : List GroupRow) (g : List ℕ) (f : GroupRow → GroupRow) → rows ≡ rows_with g f s.groups → KeepsName f → Keeps s (record s { groups = rows })
-keeps_rows s rows g f e keeps =
-    record { records = omega arith; sessions = (refl, refl); order = λ o. rw e (order_with g f keeps s.groups o); handed = refl; owners = owners_themselves s.sessions }
+-- what keeps the state of a row's list
+abbrev pub KeepsState : (GroupRow → GroupRow) → Type 0
+KeepsState f = (x : GroupRow) → state_in (f x).list ≡ state_in x.list
 
-pub row_keeps : (s : Core) (g : List ℕ) (f : GroupRow → GroupRow) → KeepsName f → Keeps s (with_row s g f)
+state_with : (s : Core) (g : List ℕ) (f : GroupRow → GroupRow) → KeepsName f → KeepsState f → InNameOrder s.groups → (h : List ℕ) → state_of (with_row s g f) h ≡ state_of s h
+unfolding state_of list_of
+state_with s g f keeps states o h = by (cases_text g h)
+  where
+    by : (g ≡ h) ⊎ (g ≡ h → ⊥) → state_in (row_of (with_row s g f) h).list ≡ state_in (row_of s h).list
+    by (inl e) =
+        subst (λ z. state_in (row_of (with_row s g f) z).list ≡ state_in (row_of s z).list) e
+        (ap (λ (row : GroupRow). state_in row.list) (row_here g f keeps s o) ∙ states (row_of s g))
+    by (inr ne) = ap (λ (row : GroupRow). state_in row.list) (row_there g f keeps s h ne)
+
+pub row_keeps : (s : Core) (g : List ℕ) (f : GroupRow → GroupRow) → KeepsName f → KeepsState f → Keeps s (with_row s g f)
 unfolding with_row
-row_keeps s g f keeps = keeps_rows s (rows_with g f s.groups) g f refl keeps
+row_keeps s g f keeps states =
+    record {
+      records = omega arith;
+      sessions = (refl, refl);
+      order = λ o. order_with g f keeps s.groups o;
+      handed = refl;
+      owners = owners_themselves s.sessions;
+      along = record { records = []; more = sym (append-nil s.records); order = λ o. order_with g f keeps s.groups o; states = λ o h. state_with s g f keeps states o h };
+    }
+
+-- the rows with one changed that keeps its name and its state
+pub keeps_rows : (s : Core) (rows : List GroupRow) (g : List ℕ) (f : GroupRow → GroupRow) → rows ≡ rows_with g f s.groups → KeepsName f → KeepsState f → Keeps s (record s { groups = rows })
+unfolding with_row
+keeps_rows s rows g f e keeps states = subst (λ (xs : List GroupRow). Keeps s (record s { groups = xs })) (sym e) (row_keeps s g f keeps states)
+
+forgotten_head : (b : Bool) (l : GroupView) (start : ℕ) (entries : List Entry) → let m : GroupView = if b then record l { start = start; entries = entries } else l in m.state ≡ l.state
+forgotten_head true l start entries = refl
+forgotten_head false l start entries = refl
+
+-- what is forgotten leaves the state
+pub forgotten_state : (n : ℕ) (list : Option GroupView) → state_in (list_forgotten n list) ≡ state_in list
+unfolding forgotten
+forgotten_state n None = refl
+forgotten_state n (Some l) = forgotten_head (nat_le n l.len) l (max l.start n) (drop (n - l.start) l.entries)
+
+put_state : (s : Core) (g : List ℕ) (e : Entry) → InNameOrder s.groups → (h : List ℕ) → state_of (put s g e) h ≡ state_along h (happened.Put s.views.me s.views.view g (len_of s g) e ∷ []) (state_of s h)
+unfolding put recorded recorded_all state_of len_of list_of with_entry
+put_state s g e o h = state_as (with_row s g f) (put s g e) h refl ∙ by (cases_text g h)
+  where
+    f : GroupRow → GroupRow
+    f row = record row { list = Some (with_entry (list_or_new row.list) s.views.view e) }
+
+    by : (g ≡ h) ⊎ (g ≡ h → ⊥) → state_of (with_row s g f) h ≡ (if bytes_eq g h then after (state_of s h) s.views.view (len_of s g) e else state_of s h)
+    by (inl q) =
+        subst (λ z. state_of (with_row s g f) z ≡ (if bytes_eq g z then after (state_of s z) s.views.view (len_of s g) e else state_of s z)) q
+        (ap (λ (row : GroupRow). state_in row.list) (row_here g f (λ x. refl) s o) ∙ rw (text_self g) refl)
+    by (inr ne) = ap (λ (row : GroupRow). state_in row.list) (row_there g f (λ x. refl) s h ne) ∙ rw (text_other g h ne) refl
+
+-- an entry that is put is recorded
+pub put_keeps : (s : Core) (g : List ℕ) (e : Entry) → Keeps s (put s g e)
+unfolding put recorded recorded_all with_row
+put_keeps s g e =
+    let r : Happened = happened.Put s.views.me s.views.view g (len_of s g) e in
+    let order : InNameOrder s.groups → InNameOrder (put s g e).groups = λ o. order_with g _ (λ x. refl) s.groups o in
+    record {
+      records = omega (arith, length-append s.records (r ∷ []));
+      sessions = (refl, refl);
+      order = order;
+      handed = filter-append is_handed s.records (r ∷ []) ∙ append-nil (handed_in s.records);
+      owners = owners_themselves s.sessions;
+      along = record { records = r ∷ []; more = refl; order = order; states = λ o h. put_state s g e o h };
+    }
+
+-- in two steps
+pub put_made : (s t u : Core) (g : List ℕ) (e : Entry) (n : ℕ) → n ≡ len_of s g → t ≡ with_row s g (λ row. record row { list = Some (with_entry (list_or_new row.list) s.views.view e) }) → u ≡ recorded t (happened.Put t.views.me t.views.view g n e) → Keeps s u
+unfolding put with_row
+put_made s t u g e n at entry recording = keeps_as s (put s g e) u (recording ∙ rw (at, entry) refl) (put_keeps s g e)
 
 pub led_keeps : (s : Core) (g : List ℕ) (change : Led → Led) → Keeps s (with_led s g change)
 unfolding with_led
-led_keeps s g change = row_keeps s g (λ row. record row { led = change row.led }) (λ x. refl)
+led_keeps s g change = row_keeps s g (λ row. record row { led = change row.led }) (λ x. refl) (λ x. refl)
 
--- records of what is handed to no client
-pub records_keep : (s : Core) (rs : List Happened) → handed_in rs ≡ [] → Keeps s (recorded_all s rs)
+-- records of what is handed to no client, and of no list
+pub records_keep : (s : Core) (rs : List Happened) → handed_in rs ≡ [] → LeavesStates rs → Keeps s (recorded_all s rs)
 unfolding recorded_all
-records_keep s rs none =
+records_keep s rs none leaves =
     record {
       records = omega (arith, length-append s.records rs);
       sessions = (refl, refl);
       order = λ o. o;
       handed = filter-append is_handed s.records rs ∙ (ap (λ (xs : List Happened). handed_in s.records ++ xs) none ∙ append-nil (handed_in s.records));
       owners = owners_themselves s.sessions;
+      along = along_records s (recorded_all s rs) rs refl refl leaves;
     }
 
-pub record_keeps : (s : Core) (r : Happened) → is_handed r ≡ false → Keeps s (recorded s r)
+pub record_keeps : (s : Core) (r : Happened) → is_handed r ≡ false → LeavesStates (r ∷ []) → Keeps s (recorded s r)
 unfolding recorded recorded_all
-record_keeps s r not_handed = records_keep s (r ∷ []) (rw not_handed refl)
+record_keeps s r not_handed leaves = records_keep s (r ∷ []) (rw not_handed refl) leaves
 
 pub record_stays : (s : Core) (r : Happened) → Stays s (recorded s r)
 unfolding recorded
@@ -78,7 +154,8 @@ record_stays s r = record { records = omega (arith, length-append s.records (r �
 
 pub sent_keeps : (s : Core) (to : ℕ) (b : Body) → Keeps s (sent s to b)
 unfolding sent sent_on
-sent_keeps s to b = record { records = omega arith; sessions = (refl, refl); order = λ o. o; handed = refl; owners = owners_themselves s.sessions }
+sent_keeps s to b =
+    record { records = omega arith; sessions = (refl, refl); order = λ o. o; handed = refl; owners = owners_themselves s.sessions; along = along_same s (sent s to b) refl refl }
 
 -- the views stay
 pub row_views : (s : Core) (g : List ℕ) (f : GroupRow → GroupRow) → (with_row s g f).views ≡ s.views

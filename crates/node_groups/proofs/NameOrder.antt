@@ -11,8 +11,8 @@ use Rattle.std.proofs.lemmas.Slice.Eq.{bytes_eq-Decides}
 use Rattle.rsct_packet.specs.Text.{name_lt}
 use Rattle.node_state.specs.declared.group.GroupRow.{GroupRow}
 use Rattle.node_state.specs.declared.state.Core.{Core}
-use Rattle.node_state.specs.State.{new_row, row_found, row_of, rows_with, with_row}
-use Rattle.node_groups.specs.Places.{has_name, AllAfter, InNameOrder}
+use Rattle.node_state.specs.State.{AllAfter, InNameOrder, new_row, row_found, row_of, rows_with, with_row}
+use Rattle.node_groups.specs.Places.{has_name}
 
 pub text_same : (a b : List ℕ) → bytes_eq a b ≡ true → a ≡ b
 text_same a b h = (bytes_eq-Decides a b).0 h

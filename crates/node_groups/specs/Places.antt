@@ -1,5 +1,5 @@
 -- Where the row of a group stands among rows in name order.
-use Rattle.std.specs.Prelude.{◌≡◌, ℕ, Bool, true, false, ◌==◌, ◌||◌, List, [], ◌∷◌, map, filter, Option, Some, None}
+use Rattle.std.specs.Prelude.{ℕ, Bool, false, ◌==◌, ◌||◌, List, map, filter, Option, Some, None}
 use Rattle.std.specs.Str.{bytes_eq}
 use Rattle.rsct_packet.specs.declared.ids.ProviderId.{ProviderId}
 use Rattle.rsct_packet.specs.Providers.{same_provider}
@@ -26,15 +26,6 @@ is_row_of g (Some row) = bytes_eq row.name g
 -- with an empty row where the group has none
 unfoldable pub row_opened : List ℕ → List GroupRow → List GroupRow
 row_opened g rows = rows_with g (λ row. row) rows
-
--- each row comes after the name
-abbrev pub AllAfter : List ℕ → List GroupRow → Type 0
-AllAfter g [] = Unit {0}
-AllAfter g (row ∷ rows) = (name_lt g row.name ≡ true) × AllAfter g rows
-
-abbrev pub InNameOrder : List GroupRow → Type 0
-InNameOrder [] = Unit {0}
-InNameOrder (row ∷ rows) = AllAfter row.name rows × InNameOrder rows
 
 abbrev pub is_acked_by : ℕ → Acked → Bool
 is_acked_by n a = a.node == n

@@ -3,7 +3,7 @@ ghost use Rattle.std.specs.Prelude.{◌≡◌, OnOk, IfOk, IsTrue, Some};
 ghost use Rattle.batch_rules.specs.Waiting.{waits_failure, join_dropped};
 ghost use Rattle.proposal_core.specs.Lists.{list_or_new, with_entry};
 ghost use Rattle.node_state.specs.declared.happened.Happened.TheVariants as happened;
-ghost use Rattle.node_state.specs.State.{len_of, fits_at_end, recorded, with_row, forgets_below, led_of, led_by, with_led, acked_raised};
+ghost use Rattle.node_state.specs.State.{InNameOrder, len_of, fits_at_end, recorded, with_row, forgets_below, led_of, led_by, with_led, acked_raised};
 ghost use Rattle.node_state.specs.Leading.{put, forgets_least, with_waiting, with_tally, tally_set};
 ghost use Rattle.node_state.specs.Following.{marked, vote_cast};
 ghost use Rattle.node_state.specs.Ticks.{ticked_in};
@@ -11,7 +11,6 @@ ghost use Rattle.std.specs.Option.{option_map};
 ghost use Rattle.vote_phases.specs.Tally.{tally_fail};
 ghost use Rattle.node_state.specs.Deciding.{decision_kept};
 ghost use Rattle.node_groups.specs.Keeps.{Keeps};
-ghost use Rattle.node_groups.specs.Places.{InNameOrder};
 
 use crate::edits;
 use crate::reads::{least_acked, len_of};

@@ -2,12 +2,12 @@
 ghost use Rattle.std.specs.Prelude.{◌≡◌, [], OnOk, IsTrue, Some, find};
 ghost use Rattle.proposal_core.specs.Lists.{list_or_new, entry_fits, with_entry};
 ghost use Rattle.batch_rules.specs.Waiting.{waits_failure, join_dropped};
-ghost use Rattle.node_state.specs.State.{row_found, rows_with, list_forgotten, acked_raised, decisions_with};
+ghost use Rattle.node_state.specs.State.{InNameOrder, row_found, rows_with, list_forgotten, acked_raised, decisions_with};
 ghost use Rattle.node_state.specs.Following.{marked, vote_cast};
 ghost use Rattle.node_state.specs.Ticks.{ticked_in};
 ghost use Rattle.std.specs.Option.{option_map};
 ghost use Rattle.vote_phases.specs.Tally.{tally_fail};
-ghost use Rattle.node_groups.specs.Places.{has_name, InNameOrder};
+ghost use Rattle.node_groups.specs.Places.{has_name};
 
 use crate::places::open;
 use crate::row;

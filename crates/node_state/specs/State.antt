@@ -1,5 +1,5 @@
 -- A node at work: words on its state.
-use Rattle.std.specs.Prelude.{ℕ, Bool, true, false, ◌==◌, List, [], ◌∷◌, ◌++◌, map, filter, find, max, min, Option, Some, None, is_some}
+use Rattle.std.specs.Prelude.{◌≡◌, ℕ, Bool, true, false, ◌==◌, List, [], ◌∷◌, ◌++◌, map, filter, find, max, min, Option, Some, None, is_some}
 use Rattle.std.specs.List.{fold}
 use Rattle.std.specs.Str.{bytes_eq}
 use Rattle.rsct_packet.specs.declared.ids.ProviderId.{ProviderId}
@@ -44,6 +44,15 @@ rows_with g change (row ∷ rows) =
       | true ↦ change row ∷ rows
       | false ↦ elim (name_lt g row.name) [ true ↦ change (new_row g) ∷ row ∷ rows | false ↦ row ∷ rows_with g change rows ]
     ]
+
+-- each row comes after the name
+abbrev pub AllAfter : List ℕ → List GroupRow → Type 0
+AllAfter g [] = Unit {0}
+AllAfter g (row ∷ rows) = (name_lt g row.name ≡ true) × AllAfter g rows
+
+abbrev pub InNameOrder : List GroupRow → Type 0
+InNameOrder [] = Unit {0}
+InNameOrder (row ∷ rows) = AllAfter row.name rows × InNameOrder rows
 
 unfoldable pub with_row : Core → List ℕ → (GroupRow → GroupRow) → Core
 with_row s g change = record s { groups = rows_with g change s.groups }

@@ -1,5 +1,6 @@
 -- How the parts of an event come together.
 use Rattle.std.proofs.Common.{◌≡◌, ℕ, ◌==◌, Bool, true, false, List, [], Option, Some, None, refl, sym, ap, subst, arith, ne_eqb}
+use Rattle.std.proofs.lemmas.Bool.Decides.{nat_tests}
 use Rattle.rsct_packet.specs.declared.mask.Mask.{Mask}
 use Rattle.client_callbacks.specs.declared.votes.VoteItem.{VoteItem}
 use Rattle.session_state.specs.declared.state.SessionState.{SessionState}
@@ -13,11 +14,12 @@ use Rattle.node_state.specs.Ticks.{rings_part, views_part, owed_part, led_part, 
 use Rattle.node_state.specs.Ending.{step_ended}
 use Rattle.node_state.specs.Calls.{call_row}
 use Rattle.node_state.specs.Bytes.{event_in}
-use Rattle.node_state.specs.Step.{Asks, Calls, order_row, packet_row, used_if, event_row, at_work, stepped}
+use Rattle.node_state.specs.Step.{Asks, Calls, order_row, body_row, packet_row, used_if, event_row, at_work, stepped}
 use Rattle.entry_handing.specs.Received.{Handing}
 use Rattle.entry_handing.specs.Doing.{Joins, Does}
 use Rattle.entry_handing.proofs.DoingLaws.{does_then, does_plain, does_nothing, does_after, does_before, does_as, ready_same}
 use Rattle.session_state.proofs.OwnerLaws.{owners_themselves}
+use Rattle.node_state.proofs.AlongLaws.{along_same}
 use Rattle.node_groups.specs.Keeps.{Keeps}
 use Rattle.group_leading.specs.Working.{AtWork}
 use Rattle.group_leading.proofs.WorkLaws.{keeps_follows}
@@ -63,6 +65,15 @@ pub away_does : (ss : Scripts) (P : List Handing → Type 0) → P [] → (s : C
 unfolding packet_row
 away_does ss P p s x e = let away : (x.to == s.views.me) ≡ false = ne_eqb x.to s.views.me e in rw (packet_row, away) (does_nothing ss P s p)
 
+-- a packet for this node
+pub here_does : (ss : Scripts) (P : List Handing → Type 0) (s t : Core) (x : Packet) → x.to ≡ s.views.me → Does ss P s t (λ f. body_row f s x x.body) → Does ss P s t (λ f. packet_row f s x)
+unfolding packet_row
+here_does ss P s t x e done = let here : (x.to == s.views.me) ≡ true = grind (arith, nat_tests) in rw (packet_row, here) done
+
+pub given_does : (ss : Scripts) (P : List Handing → Type 0) (s t : Core) (o : Option Packet) (x : Packet) → o ≡ Some x → Does ss P s t (λ f. packet_row f s x) → Does ss P s t (λ f. datagram_row f s o)
+unfolding datagram_row
+given_does ss P s t o x e done = rw e done
+
 pub dropped_does : (ss : Scripts) (P : List Handing → Type 0) → P [] → (s : Core) (o : Option Packet) → o ≡ None → Does ss P s s (λ f. datagram_row f s o)
 unfolding datagram_row
 dropped_does ss P p s None e = does_nothing ss P s p
@@ -70,7 +81,7 @@ dropped_does ss P p s (Some x) e = absurd cc
 
 pub sent_on_keeps : (s t : Core) (network to : ℕ) (b : Body) → t ≡ sent_on s network to b → Keeps s t
 unfolding sent_on
-sent_on_keeps s t network to b e = rw e (record { records = omega arith; sessions = (refl, refl); order = λ h. h; handed = refl; owners = owners_themselves s.sessions })
+sent_on_keeps s t network to b e = rw e (record { records = omega arith; sessions = (refl, refl); order = λ h. h; handed = refl; owners = owners_themselves s.sessions; along = along_same s (sent_on s network to b) refl refl })
 
 -- ---- events
 

@@ -7,6 +7,7 @@ ghost use Rattle.entry_handing.specs.Received.{Receive};
 ghost use Rattle.entry_handing.specs.Doing.{Does};
 ghost use Rattle.node_state.specs.declared.call.CallLine.TheVariants as call;
 ghost use Rattle.node_state.specs.Calls.{call_row};
+ghost use Rattle.node_state.specs.State.{InNameOrder};
 ghost use Rattle.node_state.specs.Step.{Calls, at_work, started, stepped};
 ghost use Rattle.node_step.specs.Event.{called, event_in, is_taken};
 
@@ -107,6 +108,7 @@ impl<C: Callbacks> Node<C> {
         requires taken { IsTrue (is_taken e) }
         ensures scripts { OnOk result (map C.script self.new.clients ≡ map C.script self.old.clients) }
         ensures does { OnOk result (Does (map C.script self.old.clients) (Receive C.stands_for self.old.clients self.new.clients) (called (at_work self.old.core) (event_in e.entry)) self.new.core (λ f. stepped f self.old.core (event_in e.entry))) }
+        ensures order { OnOk result (InNameOrder self.old.core.groups) }
         ensures goes_on { OnOk result (self.new.halted ≡ false) }
         ensures halts { IsErrOf result StepFault.NoMemory → IsTrue self.new.halted }
         ensures halted { IsErrOf result StepFault.Halted ↔ IsTrue self.old.halted }
@@ -129,6 +131,7 @@ impl<C: Callbacks> Node<C> {
     pub fn begin_session(&mut self, alloc: Global, name: &[u8], c: C) -> Result<(), StepFault>
         ensures scripts { OnOk result (map C.script self.new.clients ≡ map C.script (clients_with c self.old.clients (inited self.old.core.sessions name.now))) }
         ensures does { OnOk result ((node : ℕ) (votes : List ℕ) → Does (map C.script self.new.clients) (Receive C.stands_for (clients_with c self.old.clients (inited self.old.core.sessions name.now)) self.new.clients) (call_row (at_work self.old.core) (call.Init node name.now votes)) self.new.core (λ f. stepped f self.old.core (Calls (call.Init node name.now votes)))) }
+        ensures order { OnOk result (InNameOrder self.old.core.groups) }
         ensures goes_on { OnOk result (self.new.halted ≡ false) }
         ensures halts { IsErrOf result StepFault.NoMemory → IsTrue self.new.halted }
         ensures halted { IsErrOf result StepFault.Halted ↔ IsTrue self.old.halted }
@@ -150,6 +153,7 @@ impl<C: Callbacks> Node<C> {
     pub fn say_goodbye(&mut self, alloc: Global, client: &[u8]) -> Result<(), StepFault>
         ensures scripts { OnOk result (map C.script self.new.clients ≡ map C.script (removed_at (client_place self.old.core.sessions (client_token self.old.core.sessions client.now)) self.old.clients)) }
         ensures does { OnOk result (Does (map C.script self.new.clients) (Receive C.stands_for (removed_at (client_place self.old.core.sessions (client_token self.old.core.sessions client.now)) self.old.clients) self.new.clients) (call_row (at_work self.old.core) (call.Goodbye client.now)) self.new.core (λ f. stepped f self.old.core (Calls (call.Goodbye client.now)))) }
+        ensures order { OnOk result (InNameOrder self.old.core.groups) }
         ensures goes_on { OnOk result (self.new.halted ≡ false) }
         ensures halts { IsErrOf result StepFault.NoMemory → IsTrue self.new.halted }
         ensures halted { IsErrOf result StepFault.Halted ↔ IsTrue self.old.halted }

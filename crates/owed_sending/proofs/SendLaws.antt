@@ -7,13 +7,13 @@ use Rattle.session_state.specs.declared.state.Request.{Request}
 use Rattle.session_state.specs.declared.state.KeptBallot.{KeptBallot}
 use Rattle.node_state.specs.declared.packet.Body.{Body}
 use Rattle.node_state.specs.declared.state.Core.{Core}
-use Rattle.node_state.specs.State.{row_of, list_of, state_of, frozen, leader_in, leader_of}
+use Rattle.node_state.specs.State.{InNameOrder, row_of, list_of, state_of, frozen, leader_in, leader_of}
 use Rattle.node_state.specs.Sending.{ring_network, network_to, level_for, domain_at, packet_on, sent_on, sent, sent_if_known, request_to, request_sent, requests_sent, vote_of, kept_sent_to, kept_sent, kept_sent_if, kept_sent_again, votes_sent_again}
 use Rattle.node_state.specs.Following.{requests_of}
 use Rattle.session_state.specs.Calls.{SameSessions}
 use Rattle.node_groups.specs.Keeps.{Stays, Keeps}
-use Rattle.node_groups.specs.Places.{InNameOrder}
 use Rattle.session_state.proofs.OwnerLaws.{owners_themselves}
+use Rattle.node_state.proofs.AlongLaws.{along_same}
 use Rattle.node_groups.proofs.KeepLaws.{keeps_as}
 
 -- ---- what sends alone
@@ -31,7 +31,8 @@ groups_stay s t grows same groups = record { records = grows; sessions = same; o
 
 alone_keeps : (s t : Core) → SendsAlone s t → Keeps s t
 alone_keeps s t e =
-    keeps_as s (record s { sends = t.sends }) t e (record { records = omega arith; sessions = (refl, refl); order = λ o. o; handed = refl; owners = owners_themselves s.sessions })
+    let u : Core = record s { sends = t.sends } in
+    keeps_as s u t e (record { records = omega arith; sessions = (refl, refl); order = λ o. o; handed = refl; owners = owners_themselves s.sessions; along = along_same s u refl refl })
 
 -- s where these requests and ballots wait
 abbrev pub apart : Core → List Request → List KeptBallot → Core

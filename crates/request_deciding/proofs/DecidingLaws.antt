@@ -8,7 +8,7 @@ use Rattle.group_attr.specs.declared.attrs.Attrs.{Attrs}
 use Rattle.group_attr.specs.declared.attrs.Phases.{Phases}
 use Rattle.group_attr.specs.Agree.{agree}
 use Rattle.group_entry.specs.declared.proposal.Proposal.{Proposal}
-use Rattle.group_entry.specs.declared.proposal.Proposal.TheVariants.{Join}
+use Rattle.group_entry.specs.declared.proposal.Proposal.TheVariants.{Join, Leave, Fail, Expel, State, Message, Attributes, Reflect}
 use Rattle.proposal_core.specs.Fold.{max_providers, present}
 use Rattle.batch_rules.specs.Waiting.{WaitingView, same_instance, has_instance, max_waiting}
 use Rattle.batch_rules.specs.Next.{added_as}
@@ -18,11 +18,11 @@ use Rattle.client_callbacks.specs.declared.votes.VoteItem.{VoteItem}
 use Rattle.client_callbacks.specs.declared.told.Why.TheVariants as why
 use Rattle.node_state.specs.declared.group.GroupRow.{GroupRow}
 use Rattle.node_state.specs.declared.state.Core.{Core}
-use Rattle.node_state.specs.State.{row_of, row_found, with_led, led_of, state_of}
+use Rattle.node_state.specs.State.{InNameOrder, row_of, row_found, with_led, led_of, state_of}
 use Rattle.node_state.specs.Leading.{begins}
 use Rattle.node_state.specs.HandOn.{Answering}
 use Rattle.node_state.specs.Deciding.{decision_kept, refused, lacks_source, source_len, is_idle_empty, meant_attrs, join_refusal, join_waits, decided_join, other_refusal, decided_other, decided}
-use Rattle.node_groups.specs.Places.{InNameOrder, has_name, stops_at, row_opened}
+use Rattle.node_groups.specs.Places.{has_name, stops_at, row_opened}
 use Rattle.node_groups.specs.Keeps.{Keeps}
 use Rattle.node_groups.proofs.KeepLaws.{keeps_then, keeps_as, led_keeps, sent_keeps}
 use Rattle.node_groups.proofs.NameOrder.{row_here}
@@ -65,6 +65,22 @@ pub join_does : (scripts : List (Option (List (Option VoteItem)))) (P : List Han
 unfolding decided
 join_does scripts P q s t g p r phases x ps a n e joining =
     kept_does scripts P q s t (λ f. decided f s g p r phases x) (λ f. joining.0 ∙ ap (decided f s g p r phases) (sym e)) joining.1
+
+other_decided : (f : Answering) (s : Core) (g : List ℕ) (p : ProviderId) (r : ℕ) (phases : Phases) (x : Proposal) → ((ps : List ProviderId) (a : Attrs) (n : Option ℕ) → x ≡ Join ps a n → ⊥) → decided_other f s g p r phases x (other_refusal s g p x) ≡ decided f s g p r phases x
+unfolding decided
+other_decided f s g p r phases (Join ps a n) h = absurd (h ps a n refl)
+other_decided f s g p r phases (Leave q k) h = refl
+other_decided f s g p r phases (Fail out) h = refl
+other_decided f s g p r phases (Expel q k out) h = refl
+other_decided f s g p r phases (State q k value) h = refl
+other_decided f s g p r phases (Message q k bytes) h = refl
+other_decided f s g p r phases (Attributes q k attrs) h = refl
+other_decided f s g p r phases (Reflect view place value) h = refl
+
+-- what is no join is decided as a change
+pub change_does : (scripts : List (Option (List (Option VoteItem)))) (P : List Handing → Type 0) (s t : Core) (g : List ℕ) (p : ProviderId) (r : ℕ) (phases : Phases) (x : Proposal) → ((ps : List ProviderId) (a : Attrs) (n : Option ℕ) → x ≡ Join ps a n → ⊥)
+    → Does scripts P s t (λ f. decided_other f s g p r phases x (other_refusal s g p x)) → Does scripts P s t (λ f. decided f s g p r phases x)
+change_does scripts P s t g p r phases x other done = does_as scripts P s t _ (λ f. decided f s g p r phases x) (λ f. other_decided f s g p r phases x other) done
 
 -- ---- a request that begins
 

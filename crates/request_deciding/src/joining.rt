@@ -3,10 +3,9 @@ ghost use Rattle.std.specs.Prelude.{◌≡◌, [], IfOk, OnOk};
 ghost use Rattle.batch_rules.specs.Next.{added_as};
 ghost use Rattle.batch_rules.specs.declared.waiting.Added.TheVariants.{Queued};
 ghost use Rattle.proposal_core.specs.Fold.{joins_of, joiners_in, present};
-ghost use Rattle.node_state.specs.State.{led_of, state_of};
+ghost use Rattle.node_state.specs.State.{InNameOrder, led_of, state_of};
 ghost use Rattle.node_state.specs.Deciding.{is_idle_empty, meant_attrs, join_refusal, join_waits, decided_join};
 ghost use Rattle.node_groups.specs.Keeps.{Keeps};
-ghost use Rattle.node_groups.specs.Places.{InNameOrder};
 
 use crate::limits::full_refusal;
 use crate::queue::{is_duplicate, queue_join};

@@ -10,8 +10,8 @@ use Rattle.view_core.specs.declared.views.Views.{Views}
 use Rattle.node_state.specs.declared.config.Config.{Config}
 use Rattle.node_state.specs.declared.group.GroupRow.{GroupRow}
 use Rattle.node_state.specs.declared.state.Core.{Core}
-use Rattle.node_state.specs.State.{new_row, row_found, row_of, rows_with, with_row, list_of, len_of, leader_by, is_this, leader_in, leads_in, led_groups}
-use Rattle.node_groups.specs.Places.{AllAfter, InNameOrder, has_name}
+use Rattle.node_state.specs.State.{AllAfter, InNameOrder, new_row, row_found, row_of, rows_with, with_row, list_of, len_of, leader_by, is_this, leader_in, leads_in, led_groups}
+use Rattle.node_groups.specs.Places.{has_name}
 use Rattle.node_groups.proofs.NameOrder.{text_self, lt_self, name_lt_trans, cases_text, row_here, row_there}
 use Rattle.resting.proofs.Orderly.{Orderly, alike, on_row}
 use Rattle.resting.proofs.Growing.{Grows}

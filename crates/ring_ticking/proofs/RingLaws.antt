@@ -17,6 +17,7 @@ use Rattle.node_state.specs.Ticks.{ring_put, set_records, ring_taken}
 use Rattle.node_state.specs.Handed.{handed_in}
 use Rattle.node_groups.specs.Keeps.{Keeps}
 use Rattle.session_state.proofs.OwnerLaws.{owners_themselves}
+use Rattle.node_state.proofs.AlongLaws.{LeavesStates, along_same}
 use Rattle.node_groups.proofs.KeepLaws.{keeps_itself, keeps_then, records_keep}
 
 -- ---- the place of a ring
@@ -63,17 +64,20 @@ put_nowhere xs r e = put_past r xs (missed (position_or_len (is_on r.net) xs) (l
 
 keeps_sent_on : (s : Core) (network to : ℕ) (b : Body) → Keeps s (sent_on s network to b)
 unfolding sent_on
-keeps_sent_on s network to b = record { records = omega arith; sessions = (refl, refl); order = λ o. o; handed = refl; owners = owners_themselves s.sessions }
+keeps_sent_on s network to b =
+    record { records = omega arith; sessions = (refl, refl); order = λ o. o; handed = refl; owners = owners_themselves s.sessions; along = along_same s (sent_on s network to b) refl refl }
 
 keeps_sends : (s : Core) (xs : List RingSend) → Keeps s (fold (λ u (x : RingSend). sent_on u x.network x.to (body.Ring x.packet)) s xs)
 keeps_sends s [] = keeps_itself s
 keeps_sends s (x ∷ xs) = keeps_then _ _ _ (keeps_sent_on s x.network x.to (body.Ring x.packet)) (keeps_sends (sent_on s x.network x.to (body.Ring x.packet)) xs)
 
 keeps_rings : (s : Core) (rs : List Ring) → Keeps s (record s { rings = rs })
-keeps_rings s rs = record { records = omega arith; sessions = (refl, refl); order = λ o. o; handed = refl; owners = owners_themselves s.sessions }
+keeps_rings s rs =
+    record { records = omega arith; sessions = (refl, refl); order = λ o. o; handed = refl; owners = owners_themselves s.sessions; along = along_same s (record s { rings = rs }) refl refl }
 
-keeps_reach : (s : Core) (r : Reach) → Keeps s (record s { reach = r })
-keeps_reach s r = record { records = omega arith; sessions = (refl, refl); order = λ o. o; handed = refl; owners = owners_themselves s.sessions }
+pub keeps_reach : (s : Core) (r : Reach) → Keeps s (record s { reach = r })
+keeps_reach s r =
+    record { records = omega arith; sessions = (refl, refl); order = λ o. o; handed = refl; owners = owners_themselves s.sessions; along = along_same s (record s { reach = r }) refl refl }
 
 -- a ring's records are handed to no client
 ring_unhanded : (n net : ℕ) (set : Option RingSet) → handed_in (set_records n net set) ≡ []
@@ -81,9 +85,14 @@ unfolding set_records
 ring_unhanded n net None = refl
 ring_unhanded n net (Some r) = refl
 
+ring_leaves : (n net : ℕ) (set : Option RingSet) → LeavesStates (set_records n net set)
+unfolding set_records
+ring_leaves n net None g st = refl
+ring_leaves n net (Some r) g st = refl
+
 pub keeps_taken : (s : Core) (w : RingWork) → Keeps s (ring_taken s w)
 unfolding ring_taken
-keeps_taken s w = keeps_then _ _ _ (keeps_then _ _ _ (keeps_rings s (ring_put s.rings w.ring)) (keeps_sends (record s { rings = ring_put s.rings w.ring }) w.sends)) (records_keep _ _ (ring_unhanded _ _ w.set))
+keeps_taken s w = keeps_then _ _ _ (keeps_then _ _ _ (keeps_rings s (ring_put s.rings w.ring)) (keeps_sends (record s { rings = ring_put s.rings w.ring }) w.sends)) (records_keep _ _ (ring_unhanded _ _ w.set) (ring_leaves _ _ w.set))
 
 pub keeps_ticks : (s : Core) (rs : List Ring) → Keeps s (fold (λ u (r : Ring). ring_taken u (ring_stepped r ring_event.Tick)) s rs)
 keeps_ticks s [] = keeps_itself s

@@ -28,7 +28,7 @@ use Rattle.node_state.specs.declared.packet.Body.TheVariants as body
 use Rattle.node_state.specs.declared.packet.Packet.{Packet}
 use Rattle.node_state.specs.declared.state.Core.{Core}
 use Rattle.node_state.specs.Applying.{own_parts, base_row}
-use Rattle.node_groups.specs.Places.{InNameOrder}
+use Rattle.node_state.specs.State.{InNameOrder}
 use Rattle.node_groups.proofs.NameOrder.{text_same, text_self}
 use Rattle.step_ties.specs.Ghost.{Ghost, ReplyIs, Gathers, BaseIsOf, Installs}
 use Rattle.step_ties.specs.Tied.{ShowsBody, Scene, Tied}

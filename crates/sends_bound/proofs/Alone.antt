@@ -30,13 +30,12 @@ use Rattle.view_core.specs.Views.{others_of, views_entered}
 use Rattle.node_state.specs.declared.group.GroupRow.{GroupRow}
 use Rattle.node_state.specs.declared.packet.Body.TheVariants as body
 use Rattle.node_state.specs.declared.state.Core.{Core}
-use Rattle.node_state.specs.State.{row_of, with_row, led_of, list_of, held_rows, frozen, led_groups, others, recorded, recorded_all, with_sessions}
+use Rattle.node_state.specs.State.{InNameOrder, row_of, with_row, led_of, list_of, held_rows, frozen, led_groups, others, recorded, recorded_all, with_sessions}
 use Rattle.node_state.specs.Sending.{sent, requests_sent, votes_sent_again}
 use Rattle.node_state.specs.HandOn.{Answering}
 use Rattle.node_state.specs.Leading.{put_and_handed}
 use Rattle.node_state.specs.Applying.{part_of_list, own_parts, Lacking, lacking_in, lacking, lists_filled, level_set, base_row, view_entered, is_in_base, number_of, dissolved, dissolved_if, group_dissolved, sides_dissolved, entering_noted, taken_sent, owed_sent, groups_led, entered}
 use Rattle.node_state.specs.Ticks.{tally_ticks, sent_again, group_ticks, led_part}
-use Rattle.node_groups.specs.Places.{InNameOrder}
 use Rattle.node_groups.proofs.NameOrder.{row_there, rows_ordered}
 use Rattle.step_ties.proofs.BaseOrder.{bases_ordered}
 use Rattle.sends_bound.specs.Bound.{is_own, puts_of, owned_of, Stands, EndsAt, ListsEnd}

@@ -31,9 +31,9 @@ use Rattle.view_core.specs.declared.views.ViewWork.{ViewWork}
 use Rattle.view_core.specs.Views.{view_sent_all, gathering_set, promised, installs, gathered, gathers, own_answer, asks_view, next_view, may_ask, ask_if, ask_row, prepared_again, stuck_noted, tick_asks, asks_or_ages, gathering_ticks, views_at_work}
 use Rattle.node_state.specs.declared.group.GroupRow.{GroupRow}
 use Rattle.node_state.specs.declared.state.Core.{Core}
-use Rattle.node_state.specs.State.{row_found, row_of, list_of, state_of, held_rows}
+use Rattle.node_state.specs.State.{AllAfter, InNameOrder, row_found, row_of, list_of, state_of, held_rows}
 use Rattle.node_state.specs.Applying.{part_of_list, own_parts}
-use Rattle.node_groups.specs.Places.{has_name, AllAfter, InNameOrder}
+use Rattle.node_groups.specs.Places.{has_name}
 use Rattle.node_groups.proofs.NameOrder.{text_same, text_self, lt_self}
 use Rattle.step_ties.proofs.Parts.{own_differ}
 use Rattle.sends_bound.specs.Bound.{Room, Stands, Fine, FineIf}

@@ -12,12 +12,11 @@ use Rattle.view_exchange.specs.declared.install.Install.{Install}
 use Rattle.view_exchange.specs.declared.install.Base.{Base}
 use Rattle.view_exchange.specs.Bases.{parts_from, bases_of}
 use Rattle.view_exchange.specs.Longest.{NamesDiffer}
-use Rattle.node_groups.specs.Places.{InNameOrder}
 use Rattle.node_state.specs.declared.group.GroupRow.{GroupRow}
 use Rattle.node_state.specs.declared.happened.Happened.{Happened}
 use Rattle.node_state.specs.declared.happened.Happened.TheVariants as happened
 use Rattle.node_state.specs.declared.state.Core.{Core}
-use Rattle.node_state.specs.State.{state_of, leads_in, led_groups}
+use Rattle.node_state.specs.State.{InNameOrder, state_of, leads_in, led_groups}
 use Rattle.node_state.specs.Applying.{own_parts}
 use Rattle.node_state.specs.Step.{NodeEvent}
 use Rattle.node_state.specs.Step.NodeEvent.{Ticks, Asks, Given, Calls, Garbage}

@@ -22,13 +22,12 @@ use Rattle.node_state.specs.declared.group.GroupRow.{GroupRow}
 use Rattle.node_state.specs.declared.happened.Happened.{Happened}
 use Rattle.node_state.specs.declared.happened.Happened.TheVariants as happened
 use Rattle.node_state.specs.declared.state.Core.{Core}
-use Rattle.node_state.specs.State.{row_of, with_row, list_of, state_of, len_of, held_rows, recorded, recorded_all, with_sessions}
+use Rattle.node_state.specs.State.{InNameOrder, row_of, with_row, list_of, state_of, len_of, held_rows, recorded, recorded_all, with_sessions}
 use Rattle.node_state.specs.HandOn.{heard}
 use Rattle.node_state.specs.Leading.{put}
 use Rattle.node_state.specs.Applying.{base_record, view_entered, dissolved}
 use Rattle.run_safety.specs.Past.{History, earlier, is_list, puts_after, puts_of}
 use Rattle.run_safety.specs.Bases.{Bases, base_state, state_of_list}
-use Rattle.node_groups.specs.Places.{InNameOrder}
 use Rattle.node_groups.proofs.NameOrder.{cases_text, text_self, text_other, row_here, row_there}
 use Rattle.hearing.specs.Changes.{Inner, Same, handing, entering, Does, Stays, Then, Records, Hands, Loses, Joins, Votes, Enters}
 use Rattle.hearing.proofs.Attending.{pushed, pushed_reverse, heard_at}

@@ -17,10 +17,9 @@ use Rattle.node_state.specs.declared.group.GroupRow.{GroupRow}
 use Rattle.node_state.specs.declared.happened.Happened.{Happened}
 use Rattle.node_state.specs.declared.happened.Happened.TheVariants as happened
 use Rattle.node_state.specs.declared.state.Core.{Core}
-use Rattle.node_state.specs.State.{row_of, with_row, list_of, len_of, recorded, recorded_all}
+use Rattle.node_state.specs.State.{InNameOrder, row_of, with_row, list_of, len_of, recorded, recorded_all}
 use Rattle.node_state.specs.Leading.{put}
 use Rattle.run_safety.specs.Past.{History, earlier, puts_of, base_of, fold_from, state_at}
-use Rattle.node_groups.specs.Places.{InNameOrder}
 use Rattle.node_groups.proofs.NameOrder.{KeepsName, rows_ordered}
 use Rattle.closing_rows.proofs.At.{found, StateIs, Silent, Calm, fold_pushed, is_list_self, is_list_other, list_with}
 use Rattle.closing_rows.proofs.Entered.{Since}

@@ -269,6 +269,17 @@ pub ended_frozen : (scripts : List (Option (List (Option VoteItem)))) (P : List 
 unfolding step_ended
 ended_frozen scripts P p s e = does_as scripts P s s (λ f. s) (λ f. step_ended f s) (λ f. frozen_ends s (passes (most_begun s) (most_begun s) f s) (frozen s) e) (does_nothing scripts P s p)
 
+ended_is : (s t : Core) (b : Bool) → b ≡ false → t ≡ elim b [ true ↦ s | false ↦ t ]
+ended_is s t true e = absurd cc
+ended_is s t false e = refl
+
+-- a node that is not frozen goes on
+pub ended_thawed : (scripts : List (Option (List (Option VoteItem)))) (P : List Handing → Type 0) (s t : Core) (most : ℕ) → frozen s ≡ false → most ≡ most_begun s → Does scripts P s t (λ f. passes most most f s) → Does scripts P s t (λ f. step_ended f s)
+unfolding step_ended
+ended_thawed scripts P s t most e counted done =
+    does_as scripts P s t (λ f. passes most most f s) (λ f. step_ended f s)
+    (λ f. ap (λ n. passes n n f s) counted ∙ ended_is s (passes (most_begun s) (most_begun s) f s) (frozen s) e) done
+
 -- nothing is owed
 pub none_owed : (scripts : List (Option (List (Option VoteItem)))) (P : List Handing → Type 0) → P [] → (s : Core) (g h : List ℕ) (st : GroupState) → target.due st (known_state s h) ≡ None → DoesPass scripts P s s false (λ f. due_begins f s g st h (target.due st (known_state s h)))
 unfolding due_begins
@@ -284,3 +295,9 @@ none_due scripts P p s g st at e =
 pub first_none : (scripts : List (Option (List (Option VoteItem)))) (P : List Handing → Type 0) → P [] → (s : Core) (g : List ℕ) → may_begin (list_of s g) ≡ false → DoesPass scripts P s s false (λ f. first_begins f s g (row_of s g))
 unfolding first_begins list_of
 first_none scripts P p s g e = rw (first_begins, e) (pass_nothing scripts P p s false)
+
+-- it begins where it may
+pub first_some : (scripts : List (Option (List (Option VoteItem)))) (P : List Handing → Type 0) (s t : Core) (began : Bool) (g : List ℕ) → may_begin (list_of s g) ≡ true
+    → DoesPass scripts P s t began (λ f. or_joins f g (or_due f g (failures_begin (length (led_of s g).waiting.failures) f s g))) → DoesPass scripts P s t began (λ f. first_begins f s g (row_of s g))
+unfolding first_begins list_of led_of
+first_some scripts P s t began g e done = rw (first_begins, e) done

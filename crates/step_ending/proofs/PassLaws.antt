@@ -22,6 +22,8 @@ exactly scripts Q s t a d =
       told = d.told;
       owned = d.owned;
       owners = d.owners;
+      along = d.along;
+      stated = d.stated;
       received = refl;
     }
 

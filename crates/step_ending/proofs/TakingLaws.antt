@@ -9,11 +9,10 @@ use Rattle.batch_rules.specs.Waiting.{WaitingView, next_joins, joins_left}
 use Rattle.client_callbacks.specs.declared.told.Why.TheVariants.{NoSource}
 use Rattle.node_state.specs.declared.group.GroupRow.{GroupRow}
 use Rattle.node_state.specs.declared.state.Core.{Core}
-use Rattle.node_state.specs.State.{row_of, with_led, led_of, state_of}
+use Rattle.node_state.specs.State.{InNameOrder, row_of, with_led, led_of, state_of}
 use Rattle.node_state.specs.Leading.{with_waiting}
 use Rattle.node_state.specs.Deciding.{refused, known_state, lacks_source, source_len}
 use Rattle.node_state.specs.Ending.{attrs_for, source_refused}
-use Rattle.node_groups.specs.Places.{InNameOrder}
 use Rattle.node_groups.specs.Keeps.{Keeps}
 use Rattle.node_groups.proofs.KeepLaws.{keeps_itself, keeps_then, keeps_as, led_keeps}
 use Rattle.node_groups.proofs.NameOrder.{cases_text, row_here, row_there}

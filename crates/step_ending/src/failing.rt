@@ -1,10 +1,9 @@
 //! Waiting failures begin.
 ghost use Rattle.std.specs.Prelude.{◌≡◌, IfOk, OnOk, map};
 ghost use Rattle.group_leading.specs.Working.{AtWork};
-ghost use Rattle.node_state.specs.State.{state_of};
+ghost use Rattle.node_state.specs.State.{InNameOrder, state_of};
 ghost use Rattle.node_state.specs.Ending.{failures_begin};
 ghost use Rattle.node_groups.specs.Keeps.{Keeps};
-ghost use Rattle.node_groups.specs.Places.{InNameOrder};
 ghost use Rattle.step_ending.specs.Failing.{of_members, failures_chosen, failures_taken};
 ghost use Rattle.entry_handing.specs.Received.{Receive};
 ghost use Rattle.step_ending.specs.Passing.{DoesPass};

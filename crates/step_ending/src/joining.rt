@@ -1,10 +1,9 @@
 //! Waiting joins begin.
 ghost use Rattle.std.specs.Prelude.{◌≡◌, IfOk, OnOk, map};
 ghost use Rattle.group_leading.specs.Working.{AtWork};
-ghost use Rattle.node_state.specs.State.{led_of, state_of};
+ghost use Rattle.node_state.specs.State.{InNameOrder, led_of, state_of};
 ghost use Rattle.node_state.specs.Ending.{attrs_for, carried_len, source_refused, joins_begin};
 ghost use Rattle.node_groups.specs.Keeps.{Keeps};
-ghost use Rattle.node_groups.specs.Places.{InNameOrder};
 ghost use Rattle.step_ending.specs.Joining.{chosen_joins, chosen_attrs, sourced, unsourced, joins_chosen};
 ghost use Rattle.entry_handing.specs.Received.{Receive};
 ghost use Rattle.step_ending.specs.Passing.{DoesPass};

@@ -2,9 +2,8 @@
 ghost use Rattle.std.specs.Prelude.{◌≡◌, IfOk, OnOk};
 ghost use Rattle.rsct_packet.specs.Providers.{AreProviders};
 ghost use Rattle.batch_rules.specs.Waiting.{next_failures, failures_left, next_joins, joins_left};
-ghost use Rattle.node_state.specs.State.{led_of};
+ghost use Rattle.node_state.specs.State.{InNameOrder, led_of};
 ghost use Rattle.node_state.specs.Leading.{with_waiting};
-ghost use Rattle.node_groups.specs.Places.{InNameOrder};
 
 use arrayvec::ArrayVec;
 use group_attr::Batch;

@@ -15,13 +15,13 @@ use Rattle.view_exchange.specs.Bases.{Candidate, candidates, beats, base_from, b
 use Rattle.node_state.specs.declared.group.GroupRow.{GroupRow}
 use Rattle.node_state.specs.declared.happened.Happened.{Happened}
 use Rattle.node_state.specs.declared.happened.Happened.TheVariants as happened
-use Rattle.node_state.specs.State.{new_row}
+use Rattle.node_state.specs.State.{AllAfter, InNameOrder, new_row}
 use Rattle.node_state.specs.Applying.{base_row}
 use Rattle.run_safety.specs.Past.{History}
 use Rattle.run_safety.specs.Sight.{lines_with}
 use Rattle.run_safety.specs.Group.{Line, Noted, Based}
 use Rattle.run_safety.specs.Moves.{based}
-use Rattle.node_groups.specs.Places.{AllAfter, InNameOrder, has_name}
+use Rattle.node_groups.specs.Places.{has_name}
 use Rattle.step_ties.specs.Ghost.{origin_of}
 use Rattle.step_ties.proofs.Works.{lines_pushed}
 use Rattle.node_groups.proofs.NameOrder.{text_same, text_self, name_lt_total, none_after, after_less}

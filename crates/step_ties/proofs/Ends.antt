@@ -31,7 +31,7 @@ use Rattle.node_state.specs.declared.group.GroupRow.{GroupRow}
 use Rattle.node_state.specs.declared.group.Led.{Led}
 use Rattle.node_state.specs.declared.state.Core.{Core}
 use Rattle.node_state.specs.Settings.{is_fixed}
-use Rattle.node_state.specs.State.{row_of, with_row, with_led, led_of, list_of, state_of, frozen, leads, led_groups, decision_of, decisions_with}
+use Rattle.node_state.specs.State.{InNameOrder, row_of, with_row, with_led, led_of, list_of, state_of, frozen, leads, led_groups, decision_of, decisions_with}
 use Rattle.node_state.specs.HandOn.{Answering}
 use Rattle.node_state.specs.Leading.{with_waiting, begins}
 use Rattle.rsct_packet.specs.Ids.{same_view}
@@ -46,7 +46,6 @@ use Rattle.run_safety.specs.Moves as moves
 use Rattle.step_ties.specs.Ghost.{asking, Ghost, GathersIf}
 use Rattle.step_ties.specs.Tied.{RowIs, Decided, LeaderKeeps, Scene, Begun, Tied}
 use Rattle.step_ties.proofs.Leads.{leads_known, leads_row}
-use Rattle.node_groups.specs.Places.{InNameOrder}
 use Rattle.node_groups.proofs.NameOrder.{row_here}
 use Rattle.step_ties.proofs.RowWorks.{waits_of, row_kept}
 use Rattle.step_ties.proofs.ViewRows.{same_of, apart_of}

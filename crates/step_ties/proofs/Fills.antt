@@ -30,7 +30,7 @@ use Rattle.node_state.specs.declared.happened.Happened.{Happened}
 use Rattle.node_state.specs.declared.happened.Happened.TheVariants as happened
 use Rattle.node_state.specs.declared.group.GroupRow.{GroupRow}
 use Rattle.node_state.specs.declared.state.Core.{Core}
-use Rattle.node_state.specs.State.{row_of, with_row, list_of, state_of, len_of, frozen, recorded, recorded_all, with_sessions}
+use Rattle.node_state.specs.State.{InNameOrder, row_of, with_row, list_of, state_of, len_of, frozen, recorded, recorded_all, with_sessions}
 use Rattle.node_state.specs.Sending.{sent_if_known}
 use Rattle.node_state.specs.HandOn.{Answering, fills, heard, noted, ballot_sent, cast_sent_of, casts_sent, handed_on}
 use Rattle.node_state.specs.Leading.{put, put_and_handed}
@@ -41,7 +41,6 @@ use Rattle.run_safety.specs.Group.{Put, Note, Heard, Line, Kept, Noted, lines_fr
 use Rattle.run_safety.specs.Bases.{state_of_list}
 use Rattle.run_safety.specs.Requests.{carried}
 use Rattle.run_safety.proofs.Order.{lt_refl}
-use Rattle.node_groups.specs.Places.{InNameOrder}
 use Rattle.step_ties.specs.Ghost.{Ghost, FitIn, Keeps, Carries, CarriesIf, part_of}
 use Rattle.step_ties.specs.Tied.{Scene, lines_now, InTurn}
 use Rattle.step_ties.proofs.Works.{Passes, lines_pushed, now_pushed}

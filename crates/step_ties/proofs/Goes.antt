@@ -30,12 +30,11 @@ use Rattle.node_state.specs.declared.packet.Body.TheVariants as body
 use Rattle.node_state.specs.declared.packet.Packet.{Packet}
 use Rattle.node_state.specs.declared.state.Core.{Core}
 use Rattle.node_state.specs.Settings.{is_fixed}
-use Rattle.node_state.specs.State.{row_of, acked_from}
+use Rattle.node_state.specs.State.{InNameOrder, row_of, acked_from}
 use Rattle.run_safety.specs.Group.{member, Standing, Reply, Noted, Asked, Told, In, Put, kept}
 use Rattle.run_safety.specs.Group as group
 use Rattle.run_safety.specs.Bases.{state_of_list, base_state}
 use Rattle.run_safety.specs.Past.{fold_from}
-use Rattle.node_groups.specs.Places.{InNameOrder}
 use Rattle.step_ties.specs.Ghost.{Asking, asking, Ghost, Seen, Goes, FitIn, KeepsIf, CarriesIf, part_of, ReplyIs, GathersIf, BaseIsOf, Installs, InstallsIf, IsStable}
 use Rattle.step_ties.specs.Tied.{Numbered, Waiting, Sound, ShowsLeader, ShowsView, ShowsBody, Shows, Stands, KnowsLeader, RowIs, Owed, Owes, LeaderKeeps, Names, Idles, Closed, NodeOf, NodeIsIf, IsAcked}
 

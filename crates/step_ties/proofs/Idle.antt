@@ -10,9 +10,8 @@ use Rattle.proposal_core.specs.GroupView.{GroupView}
 use Rattle.node_state.specs.declared.group.GroupRow.{GroupRow}
 use Rattle.node_state.specs.declared.group.Led.{Led}
 use Rattle.node_state.specs.declared.state.Core.{Core}
-use Rattle.node_state.specs.State.{new_row, row_of, rows_with, with_row, list_forgotten}
+use Rattle.node_state.specs.State.{InNameOrder, new_row, row_of, rows_with, with_row, list_forgotten}
 use Rattle.run_safety.specs.Group.{member}
-use Rattle.node_groups.specs.Places.{InNameOrder}
 use Rattle.node_groups.proofs.NameOrder.{KeepsName, cases_text, row_here, row_there}
 use Rattle.step_ties.specs.Ghost.{Ghost}
 use Rattle.step_ties.specs.Tied.{rows_held, Idles}

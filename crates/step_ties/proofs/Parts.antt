@@ -12,9 +12,9 @@ use Rattle.view_exchange.specs.declared.install.Part.{Part}
 use Rattle.view_exchange.specs.Longest.{NamesDiffer}
 use Rattle.node_state.specs.declared.group.GroupRow.{GroupRow}
 use Rattle.node_state.specs.declared.state.Core.{Core}
-use Rattle.node_state.specs.State.{row_found, row_of, held_rows}
+use Rattle.node_state.specs.State.{AllAfter, InNameOrder, row_found, row_of, held_rows}
 use Rattle.node_state.specs.Applying.{part_of_list, own_parts}
-use Rattle.node_groups.specs.Places.{AllAfter, InNameOrder, has_name}
+use Rattle.node_groups.specs.Places.{has_name}
 use Rattle.step_ties.specs.Ghost.{Ghost, KeepsIf, CarriesIf, part_of, IsStable}
 use Rattle.node_groups.proofs.NameOrder.{text_same, lt_self, none_after}
 

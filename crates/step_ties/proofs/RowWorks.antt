@@ -18,12 +18,11 @@ use Rattle.node_state.specs.declared.packet.Packet.{Packet}
 use Rattle.node_state.specs.declared.group.GroupRow.{GroupRow}
 use Rattle.node_state.specs.declared.state.Core.{Core}
 use Rattle.node_state.specs.Settings.{is_fixed}
-use Rattle.node_state.specs.State.{row_of, with_row, list_of, len_of, list_forgotten, forgets_below, led_by}
+use Rattle.node_state.specs.State.{InNameOrder, row_of, with_row, list_of, len_of, list_forgotten, forgets_below, led_by}
 use Rattle.node_state.specs.Sending.{sent, sent_on, packet_on, network_to}
 use Rattle.run_safety.specs.Group as group
 use Rattle.run_safety.specs.Bases.{base_state, state_of_list}
 use Rattle.run_safety.specs.Moves.{Acknowledges}
-use Rattle.node_groups.specs.Places.{InNameOrder}
 use Rattle.step_ties.specs.Ghost.{asking, Ghost, Goes, Keeps, KeepsIf, bytes_of, IsStable}
 use Rattle.step_ties.specs.Tied.{Waiting, Shows, KnowsLeader, RowIs, LeaderKeeps, NodeIs, Scene, Tied}
 use Rattle.step_ties.proofs.Goes.{Spares, sound_on, shows_on, node_on}

@@ -31,12 +31,11 @@ use Rattle.node_state.specs.declared.packet.Body.TheVariants as body
 use Rattle.node_state.specs.declared.packet.Packet.{Packet}
 use Rattle.node_state.specs.declared.state.Core.{Core}
 use Rattle.node_state.specs.Settings.{is_fixed}
-use Rattle.node_state.specs.State.{row_found, row_of, acked_from, decision_of, leads}
+use Rattle.node_state.specs.State.{InNameOrder, row_found, row_of, acked_from, decision_of, leads}
 use Rattle.node_state.specs.Following.{max_groups}
 use Rattle.node_state.specs.Step.{first_view, first_members}
 use Rattle.node_state.specs.declared.happened.Happened.{Happened}
 use Rattle.node_state.specs.declared.happened.Happened.TheVariants as happened
-use Rattle.node_groups.specs.Places.{InNameOrder}
 use Rattle.run_safety.specs.Past.{History, records_of, earlier, view_now}
 use Rattle.run_safety.specs.ViewOrder.{Lt, Le}
 use Rattle.run_safety.specs.Sight.{lines_with, lines_of}

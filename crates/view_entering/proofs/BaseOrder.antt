@@ -12,9 +12,8 @@ use Rattle.view_exchange.specs.declared.install.Install.{Install}
 use Rattle.view_exchange.specs.declared.install.Base.{Base}
 use Rattle.view_exchange.specs.Bases.{Candidate, candidates, beats, base_from, base_of_best, base_of, with_name, names_in, bases_for, bases_of}
 use Rattle.node_state.specs.declared.group.GroupRow.{GroupRow}
-use Rattle.node_state.specs.State.{new_row}
+use Rattle.node_state.specs.State.{AllAfter, InNameOrder, new_row}
 use Rattle.node_state.specs.Applying.{base_row, base_leader}
-use Rattle.node_groups.specs.Places.{AllAfter, InNameOrder}
 use Rattle.node_groups.proofs.NameOrder.{text_same, text_self, text_other, name_lt_total, lt_self, after_less}
 
 abbrev rows_of : List (List ℕ) → List GroupRow

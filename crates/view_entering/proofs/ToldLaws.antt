@@ -12,6 +12,8 @@ use Rattle.rsct_packet.specs.declared.ids.ViewId.{ViewId}
 use Rattle.rsct_packet.specs.Providers.{same_provider}
 use Rattle.rsct_packet.proofs.HasLaws.{find_has, find_none}
 use Rattle.group_attr.specs.Attrs.{host_membership}
+use Rattle.proposal_core.specs.declared.group_state.GroupState.{GroupState}
+use Rattle.proposal_core.specs.Fold.{empty_state}
 use Rattle.subscribe_core.specs.declared.subs.Subscription.{Subscription}
 use Rattle.client_callbacks.specs.declared.told.Told.TheVariants as told
 use Rattle.client_callbacks.specs.declared.told.Why.TheVariants.{Dissolved}
@@ -27,15 +29,16 @@ use Rattle.view_exchange.specs.Bases.{base_named}
 use Rattle.node_state.specs.declared.happened.Happened.{Happened}
 use Rattle.node_state.specs.declared.happened.Happened.TheVariants as happened
 use Rattle.node_state.specs.declared.state.Core.{Core}
-use Rattle.node_state.specs.State.{recorded, recorded_all, with_sessions}
+use Rattle.node_state.specs.State.{state_of, recorded, recorded_all, with_sessions}
 use Rattle.node_state.specs.HandOn.{subscriber_name, note_of}
 use Rattle.node_state.specs.Applying.{is_in_base, number_of, dissolved, dissolved_if, base_note, entering_note, entering_noted}
 use Rattle.session_state.specs.Owners.{KeepsOwners}
-use Rattle.node_state.specs.Handed.{is_handed, handed_in}
+use Rattle.node_state.specs.Handed.{is_handed, handed_in, Along, Logged, logged_in}
+use Rattle.node_state.proofs.AlongLaws.{LeavesStates, leaves_both, along_records}
 use Rattle.node_groups.specs.Keeps.{Stays}
 use Rattle.session_state.proofs.OwnerLaws.{owners_themselves}
-use Rattle.entry_handing.specs.Received.{Handing, AreFor, told_by, after_handings, Receive}
-use Rattle.entry_handing.specs.Doing.{Does}
+use Rattle.entry_handing.specs.Received.{Handing, AreFor, told_by, logged_by, after_handings, Receive}
+use Rattle.entry_handing.specs.Doing.{Stated, Does}
 use Rattle.entry_handing.proofs.DoingLaws.{does_nothing, does_as, receive_then}
 use Rattle.entry_handing.proofs.OwnerLaws.{telling_owners}
 use Rattle.view_entering.specs.Arriving.{note_at, notes_at, handed_at, note_handings}
@@ -53,8 +56,8 @@ noted_stays s rs more e = record { records = rw e (omega (arith, length-append s
 
 -- a row that asks no client, and hands this to them
 pub does_handing : (scripts : List (Option (List (Option VoteItem)))) (P : List Handing → Type 0) (s t k : Core) (hs : List Handing) → P hs → t ≡ k → Stays s t → handed_in t.records ≡ handed_in s.records ++ told_by hs → AreFor s.sessions hs → KeepsOwners s.sessions t.sessions
-    → Does scripts P s t (λ f. k)
-does_handing scripts P s t k hs p e stays told owned owners =
+    → (along : Along s t) → Stated s along.records hs → Does scripts P s t (λ f. k)
+does_handing scripts P s t k hs p e stays told owned owners along stated =
     record {
       asked = [];
       filled = tt;
@@ -65,6 +68,8 @@ does_handing scripts P s t k hs p e stays told owned owners =
       told = told;
       owned = owned;
       owners = owners;
+      along = along;
+      stated = stated;
       received = p;
     }
 
@@ -80,12 +85,13 @@ found_live s p x found none = find_none (is_provider x.p) s.providers x (ap is_n
 
 dissolved_does : (scripts : List (Option (List (Option VoteItem)))) (P : List Handing → Type 0) (s t : Core) (p : ProviderId) (r : ℕ) → (provider_of s.sessions p ≡ None → ⊥) → t ≡ dissolved s p r → Stays s t → P (handed_at (place_of s.sessions p) (happened.Told p r Dissolved) ∷ [])
     → Does scripts P s t (λ f. dissolved s p r)
-unfolding dissolved recorded recorded_all with_sessions
+unfolding dissolved recorded recorded_all with_sessions along_records
 dissolved_does scripts P s t p r live dissolving stays received =
     does_handing scripts P s t (dissolved s p r) (handed_at (place_of s.sessions p) (happened.Told p r Dissolved) ∷ []) received dissolving stays
     (ap (λ (x : Core). handed_in x.records) dissolving ∙ filter-append is_handed s.records (happened.Told p r Dissolved ∷ []))
     ((refl, λ none asked. live none), tt)
     (subst (λ (x : Core). KeepsOwners s.sessions x.sessions) (sym dissolving) (telling_owners s.sessions p r Dissolved))
+    (along_records s t (happened.Told p r Dissolved ∷ []) (ap (λ (x : Core). x.records) dissolving) (ap (λ (x : Core). x.groups) dissolving) (λ g st. refl)) (λ o. refl)
 
 -- no provider is found
 pub unfound_does : (scripts : List (Option (List (Option VoteItem)))) (P : List Handing → Type 0) → P [] → (s : Core) (g : List ℕ) (old : ViewId) (b : Option Base) (p : ProviderId) → None ≡ find (is_provider p) s.sessions.providers
@@ -160,9 +166,29 @@ owned_each : (n : ℕ) (v : ViewId) (ms : List Member) (s : SessionState) (bs : 
 owned_each n v ms s bs [] = tt
 owned_each n v ms s bs (u ∷ us) = owned_head (bytes_eq u.group host_membership) n v ms s u (base_named bs u.group) _ (owned_each n v ms s bs us)
 
+leaves_head : (hosts : Bool) (n : ℕ) (v : ViewId) (ms : List Member) (s : SessionState) (u : Subscription) (o : Option Base)
+    → let ns : List Happened = elim hosts [ true ↦ happened.Noted n (subscriber_name s u) v None (told.Hosts v ms) ∷ [] | false ↦ note_at n v s u o ] in LeavesStates ns
+leaves_head true n v ms s u o = λ g st. refl
+leaves_head false n v ms s u None = λ g st. refl
+leaves_head false n v ms s u (Some b) = λ g st. refl
+
+notes_leave : (n : ℕ) (v : ViewId) (ms : List Member) (s : SessionState) (bs : List Base) (us : List Subscription) → LeavesStates (flat_map (notes_at n v ms s bs) us)
+notes_leave n v ms s bs [] = λ g st. refl
+notes_leave n v ms s bs (u ∷ us) = leaves_both (notes_at n v ms s bs u) (flat_map (notes_at n v ms s bs) us) (leaves_head (bytes_eq u.group host_membership) n v ms s u (base_named bs u.group)) (notes_leave n v ms s bs us)
+
+stated_head : (hosts : Bool) (n : ℕ) (v : ViewId) (ms : List Member) (s : SessionState) (u : Subscription) (o : Option Base) (rs : List Happened) (states : List ℕ → GroupState) (hs : List Handing) → logged_in rs states ≡ logged_by hs
+    → let ns : List Happened = elim hosts [ true ↦ happened.Noted n (subscriber_name s u) v None (told.Hosts v ms) ∷ [] | false ↦ note_at n v s u o ] in logged_in (ns ++ rs) states ≡ logged_by (map (handed_at (client_place s u.client)) ns ++ hs)
+stated_head true n v ms s u o rs states hs e = ap (λ (ls : List Logged). record { what = happened.Noted n (subscriber_name s u) v None (told.Hosts v ms); after = empty_state } ∷ ls) e
+stated_head false n v ms s u None rs states hs e = e
+stated_head false n v ms s u (Some b) rs states hs e = ap (λ (ls : List Logged). record { what = happened.Noted n (subscriber_name s u) v None (told.Note b.name b.state.members b.state.value); after = empty_state } ∷ ls) e
+
+stated_each : (n : ℕ) (v : ViewId) (ms : List Member) (s : SessionState) (bs : List Base) (us : List Subscription) (states : List ℕ → GroupState) → logged_in (flat_map (notes_at n v ms s bs) us) states ≡ logged_by (flat_map (note_handings n v ms s bs) us)
+stated_each n v ms s bs [] states = refl
+stated_each n v ms s bs (u ∷ us) states = stated_head (bytes_eq u.group host_membership) n v ms s u (base_named bs u.group) _ states _ (stated_each n v ms s bs us states)
+
 pub noted_does : (scripts : List (Option (List (Option VoteItem)))) (P : List Handing → Type 0) (s : Core) (rs : List Happened) (bs : List Base) → rs ≡ s.records ++ flat_map (notes_at s.views.me s.views.view s.views.members s.sessions bs) s.sessions.subs.live
     → P (flat_map (note_handings s.views.me s.views.view s.views.members s.sessions bs) s.sessions.subs.live) → Does scripts P s (record s { records = rs }) (λ f. entering_noted s bs)
-unfolding entering_noted entering_note base_note note_of recorded_all
+unfolding entering_noted entering_note base_note note_of recorded_all along_records
 noted_does scripts P s rs bs e received =
     let more : List Happened = flat_map (notes_at s.views.me s.views.view s.views.members s.sessions bs) s.sessions.subs.live in
     does_handing scripts P s (record s { records = rs }) (entering_noted s bs) (flat_map (note_handings s.views.me s.views.view s.views.members s.sessions bs) s.sessions.subs.live) received
@@ -170,3 +196,5 @@ noted_does scripts P s rs bs e received =
     (ap handed_in e
     ∙ (filter-append is_handed s.records more ∙ ap (λ (xs : List Happened). handed_in s.records ++ xs) (told_each s.views.me s.views.view s.views.members s.sessions bs s.sessions.subs.live)))
     (owned_each s.views.me s.views.view s.views.members s.sessions bs s.sessions.subs.live) (owners_themselves s.sessions)
+    (along_records s (record s { records = rs }) more e refl (notes_leave s.views.me s.views.view s.views.members s.sessions bs s.sessions.subs.live))
+    (λ o. stated_each s.views.me s.views.view s.views.members s.sessions bs s.sessions.subs.live (state_of s))

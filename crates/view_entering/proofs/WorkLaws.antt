@@ -1,6 +1,7 @@
 -- How the parts of entering a view come together, and what they keep.
-use Rattle.std.proofs.Common.{◌≡◌, inl, ℕ, Bool, true, false, List, [], ◌∷◌, ◌++◌, length, map, Option, Some, None, refl, sym, ap, ◌∙◌, arith, length-append, append-nil}
-use Rattle.std.specs.Prelude.{is_some, filter}
+use Rattle.std.proofs.Common.{◌≡◌, inl, ℕ, Bool, true, false, List, [], ◌∷◌, ◌++◌, length, map, Option, Some, None, refl, sym, ap, subst, ◌∙◌, arith, cond, length-append, append-nil}
+use Rattle.std.specs.Prelude.{is_some, filter, find, if◌then◌else◌}
+use Rattle.std.specs.Str.{bytes_eq}
 use Rattle.std.specs.List.{fold}
 use Rattle.std.proofs.lemmas.List.Elements.{filter-append}
 use Rattle.std.proofs.lemmas.List.Folds.{fold-map}
@@ -9,6 +10,8 @@ use Rattle.rsct_packet.specs.declared.ids.ProviderId.{ProviderId}
 use Rattle.rsct_packet.specs.declared.mask.Mask.{Mask}
 use Rattle.rsct_packet.specs.Providers.{among}
 use Rattle.proposal_core.specs.declared.group_state.GroupState.{GroupState}
+use Rattle.proposal_core.specs.Fold.{empty_state}
+use Rattle.proposal_core.specs.Lists.{state_in}
 use Rattle.client_callbacks.specs.declared.votes.VoteItem.{VoteItem}
 use Rattle.client_callbacks.specs.Ballots.{is_level}
 use Rattle.session_state.specs.declared.state.SessionState.{SessionState}
@@ -29,16 +32,18 @@ use Rattle.node_state.specs.declared.happened.Happened.TheVariants as happened
 use Rattle.node_state.specs.declared.packet.Body.TheVariants as body
 use Rattle.node_state.specs.declared.state.Core.{Core}
 use Rattle.node_state.specs.Settings.{is_fixed, level_if, view_level}
-use Rattle.node_state.specs.State.{state_of, held_rows, led_groups, recorded_all}
+use Rattle.node_state.specs.State.{AllAfter, InNameOrder, row_found, row_of, list_of, state_of, held_rows, led_groups, recorded_all}
 use Rattle.node_state.specs.Sending.{sent}
 use Rattle.node_state.specs.HandOn.{Answering}
 use Rattle.node_state.specs.Leading.{tally_opened, closes}
 use Rattle.node_state.specs.Applying.{Lacking, own_parts, lacking, lists_filled, level_set, base_row, base_leader, base_record, view_entered, sides_dissolved, entering_noted, taken_sent, owed_sent, failed_wait, phase_reopened, group_led, groups_led, entered, entered_if, install_applied, views_taken}
 use Rattle.node_state.specs.Step.{order_row}
 use Rattle.node_state.specs.Ticks.{ring_ask, views_part}
-use Rattle.node_groups.specs.Places.{InNameOrder}
 use Rattle.session_state.specs.Owners.{KeepsOwners}
-use Rattle.node_state.specs.Handed.{is_handed, handed_in}
+use Rattle.node_state.specs.Handed.{is_handed, handed_in, state_along}
+use Rattle.node_state.proofs.AlongLaws.{along_same}
+use Rattle.node_groups.specs.Places.{has_name}
+use Rattle.node_groups.proofs.NameOrder.{text_same, none_after}
 use Rattle.node_groups.specs.Keeps.{Stays, Keeps}
 use Rattle.session_state.proofs.OwnerLaws.{owners_themselves}
 use Rattle.node_groups.proofs.KeepLaws.{keeps_itself, keeps_then, keeps_stays, keeps_as, stays_then, sent_keeps}
@@ -61,7 +66,7 @@ pub views_sent_keeps : (s : Core) (w : ViewWork) → Keeps s (views_sent s w)
 unfolding views_sent
 views_sent_keeps s w =
     let t : Core = record s { views = w.views } in
-    keeps_then s t _ (record { records = omega arith; sessions = (refl, refl); order = λ o. o; handed = refl; owners = owners_themselves s.sessions }) (each_sent_keeps t w.sends)
+    keeps_then s t _ (record { records = omega arith; sessions = (refl, refl); order = λ o. o; handed = refl; owners = owners_themselves s.sessions; along = along_same s t refl refl }) (each_sent_keeps t w.sends)
 
 pub sent_work : {C : Type 0} (s t : Core) (w : ViewWork) (cs : List C) → t ≡ views_sent s w → AtWork s cs → AtWork t cs
 sent_work s t w cs sending work = work_kept s t cs (keeps_as s (views_sent s w) t sending (views_sent_keeps s w)) work
@@ -87,9 +92,44 @@ level_owners : (s : SessionState) (level : ℕ) → KeepsOwners s (record s { le
 unfolding provider_of place_of outstanding
 level_owners s level p = inl (record { place = refl; live = λ e. e; asked = λ e. e })
 
-pub entered_follows : (s : Core) (i : Install) (bs : List Base) → Follows s (view_entered s i bs)
+-- the state of the row that is found
+state_found : GroupState → Option GroupRow → GroupState
+state_found st None = st
+state_found st (Some row) = state_in row.list
+
+-- the base of the group, where it is the first one
+base_head : (s : Core) (g : List ℕ) (b : Base) (bs : List Base) (st : GroupState) → AllAfter b.name (map base_row bs) → (same : Bool) → bytes_eq b.name g ≡ same
+    → ((x : GroupState) → state_along g (map (base_record s) bs) x ≡ state_found x (find (has_name g) (map base_row bs))) → state_along g (map (base_record s) bs) (if same then b.state else st) ≡ state_found st (cond same (Some (base_row b)) (find (has_name g) (map base_row bs)))
+unfolding state_found base_row
+base_head s g b bs st late true e rest = rest b.state ∙ ap (state_found b.state) (none_after g (map base_row bs) (subst (λ h. AllAfter h (map base_row bs)) (text_same b.name g e) late))
+base_head s g b bs st late false e rest = rest st
+
+bases_state : (s : Core) (g : List ℕ) (bs : List Base) (st : GroupState) → InNameOrder (map base_row bs) → state_along g (map (base_record s) bs) st ≡ state_found st (find (has_name g) (map base_row bs))
+unfolding base_record base_row state_found
+bases_state s g [] st o = refl
+bases_state s g (b ∷ bs) st o = base_head s g b bs st o.0 (bytes_eq b.name g) refl (λ x. bases_state s g bs x o.1)
+
+found_state : (g : List ℕ) (o : Option GroupRow) → state_in (row_found g o).list ≡ state_found empty_state o
+unfolding state_found
+found_state g None = refl
+found_state g (Some row) = refl
+
+entered_state : (s : Core) (i : Install) (bs : List Base) (g : List ℕ) → InNameOrder (map base_row bs) → state_of (view_entered s i bs) g ≡ state_along g (map (base_record s) bs) empty_state
+unfolding view_entered recorded_all state_of list_of row_of
+entered_state s i bs g o = found_state g (find (has_name g) (map base_row bs)) ∙ sym (bases_state s g bs empty_state o)
+
+entered_lives : (s : Core) (i : Install) (bs : List Base) → (view_entered s i bs).sessions.sessions ≡ s.sessions.sessions
 unfolding view_entered recorded_all level_set
-entered_follows s i bs =
+entered_lives s i bs = refl
+
+bases_along : (s t : Core) (g : List ℕ) (bs : List Base) (st : GroupState) → state_along g (map (base_record s) bs) st ≡ state_along g (map (base_record t) bs) st
+unfolding base_record
+bases_along s t g [] st = refl
+bases_along s t g (b ∷ bs) st = bases_along s t g bs _
+
+pub entered_follows : (s : Core) (i : Install) (bs : List Base) → InNameOrder (map base_row bs) → Follows s (view_entered s i bs)
+unfolding view_entered recorded_all level_set
+entered_follows s i bs order =
     let t : Core = record s { views = views_entered s.views i; sessions = level_set s i.members; groups = map base_row bs; names = map base_leader bs } in
     let rs : List Happened = happened.In t.views.me i.view i.members ∷ map (base_record t) bs in
     record {
@@ -97,6 +137,7 @@ entered_follows s i bs =
       lives = refl;
       handed = filter-append is_handed s.records rs ∙ (ap (λ (xs : List Happened). handed_in s.records ++ xs) (bases_unhanded t bs) ∙ append-nil (handed_in s.records));
       owners = level_owners s.sessions _;
+      along = record { records = rs; more = refl; order = λ o. order; states = λ o g. entered_state s i bs g order ∙ bases_along s t g bs empty_state };
     }
 
 pub entered_work : {C : Type 0} (s : Core) (i : Install) (bs : List Base) (cs : List C) → InNameOrder (map base_row bs) → AtWork s cs → AtWork (view_entered s i bs) cs
@@ -105,7 +146,7 @@ entered_work s i bs cs order w = record { ready = record { level = entered_level
 
 -- as many clients as sessions
 pub entered_aligned : {C : Type 0} (s t : Core) (i : Install) (bs : List Base) (cs : List C) → t ≡ view_entered s i bs → AtWork s cs → length cs ≡ length t.sessions.sessions
-entered_aligned s t i bs cs entering w = w.ready.aligned ∙ ap length (sym (ap (λ (z : Core). z.sessions.sessions) entering ∙ (entered_follows s i bs).lives))
+entered_aligned s t i bs cs entering w = w.ready.aligned ∙ ap length (sym (ap (λ (z : Core). z.sessions.sessions) entering ∙ entered_lives s i bs))
 
 pub stays_aligned : {C : Type 0} (s t : Core) (cs ds : List C) → Stays s t → length ds ≡ length cs → length cs ≡ length s.sessions.sessions → length ds ≡ length t.sessions.sessions
 stays_aligned s t cs ds k many aligned = many ∙ (aligned ∙ ap length (sym k.sessions.0))
@@ -148,13 +189,13 @@ pub all_led_does : (scripts : List (Option (List (Option VoteItem)))) (P : List 
 unfolding groups_led
 all_led_does scripts P s t gs is done = does_as scripts P s t _ (λ f. groups_led f s) (λ f. ap (fold (group_led f) s) is) done
 
-pub arrive_does : (scripts : List (Option (List (Option VoteItem)))) (P Q W : List Handing → Type 0) → Joins P Q W → (s t u w x y : Core) (i : Install) (bs : List Base) (rows : List GroupRow) → rows ≡ s.groups → t ≡ view_entered s i bs
+pub arrive_does : (scripts : List (Option (List (Option VoteItem)))) (P Q W : List Handing → Type 0) → Joins P Q W → (s t u w x y : Core) (i : Install) (bs : List Base) (rows : List GroupRow) → rows ≡ s.groups → InNameOrder (map base_row bs) → t ≡ view_entered s i bs
     → Does scripts P t u (λ f. sides_dissolved t (filter (λ (row : GroupRow). is_some row.list) rows) s.views.view bs) → Does scripts Q u w (λ f. entering_noted u bs) → x ≡ taken_sent w → Keeps w x → y ≡ owed_sent x → Keeps x y → Does scripts W s y (λ f. arrived s i bs)
 unfolding arrived held_rows
-arrive_does scripts P Q W join s t u w x y i bs rows groups entering dissolving noting taking a owing b =
+arrive_does scripts P Q W join s t u w x y i bs rows groups order entering dissolving noting taking a owing b =
     let there : Does scripts W t w (λ f. entering_noted (sides_dissolved t (filter (λ (row : GroupRow). is_some row.list) rows) s.views.view bs) bs) =
     does_then scripts P Q W join t u w (λ f. sides_dissolved t (filter (λ (row : GroupRow). is_some row.list) rows) s.views.view bs) (λ f z. entering_noted z bs) dissolving noting in
-    let on : Follows s t = rw entering (entered_follows s i bs) in
+    let on : Follows s t = rw entering (entered_follows s i bs order) in
     does_as scripts W s y _ (λ f. arrived s i bs) (λ f. rw (entering, groups) refl)
     (does_before scripts W s w y _ (λ z. owed_sent (taken_sent z)) (does_after scripts W s t w _ on there) (owing ∙ ap owed_sent taking) (keeps_follows w y (keeps_then w x y a b)))
 

@@ -4,6 +4,7 @@ use Rattle.std.specs.Str.{bytes_eq}
 use Rattle.rsct_packet.specs.declared.ids.ViewId.{ViewId}
 use Rattle.rsct_packet.specs.declared.ids.Member.{Member}
 use Rattle.group_attr.specs.Attrs.{host_membership}
+use Rattle.proposal_core.specs.Fold.{empty_state}
 use Rattle.subscribe_core.specs.declared.subs.Subscription.{Subscription}
 use Rattle.client_callbacks.specs.declared.told.Told.TheVariants as told
 use Rattle.session_state.specs.declared.state.SessionState.{SessionState}
@@ -50,7 +51,7 @@ notes_at n v ms s bs u =
 
 -- what is handed to the client at a place, as a record tells it
 abbrev pub handed_at : Option ℕ → Happened → Handing
-handed_at place r = record { place = place; what = r }
+handed_at place r = record { place = place; what = r; after = empty_state }
 
 -- what the client of the subscription is handed
 abbrev pub note_handings : ℕ → ViewId → List Member → SessionState → List Base → Subscription → List Handing

@@ -29,30 +29,32 @@ use Rattle.node_state.specs.Sending.{sent_if_known, request_to, request_sent, ke
 use Rattle.node_state.specs.Calls.{caller, call_refused, changed, last_asked, proposed, ballot_recorded, ballot_sent_if, last_cast, ballot_given, gone_sent, all_gone_sent, goodbye_said, call_row}
 use Rattle.node_state.specs.Step.{NodeEvent, Ticks, Asks, Given, Calls, at_work}
 use Rattle.node_state.specs.Step as step
-use Rattle.node_state.specs.Handed.{handed_in}
+use Rattle.node_state.specs.Handed.{handed_in, Along}
+use Rattle.node_state.proofs.AlongLaws.{along_same, along_itself, along_then}
 use Rattle.node_groups.specs.Keeps.{Keeps}
 use Rattle.node_groups.proofs.KeepLaws.{keeps_itself, record_keeps, sent_keeps}
 use Rattle.session_calls.specs.Calling.{is_within_session}
 use Rattle.node_step.specs.Event.{called}
 
--- the same sessions, and nothing more is handed
+-- the same sessions, nothing more is handed, and the states of groups are as the records tell
 pub record Quiet (s t : Core) : Type 0 where
   pub lives : t.sessions.sessions ≡ s.sessions.sessions
   pub unhanded : handed_in t.records ≡ handed_in s.records
+  pub along : Along s t
 
 quiet : (s t : Core) → Keeps s t → Quiet s t
-quiet s t k = record { lives = k.sessions.0; unhanded = k.handed }
+quiet s t k = record { lives = k.sessions.0; unhanded = k.handed; along = k.along }
 
 quiet_then : (s t u : Core) → Quiet s t → Quiet t u → Quiet s u
-quiet_then s t u a b = record { lives = b.lives ∙ a.lives; unhanded = b.unhanded ∙ a.unhanded }
+quiet_then s t u a b = record { lives = b.lives ∙ a.lives; unhanded = b.unhanded ∙ a.unhanded; along = along_then s t u a.along b.along }
 
 quiet_with : (s : Core) (u : SessionState) → u.sessions ≡ s.sessions.sessions → Quiet s (with_sessions s u)
 unfolding with_sessions
-quiet_with s u e = record { lives = e; unhanded = refl }
+quiet_with s u e = record { lives = e; unhanded = refl; along = along_same s (with_sessions s u) refl refl }
 
 quiet_refused : (s : Core) (client : List ℕ) (f : GsFault) → Quiet s (call_refused s client f)
 unfolding call_refused
-quiet_refused s client f = quiet s (call_refused s client f) (record_keeps s (happened.Refused s.views.me client f) refl)
+quiet_refused s client f = quiet s (call_refused s client f) (record_keeps s (happened.Refused s.views.me client f) refl (λ g st. refl))
 
 -- ---- what is sent
 
@@ -103,12 +105,12 @@ unfolding last_asked
 asked_quiet s None = quiet s s (keeps_itself s)
 asked_quiet s (Some q) =
     let t : Core = recorded s (happened.Asked q.p q.r q.group q.proposal) in
-    quiet_then s t (last_asked s (Some q)) (quiet s t (record_keeps s (happened.Asked q.p q.r q.group q.proposal) refl)) (request_quiet t q)
+    quiet_then s t (last_asked s (Some q)) (quiet s t (record_keeps s (happened.Asked q.p q.r q.group q.proposal) refl (λ g st. refl))) (request_quiet t q)
 
 cast_quiet : (s : Core) (k : KeptBallot) (b : Option Filled) → Quiet s (ballot_recorded s k b)
 unfolding ballot_recorded
 cast_quiet s k None = quiet s s (keeps_itself s)
-cast_quiet s k (Some b) = quiet s (ballot_recorded s k (Some b)) (record_keeps s (happened.Cast k.p k.proto k.phase b.vote b.value b.message) refl)
+cast_quiet s k (Some b) = quiet s (ballot_recorded s k (Some b)) (record_keeps s (happened.Cast k.p k.proto k.phase b.vote b.value b.message) refl (λ g st. refl))
 
 ballot_quiet : (s : Core) (k : KeptBallot) (b : Bool) → Quiet s (ballot_sent_if s k b)
 unfolding ballot_sent_if
@@ -199,39 +201,55 @@ within_quiet s (call.Subscribe client g) h = changed_quiet s client _ (unless_sa
 within_quiet s (call.Unsubscribe client g) h = changed_quiet s client _ (unless_same s.sessions _ _ refl)
 within_quiet s (call.Goodbye client) h = absurd cc
 
-init_unhanded : (s : Core) (client : List ℕ) (r : Result SessionState GsFault) → handed_in (changed s client r).records ≡ handed_in s.records
+-- nothing more is handed, and the states of groups are as the records tell
+record Unheard (s t : Core) : Type 0 where
+  unhanded : handed_in t.records ≡ handed_in s.records
+  along : Along s t
+
+unheard : (s t : Core) → Quiet s t → Unheard s t
+unheard s t q = record { unhanded = q.unhanded; along = q.along }
+
+init_unheard : (s : Core) (client : List ℕ) (r : Result SessionState GsFault) → Unheard s (changed s client r)
 unfolding changed with_sessions
-init_unhanded s client (Ok u) = refl
-init_unhanded s client (Err f) = (quiet_refused s client f).unhanded
+init_unheard s client (Ok u) = record { unhanded = refl; along = along_same s (changed s client (Ok u)) refl refl }
+init_unheard s client (Err f) = unheard s _ (quiet_refused s client f)
 
-goodbye_unhanded : (s : Core) (client : List ℕ) (ended : List Provider) (r : Result SessionState GsFault) → handed_in (goodbye_said s client ended r).records ≡ handed_in s.records
+goodbye_unheard : (s : Core) (client : List ℕ) (ended : List Provider) (r : Result SessionState GsFault) → Unheard s (goodbye_said s client ended r)
 unfolding goodbye_said with_sessions
-goodbye_unhanded s client ended (Ok u) = (all_gone_quiet (with_sessions s u) ended).unhanded
-goodbye_unhanded s client ended (Err f) = (quiet_refused s client f).unhanded
+goodbye_unheard s client ended (Ok u) =
+    let t : Core = with_sessions s u in
+    let q : Quiet t (all_gone_sent t ended) = all_gone_quiet t ended in record { unhanded = q.unhanded; along = along_then s t _ (along_same s t refl refl) q.along }
+goodbye_unheard s client ended (Err f) = unheard s _ (quiet_refused s client f)
 
-call_unhanded : (s : Core) (c : CallLine) → handed_in (call_row s c).records ≡ handed_in s.records
+call_unheard : (s : Core) (c : CallLine) → Unheard s (call_row s c)
 unfolding call_row
-call_unhanded s (call.Init node name votes) = init_unhanded s name _
-call_unhanded s (call.Goodbye client) = goodbye_unhanded s client _ _
-call_unhanded s (call.Join client g instance attrs) = (within_quiet s (call.Join client g instance attrs) refl).unhanded
-call_unhanded s (call.Leave client g phases) = (within_quiet s (call.Leave client g phases) refl).unhanded
-call_unhanded s (call.Expel client g phases out) = (within_quiet s (call.Expel client g phases out) refl).unhanded
-call_unhanded s (call.ChangeState client g phases value) = (within_quiet s (call.ChangeState client g phases value) refl).unhanded
-call_unhanded s (call.SendMessage client g phases bytes) = (within_quiet s (call.SendMessage client g phases bytes) refl).unhanded
-call_unhanded s (call.ChangeAttributes client g phases attrs) = (within_quiet s (call.ChangeAttributes client g phases attrs) refl).unhanded
-call_unhanded s (call.Vote client g v value) = (within_quiet s (call.Vote client g v value) refl).unhanded
-call_unhanded s (call.Subscribe client g) = (within_quiet s (call.Subscribe client g) refl).unhanded
-call_unhanded s (call.Unsubscribe client g) = (within_quiet s (call.Unsubscribe client g) refl).unhanded
+call_unheard s (call.Init node name votes) = init_unheard s name _
+call_unheard s (call.Goodbye client) = goodbye_unheard s client _ _
+call_unheard s (call.Join client g instance attrs) = unheard s _ (within_quiet s (call.Join client g instance attrs) refl)
+call_unheard s (call.Leave client g phases) = unheard s _ (within_quiet s (call.Leave client g phases) refl)
+call_unheard s (call.Expel client g phases out) = unheard s _ (within_quiet s (call.Expel client g phases out) refl)
+call_unheard s (call.ChangeState client g phases value) = unheard s _ (within_quiet s (call.ChangeState client g phases value) refl)
+call_unheard s (call.SendMessage client g phases bytes) = unheard s _ (within_quiet s (call.SendMessage client g phases bytes) refl)
+call_unheard s (call.ChangeAttributes client g phases attrs) = unheard s _ (within_quiet s (call.ChangeAttributes client g phases attrs) refl)
+call_unheard s (call.Vote client g v value) = unheard s _ (within_quiet s (call.Vote client g v value) refl)
+call_unheard s (call.Subscribe client g) = unheard s _ (within_quiet s (call.Subscribe client g) refl)
+call_unheard s (call.Unsubscribe client g) = unheard s _ (within_quiet s (call.Unsubscribe client g) refl)
 
 -- ---- events
 
+called_unheard : (s : Core) (ev : NodeEvent) → Unheard s (called s ev)
+called_unheard s Ticks = record { unhanded = refl; along = along_itself s }
+called_unheard s (Asks mask) = record { unhanded = refl; along = along_itself s }
+called_unheard s (Given p) = record { unhanded = refl; along = along_itself s }
+called_unheard s step.Garbage = record { unhanded = refl; along = along_itself s }
+called_unheard s (Calls c) = call_unheard s c
+
 -- no event hands anything to a client before its rows
 pub called_unhanded : (s : Core) (ev : NodeEvent) → handed_in (called (at_work s) ev).records ≡ []
-called_unhanded s Ticks = refl
-called_unhanded s (Asks mask) = refl
-called_unhanded s (Given p) = refl
-called_unhanded s step.Garbage = refl
-called_unhanded s (Calls c) = call_unhanded (at_work s) c
+called_unhanded s ev = (called_unheard (at_work s) ev).unhanded
+
+pub called_along : (s : Core) (ev : NodeEvent) → Along (at_work s) (called (at_work s) ev)
+called_along s ev = (called_unheard (at_work s) ev).along
 
 -- the event neither begins nor ends a session
 abbrev pub is_within : NodeEvent → Bool

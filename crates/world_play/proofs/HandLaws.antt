@@ -15,9 +15,12 @@ use Rattle.node_state.specs.declared.state.Core.{Core}
 use Rattle.node_state.specs.Bytes.{packet_of, event_in, event_of}
 use Rattle.node_state.specs.HandOn.{Answering}
 use Rattle.node_state.specs.Step.{NodeEvent, Calls, at_work}
-use Rattle.node_state.specs.Handed.{handed_in}
+use Rattle.node_state.specs.State.{InNameOrder, state_of}
+use Rattle.node_state.specs.Handed.{handed_in, Along, Logged, logged_in}
+use Rattle.node_state.proofs.AlongLaws.{state_as, along_then, logged_same}
 use Rattle.entry_handing.specs.Received.{TellAll, WereHanded, AreFor, told_by, after_handings, Receive}
 use Rattle.entry_handing.specs.Doing.{Does}
+use Rattle.entry_handing.proofs.DoingLaws.{stated_after}
 use Rattle.node_step.specs.declared.events.NodeEvent.TheVariants as event
 use Rattle.node_step.specs.declared.events.NodeEvent as events
 use Rattle.node_step.specs.Event.{called, is_taken}
@@ -26,7 +29,7 @@ use Rattle.node_step.specs.Node.{NodeView}
 use Rattle.world_play.specs.declared.stepping.Left.{Left}
 use Rattle.world_play.specs.Standing.{Leaves}
 use Rattle.world_play.specs.Hands.{logs_called, StepHands, StepHears}
-use Rattle.world_play.proofs.CalledLaws.{called_unhanded, is_within}
+use Rattle.world_play.proofs.CalledLaws.{called_unhanded, called_along, is_within}
 
 -- ---- events that neither begin nor end a session
 
@@ -43,7 +46,7 @@ taken_within (event.Datagram bytes) h = within_packet (packet_of bytes.now)
 taken_within (event.Call c) h = h
 
 -- the logs stay as they are
-pub within_logs : (s : Core) (ev : NodeEvent) (ls : List (List Happened)) → IsTrue (is_within ev) → logs_called s ev ls ≡ ls
+pub within_logs : (s : Core) (ev : NodeEvent) (ls : List (List Logged)) → IsTrue (is_within ev) → logs_called s ev ls ≡ ls
 within_logs s (Calls (call.Init node name votes)) ls h = absurd cc
 within_logs s (Calls (call.Goodbye client)) ls h = absurd cc
 within_logs s (Calls _) ls h = refl
@@ -51,30 +54,35 @@ within_logs s _ ls h = refl
 
 -- ---- what does not depend on what an earlier step left
 
-work_logs : (s : Core) (ev : NodeEvent) (ls : List (List Happened)) → logs_called (at_work s) ev ls ≡ logs_called s ev ls
+work_logs : (s : Core) (ev : NodeEvent) (ls : List (List Logged)) → logs_called (at_work s) ev ls ≡ logs_called s ev ls
 work_logs s (Calls (call.Init node name votes)) ls = refl
 work_logs s (Calls (call.Goodbye client)) ls = refl
 work_logs s (Calls _) ls = refl
 work_logs s _ ls = refl
 
+-- the groups have the same states
+same_states : (s t : Core) → at_work s ≡ at_work t → (g : List ℕ) → state_of s g ≡ state_of t g
+same_states s t e g = state_as t s g (ap (λ (z : Core). z.groups) e)
+
 -- the same step of the node that it stands for
-pub hands_as : (s t : Core) (ev : NodeEvent) (rs : List Happened) (old new : List (List Happened)) → at_work s ≡ at_work t → StepHands s ev rs old new → StepHands t ev rs old new
+pub hands_as : (s t : Core) (ev : NodeEvent) (rs : List Happened) (old new : List (List Logged)) → at_work s ≡ at_work t → StepHands s ev rs old new → StepHands t ev rs old new
 hands_as s t ev rs old new e h = record {
   handings = h.handings;
   told = h.told;
+  stated = logged_same rs (state_of t) (state_of s) (same_states t s (sym e)) ∙ h.stated;
   owned = subst (λ (z : Core). AreFor (called z ev).sessions h.handings) e h.owned;
   logs = h.logs ∙ ap (after_handings h.handings) (sym (work_logs s ev old) ∙ (ap (λ (z : Core). logs_called z ev old) e ∙ work_logs t ev old));
 }
 
 -- ---- clients that come and go
 
-tell_added : (xss : List (List Handed)) (rss : List (List Happened)) → TellAll xss rss → TellAll (xss ++ [] ∷ []) (rss ++ [] ∷ [])
+tell_added : (xss : List (List Handed)) (rss : List (List Logged)) → TellAll xss rss → TellAll (xss ++ [] ∷ []) (rss ++ [] ∷ [])
 tell_added [] [] h = (tt, tt)
 tell_added [] (rs ∷ rss) h = absurd h
 tell_added (xs ∷ xss) [] h = absurd h
 tell_added (xs ∷ xss) (rs ∷ rss) h = (h.0, tell_added xss rss h.1)
 
-tell_removed : (i : ℕ) (xss : List (List Handed)) (rss : List (List Happened)) → TellAll xss rss → TellAll (remove xss i) (remove rss i)
+tell_removed : (i : ℕ) (xss : List (List Handed)) (rss : List (List Logged)) → TellAll xss rss → TellAll (remove xss i) (remove rss i)
 tell_removed zero [] [] h = tt
 tell_removed (suc i) [] [] h = tt
 tell_removed i [] (rs ∷ rss) h = absurd h
@@ -98,12 +106,12 @@ module _ {C : Type 0} (R : C → List Handed → Type 0) where
   stand_removed (suc i) (c ∷ cs) (xs ∷ xss) h = (h.0, stand_removed i cs xss h.1)
 
   -- a session that begins has handed nothing to its client yet
-  pub handed_with : (c : C) (cs : List C) (rss : List (List Happened)) (r : Result SessionState GsFault) → R c [] → WereHanded R cs rss → WereHanded R (clients_with c cs r) (clients_with [] rss r)
+  pub handed_with : (c : C) (cs : List C) (rss : List (List Logged)) (r : Result SessionState GsFault) → R c [] → WereHanded R cs rss → WereHanded R (clients_with c cs r) (clients_with [] rss r)
   handed_with c cs rss (Ok t) new h = record { lists = h.lists ++ [] ∷ []; stand = stand_added cs h.lists c new h.stand; told = tell_added h.lists rss h.told }
   handed_with c cs rss (Err f) new h = h
 
   -- a session that ends takes its client and its log away
-  pub handed_without : (place : Option ℕ) (cs : List C) (rss : List (List Happened)) → WereHanded R cs rss → WereHanded R (removed_at place cs) (removed_at place rss)
+  pub handed_without : (place : Option ℕ) (cs : List C) (rss : List (List Logged)) → WereHanded R cs rss → WereHanded R (removed_at place cs) (removed_at place rss)
   handed_without None cs rss h = h
   handed_without (Some i) cs rss h = record { lists = remove h.lists i; stand = stand_removed i cs h.lists h.stand; told = tell_removed i h.lists rss h.told }
 
@@ -111,14 +119,22 @@ module _ {C : Type 0} (R : C → List Handed → Type 0) where
 
   -- a step whose rows begin with these clients
   pub hears_from : (n m o : NodeView C) (l : Left) (cs : List C) (ev : NodeEvent) (ss : List (Option (List (Option VoteItem)))) (row : Answering → Core) (k : ℕ)
-      → ((rss : List (List Happened)) → WereHanded R n.clients rss → WereHanded R cs (logs_called n.core ev rss))
+      → InNameOrder n.core.groups → ((rss : List (List Logged)) → WereHanded R n.clients rss → WereHanded R cs (logs_called n.core ev rss))
       → Does ss (Receive R cs m.clients) (called (at_work n.core) ev) m.core row → Leaves m o l k → StepHears R n o l.records ev
-  hears_from n m o l cs ev ss row k begun d left rss were =
-      let mid : List (List Happened) = logs_called n.core ev rss in (
+  unfolding along_then
+  hears_from n m o l cs ev ss row k order begun d left rss were =
+      let mid : List (List Logged) = logs_called n.core ev rss in
+      let w : Core = at_work n.core in
+      let a : Core = called w ev in
+      let before : Along w a = called_along n.core ev in
+      let all : Along w m.core = along_then w a m.core before d.along in (
         after_handings d.handings mid,
         record {
           handings = d.handings;
           told = ap handed_in left.records ∙ (d.told ∙ ap (λ (rs : List Happened). rs ++ told_by d.handings) (called_unhanded n.core ev));
+          stated = ap (λ rs. logged_in rs (state_of n.core)) (left.records ∙ all.more)
+              ∙ (logged_same all.records (state_of n.core) (state_of w) (λ g. state_as w n.core g refl)
+              ∙ stated_after w a m.core before d.along d.handings (called_unhanded n.core ev) d.stated order);
           owned = d.owned;
           logs = refl;
         },
@@ -126,6 +142,6 @@ module _ {C : Type 0} (R : C → List Handed → Type 0) where
       )
 
   -- one that neither begins nor ends a session
-  pub hears_within : (n m o : NodeView C) (l : Left) (ev : NodeEvent) (ss : List (Option (List (Option VoteItem)))) (row : Answering → Core) (k : ℕ) → IsTrue (is_within ev)
+  pub hears_within : (n m o : NodeView C) (l : Left) (ev : NodeEvent) (ss : List (Option (List (Option VoteItem)))) (row : Answering → Core) (k : ℕ) → InNameOrder n.core.groups → IsTrue (is_within ev)
       → Does ss (Receive R n.clients m.clients) (called (at_work n.core) ev) m.core row → Leaves m o l k → StepHears R n o l.records ev
-  hears_within n m o l ev ss row k within d left = hears_from n m o l n.clients ev ss row k (λ rss were. subst (WereHanded R n.clients) (sym (within_logs n.core ev rss within)) were) d left
+  hears_within n m o l ev ss row k order within d left = hears_from n m o l n.clients ev ss row k order (λ rss were. subst (WereHanded R n.clients) (sym (within_logs n.core ev rss within)) were) d left

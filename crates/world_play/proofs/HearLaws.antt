@@ -17,7 +17,7 @@ use Rattle.node_state.specs.Calls.{caller_of}
 use Rattle.node_state.specs.HandOn.{Answering}
 use Rattle.node_state.specs.State.{with_sessions}
 use Rattle.node_state.specs.Step.{NodeEvent, Given, Calls, own_rings, first_view, first_members, ring_record, started}
-use Rattle.node_state.specs.Handed.{is_handed, handed_in}
+use Rattle.node_state.specs.Handed.{is_handed, handed_in, Logged}
 use Rattle.entry_handing.specs.Received.{WereHanded}
 use Rattle.node_step.specs.Node.{NodeView}
 use Rattle.world_model.specs.World.{Script, is_node, node_at, kth_in, kth_between}
@@ -103,7 +103,7 @@ module _ {C : Type 0} (R : C → List Handed → Type 0) (script : C → Option 
       let there : NodeStands script said old x = subst (λ (z : NodeView C). NodeStands script said z x) (sym here) s.stands in
       let t : StepDone script said a new l x (g x) ev = stepping x there in
       let were : WereHanded R old.clients (logs_of k logs) = subst (λ (z : NodeView C). WereHanded R z.clients (logs_of k logs)) (sym here) (logs_at R k ns logs i old stand (sym at)) in
-      let heard : (ls : List (List Happened)) × StepHands old.core ev l.records (logs_of k logs) ls × WereHanded R new.clients ls = hears (logs_of k logs) were in (
+      let heard : (ls : List (List Logged)) × StepHands old.core ev l.records (logs_of k logs) ls × WereHanded R new.clients ls = hears (logs_of k logs) were in (
         logs_with k heard.0 logs,
         rw s.found (heard.0, hands_as old.core x.core ev l.records (logs_of k logs) heard.0 there.core heard.1, refl),
         logs_set R k ns logs i new heard.0 stand (sym at) (same_me script said new _ t.left.stands ∙ (t.left.me ∙ s.me)) heard.2,

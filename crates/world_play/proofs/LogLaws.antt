@@ -6,7 +6,7 @@ use Rattle.std.proofs.lemmas.Bool.{eqb-true}
 use Rattle.rsct_packet.specs.Lists.{drop_where}
 use Rattle.rsct_packet.specs.Search.{place_where, insert_before}
 use Rattle.client_callbacks.specs.Handed.{Handed}
-use Rattle.node_state.specs.declared.happened.Happened.{Happened}
+use Rattle.node_state.specs.Handed.{Logged}
 use Rattle.entry_handing.specs.Received.{WereHanded}
 use Rattle.node_step.specs.Node.{NodeView}
 use Rattle.world_play.specs.Standing.{is_me, comes_before}
@@ -30,7 +30,7 @@ module _ {C : Type 0} (R : C → List Handed → Type 0) where
   logs_at k (n ∷ ns) [] i d h e = absurd h
   logs_at k (n ∷ ns) (x ∷ xs) i d h e = at_head k (is_me k n) (place_where (is_me k) ns) n ns x xs d h.1 (is_same k n x h.0) (λ j q. logs_at k ns xs j d h.2 q) i e
 
-  set_head : (k : ℕ) (t : Bool) (o : Option ℕ) (m n : NodeView C) (ns : List (NodeView C)) (x : ClientLogs) (xs : Logs) (ls : List (List Happened)) → m.core.views.me ≡ k → is_log k x ≡ t
+  set_head : (k : ℕ) (t : Bool) (o : Option ℕ) (m n : NodeView C) (ns : List (NodeView C)) (x : ClientLogs) (xs : Logs) (ls : List (List Logged)) → m.core.views.me ≡ k → is_log k x ≡ t
       → (x.node ≡ n.core.views.me) × WereHanded R n.clients x.logs → WereHanded R m.clients ls → LogsStand R ns xs → ((j : ℕ) → o ≡ Some j → LogsStand R (set ns j m) (logs_with k ls xs))
       → (i : ℕ) → cond t (Some 0) (option_map suc o) ≡ Some i → LogsStand R (set (n ∷ ns) i m) (logs_with k ls (x ∷ xs))
   set_head k true o m n ns x xs ls me p h were rest ih i e = let z : i ≡ 0 = cc in rw (z, p, logs_with) (eqb-true x.node k p ∙ sym me, were, rest)
@@ -38,7 +38,7 @@ module _ {C : Type 0} (R : C → List Handed → Type 0) where
   set_head k false (Some j) m n ns x xs ls me p h were rest ih i e = let s : i ≡ suc j = cc in rw (s, p, logs_with) (h.0, h.1, ih j refl)
 
   -- a node that goes on stays at its place
-  pub logs_set : (k : ℕ) (ns : List (NodeView C)) (xs : Logs) (i : ℕ) (m : NodeView C) (ls : List (List Happened))
+  pub logs_set : (k : ℕ) (ns : List (NodeView C)) (xs : Logs) (i : ℕ) (m : NodeView C) (ls : List (List Logged))
       → LogsStand R ns xs → place_where (is_me k) ns ≡ Some i → m.core.views.me ≡ k → WereHanded R m.clients ls → LogsStand R (set ns i m) (logs_with k ls xs)
   logs_set k [] xs i m ls h e me were = absurd cc
   logs_set k (n ∷ ns) [] i m ls h e me were = absurd h

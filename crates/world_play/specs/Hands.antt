@@ -13,9 +13,10 @@ use Rattle.node_state.specs.declared.state.Core.{Core}
 use Rattle.rsct_packet.specs.Ids.{last_u32}
 use Rattle.node_state.specs.Step.{NodeEvent, Ticks, Asks, Given, Calls, at_work}
 use Rattle.node_state.specs.Step as step
-use Rattle.node_state.specs.Handed.{handed_in}
+use Rattle.node_state.specs.State.{state_of}
+use Rattle.node_state.specs.Handed.{handed_in, Logged, logged_in}
 use Rattle.session_calls.specs.Calling.{clients_with}
-use Rattle.entry_handing.specs.Received.{WereHanded, Handing, AreFor, told_by, after_handings}
+use Rattle.entry_handing.specs.Received.{WereHanded, Handing, AreFor, told_by, logged_by, after_handings}
 use Rattle.node_step.specs.Node.{NodeView}
 use Rattle.node_step.specs.Event.{called}
 use Rattle.world_model.specs.declared.event.Event.{Event}
@@ -27,10 +28,10 @@ use Rattle.world_play.specs.declared.world.World.{World}
 use Rattle.world_play.specs.declared.stepping.Left.{Left}
 use Rattle.world_play.specs.Standing.{NodesStand, Stands}
 
--- the records of what each client of a node was handed, in the order of the sessions
+-- the records of what each client of a node was handed, with the states of groups, in the order of the sessions
 pub record ClientLogs : Type 0 where
   pub node : ℕ
-  pub logs : List (List Happened)
+  pub logs : List (List Logged)
 
 -- in the order of the nodes
 abbrev pub Logs : Type 0
@@ -39,16 +40,16 @@ Logs = List ClientLogs
 abbrev pub is_log : ℕ → ClientLogs → Bool
 is_log n x = x.node == n
 
-abbrev pub logs_in : Option ClientLogs → List (List Happened)
+abbrev pub logs_in : Option ClientLogs → List (List Logged)
 logs_in None = []
 logs_in (Some x) = x.logs
 
 -- those of the node of a number
-abbrev pub logs_of : ℕ → Logs → List (List Happened)
+abbrev pub logs_of : ℕ → Logs → List (List Logged)
 logs_of n xs = logs_in (find (is_log n) xs)
 
 -- with those of the node of a number changed
-abbrev pub logs_with : ℕ → List (List Happened) → Logs → Logs
+abbrev pub logs_with : ℕ → List (List Logged) → Logs → Logs
 logs_with n ls [] = []
 logs_with n ls (x ∷ xs) = elim (is_log n x) [ true ↦ record x { logs = ls } ∷ xs | false ↦ x ∷ logs_with n ls xs ]
 
@@ -60,23 +61,24 @@ LogsStand R (n ∷ ns) [] = ⊥
 LogsStand R (n ∷ ns) (x ∷ xs) = (x.node ≡ n.core.views.me) × WereHanded R n.clients x.logs × LogsStand R ns xs
 
 -- a session that begins has an empty log, and the log of one that ends is dropped
-abbrev pub logs_called_by : Core → CallLine → List (List Happened) → List (List Happened)
+abbrev pub logs_called_by : Core → CallLine → List (List Logged) → List (List Logged)
 logs_called_by s (call.Init node name votes) ls = clients_with [] ls (inited s.sessions name)
 logs_called_by s (call.Goodbye client) ls = removed_at (client_place s.sessions (client_token s.sessions client)) ls
 logs_called_by s _ ls = ls
 
-abbrev pub logs_called : Core → NodeEvent → List (List Happened) → List (List Happened)
+abbrev pub logs_called : Core → NodeEvent → List (List Logged) → List (List Logged)
 logs_called s Ticks ls = ls
 logs_called s (Asks mask) ls = ls
 logs_called s (Given p) ls = ls
 logs_called s step.Garbage ls = ls
 logs_called s (Calls c) ls = logs_called_by s c ls
 
--- what the step of a node hands to its clients: what its records tell, each to the client whose it is once a call is
--- taken
-pub record StepHands (s : Core) (ev : NodeEvent) (rs : List Happened) (old new : List (List Happened)) : Type 0 where
+-- what the step of a node hands to its clients: what its records tell, with the states that they make of those of its
+-- groups, each to the client whose it is once a call is taken
+pub record StepHands (s : Core) (ev : NodeEvent) (rs : List Happened) (old new : List (List Logged)) : Type 0 where
   pub handings : List Handing
   pub told : handed_in rs ≡ told_by handings
+  pub stated : logged_in rs (state_of s) ≡ logged_by handings
   pub owned : AreFor (called (at_work s) ev).sessions handings
   pub logs : new ≡ after_handings handings (logs_called s ev old)
 
@@ -87,7 +89,7 @@ HandsNothing rs old new = (handed_in rs ≡ []) × (new ≡ old)
 -- a step of the node of a number, if it is up
 abbrev pub NodeHands : Option world.Node → ℕ → NodeEvent → List Happened → Logs → Logs → Type 0
 NodeHands None n ev rs old new = HandsNothing rs old new
-NodeHands (Some x) n ev rs old new = (ls : List (List Happened)) × StepHands x.core ev rs (logs_of n old) ls × (new ≡ logs_with n ls old)
+NodeHands (Some x) n ev rs old new = (ls : List (List Logged)) × StepHands x.core ev rs (logs_of n old) ls × (new ≡ logs_with n ls old)
 
 abbrev pub DeliveryHands : Option world.Node → Option Packet → ℕ → List Happened → Logs → Logs → Type 0
 DeliveryHands None p n rs old new = HandsNothing rs old new
@@ -131,7 +133,7 @@ empty_logs w = map (λ (x : world.Node). record { node = x.core.views.me; logs =
 
 -- what clients were handed in one step of a node that is kept
 abbrev pub StepHears : {C : Type 0} → (C → List Handed → Type 0) → NodeView C → NodeView C → List Happened → NodeEvent → Type 0
-StepHears R n o rs ev = (ls : List (List Happened)) → WereHanded R n.clients ls → (new : List (List Happened)) × StepHands n.core ev rs ls new × WereHanded R o.clients new
+StepHears R n o rs ev = (ls : List (List Logged)) → WereHanded R n.clients ls → (new : List (List Logged)) × StepHands n.core ev rs ls new × WereHanded R o.clients new
 
 abbrev pub records_left : Option Left → List Happened
 records_left None = []

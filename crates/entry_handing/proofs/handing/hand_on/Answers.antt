@@ -9,7 +9,7 @@ pub returns-clause-does : goal.returns-clause-does
 returns-clause-does g c =
     on_ok_weaker c.send_casts.result
     (λ sending. handed_does _ _ _ _ (receive_then _ _ _ _) c.args.core.now c.hand.new.core c.note.new.core c.send_casts.new.core c.args.n.now.view c.args.to c.args.n.now.group.now c.args.n.now.place c.args.before.now c.args.n.now.after.now c.args.n.now.entry.now
-    c.in_ok-hand.ensures.handed.0 c.hand.new.casts c.requires.view c.in_ok-hand.ensures.same c.in_ok-hand.ensures.handed.1 c.in_ok-hand.ensures.handed.2 c.in_ok-hand.ensures.handed.3 c.in_ok-hand.ensures.received c.in_ok-note.ensures.core c.in_ok-note.ensures.received sending)
+    c.in_ok-hand.ensures.handed.0 c.hand.new.casts c.requires.view c.in_ok-hand.ensures.same c.in_ok-hand.ensures.handed.1 c.in_ok-hand.ensures.handed.2 c.requires.state c.in_ok-hand.ensures.handed.3 c.in_ok-hand.ensures.received c.in_ok-note.ensures.core c.in_ok-note.ensures.received sending)
     (rw c.as_slice.ensures at c.send_casts.ensures)
 
 pub returns-clause-ready : goal.returns-clause-ready

@@ -9,4 +9,4 @@ pub returns-clause-row : goal.returns-clause-row
 returns-clause-row c = on_ok_weaker c.tick_tally.result (λ rows. tally_at c.args.core.now _ c.args.g.now _ c.requires rows) c.tick_tally.ensures
 
 pub returns-clause-keeps : goal.returns-clause-keeps
-returns-clause-keeps c = on_ok_weaker c.tick_tally.result (λ rows. keeps_rows c.args.core.now _ c.args.g.now _ rows (λ x. refl)) c.tick_tally.ensures
+returns-clause-keeps c = on_ok_weaker c.tick_tally.result (λ rows. keeps_rows c.args.core.now _ c.args.g.now _ rows (λ x. refl) (λ x. refl)) c.tick_tally.ensures

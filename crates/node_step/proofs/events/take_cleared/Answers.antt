@@ -1,5 +1,4 @@
--- A tick.
-use Rattle.std.proofs.lemmas.Result.{on_ok_weaker}
+-- Each kind of event.
 use Rattle.node_state.specs.Step.{event_row}
 use Rattle.std.proofs.lemmas.Result.{on_ok_weaker}
 use Rattle.node_state.specs.Bytes.{packet_of, event_of}
@@ -9,6 +8,12 @@ use Rattle.node_step.proofs.events.take_cleared.Goals as goal
 pub returns-in-Tick-clause-does : goal.returns-in-Tick-clause-does
 unfolding event_row
 returns-in-Tick-clause-does g c = rw c.in-Tick.is c.tick.ensures.does
+
+pub returns-in-Ask-clause-does : goal.returns-in-Ask-clause-does
+returns-in-Ask-clause-does g c = rw c.in-Ask.is c.obey.ensures.does
+
+pub returns-in-Call-clause-does : goal.returns-in-Call-clause-does
+returns-in-Call-clause-does g c = rw c.in-Call.is c.answer.ensures.does
 
 -- A datagram is no call.
 pub returns-in-Datagram-clause-does : goal.returns-in-Datagram-clause-does

@@ -1,4 +1,4 @@
--- NAME and TELL, which ask no client.
+-- Each kind of packet is its row.
 use Rattle.node_state.specs.Step.{body_row}
 use Rattle.std.proofs.lemmas.Result.{on_ok_weaker}
 use Rattle.entry_handing.proofs.DoingLaws.{receive_nothing, does_nothing}
@@ -52,3 +52,39 @@ returns-in-Query-clause-does g c =
 pub returns-in-Reply-clause-does : goal.returns-in-Reply-clause-does
 unfolding body_row
 returns-in-Reply-clause-does g c = rw c.in-Reply.is (does_nothing _ _ _ (receive_nothing _ _))
+
+pub returns-in-Prepare-clause-does : goal.returns-in-Prepare-clause-does
+unfolding body_row
+returns-in-Prepare-clause-does g c = rw c.in-Prepare.is c.take_prepare.ensures.does
+
+pub returns-in-Answer-clause-does : goal.returns-in-Answer-clause-does
+unfolding body_row
+returns-in-Answer-clause-does g c = rw c.in-Answer.is c.take_answer.ensures.does
+
+pub returns-in-Refuse-clause-does : goal.returns-in-Refuse-clause-does
+unfolding body_row
+returns-in-Refuse-clause-does g c = rw c.in-Refuse.is c.take_refuse.ensures.does
+
+pub returns-in-Install-clause-does : goal.returns-in-Install-clause-does
+unfolding body_row
+returns-in-Install-clause-does g c = rw c.in-Install.is c.take_install.ensures.does
+
+pub returns-in-Taken-clause-does : goal.returns-in-Taken-clause-does
+unfolding body_row
+returns-in-Taken-clause-does g c = rw c.in-Taken.is c.take_taken.ensures.does
+
+pub returns-in-Request-clause-does : goal.returns-in-Request-clause-does
+unfolding body_row
+returns-in-Request-clause-does g c = rw c.in-Request.is c.take_request_packet.ensures.does
+
+pub returns-in-Entry-clause-does : goal.returns-in-Entry-clause-does
+unfolding body_row
+returns-in-Entry-clause-does g c = rw c.in-Entry.is c.take_entry_packet.ensures.does
+
+pub returns-in-Vote-clause-does : goal.returns-in-Vote-clause-does
+unfolding body_row
+returns-in-Vote-clause-does g c = rw c.in-Vote.is c.take_vote_packet.ensures.does
+
+pub returns-in-Gone-clause-does : goal.returns-in-Gone-clause-does
+unfolding body_row
+returns-in-Gone-clause-does g c = rw c.in-Gone.is c.take_gone_packet.ensures.does

@@ -16,6 +16,6 @@ returns-in-Ok-clause-done g c =
 pub returns-in-Ok-clause-hears : goal.returns-in-Ok-clause-hears
 returns-in-Ok-clause-hears g c =
     IfOk-weaker c.leave.result _ _
-    (λ l left k. hears_from g.C.Callbacks.stands_for c.args.node.now c.begin_session.new.self c.leave.new.node l _ (Calls (Init k c.args.name.now c.args.votes.now)) _ _ _
+    (λ l left k. hears_from g.C.Callbacks.stands_for c.args.node.now c.begin_session.new.self c.leave.new.node l _ (Calls (Init k c.args.name.now c.args.votes.now)) _ _ _ c.in-Ok.ensures.order
     (λ rss were. handed_with g.C.Callbacks.stands_for c.in_ok-client.client c.args.node.now.clients rss (inited c.args.node.now.core.sessions c.args.name.now) c.in_ok-client.ensures.stands were) (c.in-Ok.ensures.does k c.args.votes.now) left)
     (rw c.core.ensures at c.leave.ensures)

@@ -14,5 +14,5 @@ returns-in-Ok-clause-steps g c =
 pub returns-in-Ok-clause-hears : goal.returns-in-Ok-clause-hears
 returns-in-Ok-clause-hears g c =
     IfOk-weaker c.leave.result _ _
-    (λ l left. hears_within g.C.Callbacks.stands_for c.args.node.now c.step.new.self c.leave.new.node l (event_in c.args.e) _ _ _ (taken_within c.args.e c.requires.taken) c.in-Ok.ensures.does left)
+    (λ l left. hears_within g.C.Callbacks.stands_for c.args.node.now c.step.new.self c.leave.new.node l (event_in c.args.e) _ _ _ c.in-Ok.ensures.order (taken_within c.args.e c.requires.taken) c.in-Ok.ensures.does left)
     (rw c.core.ensures at c.leave.ensures)
