@@ -15,23 +15,22 @@ use Rattle.proposal_core.specs.Fold.{empty_state, present}
 use Rattle.proposal_core.specs.Lists.{list_or_new, state_in}
 use Rattle.session_state.specs.declared.state.Provider.{Provider}
 use Rattle.session_state.specs.State.{provider_of}
-use Rattle.view_exchange.specs.declared.install.Install.{Install}
-use Rattle.view_exchange.specs.declared.install.Base.{Base}
-use Rattle.view_exchange.specs.Bases.{bases_of, base_named}
-use Rattle.view_core.specs.Views.{views_entered}
+use Rattle.view_state.specs.declared.install.Install.{Install}
+use Rattle.view_state.specs.declared.install.Base.{Base}
+use Rattle.view_state.specs.Bases.{bases_of, base_named}
+use Rattle.view_state.specs.Views.{views_entered}
 use Rattle.node_state.specs.declared.group.GroupRow.{GroupRow}
 use Rattle.node_state.specs.declared.happened.Happened.{Happened}
 use Rattle.node_state.specs.declared.happened.Happened.TheVariants as happened
 use Rattle.node_state.specs.declared.state.Core.{Core}
-use Rattle.node_state.specs.State.{InNameOrder, AllAfter, row_found, row_of, list_of, state_of, len_of, held_rows, recorded_all}
+use Rattle.node_state.specs.State.{InNameOrder, AllAfter, row_found, row_of, list_of, state_of, len_of, held_rows, recorded_all, has_name}
 use Rattle.node_state.specs.Applying.{level_set, base_row, base_record, view_entered, is_in_base, dissolved_if, group_dissolved, sides_dissolved}
 use Rattle.run_safety.specs.ViewOrder.{Lt}
 use Rattle.run_safety.specs.Past.{History, earlier}
 use Rattle.run_safety.specs.SafeHeard.{heard_count}
 use Rattle.run_safety.specs.Stays.{Stay, stays, with_base, part}
 use Rattle.run_safety.proofs.Order.{lt_not_same, lt_trans}
-use Rattle.node_groups.specs.Places.{has_name}
-use Rattle.node_groups.proofs.NameOrder.{none_after, text_same}
+use Rattle.node_state.proofs.NameOrder.{none_after, text_same}
 use Rattle.step_ties.proofs.BaseOrder.{bases_ordered, row_of_base, base_noted}
 use Rattle.hearing.specs.Hearing.{last_heard}
 use Rattle.hearing.specs.Changes.{Aside, Inner}
@@ -40,7 +39,7 @@ use Rattle.hearing.proofs.Viewing.{sides_stand}
 use Rattle.hearing.proofs.Doing.{Hearing, back_fold, dissolved_back, rows_stay, present_row, base_len, entered_groups}
 use Rattle.attending.proofs.Parts.{part_passes, part_enters}
 use Rattle.attending.proofs.Staying.{InStay, Takes, Place, inner_stays, aside_count, none_count}
-use Rattle.attending.proofs.Doing.{Adds, sides_add, enters_add}
+use Rattle.hearing.proofs.Added.{Adds, sides_add, enters_add}
 
 -- ---- records that are added
 

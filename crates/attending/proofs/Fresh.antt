@@ -27,7 +27,7 @@ use Rattle.run_safety.proofs.Order.{lt_not_same}
 use Rattle.run_safety.proofs.SightLaws.{put_seen}
 use Rattle.run_safety.proofs.Whole.{Whole}
 use Rattle.run_safety.proofs.Lives.{whole}
-use Rattle.node_groups.proofs.NameOrder.{text_same}
+use Rattle.node_state.proofs.NameOrder.{text_same}
 use Rattle.step_ties.specs.Ghost.{asking}
 use Rattle.step_ties.specs.Tied.{Scene, NodeIs, NodeIsIf, Rests, opening_of}
 use Rattle.step_ties.specs.Runs.{Reached}

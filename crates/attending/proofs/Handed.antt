@@ -23,7 +23,7 @@ use Rattle.node_state.specs.HandOn.{cast_record, cast_records}
 use Rattle.run_safety.specs.Past.{History, Within, earlier, fold_from}
 use Rattle.run_safety.specs.SafeHeard.{heard_count, is_after, InOrder}
 use Rattle.run_safety.specs.Stays.{Stay, stays, is_join_of, part, takes_part}
-use Rattle.node_groups.proofs.NameOrder.{cases_text}
+use Rattle.node_state.proofs.NameOrder.{cases_text}
 use Rattle.step_ties.proofs.SessionLaws.{cast_has}
 use Rattle.hearing.proofs.Handing.{Kept, has_among, handed_kept, handed_begun, handed_present, hearer_found, present_hears, new_hears}
 use Rattle.hearing.proofs.Attending.{pushed, pushed_append, heard_at, has_cast}

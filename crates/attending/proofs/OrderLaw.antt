@@ -19,7 +19,7 @@ use Rattle.node_state.specs.State.{list_of, state_of, len_of, row_of, with_sessi
 use Rattle.node_state.specs.HandOn.{Answering}
 use Rattle.node_state.specs.Applying.{level_set}
 use Rattle.node_state.specs.Step.{NodeEvent, at_work, started, stepped, first_view, first_members, own_rings, ring_record}
-use Rattle.view_core.specs.Views.{views_new}
+use Rattle.view_state.specs.Views.{views_new}
 use Rattle.world_model.specs.declared.event.Event.{Event}
 use Rattle.run_safety.specs.Past.{History, EachRecord, Within, records_of}
 use Rattle.run_safety.specs.SafeHeard.{heard_count}
@@ -31,7 +31,8 @@ use Rattle.step_ties.proofs.Changed.{each_set}
 use Rattle.hearing.specs.Changes.{Aside, Inner}
 use Rattle.hearing.proofs.Listening.{reverse_has, start_asides, note_aside, steps_change}
 use Rattle.attending.specs.Order.{HeardInOrder}
-use Rattle.attending.proofs.Law.{incs_of, begin_strict, step_fine}
+use Rattle.attending.proofs.Law.{begin_strict, step_fine}
+use Rattle.hearing.proofs.Incarnations.{incs_of}
 use Rattle.attending.proofs.Staying.{InStay, Takes, Place, inner_stays, aside_count}
 use Rattle.attending.proofs.Handed.{Order}
 use Rattle.attending.proofs.Ordering.{Ordered, aside_order, ordered_does}

@@ -21,10 +21,10 @@ use Rattle.session_state.specs.declared.state.SessionState.{SessionState}
 use Rattle.session_state.specs.State.{provider_of}
 use Rattle.session_state.specs.Calls.{new_provider, join_asked, keeps}
 use Rattle.session_state.specs.HandOn.{hearers, casts_of, casts_out, handed_on}
-use Rattle.view_exchange.specs.declared.install.Install.{Install}
-use Rattle.view_exchange.specs.declared.install.Base.{Base}
-use Rattle.view_exchange.specs.Bases.{bases_of}
-use Rattle.view_core.specs.Views.{views_entered}
+use Rattle.view_state.specs.declared.install.Install.{Install}
+use Rattle.view_state.specs.declared.install.Base.{Base}
+use Rattle.view_state.specs.Bases.{bases_of}
+use Rattle.view_state.specs.Views.{views_entered}
 use Rattle.node_state.specs.declared.group.GroupRow.{GroupRow}
 use Rattle.node_state.specs.declared.happened.Happened.{Happened}
 use Rattle.node_state.specs.declared.happened.Happened.TheVariants as happened
@@ -37,7 +37,7 @@ use Rattle.run_safety.specs.ViewOrder.{Lt}
 use Rattle.run_safety.specs.Past.{History, Within, earlier, records_of}
 use Rattle.run_safety.specs.SafeHeard.{heard_count}
 use Rattle.run_safety.specs.Stays.{Stay, stays, part}
-use Rattle.node_groups.proofs.NameOrder.{row_here, row_there}
+use Rattle.node_state.proofs.NameOrder.{row_here, row_there}
 use Rattle.step_ties.proofs.SessionLaws.{cast_has}
 use Rattle.hearing.specs.Changes.{Same, Aside, Inner, Unentered, handing, voting, Does, Stays, Then, Records, Hands, Loses, Joins, Votes, Enters}
 use Rattle.hearing.proofs.Changes.{inner_aside, calm_handing}
@@ -49,7 +49,8 @@ use Rattle.attending.proofs.Turns.{CastsAlone, hearers_alone, casts_alone}
 use Rattle.attending.proofs.Staying.{Place, inner_stays, aside_count, place_fewer, place_kept, place_joined, put_there}
 use Rattle.attending.proofs.Handed.{Order, handed_order, handed_place, all_stay, count_out}
 use Rattle.attending.proofs.Entering.{entered_core, entered_place, other_stays, entered_count}
-use Rattle.attending.proofs.Doing.{Adds, AllFine, Strict, strict_does, does_grow, sides_add, enters_add, put_recorded}
+use Rattle.attending.proofs.Doing.{AllFine, Strict, strict_does, put_recorded}
+use Rattle.hearing.proofs.Added.{Adds, does_grow, sides_add, enters_add}
 
 -- ---- the view that was entered
 

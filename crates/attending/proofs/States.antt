@@ -24,7 +24,7 @@ use Rattle.run_safety.specs.Sight.{told_in, lines_at, lines_with, lines_of}
 use Rattle.run_safety.proofs.Prefix.{IsPrefix}
 use Rattle.run_safety.proofs.Whole.{Whole}
 use Rattle.run_safety.proofs.Lives.{whole}
-use Rattle.node_groups.proofs.NameOrder.{text_self}
+use Rattle.node_state.proofs.NameOrder.{text_self}
 use Rattle.step_ties.specs.Ghost.{KeepsIf}
 use Rattle.step_ties.specs.Tied.{Scene, NodeIs, NodeIsIf, Rests, opening_of}
 use Rattle.step_ties.specs.Runs.{Reached}

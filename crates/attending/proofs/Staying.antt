@@ -28,7 +28,7 @@ use Rattle.node_state.specs.declared.happened.Happened.TheVariants as happened
 use Rattle.run_safety.specs.Past.{fold_from}
 use Rattle.run_safety.specs.SafeHeard.{heard_count}
 use Rattle.run_safety.specs.Stays.{Stay, stays, is_join_of, Part, part, with_entry}
-use Rattle.node_groups.proofs.NameOrder.{text_same, text_self}
+use Rattle.node_state.proofs.NameOrder.{text_same, text_self}
 use Rattle.step_ties.proofs.SessionLaws.{provider_same, provider_self}
 use Rattle.hearing.specs.Hearing.{last_heard}
 use Rattle.hearing.specs.Changes.{Aside, Inner, Fewer}

@@ -12,7 +12,7 @@ use Rattle.proposal_core.specs.Lists.{state_in}
 use Rattle.client_callbacks.specs.declared.ballot.Filled.{Filled}
 use Rattle.session_state.specs.declared.state.KeptBallot.{KeptBallot}
 use Rattle.session_state.specs.declared.state.SessionState.{SessionState}
-use Rattle.view_core.specs.declared.views.Views.{Views}
+use Rattle.view_state.specs.declared.views.Views.{Views}
 use Rattle.node_state.specs.declared.group.GroupRow.{GroupRow}
 use Rattle.node_state.specs.declared.happened.Happened.{Happened}
 use Rattle.node_state.specs.declared.happened.Happened.TheVariants as happened
@@ -23,7 +23,7 @@ use Rattle.node_state.specs.declared.state.Core.{Core}
 use Rattle.node_state.specs.State.{InNameOrder, with_row, row_of, is_this, leader_by, recorded, recorded_all, with_sessions}
 use Rattle.node_state.specs.Sending.{packet_on, sent_on, sent, network_to}
 use Rattle.run_safety.specs.Past.{History, records_of, earlier}
-use Rattle.node_groups.proofs.NameOrder.{KeepsName, cases_text, row_here, row_there, rows_ordered}
+use Rattle.node_state.proofs.NameOrder.{KeepsName, cases_text, row_here, row_there, rows_ordered}
 use Rattle.closing_rows.proofs.Entered.{Since}
 use Rattle.closing_rows.proofs.At.{leads_row, found, Silent}
 use Rattle.carried_values.specs.Carried.{EntryCarries, BallotTold, KeptTold, BodyTold}

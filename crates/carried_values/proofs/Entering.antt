@@ -20,25 +20,24 @@ use Rattle.client_callbacks.specs.declared.told.Why.TheVariants.{Dissolved}
 use Rattle.session_state.specs.declared.state.Provider.{Provider}
 use Rattle.session_state.specs.State.{provider_of, outstanding}
 use Rattle.session_state.specs.HandOn.{telling_taken}
-use Rattle.view_exchange.specs.declared.install.Install.{Install}
-use Rattle.view_exchange.specs.declared.install.Base.{Base}
-use Rattle.view_exchange.specs.Bases.{bases_of, base_named}
-use Rattle.view_core.specs.declared.packet.ViewPacket.TheVariants as packet
-use Rattle.view_core.specs.declared.packet.ViewSend.{ViewSend}
-use Rattle.view_core.specs.declared.views.ViewWork.{ViewWork}
-use Rattle.view_core.specs.Views.{own_install, views_entered}
+use Rattle.view_state.specs.declared.install.Install.{Install}
+use Rattle.view_state.specs.declared.install.Base.{Base}
+use Rattle.view_state.specs.Bases.{bases_of, base_named}
+use Rattle.view_state.specs.declared.packet.ViewPacket.TheVariants as packet
+use Rattle.view_state.specs.declared.packet.ViewSend.{ViewSend}
+use Rattle.view_state.specs.declared.views.ViewWork.{ViewWork}
+use Rattle.view_state.specs.Views.{own_install, views_entered}
 use Rattle.node_state.specs.declared.group.GroupRow.{GroupRow}
 use Rattle.node_state.specs.declared.happened.Happened.{Happened}
 use Rattle.node_state.specs.declared.happened.Happened.TheVariants as happened
 use Rattle.node_state.specs.declared.packet.Body.TheVariants as body
 use Rattle.node_state.specs.declared.state.Core.{Core}
-use Rattle.node_state.specs.State.{row_found, state_of, held_rows, recorded_all, with_sessions}
+use Rattle.node_state.specs.State.{row_found, state_of, held_rows, recorded_all, with_sessions, has_name}
 use Rattle.node_state.specs.Sending.{sent, requests_sent}
 use Rattle.node_state.specs.HandOn.{Answering, subscriber_name, note_of}
 use Rattle.node_state.specs.Leading.{with_waiting, tally_opened}
 use Rattle.node_state.specs.Applying.{Lacking, lacking, lists_filled, level_set, base_row, base_record, view_entered, is_in_base, number_of, dissolved, dissolved_if, group_dissolved, sides_dissolved, base_note, entering_note, entering_noted, taken_sent, owed_sent, failed_wait, phase_reopened, group_led, groups_led, entered, entered_if, install_applied, views_taken}
 use Rattle.run_safety.specs.Past.{records_of}
-use Rattle.node_groups.specs.Places.{has_name}
 use Rattle.step_ties.proofs.BaseOrder.{bases_ordered, row_of_base, base_noted}
 use Rattle.closing_rows.proofs.At.{Silent}
 use Rattle.carried_values.proofs.At.{Facts, Course, At, ballot_on, body_on, at_fold, at_sent, at_recorded, at_recorded_all, at_sessions, at_views}

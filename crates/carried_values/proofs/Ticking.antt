@@ -23,7 +23,7 @@ use Rattle.proposal_core.specs.declared.group_state.Running.{Running}
 use Rattle.proposal_core.specs.Fold.{applied, present}
 use Rattle.proposal_core.specs.Lists.{state_in}
 use Rattle.vote_phases.specs.Tally.{TallyView, expires, open_voters}
-use Rattle.view_core.specs.Views.{views_at_work, gathering_ticks, install_again}
+use Rattle.view_state.specs.Views.{views_at_work, gathering_ticks, install_again}
 use Rattle.node_state.specs.declared.group.GroupRow.{GroupRow}
 use Rattle.node_state.specs.declared.state.Core.{Core}
 use Rattle.node_state.specs.State.{row_of, led_of, state_of, held_rows, fits_at_end, frozen, leader_of, led_groups, others, acked_by, least_acked, with_led}

@@ -1,3 +1,3 @@
-mod Standing
+pub mod Standing
 mod Keeping
 mod Scripts

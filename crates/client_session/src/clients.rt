@@ -13,6 +13,7 @@ ghost use Rattle.client_session.specs.Notices.{notice_to, notified, hears_at, Fi
 use client_callbacks::{Ballot, Callbacks, Notice, Told};
 use proposal_core::{GroupState, Running};
 use rsct_packet::{List, NoMemory, ProviderId};
+use session_changes::{beginners, hear, hearers, place_of};
 use session_state::{Cast, Casts, NewEntry, SessionState};
 use std::alloc::Global;
 
@@ -91,7 +92,7 @@ fn notify_one<C: Callbacks>(
         after: n.after,
         votes,
     };
-    match state.place_of(p) {
+    match place_of(state, p) {
         None => {
             let ballot = Ballot::new(votes, state.level);
             Ok(cast_from(p, ballot, &n.after.running))
@@ -163,11 +164,12 @@ pub fn hand_entry_on<C: Callbacks>(
     ensures same { SameSessions state.old state.new }
     ensures handed { OnOk result ((bs : List (Option Filled)) × Fillings (map C.script clients.old.items) state.old n.now.entry.now n.now.after.now (hearers state.old n.now.group.now before.now n.now.entry.now) bs × (state.new ≡ handed_on state.old n.now.group.now before.now n.now.after.now n.now.entry.now bs) × (out.new ≡ out.old ++ casts_out state.old n.now.group.now before.now n.now.after.now n.now.entry.now bs)) }
 {
-    let ps = state.hearers(alloc, n.group.bytes(), before, n.entry)?;
-    let beginning = state.beginners(alloc, n.group.bytes(), n.entry)?;
+    let ps = hearers(state, alloc, n.group.bytes(), before, n.entry)?;
+    let beginning = beginners(state, alloc, n.group.bytes(), n.entry)?;
     let mut casts = List::new(alloc);
     notify(state, clients, n, ps.as_slice(), &mut casts)?;
-    state.hear(
+    hear(
+        state,
         alloc,
         n,
         ps.as_slice(),

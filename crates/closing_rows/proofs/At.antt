@@ -14,17 +14,16 @@ use Rattle.proposal_core.specs.declared.group_state.GroupState.{GroupState}
 use Rattle.proposal_core.specs.Fold.{empty_state, after}
 use Rattle.proposal_core.specs.GroupView.{GroupView}
 use Rattle.proposal_core.specs.Lists.{list_or_new, state_in, len_in, with_entry}
-use Rattle.view_core.specs.declared.views.Views.{Views}
+use Rattle.view_state.specs.declared.views.Views.{Views}
 use Rattle.node_state.specs.declared.config.Config.{Config}
 use Rattle.node_state.specs.declared.group.GroupRow.{GroupRow}
 use Rattle.node_state.specs.declared.happened.Happened.{Happened}
 use Rattle.node_state.specs.declared.happened.Happened.TheVariants as happened
 use Rattle.node_state.specs.declared.state.Core.{Core}
-use Rattle.node_state.specs.State.{InNameOrder, row_found, row_of, with_row, list_of, len_of, is_this, leader_by, leader_in, leads_in, leads, recorded, recorded_all}
+use Rattle.node_state.specs.State.{InNameOrder, row_found, row_of, with_row, list_of, len_of, is_this, leader_by, leader_in, leads_in, leads, recorded, recorded_all, has_name}
 use Rattle.node_state.specs.Leading.{put}
 use Rattle.run_safety.specs.Past.{History, earlier, Within, is_list, puts_of, base_of, fold_from, state_at, state_now}
-use Rattle.node_groups.specs.Places.{has_name}
-use Rattle.node_groups.proofs.NameOrder.{KeepsName, cases_text, text_self, text_other, row_here, row_there, rows_ordered}
+use Rattle.node_state.proofs.NameOrder.{KeepsName, cases_text, text_self, text_other, row_here, row_there, rows_ordered}
 use Rattle.closing_rows.specs.Rows.{HasRows, TallyFits}
 use Rattle.closing_rows.proofs.Entered.{Since}
 

@@ -12,7 +12,7 @@ use Rattle.run_safety.specs.Sight.{told_in, lines_at, lines_with, lines_of}
 use Rattle.run_safety.specs.Group.{In, Put, Note, Based, Line, Kept, Noted, kept}
 use Rattle.run_safety.specs.Group as group
 use Rattle.run_safety.specs.Bases.{Bases, state_of_list}
-use Rattle.node_groups.proofs.NameOrder.{text_same, text_self}
+use Rattle.node_state.proofs.NameOrder.{text_same, text_self}
 use Rattle.closing_rows.specs.Rows.{HasRows, RecordRows, RowsAreVoters}
 use Rattle.closing_rows.proofs.Orders.{Again}
 use Rattle.closing_rows.proofs.Told.{Told, less_many, less_now, within_all}

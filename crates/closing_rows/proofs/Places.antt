@@ -13,7 +13,7 @@ use Rattle.run_safety.specs.SafeLists.{NextPlace, Fitting, Each}
 use Rattle.run_safety.specs.Group.{Put, Kept}
 use Rattle.run_safety.specs.Bases.{Bases, state_of_list}
 use Rattle.run_safety.proofs.Lives.{whole}
-use Rattle.node_groups.proofs.NameOrder.{text_self}
+use Rattle.node_state.proofs.NameOrder.{text_self}
 use Rattle.step_ties.specs.Tied.{Scene, Rests}
 use Rattle.step_ties.proofs.RunLaw.{reached_rests}
 use Rattle.closing_rows.specs.Rows.{PutsAreInOrder, PutsFit}

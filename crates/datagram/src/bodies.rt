@@ -23,7 +23,7 @@ use packet_codec::head_of;
 use rsct_packet::{
     Name, ProtoId, ProviderId, Text, ViewId, is_group_kind, is_head, is_node_number,
 };
-use view_core::ViewPacket;
+use view_state::ViewPacket;
 
 /// How many nodes there are.
 const LAST_NODE: u8 = 32;

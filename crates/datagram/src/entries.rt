@@ -7,7 +7,7 @@ ghost use Rattle.rsct_packet.specs.Text.{IsName};
 ghost use Rattle.group_entry.specs.declared.proposal.Proposal.TheVariants.{Join};
 ghost use Rattle.group_attr.specs.Codec.{IsAttrs};
 ghost use Rattle.group_entry.specs.ProposalCodec.{same_failure, failures_differ, are_failures, IsFailure, IsFallen, IsProposal};
-ghost use Rattle.view_exchange.specs.Codec.{IsSizedEntry};
+ghost use Rattle.view_state.specs.Codec.{IsSizedEntry};
 ghost use Rattle.group_entry.specs.EntryCodec.{IsRow, IsClosed, IsEntry, entry_text};
 
 use crate::ids::{
@@ -166,7 +166,7 @@ pub fn is_entry(e: &Entry) -> bool
 }
 
 /// Has the entry a spelling whose length 32 bits can count?
-#[tactic(auto, using(group_entry::proofs::SizeLaws::entry_length))]
+#[tactic(auto, using(group_codec::proofs::SizeLaws::entry_length))]
 pub fn is_sized_entry(e: &Entry) -> bool
     ensures { IsTrue result → IsSizedEntry e.now }
 {

@@ -6,14 +6,14 @@ ghost use Rattle.rsct_packet.specs.Fields.{IsMember, IsProto, AreShort};
 ghost use Rattle.proposal_core.specs.Fold.{present, joiners_fit};
 ghost use Rattle.rsct_packet.specs.Providers.{among};
 ghost use Rattle.proposal_core.specs.StateCodec.{IsRunning, IsState, failed_are_present};
-ghost use Rattle.view_exchange.specs.Codec.{is_after, names_ascend, IsSizedEntry, IsPart, IsParts, views_ascend, is_after_view, IsSource, has_member, comes_from, comes_once, each_comes_once, members_ascend, IsInstall};
+ghost use Rattle.view_state.specs.Codec.{is_after, names_ascend, IsSizedEntry, IsPart, IsParts, views_ascend, is_after_view, IsSource, has_member, comes_from, comes_once, each_comes_once, members_ascend, IsInstall};
 
 use crate::entries::{are_attrs, is_proposal, is_sized_entry};
 use crate::ids::{are_providers, is_mask, is_member, is_optional_text, is_proto, is_text, is_view};
 use group_entry::Entry;
 use proposal_core::{GroupState, Proposal, Running};
 use rsct_packet::{MAX_PROVIDERS, Member, ProtoId, ProviderId, ViewId, is_among, is_none_among};
-use view_exchange::{Install, Part, Source};
+use view_state::{Install, Part, Source};
 
 /// How many parts, members or sources a list has at most.
 const MAX_PARTS: usize = 255;
@@ -274,7 +274,7 @@ fn comes_once(ms: &[Member], ss: &[Source], node: u8) -> bool
     does_come(has_member(ms, node), ss, node)
 }
 
-#[tactic(auto, unfolding(view_exchange::specs::Codec::each_comes_once))]
+#[tactic(auto, unfolding(view_state::specs::Codec::each_comes_once))]
 fn does_each_come_once(ms: &[Member], ss: &[Source]) -> bool
     ensures { result ≡ each_comes_once ms.now ss.now }
 {

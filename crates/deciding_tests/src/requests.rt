@@ -8,13 +8,14 @@ use node_groups::waiting_joins;
 use node_reach::Reach;
 use node_state::{Body, Config, Core, Mode, Table};
 use proposal_core::Proposal;
-use request_deciding::{decide, known_state, lacks_source, refuse, source_len};
+use request_deciding::decide;
+use request_refusing::{known_state, lacks_source, refuse, source_len};
 use rsct_packet::{List, Mask, Name, ProviderId, Providers, ViewId};
 use session_state::{Locals, SessionState};
 use std::alloc::Global;
 use std::process::Abort;
 use subscribe_core::Subs;
-use view_core::Views;
+use view_state::Views;
 
 const VIEW: ViewId = ViewId {
     number: 1,

@@ -14,6 +14,7 @@ use client_session::tell_at;
 use node_state::{Happened, Records};
 use proposal_core::GroupState;
 use rsct_packet::{List, Name, NoMemory, ProtoId, ProviderId, ViewId};
+use session_changes::client_place;
 use session_state::{Cast, NewEntry, Session, SessionState};
 use std::alloc::Global;
 use subscribe_core::{ClientToken, Subscription};
@@ -165,7 +166,7 @@ fn note_one<C: Callbacks>(
 {
     let told = told_of(alloc, n)?;
     let client = subscriber_name(alloc, sessions, u)?;
-    tell_at(clients, sessions.client_place(u.client), &told)?;
+    tell_at(clients, client_place(sessions, u.client), &told)?;
     records.push(Happened::Noted {
         node: n.node,
         client,

@@ -3,8 +3,9 @@ ghost use Rattle.rsct_packet.specs.Fields.{AreShort};
 ghost use Rattle.group_entry.specs.ProposalCodec.{IsProposal};
 ghost use Rattle.group_entry.specs.EntryCodec.{IsEntry};
 
+use group_codec::{put_entry, put_proposal, read_entry, read_proposal};
 use group_entry::{Entry, Proposal, copy_text, optional_bytes, optional_text_of};
-use rsct_packet::{Fields, Text};
+use rsct_packet::Text;
 use std::alloc::Global;
 use std::process::Abort;
 
@@ -76,7 +77,7 @@ const LATE: [u8; 28] = [
 fn proposal_of(rt: &impl Abort, alloc: Global, spelled: &[u8]) -> Proposal
     ensures { IsProposal result }
 {
-    let read = Proposal::read(&mut Fields::new(spelled)).expect(rt, "a proposal");
+    let (read, _rest) = read_proposal(spelled).expect(rt, "a proposal");
     read.own(alloc).expect(rt, "memory")
 }
 
@@ -86,7 +87,7 @@ fn proposal_bytes(rt: &impl Abort, alloc: Global, x: &Proposal) -> Vec<u8>
 {
     let copy = x.copy(alloc).expect(rt, "memory");
     let mut out = Vec::new(alloc);
-    copy.write(alloc, &mut out).expect(rt, "memory");
+    put_proposal(alloc, &mut out, &copy).expect(rt, "memory");
     out
 }
 
@@ -114,7 +115,7 @@ fn proposals_are_spelled_and_read(rt: HostRuntime) {
 pub fn entry_of(rt: &impl Abort, alloc: Global, spelled: &[u8]) -> Entry
     ensures { IsEntry result }
 {
-    let read = Entry::read(spelled).expect(rt, "an entry");
+    let read = read_entry(spelled).expect(rt, "an entry");
     read.own(alloc).expect(rt, "memory")
 }
 
@@ -124,7 +125,7 @@ fn entry_bytes(rt: &impl Abort, alloc: Global, e: &Entry) -> Vec<u8>
 {
     let copy = e.copy(alloc).expect(rt, "memory");
     let mut out = Vec::new(alloc);
-    copy.write(alloc, &mut out).expect(rt, "memory");
+    put_entry(alloc, &mut out, &copy).expect(rt, "memory");
     out
 }
 

@@ -2,8 +2,9 @@
 ghost use Rattle.proposal_core.specs.StateCodec.{IsState};
 
 use crate::entries::entry_of;
+use group_codec::{put_state, read_state};
 use proposal_core::{Entry, GroupList, GroupState};
-use rsct_packet::{Fields, ProviderId, ViewId};
+use rsct_packet::{ProviderId, ViewId};
 use std::alloc::Global;
 use std::process::Abort;
 
@@ -66,15 +67,15 @@ fn new_list(alloc: Global) -> GroupList {
 fn state_of(rt: &impl Abort, alloc: Global, spelled: &[u8]) -> GroupState
     ensures { IsState result }
 {
-    let read = GroupState::read(&mut Fields::new(spelled)).expect(rt, "a state");
+    let (read, _rest) = read_state(spelled).expect(rt, "a state");
     read.own(alloc).expect(rt, "memory")
 }
 
 /// Is this the whole spelling of the state at its front?
 fn is_whole(spelled: &[u8]) -> bool {
-    match GroupState::read(&mut Fields::new(spelled)) {
+    match read_state(spelled) {
         None => false,
-        Some(read) => read.bytes() == spelled,
+        Some((read, _rest)) => read.bytes() == spelled,
     }
 }
 
@@ -84,7 +85,7 @@ fn state_bytes(rt: &impl Abort, alloc: Global, s: &GroupState) -> Vec<u8>
 {
     let copy = s.copy(alloc).expect(rt, "memory");
     let mut out = Vec::new(alloc);
-    copy.write(alloc, &mut out).expect(rt, "memory");
+    put_state(alloc, &mut out, &copy).expect(rt, "memory");
     out
 }
 

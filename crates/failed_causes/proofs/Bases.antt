@@ -9,10 +9,10 @@ use Rattle.rsct_packet.specs.declared.ids.Member.{Member}
 use Rattle.rsct_packet.specs.Ids.{same_view}
 use Rattle.proposal_core.specs.declared.group_state.GroupState.{GroupState}
 use Rattle.proposal_core.specs.Fold.{empty_state}
-use Rattle.view_exchange.specs.declared.install.Install.{Install}
-use Rattle.view_exchange.specs.declared.install.Base.{Base}
-use Rattle.view_exchange.specs.Bases.{bases_of}
-use Rattle.view_core.specs.Views.{views_entered}
+use Rattle.view_state.specs.declared.install.Install.{Install}
+use Rattle.view_state.specs.declared.install.Base.{Base}
+use Rattle.view_state.specs.Bases.{bases_of}
+use Rattle.view_state.specs.Views.{views_entered}
 use Rattle.node_state.specs.declared.config.Config.{Config}
 use Rattle.node_state.specs.declared.happened.Happened.{Happened}
 use Rattle.node_state.specs.declared.happened.Happened.TheVariants as happened
@@ -29,7 +29,7 @@ use Rattle.step_ties.proofs.BaseOrder.{base_noted}
 use Rattle.hearing.specs.Changes.{Inner, Does, Stays, Then, Records, Hands, Loses, Joins, Votes, Enters}
 use Rattle.hearing.proofs.Attending.{pushed, pushed_reverse}
 use Rattle.hearing.proofs.Listening.{steps_change}
-use Rattle.attending.proofs.Doing.{Adds, sides_add}
+use Rattle.hearing.proofs.Added.{Adds, sides_add}
 use Rattle.closing_rows.proofs.Told.{each_map}
 use Rattle.failed_causes.proofs.Records.{NoBase, inner_none, none_pushed, turned_none, hands_none, each_scene}
 use Rattle.failed_causes.specs.Passed.{latest_entries, BaseFirst, BasesComeFirst}

@@ -10,10 +10,10 @@ use Rattle.rsct_packet.specs.Providers.{among}
 use Rattle.rsct_packet.specs.Search.{Has}
 use Rattle.proposal_core.specs.declared.group_state.GroupState.{GroupState}
 use Rattle.proposal_core.specs.Fold.{empty_state, present}
-use Rattle.view_exchange.specs.declared.install.Install.{Install}
-use Rattle.view_exchange.specs.declared.install.Base.{Base}
-use Rattle.view_exchange.specs.Bases.{bases_of}
-use Rattle.view_core.specs.Views.{views_entered}
+use Rattle.view_state.specs.declared.install.Install.{Install}
+use Rattle.view_state.specs.declared.install.Base.{Base}
+use Rattle.view_state.specs.Bases.{bases_of}
+use Rattle.view_state.specs.Views.{views_entered}
 use Rattle.node_state.specs.declared.config.Config.{Config}
 use Rattle.node_state.specs.declared.happened.Happened.{Happened}
 use Rattle.node_state.specs.declared.happened.Happened.TheVariants as happened
@@ -34,9 +34,11 @@ use Rattle.step_ties.proofs.BaseOrder.{base_noted}
 use Rattle.hearing.specs.Changes.{Inner, Unentered, Does, Stays, Then, Records, Hands, Loses, Joins, Votes, Enters}
 use Rattle.hearing.proofs.Attending.{pushed, pushed_reverse}
 use Rattle.hearing.proofs.Listening.{steps_change}
-use Rattle.attending.proofs.Doing.{AllFine, Adds, sides_add, does_grow}
+use Rattle.attending.proofs.Doing.{AllFine}
+use Rattle.hearing.proofs.Added.{Adds, sides_add, does_grow}
 use Rattle.attending.proofs.Fresh.{fresh_now}
-use Rattle.attending.proofs.Law.{incs_of, begin_strict, step_fine}
+use Rattle.attending.proofs.Law.{begin_strict, step_fine}
+use Rattle.hearing.proofs.Incarnations.{incs_of}
 use Rattle.attending.proofs.Living.{lively_now, failed_now}
 use Rattle.attending.proofs.OrderLaw.{reached_orderly}
 use Rattle.attending.proofs.Ordering.{Ordered, Fresh, Lively, ordered_does, entering_recorded, base_recorded_at}

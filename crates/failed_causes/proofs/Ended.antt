@@ -16,7 +16,7 @@ use Rattle.node_state.specs.declared.happened.Happened.{Happened}
 use Rattle.node_state.specs.declared.happened.Happened.TheVariants as happened
 use Rattle.run_safety.specs.Past.{fold_from}
 use Rattle.run_safety.specs.Stays.{Stay, stays, with_base, with_entry, is_join_of, Part, part, passes, first_in, last_in, last_from}
-use Rattle.node_groups.proofs.NameOrder.{text_same}
+use Rattle.node_state.proofs.NameOrder.{text_same}
 use Rattle.failed_rows.specs.Failures.{state_of_stay}
 use Rattle.attending.proofs.Parts.{first_stays, last_comes, fold_push, pushed_stay}
 use Rattle.failed_causes.specs.Passed.{puts_join, latest_entries, BaseFirst}

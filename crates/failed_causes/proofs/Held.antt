@@ -23,7 +23,7 @@ use Rattle.run_safety.specs.Group as group
 use Rattle.run_safety.proofs.SightLaws.{put_seen}
 use Rattle.run_safety.proofs.Whole.{Whole}
 use Rattle.run_safety.proofs.Lives.{whole}
-use Rattle.node_groups.proofs.NameOrder.{text_same}
+use Rattle.node_state.proofs.NameOrder.{text_same}
 use Rattle.step_ties.specs.Tied.{Scene, Rests, opening_of}
 use Rattle.step_ties.specs.Runs.{Reached}
 use Rattle.step_ties.proofs.RunLaw.{reached_rests}

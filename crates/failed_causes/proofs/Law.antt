@@ -26,7 +26,7 @@ use Rattle.run_safety.specs.Sight.{inc_in}
 use Rattle.run_safety.specs.ViewOrder.{Le}
 use Rattle.run_safety.proofs.Order.{le_antisym}
 use Rattle.run_safety.proofs.Tests.{has_any}
-use Rattle.node_groups.proofs.NameOrder.{text_same, text_self}
+use Rattle.node_state.proofs.NameOrder.{text_same, text_self}
 use Rattle.hearing.proofs.Handing.{among_is}
 use Rattle.attending.proofs.OrderLaw.{heard_in_order}
 use Rattle.failed_rows.specs.Failures.{state_in_stays, state_held, FromElsewhere, IsCut, IsRefused, WasTold, TakenOff, StoodThere}

@@ -19,7 +19,7 @@ use Rattle.run_safety.specs.Sight.{inc_in, lines_of}
 use Rattle.run_safety.specs.Stays.{Stay, stays, with_base, with_entry}
 use Rattle.run_safety.specs.ViewOrder.{Lt, Le}
 use Rattle.run_safety.proofs.Order.{lt_refl, lt_le, lt_not_same}
-use Rattle.node_groups.proofs.NameOrder.{text_same, text_self}
+use Rattle.node_state.proofs.NameOrder.{text_same, text_self}
 use Rattle.seen_runs.specs.Seen.{Seen}
 use Rattle.seen_runs.proofs.LineRules.{bare}
 use Rattle.seen_runs.proofs.BareLines.{kept_bare}

@@ -49,7 +49,7 @@ use Rattle.run_safety.proofs.Lines.{has_entered, has_inserted, has_place}
 use Rattle.run_safety.proofs.Tests.{has_any}
 use Rattle.run_safety.proofs.Whole.{Whole}
 use Rattle.run_safety.proofs.Lives.{whole}
-use Rattle.node_groups.proofs.NameOrder.{text_same}
+use Rattle.node_state.proofs.NameOrder.{text_same}
 use Rattle.step_ties.specs.Ghost.{KeepsIf}
 use Rattle.step_ties.specs.Tied.{Scene, opening_of, lines_now, Tied}
 use Rattle.step_ties.proofs.Works.{Unseen, lines_none}

@@ -17,7 +17,7 @@ use Rattle.session_state.specs.State.{outstanding}
 use Rattle.session_state.specs.HandOn.{telling_taken, is_join_request, is_dissolved}
 use Rattle.session_state.specs.declared.fault.GsFault.{GsFault}
 use Rattle.session_state.specs.declared.state.SessionState.{SessionState}
-use Rattle.view_core.specs.declared.views.Views.{Views}
+use Rattle.view_state.specs.declared.views.Views.{Views}
 use Rattle.node_state.specs.declared.group.GroupRow.{GroupRow}
 use Rattle.node_state.specs.declared.happened.Happened.{Happened}
 use Rattle.node_state.specs.declared.happened.Happened.TheVariants as happened
@@ -28,7 +28,7 @@ use Rattle.node_state.specs.State.{InNameOrder, row_of, with_row, is_this, leade
 use Rattle.node_state.specs.Sending.{packet_on, sent_on, sent, network_to}
 use Rattle.run_safety.specs.Past.{History, records_of, inc_now}
 use Rattle.run_safety.specs.Stays.{Stay, stays, stays_after, asks_join, is_refused}
-use Rattle.node_groups.proofs.NameOrder.{KeepsName, cases_text, row_here, row_there, rows_ordered}
+use Rattle.node_state.proofs.NameOrder.{KeepsName, cases_text, row_here, row_there, rows_ordered}
 use Rattle.hearing.proofs.Sessions.{fewer_told}
 use Rattle.honest_votes.proofs.At.{found, leads_row}
 use Rattle.failed_rows.specs.Failures.{IsRefused, IsCut, WasTold, GoneCause, EachPut}

@@ -12,17 +12,16 @@ use Rattle.rsct_packet.specs.Search.{Has}
 use Rattle.proposal_core.specs.Fold.{empty_state}
 use Rattle.proposal_core.specs.declared.group_state.GroupState.{GroupState}
 use Rattle.proposal_core.specs.Lists.{len_in, state_in}
-use Rattle.view_exchange.specs.declared.install.Base.{Base}
-use Rattle.view_exchange.specs.Bases.{base_named}
+use Rattle.view_state.specs.declared.install.Base.{Base}
+use Rattle.view_state.specs.Bases.{base_named}
 use Rattle.node_state.specs.declared.group.GroupRow.{GroupRow}
 use Rattle.node_state.specs.declared.happened.Happened.{Happened}
 use Rattle.node_state.specs.declared.happened.Happened.TheVariants as happened
-use Rattle.node_state.specs.State.{AllAfter, InNameOrder, row_found}
+use Rattle.node_state.specs.State.{AllAfter, InNameOrder, row_found, has_name}
 use Rattle.node_state.specs.Applying.{base_row}
 use Rattle.run_safety.specs.Past.{History}
 use Rattle.run_safety.specs.Stays.{Stay, stays, with_base}
-use Rattle.node_groups.specs.Places.{has_name}
-use Rattle.node_groups.proofs.NameOrder.{none_after, text_same, text_self, lt_self}
+use Rattle.node_state.proofs.NameOrder.{none_after, text_same, text_self, lt_self}
 use Rattle.step_ties.proofs.BaseOrder.{row_of_base, base_noted}
 use Rattle.failed_rows.specs.Failures.{EachPut}
 use Rattle.failed_rows.proofs.Facts.{Track}

@@ -38,7 +38,7 @@ use Rattle.node_state.specs.Leading.{with_waiting, begins}
 use Rattle.node_state.specs.Deciding.{decision_kept, refused, known_state, lacks_source, source_len, is_idle_empty, join_refusal, attrs_kept, join_waits, decided_join, has_other_source, is_no_member, full_refusal, collide_refusal, other_refusal, decided_other, decided, meant_attrs}
 use Rattle.node_state.specs.Ending.{Pass, quiet, begun_now, failures_begin, due_begins, source_begins, attrs_for, carried_len, source_refused, joins_begin, or_due, or_joins, may_begin, first_begins, group_begins, one_pass, passes, most_begun, step_ended}
 use Rattle.run_safety.specs.Past.{History}
-use Rattle.node_groups.proofs.NameOrder.{row_here, rows_ordered}
+use Rattle.node_state.proofs.NameOrder.{row_here, rows_ordered}
 use Rattle.step_ties.proofs.LedGroups.{led_are_led}
 use Rattle.honest_votes.proofs.At.{found, leads_row, leads_is}
 use Rattle.honest_votes.proofs.Ending.{Every, NoGroup}

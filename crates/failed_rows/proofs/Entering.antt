@@ -25,36 +25,36 @@ use Rattle.client_callbacks.specs.declared.told.Told.TheVariants as told
 use Rattle.client_callbacks.specs.declared.told.Why.TheVariants.{Dissolved}
 use Rattle.session_state.specs.declared.state.Provider.{Provider}
 use Rattle.session_state.specs.State.{is_provider, provider_of, outstanding}
-use Rattle.view_exchange.specs.declared.install.Install.{Install}
-use Rattle.view_exchange.specs.declared.install.Base.{Base}
-use Rattle.view_exchange.specs.Bases.{bases_of, base_named}
-use Rattle.view_core.specs.declared.packet.ViewPacket.TheVariants as packet
-use Rattle.view_core.specs.declared.packet.ViewSend.{ViewSend}
-use Rattle.view_core.specs.declared.views.ViewWork.{ViewWork}
-use Rattle.view_core.specs.Views.{views_entered}
+use Rattle.view_state.specs.declared.install.Install.{Install}
+use Rattle.view_state.specs.declared.install.Base.{Base}
+use Rattle.view_state.specs.Bases.{bases_of, base_named}
+use Rattle.view_state.specs.declared.packet.ViewPacket.TheVariants as packet
+use Rattle.view_state.specs.declared.packet.ViewSend.{ViewSend}
+use Rattle.view_state.specs.declared.views.ViewWork.{ViewWork}
+use Rattle.view_state.specs.Views.{views_entered}
 use Rattle.node_state.specs.declared.group.GroupRow.{GroupRow}
 use Rattle.node_state.specs.declared.happened.Happened.{Happened}
 use Rattle.node_state.specs.declared.happened.Happened.TheVariants as happened
 use Rattle.node_state.specs.declared.packet.Body.TheVariants as body
 use Rattle.node_state.specs.declared.state.Core.{Core}
-use Rattle.node_state.specs.State.{row_found, row_of, list_of, state_of, held_rows, recorded, recorded_all, with_sessions, with_row, with_led}
+use Rattle.node_state.specs.State.{row_found, row_of, list_of, state_of, held_rows, recorded, recorded_all, with_sessions, with_row, with_led, has_name}
 use Rattle.node_state.specs.Sending.{sent, requests_sent}
 use Rattle.node_state.specs.HandOn.{Answering, subscriber_name, note_of}
 use Rattle.node_state.specs.Leading.{put_and_handed, with_waiting, tally_opened}
 use Rattle.node_state.specs.Applying.{Lacking, lacking, lists_filled, level_set, base_row, base_record, view_entered, is_in_base, number_of, dissolved, dissolved_if, group_dissolved, sides_dissolved, base_note, entering_note, entering_noted, taken_sent, owed_sent, failed_wait, phase_reopened, group_led, groups_led, entered, entered_if, install_applied, views_taken}
 use Rattle.run_safety.specs.Past.{History, records_of, inc_now}
 use Rattle.run_safety.specs.Stays.{Stay, asks_join, is_refused, stays, with_base}
-use Rattle.node_groups.specs.Places.{has_name}
-use Rattle.node_groups.proofs.NameOrder.{row_here, text_same}
+use Rattle.node_state.proofs.NameOrder.{row_here, text_same}
 use Rattle.step_ties.proofs.SessionLaws.{provider_same}
 use Rattle.step_ties.proofs.BaseOrder.{bases_ordered, row_of_base, base_noted}
 use Rattle.hearing.proofs.Handing.{among_is, has_among}
+use Rattle.hearing.proofs.Listening.{reverse_has}
 use Rattle.honest_votes.proofs.At.{found}
 use Rattle.honest_votes.proofs.Ending.{Every, NoGroup}
 use Rattle.failed_rows.specs.Failures.{FromElsewhere, IsCut, EachPut}
 use Rattle.failed_rows.proofs.Queues.{Stays, failed_stays}
 use Rattle.failed_rows.proofs.Bases.{bases_put, bases_track, base_is, new_stay, bases_entered, found_self}
-use Rattle.failed_rows.proofs.Facts.{Whys, JoinedIn, takers_pushed, Quiet, BasesFit, Stepped, stepped_incs, BodyFails, body_on, Track, own_pushed, Split, split, turned_split, reverse_has}
+use Rattle.failed_rows.proofs.Facts.{Whys, JoinedIn, takers_pushed, Quiet, BasesFit, Stepped, stepped_incs, BodyFails, body_on, Track, own_pushed, Split, split, turned_split}
 use Rattle.failed_rows.proofs.Living.{slim_same}
 use Rattle.failed_rows.proofs.Origin.{Origin, slim_more, slim_on}
 use Rattle.failed_rows.proofs.At.{At, at_fold, at_sent, at_recorded_all, at_views, at_told}

@@ -1,5 +1,5 @@
 -- What is said of rows, records and packets, and of who is over.
-use Rattle.std.proofs.Common.{◌≡◌, ◌⊎◌, ℕ, List, [], ◌∷◌, ◌++◌, length, Option, Some, None, Bool, true, false, refl, sym, ap, ◌∙◌, subst, inl, inr, append_assoc, ⊎_elim}
+use Rattle.std.proofs.Common.{◌≡◌, ◌⊎◌, ℕ, List, [], ◌∷◌, ◌++◌, length, Option, Some, None, Bool, true, false, refl, sym, ap, ◌∙◌, subst, inl, inr, append_assoc}
 use Rattle.std.specs.Prelude.{◌||◌, reverse}
 use Rattle.std.specs.List.{list_any}
 use Rattle.std.proofs.lemmas.List.{reverse-append}
@@ -7,7 +7,7 @@ use Rattle.rsct_packet.specs.declared.ids.ViewId.{ViewId}
 use Rattle.rsct_packet.specs.declared.ids.ProviderId.{ProviderId}
 use Rattle.rsct_packet.specs.Search.{Has}
 use Rattle.rsct_packet.specs.Providers.{among}
-use Rattle.rsct_packet.proofs.HasLaws.{has_append, append_has_left, append_has_right}
+use Rattle.rsct_packet.proofs.HasLaws.{append_has_left, append_has_right}
 use Rattle.group_entry.specs.declared.proposal.Cause.{Cause}
 use Rattle.group_entry.specs.declared.proposal.Cause.TheVariants.{Died, Gone, Cast}
 use Rattle.group_entry.specs.declared.proposal.Failure.{Failure}
@@ -32,6 +32,7 @@ use Rattle.node_state.specs.declared.packet.Body.TheVariants as body
 use Rattle.node_state.specs.declared.state.Core.{Core}
 use Rattle.run_safety.specs.Past.{History, records_of, inc_after, inc_now}
 use Rattle.run_safety.specs.Stays.{Stay, stays, stays_after, is_join_of, asks_join, is_refused}
+use Rattle.hearing.proofs.Listening.{reverse_has}
 use Rattle.failed_rows.specs.Failures.{state_of_stay, state_held, WasTold, TakenOff, StoodThere, RowFails, EachPut}
 use Rattle.failed_rows.proofs.Queues.{Stays}
 use Rattle.failed_rows.proofs.Living.{IsLive}
@@ -303,15 +304,6 @@ off_on newer rs p k =
       was = k.was;
       off = k.off;
     }
-
-pub reverse_has : (r : Happened) (xs : List Happened) → Has r (reverse xs) → Has r xs
-reverse_has r [] i = i
-reverse_has r (x ∷ xs) i =
-    ⊎_elim (λ (a : Has r (reverse xs)). inr (reverse_has r xs a)) (λ (a : Has r (x ∷ [])). last a) (has_append r (reverse xs) (x ∷ []) (subst (Has r) (reverse-append (x ∷ []) xs) i))
-  where
-    last : Has r (x ∷ []) → Has r (x ∷ xs)
-    last (inl e) = inl e
-    last (inr z) = absurd z
 
 -- records of no view and no list leave the stays as they are
 pub quiet_all : (n : ℕ) (g : List ℕ) (xs rs : List Happened) → ((r : Happened) → Has r xs → Quiet r) → stays n g (xs ++ rs) ≡ stays n g rs

@@ -23,7 +23,7 @@ use Rattle.run_safety.specs.Moves.{Leads, Opening, SetAt, Life, Dawn, NextEvent,
 use Rattle.run_safety.proofs.Order.{cases_view}
 use Rattle.run_safety.proofs.SightLaws.{kept_append}
 use Rattle.run_safety.proofs.Lives.{whole}
-use Rattle.node_groups.proofs.NameOrder.{text_same, text_self}
+use Rattle.node_state.proofs.NameOrder.{text_same, text_self}
 use Rattle.step_ties.specs.Tied.{Scene, Rests}
 use Rattle.failed_rows.proofs.Facts.{BasesFit}
 use Rattle.failed_rows.proofs.Puts.{apart_after}

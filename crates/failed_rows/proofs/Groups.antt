@@ -27,12 +27,12 @@ use Rattle.step_ties.specs.Runs.{IsNote}
 use Rattle.step_ties.proofs.Changed.{set_here}
 use Rattle.step_ties.proofs.RunLaw.{reached_rests}
 use Rattle.failed_rows.specs.Scenes.{Names, Played, Nothing, AllStart, Starts, Stops, Steps, Notes, JoinsHaveOneGroup}
-use Rattle.failed_rows.proofs.Facts.{reverse_has}
 use Rattle.failed_rows.proofs.Origin.{root_of}
 use Rattle.failed_rows.proofs.Joining.{OneAsk, one_call}
 use Rattle.failed_rows.proofs.Between.{who_is}
 use Rattle.failed_rows.proofs.Starting.{AllFresh, started_unasked, fold_fresh}
-use Rattle.attending.proofs.Law.{incs_of}
+use Rattle.hearing.proofs.Incarnations.{incs_of}
+use Rattle.hearing.proofs.Listening.{reverse_has}
 use Rattle.failed_rows.proofs.Law.{reached, played_honest, asked_by_call, asked_here}
 
 -- nobody asks

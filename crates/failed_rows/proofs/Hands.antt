@@ -29,7 +29,7 @@ use Rattle.node_state.specs.State.{recorded_all, with_sessions}
 use Rattle.node_state.specs.HandOn.{Answering, fills, cast_record, cast_records, heard, note_of, notes, noted, handed_on}
 use Rattle.run_safety.specs.Past.{History, records_of}
 use Rattle.run_safety.specs.Stays.{is_join_of}
-use Rattle.node_groups.proofs.NameOrder.{text_same}
+use Rattle.node_state.proofs.NameOrder.{text_same}
 use Rattle.hearing.proofs.Handing.{has_among, handed_kept}
 use Rattle.failed_rows.specs.Failures.{TakenOff}
 use Rattle.failed_rows.proofs.Living.{IsLive, handed_lives, handed_slim}

@@ -36,11 +36,12 @@ use Rattle.step_ties.proofs.RunLaw.{reached_rests}
 use Rattle.step_ties.proofs.Turns.{has_turned}
 use Rattle.honest_votes.proofs.At.{found, leads_row}
 use Rattle.honest_votes.proofs.Ending.{Every, NoGroup}
-use Rattle.attending.proofs.Law.{incs_of}
+use Rattle.hearing.proofs.Incarnations.{incs_of}
+use Rattle.hearing.proofs.Listening.{reverse_has}
 use Rattle.failed_rows.specs.Failures.{GoneCause, SaidGoodbye}
 use Rattle.failed_rows.specs.Scenes.{Names, Played, Nothing, AllStart, Starts, Stops, Steps, Notes, FailuresAreHonest}
 use Rattle.failed_rows.proofs.Fitting.{noted_fit}
-use Rattle.failed_rows.proofs.Facts.{Of, stepped_of, BasesFit, BodyFails, Lives, reverse_has}
+use Rattle.failed_rows.proofs.Facts.{Of, stepped_of, BasesFit, BodyFails, Lives}
 use Rattle.failed_rows.proofs.Origin.{origin_of, root_of}
 use Rattle.failed_rows.proofs.Owners.{Owned, owned_slim, goodbye_named}
 use Rattle.failed_rows.proofs.Joining.{call_now}

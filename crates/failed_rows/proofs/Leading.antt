@@ -27,20 +27,19 @@ use Rattle.proposal_core.specs.GroupView.{GroupView}
 use Rattle.proposal_core.specs.Lists.{list_or_new, state_in, len_in, has_room, entry_fits, with_entry, forgotten}
 use Rattle.batch_rules.specs.Waiting.{WaitingView, waits_failure}
 use Rattle.vote_phases.specs.Tally.{TallyView, outcome}
-use Rattle.view_core.specs.declared.views.Views.{Views}
+use Rattle.view_state.specs.declared.views.Views.{Views}
 use Rattle.node_state.specs.declared.group.GroupRow.{GroupRow}
 use Rattle.node_state.specs.declared.group.Led.{Led}
 use Rattle.node_state.specs.declared.packet.Body.TheVariants as body
 use Rattle.node_state.specs.declared.happened.Happened.{Happened}
 use Rattle.node_state.specs.declared.happened.Happened.TheVariants as happened
 use Rattle.node_state.specs.declared.state.Core.{Core}
-use Rattle.node_state.specs.State.{InNameOrder, row_found, row_of, with_row, with_led, led_of, list_of, state_of, len_of, fits_at_end, list_forgotten, forgets_below, leader_of, others, least_acked, recorded}
+use Rattle.node_state.specs.State.{InNameOrder, row_found, row_of, with_row, with_led, led_of, list_of, state_of, len_of, fits_at_end, list_forgotten, forgets_below, leader_of, others, least_acked, recorded, has_name}
 use Rattle.node_state.specs.Sending.{sent_all}
 use Rattle.node_state.specs.HandOn.{Answering, handed_on}
 use Rattle.node_state.specs.Leading.{put, forgets_least, with_waiting, waits_if, new_members_wait, appended, appended_if, tally_for, tally_set, tally_opened, closing, closing_of, closing_entry, is_phase, closes_from, closes, begun_many, begins}
 use Rattle.run_safety.specs.Past.{History, records_of}
-use Rattle.node_groups.specs.Places.{has_name}
-use Rattle.node_groups.proofs.NameOrder.{row_here}
+use Rattle.node_state.proofs.NameOrder.{row_here}
 use Rattle.step_ties.proofs.Appending.{handed_rows}
 use Rattle.honest_votes.proofs.At.{found, leads_row}
 use Rattle.failed_rows.specs.Failures.{GoneCause, EntryFails, LeavesFail}

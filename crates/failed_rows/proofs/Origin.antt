@@ -17,8 +17,9 @@ use Rattle.node_state.specs.Calls.{call_row}
 use Rattle.node_state.specs.Step.{NodeEvent, Ticks, Asks, Given, Calls, Garbage}
 use Rattle.run_safety.specs.Stays.{asks_join}
 use Rattle.step_ties.proofs.SessionLaws.{provider_self}
+use Rattle.hearing.proofs.Listening.{reverse_has}
 use Rattle.failed_rows.proofs.Living.{Slimmer, slim_same, slim_then}
-use Rattle.failed_rows.proofs.Facts.{none_asked, reverse_has}
+use Rattle.failed_rows.proofs.Facts.{none_asked}
 
 -- nobody came in and nobody asked since a state of the node
 pub record Slim (root : Core) (t : SessionState) (rs : List Happened) : Type 0 where

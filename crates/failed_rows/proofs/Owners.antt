@@ -16,7 +16,7 @@ use Rattle.session_state.specs.declared.state.SessionState.{SessionState}
 use Rattle.session_state.specs.State.{is_session, is_named, is_client_of, token_in, client_token, client_place}
 use Rattle.session_state.specs.Calls.{or_fault, fault_if, no_session_fault, client_fault, session_added, session_ended, removed_at}
 use Rattle.run_safety.specs.Stays as stays
-use Rattle.node_groups.proofs.NameOrder.{text_same, text_self}
+use Rattle.node_state.proofs.NameOrder.{text_same, text_self}
 use Rattle.failed_rows.proofs.Living.{Slimmer}
 
 -- each provider has a session of its client; and tokens tell sessions apart

@@ -24,7 +24,7 @@ use Rattle.node_state.specs.Leading.{put, put_and_handed}
 use Rattle.run_safety.specs.Past.{History, records_of, fold_from}
 use Rattle.run_safety.specs.Stays.{Stay, stays, is_join_of, asks_join, is_refused}
 use Rattle.run_safety.specs.Stays as kept
-use Rattle.node_groups.proofs.NameOrder.{cases_text, text_self, text_other, row_here, row_there, rows_ordered}
+use Rattle.node_state.proofs.NameOrder.{cases_text, text_self, text_other, row_here, row_there, rows_ordered}
 use Rattle.honest_votes.proofs.At.{found, leads_row}
 use Rattle.failed_rows.specs.Failures.{GoneCause, PutHolds, EntryFails, EachPut, state_held, state_of_stay, state_in_stays}
 use Rattle.failed_rows.proofs.Facts.{Whys, takers_pushed, TallyIs, QueueIs, Track, BasesFit, Stepped, BodyFails, body_on, own_pushed, PutOff}

@@ -13,7 +13,7 @@ use Rattle.rsct_packet.proofs.HasLaws.{has_append, has_map}
 use Rattle.proposal_core.specs.Fold.{empty_state, joiners_fit_at, joiners_fit}
 use Rattle.proposal_core.specs.Lists.{len_in, state_in}
 use Rattle.group_entry.specs.declared.proposal.Proposal.{Proposal}
-use Rattle.view_core.specs.Views.{views_new}
+use Rattle.view_state.specs.Views.{views_new}
 use Rattle.node_state.specs.declared.config.Config.{Config}
 use Rattle.node_state.specs.declared.group.GroupRow.{GroupRow}
 use Rattle.node_state.specs.declared.happened.Happened.{Happened}
@@ -37,10 +37,11 @@ use Rattle.step_ties.proofs.SessionLaws.{provider_same}
 use Rattle.step_ties.specs.Rows.{over, start_with, stopped, with_records, starts_too}
 use Rattle.step_ties.specs.Runs.{IsNote, noted}
 use Rattle.step_ties.proofs.Changed.{each_set}
+use Rattle.hearing.proofs.Listening.{reverse_has}
 use Rattle.honest_votes.proofs.At.{found}
 use Rattle.failed_rows.specs.Failures.{EachPut, FailuresHaveCauses}
 use Rattle.failed_rows.proofs.Fitting.{empty_fits, asked_seen}
-use Rattle.failed_rows.proofs.Facts.{Whys, JoinedIn, Track, Of, none_asked, reverse_has}
+use Rattle.failed_rows.proofs.Facts.{Whys, JoinedIn, Track, Of, none_asked}
 use Rattle.failed_rows.proofs.Owners.{any_has}
 use Rattle.failed_rows.proofs.Steps.{BodyGone}
 use Rattle.failed_rows.proofs.Between.{body_gone_on, CoreFails, CoreIf, Honest, others_stay, core_if_on, who_is}

@@ -15,10 +15,10 @@ use Rattle.proposal_core.specs.Lists.{len_in}
 use Rattle.session_state.specs.declared.state.Provider.{Provider}
 use Rattle.session_state.specs.declared.state.Request.{Request}
 use Rattle.session_state.specs.HandOn.{is_join, is_dissolved}
-use Rattle.view_core.specs.declared.packet.ViewPacket.{ViewPacket}
-use Rattle.view_core.specs.declared.packet.ViewPacket.TheVariants as view
-use Rattle.view_core.specs.declared.views.ViewWork.{ViewWork}
-use Rattle.view_core.specs.Views.{views_at_work, ask_row, prepare_row, answer_row, refuse_row, install_row, taken_row}
+use Rattle.view_state.specs.declared.packet.ViewPacket.{ViewPacket}
+use Rattle.view_state.specs.declared.packet.ViewPacket.TheVariants as view
+use Rattle.view_state.specs.declared.views.ViewWork.{ViewWork}
+use Rattle.view_state.specs.Views.{views_at_work, ask_row, prepare_row, answer_row, refuse_row, install_row, taken_row}
 use Rattle.node_state.specs.declared.call.CallLine.{CallLine}
 use Rattle.node_state.specs.declared.config.Mode.{Mode}
 use Rattle.node_state.specs.declared.config.Mode.TheVariants.{Fixed, Asked, Rings}
@@ -47,7 +47,7 @@ use Rattle.run_safety.proofs.SightLaws.{put_seen}
 use Rattle.run_safety.proofs.Whole.{Whole}
 use Rattle.run_safety.proofs.Lives.{whole}
 use Rattle.run_safety.proofs.Parts.{member_parts}
-use Rattle.node_groups.proofs.NameOrder.{row_here}
+use Rattle.node_state.proofs.NameOrder.{row_here}
 use Rattle.step_ties.specs.Ghost.{asking}
 use Rattle.step_ties.specs.Tied.{Owed, ShowsBody, ShowsEntry, ShowsLeader, ShowsRequest, Scene, opening_of, lines_now, Tied}
 use Rattle.step_ties.specs.Rows.{acted, Arises}

@@ -10,9 +10,9 @@ use Rattle.client_callbacks.specs.declared.ballot.Filled.{Filled}
 use Rattle.client_callbacks.specs.declared.told.Why.{Why}
 use Rattle.session_state.specs.State.{provider_of}
 use Rattle.session_state.specs.HandOn.{casts_out, telling_taken}
-use Rattle.view_exchange.specs.declared.install.Install.{Install}
-use Rattle.view_exchange.specs.Bases.{bases_of}
-use Rattle.view_core.specs.Views.{views_entered}
+use Rattle.view_state.specs.declared.install.Install.{Install}
+use Rattle.view_state.specs.Bases.{bases_of}
+use Rattle.view_state.specs.Views.{views_entered}
 use Rattle.node_state.specs.declared.happened.Happened.{Happened}
 use Rattle.node_state.specs.declared.happened.Happened.TheVariants as happened
 use Rattle.node_state.specs.declared.state.Core.{Core}

@@ -18,10 +18,10 @@ use Rattle.proposal_core.specs.Lists.{state_in}
 use Rattle.client_callbacks.specs.declared.told.Why.TheVariants.{Dissolved}
 use Rattle.session_state.specs.declared.state.Provider.{Provider}
 use Rattle.session_state.specs.State.{provider_of}
-use Rattle.view_exchange.specs.declared.install.Install.{Install}
-use Rattle.view_exchange.specs.declared.install.Base.{Base}
-use Rattle.view_exchange.specs.Bases.{bases_of, base_named}
-use Rattle.view_core.specs.Views.{views_entered}
+use Rattle.view_state.specs.declared.install.Install.{Install}
+use Rattle.view_state.specs.declared.install.Base.{Base}
+use Rattle.view_state.specs.Bases.{bases_of, base_named}
+use Rattle.view_state.specs.Views.{views_entered}
 use Rattle.node_state.specs.declared.config.Config.{Config}
 use Rattle.node_state.specs.declared.group.GroupRow.{GroupRow}
 use Rattle.node_state.specs.declared.happened.Happened.{Happened}
@@ -47,8 +47,9 @@ use Rattle.hearing.proofs.Handing.{among_is}
 use Rattle.hearing.proofs.Listening.{reverse_has}
 use Rattle.hearing.proofs.Doing.{present_row, rows_stay}
 use Rattle.failed_rows.proofs.Living.{IsLive}
-use Rattle.attending.proofs.Doing.{Adds, sides_add, enters_add}
-use Rattle.attending.proofs.Law.{incs_of, begin_strict, step_fine}
+use Rattle.hearing.proofs.Added.{Adds, sides_add, enters_add}
+use Rattle.attending.proofs.Law.{begin_strict, step_fine}
+use Rattle.hearing.proofs.Incarnations.{incs_of}
 use Rattle.attending.proofs.Ordering.{view_same, Ordered, entering_recorded, base_recorded_at, ordered_does}
 use Rattle.attending.proofs.OrderLaw.{reached_orderly}
 use Rattle.attending.proofs.Entering.{named_has, base_is, new_stay, entered_stays}

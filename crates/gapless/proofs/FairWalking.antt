@@ -21,11 +21,11 @@ use Rattle.adapter_ring.specs.Rings.{ring_stepped}
 use Rattle.node_reach.specs.Reach as reach
 use Rattle.subscribe_core.specs.declared.subs.Subscription.{Subscription}
 use Rattle.client_callbacks.specs.declared.told.Told.TheVariants as told
-use Rattle.view_exchange.specs.declared.install.Base.{Base}
-use Rattle.view_exchange.specs.Bases.{base_named}
-use Rattle.view_core.specs.declared.packet.ViewPacket.TheVariants as packet
-use Rattle.view_core.specs.declared.packet.ViewSend.{ViewSend}
-use Rattle.view_core.specs.declared.views.ViewWork.{ViewWork}
+use Rattle.view_state.specs.declared.install.Base.{Base}
+use Rattle.view_state.specs.Bases.{base_named}
+use Rattle.view_state.specs.declared.packet.ViewPacket.TheVariants as packet
+use Rattle.view_state.specs.declared.packet.ViewSend.{ViewSend}
+use Rattle.view_state.specs.declared.views.ViewWork.{ViewWork}
 use Rattle.packet_bodies.specs.declared.body.ReportRow.{ReportRow}
 use Rattle.node_state.specs.declared.happened.Happened.{Happened}
 use Rattle.node_state.specs.declared.happened.Happened.TheVariants as happened

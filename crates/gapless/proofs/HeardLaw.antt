@@ -18,8 +18,8 @@ use Rattle.run_safety.specs.Stays.{stays, part, takes_part, was_let_go}
 use Rattle.step_ties.specs.Tied.{Scene}
 use Rattle.step_ties.specs.Rows.{over, nothing_yet, Arises}
 use Rattle.step_ties.specs.Runs.{Reached}
+use Rattle.hearing.proofs.Listening.{reverse_has}
 use Rattle.failed_rows.specs.Scenes.{Names}
-use Rattle.failed_rows.proofs.Facts.{reverse_has}
 use Rattle.failed_rows.proofs.Origin.{root_of}
 use Rattle.leaving.specs.Scenes.{IsCall, Nothing, AllStart, Starts, Stops, Steps, Notes}
 use Rattle.leaving.proofs.Keeping.{Clean}

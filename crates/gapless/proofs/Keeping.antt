@@ -16,10 +16,10 @@ use Rattle.client_callbacks.specs.declared.told.Why.{Why}
 use Rattle.session_state.specs.declared.state.SessionState.{SessionState}
 use Rattle.session_state.specs.State.{provider_of}
 use Rattle.session_state.specs.HandOn.{casts_out, telling_taken, handed_on}
-use Rattle.view_exchange.specs.declared.install.Install.{Install}
-use Rattle.view_exchange.specs.declared.install.Base.{Base}
-use Rattle.view_exchange.specs.Bases.{bases_of, base_named}
-use Rattle.view_core.specs.Views.{views_entered}
+use Rattle.view_state.specs.declared.install.Install.{Install}
+use Rattle.view_state.specs.declared.install.Base.{Base}
+use Rattle.view_state.specs.Bases.{bases_of, base_named}
+use Rattle.view_state.specs.Views.{views_entered}
 use Rattle.node_state.specs.declared.group.GroupRow.{GroupRow}
 use Rattle.node_state.specs.declared.happened.Happened.{Happened}
 use Rattle.node_state.specs.declared.happened.Happened.TheVariants as happened
@@ -30,7 +30,7 @@ use Rattle.node_state.specs.Leading.{put}
 use Rattle.node_state.specs.Applying.{level_set, base_row, base_record, view_entered}
 use Rattle.run_safety.specs.Past.{History, Within, earlier, records_of}
 use Rattle.run_safety.specs.Stays.{stays}
-use Rattle.node_groups.proofs.NameOrder.{row_here, row_there}
+use Rattle.node_state.proofs.NameOrder.{row_here, row_there}
 use Rattle.step_ties.proofs.BaseOrder.{bases_ordered, base_noted}
 use Rattle.hearing.specs.Changes.{Same, handing}
 use Rattle.hearing.proofs.Attending.{pushed, pushed_reverse, heard_at}

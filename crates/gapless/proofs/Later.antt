@@ -12,7 +12,7 @@ use Rattle.group_entry.specs.declared.entry.Entry.{Entry}
 use Rattle.node_state.specs.declared.happened.Happened.{Happened}
 use Rattle.node_state.specs.declared.happened.Happened.TheVariants as happened
 use Rattle.run_safety.specs.Stays.{Stay, stays, is_join_of, with_entry}
-use Rattle.node_groups.proofs.NameOrder.{text_same}
+use Rattle.node_state.proofs.NameOrder.{text_same}
 use Rattle.gapless.proofs.FairWalk.{Mild}
 
 -- a list that is cut in two, at an element

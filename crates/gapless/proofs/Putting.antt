@@ -24,7 +24,7 @@ use Rattle.rsct_packet.specs.declared.ids.ProtoId.{ProtoId}
 use Rattle.run_safety.specs.Past.{History, earlier, fold_from}
 use Rattle.run_safety.specs.Requests.{proposal_of, IsJoin}
 use Rattle.run_safety.specs.Stays.{Stay, stays, is_join_of, part, takes_part}
-use Rattle.node_groups.proofs.NameOrder.{cases_text}
+use Rattle.node_state.proofs.NameOrder.{cases_text}
 use Rattle.hearing.proofs.Attending.{heard_at, has_cast}
 use Rattle.hearing.proofs.Handing.{among_is, new_hears, present_hears}
 use Rattle.attending.proofs.Fresh.{join_carried}

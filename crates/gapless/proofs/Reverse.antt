@@ -17,7 +17,7 @@ use Rattle.step_ties.specs.Tied.{Scene}
 use Rattle.step_ties.specs.Rows.{over, Arises}
 use Rattle.step_ties.specs.Runs.{Reached}
 use Rattle.hearing.proofs.Listening.{reverse_has}
-use Rattle.attending.proofs.Doing.{enters_add}
+use Rattle.hearing.proofs.Added.{enters_add}
 use Rattle.gapless.proofs.Fair.{Fair}
 use Rattle.gapless.proofs.Moving.{Carries, Moves, Remains, Enters, NotCall}
 use Rattle.gapless.proofs.Spoken.{Nought, nought_carries, spoken_moves, reached_spoken}

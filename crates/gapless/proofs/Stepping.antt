@@ -23,7 +23,7 @@ use Rattle.node_state.specs.State.{InNameOrder, row_of, list_of, state_of, len_o
 use Rattle.node_state.specs.HandOn.{Answering}
 use Rattle.node_state.specs.Calls.{call_row}
 use Rattle.node_state.specs.Step.{NodeEvent, Ticks, Asks, Given, Calls, Garbage, at_work, stepped}
-use Rattle.view_core.specs.declared.views.Views.{Views}
+use Rattle.view_state.specs.declared.views.Views.{Views}
 use Rattle.world_model.specs.declared.event.Event.{Event}
 use Rattle.world_model.specs.declared.event.Event.TheVariants as event
 use Rattle.run_safety.specs.Past.{History, Within, earlier, records_of, inc_now}
@@ -38,8 +38,9 @@ use Rattle.step_ties.proofs.Changed.{each_set}
 use Rattle.step_ties.proofs.RunLaw.{reached_rests}
 use Rattle.step_ties.proofs.SessionLaws.{provider_same}
 use Rattle.step_ties.proofs.Turns.{has_turned}
-use Rattle.hearing.proofs.Listening.{steps_change}
-use Rattle.attending.proofs.Law.{incs_of, begin_strict, step_fine}
+use Rattle.hearing.proofs.Listening.{steps_change, reverse_has}
+use Rattle.attending.proofs.Law.{begin_strict, step_fine}
+use Rattle.hearing.proofs.Incarnations.{incs_of}
 use Rattle.attending.proofs.Staying.{InStay}
 use Rattle.attending.proofs.Ordering.{Ordered, ordered_does}
 use Rattle.attending.proofs.OrderLaw.{reached_orderly}
@@ -48,7 +49,6 @@ use Rattle.attending.proofs.Living.{lively_now}
 use Rattle.seen_runs.specs.Seen.{Seen}
 use Rattle.seen_runs.proofs.Law.{traces_seen}
 use Rattle.failed_rows.specs.Scenes.{Names}
-use Rattle.failed_rows.proofs.Facts.{reverse_has}
 use Rattle.failed_rows.proofs.Origin.{root_of}
 use Rattle.failed_rows.proofs.Owners.{goodbye_named}
 use Rattle.leaving.specs.Scenes.{IsCall}

@@ -28,11 +28,10 @@ use Rattle.step_ties.specs.Runs as runs
 use Rattle.step_ties.proofs.Changed.{each_set, set_here}
 use Rattle.step_ties.proofs.RunLaw.{reached_rests}
 use Rattle.step_ties.proofs.SessionLaws.{provider_self, provider_same}
-use Rattle.hearing.proofs.Listening.{start_each}
-use Rattle.attending.proofs.Law.{incs_of}
+use Rattle.hearing.proofs.Listening.{start_each, reverse_has}
+use Rattle.hearing.proofs.Incarnations.{incs_of}
 use Rattle.attending.proofs.Staying.{InStay}
 use Rattle.attending.proofs.OrderLaw.{inner_all, others_stay, note_inner, reached_orderly}
-use Rattle.failed_rows.proofs.Facts.{reverse_has}
 use Rattle.failed_rows.proofs.Starting.{FreshIf, AllFresh, fold_fresh}
 use Rattle.leaving.specs.Scenes.{Recounted, Nothing, AllStart, Starts, Stops, Steps, Notes}
 use Rattle.leaving.proofs.Events.{any_one}

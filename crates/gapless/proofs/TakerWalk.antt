@@ -47,13 +47,13 @@ use Rattle.node_state.specs.HandOn.{Answering, fills, heard, note_of, notes, not
 use Rattle.node_state.specs.Leading.{put, put_and_handed, forgets_least, with_waiting, waits_if, new_members_wait, appended, appended_if, with_tally, tally_set, tally_for, tally_opened, closing_entry, is_phase, closes_from, closes, begun_many, begins}
 use Rattle.node_state.specs.Deciding.{decision_kept, refused, known_state, lacks_source, source_len}
 use Rattle.node_state.specs.Ending.{Pass, quiet, begun_now, failures_begin, due_begins, source_begins, attrs_for, carried_len, source_refused, joins_begin, or_due, or_joins, may_begin, first_begins, group_begins, one_pass, passes, most_begun, step_ended}
-use Rattle.node_groups.proofs.NameOrder.{KeepsName, cases_text, row_here, row_there, rows_ordered}
+use Rattle.node_state.proofs.NameOrder.{KeepsName, cases_text, row_here, row_there, rows_ordered}
 use Rattle.hearing.specs.Changes.{Same, handing}
 use Rattle.hearing.proofs.Changes.{Sends, same_self, same_sends, sends_on, sends_one, sends_all, sends_known, put_order}
 use Rattle.proposal_core.specs.GroupView.{GroupView}
 use Rattle.proposal_core.specs.Lists.{len_in, state_in, forgotten}
-use Rattle.view_exchange.specs.declared.install.Install.{Install}
-use Rattle.view_exchange.specs.Bases.{bases_of}
+use Rattle.view_state.specs.declared.install.Install.{Install}
+use Rattle.view_state.specs.Bases.{bases_of}
 use Rattle.node_state.specs.Applying.{view_entered}
 
 -- a record of a step beside entering, bases, puts, what is heard and what is told

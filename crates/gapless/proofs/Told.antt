@@ -17,8 +17,8 @@ use Rattle.client_callbacks.specs.declared.told.Why.{Why}
 use Rattle.client_callbacks.specs.declared.told.Why.TheVariants as why
 use Rattle.session_state.specs.declared.state.Provider.{Provider}
 use Rattle.session_state.specs.State.{provider_of}
-use Rattle.view_exchange.specs.declared.install.Install.{Install}
-use Rattle.view_exchange.specs.Bases.{bases_of, base_named}
+use Rattle.view_state.specs.declared.install.Install.{Install}
+use Rattle.view_state.specs.Bases.{bases_of, base_named}
 use Rattle.node_state.specs.declared.config.Config.{Config}
 use Rattle.node_state.specs.declared.happened.Happened.{Happened}
 use Rattle.node_state.specs.declared.happened.Happened.TheVariants as happened
@@ -36,12 +36,12 @@ use Rattle.step_ties.specs.Tied.{Scene}
 use Rattle.step_ties.specs.Rows.{Arises}
 use Rattle.step_ties.specs.Runs.{Reached}
 use Rattle.hearing.specs.Changes.{Aside, entering, Does}
-use Rattle.attending.proofs.Doing.{Adds, enters_add}
+use Rattle.hearing.proofs.Added.{Adds, enters_add}
+use Rattle.hearing.proofs.Listening.{reverse_has}
 use Rattle.attending.proofs.Entering.{base_is, new_stay, entered_stays}
 use Rattle.attending.proofs.Fresh.{join_carried}
 use Rattle.seen_runs.specs.Seen.{Seen, BeginsOnce, WasTold}
 use Rattle.failed_rows.specs.Scenes.{Names}
-use Rattle.failed_rows.proofs.Facts.{reverse_has}
 use Rattle.failed_rows.proofs.Origin.{root_of}
 use Rattle.leaving.specs.Scenes.{IsCall}
 use Rattle.leaving.proofs.Keeping.{Clean}

@@ -1,1 +1,1 @@
-pub mod CodecLaws
+pub mod Chosen

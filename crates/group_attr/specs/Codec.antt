@@ -1,8 +1,6 @@
 -- How attributes are spelled.
-use Rattle.std.specs.Prelude.{ℕ, ◌==◌, List, [], ◌++◌, length, Option, Some, None, option_copied, if◌then◌else◌}
+use Rattle.std.specs.Prelude.{ℕ, ◌==◌, List, [], ◌++◌, length, Option, Some, None, if◌then◌else◌}
 use Rattle.std.specs.Int.{w8, w16}
-use Rattle.std.specs.Option.{option_map}
-use Rattle.std.specs.Borrow.{Bor}
 use Rattle.rsct_packet.specs.Reading.{number_at, part_at, both_at, made_at, decoded_at, guarded_at, keyed_at}
 use Rattle.rsct_packet.specs.Format.{OptionFits}
 use Rattle.rsct_packet.specs.Text.{IsName, is_name_of}
@@ -14,7 +12,6 @@ use Rattle.group_attr.specs.declared.attrs.Batch.{Batch}
 use Rattle.group_attr.specs.declared.attrs.Batch.TheVariants.{Neither, Joins, Failures, Both}
 use Rattle.group_attr.specs.declared.attrs.DefaultVote.{DefaultVote}
 use Rattle.group_attr.specs.declared.attrs.DefaultVote.TheVariants.{Approve, Reject}
-use Rattle.group_attr.specs.declared.codec.AttrsRef.{AttrsRef}
 use Rattle.group_attr.specs.Agree.{batch_number}
 
 abbrev pub phases_number : Phases → ℕ
@@ -95,12 +92,3 @@ pub record IsAttrs (a : Attrs) : Type 0 where
   pub limit : IsU16 a.limit
   pub source_limit : IsU16 a.source_limit
   pub source : OptionFits IsName a.source
-
--- the attributes that a part of a datagram stands for
-abbrev pub attrs_in : AttrsRef → Attrs
-attrs_in r =
-    record { phases = r.phases; batch = r.batch; default_vote = r.default_vote; limit = r.limit; source = option_copied r.source; source_phases = r.source_phases; source_limit = r.source_limit }
-
--- what a reader of attributes answers, as the attributes that it stands for
-abbrev pub attrs_of : Option (AttrsRef × Bor (List ℕ)) → Option (Attrs × Bor (List ℕ))
-attrs_of result = option_map (λ x. (attrs_in x.0, x.1)) result

@@ -1,3 +1,2 @@
-pub mod EntryFormat
-pub mod ProposalFormat
-pub mod SizeLaws
+pub mod FailureFormat
+pub mod RowFormat

@@ -1,5 +1,5 @@
 -- How entries are spelled.
-use Rattle.std.specs.Prelude.{ℕ, ◌==◌, IsTrue, is_none, List, [], ◌∷◌, ◌++◌, length, Option, Some, None, option_copied, if◌then◌else◌}
+use Rattle.std.specs.Prelude.{ℕ, ◌==◌, IsTrue, is_none, List, [], ◌∷◌, ◌++◌, length, Option, Some, None, if◌then◌else◌}
 use Rattle.std.specs.Int.{w8, w16}
 use Rattle.rsct_packet.specs.declared.ids.ProviderId.{ProviderId}
 use Rattle.rsct_packet.specs.declared.ids.ProtoId.{ProtoId}
@@ -14,10 +14,7 @@ use Rattle.group_entry.specs.declared.entry.Row.{Row}
 use Rattle.group_entry.specs.declared.entry.Closed.{Closed}
 use Rattle.group_entry.specs.declared.entry.Entry.{Entry}
 use Rattle.group_entry.specs.declared.entry.Entry.TheVariants.{Once, Begin, Phase, Approve, Reject, Late}
-use Rattle.group_entry.specs.declared.entry_codec.ClosedRef.{ClosedRef}
-use Rattle.group_entry.specs.declared.entry_codec.EntryRef.{EntryRef}
-use Rattle.group_entry.specs.declared.entry_codec.EntryRef.TheVariants as ref
-use Rattle.group_entry.specs.ProposalCodec.{proposal_at, proposal_text, IsProposal, proposal_in}
+use Rattle.group_entry.specs.ProposalCodec.{proposal_at, proposal_text, IsProposal}
 
 -- what stands for a voter: 1 to 3 its vote, 4 and 5 late, 6 and 7 failed
 
@@ -137,19 +134,6 @@ IsEntry (Phase c) = IsClosed c
 IsEntry (Approve c) = IsClosed c
 IsEntry (Reject c) = IsClosed c × IsTrue (is_none c.value)
 IsEntry (Late proto phase ps) = IsProto proto × (IsU16 phase × IsSomeProviders ps)
-
--- the entry that a part of a datagram stands for
-
-abbrev pub closed_in : ClosedRef → Closed
-closed_in c = record { proto = c.proto; phase = c.phase; rows = c.rows; value = option_copied c.value; message = option_copied c.message }
-
-abbrev pub entry_in : EntryRef → Entry
-entry_in (ref.Once x) = Once (proposal_in x)
-entry_in (ref.Begin x) = Begin (proposal_in x)
-entry_in (ref.Phase c) = Phase (closed_in c)
-entry_in (ref.Approve c) = Approve (closed_in c)
-entry_in (ref.Reject c) = Reject (closed_in c)
-entry_in (ref.Late proto phase ps) = Late proto phase ps
 
 -- an entry that takes all of the bytes
 abbrev pub whole : {A : Type 0} → Option (A × List ℕ) → Option A

@@ -2,21 +2,17 @@
 use Rattle.std.specs.Prelude.{ℕ, ◌≤◌, Bool, true, not, ◌==◌, ◌&&◌, nat_le, IsTrue, List, [], ◌∷◌, ◌++◌, length, Option, Some, None, if◌then◌else◌}
 use Rattle.std.specs.Int.{w8, w32}
 use Rattle.std.specs.List.{list_any}
-use Rattle.std.specs.Option.{option_map}
-use Rattle.std.specs.Borrow.{Bor}
 use Rattle.rsct_packet.specs.declared.ids.ProviderId.{ProviderId}
 use Rattle.rsct_packet.specs.Providers.{same_provider}
 use Rattle.rsct_packet.specs.Reading.{number_at, both_at, made_at, decoded_at, guarded_at, keyed_at, counted_at, optional_at}
 use Rattle.rsct_packet.specs.Format.{EachFits, OptionFits, counted_text, optional_text}
 use Rattle.rsct_packet.specs.Fields.{u8_text, u32_text, bytes_at, bytes_text, AreShort, IsU32, view_at, view_text, IsView, provider_at, provider_text, IsProvider, some_providers_at, providers_text, IsSomeProviders}
-use Rattle.group_attr.specs.Codec.{attrs_at, attrs_text, IsAttrs, attrs_in}
+use Rattle.group_attr.specs.Codec.{attrs_at, attrs_text, IsAttrs}
 use Rattle.group_entry.specs.declared.proposal.Cause.{Cause}
 use Rattle.group_entry.specs.declared.proposal.Cause.TheVariants.{Died, Gone, Cast}
 use Rattle.group_entry.specs.declared.proposal.Failure.{Failure}
 use Rattle.group_entry.specs.declared.proposal.Proposal.{Proposal}
 use Rattle.group_entry.specs.declared.proposal.Proposal.TheVariants.{Join, Leave, Fail, Expel, State, Message, Attributes, Reflect}
-use Rattle.group_entry.specs.declared.proposal_codec.ProposalRef.{ProposalRef}
-use Rattle.group_entry.specs.declared.proposal_codec.ProposalRef.TheVariants as ref
 
 -- causes: 1 died, 2 gone, 3 cast
 
@@ -140,18 +136,3 @@ IsProposal (State p r value) = IsProvider p × (IsU32 r × AreShort value)
 IsProposal (Message p r bytes) = IsProvider p × (IsU32 r × AreShort bytes)
 IsProposal (Attributes p r attrs) = IsProvider p × (IsU32 r × IsAttrs attrs)
 IsProposal (Reflect view place value) = IsView view × (IsU32 place × AreShort value)
-
--- the proposal that a part of a datagram stands for
-abbrev pub proposal_in : ProposalRef → Proposal
-proposal_in (ref.Join ps attrs n) = Join ps (attrs_in attrs) n
-proposal_in (ref.Leave p r) = Leave p r
-proposal_in (ref.Fail out) = Fail out
-proposal_in (ref.Expel p r out) = Expel p r out
-proposal_in (ref.State p r value) = State p r value.now
-proposal_in (ref.Message p r bytes) = Message p r bytes.now
-proposal_in (ref.Attributes p r attrs) = Attributes p r (attrs_in attrs)
-proposal_in (ref.Reflect view place value) = Reflect view place value.now
-
--- what a reader of a proposal answers, as the proposal that it stands for
-abbrev pub proposal_of : Option (ProposalRef × Bor (List ℕ)) → Option (Proposal × Bor (List ℕ))
-proposal_of result = option_map (λ x. (proposal_in x.0, x.1)) result

@@ -2,6 +2,7 @@
 ghost use Rattle.std.specs.Prelude.{◌≡◌, IfOk};
 
 use crate::proposal::Proposal;
+use crate::texts::copy_text;
 use group_attr::DefaultVote;
 use rsct_packet::{List, NoMemory, ProtoId, ProviderId, Providers, Text};
 use std::alloc::Global;
@@ -62,16 +63,6 @@ pub enum Entry {
         phase: u16,
         ps: Providers,
     },
-}
-
-/// An equal text, or none.
-pub fn copy_text(alloc: Global, text: &Option<Text>) -> Result<Option<Text>, NoMemory>
-    ensures { IfOk result (λ t. t ≡ text.now) }
-{
-    match text {
-        None => Ok(None),
-        Some(text) => Ok(Some(text.copy(alloc)?)),
-    }
 }
 
 impl Closed {

@@ -1,15 +1,14 @@
-//! Proposals and the entries of a group's list, with their spellings and the lengths of those.
+//! Proposals and the entries of a group's list, with the lengths of their spellings.
 #![tactic(auto)]
 
 mod entry;
-mod entry_codec;
-mod laws;
+mod failures;
 mod proposal;
-mod proposal_codec;
+mod rows;
 mod sizes;
+mod texts;
 
-pub use entry::{Closed, Entry, Row, RowVote, Rows, Vote, copy_text};
-pub use entry_codec::{ClosedRef, EntryRef, optional_bytes, optional_text_of};
-pub use laws::entries_have_their_lengths;
+pub use entry::{Closed, Entry, Row, RowVote, Rows, Vote};
+pub use failures::is_same_failure;
 pub use proposal::{Cause, Failure, Fallen, Proposal};
-pub use proposal_codec::{ProposalRef, read_proposal, text_of};
+pub use texts::{copy_text, optional_bytes, optional_text_of, text_of};

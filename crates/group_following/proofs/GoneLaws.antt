@@ -14,13 +14,12 @@ use Rattle.client_callbacks.specs.declared.votes.VoteItem.{VoteItem}
 use Rattle.node_state.specs.declared.group.GroupRow.{GroupRow}
 use Rattle.node_state.specs.declared.group.Led.{Led}
 use Rattle.node_state.specs.declared.state.Core.{Core}
-use Rattle.node_state.specs.State.{AllAfter, InNameOrder, row_found, row_of, rows_with, with_row, with_led, led_of, state_of, leads}
+use Rattle.node_state.specs.State.{AllAfter, InNameOrder, row_found, row_of, rows_with, with_row, with_led, led_of, state_of, leads, has_name}
 use Rattle.node_state.specs.HandOn.{Answering}
 use Rattle.node_state.specs.Leading.{with_waiting, with_tally, closes}
 use Rattle.node_state.specs.Following.{tally_failed, gone_waits, marked, gone_present, gone_of, gone_row}
 use Rattle.node_groups.specs.Keeps.{Keeps}
-use Rattle.node_groups.specs.Places.{has_name}
-use Rattle.node_groups.proofs.NameOrder.{after_less, none_after}
+use Rattle.node_state.proofs.NameOrder.{after_less, none_after}
 use Rattle.node_groups.proofs.TallyLaws.{changed_in, same_rows}
 use Rattle.node_groups.proofs.KeepLaws.{keeps_itself, keeps_as, led_keeps}
 use Rattle.entry_handing.specs.Received.{Handing}

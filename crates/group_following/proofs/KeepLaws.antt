@@ -14,8 +14,7 @@ use Rattle.entry_handing.specs.Doing.{Does}
 use Rattle.entry_handing.proofs.DoingLaws.{does_after, does_as}
 use Rattle.group_leading.specs.Working.{AtWork}
 use Rattle.group_leading.proofs.AnswerLaws.{does_some}
-use Rattle.group_leading.proofs.WorkLaws.{keeps_follows, work_kept}
-use Rattle.request_deciding.proofs.DecidingLaws.{kept_does}
+use Rattle.group_leading.proofs.WorkLaws.{keeps_follows, work_kept, kept_does}
 
 -- ---- changes
 

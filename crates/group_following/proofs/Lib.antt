@@ -2,6 +2,5 @@ pub mod EntryLaws
 pub mod GoneLaws
 pub mod KeepLaws
 pub mod NameLaws
-pub mod RequestLaws
 pub mod TellLaws
 pub mod VoteLaws

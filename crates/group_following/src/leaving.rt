@@ -43,7 +43,7 @@ fn joiners(running: &Option<Running>) -> &[ProviderId]
 }
 
 /// Is the provider a member of the group, or a running joiner?
-#[tactic(auto, using(proposal_core::proofs::StateFormat::among_both))]
+#[tactic(auto, using(proposal_core::proofs::FoldLaws::among_both))]
 fn is_present(core: &Core, g: &[u8], p: ProviderId) -> bool
     ensures { result ≡ among (present (state_of core.now g.now)) p }
 {

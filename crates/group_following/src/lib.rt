@@ -4,13 +4,11 @@
 mod entries;
 mod leaving;
 mod naming;
-mod requesting;
 mod telling;
 mod voting;
 
 pub use entries::{take_ack, take_entry};
 pub use leaving::take_gone;
-pub use naming::{take_lookup, take_name};
-pub use requesting::take_request;
+pub use naming::{send_name, take_lookup, take_name};
 pub use telling::take_tell;
 pub use voting::take_vote;

@@ -38,7 +38,7 @@ fn look_up(names: &mut Names, alloc: Global, g: &[u8], asker: u8) -> Result<u8, 
 }
 
 /// Answers who leads the group; 0 where no group more can be had.
-pub(crate) fn send_name(
+pub fn send_name(
     core: &mut Core,
     alloc: Global,
     to: u8,

@@ -15,6 +15,7 @@ use client_callbacks::{Callbacks, Told, Why};
 use client_session::tell_at;
 use node_state::{Core, Happened};
 use rsct_packet::{NoMemory, ProviderId};
+use session_changes::{outstanding, place_of, take_telling, takes_telling};
 use session_state::SessionState;
 use std::alloc::Global;
 
@@ -22,7 +23,7 @@ use std::alloc::Global;
 fn is_outstanding(sessions: &SessionState, p: ProviderId, r: u32) -> bool
     ensures { result ≡ is_numbered r (outstanding sessions.now p) }
 {
-    match sessions.outstanding(p) {
+    match outstanding(sessions, p) {
         None => false,
         Some(q) => q.r == r,
     }
@@ -43,12 +44,12 @@ fn tell_client<C: Callbacks>(
     ensures state { OnOk result (sessions.new ≡ telling_taken sessions.old p r why) }
     ensures stand { (hs : List (List Handed)) → StandFor C.stands_for clients.old.items hs → OnOk result (StandFor C.stands_for clients.new.items (told_lists sessions.old p r why hs)) }
 {
-    if !sessions.takes_telling(p, r, why) {
+    if !takes_telling(sessions, p, r, why) {
         return Ok(());
     }
     let told = Told::Refused { p, r, why };
-    tell_at(clients, sessions.place_of(p), &told)?;
-    sessions.take_telling(p, why);
+    tell_at(clients, place_of(sessions, p), &told)?;
+    take_telling(sessions, p, why);
     Ok(())
 }
 

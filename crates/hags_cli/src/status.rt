@@ -1,5 +1,5 @@
 //! The call at the top, and its status.
-ghost use Rattle.std.specs.Prelude.{◌≡◌, ◌≢◌, ◌⊎◌, ◌≤◌, ◌==◌, map, IfSome, IsTrue, false, true, ◌↔◌, string_bytes, slice_get};
+ghost use Rattle.std.specs.Prelude.{◌≡◌, ◌≢◌, ◌⊎◌, ◌≤◌, ◌==◌, map, IfSome, false, true, ◌↔◌, string_bytes};
 ghost use Rattle.std.specs.Io.KnownBytes.{IsAtEnd, Keeps};
 ghost use Rattle.hags_io.specs.Edges.{Rose, GrowsByFront};
 ghost use Rattle.hags_cli.specs.Run.{PlaysAll, PlaysPast, PlaysFront, IsOutside, SaysLine, SpellsScript, MayHavePlayed, status_of, said_of, ending_text, is_run};

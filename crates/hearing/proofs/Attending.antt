@@ -30,7 +30,7 @@ use Rattle.run_safety.specs.ViewOrder.{Lt}
 use Rattle.run_safety.specs.Past.{History, Within, earlier, is_list, records_of}
 use Rattle.run_safety.specs.SafeHeard.{latest_put}
 use Rattle.run_safety.proofs.Order.{lt_not_same}
-use Rattle.node_groups.proofs.NameOrder.{cases_text, text_same, text_self}
+use Rattle.node_state.proofs.NameOrder.{cases_text, text_same, text_self}
 use Rattle.step_ties.proofs.SessionLaws.{provider_same, provider_self, Later, handed_later, cast_has}
 use Rattle.hearing.specs.Hearing.{last_heard, next_place, Follows, AtPut}
 use Rattle.hearing.specs.Changes.{Aside, Fewer}

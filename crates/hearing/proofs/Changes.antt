@@ -27,7 +27,7 @@ use Rattle.node_state.specs.Sending.{sent_on, sent, sent_all, sent_if_known}
 use Rattle.node_state.specs.HandOn.{Answering, fills, cast_record, cast_records, heard, note_of, notes, noted, ballot_sent, cast_sent_of, casts_sent, handed_on}
 use Rattle.node_state.specs.Leading.{put, put_and_handed}
 use Rattle.hearing.specs.Changes.{Same, Aside, Inner, Unentered, handing, Does, Stays, Then, Records, Hands}
-use Rattle.node_groups.proofs.NameOrder.{KeepsName, cases_text, row_here, row_there, rows_ordered}
+use Rattle.node_state.proofs.NameOrder.{KeepsName, cases_text, row_here, row_there, rows_ordered}
 
 pub inner_aside : (r : Happened) → Inner r → Aside r
 inner_aside (happened.Up n j) a = absurd a

@@ -23,23 +23,22 @@ use Rattle.session_state.specs.declared.state.SessionState.{SessionState}
 use Rattle.session_state.specs.State.{provider_of, outstanding, without_providers}
 use Rattle.session_state.specs.Calls.{keeps}
 use Rattle.session_state.specs.HandOn.{casts_out, handed_on, takes_telling, told_of, telling_taken, is_numbered, is_join_request}
-use Rattle.view_exchange.specs.declared.install.Install.{Install}
-use Rattle.view_exchange.specs.declared.install.Base.{Base}
-use Rattle.view_exchange.specs.Bases.{bases_of, base_named}
-use Rattle.view_core.specs.Views.{views_entered}
+use Rattle.view_state.specs.declared.install.Install.{Install}
+use Rattle.view_state.specs.declared.install.Base.{Base}
+use Rattle.view_state.specs.Bases.{bases_of, base_named}
+use Rattle.view_state.specs.Views.{views_entered}
 use Rattle.node_state.specs.declared.group.GroupRow.{GroupRow}
 use Rattle.node_state.specs.declared.happened.Happened.{Happened}
 use Rattle.node_state.specs.declared.happened.Happened.TheVariants as happened
 use Rattle.node_state.specs.declared.state.Core.{Core}
-use Rattle.node_state.specs.State.{InNameOrder, row_found, row_of, with_row, list_of, state_of, len_of, held_rows, recorded, recorded_all, with_sessions}
+use Rattle.node_state.specs.State.{InNameOrder, row_found, row_of, with_row, list_of, state_of, len_of, held_rows, recorded, recorded_all, with_sessions, has_name}
 use Rattle.node_state.specs.HandOn.{heard}
 use Rattle.node_state.specs.Leading.{put}
 use Rattle.node_state.specs.Applying.{level_set, base_row, base_record, view_entered, is_in_base, number_of, dissolved, dissolved_if, group_dissolved, sides_dissolved}
 use Rattle.run_safety.specs.ViewOrder.{Lt}
 use Rattle.run_safety.specs.Past.{History, earlier}
 use Rattle.run_safety.proofs.Order.{lt_trans, lt_not_same}
-use Rattle.node_groups.specs.Places.{has_name}
-use Rattle.node_groups.proofs.NameOrder.{row_here, row_there, text_same, text_self}
+use Rattle.node_state.proofs.NameOrder.{row_here, row_there, text_same, text_self}
 use Rattle.step_ties.proofs.BaseOrder.{row_of_base}
 use Rattle.hearing.specs.Hearing.{last_heard, next_place}
 use Rattle.hearing.specs.Changes.{Same, Aside, handing, Does, Stays, Then, Records, Hands, Loses, Joins, Votes, Enters}

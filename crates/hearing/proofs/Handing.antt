@@ -19,7 +19,7 @@ use Rattle.session_state.specs.declared.state.Provider.{Provider}
 use Rattle.session_state.specs.declared.state.SessionState.{SessionState}
 use Rattle.session_state.specs.State.{is_provider, provider_of, with_provider, request_ended, without_providers}
 use Rattle.session_state.specs.HandOn.{kept_ended, kept_after, hears, hearers_in, brought_by, beginners, hearers, taking_part, part_taken, opened_after, phases_opened, casts_kept, proposal_begun, requests_after, is_present, removed_from, casts_out, heard, handed_on}
-use Rattle.node_groups.proofs.NameOrder.{text_same, text_self}
+use Rattle.node_state.proofs.NameOrder.{text_same, text_self}
 use Rattle.step_ties.proofs.SessionLaws.{provider_same, provider_self}
 
 -- ---- who is among some

@@ -9,3 +9,5 @@ pub mod Attending
 pub mod Doing
 pub mod Listening
 pub mod NoGap
+pub mod Added
+pub mod Incarnations

@@ -12,7 +12,7 @@ use Rattle.rsct_packet.proofs.HasLaws.{has_append, has_map}
 use Rattle.adapter_ring.specs.declared.ring.Ring.{Ring}
 use Rattle.session_state.specs.State.{is_provider, provider_of}
 use Rattle.session_state.specs.declared.state.Provider.{Provider}
-use Rattle.view_core.specs.Views.{views_new}
+use Rattle.view_state.specs.Views.{views_new}
 use Rattle.view_core.proofs.Promises.{views_begin}
 use Rattle.node_state.specs.declared.config.Config.{Config}
 use Rattle.node_state.specs.declared.happened.Happened.{Happened}

@@ -12,7 +12,7 @@ use Rattle.node_state.specs.declared.happened.Happened.{Happened}
 use Rattle.node_state.specs.declared.happened.Happened.TheVariants as happened
 use Rattle.run_safety.specs.Past.{History, Within, records_of}
 use Rattle.hearing.specs.Hearing.{last_heard, Follows, InARow, AtPut, HeardInARow, HeardPlace, HeardLeavesNoGap}
-use Rattle.node_groups.proofs.NameOrder.{text_same}
+use Rattle.node_state.proofs.NameOrder.{text_same}
 use Rattle.step_ties.proofs.SessionLaws.{provider_same}
 use Rattle.hearing.proofs.Attending.{heard_own}
 use Rattle.hearing.proofs.Listening.{providers_hear}

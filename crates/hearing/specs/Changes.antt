@@ -16,8 +16,8 @@ use Rattle.session_state.specs.State.{is_kept_for, provider_of}
 use Rattle.session_state.specs.Calls.{join_asked, keeps}
 use Rattle.session_state.specs.HandOn.{casts_out}
 use Rattle.session_state.specs.HandOn as session
-use Rattle.view_exchange.specs.declared.install.Install.{Install}
-use Rattle.view_exchange.specs.Bases.{bases_of}
+use Rattle.view_state.specs.declared.install.Install.{Install}
+use Rattle.view_state.specs.Bases.{bases_of}
 use Rattle.node_state.specs.declared.happened.Happened.{Happened}
 use Rattle.node_state.specs.declared.happened.Happened.TheVariants as happened
 use Rattle.node_state.specs.declared.state.Core.{Core}

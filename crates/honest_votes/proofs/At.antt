@@ -10,17 +10,16 @@ use Rattle.rsct_packet.proofs.HasLaws.{has_append, append_has_left, append_has_r
 use Rattle.proposal_core.specs.Lists.{state_in}
 use Rattle.session_state.specs.declared.state.KeptBallot.{KeptBallot}
 use Rattle.session_state.specs.declared.state.SessionState.{SessionState}
-use Rattle.view_core.specs.declared.views.Views.{Views}
+use Rattle.view_state.specs.declared.views.Views.{Views}
 use Rattle.node_state.specs.declared.group.GroupRow.{GroupRow}
 use Rattle.node_state.specs.declared.happened.Happened.{Happened}
 use Rattle.node_state.specs.declared.packet.Body.{Body}
 use Rattle.node_state.specs.declared.packet.Packet.{Packet}
 use Rattle.node_state.specs.declared.state.Core.{Core}
-use Rattle.node_state.specs.State.{InNameOrder, new_row, row_found, row_of, rows_with, with_row, is_this, leader_by, leader_in, leads_in, leads, recorded, recorded_all, with_sessions}
+use Rattle.node_state.specs.State.{InNameOrder, new_row, row_found, row_of, rows_with, with_row, is_this, leader_by, leader_in, leads_in, leads, recorded, recorded_all, with_sessions, has_name}
 use Rattle.node_state.specs.Sending.{packet_on, sent_on, sent, network_to}
 use Rattle.run_safety.specs.Past.{History, records_of, Within}
-use Rattle.node_groups.specs.Places.{has_name}
-use Rattle.node_groups.proofs.NameOrder.{KeepsName, cases_text, row_here, row_there, rows_ordered}
+use Rattle.node_state.proofs.NameOrder.{KeepsName, cases_text, row_here, row_there, rows_ordered}
 use Rattle.honest_votes.specs.Casts.{RecordCast, ListCast, BodyCast, KeptCast, ViewsCast, TallyCast}
 use Rattle.honest_votes.proofs.More.{entries_on, body_on, ballot_on, views_on, tally_on}
 

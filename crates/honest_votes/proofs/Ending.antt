@@ -30,7 +30,7 @@ use Rattle.node_state.specs.Leading.{with_waiting, begins}
 use Rattle.node_state.specs.Deciding.{decision_kept, refused, known_state, lacks_source, source_len, is_idle_empty, meant_attrs, join_refusal, attrs_kept, join_waits, decided_join, other_refusal, decided_other, decided}
 use Rattle.node_state.specs.Ending.{Pass, quiet, begun_now, failures_begin, due_begins, source_begins, attrs_for, carried_len, source_refused, joins_begin, or_due, or_joins, may_begin, first_begins, group_begins, one_pass, passes, most_begun, step_ended}
 use Rattle.run_safety.specs.Past.{History}
-use Rattle.node_groups.proofs.NameOrder.{row_here}
+use Rattle.node_state.proofs.NameOrder.{row_here}
 use Rattle.step_ties.proofs.LedGroups.{led_are_led}
 use Rattle.step_ties.proofs.Decisions.{differ_push, apart_instances}
 use Rattle.honest_votes.specs.Casts.{NamesOnce}

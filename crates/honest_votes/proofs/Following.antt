@@ -31,15 +31,14 @@ use Rattle.node_state.specs.declared.happened.Happened.TheVariants as happened
 use Rattle.node_state.specs.declared.packet.Body.TheVariants as body
 use Rattle.node_state.specs.declared.state.Core.{Core}
 use Rattle.node_state.specs.Settings.{is_fixed}
-use Rattle.node_state.specs.State.{InNameOrder, new_row, row_found, row_of, with_row, with_led, led_of, list_of, state_of, len_of, holds, fits_at_end, forgets_below, coordinates, is_this, leader_in, leader_of, leads_in, leads, led_by, acked_raised, decision_of, recorded, with_sessions}
+use Rattle.node_state.specs.State.{InNameOrder, new_row, row_found, row_of, with_row, with_led, led_of, list_of, state_of, len_of, holds, fits_at_end, forgets_below, coordinates, is_this, leader_in, leader_of, leads_in, leads, led_by, acked_raised, decision_of, recorded, with_sessions, has_name}
 use Rattle.node_state.specs.Sending.{sent, sent_on, request_sent}
 use Rattle.node_state.specs.HandOn.{Answering}
 use Rattle.node_state.specs.Leading.{put, put_and_handed, with_waiting, with_tally, closes}
 use Rattle.node_state.specs.Deciding.{decided}
 use Rattle.node_state.specs.Following.{lookup_row, told_if, tell_row, requests_of, named, is_name_used, name_row, told_again, request_new, request_after, request_at, is_group_refused, request_row, entry_next, entry_elsewhere, entry_row, acked, ack_row, vote_cast, vote_row, tally_failed, gone_waits, marked, gone_present, gone_of, gone_row}
 use Rattle.run_safety.specs.Past.{History, records_of}
-use Rattle.node_groups.specs.Places.{has_name}
-use Rattle.node_groups.proofs.NameOrder.{cases_text, row_here, row_there, rows_ordered}
+use Rattle.node_state.proofs.NameOrder.{cases_text, row_here, row_there, rows_ordered}
 use Rattle.step_ties.proofs.Appending.{handed_rows}
 use Rattle.honest_votes.specs.Casts.{IsCast, EntryCast, ListCast, TallyCast}
 use Rattle.honest_votes.proofs.At.{found, leads_row, leads_is, RowIs, RowApart, At, at_for, at_fold, at_sent, at_recorded, at_sessions, at_row, rows_has}

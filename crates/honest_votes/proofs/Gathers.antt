@@ -7,22 +7,22 @@ use Rattle.rsct_packet.specs.Ids.{same_view, is_member}
 use Rattle.rsct_packet.specs.Mask.{has_node, with_node, nodes_of}
 use Rattle.rsct_packet.specs.Search.{Has, place_where, edit_where, insert_before}
 use Rattle.rsct_packet.proofs.HasLaws.{has_append, has_map}
-use Rattle.view_exchange.specs.declared.answer.Answer.{Answer}
-use Rattle.view_exchange.specs.declared.exchange.Exchange.{Exchange}
-use Rattle.view_exchange.specs.declared.sides.Kept.{Kept}
-use Rattle.view_exchange.specs.declared.sides.Side.{Side}
-use Rattle.view_exchange.specs.declared.install.Part.{Part}
-use Rattle.view_exchange.specs.declared.install.Source.{Source}
-use Rattle.view_exchange.specs.declared.install.Install.{Install}
-use Rattle.view_exchange.specs.Parts.{part_len}
-use Rattle.view_exchange.specs.Answers.{max_parts, opened, may_answer, has_answered, kept_of, is_beaten, better_of, is_kept_of, is_kept_above, with_kept_at, with_kept, with_parts, side_with, side_from, is_side_of, is_side_above, with_side_at, with_side, with_answer, all_answered, source_of, install_of, is_spelled}
-use Rattle.view_core.specs.declared.packet.ViewPacket.{ViewPacket}
-use Rattle.view_core.specs.declared.packet.ViewPacket.TheVariants as packet
-use Rattle.view_core.specs.declared.packet.ViewSend.{ViewSend}
-use Rattle.view_core.specs.declared.views.Views.{Views}
-use Rattle.view_core.specs.declared.views.RingAsk.{RingAsk}
-use Rattle.view_core.specs.declared.views.ViewWork.{ViewWork}
-use Rattle.view_core.specs.Views.{is_frozen, is_coordinator, others_of, view_sent, view_sent_all, gathering_set, promised, installs, gathered, gathers, own_answer, asks_view, next_view, may_ask, ask_if, ask_row, answered, prepared, prepare_row, answer_to, answer_row, refused_by, refuse_to, refuse_row, installed, install_row, taken_row, aged, prepared_again, tick_asks, stuck_noted, asks_or_ages, gathering_ticks, install_again_of, install_again, views_at_work}
+use Rattle.view_state.specs.declared.answer.Answer.{Answer}
+use Rattle.view_state.specs.declared.exchange.Exchange.{Exchange}
+use Rattle.view_state.specs.declared.sides.Kept.{Kept}
+use Rattle.view_state.specs.declared.sides.Side.{Side}
+use Rattle.view_state.specs.declared.install.Part.{Part}
+use Rattle.view_state.specs.declared.install.Source.{Source}
+use Rattle.view_state.specs.declared.install.Install.{Install}
+use Rattle.view_state.specs.Parts.{part_len}
+use Rattle.view_state.specs.Answers.{max_parts, opened, may_answer, has_answered, kept_of, is_beaten, better_of, is_kept_of, is_kept_above, with_kept_at, with_kept, with_parts, side_with, side_from, is_side_of, is_side_above, with_side_at, with_side, with_answer, all_answered, source_of, install_of, is_spelled}
+use Rattle.view_state.specs.declared.packet.ViewPacket.{ViewPacket}
+use Rattle.view_state.specs.declared.packet.ViewPacket.TheVariants as packet
+use Rattle.view_state.specs.declared.packet.ViewSend.{ViewSend}
+use Rattle.view_state.specs.declared.views.Views.{Views}
+use Rattle.view_state.specs.declared.views.RingAsk.{RingAsk}
+use Rattle.view_state.specs.declared.views.ViewWork.{ViewWork}
+use Rattle.view_state.specs.Views.{is_frozen, is_coordinator, others_of, view_sent, view_sent_all, gathering_set, promised, installs, gathered, gathers, own_answer, asks_view, next_view, may_ask, ask_if, ask_row, answered, prepared, prepare_row, answer_to, answer_row, refused_by, refuse_to, refuse_row, installed, install_row, taken_row, aged, prepared_again, tick_asks, stuck_noted, asks_or_ages, gathering_ticks, install_again_of, install_again, views_at_work}
 use Rattle.node_state.specs.declared.happened.Happened.{Happened}
 use Rattle.honest_votes.specs.Casts.{EntriesCast, PartsCast, InstallCast, ExchangeCast, ViewPacketCast, GatheringCast, InstallIfCast, ViewsCast}
 

@@ -8,7 +8,7 @@ use Rattle.rsct_packet.proofs.HasLaws.{has_append, append_has_right, has_map}
 use Rattle.adapter_ring.specs.declared.ring.Ring.{Ring}
 use Rattle.proposal_core.specs.Lists.{state_in}
 use Rattle.session_state.specs.declared.state.KeptBallot.{KeptBallot}
-use Rattle.view_core.specs.Views.{views_new}
+use Rattle.view_state.specs.Views.{views_new}
 use Rattle.node_state.specs.declared.config.Config.{Config}
 use Rattle.node_state.specs.declared.group.GroupRow.{GroupRow}
 use Rattle.node_state.specs.declared.happened.Happened.{Happened}

@@ -23,20 +23,19 @@ use Rattle.node_reach.specs.declared.reach.Reach.{Reach}
 use Rattle.node_reach.specs.Reach as reach
 use Rattle.packet_bodies.specs.declared.body.ReportRow.{ReportRow}
 use Rattle.vote_phases.specs.Tally.{TallyView, expires, open_voters}
-use Rattle.view_core.specs.Views.{views_at_work, gathering_ticks, install_again}
+use Rattle.view_state.specs.Views.{views_at_work, gathering_ticks, install_again}
 use Rattle.node_state.specs.declared.group.GroupRow.{GroupRow}
 use Rattle.node_state.specs.declared.happened.Happened.{Happened}
 use Rattle.node_state.specs.declared.packet.Body.TheVariants as body
 use Rattle.node_state.specs.declared.state.Core.{Core}
 use Rattle.node_state.specs.Settings.{is_rings}
-use Rattle.node_state.specs.State.{row_found, row_of, led_of, state_of, held_rows, fits_at_end, frozen, leader_of, led_groups, others, acked_by, least_acked, with_led}
+use Rattle.node_state.specs.State.{row_found, row_of, led_of, state_of, held_rows, fits_at_end, frozen, leader_of, led_groups, others, acked_by, least_acked, with_led, has_name}
 use Rattle.node_state.specs.Sending.{sent, sent_on, sent_if_known, requests_sent, votes_sent_again}
 use Rattle.node_state.specs.HandOn.{Answering}
 use Rattle.node_state.specs.Leading.{appended_if, with_tally}
 use Rattle.node_state.specs.Applying.{own_parts, views_taken}
 use Rattle.node_state.specs.Ticks.{ring_put, set_records, ring_taken, ring_row_of, ring_row, row_reported, report_row, rings_union, report_of, report_sent, rings_tick, rings_part, ring_ask, views_part, is_lost, lost_told, owed_part, late_appended, announced, ticked_in, tally_ticks, entries_sent, list_sent_again, sent_again, group_ticks, led_part}
 use Rattle.run_safety.specs.Past.{History, records_of}
-use Rattle.node_groups.specs.Places.{has_name}
 use Rattle.honest_votes.specs.Casts.{RecordCast, EntriesCast, ListCast, TallyCast}
 use Rattle.honest_votes.proofs.At.{found, leads_row, RowIs, At, at_fold, at_sent, at_sent_on, at_recorded_all, at_row}
 use Rattle.honest_votes.proofs.Sends.{at_sent_all, at_sent_if_known, at_requests_sent, at_votes_again}

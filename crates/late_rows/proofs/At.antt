@@ -29,15 +29,14 @@ use Rattle.node_state.specs.declared.group.GroupRow.{GroupRow}
 use Rattle.node_state.specs.declared.happened.Happened.{Happened}
 use Rattle.node_state.specs.declared.happened.Happened.TheVariants as happened
 use Rattle.node_state.specs.declared.state.Core.{Core}
-use Rattle.node_state.specs.State.{InNameOrder, row_found, row_of, with_row, is_this, leader_by, leader_in, leads_in, leads, recorded, recorded_all}
+use Rattle.node_state.specs.State.{InNameOrder, row_found, row_of, with_row, is_this, leader_by, leader_in, leads_in, leads, recorded, recorded_all, has_name}
 use Rattle.node_state.specs.Settings.{view_level}
 use Rattle.node_state.specs.Leading.{limit_of, first_carried, value_of, closed_by, closing, closing_of, closing_entry}
 use Rattle.world_model.specs.declared.event.Event.{Event}
 use Rattle.run_safety.specs.Past.{History, records_of, fold_from, Within}
 use Rattle.run_safety.specs.Stays.{Stay, stays_after, stays}
 use Rattle.run_safety.specs.SafeHeard.{enters}
-use Rattle.node_groups.specs.Places.{has_name}
-use Rattle.node_groups.proofs.NameOrder.{KeepsName, cases_text, row_here, row_there, rows_ordered}
+use Rattle.node_state.proofs.NameOrder.{KeepsName, cases_text, row_here, row_there, rows_ordered}
 use Rattle.late_rows.specs.Announced.{members_after, members_now, late_first, RecordTold}
 use Rattle.late_rows.specs.Late.{tick_of, opens, ticks_with, ticks_of, RecordLate}
 

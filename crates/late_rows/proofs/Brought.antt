@@ -9,11 +9,11 @@ use Rattle.rsct_packet.specs.Ids.{same_view}
 use Rattle.rsct_packet.specs.Search.{Has}
 use Rattle.rsct_packet.proofs.HasLaws.{has_append, find_has}
 use Rattle.group_entry.specs.declared.entry.Entry.{Entry}
-use Rattle.view_exchange.specs.declared.install.Source.{Source}
-use Rattle.view_exchange.specs.declared.install.Install.{Install}
-use Rattle.view_exchange.specs.declared.exchange.Exchange.{Exchange}
-use Rattle.view_exchange.specs.Answers.{install_of}
-use Rattle.view_exchange.specs.Bases.{source_at, parts_in, parts_from}
+use Rattle.view_state.specs.declared.install.Source.{Source}
+use Rattle.view_state.specs.declared.install.Install.{Install}
+use Rattle.view_state.specs.declared.exchange.Exchange.{Exchange}
+use Rattle.view_state.specs.Answers.{install_of}
+use Rattle.view_state.specs.Bases.{source_at, parts_in, parts_from}
 use Rattle.view_exchange.specs.Longest.{NamesDiffer}
 use Rattle.node_state.specs.declared.happened.Happened.{Happened}
 use Rattle.node_state.specs.declared.happened.Happened.TheVariants as happened
@@ -28,7 +28,7 @@ use Rattle.run_safety.proofs.SightLaws.{kept_append}
 use Rattle.run_safety.proofs.Prefix.{IsPrefix, prefix_nil, prefix_get}
 use Rattle.run_safety.proofs.Whole.{Whole}
 use Rattle.run_safety.proofs.Lives.{whole}
-use Rattle.node_groups.proofs.NameOrder.{text_same}
+use Rattle.node_state.proofs.NameOrder.{text_same}
 use Rattle.step_ties.specs.Ghost.{Keeps, CarriesIf, part_of, GathersIf, Gathers, Installs}
 use Rattle.step_ties.specs.Tied.{Scene, opening_of, Tied}
 use Rattle.step_ties.proofs.ViewRows.{same_of}

@@ -24,19 +24,19 @@ use Rattle.client_callbacks.specs.declared.told.Why.TheVariants.{Dissolved}
 use Rattle.session_state.specs.declared.state.Provider.{Provider}
 use Rattle.session_state.specs.State.{provider_of, outstanding}
 use Rattle.session_state.specs.HandOn.{telling_taken}
-use Rattle.view_exchange.specs.declared.install.Install.{Install}
-use Rattle.view_exchange.specs.declared.install.Base.{Base}
-use Rattle.view_exchange.specs.Bases.{bases_of, base_named}
-use Rattle.view_core.specs.declared.packet.ViewPacket.TheVariants as packet
-use Rattle.view_core.specs.declared.views.ViewWork.{ViewWork}
-use Rattle.view_core.specs.Views.{views_entered}
+use Rattle.view_state.specs.declared.install.Install.{Install}
+use Rattle.view_state.specs.declared.install.Base.{Base}
+use Rattle.view_state.specs.Bases.{bases_of, base_named}
+use Rattle.view_state.specs.declared.packet.ViewPacket.TheVariants as packet
+use Rattle.view_state.specs.declared.views.ViewWork.{ViewWork}
+use Rattle.view_state.specs.Views.{views_entered}
 use Rattle.node_state.specs.declared.group.GroupRow.{GroupRow}
 use Rattle.node_state.specs.declared.happened.Happened.{Happened}
 use Rattle.node_state.specs.declared.happened.Happened.TheVariants as happened
 use Rattle.node_state.specs.declared.packet.Body.TheVariants as body
 use Rattle.node_state.specs.declared.state.Core.{Core}
 use Rattle.node_state.specs.Settings.{view_level}
-use Rattle.node_state.specs.State.{AllAfter, InNameOrder, row_found, row_of, list_of, state_of, len_of, held_rows, recorded, recorded_all, with_sessions, with_row}
+use Rattle.node_state.specs.State.{AllAfter, InNameOrder, row_found, row_of, list_of, state_of, len_of, held_rows, recorded, recorded_all, with_sessions, with_row, has_name}
 use Rattle.node_state.specs.Sending.{sent, requests_sent}
 use Rattle.node_state.specs.HandOn.{Answering, subscriber_name, note_of}
 use Rattle.node_state.specs.Leading.{put, put_and_handed, with_waiting, tally_opened}
@@ -45,8 +45,7 @@ use Rattle.run_safety.specs.Past.{History, records_of, Within}
 use Rattle.run_safety.specs.Stays.{Stay, stays}
 use Rattle.run_safety.specs.Stays as stay
 use Rattle.run_safety.specs.SafeHeard.{enters}
-use Rattle.node_groups.specs.Places.{has_name}
-use Rattle.node_groups.proofs.NameOrder.{text_same, text_other, none_after, row_here, row_there, cases_text, text_self}
+use Rattle.node_state.proofs.NameOrder.{text_same, text_other, none_after, row_here, row_there, cases_text, text_self}
 use Rattle.step_ties.proofs.Appending.{handed_rows}
 use Rattle.step_ties.proofs.BaseOrder.{bases_ordered, row_of_base, base_noted}
 use Rattle.step_ties.proofs.Fills.{collected}

@@ -11,7 +11,7 @@ use Rattle.rsct_packet.specs.Mask.{nodes_of}
 use Rattle.rsct_packet.proofs.HasLaws.{has_append, append_has_left, has_map}
 use Rattle.adapter_ring.specs.declared.ring.Ring.{Ring}
 use Rattle.proposal_core.specs.Fold.{empty_state}
-use Rattle.view_core.specs.Views.{views_new}
+use Rattle.view_state.specs.Views.{views_new}
 use Rattle.node_state.specs.declared.config.Config.{Config}
 use Rattle.node_state.specs.declared.group.GroupRow.{GroupRow}
 use Rattle.node_state.specs.declared.happened.Happened.{Happened}

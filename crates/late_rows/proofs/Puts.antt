@@ -20,7 +20,7 @@ use Rattle.node_state.specs.Leading.{put}
 use Rattle.run_safety.specs.Past.{records_of, fold_from}
 use Rattle.run_safety.specs.Stays.{Stay, stays_after, stays}
 use Rattle.run_safety.specs.Stays as stay
-use Rattle.node_groups.proofs.NameOrder.{cases_text, text_self, text_other, row_here, row_there, rows_ordered}
+use Rattle.node_state.proofs.NameOrder.{cases_text, text_self, text_other, row_here, row_there, rows_ordered}
 use Rattle.late_rows.specs.Announced.{RecordTold}
 use Rattle.late_rows.specs.Late.{opens, opens_phase, RecordLate}
 use Rattle.late_rows.proofs.At.{Turn, ticks_now, RowIs, Folds, Mine, found, leads_row, AtOf, At, ticks_plain}

@@ -18,7 +18,7 @@ use Rattle.node_state.specs.State.{InNameOrder, row_of, with_row, with_led, led_
 use Rattle.node_state.specs.Sending.{sent_all}
 use Rattle.node_state.specs.HandOn.{Answering, handed_on}
 use Rattle.node_state.specs.Leading.{put, forgets_least, with_waiting, waits_if, new_members_wait, appended}
-use Rattle.node_groups.proofs.NameOrder.{KeepsName, row_here, rows_ordered}
+use Rattle.node_state.proofs.NameOrder.{KeepsName, row_here, rows_ordered}
 use Rattle.step_ties.proofs.Appending.{sent_all_is, handed_rows}
 use Rattle.late_rows.proofs.At.{found_in, found}
 use Rattle.late_rows.proofs.Leading.{forgotten_same, late_same}

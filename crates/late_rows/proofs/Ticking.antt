@@ -42,7 +42,7 @@ use Rattle.node_state.specs.Ticks.{ring_put, set_records, ring_taken, ring_row_o
 use Rattle.run_safety.specs.Past.{records_of}
 use Rattle.run_safety.specs.Stays.{stays}
 use Rattle.run_safety.specs.Stays as stay
-use Rattle.node_groups.proofs.NameOrder.{lt_self, text_self, row_here}
+use Rattle.node_state.proofs.NameOrder.{lt_self, text_self, row_here}
 use Rattle.step_ties.proofs.Turns.{has_turned}
 use Rattle.late_rows.specs.Announced.{stay_entries, entries_here}
 use Rattle.late_rows.proofs.At.{Turn, ticks_now, TallyIs, RowIs, Settled, late_voters, Folds, AllPlain, Plain, found, leads_row, At, at_for, at_fold, at_recorded_all, at_row_for, plain_stays}

@@ -31,7 +31,7 @@ use Rattle.node_state.specs.declared.state.Core.{Core}
 use Rattle.node_state.specs.State.{frozen, leader_of, recorded, with_sessions}
 use Rattle.node_state.specs.Sending.{request_to, request_sent, kept_sent_to, kept_sent}
 use Rattle.node_state.specs.Calls.{caller, call_refused, changed, last_asked, proposed, ballot_recorded, ballot_sent_if, last_cast, ballot_given, gone_sent, all_gone_sent, goodbye_said, call_row}
-use Rattle.node_groups.proofs.NameOrder.{text_self}
+use Rattle.node_state.proofs.NameOrder.{text_self}
 use Rattle.hearing.proofs.Changes.{Sends, sends_nothing, sends_one, sends_known, sends_fold}
 use Rattle.hearing.proofs.Sessions.{casts_voted, unless_is}
 use Rattle.failed_rows.proofs.Owners.{Owned, known_session}

@@ -25,9 +25,8 @@ use Rattle.step_ties.specs.Runs.{IsNote, noted, Reached}
 use Rattle.step_ties.specs.Runs as runs
 use Rattle.step_ties.proofs.Changed.{each_set, set_here, set_there}
 use Rattle.step_ties.proofs.RunLaw.{reached_rests}
-use Rattle.hearing.proofs.Listening.{start_each}
-use Rattle.attending.proofs.Law.{incs_of}
-use Rattle.failed_rows.proofs.Facts.{reverse_has}
+use Rattle.hearing.proofs.Listening.{start_each, reverse_has}
+use Rattle.hearing.proofs.Incarnations.{incs_of}
 use Rattle.failed_rows.proofs.Starting.{Fresh, FreshIf, AllFresh, fold_fresh, started_fresh}
 use Rattle.leaving.specs.Scenes.{NoCall, IsDown, Recounted, Nothing, AllStart, Starts, Stops, Steps, Notes}
 use Rattle.leaving.specs.LetGo.{WhoIsLetGoHearsNothing, ProvidersWereNotLetGo}

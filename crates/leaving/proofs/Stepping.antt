@@ -22,7 +22,7 @@ use Rattle.world_model.specs.declared.event.Event.TheVariants as event
 use Rattle.run_safety.specs.Past.{History, Within, records_of, inc_now}
 use Rattle.run_safety.specs.SafeHeard.{NotLetGo}
 use Rattle.run_safety.specs.Stays.{asks_join, joining_client, client_of, is_named, is_refused, ends, was_let_go}
-use Rattle.node_groups.proofs.NameOrder.{text_same}
+use Rattle.node_state.proofs.NameOrder.{text_same}
 use Rattle.step_ties.specs.Tied.{Scene, NodeIsIf, Rests, Tied}
 use Rattle.step_ties.specs.Rows.{at_node, over, ended}
 use Rattle.step_ties.specs.Runs.{Reached}
@@ -33,8 +33,8 @@ use Rattle.step_ties.proofs.RunLaw.{reached_rests}
 use Rattle.step_ties.proofs.SessionLaws.{provider_same}
 use Rattle.step_ties.proofs.Turns.{has_turned}
 use Rattle.hearing.proofs.Rows.{call_onward}
+use Rattle.hearing.proofs.Listening.{reverse_has}
 use Rattle.failed_rows.specs.Scenes.{Names}
-use Rattle.failed_rows.proofs.Facts.{reverse_has}
 use Rattle.failed_rows.proofs.Joining.{call_now}
 use Rattle.failed_rows.proofs.Living.{IsLive}
 use Rattle.failed_rows.proofs.Origin.{root_of}

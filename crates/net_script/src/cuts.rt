@@ -1,7 +1,6 @@
 //! Which nodes are cut off from each other.
 ghost use Rattle.std.specs.Prelude.{◌≡◌, [], ◌∷◌, ◌++◌, map, OnOk, filter};
 ghost use Rattle.std.specs.List.{list_any};
-ghost use Rattle.node_state.specs.Settings.{networks};
 ghost use Rattle.world_model.specs.Play.{is_cut_of, networks_in, healed, with_cuts};
 ghost use Rattle.net_script.specs.Cuts.{cut_in, cut_on, is_other};
 

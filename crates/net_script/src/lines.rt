@@ -1,9 +1,8 @@
 //! The lines of a script.
-ghost use Rattle.std.specs.Prelude.{◌≡◌, ◌≤◌, OnOk};
+ghost use Rattle.std.specs.Prelude.{◌≡◌, ◌≤◌};
 ghost use Rattle.hags_io.specs.Edges.{Rose};
 ghost use Rattle.world_model.specs.World as world;
-ghost use Rattle.world_model.specs.Play.{drops, healed, with_cuts, networks_in};
-ghost use Rattle.world_answers.specs.Plays.{AnsweredPlay, in_that_world, PlaysLine, PlaysLines};
+ghost use Rattle.world_answers.specs.Plays.{AnsweredPlay, PlaysLine, PlaysLines};
 ghost use Rattle.net_script.specs.Stage.{At, LeadsTo};
 
 use crate::faults::PlayFault;

@@ -20,7 +20,7 @@ use Rattle.node_state.specs.Leading.{put}
 use Rattle.node_state.specs.Handed.{is_handed, handed_in, state_along}
 use Rattle.node_state.proofs.AlongLaws.{LeavesStates, state_as, along_records, along_same, along_itself, along_then}
 use Rattle.node_groups.specs.Keeps.{Stays, Keeps}
-use Rattle.node_groups.proofs.NameOrder.{text_self, text_other, cases_text, KeepsName, order_with, row_here, row_there}
+use Rattle.node_state.proofs.NameOrder.{text_self, text_other, cases_text, KeepsName, order_with, row_here, row_there}
 
 pub keeps_itself : (s : Core) → Keeps s s
 keeps_itself s = record { records = omega arith; sessions = (refl, refl); order = λ o. o; handed = refl; owners = owners_themselves s.sessions; along = along_itself s }

@@ -1,5 +1,4 @@
 pub mod KeepLaws
-pub mod NameOrder
 pub mod ReadLaws
 pub mod RowLaws
 pub mod TableLaws

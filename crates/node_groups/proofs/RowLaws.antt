@@ -5,9 +5,9 @@ use Rattle.std.specs.Str.{bytes_eq}
 use Rattle.rsct_packet.specs.Text.{name_lt}
 use Rattle.rsct_packet.specs.Search.{front_len}
 use Rattle.node_state.specs.declared.group.GroupRow.{GroupRow}
-use Rattle.node_state.specs.State.{AllAfter, InNameOrder, new_row, row_found, rows_with}
-use Rattle.node_groups.specs.Places.{has_name, stops_at, is_row_of, row_opened}
-use Rattle.node_groups.proofs.NameOrder.{none_after, after_less}
+use Rattle.node_state.specs.State.{AllAfter, InNameOrder, new_row, row_found, rows_with, has_name}
+use Rattle.node_groups.specs.Places.{stops_at, is_row_of, row_opened}
+use Rattle.node_state.proofs.NameOrder.{none_after, after_less}
 
 -- one row more in front, which has the name, comes after it, or neither
 set_at_head : (eq lt : Bool) (change : GroupRow → GroupRow) (d new row : GroupRow) (rows opened rest : List GroupRow) (k : ℕ) → set opened k (change (get_or opened k d)) ≡ rest

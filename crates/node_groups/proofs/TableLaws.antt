@@ -7,8 +7,8 @@ use Rattle.rsct_packet.specs.Search.{place_where}
 use Rattle.node_state.specs.declared.group.Acked.{Acked}
 use Rattle.node_state.specs.declared.group.Decision.{Decision}
 use Rattle.node_state.specs.declared.state.Core.{Core}
-use Rattle.node_state.specs.State.{row_of, acked_from, acked_by, least_acked, acked_raised, decisions_with, new_row}
-use Rattle.node_groups.specs.Places.{has_name, is_acked_by, is_decision_on}
+use Rattle.node_state.specs.State.{row_of, acked_from, acked_by, least_acked, acked_raised, decisions_with, new_row, has_name}
+use Rattle.node_groups.specs.Places.{is_acked_by, is_decision_on}
 
 abbrev pub len_or_none : Option Acked → ℕ
 len_or_none None = 0

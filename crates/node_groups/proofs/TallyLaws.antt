@@ -6,10 +6,9 @@ use Rattle.rsct_packet.specs.Text.{name_lt}
 use Rattle.vote_phases.specs.Tally.{TallyView}
 use Rattle.node_state.specs.declared.group.GroupRow.{GroupRow}
 use Rattle.node_state.specs.declared.state.Core.{Core}
-use Rattle.node_state.specs.State.{AllAfter, InNameOrder, new_row, row_found, row_of, rows_with, with_row, with_led, led_of}
+use Rattle.node_state.specs.State.{AllAfter, InNameOrder, new_row, row_found, row_of, rows_with, with_row, with_led, led_of, has_name}
 use Rattle.node_state.specs.Leading.{with_tally}
-use Rattle.node_groups.specs.Places.{has_name}
-use Rattle.node_groups.proofs.NameOrder.{none_after, after_less}
+use Rattle.node_state.proofs.NameOrder.{none_after, after_less}
 
 -- the rows from one on, where its name is the group's or comes after it
 abbrev pub changed_in : (GroupRow → GroupRow) → List ℕ → GroupRow → List GroupRow → List GroupRow → Bool → Bool → List GroupRow

@@ -12,9 +12,6 @@ use Rattle.node_state.specs.declared.group.Led.{Led}
 use Rattle.node_state.specs.declared.state.Core.{Core}
 use Rattle.node_state.specs.State.{nothing_led, rows_with, leads_in}
 
-abbrev pub has_name : List ℕ → GroupRow → Bool
-has_name g row = bytes_eq row.name g
-
 -- it has the name, or comes after it
 abbrev pub stops_at : List ℕ → GroupRow → Bool
 stops_at g row = bytes_eq row.name g || name_lt g row.name

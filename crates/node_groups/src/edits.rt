@@ -7,7 +7,7 @@ ghost use Rattle.node_state.specs.Following.{marked, vote_cast};
 ghost use Rattle.node_state.specs.Ticks.{ticked_in};
 ghost use Rattle.std.specs.Option.{option_map};
 ghost use Rattle.vote_phases.specs.Tally.{tally_fail};
-ghost use Rattle.node_groups.specs.Places.{has_name};
+ghost use Rattle.node_state.specs.State.{has_name};
 
 use crate::places::open;
 use crate::row;

@@ -1,7 +1,8 @@
 //! Where the rows of groups stand, in the order of their names.
 ghost use Rattle.std.specs.Prelude.{◌≡◌, ◌≤◌, length, IfOk, OnOk, find, slice_get, option_copied};
 ghost use Rattle.rsct_packet.specs.Search.{front_len};
-ghost use Rattle.node_groups.specs.Places.{has_name, stops_at, is_row_of, row_opened};
+ghost use Rattle.node_state.specs.State.{has_name};
+ghost use Rattle.node_groups.specs.Places.{stops_at, is_row_of, row_opened};
 
 use crate::row::new_row;
 use node_state::{GroupRow, Groups};

@@ -1,1 +1,2 @@
 pub mod AlongLaws
+pub mod NameOrder

@@ -30,13 +30,13 @@ use Rattle.group_entry.specs.declared.entry.Vote.{Vote}
 use Rattle.group_entry.specs.declared.entry.Vote.TheVariants as vote
 use Rattle.group_entry.specs.ProposalCodec.{proposal_at, proposal_text}
 use Rattle.group_entry.specs.EntryCodec.{entry_front_at, entry_text}
-use Rattle.view_exchange.specs.Codec.{answer_at, answer_text, install_at, install_text}
+use Rattle.view_state.specs.Codec.{answer_at, answer_text, install_at, install_text}
 use Rattle.adapter_ring.specs.declared.packet.RingPacket.{RingPacket}
 use Rattle.adapter_ring.specs.declared.packet.RingPacket.TheVariants as ring
 use Rattle.client_callbacks.specs.declared.told.Why.{Why}
 use Rattle.client_callbacks.specs.declared.told.Why.TheVariants as why
-use Rattle.view_core.specs.declared.packet.ViewPacket.{ViewPacket}
-use Rattle.view_core.specs.declared.packet.ViewPacket.TheVariants as packet
+use Rattle.view_state.specs.declared.packet.ViewPacket.{ViewPacket}
+use Rattle.view_state.specs.declared.packet.ViewPacket.TheVariants as packet
 use Rattle.node_state.specs.declared.packet.Body.{Body}
 use Rattle.node_state.specs.declared.packet.Body.TheVariants as body
 

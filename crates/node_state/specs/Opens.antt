@@ -17,11 +17,11 @@ use Rattle.client_callbacks.specs.Handed.{handed_opens}
 use Rattle.session_state.specs.State.{state_opens as sessions_open}
 use Rattle.session_state.specs.Calls.{calls_opens}
 use Rattle.session_state.specs.HandOn.{handon_opens}
-use Rattle.view_exchange.specs.Answers.{answers_open}
-use Rattle.view_exchange.specs.Bases.{bases_open}
-use Rattle.view_exchange.specs.Codec.{sized_entry_at, sized_entry_text, group_part_at, group_part_text, parts_at as lists_at, parts_text as lists_text, answer_at, answer_text, source_at_front, source_text as brought_source_text, each_comes_once, install_at, install_text}
-use Rattle.view_exchange.specs.Cut.{cut_opens}
-use Rattle.view_core.specs.Views.{views_open}
+use Rattle.view_state.specs.Answers.{answers_open}
+use Rattle.view_state.specs.Bases.{bases_open}
+use Rattle.view_state.specs.Codec.{sized_entry_at, sized_entry_text, group_part_at, group_part_text, parts_at as lists_at, parts_text as lists_text, answer_at, answer_text, source_at_front, source_text as brought_source_text, each_comes_once, install_at, install_text}
+use Rattle.view_state.specs.Cut.{cut_opens}
+use Rattle.view_state.specs.Views.{views_open}
 use Rattle.node_state.specs.Wording.{wording_opens}
 use Rattle.node_state.specs.Settings.{settings_opens}
 use Rattle.node_state.specs.State.{state_opens}

@@ -12,7 +12,7 @@ use Rattle.proposal_core.specs.GroupView.{GroupView}
 use Rattle.proposal_core.specs.Lists.{list_or_new, len_in, entry_fits, forgotten}
 use Rattle.batch_rules.specs.Waiting.{nothing_waits}
 use Rattle.session_state.specs.declared.state.SessionState.{SessionState}
-use Rattle.view_core.specs.Views.{is_frozen, is_coordinator, others_of}
+use Rattle.view_state.specs.Views.{is_frozen, is_coordinator, others_of}
 use Rattle.node_state.specs.declared.config.Mode.{Mode}
 use Rattle.node_state.specs.declared.config.Mode.TheVariants.{Fixed, Asked, Rings}
 use Rattle.node_state.specs.declared.group.Acked.{Acked}
@@ -31,6 +31,9 @@ new_row g = record { name = g; list = None; leader = None; led = nothing_led }
 abbrev pub row_found : List ℕ → Option GroupRow → GroupRow
 row_found g None = new_row g
 row_found g (Some row) = row
+
+abbrev pub has_name : List ℕ → GroupRow → Bool
+has_name g row = bytes_eq row.name g
 
 -- the row of a group, an empty one where there is none
 unfoldable pub row_of : Core → List ℕ → GroupRow

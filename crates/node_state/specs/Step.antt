@@ -10,9 +10,9 @@ use Rattle.adapter_ring.specs.declared.ring.Ring.{Ring}
 use Rattle.adapter_ring.specs.Rings.{ring_new, neighbour}
 use Rattle.node_reach.specs.Reach.{reach_new}
 use Rattle.session_state.specs.State.{no_sessions}
-use Rattle.view_core.specs.declared.packet.ViewPacket.{ViewPacket}
-use Rattle.view_core.specs.declared.packet.ViewPacket.TheVariants as packet
-use Rattle.view_core.specs.Views.{views_new, views_at_work, ask_row, prepare_row, answer_row, refuse_row, install_row, taken_row}
+use Rattle.view_state.specs.declared.packet.ViewPacket.{ViewPacket}
+use Rattle.view_state.specs.declared.packet.ViewPacket.TheVariants as packet
+use Rattle.view_state.specs.Views.{views_new, views_at_work, ask_row, prepare_row, answer_row, refuse_row, install_row, taken_row}
 use Rattle.node_state.specs.declared.call.CallLine.{CallLine}
 use Rattle.node_state.specs.declared.config.Config.{Config}
 use Rattle.node_state.specs.declared.config.Mode.{Mode}

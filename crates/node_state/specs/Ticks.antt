@@ -25,8 +25,8 @@ use Rattle.node_reach.specs.declared.reach.ReachRow.{ReachRow}
 use Rattle.node_reach.specs.Reach as reach
 use Rattle.vote_phases.specs.Tally.{TallyView, expires, open_voters, tally_tick}
 use Rattle.session_state.specs.State.{provider_of}
-use Rattle.view_core.specs.declared.views.RingAsk.{RingAsk}
-use Rattle.view_core.specs.Views.{views_at_work, gathering_ticks, install_again}
+use Rattle.view_state.specs.declared.views.RingAsk.{RingAsk}
+use Rattle.view_state.specs.Views.{views_at_work, gathering_ticks, install_again}
 use Rattle.node_state.specs.declared.group.GroupRow.{GroupRow}
 use Rattle.node_state.specs.declared.happened.Happened.{Happened}
 use Rattle.node_state.specs.declared.happened.Happened.TheVariants as happened

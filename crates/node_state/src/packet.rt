@@ -5,7 +5,7 @@ use group_attr::Phases;
 use packet_bodies::{ReportRow, What};
 use proposal_core::{Entry, Proposal, Vote};
 use rsct_packet::{List, Name, ProtoId, ProviderId, Text, ViewId};
-use view_core::ViewPacket;
+use view_state::ViewPacket;
 
 /// Rows with nodes ascending.
 pub type Report = List<ReportRow>;

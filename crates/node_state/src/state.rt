@@ -8,7 +8,7 @@ use name_server::Names;
 use node_reach::Reach;
 use rsct_packet::List;
 use session_state::SessionState;
-use view_core::Views;
+use view_state::Views;
 
 /// The rings of a node's adapters, ascending by network.
 pub type Rings = List<Ring>;

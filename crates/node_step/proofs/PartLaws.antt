@@ -19,11 +19,11 @@ use Rattle.packet_bodies.specs.declared.body.Query.{Query}
 use Rattle.packet_bodies.specs.Group.{GroupIn, ReplyIn, reply_at}
 use Rattle.packet_bodies.specs.Body.{whole_of}
 use Rattle.packet_bodies.proofs.BodyLaws.{group_format, leader_format, ack_format, gone_format}
-use Rattle.group_attr.proofs.CodecLaws.{phases_format}
-use Rattle.group_entry.proofs.ProposalFormat.{proposal_format}
-use Rattle.group_entry.proofs.EntryFormat.{entry_format}
+use Rattle.group_codec.proofs.AttrFormat.{phases_format}
+use Rattle.group_codec.proofs.ProposalFormat.{proposal_format}
+use Rattle.group_codec.proofs.EntryFormat.{entry_format}
 use Rattle.adapter_ring.specs.declared.packet.RingPacket.TheVariants as ring
-use Rattle.view_core.specs.declared.packet.ViewPacket.TheVariants as view
+use Rattle.view_state.specs.declared.packet.ViewPacket.TheVariants as view
 use Rattle.node_state.specs.declared.packet.Body.{Body}
 use Rattle.node_state.specs.declared.packet.Body.TheVariants as body
 use Rattle.node_state.specs.declared.packet.Packet.{Packet}

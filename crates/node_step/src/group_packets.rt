@@ -4,8 +4,10 @@ ghost use Rattle.rsct_packet.specs.Text.{IsName};
 ghost use Rattle.rsct_packet.specs.Ids.{is_member};
 ghost use Rattle.rsct_packet.specs.Format.{OptionFits};
 ghost use Rattle.rsct_packet.specs.Fields.{AreShort};
-ghost use Rattle.group_entry.specs.ProposalCodec.{IsProposal, proposal_in};
-ghost use Rattle.group_entry.specs.EntryCodec.{IsEntry, entry_in};
+ghost use Rattle.group_entry.specs.ProposalCodec.{IsProposal};
+ghost use Rattle.group_codec.specs.InPlace.{proposal_in};
+ghost use Rattle.group_entry.specs.EntryCodec.{IsEntry};
+ghost use Rattle.group_codec.specs.InPlace.{entry_in};
 ghost use Rattle.entry_handing.specs.Received.{Receive};
 ghost use Rattle.entry_handing.specs.Doing.{Does};
 ghost use Rattle.node_groups.specs.Keeps.{Keeps};
@@ -16,15 +18,17 @@ ghost use Rattle.packet_codec.specs.InPlace.{packet_in};
 
 use client_callbacks::{Callbacks, Why};
 use group_attr::Phases;
+use group_codec::{EntryRef, ProposalRef};
 use group_entry::optional_text_of;
 use group_following::{
-    take_ack, take_entry, take_gone, take_lookup, take_name, take_request, take_tell, take_vote,
+    take_ack, take_entry, take_gone, take_lookup, take_name, take_tell, take_vote,
 };
 use node_sending::is_frozen;
 use node_state::Core;
 use packet_bodies::{Ack, Gone, GroupRef, Leader};
 use packet_codec::PacketRef;
-use proposal_core::{EntryRef, ProposalRef, Vote};
+use proposal_core::Vote;
+use request_taking::take_request;
 use rsct_packet::{Member, Name, NoMemory, ProtoId, ProviderId, ViewId};
 use std::alloc::Global;
 

@@ -17,7 +17,7 @@ use rsct_packet::{List, Mask, Member, Members, NODES, NoMemory, ViewId};
 use session_state::{Locals, SessionState};
 use std::alloc::Global;
 use subscribe_core::Subs;
-use view_core::Views;
+use view_state::Views;
 
 const NETWORKS: [u8; 4] = [1, 2, 3, 4];
 

@@ -1,7 +1,7 @@
 //! The packets of views that are to be.
 ghost use Rattle.std.specs.Prelude.{◌≡◌, OnOk, map};
 ghost use Rattle.view_exchange.specs.SourcesInPlace.{install_in};
-ghost use Rattle.view_core.specs.declared.packet.ViewPacket.TheVariants as packet;
+ghost use Rattle.view_state.specs.declared.packet.ViewPacket.TheVariants as packet;
 ghost use Rattle.entry_handing.specs.Received.{Receive};
 ghost use Rattle.entry_handing.specs.Doing.{Does};
 ghost use Rattle.group_leading.specs.Working.{AtWork};

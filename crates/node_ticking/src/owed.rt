@@ -14,6 +14,7 @@ use node_state::{Body, Core};
 use owed_sending::{send_requests, send_votes_again};
 use proposal_core::{GroupState, Proposal, Running};
 use rsct_packet::{Name, NoMemory, ProviderId};
+use session_changes::is_live;
 use std::alloc::Global;
 
 /// Is the provider of the own incarnation, and no live one of it?
@@ -21,7 +22,7 @@ use std::alloc::Global;
 fn is_lost(core: &Core, p: ProviderId) -> bool
     ensures { result ≡ is_lost core.now p }
 {
-    p.node == core.views.me && p.inc == core.views.inc && !core.sessions.is_live(p)
+    p.node == core.views.me && p.inc == core.views.inc && !is_live(&core.sessions, p)
 }
 
 /// The providers that what runs would join.

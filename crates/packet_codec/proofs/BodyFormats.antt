@@ -18,20 +18,21 @@ use Rattle.packet_bodies.specs.Body.{whole_of, query_at, query_text, what_code, 
 use Rattle.packet_bodies.proofs.BodyLaws.{ring_mask_format, death_format, report_format, prepare_format, refuse_format, group_format, leader_format, ack_format, gone_format, query_format}
 use Rattle.group_attr.specs.declared.attrs.Phases.{Phases}
 use Rattle.group_attr.specs.Codec.{phases_at, phases_number}
-use Rattle.group_attr.proofs.CodecLaws.{phases_format, chosen, not_chosen}
+use Rattle.group_codec.proofs.AttrFormat.{phases_format}
+use Rattle.group_attr.proofs.Chosen.{chosen, not_chosen}
 use Rattle.group_entry.specs.declared.entry.Vote.{Vote}
 use Rattle.group_entry.specs.declared.entry.Vote.TheVariants as vote
 use Rattle.group_entry.specs.declared.proposal.Proposal.{Proposal}
 use Rattle.group_entry.specs.ProposalCodec.{proposal_at, proposal_text, IsProposal}
-use Rattle.group_entry.proofs.ProposalFormat.{proposal_format}
-use Rattle.group_entry.proofs.EntryFormat.{entry_format}
+use Rattle.group_codec.proofs.ProposalFormat.{proposal_format}
+use Rattle.group_codec.proofs.EntryFormat.{entry_format}
 use Rattle.view_exchange.proofs.Formats.{answer_format, install_format}
 use Rattle.adapter_ring.specs.declared.packet.RingPacket.{RingPacket}
 use Rattle.adapter_ring.specs.declared.packet.RingPacket.TheVariants as ring
 use Rattle.client_callbacks.specs.declared.told.Why.{Why}
 use Rattle.client_callbacks.specs.declared.told.Why.TheVariants as why
-use Rattle.view_core.specs.declared.packet.ViewPacket.{ViewPacket}
-use Rattle.view_core.specs.declared.packet.ViewPacket.TheVariants as view
+use Rattle.view_state.specs.declared.packet.ViewPacket.{ViewPacket}
+use Rattle.view_state.specs.declared.packet.ViewPacket.TheVariants as view
 use Rattle.node_state.specs.declared.packet.Body.{Body}
 use Rattle.node_state.specs.declared.packet.Body.TheVariants as body
 use Rattle.node_state.specs.declared.packet.Packet.{Packet}

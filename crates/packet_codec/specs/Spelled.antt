@@ -7,13 +7,13 @@ use Rattle.packet_bodies.specs.Group.{IsGroup}
 use Rattle.packet_bodies.specs.Body.{IsRingMask, IsDeath, IsReport, IsPrepare, IsRefuse, IsLeader, IsAck, IsGone}
 use Rattle.group_entry.specs.ProposalCodec.{IsProposal}
 use Rattle.group_entry.specs.EntryCodec.{IsEntry}
-use Rattle.view_exchange.specs.Codec.{IsAnswer, IsInstall}
+use Rattle.view_state.specs.Codec.{IsAnswer, IsInstall}
 use Rattle.adapter_ring.specs.declared.packet.RingPacket.{RingPacket}
 use Rattle.adapter_ring.specs.declared.packet.RingPacket.TheVariants as ring
 use Rattle.client_callbacks.specs.declared.told.Why.{Why}
 use Rattle.client_callbacks.specs.declared.told.Why.TheVariants as why
-use Rattle.view_core.specs.declared.packet.ViewPacket.{ViewPacket}
-use Rattle.view_core.specs.declared.packet.ViewPacket.TheVariants as view
+use Rattle.view_state.specs.declared.packet.ViewPacket.{ViewPacket}
+use Rattle.view_state.specs.declared.packet.ViewPacket.TheVariants as view
 use Rattle.node_state.specs.declared.packet.Body.{Body}
 use Rattle.node_state.specs.declared.packet.Body.TheVariants as body
 use Rattle.node_state.specs.declared.packet.Packet.{Packet}

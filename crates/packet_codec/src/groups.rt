@@ -4,13 +4,14 @@ ghost use Rattle.rsct_packet.specs.Reading.{Gives};
 ghost use Rattle.node_state.specs.Bodies.{body_at, has_phases, request_at, why_at, why_data_at, tell_at, vote_of, vote_at};
 ghost use Rattle.packet_bodies.specs.Body.{whole_of};
 ghost use Rattle.packet_codec.specs.InPlace.{body_in};
-ghost use Rattle.group_entry.specs.ProposalCodec.{proposal_in};
+ghost use Rattle.group_codec.specs.InPlace.{proposal_in};
 
 use crate::packet::BodyRef;
 use client_callbacks::Why;
-use group_attr::{Phases, read_phases};
+use group_attr::Phases;
+use group_codec::{ProposalRef, read_entry, read_phases, read_proposal};
 use packet_bodies::{read_ack, read_gone, read_group, read_leader, read_lookup};
-use proposal_core::{Entry, ProposalRef, Vote, read_proposal};
+use proposal_core::{Entry, Vote};
 use rsct_packet::{read_optional_bytes, read_proto, read_provider, read_u8, read_u16, read_u32};
 
 /// What was read, where nothing is left after it.
@@ -142,7 +143,7 @@ pub fn entry_body(b: &[u8]) -> Option<BodyRef<'_>>
     let (group, b) = read_group(b)?;
     let (place, b) = read_u32(b)?;
     let (stable, b) = read_u32(b)?;
-    let entry = Entry::read(b)?;
+    let entry = read_entry(b)?;
     Some(BodyRef::Entry {
         group,
         place,

@@ -15,8 +15,9 @@ use crate::views::{answer_body, install_body, prepare_body, refuse_body, taken_b
 use adapter_ring::RingPacket;
 use client_callbacks::Why;
 use group_attr::Phases;
+use group_codec::{EntryRef, ProposalRef};
 use packet_bodies::{Ack, Gone, GroupRef, Leader, Query, Reply, ReportRow};
-use proposal_core::{EntryRef, ProposalRef, Vote};
+use proposal_core::Vote;
 use rsct_packet::{Listed, Mask, Packet, ProtoId, ProviderId, ViewId};
 use view_exchange::{AnswerRef, InstallRef};
 

@@ -8,7 +8,7 @@ ghost use Rattle.packet_codec.specs.Spelled.{IsRingBody, IsViewBody, IsWhy, IsBo
 
 use adapter_ring::RingPacket;
 use client_callbacks::Why;
-use group_attr::phases_number;
+use group_codec::{phases_number, put_entry, put_proposal};
 use group_entry::optional_bytes;
 use node_state::{Body, Packet};
 use packet_bodies::{
@@ -21,8 +21,8 @@ use rsct_packet::{
     put_u16, put_u32, put_view, write_head, write_head2,
 };
 use std::alloc::Global;
-use view_core::ViewPacket;
-use view_exchange::put_answer;
+use view_exchange::{put_answer, put_install};
+use view_state::ViewPacket;
 
 #[tactic(auto, unfolding(packet_bodies::specs::Body::ring_mask_text, packet_bodies::specs::Body::death_text))]
 fn put_ring_packet(out: &mut Vec<u8>, x: RingPacket) -> Result<(), NoMemory>
@@ -64,7 +64,7 @@ fn put_view_packet(alloc: Global, out: &mut Vec<u8>, x: &ViewPacket) -> Result<(
                 number: *number,
             },
         ),
-        ViewPacket::Install { install } => install.write(alloc, out),
+        ViewPacket::Install { install } => put_install(alloc, out, install),
         ViewPacket::Taken { view } => put_view(out, *view),
     }
 }
@@ -157,7 +157,7 @@ fn put_body(alloc: Global, out: &mut Vec<u8>, body: &Body) -> Result<(), NoMemor
             put_provider(out, *p)?;
             put_u32(out, *r)?;
             put_u8(out, phases_number(*phases))?;
-            proposal.write(alloc, out)
+            put_proposal(alloc, out, proposal)
         }
         Body::Tell {
             view,
@@ -182,7 +182,7 @@ fn put_body(alloc: Global, out: &mut Vec<u8>, body: &Body) -> Result<(), NoMemor
             put_group(out, &GroupRef::new(*view, name.bytes()))?;
             put_u32(out, *place)?;
             put_u32(out, *stable)?;
-            entry.write(alloc, out)
+            put_entry(alloc, out, entry)
         }
         Body::Ack { view, name, len } => {
             put_group(out, &GroupRef::new(*view, name.bytes()))?;

@@ -1,6 +1,7 @@
 //! Attributes: which are taken, and what is spelled.
 use group_attr::{AttrFault, Attrs, Batch, DefaultVote, Phases};
-use rsct_packet::{Fields, Name};
+use group_codec::{put_attrs, read_attrs};
+use rsct_packet::Name;
 use std::alloc::Global;
 use std::process::Abort;
 
@@ -23,13 +24,13 @@ fn sample(rt: &impl Abort, alloc: Global) -> Attrs {
 /// The spelling of attributes.
 fn spelled(rt: &impl Abort, alloc: Global, attrs: &Attrs) -> Vec<u8> {
     let mut out = Vec::new(alloc);
-    attrs.write(&mut out).expect(rt, "memory");
+    put_attrs(&mut out, attrs).expect(rt, "memory");
     out
 }
 
 /// The attributes of these bytes.
 fn read(rt: &impl Abort, alloc: Global, spelled: &[u8]) -> Attrs {
-    let read = Attrs::read(&mut Fields::new(spelled)).expect(rt, "attributes");
+    let (read, _rest) = read_attrs(spelled).expect(rt, "attributes");
     read.own(alloc).expect(rt, "memory")
 }
 

@@ -1,10 +1,11 @@
 //! Heads, fields and writers: that memory which is there is used, and bytes that were written elsewhere.
 use rsct_packet::{
-    Fields, Head, List, Mask, Member, Name, NoMemory, Packet, ProtoId, ProviderId, Providers,
-    RingId, Text, ViewId, put_bytes, put_mask, put_member, put_name, put_optional_bytes,
-    put_optional_proto, put_optional_u32, put_proto, put_provider, put_providers, put_ring, put_u8,
-    put_u16, put_u32, put_u64, put_view, read_optional_bytes, read_optional_proto,
-    read_optional_u32, read_providers, write_head, write_head2,
+    Head, List, Mask, Member, Name, NoMemory, Packet, ProtoId, ProviderId, Providers, RingId, Text,
+    ViewId, put_bytes, put_mask, put_member, put_name, put_optional_bytes, put_optional_proto,
+    put_optional_u32, put_proto, put_provider, put_providers, put_ring, put_u8, put_u16, put_u32,
+    put_u64, put_view, read_bytes, read_name, read_optional_bytes, read_optional_proto,
+    read_optional_u32, read_proto, read_provider, read_providers, read_ring, read_u8, read_u16,
+    read_u32, read_u64, read_view, write_head, write_head2,
 };
 use std::alloc::Global;
 use std::process::Abort;
@@ -57,11 +58,9 @@ const HEAD: Head = Head {
 
 /// Is it the heartbeat?
 fn is_heartbeat(packet: &Packet<'_>) -> bool {
-    let mut fields = Fields::new(packet.body);
     packet.head == HEAD
         && packet.level == 1
-        && fields.take_ring() == Some(RING)
-        && fields.rest().is_empty()
+        && read_ring(packet.body) == Some((RING, b"".as_slice()))
 }
 
 #[test]
@@ -172,29 +171,34 @@ fn put_fields(out: &mut Vec<u8>) -> Result<(), NoMemory> {
     Ok(())
 }
 
-/// Do these bytes begin with the numbers that were written?
-fn are_numbers(fields: &mut Fields<'_>) -> bool {
-    fields.take_u8() == Some(5)
-        && fields.take_u16() == Some(300)
-        && fields.take_u32() == Some(66000)
-        && fields.take_u64() == Some(70000)
+/// What is behind the numbers that were written, where these bytes begin with them.
+fn after_numbers(bytes: &[u8]) -> Option<&[u8]> {
+    let (a, bytes) = read_u8(bytes)?;
+    let (b, bytes) = read_u16(bytes)?;
+    let (c, bytes) = read_u32(bytes)?;
+    let (d, bytes) = read_u64(bytes)?;
+    if a == 5 && b == 300 && c == 66000 && d == 70000 {
+        Some(bytes)
+    } else {
+        None
+    }
 }
 
 /// Are these the other fields that were written?
-fn are_others(fields: &mut Fields<'_>) -> bool {
-    fields.take_bytes() == Some(&b"red"[..])
-        && fields.take_name() == Some(&b"db"[..])
-        && fields.take_proto() == Some(PROTO)
-        && fields.rest() == [128, 0, 0, 1, 2, 0, 0, 0, 9].as_slice()
+fn are_others(bytes: &[u8]) -> Option<bool> {
+    let (text, bytes) = read_bytes(bytes)?;
+    let (name, bytes) = read_name(bytes)?;
+    let (proto, bytes) = read_proto(bytes)?;
+    let are = text == b"red".as_slice() && name == b"db".as_slice() && proto == PROTO;
+    Some(are && bytes == [128, 0, 0, 1, 2, 0, 0, 0, 9].as_slice())
 }
 
 #[test]
 fn fields_are_written_and_read(rt: HostRuntime) {
     let mut out = Vec::new(rt.alloc());
     put_fields(&mut out).expect(&rt, "memory");
-    let mut fields = Fields::new(&out);
-    assert!(rt; are_numbers(&mut fields));
-    assert!(rt; are_others(&mut fields));
+    let rest = after_numbers(&out).expect(&rt, "the numbers");
+    assert!(rt; are_others(rest) == Some(true));
 }
 
 /// The providers of these bytes, to their end.
@@ -273,9 +277,10 @@ fn put_optional_fields(out: &mut Vec<u8>) -> Result<(), NoMemory> {
 }
 
 /// Are these the identities that were written?
-fn are_ids(bytes: &[u8]) -> bool {
-    let mut fields = Fields::new(bytes);
-    fields.take_view() == Some(VIEW) && fields.take_provider() == Some(FIRST)
+fn are_ids(bytes: &[u8]) -> Option<bool> {
+    let (view, bytes) = read_view(bytes)?;
+    let (provider, _) = read_provider(bytes)?;
+    Some(view == VIEW && provider == FIRST)
 }
 
 /// Are the optional fields there that were written, and after them the identities?
@@ -283,7 +288,8 @@ fn are_optional_fields(bytes: &[u8]) -> Option<bool> {
     let (n, bytes) = read_optional_u32(bytes)?;
     let (word, bytes) = read_optional_bytes(bytes)?;
     let (place, bytes) = read_optional_proto(bytes)?;
-    Some(n == Some(9) && word == Some(&b"red"[..]) && place == Some(PROTO) && are_ids(bytes))
+    let are_ids = are_ids(bytes)?;
+    Some(n == Some(9) && word == Some(&b"red"[..]) && place == Some(PROTO) && are_ids)
 }
 
 #[test]

@@ -1,9 +1,10 @@
 -- Laws of the fold.
 use Rattle.std.proofs.Common.{◌≡◌, ℕ, ◌+◌, ◌<◌, Bool, true, false, List, [], ◌∷◌, length, get_or, take, Option, Some, None, refl, sym, ap, subst, ◌∙◌}
-use Rattle.std.specs.Prelude.{IsTrue, ◌&&◌}
+use Rattle.std.specs.Prelude.{IsTrue, ◌&&◌, ◌||◌, ◌++◌}
 use Rattle.std.proofs.lemmas.List.{take_more, map-append}
+use Rattle.std.proofs.lemmas.List.Folds.{list_any-append}
 use Rattle.rsct_packet.specs.declared.ids.ProviderId.{ProviderId}
-use Rattle.rsct_packet.specs.Providers.{without_all}
+use Rattle.rsct_packet.specs.Providers.{same_provider, among, without_all}
 use Rattle.rsct_packet.proofs.ProviderLaws.{without_all-append}
 use Rattle.group_entry.specs.declared.proposal.Failure.{Failure}
 use Rattle.rsct_packet.specs.declared.ids.ViewId.{ViewId}
@@ -145,3 +146,7 @@ joiners_fit_after s v i (Phase c) f h = joiners_at_phase s c.value _ refl h
 joiners_fit_after s v i (Approve c) f h = joiners_where_idle _ (idle_approved s v i c.value _ refl)
 joiners_fit_after s v i (Reject c) f h = joiners_where_idle _ (idle_rejected s _ refl)
 joiners_fit_after s v i (Late proto phase ps) f h = h
+
+-- the providers of two lists
+pub among_both : (xs ys : List ProviderId) (q : ProviderId) → among (xs ++ ys) q ≡ (among xs q || among ys q)
+among_both xs ys q = list_any-append (λ (p : ProviderId). same_provider p q) xs ys

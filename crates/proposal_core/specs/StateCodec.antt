@@ -1,5 +1,5 @@
 -- How group states are spelled.
-use Rattle.std.specs.Prelude.{◌≡◌, ℕ, ◌≤◌, Bool, ◌&&◌, nat_le, IsTrue, List, ◌++◌, Option, Some, None, option_copied}
+use Rattle.std.specs.Prelude.{ℕ, ◌≤◌, Bool, ◌&&◌, nat_le, IsTrue, List, ◌++◌, Option}
 use Rattle.std.specs.Int.{w16}
 use Rattle.std.specs.List.{list_all}
 use Rattle.rsct_packet.specs.declared.ids.ProviderId.{ProviderId}
@@ -9,14 +9,12 @@ use Rattle.rsct_packet.specs.Reading.{number_at, both_at, made_at, guarded_at, o
 use Rattle.rsct_packet.specs.Format.{OptionFits, optional_text}
 use Rattle.rsct_packet.specs.Fields.{u16_text, bytes_at, bytes_text, AreShort, proto_at, proto_text, IsProto, providers_at, providers_text, IsProviders}
 use Rattle.group_attr.specs.declared.attrs.Attrs.{Attrs}
-use Rattle.group_attr.specs.Codec.{attrs_at, attrs_text, IsAttrs, attrs_in}
+use Rattle.group_attr.specs.Codec.{attrs_at, attrs_text, IsAttrs}
 use Rattle.group_entry.specs.declared.proposal.Proposal.{Proposal}
 use Rattle.proposal_core.specs.declared.group_state.GroupState.{GroupState}
 use Rattle.proposal_core.specs.declared.group_state.Running.{Running}
-use Rattle.proposal_core.specs.declared.state_codec.RunningRef.{RunningRef}
-use Rattle.proposal_core.specs.declared.state_codec.StateParts.{StateParts}
 use Rattle.proposal_core.specs.Fold.{max_phases, present, joiners_fit}
-use Rattle.group_entry.specs.ProposalCodec.{proposal_at, proposal_text, IsProposal, proposal_in}
+use Rattle.group_entry.specs.ProposalCodec.{proposal_at, proposal_text, IsProposal}
 
 -- the protocol that runs, in a phase from 1 to 200
 
@@ -79,21 +77,3 @@ pub record IsState (s : GroupState) : Type 0 where
   pub running : OptionFits IsRunning s.running
   pub joiners : IsTrue (joiners_fit s)
   pub present : IsTrue (failed_are_present s)
-
--- what parts of a datagram stand for
-
-abbrev pub running_in : RunningRef → Running
-running_in r = record { proto = r.proto; proposal = proposal_in r.proposal; phase = r.phase; proposed = option_copied r.proposed }
-
-abbrev pub optional_running_in : Option RunningRef → Option Running
-optional_running_in None = None
-optional_running_in (Some r) = Some (running_in r)
-
-abbrev pub parts_in : StateParts → GroupState
-parts_in p =
-    record { members = p.members; value = p.value.now; attrs = attrs_in p.attrs; failed = p.failed; value_at = p.value_at; reflected_at = p.reflected_at; running = optional_running_in p.running }
-
--- a state that has a spelling, and that spelling
-pub record IsRead (s : GroupState) (text : List ℕ) : Type 0 where
-  pub state : IsState s
-  pub spelled : text ≡ state_text s

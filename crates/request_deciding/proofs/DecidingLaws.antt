@@ -18,41 +18,27 @@ use Rattle.client_callbacks.specs.declared.votes.VoteItem.{VoteItem}
 use Rattle.client_callbacks.specs.declared.told.Why.TheVariants as why
 use Rattle.node_state.specs.declared.group.GroupRow.{GroupRow}
 use Rattle.node_state.specs.declared.state.Core.{Core}
-use Rattle.node_state.specs.State.{InNameOrder, row_of, row_found, with_led, led_of, state_of}
+use Rattle.node_state.specs.State.{InNameOrder, row_of, row_found, with_led, led_of, state_of, has_name}
 use Rattle.node_state.specs.Leading.{begins}
 use Rattle.node_state.specs.HandOn.{Answering}
 use Rattle.node_state.specs.Deciding.{decision_kept, refused, lacks_source, source_len, is_idle_empty, meant_attrs, join_refusal, join_waits, decided_join, other_refusal, decided_other, decided}
-use Rattle.node_groups.specs.Places.{has_name, stops_at, row_opened}
+use Rattle.node_groups.specs.Places.{stops_at, row_opened}
 use Rattle.node_groups.specs.Keeps.{Keeps}
-use Rattle.node_groups.proofs.KeepLaws.{keeps_then, keeps_as, led_keeps, sent_keeps}
-use Rattle.node_groups.proofs.NameOrder.{row_here}
+use Rattle.node_groups.proofs.KeepLaws.{keeps_then, keeps_as, led_keeps}
+use Rattle.node_state.proofs.NameOrder.{row_here}
 use Rattle.node_groups.proofs.RowLaws.{opened_row}
 use Rattle.entry_handing.specs.Received.{Handing}
 use Rattle.entry_handing.specs.Doing.{Does}
-use Rattle.entry_handing.proofs.DoingLaws.{does_plain, does_after, does_as}
-use Rattle.group_leading.proofs.WorkLaws.{keeps_follows}
+use Rattle.entry_handing.proofs.DoingLaws.{does_after, does_as}
+use Rattle.request_refusing.proofs.RefusingLaws.{decision_keeps}
+use Rattle.group_leading.proofs.WorkLaws.{keeps_follows, kept_does}
 
 -- ---- what is kept
-
-decision_keeps : (s : Core) (g : List ℕ) (p : ProviderId) (r : ℕ) (y : Option Why) → Keeps s (decision_kept s g p r y)
-unfolding decision_kept
-decision_keeps s g p r y = led_keeps s g _
-
-refusal_keeps : (s : Core) (g : List ℕ) (p : ProviderId) (r : ℕ) (y : Why) → Keeps s (refused s g p r y)
-unfolding refused
-refusal_keeps s g p r y = keeps_then s (decision_kept s g p r (Some y)) _ (decision_keeps s g p r (Some y)) (sent_keeps (decision_kept s g p r (Some y)) p.node _)
-
-pub refused_keeps : (s t : Core) (g : List ℕ) (p : ProviderId) (r : ℕ) (y : Why) → t ≡ refused s g p r y → Keeps s t
-refused_keeps s t g p r y e = keeps_as s (refused s g p r y) t e (refusal_keeps s g p r y)
 
 pub waiting_keeps : (s t : Core) (g : List ℕ) (p : ProviderId) (r : ℕ) (a : Attrs) (idle : Bool) → t ≡ join_waits s g p r a idle → Keeps s t
 unfolding join_waits
 waiting_keeps s t g p r a idle e =
     keeps_as s (join_waits s g p r a idle) t e (keeps_then s (decision_kept s g p r None) _ (decision_keeps s g p r None) (led_keeps (decision_kept s g p r None) g _))
-
--- what hands nothing on
-pub kept_does : (scripts : List (Option (List (Option VoteItem)))) (P : List Handing → Type 0) → P [] → (s t : Core) (row : Answering → Core) → ((f : Answering) → t ≡ row f) → Keeps s t → Does scripts P s t row
-kept_does scripts P q s t row same keeps = does_as scripts P s t (λ f. t) row same (does_plain scripts P s t t q refl (keeps_follows s t keeps))
 
 pub refused_does : (scripts : List (Option (List (Option VoteItem)))) (P : List Handing → Type 0) → P [] → (s t : Core) (g : List ℕ) (p : ProviderId) (r : ℕ) (phases : Phases) (x : Proposal) (y : Why) → Some y ≡ other_refusal s g p x
     → (t ≡ refused s g p r y) × Keeps s t → Does scripts P s t (λ f. decided_other f s g p r phases x (other_refusal s g p x))

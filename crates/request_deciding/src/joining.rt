@@ -7,15 +7,13 @@ ghost use Rattle.node_state.specs.State.{InNameOrder, led_of, state_of};
 ghost use Rattle.node_state.specs.Deciding.{is_idle_empty, meant_attrs, join_refusal, join_waits, decided_join};
 ghost use Rattle.node_groups.specs.Keeps.{Keeps};
 
-use crate::limits::full_refusal;
 use crate::queue::{is_duplicate, queue_join};
-use crate::refusing::refuse;
-use crate::sources::{lacks_source, source_len};
 use client_callbacks::Why;
 use group_attr::Attrs;
 use node_groups::{keep_decision, open, state_of, waiting_joins};
 use node_state::Core;
 use proposal_core::{GroupState, Proposal, Running};
+use request_refusing::{full_refusal, lacks_source, refuse, source_len};
 use rsct_packet::{List, MAX_PROVIDERS, Name, NoMemory, ProviderId};
 use std::alloc::Global;
 

@@ -1,7 +1,7 @@
 -- After the end of a step the node rests, where it is not frozen; and a node that rests stays as it is at the end of a step.
 use Rattle.std.proofs.Common.{◌≡◌, ◌≤◌, ◌<◌, ◌⊎◌, ℕ, zero, suc, List, [], ◌∷◌, length, fold, Bool, true, false, refl, sym, ap, ◌∙◌, subst, inl, inr, arith}
 use Rattle.rsct_packet.specs.Search.{Has}
-use Rattle.view_core.specs.Views.{is_frozen}
+use Rattle.view_state.specs.Views.{is_frozen}
 use Rattle.node_state.specs.declared.group.GroupRow.{GroupRow}
 use Rattle.node_state.specs.declared.state.Core.{Core}
 use Rattle.node_state.specs.State.{frozen, led_groups}

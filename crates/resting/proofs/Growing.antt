@@ -8,7 +8,7 @@ use Rattle.proposal_core.specs.Lists.{list_or_new, len_in, with_entry, forgotten
 use Rattle.node_state.specs.declared.group.GroupRow.{GroupRow}
 use Rattle.node_state.specs.declared.group.Led.{Led}
 use Rattle.node_state.specs.State.{list_forgotten}
-use Rattle.node_groups.proofs.NameOrder.{KeepsName}
+use Rattle.node_state.proofs.NameOrder.{KeepsName}
 use Rattle.resting.proofs.Orderly.{Few, MildLed}
 
 pub record Grows (f : GroupRow → GroupRow) : Type 0 where

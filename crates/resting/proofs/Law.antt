@@ -3,14 +3,14 @@ use Rattle.std.proofs.Common.{◌≡◌, ℕ, ◌+◌, List, [], ◌∷◌, ◌+
 use Rattle.std.specs.Prelude.{fold, find, reverse}
 use Rattle.rsct_packet.specs.Mask.{nodes_of}
 use Rattle.rsct_packet.specs.Search.{Has}
-use Rattle.view_core.specs.Views.{is_frozen}
+use Rattle.view_state.specs.Views.{is_frozen}
 use Rattle.node_state.specs.declared.call.CallLine.TheVariants.{Goodbye}
 use Rattle.node_state.specs.declared.config.Config.{Config}
 use Rattle.node_state.specs.declared.happened.Happened.{Happened}
 use Rattle.node_state.specs.declared.happened.Happened.TheVariants as happened
 use Rattle.node_state.specs.declared.group.GroupRow.{GroupRow}
 use Rattle.node_state.specs.declared.state.Core.{Core}
-use Rattle.node_state.specs.State.{row_of, led_of, row_found, frozen, led_groups, with_sessions}
+use Rattle.node_state.specs.State.{row_of, led_of, row_found, frozen, led_groups, with_sessions, has_name}
 use Rattle.node_state.specs.HandOn.{Answering}
 use Rattle.node_state.specs.Step.{NodeEvent, Calls, at_work, started, stepped}
 use Rattle.node_state.specs.Calls.{call_row}
@@ -22,10 +22,9 @@ use Rattle.step_ties.specs.Rows.{over, nothing_yet, with_records, starts_too, al
 use Rattle.step_ties.specs.Runs.{Reached}
 use Rattle.step_ties.specs.Runs as runs
 use Rattle.step_ties.proofs.Changed.{each_set}
-use Rattle.failed_rows.proofs.Facts.{reverse_has}
+use Rattle.hearing.proofs.Listening.{reverse_has}
 use Rattle.leaving.proofs.Law.{reached}
 use Rattle.leaving.specs.Scenes.{IsCall, NoCall, Nothing, AllStart, Starts, Stops, Steps, Notes}
-use Rattle.node_groups.specs.Places.{has_name}
 use Rattle.resting.specs.Rest.{NodesRest, GoodbyePutsNothing, GoodbyesPutNothing}
 use Rattle.resting.proofs.Orderly.{Orderly, alike}
 use Rattle.resting.proofs.Calling.{NoPut, Parts, goodbye_parts}

@@ -6,13 +6,12 @@ use Rattle.rsct_packet.specs.Text.{name_lt}
 use Rattle.rsct_packet.specs.Search.{Has}
 use Rattle.rsct_packet.proofs.HasLaws.{has_filter, has_map}
 use Rattle.proposal_core.specs.Lists.{len_in}
-use Rattle.view_core.specs.declared.views.Views.{Views}
+use Rattle.view_state.specs.declared.views.Views.{Views}
 use Rattle.node_state.specs.declared.config.Config.{Config}
 use Rattle.node_state.specs.declared.group.GroupRow.{GroupRow}
 use Rattle.node_state.specs.declared.state.Core.{Core}
-use Rattle.node_state.specs.State.{AllAfter, InNameOrder, new_row, row_found, row_of, rows_with, with_row, list_of, len_of, leader_by, is_this, leader_in, leads_in, led_groups}
-use Rattle.node_groups.specs.Places.{has_name}
-use Rattle.node_groups.proofs.NameOrder.{text_self, lt_self, name_lt_trans, cases_text, row_here, row_there}
+use Rattle.node_state.specs.State.{AllAfter, InNameOrder, new_row, row_found, row_of, rows_with, with_row, list_of, len_of, leader_by, is_this, leader_in, leads_in, led_groups, has_name}
+use Rattle.node_state.proofs.NameOrder.{text_self, lt_self, name_lt_trans, cases_text, row_here, row_there}
 use Rattle.resting.proofs.Orderly.{Orderly, alike, on_row}
 use Rattle.resting.proofs.Growing.{Grows}
 use Rattle.resting.proofs.Beginning.{Keeps}

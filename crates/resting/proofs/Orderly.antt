@@ -20,17 +20,16 @@ use Rattle.vote_phases.specs.Tally.{TallyView}
 use Rattle.batch_rules.specs.Waiting.{WaitingView, has_instance, waits_join, is_failing, waits_failure, join_dropped, batches_joins, batches_failures, left_of, failures_left, joins_left}
 use Rattle.client_callbacks.specs.declared.told.Why.{Why}
 use Rattle.client_callbacks.specs.declared.told.Why.TheVariants as why
-use Rattle.view_exchange.specs.declared.install.Install.{Install}
-use Rattle.view_exchange.specs.Bases.{bases_of}
+use Rattle.view_state.specs.declared.install.Install.{Install}
+use Rattle.view_state.specs.Bases.{bases_of}
 use Rattle.node_state.specs.declared.group.GroupRow.{GroupRow}
 use Rattle.node_state.specs.declared.group.Led.{Led}
 use Rattle.node_state.specs.declared.state.Core.{Core}
-use Rattle.node_state.specs.State.{InNameOrder, nothing_led, new_row, row_found, row_of, rows_with, with_row, with_led, led_of, list_of, state_of, decisions_with}
+use Rattle.node_state.specs.State.{InNameOrder, nothing_led, new_row, row_found, row_of, rows_with, with_row, with_led, led_of, list_of, state_of, decisions_with, has_name}
 use Rattle.node_state.specs.Deciding.{decision_kept, lacks_source, source_len, is_idle_empty, meant_attrs, join_refusal, attrs_kept, join_waits}
 use Rattle.node_state.specs.Following.{vote_cast}
 use Rattle.node_state.specs.Applying.{base_row}
-use Rattle.node_groups.specs.Places.{has_name}
-use Rattle.node_groups.proofs.NameOrder.{KeepsName, row_here, rows_ordered}
+use Rattle.node_state.proofs.NameOrder.{KeepsName, row_here, rows_ordered}
 use Rattle.step_ties.proofs.BaseOrder.{bases_ordered}
 
 abbrev pub Few : WaitingView → Type 0

@@ -6,7 +6,7 @@ use Rattle.node_state.specs.declared.state.Core.{Core}
 use Rattle.node_state.specs.State.{row_of, list_of, len_of, led_groups}
 use Rattle.node_state.specs.HandOn.{Answering}
 use Rattle.node_state.specs.Ending.{Pass, quiet, may_begin, first_begins, group_begins, one_pass, passes}
-use Rattle.node_groups.proofs.NameOrder.{cases_text}
+use Rattle.node_state.proofs.NameOrder.{cases_text}
 use Rattle.resting.proofs.Orderly.{Orderly, row_few}
 use Rattle.resting.proofs.Onward.{IsNamed, Onward, self, onward_then, named_on, led_same, led_named}
 use Rattle.resting.proofs.Trying.{Rest, rest_on, Still, still_self, still_then, len_still, len_still_at, count, Outcome, Grown, Used, Rests}

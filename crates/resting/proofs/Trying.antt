@@ -32,7 +32,7 @@ use Rattle.node_state.specs.HandOn.{Answering}
 use Rattle.node_state.specs.Leading.{put, with_waiting, appended, appended_if, tally_opened, closes, begun_many, begins}
 use Rattle.node_state.specs.Deciding.{decision_kept, refused, source_len}
 use Rattle.node_state.specs.Ending.{Pass, begun_now, failures_begin, source_refused, may_begin}
-use Rattle.node_groups.proofs.NameOrder.{cases_text, row_here, row_there}
+use Rattle.node_state.proofs.NameOrder.{cases_text, row_here, row_there}
 use Rattle.resting.proofs.Orderly.{Orderly, MildLed, MildWaits, failures_few}
 use Rattle.resting.proofs.Growing.{led_grows, put_grows}
 use Rattle.resting.proofs.Beginning.{on_record, on_sent_all, on_handed, on_forgets_least, on_new_members, on_opened, on_closes}

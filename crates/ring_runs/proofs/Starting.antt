@@ -22,7 +22,7 @@ use Rattle.node_state.specs.declared.state.Core.{Core}
 use Rattle.node_state.specs.Settings.{is_fixed, networks, addresses_on, address_at, has_adapter, networks_of}
 use Rattle.node_state.specs.State.{with_sessions}
 use Rattle.node_state.specs.Step.{own_ring, own_rings, first_view, first_members, ring_record, started}
-use Rattle.view_core.specs.Views.{views_new}
+use Rattle.view_state.specs.Views.{views_new}
 use Rattle.step_ties.specs.Rows.{at_node}
 use Rattle.step_ties.proofs.Changed.{set_here, set_there, each_set}
 use Rattle.ring_runs.specs.Rings.{ring_settings}

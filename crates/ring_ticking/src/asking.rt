@@ -13,7 +13,7 @@ use node_reach::{Reach, ReachRow};
 use node_sending::is_rings;
 use node_state::{Core, GroupRow};
 use rsct_packet::{Mask, Member, NODES};
-use view_core::RingAsk;
+use view_state::RingAsk;
 
 /// The incarnation of a row; 0 where there is none.
 fn inc_in(row: Option<ReachRow>) -> u32

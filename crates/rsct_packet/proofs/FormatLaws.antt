@@ -6,9 +6,9 @@ use Rattle.std.specs.Int.{Width, w8, w16, w32, w64, byte_len, from_be_bytes, to_
 use Rattle.std.proofs.lemmas.Bool.{cases_lt, ltb-false, le-ltb}
 use Rattle.std.proofs.lemmas.List.{take_at, drop_at, take-append-drop, length-append, length-take, get_or-drop, get_or-take, get_or_past}
 use Rattle.std.proofs.lemmas.Nat.{be_bytes_2, be_bytes_4, be_bytes_8, from_be_bytes-to_be_bytes_2, from_be_bytes-to_be_bytes_4, from_be_bytes-to_be_bytes_8}
-use Rattle.rsct_packet.specs.Reading.{◌>>=◌, number_at, part_at, both_at, then_at, made_at, decoded_at, guarded_at, keyed_at, many_at, counted_at, option_at, optional_at, Reads, Gives, GivesPart, GivesOptionalPart}
+use Rattle.rsct_packet.specs.Reading.{◌>>=◌, number_at, part_at, both_at, then_at, made_at, decoded_at, guarded_at, keyed_at, many_at, counted_at, option_at, optional_at, Gives, GivesPart, GivesOptionalPart}
 use Rattle.rsct_packet.specs.Fields.{IsU8, IsU16, IsU32, IsU64, u8_text, u16_text, u32_text, u64_text}
-use Rattle.rsct_packet.specs.Format.{IsBytes, Takes, IsFormat, IsKeyed, IsVariant, counted_text, option_key, option_text, optional_text, OptionFits, EachFits, AreMany, AreFew, IsFound, IsOnly, IsFoundAt, IsOnlyAt, part_of, optional_part_of}
+use Rattle.rsct_packet.specs.Format.{IsBytes, Takes, IsFormat, IsKeyed, IsVariant, counted_text, option_key, option_text, optional_text, OptionFits, EachFits, AreMany, AreFew, IsFoundAt, IsOnlyAt, part_of, optional_part_of}
 
 IsBytes-drop : (n : ℕ) (bytes : List ℕ) → IsBytes bytes → IsBytes (drop n bytes)
 IsBytes-drop n bytes h i = rw get_or-drop (h (n + i))
@@ -288,20 +288,6 @@ optional_format {A = A} {f = f} {tf = tf} {ff = ff} format =
     (keyed_of (λ k. or_variant 0 k (plain_variant None refl tt refl) (or_variant 1 k (made_variant Some (λ b. refl) (λ b h. h) (λ b. refl) format) no_variant)) (option_again format))
 
 -- what a public reader says
-found_by : {A : Type 0} {f : List ℕ → Option (A × List ℕ)} {text : A → List ℕ} {fits : A → Type 0} → IsFormat f text fits → (old new : List ℕ) (result : Option A) (read : Option (A × List ℕ)) → f old ≡ read → IsBytes old → Reads read result old new → IsFound text fits result old new
-found_by {text = text} {fits = fits} format old new result None is h reads = subst (λ (r : Option _). IsFound text fits r old new) (sym reads.0) reads.1
-found_by {text = text} {fits = fits} format old new result (Some x) is h reads =
-    let p = format.found old x h is in
-    subst (λ (r : Option _). IsFound text fits r old new) (sym reads.0) (p.1, rw reads.1 p.0.parts)
-
-pub reads_found : {A : Type 0} {f : List ℕ → Option (A × List ℕ)} {text : A → List ℕ} {fits : A → Type 0} → IsFormat f text fits → (old new : List ℕ) (result : Option A) → IsBytes old → Reads (f old) result old new → IsFound text fits result old new
-reads_found {A = A} {f = f} {text = text} {fits = fits} format old new result h reads = found_by format old new result (f old) refl h reads
-
-pub reads_only : {A : Type 0} {f : List ℕ → Option (A × List ℕ)} {text : A → List ℕ} {fits : A → Type 0} → IsFormat f text fits → (old new : List ℕ) (result : Option A) → Reads (f old) result old new → IsOnly text fits result old new
-reads_only {A = A} {f = f} {text = text} {fits = fits} format old new result reads x rest h e =
-    let is : f old ≡ Some (x, rest) = ap f e ∙ format.again x rest h in
-    subst (λ (o : Option (A × List ℕ)). Reads o result old new) is reads
-
 gives_by : {A : Type 0} {f : List ℕ → Option (A × List ℕ)} {text : A → List ℕ} {fits : A → Type 0} → IsFormat f text fits → (bytes : List ℕ) (result : Option (A × Bor (List ℕ))) (read : Option (A × List ℕ)) → f bytes ≡ read → IsBytes bytes → Gives result read → IsFoundAt text fits result bytes
 gives_by format bytes None read is h e = tt
 gives_by {A = A} {f = f} format bytes (Some x) read is h e =

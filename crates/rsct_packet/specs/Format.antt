@@ -61,14 +61,6 @@ OptionFits fits None = Unit {0}
 OptionFits fits (Some x) = fits x
 
 -- What a public reader says of its answer: it is spelled at the front, and whatever is spelled there is its answer.
-abbrev pub IsFound : {A : Type 0} → (A → List ℕ) → (A → Type 0) → Option A → List ℕ → List ℕ → Type 0
-IsFound text fits None old new = new ≡ old
-IsFound text fits (Some x) old new = fits x × (old ≡ text x ++ new)
-
-abbrev pub IsOnly : {A : Type 0} → (A → List ℕ) → (A → Type 0) → Option A → List ℕ → List ℕ → Type 0
-IsOnly text fits result old new = (x : _) (rest : List ℕ) → fits x → old ≡ text x ++ rest → (result ≡ Some x) × (new ≡ rest)
-
--- the same where the answer has what is left beside it
 abbrev pub IsFoundAt : {A : Type 0} → (A → List ℕ) → (A → Type 0) → Option (A × Bor (List ℕ)) → List ℕ → Type 0
 IsFoundAt text fits None bytes = Unit {0}
 IsFoundAt text fits (Some x) bytes = fits x.0 × (bytes ≡ text x.0 ++ x.1.now)

@@ -75,10 +75,6 @@ option_at f k bytes = if k == 0 then Some (None, bytes) else if k == 1 then made
 abbrev pub optional_at : {A : Type 0} → (List ℕ → Option (A × List ℕ)) → List ℕ → Option (Option A × List ℕ)
 optional_at f bytes = keyed_at (number_at w8) (option_at f) bytes
 
--- A reader takes what is read at the front of what is left, and else nothing.
-abbrev pub Reads : {A : Type 0} → Option (A × List ℕ) → Option A → List ℕ → List ℕ → Type 0
-Reads read result old new = MatchOption read ((result ≡ None) × (new ≡ old)) (λ p. (result ≡ Some p.0) × (new ≡ p.1))
-
 -- A value and the bytes after it, which is what reading gives.
 abbrev pub Gives : {A : Type 0} → Option (A × Bor (List ℕ)) → Option (A × List ℕ) → Type 0
 Gives result read = option_map (λ x. (x.0, x.1.now)) result ≡ read

@@ -1,7 +1,6 @@
 //! The bottom layer: ids, sets of nodes, names, texts, lists, and what packets are spelled like.
 #![tactic(auto)]
 
-mod fields;
 mod fronts;
 mod ids;
 mod list;
@@ -14,7 +13,6 @@ mod reading;
 mod text;
 mod writing;
 
-pub use fields::Fields;
 pub use ids::{Member, NoMemory, ProtoId, ProviderId, RingId, ViewId, risen};
 pub use list::List;
 pub use listed::{

@@ -9,27 +9,27 @@ use Rattle.rsct_packet.specs.Ids.{same_view, view_lt, is_member}
 use Rattle.rsct_packet.specs.Mask.{has_node, with_node}
 use Rattle.rsct_packet.specs.Search.{Has}
 use Rattle.rsct_packet.proofs.HasLaws.{find_has, append_has_right}
-use Rattle.view_exchange.specs.declared.answer.Answer.{Answer}
-use Rattle.view_exchange.specs.declared.exchange.Exchange.{Exchange}
-use Rattle.view_exchange.specs.declared.install.Part.{Part}
-use Rattle.view_exchange.specs.declared.install.Source.{Source}
-use Rattle.view_exchange.specs.declared.install.Install.{Install}
-use Rattle.view_exchange.specs.declared.install.Base.{Base}
-use Rattle.view_exchange.specs.Answers.{max_parts, may_answer, with_answer, all_answered, install_of, is_spelled}
-use Rattle.view_exchange.specs.Bases.{parts_in, source_at, parts_from, bases_of, base_named}
+use Rattle.view_state.specs.declared.answer.Answer.{Answer}
+use Rattle.view_state.specs.declared.exchange.Exchange.{Exchange}
+use Rattle.view_state.specs.declared.install.Part.{Part}
+use Rattle.view_state.specs.declared.install.Source.{Source}
+use Rattle.view_state.specs.declared.install.Install.{Install}
+use Rattle.view_state.specs.declared.install.Base.{Base}
+use Rattle.view_state.specs.Answers.{max_parts, may_answer, with_answer, all_answered, install_of, is_spelled}
+use Rattle.view_state.specs.Bases.{parts_in, source_at, parts_from, bases_of, base_named}
 use Rattle.view_exchange.specs.Longest.{NamesDiffer, CarriesLongest, IsLongest, Brings}
 use Rattle.view_exchange.proofs.Longest.{longest_are_carried}
-use Rattle.view_core.specs.declared.packet.ViewPacket.{ViewPacket}
-use Rattle.view_core.specs.declared.packet.ViewPacket.TheVariants as view
-use Rattle.view_core.specs.declared.views.ViewWork.{ViewWork}
-use Rattle.view_core.specs.Views.{views_at_work, view_sent, gathering_set, promised, installs, gathered, gathers, answered, prepared, prepare_row, answer_to, answer_row, refused_by, refuse_to, refuse_row, installed, install_row, taken_row}
+use Rattle.view_state.specs.declared.packet.ViewPacket.{ViewPacket}
+use Rattle.view_state.specs.declared.packet.ViewPacket.TheVariants as view
+use Rattle.view_state.specs.declared.views.ViewWork.{ViewWork}
+use Rattle.view_state.specs.Views.{views_at_work, view_sent, gathering_set, promised, installs, gathered, gathers, answered, prepared, prepare_row, answer_to, answer_row, refused_by, refuse_to, refuse_row, installed, install_row, taken_row}
 use Rattle.node_state.specs.declared.packet.Body.{Body}
 use Rattle.node_state.specs.declared.packet.Body.TheVariants as body
 use Rattle.node_state.specs.declared.packet.Packet.{Packet}
 use Rattle.node_state.specs.declared.state.Core.{Core}
 use Rattle.node_state.specs.Applying.{own_parts, base_row}
 use Rattle.node_state.specs.State.{InNameOrder}
-use Rattle.node_groups.proofs.NameOrder.{text_same, text_self}
+use Rattle.node_state.proofs.NameOrder.{text_same, text_self}
 use Rattle.step_ties.specs.Ghost.{Ghost, ReplyIs, Gathers, BaseIsOf, Installs}
 use Rattle.step_ties.specs.Tied.{ShowsBody, Scene, Tied}
 use Rattle.step_ties.proofs.BaseOrder.{bases_ordered}

@@ -10,7 +10,7 @@ use Rattle.rsct_packet.specs.Search.{Has}
 use Rattle.group_entry.specs.declared.entry.Entry.{Entry}
 use Rattle.proposal_core.specs.GroupView.{GroupView}
 use Rattle.proposal_core.specs.Lists.{state_in}
-use Rattle.view_exchange.specs.declared.install.Part.{Part}
+use Rattle.view_state.specs.declared.install.Part.{Part}
 use Rattle.view_exchange.specs.Longest.{NamesDiffer}
 use Rattle.node_state.specs.declared.config.Mode.{Mode}
 use Rattle.node_state.specs.declared.config.Mode.TheVariants.{Fixed, Asked, Rings}

@@ -1,8 +1,8 @@
 -- That every step of a run sends few packets, whatever started, stopped and stepped before it, in any order.
 use Rattle.std.specs.Prelude.{ℕ, ◌+◌, ◌*◌, ◌≤◌, ◌≡◌, length, Some}
 use Rattle.rsct_packet.specs.Search.{Has}
-use Rattle.view_exchange.specs.declared.install.Install.{Install}
-use Rattle.view_core.specs.declared.packet.ViewPacket.TheVariants as view
+use Rattle.view_state.specs.declared.install.Install.{Install}
+use Rattle.view_state.specs.declared.packet.ViewPacket.TheVariants as view
 use Rattle.node_state.specs.declared.config.Config.{Config}
 use Rattle.node_state.specs.declared.packet.Body.TheVariants as body
 use Rattle.node_state.specs.declared.packet.Packet.{Packet}

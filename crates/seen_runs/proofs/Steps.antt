@@ -1,7 +1,7 @@
 -- What a step records: no node starts or stops, and what is entered, put, or taken as a base is the node's own.
 use Rattle.std.proofs.Common.{refl, ◌≡◌, ℕ, ◌⊎◌, ⊎_elim, inl, inr, sym, ◌∙◌, ap, subst, true, false, Bool, List, [], ◌∷◌, ◌++◌, Option, Some, None}
 use Rattle.std.specs.Prelude.{fold, map, flat_map, not, ◌&&◌}
-use Rattle.view_core.specs.Views.{views_entered}
+use Rattle.view_state.specs.Views.{views_entered}
 use Rattle.std.specs.Str.{bytes_eq}
 use Rattle.rsct_packet.specs.declared.ids.ProviderId.{ProviderId}
 use Rattle.rsct_packet.specs.declared.ids.ProtoId.{ProtoId}
@@ -19,9 +19,9 @@ use Rattle.session_state.specs.declared.state.Provider.{Provider}
 use Rattle.session_state.specs.declared.casts.Cast.{Cast}
 use Rattle.session_state.specs.HandOn.{casts_out}
 use Rattle.session_state.specs.State.{provider_of, outstanding}
-use Rattle.view_exchange.specs.declared.install.Base.{Base}
-use Rattle.view_exchange.specs.declared.install.Install.{Install}
-use Rattle.view_exchange.specs.Bases.{bases_of, base_named}
+use Rattle.view_state.specs.declared.install.Base.{Base}
+use Rattle.view_state.specs.declared.install.Install.{Install}
+use Rattle.view_state.specs.Bases.{bases_of, base_named}
 use Rattle.node_state.specs.declared.group.GroupRow.{GroupRow}
 use Rattle.node_state.specs.declared.happened.Happened.{Happened}
 use Rattle.node_state.specs.declared.happened.Happened.TheVariants as happened

@@ -17,16 +17,16 @@ use Rattle.proposal_core.specs.Lists.{list_or_new, state_in}
 use Rattle.client_callbacks.specs.declared.told.Why.TheVariants.{Dissolved}
 use Rattle.session_state.specs.declared.state.Provider.{Provider}
 use Rattle.session_state.specs.State.{provider_of, outstanding}
-use Rattle.view_exchange.specs.declared.install.Part.{Part}
-use Rattle.view_exchange.specs.declared.install.Install.{Install}
-use Rattle.view_exchange.specs.declared.install.Base.{Base}
-use Rattle.view_exchange.specs.Parts.{part_len}
-use Rattle.view_exchange.specs.Answers.{opened, with_answer, install_of}
-use Rattle.view_exchange.specs.Bases.{bases_of, base_named}
-use Rattle.view_exchange.specs.Cut.{lacking_of, lacking_if, all_fit}
-use Rattle.view_core.specs.declared.packet.ViewPacket.TheVariants as packet
-use Rattle.view_core.specs.declared.views.Views.{Views}
-use Rattle.view_core.specs.Views.{others_of, views_entered}
+use Rattle.view_state.specs.declared.install.Part.{Part}
+use Rattle.view_state.specs.declared.install.Install.{Install}
+use Rattle.view_state.specs.declared.install.Base.{Base}
+use Rattle.view_state.specs.Parts.{part_len}
+use Rattle.view_state.specs.Answers.{opened, with_answer, install_of}
+use Rattle.view_state.specs.Bases.{bases_of, base_named}
+use Rattle.view_state.specs.Cut.{lacking_of, lacking_if, all_fit}
+use Rattle.view_state.specs.declared.packet.ViewPacket.TheVariants as packet
+use Rattle.view_state.specs.declared.views.Views.{Views}
+use Rattle.view_state.specs.Views.{others_of, views_entered}
 use Rattle.node_state.specs.declared.group.GroupRow.{GroupRow}
 use Rattle.node_state.specs.declared.packet.Body.TheVariants as body
 use Rattle.node_state.specs.declared.state.Core.{Core}
@@ -36,7 +36,7 @@ use Rattle.node_state.specs.HandOn.{Answering}
 use Rattle.node_state.specs.Leading.{put_and_handed}
 use Rattle.node_state.specs.Applying.{part_of_list, own_parts, Lacking, lacking_in, lacking, lists_filled, level_set, base_row, view_entered, is_in_base, number_of, dissolved, dissolved_if, group_dissolved, sides_dissolved, entering_noted, taken_sent, owed_sent, groups_led, entered}
 use Rattle.node_state.specs.Ticks.{tally_ticks, sent_again, group_ticks, led_part}
-use Rattle.node_groups.proofs.NameOrder.{row_there, rows_ordered}
+use Rattle.node_state.proofs.NameOrder.{row_there, rows_ordered}
 use Rattle.step_ties.proofs.BaseOrder.{bases_ordered}
 use Rattle.sends_bound.specs.Bound.{is_own, puts_of, owned_of, Stands, EndsAt, ListsEnd}
 use Rattle.sends_bound.proofs.Counts.{own_in, owned_with}

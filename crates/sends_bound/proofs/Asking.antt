@@ -8,33 +8,32 @@ use Rattle.rsct_packet.specs.declared.ids.ViewId.{ViewId}
 use Rattle.rsct_packet.specs.declared.mask.Mask.{Mask}
 use Rattle.rsct_packet.specs.Mask.{nodes_of}
 use Rattle.rsct_packet.specs.Lists.{is_empty}
-use Rattle.view_core.specs.declared.packet.ViewPacket.TheVariants as packet
+use Rattle.view_state.specs.declared.packet.ViewPacket.TheVariants as packet
 use Rattle.rsct_packet.specs.Ids.{same_view}
 use Rattle.rsct_packet.specs.Text.{name_lt}
 use Rattle.rsct_packet.specs.Search.{Has}
 use Rattle.rsct_packet.proofs.HasLaws.{has_map, has_filter}
 use Rattle.proposal_core.specs.Fold.{present}
 use Rattle.proposal_core.specs.Lists.{list_or_new, state_in}
-use Rattle.view_exchange.specs.declared.exchange.Exchange.{Exchange}
-use Rattle.view_exchange.specs.declared.sides.Kept.{Kept}
-use Rattle.view_exchange.specs.declared.install.Part.{Part}
-use Rattle.view_exchange.specs.declared.install.Source.{Source}
-use Rattle.view_exchange.specs.declared.install.Install.{Install}
-use Rattle.view_exchange.specs.declared.install.Base.{Base}
-use Rattle.view_exchange.specs.Answers.{max_parts, opened, kept_of, side_from, with_side, with_answer, all_answered, source_of, install_of, is_spelled}
-use Rattle.view_exchange.specs.Bases.{IsBaseOf, is_candidate, parts_in, source_at, parts_from, bases_of}
-use Rattle.view_exchange.specs.Codec.{views_ascend}
+use Rattle.view_state.specs.declared.exchange.Exchange.{Exchange}
+use Rattle.view_state.specs.declared.sides.Kept.{Kept}
+use Rattle.view_state.specs.declared.install.Part.{Part}
+use Rattle.view_state.specs.declared.install.Source.{Source}
+use Rattle.view_state.specs.declared.install.Install.{Install}
+use Rattle.view_state.specs.declared.install.Base.{Base}
+use Rattle.view_state.specs.Answers.{max_parts, opened, kept_of, side_from, with_side, with_answer, all_answered, source_of, install_of, is_spelled}
+use Rattle.view_state.specs.Bases.{IsBaseOf, is_candidate, parts_in, source_at, parts_from, bases_of}
+use Rattle.view_state.specs.Codec.{views_ascend}
 use Rattle.view_exchange.specs.Longest.{NamesDiffer}
-use Rattle.view_exchange.proofs.Bases.{base_is}
-use Rattle.view_core.specs.declared.views.RingAsk.{RingAsk}
-use Rattle.view_core.specs.declared.views.ViewWork.{ViewWork}
-use Rattle.view_core.specs.Views.{view_sent_all, gathering_set, promised, installs, gathered, gathers, own_answer, asks_view, next_view, may_ask, ask_if, ask_row, prepared_again, stuck_noted, tick_asks, asks_or_ages, gathering_ticks, views_at_work}
+use Rattle.view_bases.proofs.Bases.{base_is}
+use Rattle.view_state.specs.declared.views.RingAsk.{RingAsk}
+use Rattle.view_state.specs.declared.views.ViewWork.{ViewWork}
+use Rattle.view_state.specs.Views.{view_sent_all, gathering_set, promised, installs, gathered, gathers, own_answer, asks_view, next_view, may_ask, ask_if, ask_row, prepared_again, stuck_noted, tick_asks, asks_or_ages, gathering_ticks, views_at_work}
 use Rattle.node_state.specs.declared.group.GroupRow.{GroupRow}
 use Rattle.node_state.specs.declared.state.Core.{Core}
-use Rattle.node_state.specs.State.{AllAfter, InNameOrder, row_found, row_of, list_of, state_of, held_rows}
+use Rattle.node_state.specs.State.{AllAfter, InNameOrder, row_found, row_of, list_of, state_of, held_rows, has_name}
 use Rattle.node_state.specs.Applying.{part_of_list, own_parts}
-use Rattle.node_groups.specs.Places.{has_name}
-use Rattle.node_groups.proofs.NameOrder.{text_same, text_self, lt_self}
+use Rattle.node_state.proofs.NameOrder.{text_same, text_self, lt_self}
 use Rattle.step_ties.proofs.Parts.{own_differ}
 use Rattle.sends_bound.specs.Bound.{Room, Stands, Fine, FineIf}
 use Rattle.sends_bound.proofs.BaseRooms.{bases_room, base_by_name}

@@ -2,13 +2,13 @@
 use Rattle.std.proofs.Common.{◌≡◌, List, [], ◌∷◌, Some, None, Option, refl, sym, subst, inl, inr}
 use Rattle.std.specs.Prelude.{IsTrue, ℕ}
 use Rattle.rsct_packet.specs.Search.{Has}
-use Rattle.view_exchange.specs.declared.install.Part.{Part}
-use Rattle.view_exchange.specs.declared.install.Source.{Source}
-use Rattle.view_exchange.specs.declared.install.Install.{Install}
-use Rattle.view_exchange.specs.declared.install.Base.{Base}
-use Rattle.view_exchange.specs.Bases.{IsBaseOf, base_of, bases_for, bases_of, names_in}
-use Rattle.view_exchange.specs.Codec.{views_ascend}
-use Rattle.view_exchange.proofs.Bases.{base_is}
+use Rattle.view_state.specs.declared.install.Part.{Part}
+use Rattle.view_state.specs.declared.install.Source.{Source}
+use Rattle.view_state.specs.declared.install.Install.{Install}
+use Rattle.view_state.specs.declared.install.Base.{Base}
+use Rattle.view_state.specs.Bases.{IsBaseOf, base_of, bases_for, bases_of, names_in}
+use Rattle.view_state.specs.Codec.{views_ascend}
+use Rattle.view_bases.proofs.Bases.{base_is}
 use Rattle.step_ties.proofs.BaseOrder.{base_name}
 use Rattle.sends_bound.specs.Bound.{Room}
 

@@ -6,9 +6,8 @@ use Rattle.proposal_core.specs.Fold.{present}
 use Rattle.proposal_core.specs.Lists.{state_in}
 use Rattle.node_state.specs.declared.happened.Happened.{Happened}
 use Rattle.node_state.specs.declared.group.GroupRow.{GroupRow}
-use Rattle.node_state.specs.State.{InNameOrder, new_row, row_found, rows_with}
-use Rattle.node_groups.specs.Places.{has_name}
-use Rattle.node_groups.proofs.NameOrder.{after_less, none_after}
+use Rattle.node_state.specs.State.{InNameOrder, new_row, row_found, rows_with, has_name}
+use Rattle.node_state.proofs.NameOrder.{after_less, none_after}
 use Rattle.sends_bound.specs.Bound.{puts_of, waits_of, is_own, owned_of}
 
 pub kept_few : {A : Type 0} (test : A → Bool) (xs : List A) → length (filter test xs) ≤ length xs

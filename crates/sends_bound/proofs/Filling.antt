@@ -18,12 +18,12 @@ use Rattle.session_state.specs.declared.casts.Cast.{Cast}
 use Rattle.session_state.specs.declared.state.SessionState.{SessionState}
 use Rattle.session_state.specs.HandOn.{hearers, casts_out}
 use Rattle.session_state.specs.HandOn as session
-use Rattle.view_exchange.specs.declared.install.Part.{Part}
-use Rattle.view_exchange.specs.Parts.{part_len}
-use Rattle.view_exchange.specs.Cut.{all_fit, lacking_if, lacking_of}
+use Rattle.view_state.specs.declared.install.Part.{Part}
+use Rattle.view_state.specs.Parts.{part_len}
+use Rattle.view_state.specs.Cut.{all_fit, lacking_if, lacking_of}
 use Rattle.view_exchange.specs.Longest.{NamesDiffer}
-use Rattle.view_exchange.proofs.CutLaws.{fit_ends}
-use Rattle.view_core.specs.declared.views.Views.{Views}
+use Rattle.view_bases.proofs.CutLaws.{fit_ends}
+use Rattle.view_state.specs.declared.views.Views.{Views}
 use Rattle.node_state.specs.declared.group.GroupRow.{GroupRow}
 use Rattle.node_state.specs.declared.state.Core.{Core}
 use Rattle.node_state.specs.State.{row_found, row_of, with_row, list_of, state_of, len_of, fits_at_end, frozen, recorded, recorded_all, with_sessions}
@@ -31,7 +31,7 @@ use Rattle.node_state.specs.Sending.{sent_if_known}
 use Rattle.node_state.specs.HandOn.{Answering, fills, heard, notes, noted, ballot_sent, cast_sent_of, casts_sent, handed_on}
 use Rattle.node_state.specs.Leading.{put, put_and_handed}
 use Rattle.node_state.specs.Applying.{Lacking, lacking_in, lists_filled}
-use Rattle.node_groups.proofs.NameOrder.{row_here, row_there}
+use Rattle.node_state.proofs.NameOrder.{row_here, row_there}
 use Rattle.sends_bound.specs.Bound.{puts_of, waits_of, Room, Stands}
 use Rattle.sends_bound.specs.Lasting.{Lasting}
 use Rattle.sends_bound.proofs.Parts.{Goes, free_then, goes_recorded_all, goes_sessions}

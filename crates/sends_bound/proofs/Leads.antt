@@ -17,7 +17,7 @@ use Rattle.proposal_core.specs.GroupView.{GroupView}
 use Rattle.proposal_core.specs.Lists.{list_or_new, state_in, has_room, entry_fits, with_entry, forgotten}
 use Rattle.vote_phases.specs.Tally.{TallyView}
 use Rattle.batch_rules.specs.Waiting.{WaitingView, takes_failure, waits_failure}
-use Rattle.view_core.specs.Views.{others_of}
+use Rattle.view_state.specs.Views.{others_of}
 use Rattle.node_state.specs.declared.group.GroupRow.{GroupRow}
 use Rattle.node_state.specs.declared.happened.Happened.TheVariants as happened
 use Rattle.node_state.specs.declared.packet.Body.TheVariants as body

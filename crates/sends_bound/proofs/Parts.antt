@@ -13,7 +13,7 @@ use Rattle.node_state.specs.declared.packet.Packet.{Packet}
 use Rattle.node_state.specs.declared.state.Core.{Core}
 use Rattle.node_state.specs.State.{row_of, with_row, with_led, led_of, list_of, state_of, recorded, recorded_all, with_sessions}
 use Rattle.node_state.specs.Sending.{sent_on, sent, sent_all, sent_if_known, packet_on}
-use Rattle.node_groups.proofs.NameOrder.{KeepsName, cases_text, row_here, row_there, rows_ordered}
+use Rattle.node_state.proofs.NameOrder.{KeepsName, cases_text, row_here, row_there, rows_ordered}
 use Rattle.sends_bound.specs.Bound.{puts_of, Room, Stands, Within}
 use Rattle.sends_bound.specs.Lasting.{WaitsFew, FewBody, FewSent, Lasting}
 use Rattle.sends_bound.proofs.Counts.{none_long, joins_in, puts_both, waits_with}

@@ -22,7 +22,7 @@ use Rattle.session_state.specs.declared.casts.Cast.{Cast}
 use Rattle.session_state.specs.declared.state.SessionState.{SessionState}
 use Rattle.session_state.specs.HandOn.{asks, cast_with, cast_of, casts_of, casts_out, hearers, kept_by}
 use Rattle.session_state.specs.HandOn as session
-use Rattle.view_core.specs.declared.views.Views.{Views}
+use Rattle.view_state.specs.declared.views.Views.{Views}
 use Rattle.node_state.specs.declared.group.GroupRow.{GroupRow}
 use Rattle.node_state.specs.declared.group.Led.{Led}
 use Rattle.node_state.specs.declared.packet.Body.{Body}
@@ -33,7 +33,7 @@ use Rattle.node_state.specs.Sending.{sent, sent_all}
 use Rattle.node_state.specs.HandOn.{Answering, fills, heard, noted, cast_sent_of, casts_sent, handed_on}
 use Rattle.node_state.specs.Leading.{put, forgets_least, with_waiting, waits_if, new_members_wait, appended, tally_set, tally_for, tally_opened, closed_by, value_of, closing, closing_of, closing_entry, is_phase, closes_from, closes}
 use Rattle.node_state.specs.Applying.{failed_wait, phase_reopened, group_led, groups_led}
-use Rattle.node_groups.proofs.NameOrder.{row_here}
+use Rattle.node_state.proofs.NameOrder.{row_here}
 use Rattle.sends_bound.specs.Bound.{is_own, puts_of, waits_of, owned_of, Room, Stands}
 use Rattle.sends_bound.specs.Lasting.{FewBody}
 use Rattle.sends_bound.proofs.Counts.{kept_few, own_in, owned_with}

@@ -42,7 +42,7 @@ use Rattle.node_state.specs.HandOn.{Answering}
 use Rattle.node_state.specs.Leading.{put_and_handed, forgets_least, with_waiting, with_tally, closes, begins}
 use Rattle.node_state.specs.Deciding.{decision_kept, refused, lacks_source, source_len, is_idle_empty, meant_attrs, join_refusal, attrs_kept, join_waits, decided_join, other_refusal, decided_other, decided}
 use Rattle.node_state.specs.Following.{lookup_row, told_if, tell_row, requests_of, named, is_name_used, name_row, told_again, request_new, request_after, request_at, is_group_refused, request_row, entry_next, entry_elsewhere, entry_row, acked, ack_row, vote_cast, vote_row, tally_failed, gone_waits, marked, gone_present, gone_of, gone_row}
-use Rattle.node_groups.proofs.NameOrder.{row_here}
+use Rattle.node_state.proofs.NameOrder.{row_here}
 use Rattle.sends_bound.specs.Bound.{Stands}
 use Rattle.sends_bound.proofs.Counts.{kept_few}
 use Rattle.sends_bound.proofs.Parts.{Goes, goes_same, goes_more, then_free, free_then, fold_free, fold_each, goes_row, goes_led, goes_joined, goes_sent, goes_recorded, goes_sessions}

@@ -13,11 +13,11 @@ use Rattle.adapter_ring.specs.declared.work.RingWork.{RingWork}
 use Rattle.adapter_ring.specs.Rings.{ring_stepped}
 use Rattle.node_reach.specs.Reach as reach
 use Rattle.session_state.specs.declared.state.SessionState.{SessionState}
-use Rattle.view_exchange.specs.declared.install.Install.{Install}
-use Rattle.view_exchange.specs.Answers.{opened, with_answer, install_of}
-use Rattle.view_core.specs.declared.views.Views.{Views}
-use Rattle.view_core.specs.declared.views.ViewWork.{ViewWork}
-use Rattle.view_core.specs.Views.{others_of, views_at_work, gathering_ticks, install_again}
+use Rattle.view_state.specs.declared.install.Install.{Install}
+use Rattle.view_state.specs.Answers.{opened, with_answer, install_of}
+use Rattle.view_state.specs.declared.views.Views.{Views}
+use Rattle.view_state.specs.declared.views.ViewWork.{ViewWork}
+use Rattle.view_state.specs.Views.{others_of, views_at_work, gathering_ticks, install_again}
 use Rattle.node_state.specs.declared.config.Config.{Config}
 use Rattle.node_state.specs.declared.config.Mode.{Mode}
 use Rattle.node_state.specs.declared.group.GroupRow.{GroupRow}

@@ -12,17 +12,17 @@ use Rattle.rsct_packet.specs.Mask.{node_numbers, has_node, with_node, nodes_of}
 use Rattle.rsct_packet.specs.Search.{Has, insert_before}
 use Rattle.rsct_packet.proofs.HasLaws.{has_append, has_map, has_filter}
 use Rattle.rsct_packet.proofs.MaskLaws.{has_is_node, node_numbered}
-use Rattle.view_exchange.specs.declared.answer.Answer.{Answer}
-use Rattle.view_exchange.specs.declared.exchange.Exchange.{Exchange}
-use Rattle.view_exchange.specs.declared.install.Part.{Part}
-use Rattle.view_exchange.specs.declared.install.Install.{Install}
-use Rattle.view_exchange.specs.Answers.{max_parts, opened, has_answered, may_answer, member_of, is_member_above, with_answer, all_answered, install_of, is_spelled}
-use Rattle.view_core.specs.declared.packet.ViewPacket.{ViewPacket}
-use Rattle.view_core.specs.declared.packet.ViewPacket.TheVariants as packet
-use Rattle.view_core.specs.declared.packet.ViewSend.{ViewSend}
-use Rattle.view_core.specs.declared.views.RingAsk.{RingAsk}
-use Rattle.view_core.specs.declared.views.ViewWork.{ViewWork}
-use Rattle.view_core.specs.Views.{is_frozen, is_coordinator, others_of, view_sent, view_sent_all, gathering_set, promised, installs, gathered, gathers, own_answer, asks_view, next_view, may_ask, ask_if, ask_row, answered, prepared, prepare_row, answer_to, answer_row, refused_by, refuse_to, refuse_row, installed, install_row, taken_row, aged, prepared_again, tick_asks, stuck_noted, asks_or_ages, gathering_ticks, install_again_of, install_again}
+use Rattle.view_state.specs.declared.answer.Answer.{Answer}
+use Rattle.view_state.specs.declared.exchange.Exchange.{Exchange}
+use Rattle.view_state.specs.declared.install.Part.{Part}
+use Rattle.view_state.specs.declared.install.Install.{Install}
+use Rattle.view_state.specs.Answers.{max_parts, opened, has_answered, may_answer, member_of, is_member_above, with_answer, all_answered, install_of, is_spelled}
+use Rattle.view_state.specs.declared.packet.ViewPacket.{ViewPacket}
+use Rattle.view_state.specs.declared.packet.ViewPacket.TheVariants as packet
+use Rattle.view_state.specs.declared.packet.ViewSend.{ViewSend}
+use Rattle.view_state.specs.declared.views.RingAsk.{RingAsk}
+use Rattle.view_state.specs.declared.views.ViewWork.{ViewWork}
+use Rattle.view_state.specs.Views.{is_frozen, is_coordinator, others_of, view_sent, view_sent_all, gathering_set, promised, installs, gathered, gathers, own_answer, asks_view, next_view, may_ask, ask_if, ask_row, answered, prepared, prepare_row, answer_to, answer_row, refused_by, refuse_to, refuse_row, installed, install_row, taken_row, aged, prepared_again, tick_asks, stuck_noted, asks_or_ages, gathering_ticks, install_again_of, install_again}
 use Rattle.sends_bound.specs.Bound.{FewAnswers}
 use Rattle.sends_bound.specs.Lasting.{Counted, GatheredIf, FewIn, FewIf, FewView, FewViews}
 use Rattle.sends_bound.proofs.Counts.{kept_few}

@@ -11,12 +11,12 @@ ghost use Rattle.session_calls.specs.Calling.{is_within_session};
 use crate::answers::change;
 use crate::casting::give_ballot;
 use crate::proposing::propose;
-use client_session::{client_token, member_token, sub_token};
 use group_attr::{Attrs, Phases};
 use node_groups::holds;
 use node_state::{CallLine, Core};
 use proposal_core::Vote;
 use rsct_packet::{List, NoMemory, ProviderId};
+use session_opening::{client_token, member_token, sub_token};
 use session_state::{MemberToken, SessionState};
 use std::alloc::Global;
 use subscribe_core::SubToken;
@@ -50,7 +50,7 @@ fn join(
 {
     let attrs = attrs.copy(alloc)?;
     let t = client_token(&core.sessions, client);
-    let answer = core.sessions.join(alloc, t, g, instance, attrs);
+    let answer = session_checks::join(&mut core.sessions, alloc, t, g, instance, attrs);
     propose(core, alloc, client, answer)
 }
 
@@ -65,7 +65,7 @@ fn leave(
     ensures keeps { OnOk result (Stays core.old core.new) }
 {
     let m = caller(&core.sessions, client, g);
-    let answer = core.sessions.leave(alloc, m, phases);
+    let answer = session_checks::leave(&mut core.sessions, alloc, m, phases);
     propose(core, alloc, client, answer)
 }
 
@@ -81,7 +81,7 @@ fn expel(
     ensures keeps { OnOk result (Stays core.old core.new) }
 {
     let m = caller(&core.sessions, client, g);
-    let answer = core.sessions.expel(alloc, m, phases, out);
+    let answer = session_checks::expel(&mut core.sessions, alloc, m, phases, out);
     propose(core, alloc, client, answer)
 }
 
@@ -97,7 +97,7 @@ fn change_state(
     ensures keeps { OnOk result (Stays core.old core.new) }
 {
     let m = caller(&core.sessions, client, g);
-    let answer = core.sessions.change_state(alloc, m, phases, value);
+    let answer = session_checks::change_state(&mut core.sessions, alloc, m, phases, value);
     propose(core, alloc, client, answer)
 }
 
@@ -113,7 +113,7 @@ fn send_message(
     ensures keeps { OnOk result (Stays core.old core.new) }
 {
     let m = caller(&core.sessions, client, g);
-    let answer = core.sessions.send_message(alloc, m, phases, bytes);
+    let answer = session_checks::send_message(&mut core.sessions, alloc, m, phases, bytes);
     propose(core, alloc, client, answer)
 }
 
@@ -130,7 +130,7 @@ fn change_attributes(
 {
     let attrs = attrs.copy(alloc)?;
     let m = caller(&core.sessions, client, g);
-    let answer = core.sessions.change_attributes(alloc, m, phases, attrs);
+    let answer = session_checks::change_attributes(&mut core.sessions, alloc, m, phases, attrs);
     propose(core, alloc, client, answer)
 }
 
@@ -157,7 +157,7 @@ fn vote(
     ensures keeps { OnOk result (Stays core.old core.new) }
 {
     let m = caller(&core.sessions, client, g);
-    let answer = core.sessions.vote(alloc, m, vote, bytes_of(value));
+    let answer = session_checks::vote(&mut core.sessions, alloc, m, vote, bytes_of(value));
     give_ballot(core, alloc, client, answer)
 }
 
@@ -167,7 +167,7 @@ fn subscribe(core: &mut Core, alloc: Global, client: &[u8], g: &[u8]) -> Result<
 {
     let known = holds(core, g);
     let t = client_token(&core.sessions, client);
-    let answer = core.sessions.subscribe(alloc, t, g, known);
+    let answer = session_checks::subscribe(&mut core.sessions, alloc, t, g, known);
     change(core, alloc, client, answer)
 }
 
@@ -177,7 +177,7 @@ fn unsubscribe(core: &mut Core, alloc: Global, client: &[u8], g: &[u8]) -> Resul
 {
     let t = client_token(&core.sessions, client);
     let s = subscriber(&core.sessions, client, g);
-    let answer = core.sessions.unsubscribe(t, s);
+    let answer = session_checks::unsubscribe(&mut core.sessions, t, s);
     change(core, alloc, client, answer)
 }
 

@@ -1,5 +1,5 @@
 //! The table of local providers.
-ghost use Rattle.std.specs.Prelude.{◌≡◌, ◌++◌, ◌∷◌, ◌<◌, [], length, not, find, filter, take, OnOk, OnErr, IfSome, IfNone, Some, None, option_copied, slice_index_or};
+ghost use Rattle.std.specs.Prelude.{◌≡◌, ◌++◌, ◌∷◌, ◌<◌, [], length, not, find, filter, take, OnOk, OnErr, IfSome, IfNone, None, option_copied};
 ghost use Rattle.rsct_packet.specs.Providers.{among};
 ghost use Rattle.rsct_packet.specs.Search.{place_where, edit_where};
 ghost use Rattle.session_state.specs.State.{is_provider, is_client_of};

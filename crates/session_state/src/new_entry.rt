@@ -1,5 +1,5 @@
 //! A new entry of a group's list, as it is handed on.
-ghost use Rattle.std.specs.Prelude.{◌≡◌, [], List, Option, option_copied};
+ghost use Rattle.std.specs.Prelude.{◌≡◌, [], Option};
 ghost use Rattle.proposal_core.specs.Fold.{joiners_in, joins_of};
 ghost use Rattle.session_state.specs.HandOn.{is_late, opens_phase, asks, running_phase, brought_by, is_present};
 

@@ -2,10 +2,10 @@
 //! types alone.
 use crate::hand::{first_provider, join_db, new_list};
 use client_callbacks::{SteadyClient, Why};
-use client_session::Sessions;
 use group_attr::{Attrs, Phases};
 use proposal_core::Proposal;
 use rsct_packet::{List, NoMemory, ProviderId};
+use session_opening::Sessions;
 use session_state::{GsFault, MemberToken};
 use std::alloc::Global;
 use std::process::Abort;

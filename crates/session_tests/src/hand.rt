@@ -1,9 +1,9 @@
 //! Handing the entries of the group `db` on, with no clause.
 use client_callbacks::Callbacks;
-use client_session::Sessions;
 use group_attr::Attrs;
 use proposal_core::{Entry, GroupList, GroupState, Proposal};
 use rsct_packet::{List, Name, ProviderId, Providers, Text, ViewId};
+use session_opening::Sessions;
 use session_state::{Casts, MemberToken};
 use std::alloc::Global;
 use std::process::Abort;

@@ -2,6 +2,7 @@
 use crate::calls::{answered, refused};
 use group_attr::Attrs;
 use rsct_packet::List;
+use session_checks::{add_session, check_init};
 use session_state::{GsFault, Locals, SessionState};
 use std::alloc::Global;
 use subscribe_core::{ClientToken, Subs};
@@ -24,15 +25,15 @@ fn nearly_spent(alloc: Global) -> SessionState {
 
 /// Adds a session of this name, and answers its number.
 fn add(alloc: Global, s: &mut SessionState, name: &[u8]) -> Result<u32, GsFault> {
-    s.check_init(name)?;
-    let t = s.add_session(alloc, name)?;
+    check_init(s, name)?;
+    let t = add_session(s, alloc, name)?;
     Ok(t.n)
 }
 
 /// The client of the last number joins a group, and the provider's number is answered.
 fn join(alloc: Global, s: &mut SessionState, group: &[u8]) -> Result<u32, GsFault> {
     let t = ClientToken { n: u32::MAX };
-    let m = s.join(alloc, t, group, 7, Attrs::empty())?;
+    let m = session_checks::join(s, alloc, t, group, 7, Attrs::empty())?;
     Ok(m.n)
 }
 

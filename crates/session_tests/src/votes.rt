@@ -6,9 +6,9 @@ use crate::hand::{hand_on, join_db, new_list, sessions, value};
 use client_callbacks::{
     Ballot, BoxedClient, Callbacks, DaemonClient, Made, Notice, ScriptClient, Told,
 };
-use client_session::Sessions;
 use proposal_core::{Entry, GroupList, Proposal, Vote};
 use rsct_packet::{NoMemory, ProviderId};
+use session_opening::Sessions;
 use session_state::{Casts, Field, GsFault, MemberToken};
 use std::alloc::Global;
 use std::process::Abort;

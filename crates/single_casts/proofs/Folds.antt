@@ -14,10 +14,10 @@ use Rattle.proposal_core.specs.Lists.{list_or_new, with_entry}
 use Rattle.client_callbacks.specs.declared.ballot.Filled.{Filled}
 use Rattle.client_callbacks.specs.declared.told.Why.TheVariants.{Dissolved}
 use Rattle.session_state.specs.HandOn.{casts_out}
-use Rattle.view_exchange.specs.declared.install.Install.{Install}
-use Rattle.view_exchange.specs.declared.install.Base.{Base}
-use Rattle.view_exchange.specs.Bases.{bases_of}
-use Rattle.view_core.specs.Views.{views_entered}
+use Rattle.view_state.specs.declared.install.Install.{Install}
+use Rattle.view_state.specs.declared.install.Base.{Base}
+use Rattle.view_state.specs.Bases.{bases_of}
+use Rattle.view_state.specs.Views.{views_entered}
 use Rattle.node_state.specs.declared.group.GroupRow.{GroupRow}
 use Rattle.node_state.specs.declared.happened.Happened.{Happened}
 use Rattle.node_state.specs.declared.happened.Happened.TheVariants as happened
@@ -28,7 +28,7 @@ use Rattle.node_state.specs.Leading.{put}
 use Rattle.node_state.specs.Applying.{base_record, view_entered, dissolved}
 use Rattle.run_safety.specs.Past.{History, earlier, is_list, puts_after, puts_of}
 use Rattle.run_safety.specs.Bases.{Bases, base_state, state_of_list}
-use Rattle.node_groups.proofs.NameOrder.{cases_text, text_self, text_other, row_here, row_there}
+use Rattle.node_state.proofs.NameOrder.{cases_text, text_self, text_other, row_here, row_there}
 use Rattle.hearing.specs.Changes.{Inner, Same, handing, entering, Does, Stays, Then, Records, Hands, Loses, Joins, Votes, Enters}
 use Rattle.hearing.proofs.Attending.{pushed, pushed_reverse, heard_at}
 use Rattle.attending.proofs.Parts.{fold_push}

@@ -20,7 +20,7 @@ use Rattle.session_state.specs.declared.state.Provider.{Provider}
 use Rattle.session_state.specs.declared.state.SessionState.{SessionState}
 use Rattle.session_state.specs.State.{is_provider, is_kept_in, provider_of, with_provider, request_ended, without_providers}
 use Rattle.session_state.specs.HandOn.{kept_ended, kept_after, beginners, hearers, taking_part, part_taken, asks, running_phase, is_late, opened_after, phases_opened, kept_by, casts_kept, proposal_begun, requests_after, removed_from, casts_out, heard, handed_on}
-use Rattle.node_groups.proofs.NameOrder.{text_other}
+use Rattle.node_state.proofs.NameOrder.{text_other}
 use Rattle.step_ties.proofs.SessionLaws.{provider_same, provider_self}
 use Rattle.single_casts.specs.Single.{SameBallot, Apart}
 use Rattle.hearing.proofs.Sessions.{found_is, fewer_without, fewer_has}

@@ -28,7 +28,7 @@ use Rattle.node_state.specs.declared.happened.Happened.{Happened}
 use Rattle.node_state.specs.declared.happened.Happened.TheVariants as happened
 use Rattle.node_state.specs.HandOn.{cast_record, cast_records}
 use Rattle.run_safety.specs.Past.{History, Within, earlier, records_of}
-use Rattle.node_groups.proofs.NameOrder.{cases_text}
+use Rattle.node_state.proofs.NameOrder.{cases_text}
 use Rattle.step_ties.proofs.SessionLaws.{Later, handed_later, cast_has}
 use Rattle.hearing.specs.Hearing.{last_heard}
 use Rattle.hearing.specs.Changes.{Fewer}

@@ -18,7 +18,7 @@ use Rattle.run_safety.specs.Group.{Origin, Record, In, Put, Begins, Line, Kept, 
 use Rattle.run_safety.specs.Group as group
 use Rattle.run_safety.specs.GroupLists as lists
 use Rattle.run_safety.specs.Sight.{inc_in, told_in, lines_at, lines_with, lines_of}
-use Rattle.node_groups.proofs.NameOrder.{text_same, text_self}
+use Rattle.node_state.proofs.NameOrder.{text_same, text_self}
 
 -- ---- puts
 

@@ -13,15 +13,15 @@ use Rattle.group_entry.specs.declared.entry.Entry.{Entry}
 use Rattle.proposal_core.specs.declared.group_state.GroupState.{GroupState}
 use Rattle.proposal_core.specs.Fold.{empty_state}
 use Rattle.proposal_core.specs.Lists.{list_or_new}
-use Rattle.view_exchange.specs.declared.install.Install.{Install}
-use Rattle.view_exchange.specs.declared.install.Base.{Base}
-use Rattle.view_exchange.specs.Bases.{bases_of, base_named}
+use Rattle.view_state.specs.declared.install.Install.{Install}
+use Rattle.view_state.specs.declared.install.Base.{Base}
+use Rattle.view_state.specs.Bases.{bases_of, base_named}
 use Rattle.node_state.specs.declared.config.Config.{Config}
 use Rattle.node_state.specs.declared.group.GroupRow.{GroupRow}
 use Rattle.node_state.specs.declared.happened.Happened.{Happened}
 use Rattle.node_state.specs.declared.happened.Happened.TheVariants as happened
 use Rattle.node_state.specs.declared.state.Core.{Core}
-use Rattle.node_state.specs.State.{row_found, row_of, list_of, state_of, len_of, held_rows, recorded_all}
+use Rattle.node_state.specs.State.{row_found, row_of, list_of, state_of, len_of, held_rows, recorded_all, has_name}
 use Rattle.node_state.specs.Applying.{base_row, view_entered}
 use Rattle.node_state.specs.Step.{at_work}
 use Rattle.run_safety.specs.ViewOrder.{Lt, Le}
@@ -31,8 +31,7 @@ use Rattle.run_safety.specs.GroupLists.{WasIn, From}
 use Rattle.run_safety.specs.Bases.{Bases, base_state, state_of_list}
 use Rattle.run_safety.specs.Sight.{inc_in}
 use Rattle.run_safety.proofs.Order.{lt_not_same}
-use Rattle.node_groups.specs.Places.{has_name}
-use Rattle.node_groups.proofs.NameOrder.{text_same, text_self}
+use Rattle.node_state.proofs.NameOrder.{text_same, text_self}
 use Rattle.step_ties.specs.Tied.{Scene}
 use Rattle.step_ties.specs.Runs.{Reached}
 use Rattle.step_ties.proofs.BaseOrder.{row_of_base}
@@ -41,7 +40,7 @@ use Rattle.hearing.specs.Changes.{Inner, entering, Does, Enters}
 use Rattle.hearing.proofs.Viewing.{Once, Stayed, Entered, sides_stand}
 use Rattle.hearing.proofs.Doing.{Hearing, hearing_does}
 use Rattle.hearing.proofs.Listening.{reverse_has}
-use Rattle.attending.proofs.Doing.{does_grow}
+use Rattle.hearing.proofs.Added.{does_grow}
 use Rattle.single_casts.proofs.Lines.{ghost_of, in_line, line_read, runs_on, bases_in, noted_is, based_is, base_entered, put_entered, fitted_is, Seat, seat_of, single_is, entered_is}
 use Rattle.single_casts.proofs.Adding.{Own, entering_view, does_me, quiet_adds, entering_adds, entered_records}
 use Rattle.single_casts.proofs.Folds.{Folded, puts_at, others_puts, entering_puts}

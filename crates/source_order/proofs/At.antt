@@ -12,7 +12,7 @@ use Rattle.proposal_core.specs.declared.group_state.GroupState.{GroupState}
 use Rattle.proposal_core.specs.Fold.{after}
 use Rattle.proposal_core.specs.GroupView.{GroupView}
 use Rattle.proposal_core.specs.Lists.{list_or_new, state_in, len_in, with_entry}
-use Rattle.view_core.specs.declared.views.Views.{Views}
+use Rattle.view_state.specs.declared.views.Views.{Views}
 use Rattle.node_state.specs.declared.group.GroupRow.{GroupRow}
 use Rattle.node_state.specs.declared.happened.Happened.{Happened}
 use Rattle.node_state.specs.declared.happened.Happened.TheVariants as happened
@@ -20,7 +20,7 @@ use Rattle.node_state.specs.declared.state.Core.{Core}
 use Rattle.node_state.specs.State.{InNameOrder, row_of, with_row, list_of, len_of, recorded, recorded_all}
 use Rattle.node_state.specs.Leading.{put}
 use Rattle.run_safety.specs.Past.{History, earlier, puts_of, base_of, fold_from, state_at}
-use Rattle.node_groups.proofs.NameOrder.{KeepsName, rows_ordered}
+use Rattle.node_state.proofs.NameOrder.{KeepsName, rows_ordered}
 use Rattle.closing_rows.proofs.At.{found, StateIs, Silent, Calm, fold_pushed, is_list_self, is_list_other, list_with}
 use Rattle.closing_rows.proofs.Entered.{Since}
 use Rattle.source_order.specs.Sources.{OfBegun, Rises, CarriesLength, BegunFirst}

@@ -19,7 +19,7 @@ use Rattle.run_safety.specs.GroupLists as lists
 use Rattle.run_safety.specs.Bases.{Bases, base_state, state_of_list}
 use Rattle.run_safety.proofs.HeardLaw.{puts_front, get_within}
 use Rattle.run_safety.proofs.Prefix.{IsPrefix, prefix_get}
-use Rattle.node_groups.proofs.NameOrder.{text_self}
+use Rattle.node_state.proofs.NameOrder.{text_self}
 use Rattle.closing_rows.proofs.At.{fold_pushed}
 use Rattle.closing_rows.proofs.Told.{Told, less_many, less_now}
 use Rattle.closing_rows.proofs.Lists.{puts_here}

@@ -16,7 +16,7 @@ use Rattle.run_safety.specs.Past.{History, records_of, earlier, Within, EachReco
 use Rattle.run_safety.specs.Sight.{lines_at, lines_with, lines_of}
 use Rattle.run_safety.specs.Group.{Line, Put, Kept}
 use Rattle.run_safety.specs.Bases.{Bases, state_of_list}
-use Rattle.node_groups.proofs.NameOrder.{text_self}
+use Rattle.node_state.proofs.NameOrder.{text_self}
 use Rattle.closing_rows.proofs.Told.{Told, less_many, less_now}
 use Rattle.closing_rows.proofs.Lists.{puts_here, state_before}
 use Rattle.source_order.specs.Sources.{HasMemberOn, JoinsOver, JoinsFrom, OfBegun, Rises, CarriesLength, BegunFirst, RecordRises, RecordCarries, RecordFirst, ReflectionsRise, JoinsCarryLengths, FirstsFollowSources}

@@ -3,9 +3,9 @@ use Rattle.std.proofs.Common.{◌≡◌, ℕ, List, [], Some, Bool, true, false,
 use Rattle.std.specs.Prelude.{◌==◌}
 use Rattle.rsct_packet.specs.declared.mask.Mask.{Mask}
 use Rattle.rsct_packet.specs.Search.{Has}
-use Rattle.view_core.specs.declared.packet.ViewPacket.{ViewPacket}
-use Rattle.view_core.specs.declared.packet.ViewPacket.TheVariants as view
-use Rattle.view_core.specs.Views.{views_at_work, ask_row, prepare_row, answer_row, refuse_row, install_row, taken_row}
+use Rattle.view_state.specs.declared.packet.ViewPacket.{ViewPacket}
+use Rattle.view_state.specs.declared.packet.ViewPacket.TheVariants as view
+use Rattle.view_state.specs.Views.{views_at_work, ask_row, prepare_row, answer_row, refuse_row, install_row, taken_row}
 use Rattle.node_state.specs.declared.packet.Body.{Body}
 use Rattle.node_state.specs.declared.packet.Body.TheVariants as body
 use Rattle.node_state.specs.declared.packet.Packet.{Packet}

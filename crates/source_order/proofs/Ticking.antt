@@ -4,7 +4,7 @@ use Rattle.std.specs.Prelude.{◌==◌, ◌&&◌, fold}
 use Rattle.group_entry.specs.declared.entry.Entry.TheVariants.{Late}
 use Rattle.proposal_core.specs.declared.group_state.Running.{Running}
 use Rattle.vote_phases.specs.Tally.{TallyView, expires, open_voters}
-use Rattle.view_core.specs.Views.{views_at_work, gathering_ticks, install_again}
+use Rattle.view_state.specs.Views.{views_at_work, gathering_ticks, install_again}
 use Rattle.node_state.specs.declared.state.Core.{Core}
 use Rattle.node_state.specs.State.{led_of, state_of, fits_at_end, frozen, led_groups, others}
 use Rattle.node_state.specs.HandOn.{Answering}

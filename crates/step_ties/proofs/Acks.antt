@@ -11,7 +11,7 @@ use Rattle.rsct_packet.proofs.HasLaws.{has_map, append_has_right}
 use Rattle.proposal_core.specs.Lists.{len_in, list_or_new}
 use Rattle.rsct_packet.specs.declared.ids.ProviderId.{ProviderId}
 use Rattle.rsct_packet.specs.Providers.{among, differ, same_provider}
-use Rattle.view_core.specs.Views.{is_frozen}
+use Rattle.view_state.specs.Views.{is_frozen}
 use Rattle.node_state.specs.declared.config.Config.{Config}
 use Rattle.node_state.specs.declared.config.Mode.{Mode}
 use Rattle.node_state.specs.declared.config.Mode.TheVariants.{Fixed, Asked, Rings}
@@ -40,7 +40,7 @@ use Rattle.step_ties.specs.Tied.{ShowsBody, RowIs, IsAcked, Decided, LeaderKeeps
 use Rattle.step_ties.proofs.Goes.{Spares, Still, sound_on, owes_by, decides_by, node_by, shows_on}
 use Rattle.step_ties.proofs.Idle.{led_lightens}
 use Rattle.step_ties.proofs.Works.{tied_on}
-use Rattle.node_groups.proofs.NameOrder.{cases_text}
+use Rattle.node_state.proofs.NameOrder.{cases_text}
 use Rattle.step_ties.proofs.Leads.{leads_led, leads_known}
 use Rattle.step_ties.proofs.Gone.{with_packet, packet_goes, packet_still, goes_then}
 use Rattle.step_ties.proofs.ViewRows.{same_of}

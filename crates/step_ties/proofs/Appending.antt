@@ -33,7 +33,7 @@ use Rattle.session_state.specs.declared.state.SessionState.{SessionState}
 use Rattle.session_state.specs.HandOn.{hearers, casts_out}
 use Rattle.session_state.specs.HandOn as session
 use Rattle.subscribe_core.specs.Subs.{differs}
-use Rattle.view_core.specs.declared.views.Views.{Views}
+use Rattle.view_state.specs.declared.views.Views.{Views}
 use Rattle.node_state.specs.declared.group.GroupRow.{GroupRow}
 use Rattle.node_state.specs.declared.group.Led.{Led}
 use Rattle.node_state.specs.declared.packet.Body.{Body}
@@ -55,7 +55,7 @@ use Rattle.step_ties.specs.Ghost.{Ghost, Lives}
 use Rattle.step_ties.specs.Tied.{Decided, Shows, IsAcked, RowIs, LeaderKeeps, Scene, opening_of, Tied}
 use Rattle.step_ties.specs.Rows.{at_node}
 use Rattle.step_ties.proofs.Changed.{set_here, changes}
-use Rattle.node_groups.proofs.NameOrder.{KeepsName, cases_text}
+use Rattle.node_state.proofs.NameOrder.{KeepsName, cases_text}
 use Rattle.step_ties.proofs.Idle.{led_lightens}
 use Rattle.step_ties.proofs.RowWorks.{keeps_of, waits_of, tied_row}
 use Rattle.step_ties.proofs.Leads.{LeadsAs, leads_same, leads_row, leads_known}

@@ -7,24 +7,23 @@ use Rattle.std.proofs.lemmas.List.{append-nil}
 use Rattle.rsct_packet.specs.declared.ids.ViewId.{ViewId}
 use Rattle.rsct_packet.specs.Text.{name_lt}
 use Rattle.rsct_packet.specs.Lists.{best_of}
-use Rattle.view_exchange.specs.declared.install.Part.{Part}
-use Rattle.view_exchange.specs.declared.install.Source.{Source}
-use Rattle.view_exchange.specs.declared.install.Install.{Install}
-use Rattle.view_exchange.specs.declared.install.Base.{Base}
-use Rattle.view_exchange.specs.Bases.{Candidate, candidates, beats, base_from, base_of_best, base_of, with_name, names_in, bases_for, bases_of, base_named}
+use Rattle.view_state.specs.declared.install.Part.{Part}
+use Rattle.view_state.specs.declared.install.Source.{Source}
+use Rattle.view_state.specs.declared.install.Install.{Install}
+use Rattle.view_state.specs.declared.install.Base.{Base}
+use Rattle.view_state.specs.Bases.{Candidate, candidates, beats, base_from, base_of_best, base_of, with_name, names_in, bases_for, bases_of, base_named}
 use Rattle.node_state.specs.declared.group.GroupRow.{GroupRow}
 use Rattle.node_state.specs.declared.happened.Happened.{Happened}
 use Rattle.node_state.specs.declared.happened.Happened.TheVariants as happened
-use Rattle.node_state.specs.State.{AllAfter, InNameOrder, new_row}
+use Rattle.node_state.specs.State.{AllAfter, InNameOrder, new_row, has_name}
 use Rattle.node_state.specs.Applying.{base_row}
 use Rattle.run_safety.specs.Past.{History}
 use Rattle.run_safety.specs.Sight.{lines_with}
 use Rattle.run_safety.specs.Group.{Line, Noted, Based}
 use Rattle.run_safety.specs.Moves.{based}
-use Rattle.node_groups.specs.Places.{has_name}
 use Rattle.step_ties.specs.Ghost.{origin_of}
 use Rattle.step_ties.proofs.Works.{lines_pushed}
-use Rattle.node_groups.proofs.NameOrder.{text_same, text_self, name_lt_total, none_after, after_less}
+use Rattle.node_state.proofs.NameOrder.{text_same, text_self, name_lt_total, none_after, after_less}
 
 abbrev rows_of : List (List ℕ) → List GroupRow
 rows_of ns = map new_row ns

@@ -22,7 +22,7 @@ use Rattle.node_state.specs.Settings.{is_fixed}
 use Rattle.node_state.specs.State.{row_of, with_sessions, acked_from, decision_of}
 use Rattle.node_state.specs.Applying.{level_set}
 use Rattle.node_state.specs.Step.{at_work, started, first_view, first_members, own_rings, ring_record}
-use Rattle.view_core.specs.Views.{views_new}
+use Rattle.view_state.specs.Views.{views_new}
 use Rattle.world_model.specs.declared.event.Event.{Event}
 use Rattle.run_safety.specs.Past.{records_of, place_after, view_now}
 use Rattle.run_safety.specs.Sight.{inc_in, lines_with, lines_of}

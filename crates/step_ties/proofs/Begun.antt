@@ -31,15 +31,14 @@ use Rattle.node_state.specs.declared.group.GroupRow.{GroupRow}
 use Rattle.node_state.specs.declared.group.Led.{Led}
 use Rattle.node_state.specs.declared.packet.Body.TheVariants as body
 use Rattle.node_state.specs.declared.state.Core.{Core}
-use Rattle.node_state.specs.State.{InNameOrder, row_found, row_of, with_row, with_led, led_of, list_of, state_of, len_of, list_forgotten, forgets_below, leads_in, leads, led_groups, leader_of, others, least_acked, fits_at_end, decisions_with, recorded}
+use Rattle.node_state.specs.State.{InNameOrder, row_found, row_of, with_row, with_led, led_of, list_of, state_of, len_of, list_forgotten, forgets_below, leads_in, leads, led_groups, leader_of, others, least_acked, fits_at_end, decisions_with, recorded, has_name}
 use Rattle.node_state.specs.Sending.{sent, sent_on, sent_all}
 use Rattle.node_state.specs.HandOn.{Answering, handed_on}
 use Rattle.node_state.specs.Leading.{put, forgets_least, with_waiting, waits_if, new_members_wait, appended, appended_if, begun_many, begins, tally_set, tally_for, tally_opened, closing_entry, is_phase, closes_from, closes}
 use Rattle.proposal_core.specs.Fold.{max_phases}
 use Rattle.node_state.specs.Deciding.{decision_kept, refused, known_state, lacks_source, source_len}
 use Rattle.node_state.specs.Ending.{Pass, quiet, begun_now, failures_begin, due_begins, source_begins, attrs_for, carried_len, source_refused, joins_begin, or_due, or_joins, may_begin, first_begins, group_begins, one_pass, passes}
-use Rattle.node_groups.specs.Places.{has_name}
-use Rattle.node_groups.proofs.NameOrder.{KeepsName, cases_text, text_same, row_here, row_there, rows_ordered}
+use Rattle.node_state.proofs.NameOrder.{KeepsName, cases_text, text_same, row_here, row_there, rows_ordered}
 use Rattle.step_ties.proofs.Idle.{none_held, held_none}
 use Rattle.step_ties.proofs.Appending.{sent_all_is, handed_rows, joins_kept}
 

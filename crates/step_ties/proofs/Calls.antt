@@ -47,7 +47,7 @@ use Rattle.step_ties.specs.Ghost.{Asking, asking, Ghost, Lives, Goes}
 use Rattle.step_ties.specs.Tied.{Numbered, Owed, Owes, Sound, NodeOf, Scene, opening_of, lines_now, Tied, InTurn}
 use Rattle.step_ties.proofs.Goes.{Spares, seen_on, numbered_on, decides_by, node_by, shows_on, node_if_on}
 use Rattle.step_ties.proofs.Works.{lines_pushed, placed_pushed, tied_unseen}
-use Rattle.node_groups.proofs.NameOrder.{text_self, text_other, cases_text}
+use Rattle.node_state.proofs.NameOrder.{text_self, text_other, cases_text}
 use Rattle.step_ties.proofs.SessionLaws.{Later, owes_later, provider_self, Attended, provider_same}
 use Rattle.step_ties.proofs.Owed.{request_tied, known_tied, kept_sent_tied}
 use Rattle.step_ties.proofs.Turns.{fewer_turn, fewer_same, turns_sessions, turns_pushed, joined_turn, asked_turn}

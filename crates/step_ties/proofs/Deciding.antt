@@ -39,7 +39,7 @@ use Rattle.step_ties.proofs.Goes.{owes_by, node_rows_by, shows_on, node_if_on}
 use Rattle.step_ties.proofs.Works.{sent_kept}
 use Rattle.step_ties.proofs.Gone.{packet_goes}
 use Rattle.step_ties.proofs.Leads.{leads_known, leads_row, leads_same}
-use Rattle.node_groups.proofs.NameOrder.{cases_text, row_here, rows_ordered}
+use Rattle.node_state.proofs.NameOrder.{cases_text, row_here, rows_ordered}
 use Rattle.step_ties.proofs.Idle.{Calm, held_with, led_lightens}
 use Rattle.step_ties.proofs.RowWorks.{waits_with, waits_of, row_calm, row_kept}
 use Rattle.step_ties.proofs.Refusals.{refusing, refusal_spares, refusal_sound, refusing_turns}

@@ -22,9 +22,9 @@ use Rattle.source_target.specs.declared.Due.{Due}
 use Rattle.source_target.specs.declared.Due.TheVariants as due
 use Rattle.source_target.specs.Due as target
 use Rattle.client_callbacks.specs.declared.told.Why.TheVariants.{NoSource}
-use Rattle.view_exchange.specs.declared.exchange.Exchange.{Exchange}
-use Rattle.view_core.specs.declared.views.Views.{Views}
-use Rattle.view_core.specs.Views.{is_frozen}
+use Rattle.view_state.specs.declared.exchange.Exchange.{Exchange}
+use Rattle.view_state.specs.declared.views.Views.{Views}
+use Rattle.view_state.specs.Views.{is_frozen}
 use Rattle.node_state.specs.declared.config.Config.{Config}
 use Rattle.node_state.specs.declared.group.Decision.{Decision}
 use Rattle.node_state.specs.declared.group.GroupRow.{GroupRow}
@@ -46,7 +46,7 @@ use Rattle.run_safety.specs.Moves as moves
 use Rattle.step_ties.specs.Ghost.{asking, Ghost, GathersIf}
 use Rattle.step_ties.specs.Tied.{RowIs, Decided, LeaderKeeps, Scene, Begun, Tied}
 use Rattle.step_ties.proofs.Leads.{leads_known, leads_row}
-use Rattle.node_groups.proofs.NameOrder.{row_here}
+use Rattle.node_state.proofs.NameOrder.{row_here}
 use Rattle.step_ties.proofs.RowWorks.{waits_of, row_kept}
 use Rattle.step_ties.proofs.ViewRows.{same_of, apart_of}
 use Rattle.step_ties.proofs.Refusals.{refusing}

@@ -19,14 +19,14 @@ use Rattle.proposal_core.specs.GroupView.{new_list}
 use Rattle.session_state.specs.declared.state.Request.{Request}
 use Rattle.session_state.specs.declared.state.SessionState.{SessionState}
 use Rattle.session_state.specs.HandOn.{hearers}
-use Rattle.view_exchange.specs.declared.install.Source.{Source}
-use Rattle.view_exchange.specs.declared.install.Install.{Install}
-use Rattle.view_exchange.specs.declared.install.Base.{Base}
+use Rattle.view_state.specs.declared.install.Source.{Source}
+use Rattle.view_state.specs.declared.install.Install.{Install}
+use Rattle.view_state.specs.declared.install.Base.{Base}
 use Rattle.view_exchange.specs.Longest.{NamesDiffer}
-use Rattle.view_exchange.proofs.CutLaws.{fit_ends}
-use Rattle.view_exchange.specs.Bases.{source_at, parts_in, parts_from, bases_of, base_named}
-use Rattle.view_core.specs.declared.views.Views.{Views}
-use Rattle.view_core.specs.Views.{own_install, views_entered}
+use Rattle.view_bases.proofs.CutLaws.{fit_ends}
+use Rattle.view_state.specs.Bases.{source_at, parts_in, parts_from, bases_of, base_named}
+use Rattle.view_state.specs.declared.views.Views.{Views}
+use Rattle.view_state.specs.Views.{own_install, views_entered}
 use Rattle.node_state.specs.declared.happened.Happened.{Happened}
 use Rattle.node_state.specs.declared.happened.Happened.TheVariants as happened
 use Rattle.node_state.specs.declared.packet.Packet.{Packet}
@@ -35,7 +35,7 @@ use Rattle.node_state.specs.declared.group.Led.{Led}
 use Rattle.node_state.specs.declared.state.Core.{Core}
 use Rattle.node_state.specs.declared.config.Config.{Config}
 use Rattle.node_state.specs.Settings.{is_fixed}
-use Rattle.node_state.specs.State.{nothing_led, row_found, row_of, list_of, acked_from, decision_of, recorded_all}
+use Rattle.node_state.specs.State.{nothing_led, row_found, row_of, list_of, acked_from, decision_of, recorded_all, has_name}
 use Rattle.node_state.specs.HandOn.{Answering}
 use Rattle.node_state.specs.Applying.{Lacking, lacking_in, lacking, lists_filled, level_set, base_row, base_leader, base_record, view_entered}
 use Rattle.run_safety.specs.ViewOrder.{Lt, Le}
@@ -53,7 +53,6 @@ use Rattle.run_safety.proofs.SightLaws.{kept_append}
 use Rattle.run_safety.proofs.Tracks.{puts_many_own, put_many, has_many}
 use Rattle.run_safety.proofs.Whole.{Whole}
 use Rattle.run_safety.proofs.Lives.{whole, always_same_members}
-use Rattle.node_groups.specs.Places.{has_name}
 use Rattle.step_ties.specs.Ghost.{Ghost, FitIn, Lives, Seen, Goes, Keeps, CarriesIf, part_of, origin_of, BaseIsOf, Installs, InstallsIf}
 use Rattle.step_ties.specs.Tied.{Shows, RowIs, Owed, Owes, LeaderKeeps, Names, Closed, NodeOf, NodeIsIf, ShowsLeader, Scene, Sound, Placed, opening_of, lines_now, InTurn, Turns}
 use Rattle.step_ties.specs.Rows.{at_node}

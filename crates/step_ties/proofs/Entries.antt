@@ -12,7 +12,7 @@ use Rattle.client_callbacks.specs.declared.ballot.Filled.{Filled}
 use Rattle.session_state.specs.declared.state.SessionState.{SessionState}
 use Rattle.session_state.specs.HandOn.{hearers}
 use Rattle.session_state.specs.HandOn as session
-use Rattle.view_core.specs.declared.views.Views.{Views}
+use Rattle.view_state.specs.declared.views.Views.{Views}
 use Rattle.node_state.specs.declared.packet.Body.TheVariants as body
 use Rattle.node_state.specs.declared.packet.Packet.{Packet}
 use Rattle.node_state.specs.declared.state.Core.{Core}
@@ -26,7 +26,7 @@ use Rattle.run_safety.specs.Group.{member}
 use Rattle.run_safety.specs.Group as group
 use Rattle.step_ties.specs.Ghost.{IsStable}
 use Rattle.step_ties.specs.Tied.{ShowsBody, ShowsEntry, KnowsLeader, Scene, Tied}
-use Rattle.node_groups.proofs.NameOrder.{cases_text}
+use Rattle.node_state.proofs.NameOrder.{cases_text}
 use Rattle.step_ties.proofs.RowWorks.{tied_forgets, tied_led_by, tied_acks}
 use Rattle.step_ties.proofs.Acks.{used_is}
 use Rattle.step_ties.proofs.SessionLaws.{handed_later, handed_gone, hearer_has}

@@ -21,11 +21,11 @@ use Rattle.session_state.specs.declared.state.Request.{Request}
 use Rattle.session_state.specs.declared.state.SessionState.{SessionState}
 use Rattle.session_state.specs.HandOn.{hearers, casts_out}
 use Rattle.session_state.specs.HandOn as session
-use Rattle.view_exchange.specs.declared.install.Part.{Part}
-use Rattle.view_exchange.specs.Parts.{part_len}
-use Rattle.view_exchange.specs.Cut.{all_fit, lacking_if, lacking_of}
+use Rattle.view_state.specs.declared.install.Part.{Part}
+use Rattle.view_state.specs.Parts.{part_len}
+use Rattle.view_state.specs.Cut.{all_fit, lacking_if, lacking_of}
 use Rattle.view_exchange.specs.Longest.{NamesDiffer}
-use Rattle.view_exchange.proofs.CutLaws.{fit_ends}
+use Rattle.view_bases.proofs.CutLaws.{fit_ends}
 use Rattle.node_state.specs.declared.happened.Happened.{Happened}
 use Rattle.node_state.specs.declared.happened.Happened.TheVariants as happened
 use Rattle.node_state.specs.declared.group.GroupRow.{GroupRow}
@@ -44,14 +44,14 @@ use Rattle.run_safety.proofs.Order.{lt_refl}
 use Rattle.step_ties.specs.Ghost.{Ghost, FitIn, Keeps, Carries, CarriesIf, part_of}
 use Rattle.step_ties.specs.Tied.{Scene, lines_now, InTurn}
 use Rattle.step_ties.proofs.Works.{Passes, lines_pushed, now_pushed}
-use Rattle.node_groups.proofs.NameOrder.{text_self, text_same, text_other, row_here, row_there, rows_ordered}
+use Rattle.node_state.proofs.NameOrder.{text_self, text_same, text_other, row_here, row_there, rows_ordered}
 use Rattle.step_ties.proofs.SessionLaws.{Later, later_then, handed_later, handed_gone}
 use Rattle.step_ties.proofs.Fits.{fits_more, fits_front}
 use Rattle.step_ties.proofs.Puts.{pushed_keeps}
 use Rattle.step_ties.proofs.Handed.{handed_records}
 use Rattle.step_ties.proofs.Sprinkled.{Sprinkled, Bare, Same, With, sprinkled_on}
 use Rattle.step_ties.proofs.Turns.{Fewer, turn_on, has_pushed_on, put_turn, handed_fewer}
-use Rattle.view_core.specs.declared.views.Views.{Views}
+use Rattle.view_state.specs.declared.views.Views.{Views}
 
 -- an entry more at the end
 lines_pushed_from : (n : ℕ) (v : ViewId) (es : List Entry) (i : ℕ) (e : Entry) (all : List Line) → lines_from n v i (es ++ e ∷ []) all ≡ Kept (Put n v (i + length es) e) ∷ lines_from n v i es all

@@ -5,8 +5,8 @@ use Rattle.group_entry.specs.declared.entry.Entry.{Entry}
 use Rattle.group_entry.specs.Sizes.{entry_len}
 use Rattle.proposal_core.specs.GroupView.{GroupView, new_list}
 use Rattle.proposal_core.specs.Lists.{entry_fits, with_entry}
-use Rattle.view_exchange.specs.Cut.{all_fit}
-use Rattle.view_exchange.proofs.CutLaws.{fit_begins}
+use Rattle.view_state.specs.Cut.{all_fit}
+use Rattle.view_bases.proofs.CutLaws.{fit_begins}
 use Rattle.run_safety.specs.Past.{fold_from}
 use Rattle.run_safety.specs.Bases.{base_state}
 use Rattle.step_ties.specs.Ghost.{Ghost, Keeps, FitIn, bytes_of}

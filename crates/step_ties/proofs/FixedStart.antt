@@ -23,7 +23,7 @@ use Rattle.node_state.specs.Settings.{is_fixed, least_node}
 use Rattle.node_state.specs.State.{row_of, with_sessions, acked_from, decision_of}
 use Rattle.node_state.specs.Applying.{level_set}
 use Rattle.node_state.specs.Step.{started, first_view, first_members, own_rings, ring_record}
-use Rattle.view_core.specs.Views.{views_new}
+use Rattle.view_state.specs.Views.{views_new}
 use Rattle.run_safety.specs.Past.{place_after, view_now}
 use Rattle.run_safety.specs.Sight.{inc_in, lines_with}
 use Rattle.run_safety.specs.Group.{member, Standing, Line, Kept, Noted, Told, In, Put, Begins, kept}

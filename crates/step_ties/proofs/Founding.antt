@@ -12,16 +12,16 @@ use Rattle.rsct_packet.proofs.HasLaws.{has_append, append_has_left, append_has_r
 use Rattle.group_entry.specs.declared.entry.Entry.{Entry}
 use Rattle.group_entry.specs.declared.proposal.Proposal.{Proposal}
 use Rattle.name_server.specs.Names.{node_of}
-use Rattle.view_exchange.specs.declared.exchange.Exchange.{Exchange}
-use Rattle.view_exchange.specs.declared.install.Part.{Part}
-use Rattle.view_exchange.specs.declared.install.Source.{Source}
-use Rattle.view_exchange.specs.declared.install.Install.{Install}
-use Rattle.view_exchange.specs.declared.install.Base.{Base}
-use Rattle.view_exchange.specs.Answers.{install_of}
-use Rattle.view_exchange.specs.Bases.{source_at, parts_from, base_of, bases_of, base_named}
-use Rattle.view_core.specs.declared.packet.ViewPacket.TheVariants as view
-use Rattle.view_core.specs.declared.packet.ViewSend.{ViewSend}
-use Rattle.view_core.specs.Views.{others_of}
+use Rattle.view_state.specs.declared.exchange.Exchange.{Exchange}
+use Rattle.view_state.specs.declared.install.Part.{Part}
+use Rattle.view_state.specs.declared.install.Source.{Source}
+use Rattle.view_state.specs.declared.install.Install.{Install}
+use Rattle.view_state.specs.declared.install.Base.{Base}
+use Rattle.view_state.specs.Answers.{install_of}
+use Rattle.view_state.specs.Bases.{source_at, parts_from, base_of, bases_of, base_named}
+use Rattle.view_state.specs.declared.packet.ViewPacket.TheVariants as view
+use Rattle.view_state.specs.declared.packet.ViewSend.{ViewSend}
+use Rattle.view_state.specs.Views.{others_of}
 use Rattle.node_state.specs.declared.packet.Body.TheVariants as body
 use Rattle.node_state.specs.declared.packet.Packet.{Packet}
 use Rattle.node_state.specs.declared.state.Core.{Core}
@@ -31,7 +31,7 @@ use Rattle.proposal_core.specs.Lists.{list_or_new}
 use Rattle.node_state.specs.Sending.{joins_nodes, ring_network, network_to, level_for, domain_at, packet_on, sent_on, sent}
 use Rattle.node_state.specs.HandOn.{Answering}
 use Rattle.node_state.specs.Applying.{Lacking, lacking_in, lacking, lists_filled, base_leader, view_entered, sides_dissolved, entering_noted, taken_sent, owed_sent, entered, entered_if, install_applied}
-use Rattle.view_exchange.specs.Cut.{lacking_of}
+use Rattle.view_state.specs.Cut.{lacking_of}
 use Rattle.run_safety.specs.ViewOrder.{Lt}
 use Rattle.run_safety.specs.Group.{member, members_of, Standing, Reply, Origin, In, Line, Kept, kept, lines_from}
 use Rattle.run_safety.specs.Group as group
@@ -47,7 +47,7 @@ use Rattle.step_ties.specs.Tied.{ShowsBody, Shows, Names, NodeOf, NodeIsIf, Scen
 use Rattle.step_ties.specs.Rows.{at_node}
 use Rattle.step_ties.proofs.Goes.{Settled, spares_same, seen_on, carries_on, shows_on, rest_on}
 use Rattle.step_ties.proofs.Changed.{changes, set_view, view_here, view_there}
-use Rattle.node_groups.proofs.NameOrder.{text_same, text_self}
+use Rattle.node_state.proofs.NameOrder.{text_same, text_self}
 use Rattle.step_ties.proofs.Works.{tied_views, asked_free}
 use Rattle.step_ties.proofs.Sides.{SourcesAre}
 use Rattle.step_ties.proofs.Replies as replies

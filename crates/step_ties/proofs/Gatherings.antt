@@ -12,16 +12,16 @@ use Rattle.rsct_packet.specs.Mask.{has_node, nodes_of}
 use Rattle.rsct_packet.specs.Search.{Has, insert_before}
 use Rattle.rsct_packet.proofs.HasLaws.{has_append, append_has_left, append_has_right}
 use Rattle.group_entry.specs.declared.entry.Entry.{Entry}
-use Rattle.view_exchange.specs.declared.answer.Answer.{Answer}
-use Rattle.view_exchange.specs.declared.exchange.Exchange.{Exchange}
-use Rattle.view_exchange.specs.declared.install.Part.{Part}
-use Rattle.view_exchange.specs.Answers.{max_parts, opened, has_answered, may_answer, member_of, with_member, with_answer, all_answered}
+use Rattle.view_state.specs.declared.answer.Answer.{Answer}
+use Rattle.view_state.specs.declared.exchange.Exchange.{Exchange}
+use Rattle.view_state.specs.declared.install.Part.{Part}
+use Rattle.view_state.specs.Answers.{max_parts, opened, has_answered, may_answer, member_of, with_member, with_answer, all_answered}
 use Rattle.view_exchange.specs.Longest.{all_counted, NamesDiffer}
 use Rattle.view_exchange.proofs.Edits.{inserted_has, has_inserted}
-use Rattle.view_core.specs.declared.packet.ViewPacket.TheVariants as view
-use Rattle.view_core.specs.declared.packet.ViewSend.{ViewSend}
-use Rattle.view_core.specs.declared.views.Views.{Views}
-use Rattle.view_core.specs.Views.{view_sent_all, gathering_set, promised, gathered, gathers, own_answer, asks_view, next_view, may_ask, ask_if, ask_row, answer_to, answer_row, views_at_work}
+use Rattle.view_state.specs.declared.packet.ViewPacket.TheVariants as view
+use Rattle.view_state.specs.declared.packet.ViewSend.{ViewSend}
+use Rattle.view_state.specs.declared.views.Views.{Views}
+use Rattle.view_state.specs.Views.{view_sent_all, gathering_set, promised, gathered, gathers, own_answer, asks_view, next_view, may_ask, ask_if, ask_row, answer_to, answer_row, views_at_work}
 use Rattle.node_state.specs.declared.packet.Body.TheVariants as body
 use Rattle.node_state.specs.declared.packet.Packet.{Packet}
 use Rattle.node_state.specs.declared.state.Core.{Core}

@@ -10,16 +10,16 @@ use Rattle.group_entry.specs.declared.proposal.Proposal.{Proposal}
 use Rattle.proposal_core.specs.GroupView.{GroupView, new_list}
 use Rattle.proposal_core.specs.Lists.{list_or_new}
 use Rattle.name_server.specs.declared.names.Leader.{Leader}
-use Rattle.view_exchange.specs.declared.answer.Answer.{Answer}
-use Rattle.view_exchange.specs.declared.exchange.Exchange.{Exchange}
-use Rattle.view_exchange.specs.declared.install.Part.{Part}
-use Rattle.view_exchange.specs.declared.install.Install.{Install}
-use Rattle.view_exchange.specs.declared.install.Base.{Base}
-use Rattle.view_exchange.specs.Cut.{all_fit}
-use Rattle.view_exchange.specs.Bases.{bases_of, base_named}
-use Rattle.view_core.specs.declared.packet.ViewPacket.{ViewPacket}
-use Rattle.view_core.specs.declared.packet.ViewPacket.TheVariants as view
-use Rattle.view_core.specs.declared.views.Views.{Views}
+use Rattle.view_state.specs.declared.answer.Answer.{Answer}
+use Rattle.view_state.specs.declared.exchange.Exchange.{Exchange}
+use Rattle.view_state.specs.declared.install.Part.{Part}
+use Rattle.view_state.specs.declared.install.Install.{Install}
+use Rattle.view_state.specs.declared.install.Base.{Base}
+use Rattle.view_state.specs.Cut.{all_fit}
+use Rattle.view_state.specs.Bases.{bases_of, base_named}
+use Rattle.view_state.specs.declared.packet.ViewPacket.{ViewPacket}
+use Rattle.view_state.specs.declared.packet.ViewPacket.TheVariants as view
+use Rattle.view_state.specs.declared.views.Views.{Views}
 use Rattle.session_state.specs.declared.state.Request.{Request}
 use Rattle.session_state.specs.declared.state.SessionState.{SessionState}
 use Rattle.node_state.specs.declared.config.Config.{Config}

@@ -8,13 +8,13 @@ use Rattle.rsct_packet.specs.Search.{Has}
 use Rattle.rsct_packet.proofs.HasLaws.{find_has}
 use Rattle.group_entry.specs.declared.entry.Entry.{Entry}
 use Rattle.proposal_core.specs.GroupView.{GroupView}
-use Rattle.view_exchange.specs.declared.exchange.Exchange.{Exchange}
-use Rattle.view_exchange.specs.declared.install.Part.{Part}
-use Rattle.view_exchange.specs.declared.install.Source.{Source}
-use Rattle.view_exchange.specs.Parts.{part_len}
-use Rattle.view_exchange.specs.Cut.{all_fit, lacking_if, lacking_of}
-use Rattle.view_exchange.specs.Answers.{install_of}
-use Rattle.view_exchange.specs.Bases.{source_at, parts_in, parts_from}
+use Rattle.view_state.specs.declared.exchange.Exchange.{Exchange}
+use Rattle.view_state.specs.declared.install.Part.{Part}
+use Rattle.view_state.specs.declared.install.Source.{Source}
+use Rattle.view_state.specs.Parts.{part_len}
+use Rattle.view_state.specs.Cut.{all_fit, lacking_if, lacking_of}
+use Rattle.view_state.specs.Answers.{install_of}
+use Rattle.view_state.specs.Bases.{source_at, parts_in, parts_from}
 use Rattle.node_state.specs.declared.state.Core.{Core}
 use Rattle.node_state.specs.State.{row_of, list_of}
 use Rattle.node_state.specs.Applying.{Lacking, lacking_in, lacking}

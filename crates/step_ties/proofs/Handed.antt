@@ -17,7 +17,7 @@ use Rattle.session_state.specs.declared.state.SessionState.{SessionState}
 use Rattle.session_state.specs.HandOn.{hearers, casts_out}
 use Rattle.session_state.specs.HandOn as session
 use Rattle.subscribe_core.specs.Subs.{is_of_group, differs}
-use Rattle.view_core.specs.declared.views.Views.{Views}
+use Rattle.view_state.specs.declared.views.Views.{Views}
 use Rattle.node_state.specs.declared.happened.Happened.{Happened}
 use Rattle.node_state.specs.declared.happened.Happened.TheVariants as happened
 use Rattle.node_state.specs.declared.packet.Body.TheVariants as body
@@ -37,7 +37,7 @@ use Rattle.step_ties.specs.Tied.{Scene, lines_now, Tied}
 use Rattle.step_ties.proofs.Goes.{Spares, Still, still_spares, sound_on, node_if_on, shows_on}
 use Rattle.step_ties.proofs.Works.{Passes, lines_pushed, placed_pushed, tied_sent}
 use Rattle.std.specs.Str.{bytes_eq}
-use Rattle.node_groups.proofs.NameOrder.{cases_text, text_self, text_other}
+use Rattle.node_state.proofs.NameOrder.{cases_text, text_self, text_other}
 use Rattle.step_ties.proofs.SessionLaws.{cast_has}
 use Rattle.step_ties.proofs.Puts.{After}
 use Rattle.step_ties.proofs.Turns.{turns_pushed}

@@ -12,7 +12,7 @@ use Rattle.node_state.specs.declared.group.Led.{Led}
 use Rattle.node_state.specs.declared.state.Core.{Core}
 use Rattle.node_state.specs.State.{InNameOrder, new_row, row_of, rows_with, with_row, list_forgotten}
 use Rattle.run_safety.specs.Group.{member}
-use Rattle.node_groups.proofs.NameOrder.{KeepsName, cases_text, row_here, row_there}
+use Rattle.node_state.proofs.NameOrder.{KeepsName, cases_text, row_here, row_there}
 use Rattle.step_ties.specs.Ghost.{Ghost}
 use Rattle.step_ties.specs.Tied.{rows_held, Idles}
 

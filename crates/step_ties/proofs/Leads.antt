@@ -8,13 +8,12 @@ use Rattle.node_state.specs.declared.group.GroupRow.{GroupRow}
 use Rattle.node_state.specs.declared.group.Led.{Led}
 use Rattle.node_state.specs.declared.state.Core.{Core}
 use Rattle.node_state.specs.Settings.{is_fixed}
-use Rattle.node_state.specs.State.{InNameOrder, row_found, row_of, with_row, with_led, is_this, leader_by, leader_in, leader_of, leads_in, leads}
+use Rattle.node_state.specs.State.{InNameOrder, row_found, row_of, with_row, with_led, is_this, leader_by, leader_in, leader_of, leads_in, leads, has_name}
 use Rattle.run_safety.specs.Group.{member}
 use Rattle.run_safety.proofs.Whole.{Whole}
 use Rattle.run_safety.proofs.Lives.{whole}
-use Rattle.node_groups.specs.Places.{has_name}
 use Rattle.step_ties.specs.Tied.{ShowsLeader, KnowsLeader, Scene, opening_of, Tied}
-use Rattle.node_groups.proofs.NameOrder.{KeepsName, cases_text, row_here, row_there}
+use Rattle.node_state.proofs.NameOrder.{KeepsName, cases_text, row_here, row_there}
 
 -- who is known to lead leads: in mode fixed the coordinator
 pub known_leads : (g : List ℕ) (w : Scene) (n : ℕ) (s : Core) (t : Tied g w n s) (m : ℕ) → leader_of s g ≡ Some m → ShowsLeader t.ghost s.views.view m

@@ -11,13 +11,12 @@ use Rattle.group_entry.specs.declared.proposal.Cause.TheVariants.{Died}
 use Rattle.batch_rules.specs.Waiting.{waits_failure}
 use Rattle.node_state.specs.declared.group.GroupRow.{GroupRow}
 use Rattle.node_state.specs.declared.state.Core.{Core}
-use Rattle.node_state.specs.State.{AllAfter, InNameOrder, row_found, row_of, leads_in, leads, led_groups, state_of}
+use Rattle.node_state.specs.State.{AllAfter, InNameOrder, row_found, row_of, leads_in, leads, led_groups, state_of, has_name}
 use Rattle.node_state.specs.HandOn.{Answering}
 use Rattle.node_state.specs.Leading.{with_waiting, tally_opened}
 use Rattle.node_state.specs.Applying.{failed_wait, phase_reopened, group_led, groups_led}
-use Rattle.node_groups.specs.Places.{has_name}
 use Rattle.step_ties.specs.Tied.{Scene, Tied}
-use Rattle.node_groups.proofs.NameOrder.{text_same, text_self, lt_self}
+use Rattle.node_state.proofs.NameOrder.{text_same, text_self, lt_self}
 use Rattle.step_ties.proofs.Appending.{Leading, waits_goes, opened_goes, closed_goes}
 
 -- ---- rows by their names

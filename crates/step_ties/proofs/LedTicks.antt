@@ -12,8 +12,8 @@ use Rattle.proposal_core.specs.declared.group_state.Running.{Running}
 use Rattle.proposal_core.specs.GroupView.{GroupView}
 use Rattle.proposal_core.specs.Lists.{list_or_new, len_in}
 use Rattle.vote_phases.specs.Tally.{TallyView, expires, open_voters}
-use Rattle.view_core.specs.declared.views.Views.{Views}
-use Rattle.view_core.specs.Views.{is_frozen, others_of}
+use Rattle.view_state.specs.declared.views.Views.{Views}
+use Rattle.view_state.specs.Views.{is_frozen, others_of}
 use Rattle.node_state.specs.declared.packet.Body.TheVariants as body
 use Rattle.node_state.specs.declared.state.Core.{Core}
 use Rattle.node_state.specs.State.{row_of, led_of, state_of, fits_at_end, frozen, leads, led_groups, others, acked_from, acked_by, least_acked}
@@ -26,7 +26,7 @@ use Rattle.run_safety.specs.Group as group
 use Rattle.step_ties.specs.Ghost.{Ghost, KeepsIf, IsStable}
 use Rattle.step_ties.specs.Tied.{RowIs, Scene, Tied}
 use Rattle.step_ties.proofs.Works.{sent_kept, tied_sent}
-use Rattle.node_groups.proofs.NameOrder.{cases_text}
+use Rattle.node_state.proofs.NameOrder.{cases_text}
 use Rattle.step_ties.proofs.ViewRows.{same_of}
 use Rattle.step_ties.proofs.Leads.{leads_same, leads_known}
 use Rattle.step_ties.proofs.Acks.{settled, fold_least}

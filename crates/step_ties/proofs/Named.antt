@@ -16,8 +16,8 @@ use Rattle.name_server.specs.Names as names
 use Rattle.client_callbacks.specs.declared.told.Why.TheVariants.{GroupsFull}
 use Rattle.session_state.specs.declared.state.Request.{Request}
 use Rattle.session_state.specs.declared.state.SessionState.{SessionState}
-use Rattle.view_core.specs.declared.views.Views.{Views}
-use Rattle.view_core.specs.Views.{is_coordinator}
+use Rattle.view_state.specs.declared.views.Views.{Views}
+use Rattle.view_state.specs.Views.{is_coordinator}
 use Rattle.node_state.specs.declared.config.Config.{Config}
 use Rattle.node_state.specs.declared.group.GroupRow.{GroupRow}
 use Rattle.node_state.specs.declared.group.Led.{Led}
@@ -45,7 +45,7 @@ use Rattle.step_ties.specs.Tied.{Stands, ShowsBody, ShowsLeader, KnowsLeader, Le
 use Rattle.step_ties.proofs.Goes.{Spares, owes_by, decides_by, node_by, shows_on, node_if_on}
 use Rattle.step_ties.proofs.Changed.{set_view, view_here, view_there}
 use Rattle.step_ties.proofs.Works.{asked_free, tied_sent}
-use Rattle.node_groups.proofs.NameOrder.{text_same, text_self, text_other, cases_text}
+use Rattle.node_state.proofs.NameOrder.{text_same, text_self, text_other, cases_text}
 use Rattle.step_ties.proofs.Begins.{opening_alone}
 use Rattle.step_ties.proofs.Acks.{used_is}
 use Rattle.step_ties.proofs.RowWorks.{tied_led_by}

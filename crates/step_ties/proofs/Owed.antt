@@ -34,7 +34,7 @@ use Rattle.step_ties.proofs.Goes.{Spares, sound_on, shows_on, node_on}
 use Rattle.step_ties.proofs.Changed.{has_pushed}
 use Rattle.step_ties.proofs.Works.{tied_on, tied_sent}
 use Rattle.step_ties.proofs.Gone.{with_packet, packet_goes, packet_still, packet_spares}
-use Rattle.node_groups.proofs.NameOrder.{cases_text}
+use Rattle.node_state.proofs.NameOrder.{cases_text}
 use Rattle.step_ties.proofs.Leads.{known_leads, unknown_asks}
 
 module _ (g : List ℕ) (w : Scene) (n : ℕ) where

@@ -8,15 +8,14 @@ use Rattle.proposal_core.specs.GroupView.{GroupView}
 use Rattle.proposal_core.specs.Lists.{list_or_new}
 use Rattle.rsct_packet.specs.Search.{Has}
 use Rattle.rsct_packet.specs.Text.{name_lt}
-use Rattle.view_exchange.specs.declared.install.Part.{Part}
+use Rattle.view_state.specs.declared.install.Part.{Part}
 use Rattle.view_exchange.specs.Longest.{NamesDiffer}
 use Rattle.node_state.specs.declared.group.GroupRow.{GroupRow}
 use Rattle.node_state.specs.declared.state.Core.{Core}
-use Rattle.node_state.specs.State.{AllAfter, InNameOrder, row_found, row_of, held_rows}
+use Rattle.node_state.specs.State.{AllAfter, InNameOrder, row_found, row_of, held_rows, has_name}
 use Rattle.node_state.specs.Applying.{part_of_list, own_parts}
-use Rattle.node_groups.specs.Places.{has_name}
 use Rattle.step_ties.specs.Ghost.{Ghost, KeepsIf, CarriesIf, part_of, IsStable}
-use Rattle.node_groups.proofs.NameOrder.{text_same, lt_self, none_after}
+use Rattle.node_state.proofs.NameOrder.{text_same, lt_self, none_after}
 
 abbrev part_in : GroupRow → Part
 part_in row = record { name = row.name; start = (list_or_new row.list).start; state = (list_or_new row.list).state; entries = (list_or_new row.list).entries }

@@ -12,7 +12,7 @@ use Rattle.proposal_core.specs.declared.group_state.GroupState.{GroupState}
 use Rattle.proposal_core.specs.Fold.{after}
 use Rattle.proposal_core.specs.GroupView.{GroupView, new_list}
 use Rattle.proposal_core.specs.Lists.{list_or_new, with_entry}
-use Rattle.view_exchange.specs.Cut.{all_fit}
+use Rattle.view_state.specs.Cut.{all_fit}
 use Rattle.session_state.specs.declared.state.Request.{Request}
 use Rattle.session_state.specs.declared.state.SessionState.{SessionState}
 use Rattle.node_state.specs.declared.happened.Happened.TheVariants as happened
@@ -38,7 +38,7 @@ use Rattle.step_ties.proofs.Goes.{Spares, Still, still_spares, sound_on, node_if
 use Rattle.step_ties.proofs.Idle.{idles_with}
 use Rattle.step_ties.proofs.Changed.{set_here, set_there, changes, incs_set}
 use Rattle.step_ties.proofs.Works.{lines_pushed, placed_pushed}
-use Rattle.node_groups.proofs.NameOrder.{text_self, text_other, row_here, row_there, rows_ordered}
+use Rattle.node_state.proofs.NameOrder.{text_self, text_other, row_here, row_there, rows_ordered}
 use Rattle.step_ties.proofs.RowWorks.{keeps_of, waits_with, waits_of}
 use Rattle.step_ties.proofs.SessionLaws.{Later, owes_later}
 use Rattle.step_ties.proofs.Fits.{fits_one, bytes_pushed}

@@ -21,18 +21,18 @@ use Rattle.rsct_packet.proofs.MaskLaws.{has_is_node}
 use Rattle.group_entry.specs.declared.entry.Entry.{Entry}
 use Rattle.proposal_core.specs.declared.group_state.GroupState.{GroupState}
 use Rattle.proposal_core.specs.Fold.{empty_state, present, joiners_in}
-use Rattle.view_exchange.specs.declared.answer.Answer.{Answer}
-use Rattle.view_exchange.specs.declared.exchange.Exchange.{Exchange}
-use Rattle.view_exchange.specs.declared.install.Part.{Part}
-use Rattle.view_exchange.specs.declared.install.Source.{Source}
-use Rattle.view_exchange.specs.declared.install.Install.{Install}
-use Rattle.view_exchange.specs.declared.install.Base.{Base}
-use Rattle.view_exchange.specs.Parts.{part_len}
-use Rattle.view_exchange.specs.Answers.{source_of, install_of}
-use Rattle.view_exchange.specs.Bases.{Candidate, candidates, beats, source_at, is_live_from, leader_from, base_from, base_of_best, base_of, with_name, names_in, bases_for, bases_of, base_named, IsCandidate, IsBaseOf}
-use Rattle.view_exchange.specs.Bases as exchange
+use Rattle.view_state.specs.declared.answer.Answer.{Answer}
+use Rattle.view_state.specs.declared.exchange.Exchange.{Exchange}
+use Rattle.view_state.specs.declared.install.Part.{Part}
+use Rattle.view_state.specs.declared.install.Source.{Source}
+use Rattle.view_state.specs.declared.install.Install.{Install}
+use Rattle.view_state.specs.declared.install.Base.{Base}
+use Rattle.view_state.specs.Parts.{part_len}
+use Rattle.view_state.specs.Answers.{source_of, install_of}
+use Rattle.view_state.specs.Bases.{Candidate, candidates, beats, source_at, is_live_from, leader_from, base_from, base_of_best, base_of, with_name, names_in, bases_for, bases_of, base_named, IsCandidate, IsBaseOf}
+use Rattle.view_state.specs.Bases as exchange
 use Rattle.view_exchange.specs.Longest.{Brings, NoWorse, CarriesLongest, NamesDiffer}
-use Rattle.view_exchange.proofs.Bases.{base_is, leader_found, leader_none}
+use Rattle.view_bases.proofs.Bases.{base_is, leader_found, leader_none}
 use Rattle.view_exchange.proofs.Longest.{longest_are_carried}
 use Rattle.run_safety.specs.ViewOrder.{is_before, is_same, Lt, Le}
 use Rattle.run_safety.specs.Group.{member, members_of, Standing, Reply, Origin}
@@ -42,7 +42,7 @@ use Rattle.run_safety.specs.Moves.{Longest, Collected}
 use Rattle.run_safety.proofs.Order.{eq_true, eq_same}
 use Rattle.run_safety.proofs.Past.{member_reply, reply_member}
 use Rattle.step_ties.specs.Ghost.{Ghost, Seen, Carries, CarriesIf, part_of, Gathers, origin_of}
-use Rattle.node_groups.proofs.NameOrder.{text_same, text_self}
+use Rattle.node_state.proofs.NameOrder.{text_same, text_self}
 use Rattle.step_ties.proofs.BaseOrder.{base_name}
 use Rattle.step_ties.proofs.Acks.{has_member}
 use Rattle.step_ties.proofs.Sides.{SourcesAre, sources_are}

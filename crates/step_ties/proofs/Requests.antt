@@ -13,7 +13,7 @@ use Rattle.group_entry.specs.declared.proposal.Proposal.{Proposal}
 use Rattle.group_entry.specs.declared.proposal.Proposal.TheVariants.{Join, Leave, Fail, Expel, State, Message, Attributes, Reflect}
 use Rattle.proposal_core.specs.GroupView.{GroupView}
 use Rattle.client_callbacks.specs.declared.told.Why.{Why}
-use Rattle.view_core.specs.declared.views.Views.{Views}
+use Rattle.view_state.specs.declared.views.Views.{Views}
 use Rattle.node_state.specs.declared.config.Config.{Config}
 use Rattle.node_state.specs.declared.config.Mode.{Mode}
 use Rattle.node_state.specs.declared.config.Mode.TheVariants.{Fixed, Asked, Rings}
@@ -38,7 +38,7 @@ use Rattle.step_ties.specs.Ghost.{asking, Ghost, Goes, Seen, KeepsIf}
 use Rattle.step_ties.specs.Tied.{ShowsBody, ShowsLeader, ShowsRequest, KnowsLeader, rows_held, Closed, NodeOf, Sound, Scene, Begun, Tied}
 use Rattle.step_ties.proofs.Goes.{Spares, owes_by, decides_by, node_by, shows_on, node_if_on}
 use Rattle.step_ties.proofs.Works.{tied_sent}
-use Rattle.node_groups.proofs.NameOrder.{cases_text, row_here}
+use Rattle.node_state.proofs.NameOrder.{cases_text, row_here}
 use Rattle.step_ties.proofs.Acks.{used_is, member_self}
 use Rattle.step_ties.proofs.RowWorks.{led_by_kept}
 use Rattle.step_ties.proofs.Decisions.{Newer, Ripe}

@@ -11,8 +11,8 @@ use Rattle.rsct_packet.specs.Search.{Has}
 use Rattle.group_entry.specs.declared.entry.Entry.{Entry}
 use Rattle.proposal_core.specs.GroupView.{GroupView, new_list}
 use Rattle.proposal_core.specs.Lists.{list_or_new, forgotten}
-use Rattle.view_exchange.specs.Cut.{all_fit}
-use Rattle.view_exchange.proofs.CutLaws.{fit_ends}
+use Rattle.view_state.specs.Cut.{all_fit}
+use Rattle.view_bases.proofs.CutLaws.{fit_ends}
 use Rattle.node_state.specs.declared.packet.Body.TheVariants as body
 use Rattle.node_state.specs.declared.packet.Packet.{Packet}
 use Rattle.node_state.specs.declared.group.GroupRow.{GroupRow}
@@ -29,7 +29,7 @@ use Rattle.step_ties.proofs.Goes.{Spares, sound_on, shows_on, node_on}
 use Rattle.step_ties.proofs.Idle.{Holds, Calm, Lightens, calm_of, calm_lighter, idles_with, leader_lightens, forgets_lighten}
 use Rattle.step_ties.proofs.Changed.{has_pushed}
 use Rattle.step_ties.proofs.Works.{tied_on}
-use Rattle.node_groups.proofs.NameOrder.{KeepsName, cases_text, row_here, row_there, rows_ordered}
+use Rattle.node_state.proofs.NameOrder.{KeepsName, cases_text, row_here, row_there, rows_ordered}
 use Rattle.step_ties.proofs.Gone.{with_packet, packet_goes, packet_still, packet_spares}
 use Rattle.step_ties.proofs.Turns.{packet_turns}
 

@@ -34,7 +34,7 @@ use Rattle.step_ties.specs.Ghost.{asking, Ghost, Goes}
 use Rattle.step_ties.specs.Tied.{Numbered, ShowsBody, Owed, NodeOf, Scene, opening_of, lines_now, Tied, InTurn}
 use Rattle.step_ties.proofs.Goes.{Spares, Still, still_spares, sound_on, decides_by, node_by, shows_on, node_if_on}
 use Rattle.step_ties.proofs.Works.{lines_pushed, placed_pushed}
-use Rattle.node_groups.proofs.NameOrder.{cases_text}
+use Rattle.node_state.proofs.NameOrder.{cases_text}
 use Rattle.step_ties.proofs.Acks.{used_is}
 use Rattle.step_ties.proofs.SessionLaws.{Later, later_without, owes_later, provider_self, provider_same}
 use Rattle.step_ties.proofs.Turns.{turns_pushed, turns_sessions, told_turn}

@@ -9,11 +9,11 @@ use Rattle.rsct_packet.specs.Ids.{same_view, view_lt}
 use Rattle.rsct_packet.specs.Mask.{has_node, with_node}
 use Rattle.rsct_packet.specs.Search.{Has}
 use Rattle.rsct_packet.proofs.HasLaws.{append_has_right}
-use Rattle.view_exchange.specs.declared.exchange.Exchange.{Exchange}
-use Rattle.view_exchange.specs.Answers.{max_parts}
-use Rattle.view_core.specs.declared.packet.ViewPacket.TheVariants as view
-use Rattle.view_core.specs.declared.views.Views.{Views}
-use Rattle.view_core.specs.Views.{view_sent, promised, answered, prepared, prepare_row, refused_by, refuse_to, refuse_row, taken_row, views_at_work}
+use Rattle.view_state.specs.declared.exchange.Exchange.{Exchange}
+use Rattle.view_state.specs.Answers.{max_parts}
+use Rattle.view_state.specs.declared.packet.ViewPacket.TheVariants as view
+use Rattle.view_state.specs.declared.views.Views.{Views}
+use Rattle.view_state.specs.Views.{view_sent, promised, answered, prepared, prepare_row, refused_by, refuse_to, refuse_row, taken_row, views_at_work}
 use Rattle.node_state.specs.declared.packet.Body.TheVariants as body
 use Rattle.node_state.specs.declared.packet.Packet.{Packet}
 use Rattle.node_state.specs.declared.state.Core.{Core}

@@ -4,7 +4,7 @@ use Rattle.std.specs.Prelude.{not, reverse}
 use Rattle.std.proofs.lemmas.List.{reverse-append, append-nil}
 use Rattle.rsct_packet.specs.Search.{Has}
 use Rattle.rsct_packet.specs.declared.ids.ViewId.{ViewId}
-use Rattle.view_core.specs.declared.views.Views.{Views}
+use Rattle.view_state.specs.declared.views.Views.{Views}
 use Rattle.node_state.specs.declared.config.Config.{Config}
 use Rattle.node_state.specs.declared.happened.Happened.{Happened}
 use Rattle.node_state.specs.declared.packet.Body.{Body}

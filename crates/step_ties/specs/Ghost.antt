@@ -10,16 +10,16 @@ use Rattle.rsct_packet.specs.Search.{Has}
 use Rattle.group_entry.specs.declared.entry.Entry.{Entry}
 use Rattle.group_entry.specs.Sizes.{entry_len}
 use Rattle.proposal_core.specs.GroupView.{GroupView, new_list}
-use Rattle.view_exchange.specs.declared.answer.Answer.{Answer}
-use Rattle.view_exchange.specs.declared.exchange.Exchange.{Exchange}
-use Rattle.view_exchange.specs.declared.install.Part.{Part}
-use Rattle.view_exchange.specs.declared.install.Source.{Source}
-use Rattle.view_exchange.specs.declared.install.Install.{Install}
-use Rattle.view_exchange.specs.declared.install.Base.{Base}
-use Rattle.view_exchange.specs.Answers.{opened}
-use Rattle.view_exchange.specs.Cut.{all_fit}
+use Rattle.view_state.specs.declared.answer.Answer.{Answer}
+use Rattle.view_state.specs.declared.exchange.Exchange.{Exchange}
+use Rattle.view_state.specs.declared.install.Part.{Part}
+use Rattle.view_state.specs.declared.install.Source.{Source}
+use Rattle.view_state.specs.declared.install.Install.{Install}
+use Rattle.view_state.specs.declared.install.Base.{Base}
+use Rattle.view_state.specs.Answers.{opened}
+use Rattle.view_state.specs.Cut.{all_fit}
 use Rattle.view_exchange.specs.Longest.{all_counted, NamesDiffer}
-use Rattle.view_exchange.specs.Bases.{source_at, bases_of, base_named}
+use Rattle.view_state.specs.Bases.{source_at, bases_of, base_named}
 use Rattle.run_safety.specs.ViewOrder.{Lt}
 use Rattle.run_safety.specs.Group.{member, members_of, Standing, Reply, Origin, Packet, Line, In, kept}
 use Rattle.run_safety.specs.Group as group

@@ -13,8 +13,8 @@ use Rattle.group_attr.specs.declared.attrs.Phases.{Phases}
 use Rattle.group_entry.specs.declared.proposal.Proposal.{Proposal}
 use Rattle.group_entry.specs.declared.entry.Entry.{Entry}
 use Rattle.group_entry.specs.declared.entry.Vote.{Vote}
-use Rattle.view_core.specs.declared.packet.ViewPacket.{ViewPacket}
-use Rattle.view_core.specs.declared.packet.ViewPacket.TheVariants as view
+use Rattle.view_state.specs.declared.packet.ViewPacket.{ViewPacket}
+use Rattle.view_state.specs.declared.packet.ViewPacket.TheVariants as view
 use Rattle.client_callbacks.specs.declared.told.Why.{Why}
 use Rattle.node_state.specs.Ending.{step_ended}
 use Rattle.node_state.specs.declared.call.CallLine.{CallLine}
@@ -28,12 +28,12 @@ use Rattle.node_state.specs.declared.packet.Packet.{Packet}
 use Rattle.node_state.specs.declared.state.Core.{Core}
 use Rattle.node_state.specs.Settings.{is_fixed}
 use Rattle.node_state.specs.HandOn.{Answering}
-use Rattle.view_exchange.specs.declared.install.Part.{Part}
-use Rattle.view_exchange.specs.declared.install.Install.{Install}
-use Rattle.view_exchange.specs.declared.exchange.Exchange.{Exchange}
-use Rattle.view_exchange.specs.Answers.{opened, with_answer, all_answered}
-use Rattle.view_core.specs.declared.views.RingAsk.{RingAsk}
-use Rattle.view_core.specs.Views.{own_answer, next_view}
+use Rattle.view_state.specs.declared.install.Part.{Part}
+use Rattle.view_state.specs.declared.install.Install.{Install}
+use Rattle.view_state.specs.declared.exchange.Exchange.{Exchange}
+use Rattle.view_state.specs.Answers.{opened, with_answer, all_answered}
+use Rattle.view_state.specs.declared.views.RingAsk.{RingAsk}
+use Rattle.view_state.specs.Views.{own_answer, next_view}
 use Rattle.node_state.specs.Applying.{own_parts}
 use Rattle.node_state.specs.Ticks.{ring_ask, rings_part, views_part, owed_part, led_part}
 use Rattle.node_state.specs.Step.{NodeEvent, Ticks, Asks, Given, Calls, Garbage, order_row, at_work, started, view_row, body_row, packet_row, stepped}

@@ -3,15 +3,16 @@ ghost use Rattle.std.specs.Prelude.{◌≡◌, ◌==◌, ◌&&◌, not, OnOk};
 ghost use Rattle.rsct_packet.specs.Ids.{same_view, view_lt};
 ghost use Rattle.rsct_packet.specs.Mask.{has_node};
 ghost use Rattle.view_exchange.specs.InPlace.{answer_in};
-ghost use Rattle.view_core.specs.Views.{ask_row, answered, prepared, prepare_row, answer_row, refuse_row, install_row, taken_row};
+ghost use Rattle.view_state.specs.Views.{ask_row, answered, prepared, prepare_row, answer_row, refuse_row, install_row, taken_row};
 
 use crate::lists::OwnLists;
-use crate::packet::ViewPacket;
-use crate::views::{ViewWork, Views};
-use crate::work::{MAX_PARTS, nodes_but};
+use crate::work::{
+    MAX_PARTS, gather_on, may_ask, next_view, nodes_but, own_answer, promise, send, send_prepare,
+};
 use rsct_packet::{Mask, NoMemory, ViewId};
 use std::alloc::Global;
-use view_exchange::{AnswerRef, Exchange, Install};
+use view_exchange::{AnswerRef, add_answer};
+use view_state::{Exchange, Install, ViewPacket, ViewWork, Views};
 
 /// How a node is asked for a view: above its promise; once more, while it has not entered it; or, whoever asks, below
 /// its promise.
@@ -22,176 +23,172 @@ struct Asked {
     is_lower: bool,
 }
 
-impl Views {
-    /// Does the view's coordinator ask, and is this node one of those asked?
-    fn is_asked(&self, from: u8, inc: u32, view: ViewId, mask: Mask) -> bool
-        ensures { result ≡ (view.coord == from && view.inc == inc && has_node mask self.now.me) }
-    {
-        view.coord == from && view.inc == inc && mask.has(self.me)
-    }
+/// Does the view's coordinator ask, and is this node one of those asked?
+fn is_asked(views: &Views, from: u8, inc: u32, view: ViewId, mask: Mask) -> bool
+    ensures { result ≡ (view.coord == from && view.inc == inc && has_node mask views.now.me) }
+{
+    view.coord == from && view.inc == inc && mask.has(views.me)
+}
 
-    fn asked(&self, from: u8, inc: u32, view: ViewId, mask: Mask) -> Asked
-        ensures higher { result.is_higher ≡ ((view.coord == from && view.inc == inc && has_node mask self.now.me) && view_lt self.now.promise view) }
-        ensures again { result.is_again ≡ ((view.coord == from && view.inc == inc && has_node mask self.now.me) && same_view view self.now.promise && not (same_view view self.now.view)) }
-        ensures lower { result.is_lower ≡ view_lt view self.now.promise }
-    {
-        let is_asked = self.is_asked(from, inc, view, mask);
-        Asked {
-            is_higher: is_asked && self.promise < view,
-            is_again: is_asked && view == self.promise && view != self.view,
-            is_lower: view < self.promise,
+fn how_asked(views: &Views, from: u8, inc: u32, view: ViewId, mask: Mask) -> Asked
+    ensures higher { result.is_higher ≡ ((view.coord == from && view.inc == inc && has_node mask views.now.me) && view_lt views.now.promise view) }
+    ensures again { result.is_again ≡ ((view.coord == from && view.inc == inc && has_node mask views.now.me) && same_view view views.now.promise && not (same_view view views.now.view)) }
+    ensures lower { result.is_lower ≡ view_lt view views.now.promise }
+{
+    let is_asked = is_asked(views, from, inc, view, mask);
+    Asked {
+        is_higher: is_asked && views.promise < view,
+        is_again: is_asked && view == views.promise && view != views.view,
+        is_lower: view < views.promise,
+    }
+}
+
+/// An order to ask these nodes for a view. The node promises it, and its own answer is the first. An own answer
+/// without a spelling leaves the promise, and nobody is asked.
+#[tactic(auto, unfolding(view_state::specs::Views::ask_row, view_state::specs::Views::ask_if, view_state::specs::Views::asks_view, view_state::specs::Views::may_ask))]
+pub(crate) fn ask_row<L: OwnLists>(
+    work: &mut ViewWork,
+    alloc: Global,
+    mask: Mask,
+    lists: &L,
+) -> Result<(), NoMemory>
+    ensures { OnOk result (work.new ≡ ask_row work.old mask (L.parts_of lists.now)) }
+{
+    if !may_ask(&work.views, mask) {
+        return Ok(());
+    }
+    let view = next_view(&work.views);
+    if lists.count() > MAX_PARTS {
+        promise(work, view);
+        return Ok(());
+    }
+    let own = own_answer(&work.views, alloc, lists)?;
+    let to = nodes_but(alloc, work.views.me, mask)?;
+    promise(work, view);
+    send_prepare(work, to.as_slice(), view, mask)?;
+    let g = Exchange::open_with(alloc, view, mask, own)?;
+    gather_on(work, alloc, g)
+}
+
+/// Answers for a view. An answer without a spelling is not sent.
+#[tactic(auto, unfolding(view_state::specs::Views::answered))]
+fn answer<L: OwnLists>(
+    work: &mut ViewWork,
+    alloc: Global,
+    view: ViewId,
+    lists: &L,
+) -> Result<(), NoMemory>
+    ensures { OnOk result (work.new ≡ answered work.old view (L.parts_of lists.now)) }
+{
+    if lists.count() > MAX_PARTS {
+        return Ok(());
+    }
+    let parts = lists.parts(alloc)?;
+    let old = work.views.view;
+    send(work, view.coord, ViewPacket::Answer { view, old, parts })
+}
+
+/// What comes above the promise is promised, the promise that is not entered yet is answered again, and what comes
+/// below the promise is refused.
+#[tactic(auto, unfolding(view_state::specs::Views::prepared))]
+fn prepare<L: OwnLists>(
+    work: &mut ViewWork,
+    alloc: Global,
+    view: ViewId,
+    asked: Asked,
+    lists: &L,
+) -> Result<(), NoMemory>
+    ensures { OnOk result (work.new ≡ prepared work.old view (L.parts_of lists.now) asked.is_higher asked.is_again asked.is_lower) }
+{
+    if asked.is_higher {
+        promise(work, view);
+        return answer(work, alloc, view, lists);
+    }
+    if asked.is_again {
+        return answer(work, alloc, view, lists);
+    }
+    if asked.is_lower {
+        let number = work.views.promise.number;
+        return send(work, view.coord, ViewPacket::Refuse { view, number });
+    }
+    Ok(())
+}
+
+/// PREPARE, from a node in an incarnation: only the coordinator of the view asks for it, and only the nodes of the
+/// set.
+#[tactic(auto, unfolding(view_state::specs::Views::prepare_row))]
+pub(crate) fn prepare_row<L: OwnLists>(
+    work: &mut ViewWork,
+    alloc: Global,
+    from: u8,
+    inc: u32,
+    view: ViewId,
+    mask: Mask,
+    lists: &L,
+) -> Result<(), NoMemory>
+    ensures { OnOk result (work.new ≡ prepare_row work.old from inc view mask (L.parts_of lists.now)) }
+{
+    let asked = how_asked(&work.views, from, inc, view, mask);
+    prepare(work, alloc, view, asked, lists)
+}
+
+/// ANSWER: the first of a node that was asked for the view counts.
+#[tactic(auto, unfolding(view_state::specs::Views::answer_row, view_state::specs::Views::answer_to, view_state::specs::Views::gathers, view_state::specs::Views::gathered, view_state::specs::Views::gathering_set, view_state::specs::Answers::answer_added))]
+pub(crate) fn answer_row(
+    work: &mut ViewWork,
+    alloc: Global,
+    node: u8,
+    inc: u32,
+    view: ViewId,
+    a: &AnswerRef,
+) -> Result<(), NoMemory>
+    ensures { OnOk result (work.new ≡ answer_row work.old view (answer_in node inc a.now)) }
+{
+    let Some(mut g) = work.views.gathering.take() else {
+        return Ok(());
+    };
+    if g.view == view && add_answer(&mut g, alloc, node, inc, a)? {
+        return gather_on(work, alloc, g);
+    }
+    work.views.gathering = Some(g);
+    Ok(())
+}
+
+/// REFUSE of the view that is gathered for: the gathering is dropped, and a later view has a number above.
+#[tactic(auto, unfolding(view_state::specs::Views::refuse_row, view_state::specs::Views::refuse_to, view_state::specs::Views::refused_by))]
+pub(crate) fn refuse_row(work: &mut ViewWork, view: ViewId, number: u32)
+    ensures { work.new ≡ refuse_row work.old view number }
+{
+    if let Some(g) = &work.views.gathering {
+        if g.view == view {
+            work.views.floor = work.views.floor.max(number);
+            work.views.gathering = None;
         }
     }
 }
 
-impl ViewWork {
-    /// An order to ask these nodes for a view. The node promises it, and its own answer is the first. An own answer
-    /// without a spelling leaves the promise, and nobody is asked.
-    #[tactic(auto, unfolding(crate::specs::Views::ask_row, crate::specs::Views::ask_if, crate::specs::Views::asks_view, crate::specs::Views::may_ask))]
-    pub(crate) fn ask_row<L: OwnLists>(
-        &mut self,
-        alloc: Global,
-        mask: Mask,
-        lists: &L,
-    ) -> Result<(), NoMemory>
-        ensures { OnOk result (self.new ≡ ask_row self.old mask (L.parts_of lists.now)) }
-    {
-        if !self.views.may_ask(mask) {
-            return Ok(());
-        }
-        let view = self.views.next_view();
-        if lists.count() > MAX_PARTS {
-            self.promise(view);
-            return Ok(());
-        }
-        let own = self.views.own_answer(alloc, lists)?;
-        let to = nodes_but(alloc, self.views.me, mask)?;
-        self.promise(view);
-        self.send_prepare(to.as_slice(), view, mask)?;
-        let g = Exchange::open_with(alloc, view, mask, own)?;
-        self.gather_on(alloc, g)
+/// INSTALL: of the view that the node is in it says TAKEN again; of its promise, where it is a member with its
+/// incarnation, it is to be applied.
+#[tactic(auto, unfolding(view_state::specs::Views::install_row, view_state::specs::Views::installed))]
+pub(crate) fn install_row(work: &mut ViewWork, install: Install) -> Result<(), NoMemory>
+    ensures { OnOk result (work.new ≡ install_row work.old install) }
+{
+    let view = install.view;
+    if work.views.view == view {
+        return send(work, view.coord, ViewPacket::Taken { view });
     }
-
-    /// Answers for a view. An answer without a spelling is not sent.
-    #[tactic(auto, unfolding(crate::specs::Views::answered))]
-    fn answer<L: OwnLists>(
-        &mut self,
-        alloc: Global,
-        view: ViewId,
-        lists: &L,
-    ) -> Result<(), NoMemory>
-        ensures { OnOk result (self.new ≡ answered self.old view (L.parts_of lists.now)) }
-    {
-        if lists.count() > MAX_PARTS {
-            return Ok(());
-        }
-        let parts = lists.parts(alloc)?;
-        let old = self.views.view;
-        self.send(view.coord, ViewPacket::Answer { view, old, parts })
+    if work.views.promise == view && install.has_member(work.views.me, work.views.inc) {
+        work.install = Some(install);
     }
+    Ok(())
+}
 
-    /// What comes above the promise is promised, the promise that is not entered yet is answered again, and what comes
-    /// below the promise is refused.
-    #[tactic(auto, unfolding(crate::specs::Views::prepared))]
-    fn prepare<L: OwnLists>(
-        &mut self,
-        alloc: Global,
-        view: ViewId,
-        asked: Asked,
-        lists: &L,
-    ) -> Result<(), NoMemory>
-        ensures { OnOk result (self.new ≡ prepared self.old view (L.parts_of lists.now) asked.is_higher asked.is_again asked.is_lower) }
-    {
-        if asked.is_higher {
-            self.promise(view);
-            return self.answer(alloc, view, lists);
-        }
-        if asked.is_again {
-            return self.answer(alloc, view, lists);
-        }
-        if asked.is_lower {
-            let number = self.views.promise.number;
-            return self.send(view.coord, ViewPacket::Refuse { view, number });
-        }
-        Ok(())
-    }
-
-    /// PREPARE, from a node in an incarnation: only the coordinator of the view asks for it, and only the nodes of the
-    /// set.
-    #[tactic(auto, unfolding(crate::specs::Views::prepare_row))]
-    pub(crate) fn prepare_row<L: OwnLists>(
-        &mut self,
-        alloc: Global,
-        from: u8,
-        inc: u32,
-        view: ViewId,
-        mask: Mask,
-        lists: &L,
-    ) -> Result<(), NoMemory>
-        ensures { OnOk result (self.new ≡ prepare_row self.old from inc view mask (L.parts_of lists.now)) }
-    {
-        let asked = self.views.asked(from, inc, view, mask);
-        self.prepare(alloc, view, asked, lists)
-    }
-
-    /// ANSWER: the first of a node that was asked for the view counts.
-    #[tactic(auto, unfolding(crate::specs::Views::answer_row, crate::specs::Views::answer_to, crate::specs::Views::gathers, crate::specs::Views::gathered, crate::specs::Views::gathering_set, view_exchange::specs::Answers::answer_added))]
-    pub(crate) fn answer_row(
-        &mut self,
-        alloc: Global,
-        node: u8,
-        inc: u32,
-        view: ViewId,
-        a: &AnswerRef,
-    ) -> Result<(), NoMemory>
-        ensures { OnOk result (self.new ≡ answer_row self.old view (answer_in node inc a.now)) }
-    {
-        let Some(mut g) = self.views.gathering.take() else {
-            return Ok(());
-        };
-        if g.view == view && g.add(alloc, node, inc, a)? {
-            return self.gather_on(alloc, g);
-        }
-        self.views.gathering = Some(g);
-        Ok(())
-    }
-
-    /// REFUSE of the view that is gathered for: the gathering is dropped, and a later view has a number above.
-    #[tactic(auto, unfolding(crate::specs::Views::refuse_row, crate::specs::Views::refuse_to, crate::specs::Views::refused_by))]
-    pub(crate) fn refuse_row(&mut self, view: ViewId, number: u32)
-        ensures { self.new ≡ refuse_row self.old view number }
-    {
-        if let Some(g) = &self.views.gathering {
-            if g.view == view {
-                self.views.floor = self.views.floor.max(number);
-                self.views.gathering = None;
-            }
-        }
-    }
-
-    /// INSTALL: of the view that the node is in it says TAKEN again; of its promise, where it is a member with its
-    /// incarnation, it is to be applied.
-    #[tactic(auto, unfolding(crate::specs::Views::install_row, crate::specs::Views::installed))]
-    pub(crate) fn install_row(&mut self, install: Install) -> Result<(), NoMemory>
-        ensures { OnOk result (self.new ≡ install_row self.old install) }
-    {
-        let view = install.view;
-        if self.views.view == view {
-            return self.send(view.coord, ViewPacket::Taken { view });
-        }
-        if self.views.promise == view && install.has_member(self.views.me, self.views.inc) {
-            self.install = Some(install);
-        }
-        Ok(())
-    }
-
-    /// TAKEN, also while frozen.
-    #[tactic(auto, unfolding(crate::specs::Views::taken_row))]
-    pub(crate) fn taken_row(&mut self, from: u8, view: ViewId)
-        ensures { self.new ≡ taken_row self.old from view }
-    {
-        if self.views.view == view {
-            self.views.taken = self.views.taken.with(from);
-        }
+/// TAKEN, also while frozen.
+#[tactic(auto, unfolding(view_state::specs::Views::taken_row))]
+pub(crate) fn taken_row(work: &mut ViewWork, from: u8, view: ViewId)
+    ensures { work.new ≡ taken_row work.old from view }
+{
+    if work.views.view == view {
+        work.views.taken = work.views.taken.with(from);
     }
 }

@@ -1,95 +1,83 @@
 //! What a node's tick does for views.
 ghost use Rattle.std.specs.Prelude.{◌≡◌, OnOk};
-ghost use Rattle.view_core.specs.Views.{prepared_again, is_stuck, may_ask_anew, was_stuck, tick_asks, stuck_noted, gathering_ticks};
+ghost use Rattle.view_state.specs.Views.{prepared_again, may_ask_anew, was_stuck, tick_asks, stuck_noted, gathering_ticks};
 
 use crate::lists::OwnLists;
-use crate::views::{RingAsk, ViewWork, Views};
+use crate::rows::ask_row;
+use crate::work::send_prepare;
 use rsct_packet::{Mask, NoMemory, risen};
 use std::alloc::Global;
+use view_state::{RingAsk, ViewWork, Views};
 
 /// How many ticks a gathering goes on before the node asks anew.
 const PATIENCE: u32 = 4;
 
-impl Views {
-    /// Is it frozen without a gathering?
-    #[tactic(auto, unfolding(crate::specs::Views::is_stuck))]
-    fn is_stuck(&self) -> bool
-        ensures { result ≡ is_stuck self.now }
-    {
-        self.frozen() && self.gathering.is_none()
-    }
+/// Is it stuck now, and was it at each of the three ticks before?
+#[tactic(auto, unfolding(view_state::specs::Views::was_stuck))]
+fn was_stuck(views: &Views) -> bool
+    ensures { result ≡ was_stuck views.now }
+{
+    views.is_stuck() && views.stuck.iter().all(|b| *b)
+}
 
-    /// Is it stuck now, and was it at each of the three ticks before?
-    #[tactic(auto, unfolding(crate::specs::Views::was_stuck))]
-    fn was_stuck(&self) -> bool
-        ensures { result ≡ was_stuck self.now }
-    {
-        self.is_stuck() && self.stuck.iter().all(|b| *b)
-    }
-
-    /// Is there no gathering, or one of the age at which a node asks anew, or one of other nodes?
-    #[tactic(auto, unfolding(crate::specs::Views::may_ask_anew))]
-    fn may_ask_anew(&self, mask: Mask) -> bool
-        ensures { result ≡ may_ask_anew mask self.now.gathering }
-    {
-        match &self.gathering {
-            None => true,
-            Some(g) => g.age == PATIENCE || g.asked != mask,
-        }
-    }
-
-    #[tactic(auto, unfolding(crate::specs::Views::tick_asks))]
-    fn tick_asks(&self, ask: RingAsk) -> bool
-        ensures { result ≡ tick_asks self.now ask }
-    {
-        ask.is_least && (ask.is_due || self.was_stuck()) && self.may_ask_anew(ask.mask)
+/// Is there no gathering, or one of the age at which a node asks anew, or one of other nodes?
+#[tactic(auto, unfolding(view_state::specs::Views::may_ask_anew))]
+fn may_ask_anew(views: &Views, mask: Mask) -> bool
+    ensures { result ≡ may_ask_anew mask views.now.gathering }
+{
+    match &views.gathering {
+        None => true,
+        Some(g) => g.age == PATIENCE || g.asked != mask,
     }
 }
 
-impl ViewWork {
-    /// PREPARE again to those who have not answered; the gathering is a tick older.
-    #[tactic(auto, unfolding(crate::specs::Views::prepared_again, crate::specs::Views::aged, crate::specs::Views::gathering_set))]
-    fn prepare_again(&mut self, alloc: Global) -> Result<(), NoMemory>
-        ensures { OnOk result (self.new ≡ prepared_again self.old self.old.views.gathering) }
-    {
-        let Some(g) = &mut self.views.gathering else {
-            return Ok(());
-        };
-        let to = g.unanswered(alloc)?;
-        let view = g.view;
-        let mask = g.asked;
-        g.age = risen(g.age);
-        self.send_prepare(to.as_slice(), view, mask)
-    }
+#[tactic(auto, unfolding(view_state::specs::Views::tick_asks))]
+fn tick_asks(views: &Views, ask: RingAsk) -> bool
+    ensures { result ≡ tick_asks views.now ask }
+{
+    ask.is_least && (ask.is_due || was_stuck(views)) && may_ask_anew(views, ask.mask)
+}
 
-    #[tactic(auto, unfolding(crate::specs::Views::stuck_noted))]
-    fn note_stuck(&mut self)
-        ensures { self.new ≡ stuck_noted self.old }
-    {
-        let stuck = self.views.is_stuck();
-        let [_, second, third] = self.views.stuck;
-        self.views.stuck = [second, third, stuck];
-    }
+/// PREPARE again to those who have not answered; the gathering is a tick older.
+#[tactic(auto, unfolding(view_state::specs::Views::prepared_again, view_state::specs::Views::aged, view_state::specs::Views::gathering_set))]
+fn prepare_again(work: &mut ViewWork, alloc: Global) -> Result<(), NoMemory>
+    ensures { OnOk result (work.new ≡ prepared_again work.old work.old.views.gathering) }
+{
+    let Some(g) = &mut work.views.gathering else {
+        return Ok(());
+    };
+    let to = g.unanswered(alloc)?;
+    let view = g.view;
+    let mask = g.asked;
+    g.age = risen(g.age);
+    send_prepare(work, to.as_slice(), view, mask)
+}
 
-    /// A tick: with what it says of the rings the node may ask for a view; without rings, and else, PREPARE goes out
-    /// again.
-    #[tactic(auto, unfolding(crate::specs::Views::gathering_ticks, crate::specs::Views::asks_or_ages))]
-    pub(crate) fn gathering_ticks<L: OwnLists>(
-        &mut self,
-        alloc: Global,
-        ring_ask: Option<RingAsk>,
-        lists: &L,
-    ) -> Result<(), NoMemory>
-        ensures { OnOk result (self.new ≡ gathering_ticks self.old ring_ask (L.parts_of lists.now)) }
-    {
-        let Some(ask) = ring_ask else {
-            return self.prepare_again(alloc);
-        };
-        let asks = self.views.tick_asks(ask);
-        self.note_stuck();
-        if asks {
-            return self.ask_row(alloc, ask.mask, lists);
-        }
-        self.prepare_again(alloc)
+#[tactic(auto, unfolding(view_state::specs::Views::stuck_noted))]
+fn note_stuck(work: &mut ViewWork)
+    ensures { work.new ≡ stuck_noted work.old }
+{
+    work.views.note_stuck();
+}
+
+/// A tick: with what it says of the rings the node may ask for a view; without rings, and else, PREPARE goes out
+/// again.
+#[tactic(auto, unfolding(view_state::specs::Views::gathering_ticks, view_state::specs::Views::asks_or_ages))]
+pub(crate) fn gathering_ticks<L: OwnLists>(
+    work: &mut ViewWork,
+    alloc: Global,
+    ring_ask: Option<RingAsk>,
+    lists: &L,
+) -> Result<(), NoMemory>
+    ensures { OnOk result (work.new ≡ gathering_ticks work.old ring_ask (L.parts_of lists.now)) }
+{
+    let Some(ask) = ring_ask else {
+        return prepare_again(work, alloc);
+    };
+    let asks = tick_asks(&work.views, ask);
+    note_stuck(work);
+    if asks {
+        return ask_row(work, alloc, ask.mask, lists);
     }
+    prepare_again(work, alloc)
 }

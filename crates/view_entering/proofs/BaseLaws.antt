@@ -14,15 +14,15 @@ use Rattle.group_entry.specs.declared.proposal.Proposal.TheVariants.{Join, Leave
 use Rattle.proposal_core.specs.declared.group_state.GroupState.{GroupState}
 use Rattle.proposal_core.specs.declared.group_state.Running.{Running}
 use Rattle.proposal_core.specs.Fold.{can_begin, joiners_fit, joiners_fit_at}
-use Rattle.view_exchange.specs.declared.install.Part.{Part}
-use Rattle.view_exchange.specs.declared.install.Source.{Source}
-use Rattle.view_exchange.specs.declared.install.Install.{Install}
-use Rattle.view_exchange.specs.declared.install.Base.{Base}
-use Rattle.view_exchange.specs.Parts.{part_len}
-use Rattle.view_exchange.specs.Tails.{IsTail, AreTails, HasTails}
-use Rattle.view_exchange.specs.Bases.{Candidate, candidates, beats, base_from, base_of_best, base_of, names_in, bases_for, bases_of}
-use Rattle.view_exchange.specs.Names.{group_at}
-use Rattle.view_exchange.proofs.Bases.{winner_is_tail}
+use Rattle.view_state.specs.declared.install.Part.{Part}
+use Rattle.view_state.specs.declared.install.Source.{Source}
+use Rattle.view_state.specs.declared.install.Install.{Install}
+use Rattle.view_state.specs.declared.install.Base.{Base}
+use Rattle.view_state.specs.Parts.{part_len}
+use Rattle.view_state.specs.Tails.{IsTail, AreTails, HasTails}
+use Rattle.view_state.specs.Bases.{Candidate, candidates, beats, base_from, base_of_best, base_of, names_in, bases_for, bases_of}
+use Rattle.view_bases.specs.Names.{group_at}
+use Rattle.view_bases.proofs.Bases.{winner_is_tail}
 use Rattle.view_entering.specs.Carried.{is_tail, are_tails, IsSound}
 
 -- ---- the test of an install

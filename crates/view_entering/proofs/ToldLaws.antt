@@ -24,8 +24,8 @@ use Rattle.session_state.specs.declared.state.SessionState.{SessionState}
 use Rattle.session_state.specs.State.{is_provider, provider_of, place_for, place_of, outstanding, client_place}
 use Rattle.session_state.specs.Calls.{SameSessions}
 use Rattle.session_state.specs.HandOn.{is_numbered, takes_telling}
-use Rattle.view_exchange.specs.declared.install.Base.{Base}
-use Rattle.view_exchange.specs.Bases.{base_named}
+use Rattle.view_state.specs.declared.install.Base.{Base}
+use Rattle.view_state.specs.Bases.{base_named}
 use Rattle.node_state.specs.declared.happened.Happened.{Happened}
 use Rattle.node_state.specs.declared.happened.Happened.TheVariants as happened
 use Rattle.node_state.specs.declared.state.Core.{Core}

@@ -16,14 +16,14 @@ use Rattle.client_callbacks.specs.declared.votes.VoteItem.{VoteItem}
 use Rattle.client_callbacks.specs.Ballots.{is_level}
 use Rattle.session_state.specs.declared.state.SessionState.{SessionState}
 use Rattle.session_state.specs.State.{provider_of, place_of, outstanding}
-use Rattle.view_exchange.specs.declared.install.Install.{Install}
-use Rattle.view_exchange.specs.declared.install.Base.{Base}
-use Rattle.view_exchange.specs.Bases.{bases_of}
-use Rattle.view_core.specs.declared.packet.ViewSend.{ViewSend}
+use Rattle.view_state.specs.declared.install.Install.{Install}
+use Rattle.view_state.specs.declared.install.Base.{Base}
+use Rattle.view_state.specs.Bases.{bases_of}
+use Rattle.view_state.specs.declared.packet.ViewSend.{ViewSend}
 use Rattle.view_core.specs.declared.step.ViewEvent.TheVariants as event
-use Rattle.view_core.specs.declared.views.RingAsk.{RingAsk}
-use Rattle.view_core.specs.declared.views.ViewWork.{ViewWork}
-use Rattle.view_core.specs.Views.{views_at_work, views_entered, ask_row}
+use Rattle.view_state.specs.declared.views.RingAsk.{RingAsk}
+use Rattle.view_state.specs.declared.views.ViewWork.{ViewWork}
+use Rattle.view_state.specs.Views.{views_at_work, views_entered, ask_row}
 use Rattle.view_core.specs.Steps.{view_row, view_stepped}
 use Rattle.node_state.specs.declared.config.Config.{Config}
 use Rattle.node_state.specs.declared.group.GroupRow.{GroupRow}
@@ -32,7 +32,7 @@ use Rattle.node_state.specs.declared.happened.Happened.TheVariants as happened
 use Rattle.node_state.specs.declared.packet.Body.TheVariants as body
 use Rattle.node_state.specs.declared.state.Core.{Core}
 use Rattle.node_state.specs.Settings.{is_fixed, level_if, view_level}
-use Rattle.node_state.specs.State.{AllAfter, InNameOrder, row_found, row_of, list_of, state_of, held_rows, led_groups, recorded_all}
+use Rattle.node_state.specs.State.{AllAfter, InNameOrder, row_found, row_of, list_of, state_of, held_rows, led_groups, recorded_all, has_name}
 use Rattle.node_state.specs.Sending.{sent}
 use Rattle.node_state.specs.HandOn.{Answering}
 use Rattle.node_state.specs.Leading.{tally_opened, closes}
@@ -42,8 +42,7 @@ use Rattle.node_state.specs.Ticks.{ring_ask, views_part}
 use Rattle.session_state.specs.Owners.{KeepsOwners}
 use Rattle.node_state.specs.Handed.{is_handed, handed_in, state_along}
 use Rattle.node_state.proofs.AlongLaws.{along_same}
-use Rattle.node_groups.specs.Places.{has_name}
-use Rattle.node_groups.proofs.NameOrder.{text_same, none_after}
+use Rattle.node_state.proofs.NameOrder.{text_same, none_after}
 use Rattle.node_groups.specs.Keeps.{Stays, Keeps}
 use Rattle.session_state.proofs.OwnerLaws.{owners_themselves}
 use Rattle.node_groups.proofs.KeepLaws.{keeps_itself, keeps_then, keeps_stays, keeps_as, stays_then, sent_keeps}

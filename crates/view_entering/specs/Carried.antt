@@ -3,10 +3,10 @@ use Rattle.std.specs.Prelude.{◌^◌, Bool, ◌&&◌, List, map, filter, nat_lt
 use Rattle.std.specs.List.{list_all}
 use Rattle.proposal_core.specs.Fold.{joiners_fit}
 use Rattle.proposal_core.specs.Lists.{list_or_new}
-use Rattle.view_exchange.specs.declared.install.Part.{Part}
-use Rattle.view_exchange.specs.declared.install.Source.{Source}
-use Rattle.view_exchange.specs.declared.install.Base.{Base}
-use Rattle.view_exchange.specs.Parts.{part_len}
+use Rattle.view_state.specs.declared.install.Part.{Part}
+use Rattle.view_state.specs.declared.install.Source.{Source}
+use Rattle.view_state.specs.declared.install.Base.{Base}
+use Rattle.view_state.specs.Parts.{part_len}
 use Rattle.node_state.specs.declared.group.GroupRow.{GroupRow}
 use Rattle.node_state.specs.Applying.{part_of_list}
 

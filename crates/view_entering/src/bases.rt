@@ -3,8 +3,8 @@ ghost use Rattle.std.specs.Prelude.{◌≡◌, ◌++◌, ◌∷◌, [], OnOk, If
 ghost use Rattle.std.specs.List.{list_all};
 ghost use Rattle.rsct_packet.specs.Format.{EachFits};
 ghost use Rattle.proposal_core.specs.Fold.{joiners_fit};
-ghost use Rattle.view_exchange.specs.Tails.{HasTails};
-ghost use Rattle.view_exchange.specs.Bases.{bases_for, bases_of};
+ghost use Rattle.view_state.specs.Tails.{HasTails};
+ghost use Rattle.view_state.specs.Bases.{bases_for, bases_of};
 ghost use Rattle.node_state.specs.Applying.{base_row, base_leader};
 ghost use Rattle.view_entering.specs.Carried.{is_tail, are_tails, IsSound};
 
@@ -14,7 +14,7 @@ use node_state::{GroupRow, Groups, Table};
 use proposal_core::{GroupList, GroupState, Proposal};
 use rsct_packet::{List, MAX_PROVIDERS, NoMemory, is_none_among};
 use std::alloc::Global;
-use view_exchange::{Base, Install, Part, Source};
+use view_state::{Base, Install, Part, Source};
 
 /// Are the running joiners no members, and with the members at most 64?
 #[tactic(auto, unfolding(proposal_core::specs::Fold::joiners_fit, proposal_core::specs::Fold::joiners_fit_at, proposal_core::specs::Fold::can_begin))]
@@ -61,26 +61,26 @@ fn has_tails(i: &Install) -> bool
 }
 
 /// Adds the base of a group, where somebody brings anything of it.
-#[tactic(auto, unfolding(view_exchange::specs::Bases::bases_for))]
+#[tactic(auto, unfolding(view_state::specs::Bases::bases_for))]
 fn push_base(alloc: Global, bases: &mut List<Base>, i: &Install, g: &[u8]) -> Result<(), NoMemory>
     requires { HasTails i.now }
     ensures { OnOk result (bases.new ≡ bases.old ++ bases_for i.now (g.now ∷ [])) }
 {
-    if let Some(base) = i.base(alloc, g)? {
+    if let Some(base) = view_bases::base_of(i, alloc, g)? {
         bases.push(base)?;
     }
     Ok(())
 }
 
 /// The bases of an install whose parts are ends of lists.
-#[tactic(auto, unfolding(view_exchange::specs::Names::group_at), using(crate::proofs::BaseLaws::bases_begin, crate::proofs::BaseLaws::bases_more, crate::proofs::BaseLaws::bases_end, std::proofs::lemmas::Grind::common_steps))]
+#[tactic(auto, unfolding(view_bases::specs::Names::group_at), using(crate::proofs::BaseLaws::bases_begin, crate::proofs::BaseLaws::bases_more, crate::proofs::BaseLaws::bases_end, std::proofs::lemmas::Grind::common_steps))]
 fn bases_in(alloc: Global, i: &Install) -> Result<List<Base>, NoMemory>
     requires { HasTails i.now }
     ensures { IfOk result (λ l. l ≡ bases_of i.now) }
 {
     let mut bases = List::new(alloc);
     for k in 0..usize::MAX {
-        match i.group(k) {
+        match view_bases::group_at(i, k) {
             None => return Ok(bases),
             Some(g) => push_base(alloc, &mut bases, i, g)?,
         }

@@ -6,7 +6,7 @@ ghost use Rattle.proposal_core.specs.Fold.{joiners_in};
 ghost use Rattle.client_callbacks.specs.declared.told.Why.TheVariants as why;
 ghost use Rattle.session_state.specs.HandOn.{telling_taken};
 ghost use Rattle.session_state.specs.State.{provider_of, place_of, outstanding, is_asked_by};
-ghost use Rattle.view_exchange.specs.Bases.{base_named};
+ghost use Rattle.view_state.specs.Bases.{base_named};
 ghost use Rattle.node_groups.specs.Keeps.{Stays};
 ghost use Rattle.entry_handing.specs.Received.{Receive};
 ghost use Rattle.entry_handing.specs.Doing.{Does};
@@ -20,8 +20,9 @@ use client_session::tell_at;
 use node_state::{Core, GroupRow, Happened};
 use proposal_core::{Proposal, Running};
 use rsct_packet::{Name, NoMemory, ProviderId, ViewId, is_among};
+use session_changes::{place_of, take_telling, takes_telling};
 use session_state::{Provider, Request, SessionState};
-use view_exchange::Base;
+use view_state::Base;
 
 /// The running joiners.
 fn joiners_in(running: &Option<Running>) -> &[ProviderId]
@@ -37,7 +38,7 @@ fn joiners_in(running: &Option<Running>) -> &[ProviderId]
 }
 
 /// The base of a group, where it has one.
-#[tactic(auto, unfolding(view_exchange::specs::Bases::base_named))]
+#[tactic(auto, unfolding(view_state::specs::Bases::base_named))]
 pub(crate) fn base_named<'a>(bases: &'a [Base], g: &[u8]) -> Option<&'a Base>
     ensures { option_copied result ≡ base_named bases.now g.now }
 {
@@ -45,7 +46,7 @@ pub(crate) fn base_named<'a>(bases: &'a [Base], g: &[u8]) -> Option<&'a Base>
 }
 
 /// Does the provider live in the base, which comes from the old view?
-#[tactic(auto, unfolding(node_state::specs::Applying::is_in_base), using(proposal_core::proofs::StateFormat::among_both))]
+#[tactic(auto, unfolding(node_state::specs::Applying::is_in_base), using(proposal_core::proofs::FoldLaws::among_both))]
 fn is_in_base(old: ViewId, p: ProviderId, base: Option<&Base>) -> bool
     ensures { result ≡ is_in_base old p (option_copied base.entry) }
 {
@@ -100,11 +101,11 @@ fn tell_dissolved<C: Callbacks>(
     ensures same { OnOk result (SameSessions sessions.old sessions.new) }
 {
     let why = Why::Dissolved;
-    if !sessions.takes_telling(p, r, why) {
+    if !takes_telling(sessions, p, r, why) {
         return Ok(());
     }
-    tell_at(clients, sessions.place_of(p), &Told::Refused { p, r, why })?;
-    sessions.take_telling(p, why);
+    tell_at(clients, place_of(sessions, p), &Told::Refused { p, r, why })?;
+    take_telling(sessions, p, why);
     Ok(())
 }
 

@@ -2,7 +2,7 @@
 ghost use Rattle.std.specs.Prelude.{◌≡◌, ◌++◌, ◌∷◌, OnOk, IfOk, IsTrue, Some, map};
 ghost use Rattle.rsct_packet.specs.Format.{EachFits};
 ghost use Rattle.name_server.specs.Names.{names_differ};
-ghost use Rattle.view_exchange.specs.Bases.{bases_of};
+ghost use Rattle.view_state.specs.Bases.{bases_of};
 ghost use Rattle.entry_handing.specs.Received.{Receive};
 ghost use Rattle.entry_handing.specs.Doing.{Does};
 ghost use Rattle.node_groups.specs.Keeps.{Keeps};
@@ -26,8 +26,7 @@ use owed_sending::{send_requests, send_votes_again};
 use rsct_packet::{List, NoMemory, ViewId};
 use std::alloc::Global;
 use std::mem;
-use view_core::ViewPacket;
-use view_exchange::{Base, Install};
+use view_state::{Base, Install, ViewPacket};
 
 /// The record of a base at a node in a view.
 fn base_record(alloc: Global, node: u8, view: ViewId, base: &Base) -> Result<Happened, NoMemory>
@@ -75,7 +74,7 @@ fn record_entry(core: &mut Core, alloc: Global, bases: &[Base]) -> Result<(), No
 }
 
 /// Enters the view: lists, leaders, names and what was led start anew. It gives the rows of the old view.
-#[tactic(auto, unfolding(node_state::specs::Applying::view_entered, node_state::specs::Applying::level_set, view_core::specs::Views::views_entered))]
+#[tactic(auto, unfolding(node_state::specs::Applying::view_entered, node_state::specs::Applying::level_set, view_state::specs::Views::views_entered))]
 fn start_anew(
     core: &mut Core,
     alloc: Global,

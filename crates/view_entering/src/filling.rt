@@ -1,10 +1,10 @@
 //! What the node's lists lack of those that an install carries of its old view.
-ghost use Rattle.std.specs.Prelude.{◌≡◌, OnOk, IfOk, Some, None, map, find, is_some, option_copied};
+ghost use Rattle.std.specs.Prelude.{◌≡◌, OnOk, IfOk, None, map, is_some, option_copied};
 ghost use Rattle.entry_handing.specs.Received.{Receive};
 ghost use Rattle.entry_handing.specs.Doing.{Does};
 ghost use Rattle.group_leading.specs.Working.{AtWork};
-ghost use Rattle.view_exchange.specs.Bases.{source_at};
-ghost use Rattle.view_exchange.specs.Cut.{lacking_of};
+ghost use Rattle.view_state.specs.Bases.{source_at};
+ghost use Rattle.view_state.specs.Cut.{lacking_of};
 ghost use Rattle.node_state.specs.State.{list_of};
 ghost use Rattle.node_state.specs.Leading.{put_and_handed};
 ghost use Rattle.node_state.specs.Applying.{lacking_in, lacking, lists_filled};
@@ -17,7 +17,8 @@ use node_state::Core;
 use proposal_core::{Entry, GroupList, GroupState};
 use rsct_packet::{Name, NoMemory, ViewId};
 use std::alloc::Global;
-use view_exchange::{Install, Part, Source};
+use view_bases::lacking_of;
+use view_state::{Install, Part, Source};
 
 /// The entries that the list of a group lacks, as they stand in an install.
 #[derive(Clone, Copy)]
@@ -38,9 +39,9 @@ fn missing_of<'a>(
     match list_of(core, part.name.bytes()) {
         None => {
             let list = GroupList::new(alloc, GroupState::empty(alloc));
-            part.lacking_of(alloc, core.views.view, &list)
+            lacking_of(part, alloc, core.views.view, &list)
         }
-        Some(list) => part.lacking_of(alloc, core.views.view, list),
+        Some(list) => lacking_of(part, alloc, core.views.view, list),
     }
 }
 
@@ -67,7 +68,7 @@ fn missing_in<'a>(
 }
 
 /// What an install carries of an old view.
-#[tactic(auto, unfolding(view_exchange::specs::Bases::source_at))]
+#[tactic(auto, unfolding(view_state::specs::Bases::source_at))]
 fn source_of(sources: &[Source], view: ViewId) -> Option<&Source>
     ensures { option_copied result ≡ source_at sources.now view }
 {
@@ -75,7 +76,7 @@ fn source_of(sources: &[Source], view: ViewId) -> Option<&Source>
 }
 
 /// What the lists lack of those that the install carries of the node's view; none where one does not go on to it.
-#[tactic(auto, unfolding(node_state::specs::Applying::lacking, node_state::specs::Applying::lacking_in, view_exchange::specs::Bases::parts_from))]
+#[tactic(auto, unfolding(node_state::specs::Applying::lacking, node_state::specs::Applying::lacking_in, view_state::specs::Bases::parts_from))]
 fn all_missing<'a>(
     core: &Core,
     alloc: Global,

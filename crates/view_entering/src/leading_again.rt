@@ -1,5 +1,5 @@
 //! The groups that the node leads in the view that it enters.
-ghost use Rattle.std.specs.Prelude.{◌≡◌, OnOk, IfOk, filter, is_some, map};
+ghost use Rattle.std.specs.Prelude.{◌≡◌, OnOk, IfOk, filter, map};
 ghost use Rattle.std.specs.List.{fold};
 ghost use Rattle.rsct_packet.specs.Providers.{among};
 ghost use Rattle.entry_handing.specs.Received.{Receive};

@@ -5,7 +5,7 @@ ghost use Rattle.session_state.specs.State.{is_session, client_place};
 ghost use Rattle.client_callbacks.specs.declared.told.Told.TheVariants as told;
 ghost use Rattle.node_state.specs.declared.happened.Happened.TheVariants as happened;
 ghost use Rattle.node_state.specs.HandOn.{subscriber_name};
-ghost use Rattle.view_exchange.specs.Bases.{base_named};
+ghost use Rattle.view_state.specs.Bases.{base_named};
 ghost use Rattle.node_state.specs.Applying.{entering_noted};
 ghost use Rattle.node_groups.specs.Keeps.{Stays};
 ghost use Rattle.entry_handing.specs.Received.{Receive};
@@ -18,10 +18,11 @@ use client_session::tell_at;
 use group_attr::HOST_MEMBERSHIP;
 use node_state::{Core, Happened, Records};
 use rsct_packet::{List, Members, NoMemory, ViewId};
+use session_changes::client_place;
 use session_state::{Session, SessionState};
 use std::alloc::Global;
 use subscribe_core::{ClientToken, Subscription};
-use view_exchange::Base;
+use view_state::Base;
 
 /// What is told at a node of the view that it enters: its members, and what the groups begin with.
 #[derive(Clone, Copy)]
@@ -70,7 +71,7 @@ fn tell<C: Callbacks>(
     ensures records { OnOk result (records.new ≡ records.old ++ happened.Noted a.now.node (subscriber_name sessions.now u.now) a.now.view None told ∷ []) }
 {
     let client = subscriber_name(alloc, sessions, u)?;
-    tell_at(clients, sessions.client_place(u.client), &told)?;
+    tell_at(clients, client_place(sessions, u.client), &told)?;
     records.push(Happened::Noted {
         node: a.node,
         client,

@@ -9,7 +9,7 @@ use proposal_core::{Entry, GroupList};
 use rsct_packet::{List, NoMemory};
 use std::alloc::Global;
 use view_core::OwnLists;
-use view_exchange::{Part, Parts};
+use view_state::{Part, Parts};
 
 /// The lists that stand in the rows of groups, read in place.
 #[derive(Drop)]

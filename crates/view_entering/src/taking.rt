@@ -5,7 +5,7 @@ ghost use Rattle.entry_handing.specs.Received.{Receive};
 ghost use Rattle.entry_handing.specs.Doing.{Does};
 ghost use Rattle.group_leading.specs.Working.{AtWork};
 ghost use Rattle.view_core.specs.Steps.{view_stepped};
-ghost use Rattle.view_core.specs.declared.packet.ViewSend.{ViewSend};
+ghost use Rattle.view_state.specs.declared.packet.ViewSend.{ViewSend};
 ghost use Rattle.node_state.specs.declared.packet.Body.TheVariants as body;
 ghost use Rattle.node_state.specs.Sending.{sent};
 ghost use Rattle.node_state.specs.Applying.{own_parts, views_taken};
@@ -21,8 +21,8 @@ use node_state::{Body, Core};
 use ring_ticking::ring_ask;
 use rsct_packet::{Mask, NoMemory};
 use std::alloc::Global;
-use view_core::{ViewEvent, ViewOut, ViewSend, ViewSends};
-use view_exchange::Install;
+use view_core::{ViewEvent, ViewOut};
+use view_state::{Install, ViewSend, ViewSends};
 
 /// Sends what an event of views sends.
 #[tactic(auto, using(std::proofs::lemmas::Grind::common_steps))]
@@ -45,7 +45,7 @@ fn step(core: &mut Core, alloc: Global, e: ViewEvent<'_>) -> Result<Option<Insta
     let lists = RowLists {
         rows: core.groups.rows.as_slice(),
     };
-    core.views.step(alloc, e, &lists, &mut out)?;
+    view_core::take_event(&mut core.views, alloc, e, &lists, &mut out)?;
     let ViewOut { sends, install } = out;
     send_each(core, sends)?;
     Ok(install)

@@ -11,17 +11,17 @@ use Rattle.rsct_packet.specs.declared.ids.Member.{Member}
 use Rattle.rsct_packet.proofs.FormatLaws.{bind_some, both_format, made_format, guarded_format, fits_format, counted_format, part_keyed, wide8, wide32, u32_format}
 use Rattle.rsct_packet.proofs.FieldLaws.{and_true, both_true, name_format, mask_format, view_format, member_format}
 use Rattle.group_entry.specs.EntryCodec.{whole}
-use Rattle.group_entry.proofs.EntryFormat.{entry_format}
-use Rattle.proposal_core.proofs.StateFormat.{state_format}
+use Rattle.group_codec.proofs.EntryFormat.{entry_format}
+use Rattle.group_codec.proofs.StateFormat.{state_format}
 use Rattle.std.specs.Borrow.{Bor}
 use Rattle.std.specs.Option.{option_map}
-use Rattle.view_exchange.specs.declared.install.Part.{Part}
+use Rattle.view_state.specs.declared.install.Part.{Part}
 use Rattle.view_exchange.specs.declared.in_place.PartRef.{PartRef}
 use Rattle.view_exchange.specs.InPlace.{part_in}
-use Rattle.view_exchange.specs.Tails.{IsTail, AreTails, HasTails}
-use Rattle.view_exchange.specs.declared.install.Source.{Source}
-use Rattle.view_exchange.specs.declared.install.Install.{Install}
-use Rattle.view_exchange.specs.Codec.{sized_at, sized_text, sized_entry_at, sized_entry_text, IsSizedEntry, part_of_parts, ends_in_u32, group_part_at, group_part_text, IsPart, names_ascend, parts_at, parts_text, IsParts, Brought, brought_of_parts, answer_at, answer_text, IsAnswer, source_of_parts, source_at_front, source_text, IsSource, members_ascend, views_ascend, each_comes_once, is_in_order, install_of_parts, install_at, install_text, IsInstall}
+use Rattle.view_state.specs.Tails.{IsTail, AreTails, HasTails}
+use Rattle.view_state.specs.declared.install.Source.{Source}
+use Rattle.view_state.specs.declared.install.Install.{Install}
+use Rattle.view_state.specs.Codec.{sized_at, sized_text, sized_entry_at, sized_entry_text, IsSizedEntry, part_of_parts, ends_in_u32, group_part_at, group_part_text, IsPart, names_ascend, parts_at, parts_text, IsParts, Brought, brought_of_parts, answer_at, answer_text, IsAnswer, source_of_parts, source_at_front, source_text, IsSource, members_ascend, views_ascend, each_comes_once, is_in_order, install_of_parts, install_at, install_text, IsInstall}
 
 -- a reader of all of the bytes
 whole_some : {A : Type 0} (r : Option (A × List ℕ)) (x : A) → whole r ≡ Some x → r ≡ Some (x, [])

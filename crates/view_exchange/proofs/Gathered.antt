@@ -6,9 +6,9 @@ use Rattle.std.proofs.lemmas.Bool.Decides.{nat_tests}
 use Rattle.rsct_packet.specs.declared.ids.Member.{Member}
 use Rattle.rsct_packet.specs.Mask.{has_node}
 use Rattle.rsct_packet.specs.Search.{Has, insert_before}
-use Rattle.view_exchange.specs.declared.answer.Answer.{Answer}
-use Rattle.view_exchange.specs.declared.exchange.Exchange.{Exchange}
-use Rattle.view_exchange.specs.Answers.{has_answered, may_answer, with_answer, answer_added, member_of, is_member_above, with_member}
+use Rattle.view_state.specs.declared.answer.Answer.{Answer}
+use Rattle.view_state.specs.declared.exchange.Exchange.{Exchange}
+use Rattle.view_state.specs.Answers.{has_answered, may_answer, with_answer, answer_added, member_of, is_member_above, with_member}
 use Rattle.view_exchange.specs.Gathered.{added, all_added, FirstsCount}
 
 or_swap : (a b c : Bool) → (a || (b || c)) ≡ (b || (a || c))

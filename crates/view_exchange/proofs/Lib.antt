@@ -1,12 +1,5 @@
 pub mod Formats
-pub mod ViewOrder
-pub mod Winning
-pub mod Failing
-pub mod Bases
 pub mod Gathered
 pub mod Edits
 pub mod Longest
-pub mod TailLaws
 pub mod Drops
-pub mod NameLaws
-pub mod CutLaws

@@ -10,17 +10,17 @@ use Rattle.rsct_packet.specs.declared.mask.Mask.{Mask}
 use Rattle.rsct_packet.specs.Ids.{same_view}
 use Rattle.rsct_packet.specs.Search.{Has, place_where, edit_where, insert_before}
 use Rattle.rsct_packet.proofs.HasLaws.{has_append, append_has_left, append_has_right, has_map}
-use Rattle.view_exchange.specs.declared.answer.Answer.{Answer}
-use Rattle.view_exchange.specs.declared.exchange.Exchange.{Exchange}
-use Rattle.view_exchange.specs.declared.sides.Kept.{Kept}
-use Rattle.view_exchange.specs.declared.sides.Side.{Side}
-use Rattle.view_exchange.specs.declared.install.Part.{Part}
-use Rattle.view_exchange.specs.declared.install.Source.{Source}
-use Rattle.view_exchange.specs.declared.install.Install.{Install}
-use Rattle.view_exchange.specs.Parts.{part_len}
-use Rattle.view_exchange.specs.Answers.{opened, kept_of, is_beaten, better_of, is_kept_of, is_kept_above, with_kept_at, with_kept, with_parts, side_with, side_from, is_side_of, is_side_above, with_side_at, with_side, with_answer, source_of, install_of}
+use Rattle.view_state.specs.declared.answer.Answer.{Answer}
+use Rattle.view_state.specs.declared.exchange.Exchange.{Exchange}
+use Rattle.view_state.specs.declared.sides.Kept.{Kept}
+use Rattle.view_state.specs.declared.sides.Side.{Side}
+use Rattle.view_state.specs.declared.install.Part.{Part}
+use Rattle.view_state.specs.declared.install.Source.{Source}
+use Rattle.view_state.specs.declared.install.Install.{Install}
+use Rattle.view_state.specs.Parts.{part_len}
+use Rattle.view_state.specs.Answers.{opened, kept_of, is_beaten, better_of, is_kept_of, is_kept_above, with_kept_at, with_kept, with_parts, side_with, side_from, is_side_of, is_side_above, with_side_at, with_side, with_answer, source_of, install_of}
 use Rattle.view_exchange.specs.Longest.{all_counted, Brings, NoWorse, IsLongest, IsCarried, CarriesLongest, NamesDiffer, LongestAreCarried}
-use Rattle.view_exchange.proofs.ViewOrder.{same_view_is}
+use Rattle.view_state.proofs.ViewOrder.{same_view_is}
 use Rattle.view_exchange.proofs.Edits.{inserted_has, has_inserted, Once, edited_has, has_edited, none_placed, some_placed}
 
 -- ---- what is no worse

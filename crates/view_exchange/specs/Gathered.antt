@@ -1,9 +1,9 @@
 -- Answers one after another.
 use Rattle.std.specs.Prelude.{◌≡◌, ◌++◌, List, [], ◌∷◌}
 use Rattle.rsct_packet.specs.Search.{Has}
-use Rattle.view_exchange.specs.declared.answer.Answer.{Answer}
-use Rattle.view_exchange.specs.declared.exchange.Exchange.{Exchange}
-use Rattle.view_exchange.specs.Answers.{may_answer, answer_added}
+use Rattle.view_state.specs.declared.answer.Answer.{Answer}
+use Rattle.view_state.specs.declared.exchange.Exchange.{Exchange}
+use Rattle.view_state.specs.Answers.{may_answer, answer_added}
 
 -- an answer that comes
 abbrev pub added : Exchange → Answer → Exchange

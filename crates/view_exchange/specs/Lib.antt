@@ -1,14 +1,4 @@
-pub mod Parts
-pub mod Codec
 pub mod InPlace
 pub mod SourcesInPlace
-pub mod Tails
-pub mod Answers
 pub mod Gathered
 pub mod Longest
-pub mod Bases
-pub mod Best
-pub mod Carried
-pub mod Names
-pub mod Cut
-pub mod Fitting

@@ -1,6 +1,6 @@
 -- What stands for a source in a datagram.
-use Rattle.view_exchange.specs.declared.install.Source.{Source}
-use Rattle.view_exchange.specs.declared.install.Install.{Install}
+use Rattle.view_state.specs.declared.install.Source.{Source}
+use Rattle.view_state.specs.declared.install.Install.{Install}
 use Rattle.view_exchange.specs.declared.sources_in_place.SourceRef.{SourceRef}
 use Rattle.view_exchange.specs.declared.install_codec.InstallRef.{InstallRef}
 

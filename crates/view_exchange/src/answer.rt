@@ -4,23 +4,14 @@ ghost use Rattle.std.specs.Option.{option_map};
 ghost use Rattle.rsct_packet.specs.Fields.{IsNode};
 ghost use Rattle.rsct_packet.specs.Format.{IsBytes};
 ghost use Rattle.group_entry.specs.EntryCodec.{whole};
-ghost use Rattle.view_exchange.specs.Codec.{Brought, answer_at, answer_text, IsAnswer, IsParts};
+ghost use Rattle.view_state.specs.Codec.{Brought, answer_at, answer_text, IsAnswer, IsParts};
 ghost use Rattle.view_exchange.specs.InPlace.{brought_in};
 
 use crate::in_place::{PartsRef, read_parts};
-use crate::install::{Part, Parts};
 use crate::writing::put_parts;
 use rsct_packet::{NoMemory, ViewId, known, put_view, read_view};
 use std::alloc::Global;
-
-/// What a node that was asked answers: itself with its incarnation, the view that it comes from, and its lists.
-#[derive(Drop)]
-pub struct Answer {
-    pub node: u8,
-    pub inc: u32,
-    pub view: ViewId,
-    pub parts: Parts,
-}
+use view_state::Part;
 
 /// An answer as it stands in a datagram: the view that its node comes from, and the node's lists in name order.
 #[derive(Drop)]
@@ -29,7 +20,7 @@ pub struct AnswerRef<'a> {
     pub parts: PartsRef<'a>,
 }
 
-#[tactic(auto, unfolding(crate::specs::Codec::answer_at))]
+#[tactic(auto, unfolding(view_state::specs::Codec::answer_at))]
 fn whole_answer(b: &[u8]) -> Option<AnswerRef<'_>>
     ensures value { option_map (λ a. brought_in a) result ≡ whole (answer_at b.now) }
     ensures bytes { IsBytes b.now }
@@ -61,7 +52,7 @@ impl<'a> AnswerRef<'a> {
 }
 
 /// The spelling, in memory of its own.
-#[tactic(auto, unfolding(crate::specs::Codec::answer_text))]
+#[tactic(auto, unfolding(view_state::specs::Codec::answer_text))]
 fn spelled(alloc: Global, view: ViewId, parts: &[Part]) -> Result<Vec<u8>, NoMemory>
     requires coord { IsNode view.coord }
     requires parts { IsParts parts.now }

@@ -2,17 +2,19 @@
 ghost use Rattle.std.specs.Prelude.{◌≡◌, ◌++◌, ◌∷◌, [], length, IfOk, IfNone, IfSome, slice_get, option_copied};
 ghost use Rattle.std.specs.Option.{option_map};
 ghost use Rattle.rsct_packet.specs.Reading.{Gives, many_at};
-ghost use Rattle.rsct_packet.specs.Text.{IsName, name_lt};
-ghost use Rattle.group_entry.specs.EntryCodec.{entry_in, IsEntry};
-ghost use Rattle.view_exchange.specs.Codec.{sized_entry_at, group_part_at, IsPart, is_after, names_ascend, parts_at};
-ghost use Rattle.view_exchange.specs.Parts.{part_len};
-ghost use Rattle.view_exchange.specs.InPlace.{part_in, entry_of};
+ghost use Rattle.rsct_packet.specs.Text.{IsName};
+ghost use Rattle.group_entry.specs.EntryCodec.{IsEntry};
+ghost use Rattle.group_codec.specs.InPlace.{entry_in};
+ghost use Rattle.view_state.specs.Codec.{sized_entry_at, group_part_at, IsPart, names_ascend, parts_at};
+ghost use Rattle.view_state.specs.Parts.{part_len, entry_of};
+ghost use Rattle.view_exchange.specs.InPlace.{part_in};
 
-use crate::install::{Part, Parts};
-use proposal_core::{Entry, EntryRef, StateRef, read_state};
+use group_codec::{EntryRef, StateRef, read_entry, read_state};
+use proposal_core::Entry;
 use rsct_packet::{List, Name, NoMemory, known, read_name, read_part, read_u8, read_u32};
 use std::alloc::Global;
 use std::marker::Model;
+use view_state::{Part, Parts, is_after};
 
 /// Entries in place, each behind its length.
 #[derive(Drop)]
@@ -26,7 +28,7 @@ impl<'a> Model for EntriesRef<'a> {
     ghost use Rattle.rsct_packet.specs.Reading.{many_at};
     ghost use Rattle.rsct_packet.specs.Listed.{items_in};
     ghost use Rattle.group_entry.specs.declared.entry.Entry.{Entry};
-    ghost use Rattle.view_exchange.specs.Codec.{sized_entry_at};
+    ghost use Rattle.view_state.specs.Codec.{sized_entry_at};
 
     ghost Value = { List Entry };
 
@@ -56,8 +58,8 @@ impl<'a> Model for PartsRef<'a> {
     ghost use Rattle.std.specs.Prelude.{List, IsSome};
     ghost use Rattle.rsct_packet.specs.Reading.{many_at};
     ghost use Rattle.rsct_packet.specs.Listed.{items_in};
-    ghost use Rattle.view_exchange.specs.declared.install.Part.{Part};
-    ghost use Rattle.view_exchange.specs.Codec.{group_part_at};
+    ghost use Rattle.view_state.specs.declared.install.Part.{Part};
+    ghost use Rattle.view_state.specs.Codec.{group_part_at};
 
     ghost Value = { List Part };
 
@@ -67,14 +69,14 @@ impl<'a> Model for PartsRef<'a> {
 }
 
 /// An entry behind its length.
-#[tactic(auto, unfolding(crate::specs::Codec::sized_entry_at))]
+#[tactic(auto, unfolding(view_state::specs::Codec::sized_entry_at))]
 fn read_sized_entry(b: &[u8]) -> Option<(EntryRef<'_>, &[u8])>
     ensures value { option_map (λ x. (entry_in x.0, x.1.now)) result ≡ sized_entry_at b.now }
     ensures entry { IfSome result (λ x. IsEntry (entry_in x.0)) }
 {
     let (n, b) = read_u32(b)?;
     let (text, b) = read_part(n as usize, b)?;
-    let entry = Entry::read(text)?;
+    let entry = read_entry(text)?;
     Some((entry, b))
 }
 
@@ -153,7 +155,7 @@ impl<'a> EntriesRef<'a> {
     }
 }
 
-#[tactic(auto, unfolding(crate::specs::Codec::group_part_at))]
+#[tactic(auto, unfolding(view_state::specs::Codec::group_part_at))]
 fn group_part_alone(b: &[u8]) -> Option<(PartRef<'_>, &[u8])>
     ensures { option_map (λ x. (part_in x.0, x.1.now)) result ≡ group_part_at b.now }
 {
@@ -195,7 +197,7 @@ impl<'a> PartRef<'a> {
 
     /// The entry at a place of the list; None exactly where that is below `start` or not below the length. Nothing
     /// is copied.
-    #[tactic(auto, unfolding(crate::specs::InPlace::entry_of))]
+    #[tactic(auto, unfolding(view_state::specs::Parts::entry_of))]
     pub fn entry(&self, place: u32) -> Option<EntryRef<'a>>
         ensures { option_map (λ e. entry_in e) result ≡ entry_of (part_in self.now) place }
     {
@@ -279,23 +281,6 @@ impl<'a> PartsRef<'a> {
     }
 }
 
-/// Is the first name less?
-pub fn is_less(a: &[u8], b: &[u8]) -> bool
-    ensures { result ≡ name_lt a.now b.now }
-{
-    a.cmp(b).is_lt()
-}
-
-/// Does the name come after the last one, if there was one?
-pub fn is_after(last: Option<&[u8]>, name: &[u8]) -> bool
-    ensures { result ≡ is_after (option_copied last.entry) name.now }
-{
-    match last {
-        None => true,
-        Some(last) => is_less(last, name),
-    }
-}
-
 /// Do the names ascend?
 fn do_names_ascend(parts: &PartsRef) -> bool
     ensures { result ≡ names_ascend parts.now }
@@ -312,7 +297,7 @@ fn do_names_ascend(parts: &PartsRef) -> bool
 }
 
 /// Group parts in name order, off the front of bytes, with the bytes after them.
-#[tactic(auto, unfolding(crate::specs::Codec::parts_at))]
+#[tactic(auto, unfolding(view_state::specs::Codec::parts_at))]
 pub fn read_parts(b: &[u8]) -> Option<(PartsRef<'_>, &[u8])>
     ensures { Gives result (parts_at b.now) }
 {

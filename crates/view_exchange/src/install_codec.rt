@@ -3,11 +3,10 @@ ghost use Rattle.std.specs.Prelude.{◌≡◌, ◌++◌, IfOk, IfSome, OnOk, OnE
 ghost use Rattle.std.specs.Option.{option_map};
 ghost use Rattle.rsct_packet.specs.Format.{IsBytes, EachFits};
 ghost use Rattle.group_entry.specs.EntryCodec.{whole};
-ghost use Rattle.view_exchange.specs.Codec.{source_text, IsSource, has_member, comes_once, each_comes_once, members_ascend, is_in_order, install_at, install_text, IsInstall};
-ghost use Rattle.view_exchange.specs.Tails.{HasTails};
+ghost use Rattle.view_state.specs.Codec.{source_text, IsSource, has_member, comes_once, each_comes_once, members_ascend, is_in_order, install_at, install_text, IsInstall};
+ghost use Rattle.view_state.specs.Tails.{HasTails};
 ghost use Rattle.view_exchange.specs.SourcesInPlace.{install_in};
 
-use crate::install::{Install, Source};
 use crate::sources_in_place::{SourcesRef, read_sources};
 use crate::writing::put_parts;
 use rsct_packet::{
@@ -15,6 +14,7 @@ use rsct_packet::{
     read_list, read_view,
 };
 use std::alloc::Global;
+use view_state::{Install, Source};
 
 /// An install in place.
 #[derive(Drop)]
@@ -58,7 +58,7 @@ fn comes_once(members: &Listed<Member>, sources: &SourcesRef, node: u8) -> bool
     sources.does_come(has_member(members, node), node)
 }
 
-#[tactic(auto, unfolding(crate::specs::Codec::each_comes_once))]
+#[tactic(auto, unfolding(view_state::specs::Codec::each_comes_once))]
 fn does_each_come_once(members: &Listed<Member>, sources: &SourcesRef) -> bool
     ensures { result ≡ each_comes_once members.now sources.now }
 {
@@ -73,7 +73,7 @@ fn is_in_order(i: &InstallRef) -> bool
         && does_each_come_once(&i.members, &i.sources)
 }
 
-#[tactic(auto, unfolding(crate::specs::Codec::install_at))]
+#[tactic(auto, unfolding(view_state::specs::Codec::install_at))]
 fn whole_install(b: &[u8]) -> Option<InstallRef<'_>>
     ensures value { option_map (λ i. install_in i) result ≡ whole (install_at b.now) }
     ensures bytes { IsBytes b.now }
@@ -117,7 +117,7 @@ impl<'a> InstallRef<'a> {
     }
 }
 
-#[tactic(auto, unfolding(crate::specs::Codec::source_text))]
+#[tactic(auto, unfolding(view_state::specs::Codec::source_text))]
 fn put_source(alloc: Global, out: &mut Vec<u8>, source: &Source) -> Result<(), NoMemory>
     requires { IsSource source.now }
     ensures { OnOk result (out.new.items ≡ out.old.items ++ source_text source.now) }
@@ -137,49 +137,47 @@ fn put_each_source(alloc: Global, out: &mut Vec<u8>, sources: &[Source]) -> Resu
     Ok(())
 }
 
-impl Install {
-    fn read_alone(alloc: Global, b: &[u8]) -> Result<Option<Install>, NoMemory>
-        ensures value { IfOk result (λ o. o ≡ whole (install_at b.now)) }
-        ensures bytes { IsBytes b.now }
-    {
-        match whole_install(b) {
-            None => Ok(None),
-            Some(i) => Ok(Some(i.own(alloc)?)),
-        }
+fn read_install_alone(alloc: Global, b: &[u8]) -> Result<Option<Install>, NoMemory>
+    ensures value { IfOk result (λ o. o ≡ whole (install_at b.now)) }
+    ensures bytes { IsBytes b.now }
+{
+    match whole_install(b) {
+        None => Ok(None),
+        Some(i) => Ok(Some(i.own(alloc)?)),
     }
+}
 
-    /// Takes an install that spans all of the bytes. `Ok(None)` exactly where they spell none.
-    pub fn read(alloc: Global, b: &[u8]) -> Result<Option<Install>, NoMemory>
-        ensures value { IfOk result (λ o. o ≡ whole (install_at b.now)) }
-        ensures found { IfOk result (λ o. IfSome o (λ i. IsInstall i × (b.now ≡ install_text i))) }
-        ensures only { (i : Install) → IsInstall i → b.now ≡ install_text i → IfOk result (λ o. o ≡ Some i) }
-        ensures tails { IfOk result (λ o. IfSome o HasTails) }
-    {
-        Install::read_alone(alloc, b)
-    }
+/// Takes an install that spans all of the bytes. `Ok(None)` exactly where they spell none.
+pub fn read_install(alloc: Global, b: &[u8]) -> Result<Option<Install>, NoMemory>
+    ensures value { IfOk result (λ o. o ≡ whole (install_at b.now)) }
+    ensures found { IfOk result (λ o. IfSome o (λ i. IsInstall i × (b.now ≡ install_text i))) }
+    ensures only { (i : Install) → IsInstall i → b.now ≡ install_text i → IfOk result (λ o. o ≡ Some i) }
+    ensures tails { IfOk result (λ o. IfSome o HasTails) }
+{
+    read_install_alone(alloc, b)
+}
 
-    /// The spelling, in memory of its own.
-    #[tactic(auto, unfolding(crate::specs::Codec::install_text), using(crate::proofs::Formats::member_nodes, std::proofs::lemmas::Grind::common_steps))]
-    fn spelled(&self, alloc: Global) -> Result<Vec<u8>, NoMemory>
-        requires { IsInstall self.now }
-        ensures { IfOk result (λ v. v.items ≡ install_text self.now) }
-    {
-        let mut out = Vec::new(alloc);
-        put_view(&mut out, self.view)?;
-        put_list(&mut out, self.members.as_slice())?;
-        put_u8(&mut out, self.sources.len() as u8)?;
-        put_each_source(alloc, &mut out, self.sources.as_slice())?;
-        Ok(out)
-    }
+/// The spelling, in memory of its own.
+#[tactic(auto, unfolding(view_state::specs::Codec::install_text), using(crate::proofs::Formats::member_nodes, std::proofs::lemmas::Grind::common_steps))]
+fn spelled(alloc: Global, i: &Install) -> Result<Vec<u8>, NoMemory>
+    requires { IsInstall i.now }
+    ensures { IfOk result (λ v. v.items ≡ install_text i.now) }
+{
+    let mut out = Vec::new(alloc);
+    put_view(&mut out, i.view)?;
+    put_list(&mut out, i.members.as_slice())?;
+    put_u8(&mut out, i.sources.len() as u8)?;
+    put_each_source(alloc, &mut out, i.sources.as_slice())?;
+    Ok(out)
+}
 
-    /// Takes the spelling to the end of `out`, and leaves `out` as before where memory has run out.
-    pub fn write(&self, alloc: Global, out: &mut Vec<u8>) -> Result<(), NoMemory>
-        requires { IsInstall self.now }
-        ensures ok { OnOk result (out.new.items ≡ out.old.items ++ install_text self.now) }
-        ensures err { OnErr result (out.new.items ≡ out.old.items) }
-    {
-        let text = self.spelled(alloc)?;
-        out.extend_from_slice(text.as_slice())?;
-        Ok(())
-    }
+/// Takes the spelling of an install to the end of `out`, and leaves `out` as before where memory has run out.
+pub fn put_install(alloc: Global, out: &mut Vec<u8>, i: &Install) -> Result<(), NoMemory>
+    requires { IsInstall i.now }
+    ensures ok { OnOk result (out.new.items ≡ out.old.items ++ install_text i.now) }
+    ensures err { OnErr result (out.new.items ≡ out.old.items) }
+{
+    let text = spelled(alloc, i)?;
+    out.extend_from_slice(text.as_slice())?;
+    Ok(())
 }

@@ -1,26 +1,18 @@
-//! What nodes tell each other of their lists at a view change: answers, the install that is made of them, and the
-//! base of each group in the new view.
+//! What nodes tell each other of their lists at a view change, as it stands in datagrams: answers, which are added to a
+//! gathering in place, and installs.
 #![tactic(auto)]
 
 mod answer;
-mod base;
-mod carried;
-mod copies;
-mod cut;
 mod exchange;
 mod in_place;
-mod install;
 mod install_codec;
 mod laws;
-mod names;
 mod sides;
 mod sources_in_place;
 mod writing;
 
-pub use answer::{Answer, AnswerRef, put_answer};
-pub use exchange::Exchange;
+pub use answer::{AnswerRef, put_answer};
+pub use exchange::add_answer;
 pub use in_place::{EntriesRef, PartRef, PartsRef};
-pub use install::{Base, Install, Part, Parts, Source, Sources};
-pub use install_codec::InstallRef;
+pub use install_codec::{InstallRef, put_install, read_install};
 pub use laws::{first_answers_count, longest_lists_are_carried};
-pub use sides::{Kept, KeptParts, Side, Sides};

@@ -4,14 +4,14 @@ ghost use Rattle.std.specs.Option.{option_map};
 ghost use Rattle.std.specs.Int.{w8};
 ghost use Rattle.rsct_packet.specs.Reading.{Gives, many_at, counted_at};
 ghost use Rattle.rsct_packet.specs.Ids.{view_lt};
-ghost use Rattle.view_exchange.specs.Codec.{source_at_front, is_after_view, views_ascend, comes_from};
+ghost use Rattle.view_state.specs.Codec.{source_at_front, is_after_view, views_ascend, comes_from};
 ghost use Rattle.view_exchange.specs.SourcesInPlace.{source_in};
 
 use crate::in_place::{PartsRef, read_parts};
-use crate::install::{Source, Sources};
 use rsct_packet::{List, Mask, NoMemory, ViewId, read_mask, read_u8, read_view};
 use std::alloc::Global;
 use std::marker::Model;
+use view_state::{Source, Sources};
 
 /// A source in place.
 #[derive(Drop)]
@@ -32,8 +32,8 @@ impl<'a> Model for SourcesRef<'a> {
     ghost use Rattle.std.specs.Prelude.{List, IsSome};
     ghost use Rattle.rsct_packet.specs.Reading.{many_at};
     ghost use Rattle.rsct_packet.specs.Listed.{items_in};
-    ghost use Rattle.view_exchange.specs.declared.install.Source.{Source};
-    ghost use Rattle.view_exchange.specs.Codec.{source_at_front};
+    ghost use Rattle.view_state.specs.declared.install.Source.{Source};
+    ghost use Rattle.view_state.specs.Codec.{source_at_front};
 
     ghost Value = { List Source };
 
@@ -42,7 +42,7 @@ impl<'a> Model for SourcesRef<'a> {
     ghost invariant = { λ s. IsSome (many_at source_at_front s.count s.bytes.now) };
 }
 
-#[tactic(auto, unfolding(crate::specs::Codec::source_at_front))]
+#[tactic(auto, unfolding(view_state::specs::Codec::source_at_front))]
 fn read_source(b: &[u8]) -> Option<(SourceRef<'_>, &[u8])>
     ensures { option_map (λ x. (source_in x.0, x.1.now)) result ≡ source_at_front b.now }
 {

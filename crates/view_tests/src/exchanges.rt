@@ -3,7 +3,8 @@ use crate::samples::{FIRST, INSTALL, SECOND};
 use rsct_packet::{List, Mask, NoMemory};
 use std::alloc::Global;
 use std::process::Abort;
-use view_exchange::{Answer, AnswerRef, Base, Exchange, Install};
+use view_exchange::{AnswerRef, add_answer, put_install, read_install};
+use view_state::{Answer, Base, Exchange, Install};
 
 /// From 1.1.1; one part, `db`, from its start on. Its state has the member 1.1.7.1, the empty value and one-phase
 /// attributes, and its one entry is a leave of that, decided at once, behind its length.
@@ -35,7 +36,7 @@ fn takes(
     bytes: &[u8],
 ) -> bool {
     let answer = AnswerRef::read(bytes).expect(rt, "an answer");
-    x.add(alloc, node, inc, &answer).expect(rt, "memory")
+    add_answer(x, alloc, node, inc, &answer).expect(rt, "memory")
 }
 
 /// Are these the nodes that have not answered?
@@ -142,10 +143,10 @@ fn one_answer_is_enough_for_one(rt: HostRuntime) {
 
 /// The spelling of what is read of these bytes.
 fn spelled_again(rt: &impl Abort, alloc: Global, bytes: &[u8]) -> Vec<u8> {
-    let i = Install::read(alloc, bytes).expect(rt, "memory");
+    let i = read_install(alloc, bytes).expect(rt, "memory");
     let i = i.expect(rt, "an install");
     let mut out = Vec::new(alloc);
-    i.write(alloc, &mut out).expect(rt, "memory");
+    put_install(alloc, &mut out, &i).expect(rt, "memory");
     out
 }
 
@@ -157,9 +158,9 @@ fn an_install_is_read_and_written(rt: HostRuntime) {
 
 /// The base of `db` in the install of these bytes.
 fn base_of(rt: &impl Abort, alloc: Global, bytes: &[u8]) -> Base {
-    let i = Install::read(alloc, bytes).expect(rt, "memory");
+    let i = read_install(alloc, bytes).expect(rt, "memory");
     let i = i.expect(rt, "an install");
-    let base = i.base(alloc, b"db").expect(rt, "memory");
+    let base = view_bases::base_of(&i, alloc, b"db").expect(rt, "memory");
     base.expect(rt, "a base")
 }
 

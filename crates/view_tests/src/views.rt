@@ -6,8 +6,10 @@ use proposal_core::{GroupList, GroupState};
 use rsct_packet::{List, Mask, Member, NoMemory, ViewId};
 use std::alloc::Global;
 use std::process::Abort;
-use view_core::{OwnLists, ViewEvent, ViewOut, ViewPacket, Views};
-use view_exchange::{AnswerRef, Install, Parts};
+use view_bases::{group_at, lacking_of};
+use view_core::{OwnLists, ViewEvent, ViewOut, take_event};
+use view_exchange::{AnswerRef, read_install};
+use view_state::{Install, Parts, ViewPacket, Views};
 
 /// A node without lists.
 struct Nothing;
@@ -49,9 +51,7 @@ fn alone(rt: &impl Abort, alloc: Global, node: u8) -> Views {
 /// What an event gives out.
 fn step(rt: &impl Abort, alloc: Global, views: &mut Views, e: ViewEvent) -> ViewOut {
     let mut out = ViewOut::new(alloc);
-    views
-        .step(alloc, e, &Nothing, &mut out)
-        .expect(rt, "memory");
+    take_event(views, alloc, e, &Nothing, &mut out).expect(rt, "memory");
     out
 }
 
@@ -204,7 +204,7 @@ fn lacking(alloc: Global, i: &Install, list: &GroupList) -> Result<Option<usize>
     let Some(part) = i.part(FIRST, b"db") else {
         return Ok(None);
     };
-    match part.lacking_of(alloc, FIRST, list)? {
+    match lacking_of(part, alloc, FIRST, list)? {
         None => Ok(None),
         Some(entries) => Ok(Some(entries.len())),
     }
@@ -212,12 +212,12 @@ fn lacking(alloc: Global, i: &Install, list: &GroupList) -> Result<Option<usize>
 
 /// Is `db` its only group?
 fn has_one_group(i: &Install) -> bool {
-    i.group(0) == Some(b"db".as_slice()) && i.group(1).is_none()
+    group_at(i, 0) == Some(b"db".as_slice()) && group_at(i, 1).is_none()
 }
 
 /// The install of the sample's bytes.
 fn sample(rt: &impl Abort, alloc: Global) -> Install {
-    let i = Install::read(alloc, &INSTALL).expect(rt, "memory");
+    let i = read_install(alloc, &INSTALL).expect(rt, "memory");
     i.expect(rt, "an install")
 }
 

@@ -6,6 +6,4 @@ pub mod Reading
 pub mod World
 pub mod Play
 pub mod Kept
-pub mod Opens
 pub mod Load
-pub mod Samples

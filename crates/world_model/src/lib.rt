@@ -2,13 +2,6 @@
 #![tactic(auto)]
 
 mod event;
-pub mod rows_basic;
-pub mod rows_bytes;
-pub mod rows_queue;
-pub mod rows_rings;
-pub mod rows_steps;
-pub mod rows_views;
-pub mod rows_votes;
 mod script;
 
 pub use event::{Event, Events};

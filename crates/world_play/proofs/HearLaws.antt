@@ -6,7 +6,7 @@ use Rattle.rsct_packet.specs.Lists.{drop_where}
 use Rattle.rsct_packet.specs.Search.{place_where, insert_before}
 use Rattle.client_callbacks.specs.Handed.{Handed}
 use Rattle.session_state.specs.declared.fault.GsFault.TheVariants.{NoInit}
-use Rattle.view_core.specs.Views.{views_new}
+use Rattle.view_state.specs.Views.{views_new}
 use Rattle.node_state.specs.declared.call.CallLine.{CallLine}
 use Rattle.node_state.specs.declared.config.Config.{Config}
 use Rattle.node_state.specs.declared.happened.Happened.{Happened}

@@ -11,7 +11,7 @@ use Rattle.node_state.specs.declared.state.Core.{Core}
 use Rattle.node_state.specs.State.{with_sessions}
 use Rattle.node_state.specs.Applying.{level_set}
 use Rattle.node_state.specs.Step.{started}
-use Rattle.view_core.specs.Views.{views_new}
+use Rattle.view_state.specs.Views.{views_new}
 use Rattle.world_model.specs.World.{Script, Node, World, is_node, nodes_with, handled, traced, after_step, starts_with, started_at}
 use Rattle.run_safety.specs.Past.{History}
 use Rattle.step_ties.specs.Tied.{Scene}

@@ -1,6 +1,6 @@
 use Rattle.std.proofs.Common.{length}
 use Rattle.rsct_packet.specs.Format.{EachFits}
-use Rattle.view_exchange.specs.Codec.{IsSource}
+use Rattle.view_state.specs.Codec.{IsSource}
 use Rattle.datagram.proofs.lists.are_sources.Given as goal
 
 abbrev pub invariant-loop-s : goal.invariant-loop-s

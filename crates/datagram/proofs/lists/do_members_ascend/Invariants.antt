@@ -1,7 +1,7 @@
 use Rattle.std.proofs.Common.{◌≡◌, length, map}
 use Rattle.rsct_packet.specs.Listed.{ascending_from}
 use Rattle.rsct_packet.specs.declared.ids.Member.{Member}
-use Rattle.view_exchange.specs.Codec.{members_ascend}
+use Rattle.view_state.specs.Codec.{members_ascend}
 use Rattle.datagram.proofs.lists.do_members_ascend.Given as goal
 
 abbrev pub invariant-loop-m : goal.invariant-loop-m

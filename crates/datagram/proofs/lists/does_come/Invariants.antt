@@ -1,5 +1,5 @@
 use Rattle.std.proofs.Common.{◌≡◌, length}
-use Rattle.view_exchange.specs.Codec.{comes_from}
+use Rattle.view_state.specs.Codec.{comes_from}
 use Rattle.datagram.proofs.lists.does_come.Given as goal
 
 abbrev pub invariant-loop-s : goal.invariant-loop-s

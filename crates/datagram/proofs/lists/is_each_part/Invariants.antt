@@ -1,6 +1,6 @@
 use Rattle.std.proofs.Common.{length}
 use Rattle.rsct_packet.specs.Format.{EachFits}
-use Rattle.view_exchange.specs.Codec.{IsPart}
+use Rattle.view_state.specs.Codec.{IsPart}
 use Rattle.datagram.proofs.lists.is_each_part.Given as goal
 
 abbrev pub invariant-loop-p : goal.invariant-loop-p

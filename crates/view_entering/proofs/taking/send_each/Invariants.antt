@@ -1,7 +1,7 @@
 -- What was sent so far.
 use Rattle.std.proofs.Common.{◌≡◌}
 use Rattle.std.specs.List.{fold}
-use Rattle.view_core.specs.declared.packet.ViewSend.{ViewSend}
+use Rattle.view_state.specs.declared.packet.ViewSend.{ViewSend}
 use Rattle.node_state.specs.declared.packet.Body.TheVariants as body
 use Rattle.node_state.specs.Sending.{sent}
 use Rattle.view_entering.proofs.taking.send_each.Given as goal

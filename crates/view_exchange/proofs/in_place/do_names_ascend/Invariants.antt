@@ -1,6 +1,6 @@
 use Rattle.std.proofs.Common.{◌≡◌, length}
 use Rattle.std.specs.Prelude.{option_copied}
-use Rattle.view_exchange.specs.Codec.{names_ascend, names_ascend_from}
+use Rattle.view_state.specs.Codec.{names_ascend, names_ascend_from}
 use Rattle.view_exchange.proofs.in_place.do_names_ascend.Given as goal
 
 abbrev pub invariant-loop-part : goal.invariant-loop-part

@@ -1,6 +1,6 @@
 use Rattle.std.proofs.Common.{arith}
 use Rattle.rsct_packet.proofs.ListedLaws.{skips_stop}
-use Rattle.view_exchange.specs.Codec.{sized_entry_at}
+use Rattle.view_state.specs.Codec.{sized_entry_at}
 use Rattle.view_exchange.proofs.in_place.read_entries.Goals as goal
 
 pub returns-in-None : goal.returns-in-None

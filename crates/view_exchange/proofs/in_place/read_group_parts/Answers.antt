@@ -1,6 +1,6 @@
 use Rattle.std.proofs.Common.{arith}
 use Rattle.rsct_packet.proofs.ListedLaws.{skips_stop}
-use Rattle.view_exchange.specs.Codec.{group_part_at}
+use Rattle.view_state.specs.Codec.{group_part_at}
 use Rattle.view_exchange.proofs.in_place.read_group_parts.Goals as goal
 
 pub returns-in-None : goal.returns-in-None

@@ -2,7 +2,7 @@ use Rattle.std.proofs.Common.{◌≡◌, length}
 use Rattle.std.specs.Prelude.{map}
 use Rattle.rsct_packet.specs.Listed.{ascending_from}
 use Rattle.rsct_packet.specs.declared.ids.Member.{Member}
-use Rattle.view_exchange.specs.Codec.{members_ascend}
+use Rattle.view_state.specs.Codec.{members_ascend}
 use Rattle.view_exchange.proofs.install_codec.do_members_ascend.Given as goal
 
 abbrev pub invariant-loop-member : goal.invariant-loop-member

@@ -1,5 +1,5 @@
 use Rattle.std.proofs.Common.{◌≡◌, length}
-use Rattle.view_exchange.specs.Codec.{has_member}
+use Rattle.view_state.specs.Codec.{has_member}
 use Rattle.view_exchange.proofs.install_codec.has_member.Given as goal
 
 abbrev pub invariant-loop-member : goal.invariant-loop-member

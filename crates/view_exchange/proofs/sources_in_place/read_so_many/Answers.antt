@@ -1,6 +1,6 @@
 use Rattle.std.proofs.Common.{arith}
 use Rattle.rsct_packet.proofs.ListedLaws.{skips_stop}
-use Rattle.view_exchange.specs.Codec.{source_at_front}
+use Rattle.view_state.specs.Codec.{source_at_front}
 use Rattle.view_exchange.proofs.sources_in_place.read_so_many.Goals as goal
 
 pub returns-in-None : goal.returns-in-None

@@ -1,5 +1,5 @@
 use Rattle.rsct_packet.proofs.ListedLaws.{listed_length}
-use Rattle.view_exchange.specs.Codec.{group_part_at}
+use Rattle.view_state.specs.Codec.{group_part_at}
 use Rattle.view_exchange.proofs.in_place.PartsRef.len.Goals as goal
 
 pub returns : goal.returns

@@ -1,5 +1,5 @@
 use Rattle.std.proofs.Common.{◌≡◌, length}
-use Rattle.view_exchange.specs.Codec.{views_ascend, views_ascend_from}
+use Rattle.view_state.specs.Codec.{views_ascend, views_ascend_from}
 use Rattle.view_exchange.proofs.sources_in_place.SourcesRef.do_views_ascend.Given as goal
 
 abbrev pub invariant-loop-source : goal.invariant-loop-source

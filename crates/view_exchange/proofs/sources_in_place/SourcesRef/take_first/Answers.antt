@@ -1,6 +1,6 @@
 use Rattle.std.proofs.Common.{sym, ◌∙◌}
 use Rattle.rsct_packet.proofs.ListedLaws.{listed_empty, listed_first, listed_stop}
-use Rattle.view_exchange.specs.Codec.{source_at_front}
+use Rattle.view_state.specs.Codec.{source_at_front}
 use Rattle.view_exchange.proofs.sources_in_place.SourcesRef.take_first.Goals as goal
 
 pub returns-then-self-eq0-clause-none : goal.returns-then-self-eq0-clause-none

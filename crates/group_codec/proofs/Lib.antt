@@ -1,0 +1,6 @@
+pub mod AttrFormat
+pub mod ProposalFormat
+pub mod EntryFormat
+pub mod SizeLaws
+pub mod StateFormat
+pub mod StateLaws

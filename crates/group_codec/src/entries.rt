@@ -1,0 +1,253 @@
+//! How entries are spelled: a byte for the kind, and what the kind has.
+ghost use Rattle.std.specs.Prelude.{◌≡◌, ◌++◌, IfOk, IfSome, OnOk, OnErr};
+ghost use Rattle.std.specs.Option.{option_map};
+ghost use Rattle.rsct_packet.specs.Format.{IsBytes};
+ghost use Rattle.group_entry.specs.EntryCodec.{closed_at, closed_text, IsClosed, once_at, begin_at, phase_at, approve_at, reject_at, late_at, entry_front_at, entry_text, IsEntry, whole};
+ghost use Rattle.group_codec.specs.InPlace.{closed_in, entry_in};
+
+use crate::proposals::{ProposalRef, put_proposal, read_proposal};
+use group_entry::{Closed, Entry, Row, optional_bytes, optional_text_of};
+use rsct_packet::{
+    Listed, NoMemory, ProtoId, ProviderId, Providers, known, put_list, put_optional_bytes,
+    put_proto, put_providers, put_u8, put_u16, read_list, read_optional_bytes, read_proto,
+    read_some_providers, read_u8, read_u16,
+};
+use std::alloc::Global;
+
+/// How a phase closed, as it stands in a datagram.
+#[derive(Drop)]
+pub struct ClosedRef<'a> {
+    pub proto: ProtoId,
+    pub phase: u16,
+    pub rows: Listed<'a, Row>,
+    pub value: Option<&'a [u8]>,
+    pub message: Option<&'a [u8]>,
+}
+
+/// An entry as it stands in a datagram.
+#[derive(Drop)]
+pub enum EntryRef<'a> {
+    Once(ProposalRef<'a>),
+    Begin(ProposalRef<'a>),
+    Phase(ClosedRef<'a>),
+    Approve(ClosedRef<'a>),
+    Reject(ClosedRef<'a>),
+    Late {
+        proto: ProtoId,
+        phase: u16,
+        ps: Listed<'a, ProviderId>,
+    },
+}
+
+#[tactic(auto, unfolding(group_entry::specs::EntryCodec::closed_at))]
+fn read_closed(b: &[u8]) -> Option<(ClosedRef<'_>, &[u8])>
+    ensures { option_map (λ x. (closed_in x.0, x.1.now)) result ≡ closed_at b.now }
+{
+    let (proto, b) = read_proto(b)?;
+    let (phase, b) = read_u16(b)?;
+    let (rows, b) = read_list::<Row>(b)?;
+    let (value, b) = read_optional_bytes(b)?;
+    let (message, b) = read_optional_bytes(b)?;
+    Some((
+        ClosedRef {
+            proto,
+            phase,
+            rows,
+            value,
+            message,
+        },
+        b,
+    ))
+}
+
+#[tactic(auto, unfolding(group_entry::specs::EntryCodec::once_at))]
+fn read_once(b: &[u8]) -> Option<(EntryRef<'_>, &[u8])>
+    ensures { option_map (λ x. (entry_in x.0, x.1.now)) result ≡ once_at b.now }
+{
+    let (x, b) = read_proposal(b)?;
+    Some((EntryRef::Once(x), b))
+}
+
+#[tactic(auto, unfolding(group_entry::specs::EntryCodec::begin_at))]
+fn read_begin(b: &[u8]) -> Option<(EntryRef<'_>, &[u8])>
+    ensures { option_map (λ x. (entry_in x.0, x.1.now)) result ≡ begin_at b.now }
+{
+    let (x, b) = read_proposal(b)?;
+    Some((EntryRef::Begin(x), b))
+}
+
+#[tactic(auto, unfolding(group_entry::specs::EntryCodec::phase_at))]
+fn read_phase(b: &[u8]) -> Option<(EntryRef<'_>, &[u8])>
+    ensures { option_map (λ x. (entry_in x.0, x.1.now)) result ≡ phase_at b.now }
+{
+    let (c, b) = read_closed(b)?;
+    Some((EntryRef::Phase(c), b))
+}
+
+#[tactic(auto, unfolding(group_entry::specs::EntryCodec::approve_at))]
+fn read_approve(b: &[u8]) -> Option<(EntryRef<'_>, &[u8])>
+    ensures { option_map (λ x. (entry_in x.0, x.1.now)) result ≡ approve_at b.now }
+{
+    let (c, b) = read_closed(b)?;
+    Some((EntryRef::Approve(c), b))
+}
+
+/// A rejection has no value.
+#[tactic(auto, unfolding(group_entry::specs::EntryCodec::reject_at))]
+fn read_reject(b: &[u8]) -> Option<(EntryRef<'_>, &[u8])>
+    ensures { option_map (λ x. (entry_in x.0, x.1.now)) result ≡ reject_at b.now }
+{
+    let (c, b) = read_closed(b)?;
+    if c.value.is_some() {
+        return None;
+    }
+    Some((EntryRef::Reject(c), b))
+}
+
+#[tactic(auto, unfolding(group_entry::specs::EntryCodec::late_at))]
+fn read_late(b: &[u8]) -> Option<(EntryRef<'_>, &[u8])>
+    ensures { option_map (λ x. (entry_in x.0, x.1.now)) result ≡ late_at b.now }
+{
+    let (proto, b) = read_proto(b)?;
+    let (phase, b) = read_u16(b)?;
+    let (ps, b) = read_some_providers(b)?;
+    Some((EntryRef::Late { proto, phase, ps }, b))
+}
+
+/// An entry off the front of bytes, with the bytes after it.
+#[tactic(auto, unfolding(group_entry::specs::EntryCodec::entry_front_at))]
+fn entry_front(b: &[u8]) -> Option<(EntryRef<'_>, &[u8])>
+    ensures { option_map (λ x. (entry_in x.0, x.1.now)) result ≡ entry_front_at b.now }
+{
+    let (kind, b) = read_u8(b)?;
+    match kind {
+        1 => read_once(b),
+        2 => read_begin(b),
+        3 => read_phase(b),
+        4 => read_approve(b),
+        5 => read_reject(b),
+        6 => read_late(b),
+        _ => None,
+    }
+}
+
+/// An entry that takes all of the bytes.
+fn whole_entry(b: &[u8]) -> Option<EntryRef<'_>>
+    ensures value { option_map (λ x. entry_in x) result ≡ whole (entry_front_at b.now) }
+    ensures bytes { IsBytes b.now }
+{
+    let (e, rest) = entry_front(known(b))?;
+    if rest.len() != 0 {
+        return None;
+    }
+    Some(e)
+}
+
+impl<'a> ClosedRef<'a> {
+    fn own(&self, alloc: Global) -> Result<Closed, NoMemory>
+        requires { IsClosed (closed_in self.now) }
+        ensures { IfOk result (λ c. c ≡ closed_in self.now) }
+    {
+        Ok(Closed {
+            proto: self.proto,
+            phase: self.phase,
+            rows: self.rows.own(alloc)?,
+            value: optional_text_of(alloc, self.value)?,
+            message: optional_text_of(alloc, self.message)?,
+        })
+    }
+}
+
+impl<'a> EntryRef<'a> {
+    /// An entry of its own.
+    pub fn own(&self, alloc: Global) -> Result<Entry, NoMemory>
+        requires { IsEntry (entry_in self.now) }
+        ensures ok { IfOk result (λ e. e ≡ entry_in self.now) }
+        ensures entry { IfOk result IsEntry }
+    {
+        Ok(match self {
+            EntryRef::Once(x) => Entry::Once(x.own(alloc)?),
+            EntryRef::Begin(x) => Entry::Begin(x.own(alloc)?),
+            EntryRef::Phase(c) => Entry::Phase(c.own(alloc)?),
+            EntryRef::Approve(c) => Entry::Approve(c.own(alloc)?),
+            EntryRef::Reject(c) => Entry::Reject(c.own(alloc)?),
+            EntryRef::Late { proto, phase, ps } => Entry::Late {
+                proto: *proto,
+                phase: *phase,
+                ps: Providers::of_listed(alloc, ps)?,
+            },
+        })
+    }
+}
+
+#[tactic(auto, unfolding(group_entry::specs::EntryCodec::closed_text), using(crate::proofs::EntryFormat::row_nodes, std::proofs::lemmas::Grind::common_steps))]
+fn put_closed(out: &mut Vec<u8>, c: &Closed) -> Result<(), NoMemory>
+    requires { IsClosed c.now }
+    ensures { OnOk result (out.new.items ≡ out.old.items ++ closed_text c.now) }
+{
+    put_proto(out, c.proto)?;
+    put_u16(out, c.phase)?;
+    put_list(out, c.rows.as_slice())?;
+    put_optional_bytes(out, optional_bytes(&c.value))?;
+    put_optional_bytes(out, optional_bytes(&c.message))?;
+    Ok(())
+}
+
+/// Takes an entry that spans all of the bytes, and copies nothing. None exactly where they spell none.
+#[tactic(auto, using(crate::proofs::EntryFormat::entry_found, crate::proofs::EntryFormat::entry_only))]
+pub fn read_entry(b: &[u8]) -> Option<EntryRef<'_>>
+    ensures value { option_map (λ x. entry_in x) result ≡ whole (entry_front_at b.now) }
+    ensures found { IfSome (option_map (λ x. entry_in x) result) (λ e. IsEntry e × (b.now ≡ entry_text e)) }
+    ensures only { (e : Entry) → IsEntry e → b.now ≡ entry_text e → option_map (λ x. entry_in x) result ≡ Some e }
+{
+    whole_entry(b)
+}
+
+/// The spelling, in memory of its own.
+#[tactic(auto, unfolding(group_entry::specs::EntryCodec::entry_text), using(crate::proofs::ProposalFormat::some_nodes, std::proofs::lemmas::Grind::common_steps))]
+fn spelled(alloc: Global, e: &Entry) -> Result<Vec<u8>, NoMemory>
+    requires { IsEntry e.now }
+    ensures { IfOk result (λ v. v.items ≡ entry_text e.now) }
+{
+    let mut out = Vec::new(alloc);
+    match e {
+        Entry::Once(x) => {
+            put_u8(&mut out, 1)?;
+            put_proposal(alloc, &mut out, x)?;
+        }
+        Entry::Begin(x) => {
+            put_u8(&mut out, 2)?;
+            put_proposal(alloc, &mut out, x)?;
+        }
+        Entry::Phase(c) => {
+            put_u8(&mut out, 3)?;
+            put_closed(&mut out, c)?;
+        }
+        Entry::Approve(c) => {
+            put_u8(&mut out, 4)?;
+            put_closed(&mut out, c)?;
+        }
+        Entry::Reject(c) => {
+            put_u8(&mut out, 5)?;
+            put_closed(&mut out, c)?;
+        }
+        Entry::Late { proto, phase, ps } => {
+            put_u8(&mut out, 6)?;
+            put_proto(&mut out, *proto)?;
+            put_u16(&mut out, *phase)?;
+            put_providers(&mut out, ps.as_slice())?;
+        }
+    }
+    Ok(out)
+}
+
+/// Takes the spelling of an entry to the end of `out`, and leaves `out` as before where memory has run out.
+pub fn put_entry(alloc: Global, out: &mut Vec<u8>, e: &Entry) -> Result<(), NoMemory>
+    requires { IsEntry e.now }
+    ensures ok { OnOk result (out.new.items ≡ out.old.items ++ entry_text e.now) }
+    ensures err { OnErr result (out.new.items ≡ out.old.items) }
+{
+    let text = spelled(alloc, e)?;
+    out.extend_from_slice(text.as_slice())?;
+    Ok(())
+}

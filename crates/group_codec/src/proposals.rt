@@ -1,0 +1,342 @@
+//! How proposals are spelled: a byte for the kind, and what the kind has.
+ghost use Rattle.std.specs.Prelude.{◌≡◌, ◌++◌, IfOk, OnOk, OnErr};
+ghost use Rattle.std.specs.Option.{option_map};
+ghost use Rattle.rsct_packet.specs.Reading.{Gives};
+ghost use Rattle.std.specs.List.{list_any};
+ghost use Rattle.rsct_packet.specs.Format.{IsFoundAt, IsOnlyAt};
+ghost use Rattle.group_entry.specs.ProposalCodec.{same_failure, failures_differ, are_failures, fallen_at, join_at, leave_at, fail_at, expel_at, state_change_at, message_at, attributes_at, reflect_at, proposal_at, proposal_text, IsProposal};
+ghost use Rattle.group_codec.specs.InPlace.{proposal_in, proposal_of};
+
+use crate::attrs::{AttrsRef, put_attrs, read_attrs};
+use group_entry::{Failure, Proposal, is_same_failure, text_of};
+use rsct_packet::{
+    Listed, NoMemory, ProviderId, Providers, ViewId, known, put_bytes, put_list, put_optional_u32,
+    put_provider, put_providers, put_u8, put_u32, put_view, read_bytes, read_list,
+    read_optional_u32, read_provider, read_some_providers, read_u8, read_u32, read_view,
+};
+use std::alloc::Global;
+
+/// A proposal as it stands in a datagram.
+#[derive(Drop)]
+pub enum ProposalRef<'a> {
+    Join {
+        ps: Listed<'a, ProviderId>,
+        attrs: AttrsRef<'a>,
+        source_len: Option<u32>,
+    },
+    Leave {
+        p: ProviderId,
+        r: u32,
+    },
+    Fail {
+        out: Listed<'a, Failure>,
+    },
+    Expel {
+        p: ProviderId,
+        r: u32,
+        out: Listed<'a, ProviderId>,
+    },
+    State {
+        p: ProviderId,
+        r: u32,
+        value: &'a [u8],
+    },
+    Message {
+        p: ProviderId,
+        r: u32,
+        bytes: &'a [u8],
+    },
+    Attributes {
+        p: ProviderId,
+        r: u32,
+        attrs: AttrsRef<'a>,
+    },
+    Reflect {
+        view: ViewId,
+        place: u32,
+        value: &'a [u8],
+    },
+}
+
+/// Is it one of them?
+fn is_listed(fs: &Listed<Failure>, f: &Failure) -> bool
+    ensures { result ≡ list_any (λ g. same_failure g f.now) fs.now }
+{
+    let mut left = fs.copy();
+    while let Some(g) = left.take_first() {
+        if is_same_failure(&g, f) {
+            return true;
+        }
+    }
+    false
+}
+
+/// Does each differ from those after it?
+fn are_apart(fs: &Listed<Failure>) -> bool
+    ensures { result ≡ failures_differ fs.now }
+{
+    let mut left = fs.copy();
+    while let Some(f) = left.take_first() {
+        if is_listed(&left, &f) {
+            return false;
+        }
+    }
+    true
+}
+
+fn are_failures(fs: &Listed<Failure>) -> bool
+    ensures { result ≡ are_failures fs.now }
+{
+    fs.len() >= 1 && fs.len() <= 64 && are_apart(fs)
+}
+
+/// 1 to 64 pairs of a provider and a cause that differ.
+#[tactic(auto, unfolding(group_entry::specs::ProposalCodec::fallen_at))]
+fn read_fallen(b: &[u8]) -> Option<(Listed<Failure>, &[u8])>
+    ensures { Gives result (fallen_at b.now) }
+{
+    let (out, b) = read_list::<Failure>(b)?;
+    if !are_failures(&out) {
+        return None;
+    }
+    Some((out, b))
+}
+
+#[tactic(auto, unfolding(group_entry::specs::ProposalCodec::join_at))]
+fn read_join(b: &[u8]) -> Option<(ProposalRef<'_>, &[u8])>
+    ensures { option_map (λ x. (proposal_in x.0, x.1.now)) result ≡ join_at b.now }
+{
+    let (ps, b) = read_some_providers(b)?;
+    let (attrs, b) = read_attrs(b)?;
+    let (source_len, b) = read_optional_u32(b)?;
+    Some((
+        ProposalRef::Join {
+            ps,
+            attrs,
+            source_len,
+        },
+        b,
+    ))
+}
+
+#[tactic(auto, unfolding(group_entry::specs::ProposalCodec::leave_at))]
+fn read_leave(b: &[u8]) -> Option<(ProposalRef<'_>, &[u8])>
+    ensures { option_map (λ x. (proposal_in x.0, x.1.now)) result ≡ leave_at b.now }
+{
+    let (p, b) = read_provider(b)?;
+    let (r, b) = read_u32(b)?;
+    Some((ProposalRef::Leave { p, r }, b))
+}
+
+#[tactic(auto, unfolding(group_entry::specs::ProposalCodec::fail_at))]
+fn read_fail(b: &[u8]) -> Option<(ProposalRef<'_>, &[u8])>
+    ensures { option_map (λ x. (proposal_in x.0, x.1.now)) result ≡ fail_at b.now }
+{
+    let (out, b) = read_fallen(b)?;
+    Some((ProposalRef::Fail { out }, b))
+}
+
+#[tactic(auto, unfolding(group_entry::specs::ProposalCodec::expel_at))]
+fn read_expel(b: &[u8]) -> Option<(ProposalRef<'_>, &[u8])>
+    ensures { option_map (λ x. (proposal_in x.0, x.1.now)) result ≡ expel_at b.now }
+{
+    let (p, b) = read_provider(b)?;
+    let (r, b) = read_u32(b)?;
+    let (out, b) = read_some_providers(b)?;
+    Some((ProposalRef::Expel { p, r, out }, b))
+}
+
+#[tactic(auto, unfolding(group_entry::specs::ProposalCodec::state_change_at))]
+fn read_state_change(b: &[u8]) -> Option<(ProposalRef<'_>, &[u8])>
+    ensures { option_map (λ x. (proposal_in x.0, x.1.now)) result ≡ state_change_at b.now }
+{
+    let (p, b) = read_provider(b)?;
+    let (r, b) = read_u32(b)?;
+    let (value, b) = read_bytes(b)?;
+    Some((ProposalRef::State { p, r, value }, b))
+}
+
+#[tactic(auto, unfolding(group_entry::specs::ProposalCodec::message_at))]
+fn read_message(b: &[u8]) -> Option<(ProposalRef<'_>, &[u8])>
+    ensures { option_map (λ x. (proposal_in x.0, x.1.now)) result ≡ message_at b.now }
+{
+    let (p, b) = read_provider(b)?;
+    let (r, b) = read_u32(b)?;
+    let (bytes, b) = read_bytes(b)?;
+    Some((ProposalRef::Message { p, r, bytes }, b))
+}
+
+#[tactic(auto, unfolding(group_entry::specs::ProposalCodec::attributes_at))]
+fn read_attributes(b: &[u8]) -> Option<(ProposalRef<'_>, &[u8])>
+    ensures { option_map (λ x. (proposal_in x.0, x.1.now)) result ≡ attributes_at b.now }
+{
+    let (p, b) = read_provider(b)?;
+    let (r, b) = read_u32(b)?;
+    let (attrs, b) = read_attrs(b)?;
+    Some((ProposalRef::Attributes { p, r, attrs }, b))
+}
+
+#[tactic(auto, unfolding(group_entry::specs::ProposalCodec::reflect_at))]
+fn read_reflect(b: &[u8]) -> Option<(ProposalRef<'_>, &[u8])>
+    ensures { option_map (λ x. (proposal_in x.0, x.1.now)) result ≡ reflect_at b.now }
+{
+    let (view, b) = read_view(b)?;
+    let (place, b) = read_u32(b)?;
+    let (value, b) = read_bytes(b)?;
+    Some((ProposalRef::Reflect { view, place, value }, b))
+}
+
+#[tactic(auto, unfolding(group_entry::specs::ProposalCodec::proposal_at))]
+fn proposal_front(b: &[u8]) -> Option<(ProposalRef<'_>, &[u8])>
+    ensures { option_map (λ x. (proposal_in x.0, x.1.now)) result ≡ proposal_at b.now }
+{
+    let (kind, b) = read_u8(b)?;
+    match kind {
+        1 => read_join(b),
+        2 => read_leave(b),
+        3 => read_fail(b),
+        4 => read_expel(b),
+        5 => read_state_change(b),
+        6 => read_message(b),
+        7 => read_attributes(b),
+        8 => read_reflect(b),
+        _ => None,
+    }
+}
+
+/// A proposal off the front of bytes, with the bytes after it. None exactly where the front is no spelling of a
+/// proposal.
+#[tactic(auto, using(rsct_packet::proofs::FormatLaws::gives_found, rsct_packet::proofs::FormatLaws::gives_only, crate::proofs::ProposalFormat::proposal_gives, crate::proofs::ProposalFormat::proposal_format))]
+pub fn read_proposal(b: &[u8]) -> Option<(ProposalRef<'_>, &[u8])>
+    ensures value { option_map (λ x. (proposal_in x.0, x.1.now)) result ≡ proposal_at b.now }
+    ensures found { IsFoundAt proposal_text IsProposal (proposal_of result) b.now }
+    ensures only { IsOnlyAt proposal_text IsProposal (proposal_of result) b.now }
+{
+    proposal_front(known(b))
+}
+
+/// The spelling, in memory of its own.
+#[tactic(auto, unfolding(group_entry::specs::ProposalCodec::proposal_text, group_entry::specs::ProposalCodec::fallen_text), using(crate::proofs::ProposalFormat::some_nodes, crate::proofs::ProposalFormat::fallen_nodes, std::proofs::lemmas::Grind::common_steps))]
+fn spelled(alloc: Global, x: &Proposal) -> Result<Vec<u8>, NoMemory>
+    requires { IsProposal x.now }
+    ensures { IfOk result (λ v. v.items ≡ proposal_text x.now) }
+{
+    let mut out = Vec::new(alloc);
+    match x {
+        Proposal::Join {
+            ps,
+            attrs,
+            source_len,
+        } => {
+            put_u8(&mut out, 1)?;
+            put_providers(&mut out, ps.as_slice())?;
+            put_attrs(&mut out, attrs)?;
+            put_optional_u32(&mut out, *source_len)?;
+        }
+        Proposal::Leave { p, r } => {
+            put_u8(&mut out, 2)?;
+            put_provider(&mut out, *p)?;
+            put_u32(&mut out, *r)?;
+        }
+        Proposal::Fail { out: fallen } => {
+            put_u8(&mut out, 3)?;
+            put_list(&mut out, fallen.as_slice())?;
+        }
+        Proposal::Expel {
+            p,
+            r,
+            out: expelled,
+        } => {
+            put_u8(&mut out, 4)?;
+            put_provider(&mut out, *p)?;
+            put_u32(&mut out, *r)?;
+            put_providers(&mut out, expelled.as_slice())?;
+        }
+        Proposal::State { p, r, value } => {
+            put_u8(&mut out, 5)?;
+            put_provider(&mut out, *p)?;
+            put_u32(&mut out, *r)?;
+            put_bytes(&mut out, value.bytes())?;
+        }
+        Proposal::Message { p, r, bytes } => {
+            put_u8(&mut out, 6)?;
+            put_provider(&mut out, *p)?;
+            put_u32(&mut out, *r)?;
+            put_bytes(&mut out, bytes.bytes())?;
+        }
+        Proposal::Attributes { p, r, attrs } => {
+            put_u8(&mut out, 7)?;
+            put_provider(&mut out, *p)?;
+            put_u32(&mut out, *r)?;
+            put_attrs(&mut out, attrs)?;
+        }
+        Proposal::Reflect { view, place, value } => {
+            put_u8(&mut out, 8)?;
+            put_view(&mut out, *view)?;
+            put_u32(&mut out, *place)?;
+            put_bytes(&mut out, value.bytes())?;
+        }
+    }
+    Ok(out)
+}
+
+/// Takes the spelling of a proposal to the end of `out`, and leaves `out` as before where memory has run out.
+pub fn put_proposal(alloc: Global, out: &mut Vec<u8>, x: &Proposal) -> Result<(), NoMemory>
+    requires { IsProposal x.now }
+    ensures ok { OnOk result (out.new.items ≡ out.old.items ++ proposal_text x.now) }
+    ensures err { OnErr result (out.new.items ≡ out.old.items) }
+{
+    let text = spelled(alloc, x)?;
+    out.extend_from_slice(text.as_slice())?;
+    Ok(())
+}
+
+impl<'a> ProposalRef<'a> {
+    /// A proposal of its own.
+    pub fn own(&self, alloc: Global) -> Result<Proposal, NoMemory>
+        requires { IsProposal (proposal_in self.now) }
+        ensures ok { IfOk result (λ x. x ≡ proposal_in self.now) }
+        ensures proposal { IfOk result IsProposal }
+    {
+        Ok(match self {
+            ProposalRef::Join {
+                ps,
+                attrs,
+                source_len,
+            } => Proposal::Join {
+                ps: Providers::of_listed(alloc, ps)?,
+                attrs: attrs.own(alloc)?,
+                source_len: *source_len,
+            },
+            ProposalRef::Leave { p, r } => Proposal::Leave { p: *p, r: *r },
+            ProposalRef::Fail { out } => Proposal::Fail {
+                out: out.own(alloc)?,
+            },
+            ProposalRef::Expel { p, r, out } => Proposal::Expel {
+                p: *p,
+                r: *r,
+                out: Providers::of_listed(alloc, out)?,
+            },
+            ProposalRef::State { p, r, value } => Proposal::State {
+                p: *p,
+                r: *r,
+                value: text_of(alloc, value)?,
+            },
+            ProposalRef::Message { p, r, bytes } => Proposal::Message {
+                p: *p,
+                r: *r,
+                bytes: text_of(alloc, bytes)?,
+            },
+            ProposalRef::Attributes { p, r, attrs } => Proposal::Attributes {
+                p: *p,
+                r: *r,
+                attrs: attrs.own(alloc)?,
+            },
+            ProposalRef::Reflect { view, place, value } => Proposal::Reflect {
+                view: *view,
+                place: *place,
+                value: text_of(alloc, value)?,
+            },
+        })
+    }
+}

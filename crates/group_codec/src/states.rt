@@ -1,0 +1,352 @@
+//! How group states are spelled.
+ghost use Rattle.std.specs.Prelude.{◌≡◌, ◌++◌, ◌-◌, IfOk, OnOk, OnErr, length, take};
+ghost use Rattle.std.specs.Option.{option_map};
+ghost use Rattle.std.specs.List.{list_all};
+ghost use Rattle.rsct_packet.specs.Reading.{Gives, optional_at};
+ghost use Rattle.rsct_packet.specs.Format.{IsFoundAt, IsOnlyAt, OptionFits, optional_text};
+ghost use Rattle.rsct_packet.specs.Providers.{among, none_among};
+ghost use Rattle.proposal_core.specs.Fold.{joiners_fit, joiners_in, present};
+ghost use Rattle.proposal_core.specs.StateCodec.{running_at, running_text, IsRunning, is_sound, parts_at, state_at, state_text, IsState};
+ghost use Rattle.group_codec.specs.InPlace.{running_in, optional_running_in, parts_in};
+
+use crate::attrs::{AttrsRef, put_attrs, read_attrs};
+use crate::proposals::{ProposalRef, put_proposal, read_proposal};
+use group_entry::{optional_bytes, optional_text_of, text_of};
+use proposal_core::{GroupState, Running};
+use rsct_packet::{
+    Listed, MAX_PROVIDERS, NoMemory, ProtoId, ProviderId, Providers, is_listed, known, put_bytes,
+    put_optional_bytes, put_optional_proto, put_proto, put_providers, put_u8, put_u16, read_bytes,
+    read_optional_bytes, read_optional_proto, read_proto, read_providers, read_u8, read_u16,
+};
+use std::alloc::Global;
+use std::marker::Model;
+
+/// A protocol that runs, as it stands in a datagram.
+#[derive(Drop)]
+pub struct RunningRef<'a> {
+    pub proto: ProtoId,
+    pub proposal: ProposalRef<'a>,
+    pub phase: u16,
+    pub proposed: Option<&'a [u8]>,
+}
+
+/// The parts of a group state as they stand in a datagram.
+#[derive(Drop)]
+pub struct StateParts<'a> {
+    pub members: Listed<'a, ProviderId>,
+    pub value: &'a [u8],
+    pub attrs: AttrsRef<'a>,
+    pub failed: Listed<'a, ProviderId>,
+    pub value_at: Option<ProtoId>,
+    pub reflected_at: Option<ProtoId>,
+    pub running: Option<RunningRef<'a>>,
+}
+
+#[tactic(auto, unfolding(proposal_core::specs::StateCodec::running_at))]
+fn read_running(b: &[u8]) -> Option<(RunningRef<'_>, &[u8])>
+    ensures { option_map (λ x. (running_in x.0, x.1.now)) result ≡ running_at b.now }
+{
+    let (proto, b) = read_proto(b)?;
+    let (phase, b) = read_u16(b)?;
+    if phase < 1 || phase > 200 {
+        return None;
+    }
+    let (proposal, b) = read_proposal(b)?;
+    let (proposed, b) = read_optional_bytes(b)?;
+    Some((
+        RunningRef {
+            proto,
+            proposal,
+            phase,
+            proposed,
+        },
+        b,
+    ))
+}
+
+fn read_optional_running(b: &[u8]) -> Option<(Option<RunningRef<'_>>, &[u8])>
+    ensures { option_map (λ x. (optional_running_in x.0, x.1.now)) result ≡ optional_at running_at b.now }
+{
+    let (k, b) = read_u8(b)?;
+    match k {
+        0 => Some((None, b)),
+        1 => {
+            let (run, b) = read_running(b)?;
+            Some((Some(run), b))
+        }
+        _ => None,
+    }
+}
+
+#[tactic(auto, unfolding(proposal_core::specs::StateCodec::parts_at))]
+fn read_parts(b: &[u8]) -> Option<(StateParts<'_>, &[u8])>
+    ensures { option_map (λ x. (parts_in x.0, x.1.now)) result ≡ parts_at b.now }
+{
+    let (members, b) = read_providers(b)?;
+    let (value, b) = read_bytes(b)?;
+    let (attrs, b) = read_attrs(b)?;
+    let (failed, b) = read_providers(b)?;
+    let (value_at, b) = read_optional_proto(b)?;
+    let (reflected_at, b) = read_optional_proto(b)?;
+    let (running, b) = read_optional_running(b)?;
+    Some((
+        StateParts {
+            members,
+            value,
+            attrs,
+            failed,
+            value_at,
+            reflected_at,
+            running,
+        },
+        b,
+    ))
+}
+
+/// Is none of them among the others?
+fn are_none_listed(xs: &Listed<ProviderId>, ps: &Listed<ProviderId>) -> bool
+    ensures { result ≡ none_among xs.now ps.now }
+{
+    let mut left = ps.copy();
+    while let Some(p) = left.take_first() {
+        if is_listed(xs, p) {
+            return false;
+        }
+    }
+    true
+}
+
+fn is_joiner(run: &Option<RunningRef>, p: ProviderId) -> bool
+    ensures { result ≡ among (joiners_in (optional_running_in run.now)) p }
+{
+    match run {
+        None => false,
+        Some(run) => match &run.proposal {
+            ProposalRef::Join { ps, .. } => is_listed(ps, p),
+            _ => false,
+        },
+    }
+}
+
+/// Is it a member or a running joiner?
+#[tactic(auto, using(proposal_core::proofs::FoldLaws::among_both, std::proofs::lemmas::Grind::common_steps))]
+fn is_present(parts: &StateParts, p: ProviderId) -> bool
+    ensures { result ≡ among (present (parts_in parts.now)) p }
+{
+    is_listed(&parts.members, p) || is_joiner(&parts.running, p)
+}
+
+/// Is each of them a member or a running joiner?
+fn are_present(parts: &StateParts, ps: &Listed<ProviderId>) -> bool
+    ensures { result ≡ list_all (among (present (parts_in parts.now))) ps.now }
+{
+    let mut left = ps.copy();
+    while let Some(p) = left.take_first() {
+        if !is_present(parts, p) {
+            return false;
+        }
+    }
+    true
+}
+
+/// Are the running joiners no members, and with the members at most 64?
+#[tactic(auto, unfolding(proposal_core::specs::Fold::joiners_fit, proposal_core::specs::Fold::joiners_fit_at, proposal_core::specs::Fold::can_begin))]
+fn do_joiners_fit(parts: &StateParts) -> bool
+    ensures { result ≡ joiners_fit (parts_in parts.now) }
+{
+    match &parts.running {
+        None => true,
+        Some(run) => match &run.proposal {
+            ProposalRef::Join { ps, .. } => {
+                are_none_listed(&parts.members, ps)
+                    && ps.len() <= MAX_PROVIDERS
+                    && parts.members.len() <= MAX_PROVIDERS - ps.len()
+            }
+            _ => true,
+        },
+    }
+}
+
+#[tactic(auto, unfolding(proposal_core::specs::StateCodec::failed_are_present))]
+fn is_sound(parts: &StateParts) -> bool
+    ensures { result ≡ is_sound (parts_in parts.now) }
+{
+    do_joiners_fit(parts) && are_present(parts, &parts.failed)
+}
+
+impl<'a> RunningRef<'a> {
+    fn own(&self, alloc: Global) -> Result<Running, NoMemory>
+        requires { IsRunning (running_in self.now) }
+        ensures { IfOk result (λ r. r ≡ running_in self.now) }
+    {
+        Ok(Running {
+            proto: self.proto,
+            proposal: self.proposal.own(alloc)?,
+            phase: self.phase,
+            proposed: optional_text_of(alloc, self.proposed)?,
+        })
+    }
+}
+
+fn own_running(alloc: Global, run: &Option<RunningRef>) -> Result<Option<Running>, NoMemory>
+    requires { OptionFits IsRunning (optional_running_in run.now) }
+    ensures { IfOk result (λ r. r ≡ optional_running_in run.now) }
+{
+    match run {
+        None => Ok(None),
+        Some(run) => Ok(Some(run.own(alloc)?)),
+    }
+}
+
+impl<'a> StateParts<'a> {
+    fn own(&self, alloc: Global) -> Result<GroupState, NoMemory>
+        requires { IsState (parts_in self.now) }
+        ensures { IfOk result (λ s. s ≡ parts_in self.now) }
+    {
+        Ok(GroupState {
+            members: Providers::of_listed(alloc, &self.members)?,
+            value: text_of(alloc, self.value)?,
+            attrs: self.attrs.own(alloc)?,
+            failed: Providers::of_listed(alloc, &self.failed)?,
+            value_at: self.value_at,
+            reflected_at: self.reflected_at,
+            running: own_running(alloc, &self.running)?,
+        })
+    }
+}
+
+/// A group state as it stands in a datagram, with its whole spelling.
+#[derive(Drop)]
+pub struct StateRef<'a> {
+    parts: StateParts<'a>,
+    bytes: &'a [u8],
+}
+
+impl<'a> Model for StateRef<'a> {
+    ghost use Rattle.proposal_core.specs.declared.group_state.GroupState.{GroupState};
+    ghost use Rattle.group_codec.specs.InPlace.{parts_in, IsRead};
+
+    ghost Value = { GroupState };
+
+    ghost view = { λ s. parts_in s.parts };
+
+    ghost invariant = { λ s. IsRead (parts_in s.parts) s.bytes.now };
+}
+
+impl<'a> StateRef<'a> {
+    /// Its parts.
+    pub fn parts(&self) -> &StateParts<'a>
+        ensures { parts_in result.now ≡ self.now }
+    {
+        &self.parts
+    }
+
+    /// Its whole spelling.
+    pub fn bytes(&self) -> &'a [u8]
+        ensures text { result.now ≡ state_text self.now }
+        ensures state { IsState self.now }
+    {
+        self.bytes
+    }
+
+    /// A state of its own.
+    pub fn own(&self, alloc: Global) -> Result<GroupState, NoMemory>
+        ensures ok { IfOk result (λ s. s ≡ self.now) }
+        ensures state { IsState self.now }
+    {
+        self.parts.own(alloc)
+    }
+}
+
+/// The bytes in front of the rest.
+fn front<'a>(b: &'a [u8], rest: &[u8]) -> &'a [u8]
+    ensures { result.now ≡ take (length b.now - length rest.now) b.now }
+{
+    let n = b.len().saturating_sub(rest.len());
+    &b[..n]
+}
+
+#[tactic(auto, unfolding(proposal_core::specs::StateCodec::state_at))]
+fn state_front(b: &[u8]) -> Option<(StateRef<'_>, &[u8])>
+    ensures { Gives result (state_at b.now) }
+{
+    let (parts, rest) = read_parts(b)?;
+    if !is_sound(&parts) {
+        return None;
+    }
+    Some((
+        StateRef {
+            parts,
+            bytes: front(known(b), rest),
+        },
+        rest,
+    ))
+}
+
+/// A group state off the front of bytes, with the bytes after it. None exactly where the front is no spelling of a
+/// state.
+#[tactic(auto, using(rsct_packet::proofs::FormatLaws::gives_found, rsct_packet::proofs::FormatLaws::gives_only, crate::proofs::StateFormat::state_format))]
+pub fn read_state(b: &[u8]) -> Option<(StateRef<'_>, &[u8])>
+    ensures value { Gives result (state_at b.now) }
+    ensures found { IsFoundAt state_text IsState result b.now }
+    ensures only { IsOnlyAt state_text IsState result b.now }
+{
+    state_front(known(b))
+}
+
+#[tactic(auto, unfolding(proposal_core::specs::StateCodec::running_text))]
+fn put_running(alloc: Global, out: &mut Vec<u8>, run: &Running) -> Result<(), NoMemory>
+    requires { IsRunning run.now }
+    ensures { OnOk result (out.new.items ≡ out.old.items ++ running_text run.now) }
+{
+    put_proto(out, run.proto)?;
+    put_u16(out, run.phase)?;
+    put_proposal(alloc, out, &run.proposal)?;
+    put_optional_bytes(out, optional_bytes(&run.proposed))?;
+    Ok(())
+}
+
+fn put_optional_running(
+    alloc: Global,
+    out: &mut Vec<u8>,
+    run: &Option<Running>,
+) -> Result<(), NoMemory>
+    requires { OptionFits IsRunning run.now }
+    ensures { OnOk result (out.new.items ≡ out.old.items ++ optional_text running_text run.now) }
+{
+    match run {
+        None => put_u8(out, 0),
+        Some(run) => {
+            put_u8(out, 1)?;
+            put_running(alloc, out, run)
+        }
+    }
+}
+
+/// The spelling, in memory of its own.
+#[tactic(auto, unfolding(proposal_core::specs::StateCodec::state_text), using(crate::proofs::ProposalFormat::members_nodes, std::proofs::lemmas::Grind::common_steps))]
+fn spelled(alloc: Global, s: &GroupState) -> Result<Vec<u8>, NoMemory>
+    requires { IsState s.now }
+    ensures { IfOk result (λ v. v.items ≡ state_text s.now) }
+{
+    let mut out = Vec::new(alloc);
+    put_providers(&mut out, s.members.as_slice())?;
+    put_bytes(&mut out, s.value.bytes())?;
+    put_attrs(&mut out, &s.attrs)?;
+    put_providers(&mut out, s.failed.as_slice())?;
+    put_optional_proto(&mut out, s.value_at)?;
+    put_optional_proto(&mut out, s.reflected_at)?;
+    put_optional_running(alloc, &mut out, &s.running)?;
+    Ok(out)
+}
+
+/// Takes the spelling of a group state to the end of `out`, and leaves `out` as before where memory has run out.
+pub fn put_state(alloc: Global, out: &mut Vec<u8>, s: &GroupState) -> Result<(), NoMemory>
+    requires { IsState s.now }
+    ensures ok { OnOk result (out.new.items ≡ out.old.items ++ state_text s.now) }
+    ensures err { OnErr result (out.new.items ≡ out.old.items) }
+{
+    let text = spelled(alloc, s)?;
+    out.extend_from_slice(text.as_slice())?;
+    Ok(())
+}

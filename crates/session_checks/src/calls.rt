@@ -1,0 +1,318 @@
+//! The calls of clients, as far as they change what a node has of them.
+ghost use Rattle.std.specs.Prelude.{◌≡◌, ◌++◌, ◌∷◌, [], ◌<◌, ◌^◌, length, IsTrue, IfOk, OnOk, OnErr, option_copied};
+ghost use Rattle.rsct_packet.specs.Text.{IsName};
+ghost use Rattle.client_callbacks.specs.Ballots.{is_level};
+ghost use Rattle.session_state.specs.Calls.{Answers, SameSessions, left, expelled, state_changed, message_sent, attributes_changed, voted, joined};
+
+use crate::checks::{
+    check_ask, check_attributes, check_bytes, check_join, check_message, check_session,
+    check_targets, check_value, is_kept, member,
+};
+use client_callbacks::Ballot;
+use group_attr::{Attrs, Phases};
+use proposal_core::{Proposal, Vote};
+use rsct_packet::{List, Name, NoMemory, ProviderId, Providers, Text};
+use session_state::{GsFault, KeptBallot, MemberToken, Provider, Request, SessionState};
+use std::alloc::Global;
+use subscribe_core::ClientToken;
+
+/// The name of these bytes.
+fn name_of(alloc: Global, g: &[u8]) -> Result<Name, NoMemory>
+    requires { IsName g.now }
+    ensures { IfOk result (λ n. n ≡ g.now) }
+{
+    match Name::of(alloc, g)? {
+        None => Err(NoMemory),
+        Some(name) => Ok(name),
+    }
+}
+
+/// The text of these bytes.
+fn text_of(alloc: Global, b: &[u8]) -> Result<Text, NoMemory>
+    requires { length b.now < 2 ^ 16 }
+    ensures { IfOk result (λ t. t ≡ b.now) }
+{
+    match Text::of(alloc, b)? {
+        None => Err(NoMemory),
+        Some(text) => Ok(text),
+    }
+}
+
+/// Puts a request with the next number at the end.
+fn put_request(sessions: &mut SessionState, q: Request) -> Result<(), NoMemory>
+    ensures ok { OnOk result (sessions.new ≡ record sessions.old { last_request = q.r; requests = sessions.old.requests ++ q ∷ [] }) }
+    ensures err { OnErr result (sessions.new ≡ sessions.old) }
+{
+    let r = q.r;
+    sessions.requests.push(q)?;
+    sessions.last_request = r;
+    Ok(())
+}
+
+/// Puts a joining provider and its request at the end.
+fn put_joiner(sessions: &mut SessionState, x: Provider, q: Request) -> Result<(), NoMemory>
+    ensures ok { OnOk result (sessions.new ≡ record sessions.old { last_request = q.r; providers = sessions.old.providers ++ x ∷ []; requests = sessions.old.requests ++ q ∷ [] }) }
+    ensures err { OnErr result (sessions.new ≡ sessions.old) }
+{
+    let n = sessions.providers.len();
+    sessions.providers.push(x)?;
+    match put_request(sessions, q) {
+        Ok(()) => Ok(()),
+        Err(e) => {
+            sessions.providers.truncate(n);
+            Err(e)
+        }
+    }
+}
+
+/// Adds a joining provider of the client, with its join's request.
+#[tactic(auto, unfolding(session_state::specs::Calls::joined, session_state::specs::Calls::join_asked))]
+pub fn join(
+    sessions: &mut SessionState,
+    alloc: Global,
+    t: ClientToken,
+    g: &[u8],
+    instance: u16,
+    a: Attrs,
+) -> Result<MemberToken, GsFault>
+    ensures answer { Answers result sessions.old sessions.new (joined sessions.old t g.now instance a) }
+    ensures same { SameSessions sessions.old sessions.new }
+    ensures token { IfOk result (λ m. m.n ≡ sessions.new.last_request) }
+{
+    check_join(sessions, t, g, &a)?;
+    let r = sessions.last_request + 1;
+    let p = ProviderId {
+        node: sessions.me,
+        inc: sessions.inc,
+        instance,
+        join: r,
+    };
+    let x = Provider {
+        p,
+        client: t,
+        group: name_of(alloc, g)?,
+        takes_part: false,
+        opened: None,
+    };
+    let q = Request {
+        p,
+        r,
+        group: name_of(alloc, g)?,
+        phases: Phases::One,
+        proposal: Proposal::Join {
+            ps: Providers::one(alloc, p)?,
+            attrs: a,
+            source_len: None,
+        },
+    };
+    put_joiner(sessions, x, q)?;
+    Ok(MemberToken { n: r })
+}
+
+/// Asks that the provider leaves.
+#[tactic(auto, unfolding(session_state::specs::Calls::left, session_state::specs::Calls::request_made, session_state::specs::Calls::ask_fault, session_state::specs::Calls::asked, session_state::specs::Calls::no_session_fault))]
+pub fn leave(
+    sessions: &mut SessionState,
+    alloc: Global,
+    m: MemberToken,
+    ph: Phases,
+) -> Result<(), GsFault>
+    ensures answer { Answers result sessions.old sessions.new (left sessions.old m ph) }
+    ensures same { SameSessions sessions.old sessions.new }
+{
+    check_session(sessions)?;
+    let Some(x) = member(sessions, m) else {
+        return Err(GsFault::BadMemberToken);
+    };
+    check_ask(sessions, x.p)?;
+    let p = x.p;
+    let group = x.group.copy(alloc)?;
+    let r = sessions.last_request + 1;
+    put_request(
+        sessions,
+        Request {
+            p,
+            r,
+            group,
+            phases: ph,
+            proposal: Proposal::Leave { p, r },
+        },
+    )?;
+    Ok(())
+}
+
+/// Asks that these are expelled.
+#[tactic(auto, unfolding(session_state::specs::Calls::expelled, session_state::specs::Calls::request_made, session_state::specs::Calls::ask_fault, session_state::specs::Calls::asked, session_state::specs::Calls::no_session_fault))]
+pub fn expel(
+    sessions: &mut SessionState,
+    alloc: Global,
+    m: MemberToken,
+    ph: Phases,
+    out: &[ProviderId],
+) -> Result<(), GsFault>
+    ensures answer { Answers result sessions.old sessions.new (expelled sessions.old m ph out.now) }
+    ensures same { SameSessions sessions.old sessions.new }
+{
+    check_session(sessions)?;
+    let Some(x) = member(sessions, m) else {
+        return Err(GsFault::BadMemberToken);
+    };
+    check_targets(out)?;
+    check_ask(sessions, x.p)?;
+    let p = x.p;
+    let group = x.group.copy(alloc)?;
+    let r = sessions.last_request + 1;
+    let out = Providers::of(alloc, out)?;
+    put_request(
+        sessions,
+        Request {
+            p,
+            r,
+            group,
+            phases: ph,
+            proposal: Proposal::Expel { p, r, out },
+        },
+    )?;
+    Ok(())
+}
+
+/// Asks that the group's value becomes this one.
+#[tactic(auto, unfolding(session_state::specs::Calls::state_changed, session_state::specs::Calls::request_made, session_state::specs::Calls::ask_fault, session_state::specs::Calls::asked, session_state::specs::Calls::no_session_fault))]
+pub fn change_state(
+    sessions: &mut SessionState,
+    alloc: Global,
+    m: MemberToken,
+    ph: Phases,
+    value: &[u8],
+) -> Result<(), GsFault>
+    ensures answer { Answers result sessions.old sessions.new (state_changed sessions.old m ph value.now) }
+    ensures same { SameSessions sessions.old sessions.new }
+{
+    check_session(sessions)?;
+    let Some(x) = member(sessions, m) else {
+        return Err(GsFault::BadMemberToken);
+    };
+    check_bytes(sessions, value)?;
+    check_ask(sessions, x.p)?;
+    let p = x.p;
+    let group = x.group.copy(alloc)?;
+    let r = sessions.last_request + 1;
+    let value = text_of(alloc, value)?;
+    put_request(
+        sessions,
+        Request {
+            p,
+            r,
+            group,
+            phases: ph,
+            proposal: Proposal::State { p, r, value },
+        },
+    )?;
+    Ok(())
+}
+
+/// Asks that this message is sent to all.
+#[tactic(auto, unfolding(session_state::specs::Calls::message_sent, session_state::specs::Calls::request_made, session_state::specs::Calls::ask_fault, session_state::specs::Calls::asked, session_state::specs::Calls::no_session_fault))]
+pub fn send_message(
+    sessions: &mut SessionState,
+    alloc: Global,
+    m: MemberToken,
+    ph: Phases,
+    b: &[u8],
+) -> Result<(), GsFault>
+    ensures answer { Answers result sessions.old sessions.new (message_sent sessions.old m ph b.now) }
+    ensures same { SameSessions sessions.old sessions.new }
+{
+    check_session(sessions)?;
+    let Some(x) = member(sessions, m) else {
+        return Err(GsFault::BadMemberToken);
+    };
+    check_message(b)?;
+    check_ask(sessions, x.p)?;
+    let p = x.p;
+    let group = x.group.copy(alloc)?;
+    let r = sessions.last_request + 1;
+    let bytes = text_of(alloc, b)?;
+    put_request(
+        sessions,
+        Request {
+            p,
+            r,
+            group,
+            phases: ph,
+            proposal: Proposal::Message { p, r, bytes },
+        },
+    )?;
+    Ok(())
+}
+
+/// Asks that the group's attributes become these.
+#[tactic(auto, unfolding(session_state::specs::Calls::attributes_changed, session_state::specs::Calls::ask_fault, session_state::specs::Calls::asked, session_state::specs::Calls::no_session_fault))]
+pub fn change_attributes(
+    sessions: &mut SessionState,
+    alloc: Global,
+    m: MemberToken,
+    ph: Phases,
+    a: Attrs,
+) -> Result<(), GsFault>
+    ensures answer { Answers result sessions.old sessions.new (attributes_changed sessions.old m ph a) }
+    ensures same { SameSessions sessions.old sessions.new }
+{
+    check_session(sessions)?;
+    let Some(x) = member(sessions, m) else {
+        return Err(GsFault::BadMemberToken);
+    };
+    check_attributes(&a, x.group.bytes())?;
+    check_ask(sessions, x.p)?;
+    let p = x.p;
+    let group = x.group.copy(alloc)?;
+    let r = sessions.last_request + 1;
+    put_request(
+        sessions,
+        Request {
+            p,
+            r,
+            group,
+            phases: ph,
+            proposal: Proposal::Attributes { p, r, attrs: a },
+        },
+    )?;
+    Ok(())
+}
+
+/// Keeps a ballot of the provider.
+#[tactic(auto, unfolding(session_state::specs::Calls::voted, session_state::specs::Calls::no_session_fault, session_state::specs::Calls::value_fault, client_callbacks::specs::Ballots::can_fill, client_callbacks::specs::Ballots::filled_with))]
+pub fn vote(
+    sessions: &mut SessionState,
+    alloc: Global,
+    m: MemberToken,
+    v: Vote,
+    value: Option<&[u8]>,
+) -> Result<(), GsFault>
+    requires { IsTrue (is_level sessions.old.level) }
+    ensures answer { Answers result sessions.old sessions.new (voted sessions.old m v (option_copied value.entry)) }
+    ensures same { SameSessions sessions.old sessions.new }
+{
+    check_session(sessions)?;
+    let Some(x) = member(sessions, m) else {
+        return Err(GsFault::BadMemberToken);
+    };
+    check_value(sessions, value)?;
+    let Some(o) = x.opened else {
+        return Err(GsFault::VoteNotExpected);
+    };
+    if is_kept(sessions, x.p, o) {
+        return Err(GsFault::VoteNotExpected);
+    }
+    let mut ballot = Ballot::new(true, sessions.level);
+    ballot.set(alloc, v, value, None)?;
+    let kept = KeptBallot {
+        p: x.p,
+        group: x.group.copy(alloc)?,
+        proto: o.proto,
+        phase: o.phase,
+        ballot,
+    };
+    sessions.kept.push(kept)?;
+    Ok(())
+}

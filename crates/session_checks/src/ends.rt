@@ -1,0 +1,134 @@
+//! Subscriptions and ends of sessions, as far as they change what a node has of its clients.
+ghost use Rattle.std.specs.Prelude.{◌≡◌, ◌<◌, ◌+◌, not, filter, find, length, option_copied, IfOk, IfSome, OnOk, OnErr};
+ghost use Rattle.std.specs.List.{list_any};
+ghost use Rattle.subscribe_core.specs.Subs.{has_token, is_live};
+ghost use Rattle.session_state.specs.State.{client_place};
+ghost use Rattle.session_state.specs.Calls.{Answers, AnswersAlways, SameSessions, is_owned, session_added, subscribe_taken, unsubscribe_taken, session_ended, removed_at};
+ghost use Rattle.session_state.specs.HandOn.{subscriber_of};
+
+use crate::checks::{check_subscribe, check_unsubscribe};
+use rsct_packet::{List, NoMemory, ProviderId};
+use session_changes::client_place;
+use session_state::{GsFault, KeptBallot, Provider, Request, Session, SessionState};
+use std::alloc::Global;
+use subscribe_core::{ClientToken, SubToken, Subscription};
+
+/// Is the provider of the client?
+fn is_owned(rows: &[Provider], t: ClientToken, p: ProviderId) -> bool
+    ensures { result ≡ is_owned rows.now t p }
+{
+    rows.iter().any(|x| x.client == t && x.p == p)
+}
+
+fn drop_requests_owned(requests: &mut List<Request>, rows: &[Provider], t: ClientToken)
+    ensures { requests.new ≡ filter (λ q. not (is_owned rows.now t q.p)) requests.old }
+{
+    requests.retain(|q| !is_owned(rows, t, q.p));
+}
+
+fn drop_kept_owned(kept: &mut List<KeptBallot>, rows: &[Provider], t: ClientToken)
+    ensures { kept.new ≡ filter (λ k. not (is_owned rows.now t k.p)) kept.old }
+{
+    kept.retain(|k| !is_owned(rows, t, k.p));
+}
+
+/// Is one of them the subscription of this token?
+fn is_live(live: &[Subscription], s: SubToken) -> bool
+    ensures { result ≡ list_any (has_token s) live.now }
+{
+    live.iter().any(|x| x.token == s)
+}
+
+/// The subscription of a token.
+fn subscription(live: &[Subscription], s: SubToken) -> Option<&Subscription>
+    ensures { option_copied result ≡ find (has_token s) live.now }
+{
+    live.iter().find(|x| x.token == s)
+}
+
+/// Is the subscription live?
+pub fn has_subscription(sessions: &SessionState, s: SubToken) -> bool
+    ensures { result ≡ is_live s sessions.now.subs }
+{
+    is_live(sessions.subs.live(), s)
+}
+
+/// The place of the client that has the subscription.
+#[tactic(auto, unfolding(session_state::specs::HandOn::subscriber_of))]
+pub fn subscriber_of(sessions: &SessionState, s: SubToken) -> Option<usize>
+    ensures value { result ≡ subscriber_of sessions.now s }
+    ensures within { IfSome result (λ i. i < length sessions.now.sessions) }
+{
+    match subscription(sessions.subs.live(), s) {
+        None => None,
+        Some(x) => client_place(sessions, x.client),
+    }
+}
+
+/// Adds a session of this name.
+#[tactic(auto, unfolding(session_state::specs::Calls::session_added))]
+pub fn add_session(
+    sessions: &mut SessionState,
+    alloc: Global,
+    name: &[u8],
+) -> Result<ClientToken, NoMemory>
+    requires { sessions.old.last_client < 4294967295 }
+    ensures ok { OnOk result (sessions.new ≡ session_added sessions.old name.now) }
+    ensures token { IfOk result (λ t. t.n ≡ sessions.old.last_client + 1) }
+    ensures err { OnErr result (sessions.new ≡ sessions.old) }
+{
+    let token = ClientToken {
+        n: sessions.last_client + 1,
+    };
+    let name = List::of(alloc, name)?;
+    sessions.sessions.push(Session { token, name })?;
+    sessions.last_client = token.n;
+    Ok(token)
+}
+
+/// Subscribes a client to a group.
+#[tactic(auto, unfolding(session_state::specs::Calls::subscribe_taken))]
+pub fn subscribe(
+    sessions: &mut SessionState,
+    alloc: Global,
+    t: ClientToken,
+    g: &[u8],
+    known: bool,
+) -> Result<SubToken, GsFault>
+    ensures answer { Answers result sessions.old sessions.new (subscribe_taken sessions.old t g.now known) }
+    ensures same { SameSessions sessions.old sessions.new }
+    ensures token { IfOk result (λ s. s.n ≡ sessions.new.subs.last) }
+{
+    check_subscribe(sessions, t, g, known)?;
+    match sessions.subs.add(alloc, t, g, known) {
+        Ok(s) => Ok(s),
+        Err(_) => Err(GsFault::NoMemory),
+    }
+}
+
+/// Ends a subscription of a client.
+#[tactic(auto, unfolding(session_state::specs::Calls::unsubscribe_taken))]
+pub fn unsubscribe(sessions: &mut SessionState, t: ClientToken, s: SubToken) -> Result<(), GsFault>
+    ensures answer { AnswersAlways result sessions.old sessions.new (unsubscribe_taken sessions.old t s) }
+    ensures same { SameSessions sessions.old sessions.new }
+{
+    check_unsubscribe(sessions, t, s)?;
+    sessions.subs.remove(s);
+    Ok(())
+}
+
+/// Ends the session at this place, which is the client's, with its providers and its subscriptions.
+#[tactic(auto, unfolding(session_state::specs::Calls::session_ended))]
+pub fn end_session(sessions: &mut SessionState, t: ClientToken)
+    ensures state { sessions.new ≡ session_ended sessions.old t }
+    ensures sessions { sessions.new.sessions ≡ removed_at (client_place sessions.old t) sessions.old.sessions }
+    ensures level { sessions.new.level ≡ sessions.old.level }
+{
+    if let Some(i) = client_place(sessions, t) {
+        sessions.sessions.remove(i);
+    }
+    drop_requests_owned(&mut sessions.requests, sessions.providers.as_slice(), t);
+    drop_kept_owned(&mut sessions.kept, sessions.providers.as_slice(), t);
+    sessions.providers.retain_not_of(t);
+    sessions.subs.remove_client(t);
+}

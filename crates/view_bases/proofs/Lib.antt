@@ -1,0 +1,5 @@
+pub mod Winning
+pub mod Failing
+pub mod Bases
+pub mod NameLaws
+pub mod CutLaws

@@ -1,0 +1,3 @@
+pub mod Best
+pub mod Names
+pub mod Fitting

@@ -1,5 +1,0 @@
-use Rattle.view_exchange.proofs.Bases.{result_is_base}
-use Rattle.view_exchange.proofs.install.Install.base.Goals as goal
-
-pub returns-clause-wins : goal.returns-clause-wins
-returns-clause-wins c = λ h. result_is_base c.args.self.now c.args.g.now c.base_alone.result h c.base_alone.ensures

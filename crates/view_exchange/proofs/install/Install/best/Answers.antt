@@ -1,5 +1,0 @@
-use Rattle.view_exchange.proofs.Bases.{tail_is_found}
-use Rattle.view_exchange.proofs.install.Install.best.Goals as goal
-
-pub returns-clause-tail : goal.returns-clause-tail
-returns-clause-tail c = λ h. tail_is_found c.args.self.now c.args.g.now c.best_alone.result h c.best_alone.ensures

@@ -1,8 +1,0 @@
-use Rattle.std.proofs.Common.{◌≡◌, None, take}
-use Rattle.std.specs.Option.{option_map}
-use Rattle.view_exchange.specs.Bases.{candidates}
-use Rattle.view_exchange.specs.Best.{best_after, winner_in}
-use Rattle.view_exchange.proofs.install.Install.best_alone.Given as goal
-
-abbrev pub invariant-loop-source : goal.invariant-loop-source
-invariant-loop-source l = option_map winner_in l.best ≡ best_after None (candidates l.self l.g (take l.source-index l.source-items))

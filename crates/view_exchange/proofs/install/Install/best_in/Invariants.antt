@@ -1,7 +1,0 @@
-use Rattle.std.proofs.Common.{◌≡◌, take}
-use Rattle.std.specs.Option.{option_map}
-use Rattle.view_exchange.specs.Best.{best_after, winner_in, found_in}
-use Rattle.view_exchange.proofs.install.Install.best_in.Given as goal
-
-abbrev pub invariant-loop-part : goal.invariant-loop-part
-invariant-loop-part l = option_map winner_in l.best ≡ best_after (option_map winner_in l.initial.best) (found_in l.self l.g l.source (take l.part-index l.part-items))

@@ -1,7 +1,0 @@
-use Rattle.std.proofs.Common.{◌≡◌}
-use Rattle.std.specs.Prelude.{map}
-use Rattle.view_exchange.specs.Answers.{kept_of}
-use Rattle.view_exchange.proofs.sides.KeptParts.of_parts.Given as goal
-
-abbrev pub invariant-loop-part : goal.invariant-loop-part
-invariant-loop-part l = l.items.items ≡ map (kept_of l.node) l.yielded

@@ -1,0 +1,2 @@
+pub mod ViewOrder
+pub mod TailLaws

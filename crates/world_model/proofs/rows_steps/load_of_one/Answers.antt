@@ -1,7 +1,0 @@
-use Rattle.std.proofs.Common.{refl}
-use Rattle.world_model.specs.Opens.{all_opens}
-use Rattle.world_model.proofs.rows_steps.load_of_one.Goals as goal
-
-pub returns : goal.returns
-unfolding all_opens
-returns c = refl
