@@ -18,7 +18,6 @@ pub enum Why {
 
 /// What a client is told: that the request `r` of its provider `p` was refused, or what a subscribed group
 /// or the hosts of the view have become.
-#[derive(Drop)]
 pub enum Told {
     Refused {
         p: ProviderId,
@@ -34,4 +33,22 @@ pub enum Told {
         view: ViewId,
         nodes: Members,
     },
+}
+
+// Written out: a drop is one call then, whose proof is made once.
+impl Drop for Told {
+    fn drop(self) {
+        match self {
+            Told::Refused { p: _, r: _, why: _ } => {}
+            Told::Note {
+                group: _group,
+                members: _members,
+                value: _value,
+            } => {}
+            Told::Hosts {
+                view: _,
+                nodes: _nodes,
+            } => {}
+        }
+    }
 }

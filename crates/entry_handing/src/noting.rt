@@ -80,9 +80,9 @@ fn heard_record(alloc: Global, n: &NewEntry<'_>, p: ProviderId) -> Result<Happen
         view: n.view,
         group: n.group.copy(alloc)?,
         place: n.place,
-        entry: n.entry.copy(alloc)?,
         members: n.after.members.copy(alloc)?,
         value: n.after.value.copy(alloc)?,
+        entry: n.entry.copy(alloc)?,
     })
 }
 
@@ -164,8 +164,8 @@ fn note_one<C: Callbacks>(
     ensures received { OnOk result (Receive C.stands_for clients.old.items clients.new.items (note_handing n.now.node n.now.view sessions.now n.now.group.now n.now.place n.now.state.now u.now ∷ [])) }
     ensures records { OnOk result (records.new ≡ records.old ++ note_in n.now.node n.now.view sessions.now n.now.group.now n.now.place n.now.state.now u.now ∷ []) }
 {
-    let told = told_of(alloc, n)?;
     let client = subscriber_name(alloc, sessions, u)?;
+    let told = told_of(alloc, n)?;
     tell_at(clients, client_place(sessions, u.client), &told)?;
     records.push(Happened::Noted {
         node: n.node,

@@ -203,41 +203,49 @@ pub fn read_entry(b: &[u8]) -> Option<EntryRef<'_>>
     whole_entry(b)
 }
 
-/// The spelling, in memory of its own.
+/// Takes the spelling to the end of `out`, which may keep a part of it where memory has run out.
 #[tactic(auto, unfolding(group_entry::specs::EntryCodec::entry_text), using(crate::proofs::ProposalFormat::some_nodes, std::proofs::lemmas::Grind::common_steps))]
+fn put_parts(alloc: Global, out: &mut Vec<u8>, e: &Entry) -> Result<(), NoMemory>
+    requires { IsEntry e.now }
+    ensures { OnOk result (out.new.items ≡ out.old.items ++ entry_text e.now) }
+{
+    match e {
+        Entry::Once(x) => {
+            put_u8(out, 1)?;
+            put_proposal(alloc, out, x)
+        }
+        Entry::Begin(x) => {
+            put_u8(out, 2)?;
+            put_proposal(alloc, out, x)
+        }
+        Entry::Phase(c) => {
+            put_u8(out, 3)?;
+            put_closed(out, c)
+        }
+        Entry::Approve(c) => {
+            put_u8(out, 4)?;
+            put_closed(out, c)
+        }
+        Entry::Reject(c) => {
+            put_u8(out, 5)?;
+            put_closed(out, c)
+        }
+        Entry::Late { proto, phase, ps } => {
+            put_u8(out, 6)?;
+            put_proto(out, *proto)?;
+            put_u16(out, *phase)?;
+            put_providers(out, ps.as_slice())
+        }
+    }
+}
+
+/// The spelling, in memory of its own.
 fn spelled(alloc: Global, e: &Entry) -> Result<Vec<u8>, NoMemory>
     requires { IsEntry e.now }
     ensures { IfOk result (λ v. v.items ≡ entry_text e.now) }
 {
     let mut out = Vec::new(alloc);
-    match e {
-        Entry::Once(x) => {
-            put_u8(&mut out, 1)?;
-            put_proposal(alloc, &mut out, x)?;
-        }
-        Entry::Begin(x) => {
-            put_u8(&mut out, 2)?;
-            put_proposal(alloc, &mut out, x)?;
-        }
-        Entry::Phase(c) => {
-            put_u8(&mut out, 3)?;
-            put_closed(&mut out, c)?;
-        }
-        Entry::Approve(c) => {
-            put_u8(&mut out, 4)?;
-            put_closed(&mut out, c)?;
-        }
-        Entry::Reject(c) => {
-            put_u8(&mut out, 5)?;
-            put_closed(&mut out, c)?;
-        }
-        Entry::Late { proto, phase, ps } => {
-            put_u8(&mut out, 6)?;
-            put_proto(&mut out, *proto)?;
-            put_u16(&mut out, *phase)?;
-            put_providers(&mut out, ps.as_slice())?;
-        }
-    }
+    put_parts(alloc, &mut out, e)?;
     Ok(out)
 }
 

@@ -4,6 +4,7 @@ ghost use Rattle.std.specs.Option.{option_map};
 ghost use Rattle.rsct_packet.specs.Reading.{Gives};
 ghost use Rattle.std.specs.List.{list_any};
 ghost use Rattle.rsct_packet.specs.Format.{IsFoundAt, IsOnlyAt};
+ghost use Rattle.rsct_packet.specs.Fields.{u8_text, u32_text, provider_text, IsNode};
 ghost use Rattle.group_entry.specs.ProposalCodec.{same_failure, failures_differ, are_failures, fallen_at, join_at, leave_at, fail_at, expel_at, state_change_at, message_at, attributes_at, reflect_at, proposal_at, proposal_text, IsProposal};
 ghost use Rattle.group_codec.specs.InPlace.{proposal_in, proposal_of};
 
@@ -215,68 +216,74 @@ pub fn read_proposal(b: &[u8]) -> Option<(ProposalRef<'_>, &[u8])>
     proposal_front(known(b))
 }
 
-/// The spelling, in memory of its own.
-#[tactic(auto, unfolding(group_entry::specs::ProposalCodec::proposal_text, group_entry::specs::ProposalCodec::fallen_text), using(crate::proofs::ProposalFormat::some_nodes, crate::proofs::ProposalFormat::fallen_nodes, std::proofs::lemmas::Grind::common_steps))]
-fn spelled(alloc: Global, x: &Proposal) -> Result<Vec<u8>, NoMemory>
-    requires { IsProposal x.now }
-    ensures { IfOk result (λ v. v.items ≡ proposal_text x.now) }
+/// The kind, the provider and the number of its request. Where memory has run out, `out` may keep a part of them.
+fn put_request(out: &mut Vec<u8>, kind: u8, p: ProviderId, r: u32) -> Result<(), NoMemory>
+    requires { IsNode p.node }
+    ensures { OnOk result (out.new.items ≡ out.old.items ++ (u8_text kind ++ (provider_text p ++ u32_text r))) }
 {
-    let mut out = Vec::new(alloc);
+    put_u8(out, kind)?;
+    put_provider(out, p)?;
+    put_u32(out, r)
+}
+
+/// Takes the spelling to the end of `out`, which may keep a part of it where memory has run out.
+#[tactic(auto, unfolding(group_entry::specs::ProposalCodec::proposal_text, group_entry::specs::ProposalCodec::fallen_text), using(crate::proofs::ProposalFormat::some_nodes, crate::proofs::ProposalFormat::fallen_nodes, std::proofs::lemmas::Grind::common_steps))]
+fn put_parts(out: &mut Vec<u8>, x: &Proposal) -> Result<(), NoMemory>
+    requires { IsProposal x.now }
+    ensures { OnOk result (out.new.items ≡ out.old.items ++ proposal_text x.now) }
+{
     match x {
         Proposal::Join {
             ps,
             attrs,
             source_len,
         } => {
-            put_u8(&mut out, 1)?;
-            put_providers(&mut out, ps.as_slice())?;
-            put_attrs(&mut out, attrs)?;
-            put_optional_u32(&mut out, *source_len)?;
+            put_u8(out, 1)?;
+            put_providers(out, ps.as_slice())?;
+            put_attrs(out, attrs)?;
+            put_optional_u32(out, *source_len)
         }
-        Proposal::Leave { p, r } => {
-            put_u8(&mut out, 2)?;
-            put_provider(&mut out, *p)?;
-            put_u32(&mut out, *r)?;
-        }
+        Proposal::Leave { p, r } => put_request(out, 2, *p, *r),
         Proposal::Fail { out: fallen } => {
-            put_u8(&mut out, 3)?;
-            put_list(&mut out, fallen.as_slice())?;
+            put_u8(out, 3)?;
+            put_list(out, fallen.as_slice())
         }
         Proposal::Expel {
             p,
             r,
             out: expelled,
         } => {
-            put_u8(&mut out, 4)?;
-            put_provider(&mut out, *p)?;
-            put_u32(&mut out, *r)?;
-            put_providers(&mut out, expelled.as_slice())?;
+            put_request(out, 4, *p, *r)?;
+            put_providers(out, expelled.as_slice())
         }
         Proposal::State { p, r, value } => {
-            put_u8(&mut out, 5)?;
-            put_provider(&mut out, *p)?;
-            put_u32(&mut out, *r)?;
-            put_bytes(&mut out, value.bytes())?;
+            put_request(out, 5, *p, *r)?;
+            put_bytes(out, value.bytes())
         }
         Proposal::Message { p, r, bytes } => {
-            put_u8(&mut out, 6)?;
-            put_provider(&mut out, *p)?;
-            put_u32(&mut out, *r)?;
-            put_bytes(&mut out, bytes.bytes())?;
+            put_request(out, 6, *p, *r)?;
+            put_bytes(out, bytes.bytes())
         }
         Proposal::Attributes { p, r, attrs } => {
-            put_u8(&mut out, 7)?;
-            put_provider(&mut out, *p)?;
-            put_u32(&mut out, *r)?;
-            put_attrs(&mut out, attrs)?;
+            put_request(out, 7, *p, *r)?;
+            put_attrs(out, attrs)
         }
         Proposal::Reflect { view, place, value } => {
-            put_u8(&mut out, 8)?;
-            put_view(&mut out, *view)?;
-            put_u32(&mut out, *place)?;
-            put_bytes(&mut out, value.bytes())?;
+            put_u8(out, 8)?;
+            put_view(out, *view)?;
+            put_u32(out, *place)?;
+            put_bytes(out, value.bytes())
         }
     }
+}
+
+/// The spelling, in memory of its own.
+fn spelled(alloc: Global, x: &Proposal) -> Result<Vec<u8>, NoMemory>
+    requires { IsProposal x.now }
+    ensures { IfOk result (λ v. v.items ≡ proposal_text x.now) }
+{
+    let mut out = Vec::new(alloc);
+    put_parts(&mut out, x)?;
     Ok(out)
 }
 

@@ -2,11 +2,12 @@
 ghost use Rattle.std.specs.Prelude.{◌≡◌, ◌++◌, ◌-◌, IfOk, OnOk, OnErr, length, take};
 ghost use Rattle.std.specs.Option.{option_map};
 ghost use Rattle.std.specs.List.{list_all};
-ghost use Rattle.rsct_packet.specs.Reading.{Gives, optional_at};
+ghost use Rattle.std.specs.Int.{w16};
+ghost use Rattle.rsct_packet.specs.Reading.{Gives, number_at, guarded_at, optional_at};
 ghost use Rattle.rsct_packet.specs.Format.{IsFoundAt, IsOnlyAt, OptionFits, optional_text};
 ghost use Rattle.rsct_packet.specs.Providers.{among, none_among};
 ghost use Rattle.proposal_core.specs.Fold.{joiners_fit, joiners_in, present};
-ghost use Rattle.proposal_core.specs.StateCodec.{running_at, running_text, IsRunning, is_sound, parts_at, state_at, state_text, IsState};
+ghost use Rattle.proposal_core.specs.StateCodec.{is_phase, running_at, running_text, IsRunning, is_sound, parts_at, state_at, state_text, IsState};
 ghost use Rattle.group_codec.specs.InPlace.{running_in, optional_running_in, parts_in};
 
 use crate::attrs::{AttrsRef, put_attrs, read_attrs};
@@ -42,15 +43,23 @@ pub struct StateParts<'a> {
     pub running: Option<RunningRef<'a>>,
 }
 
+/// The number of a phase, from 1 to 200.
+fn read_phase(b: &[u8]) -> Option<(u16, &[u8])>
+    ensures { Gives result (guarded_at is_phase (number_at w16) b.now) }
+{
+    let (phase, b) = read_u16(b)?;
+    if phase < 1 || phase > 200 {
+        return None;
+    }
+    Some((phase, b))
+}
+
 #[tactic(auto, unfolding(proposal_core::specs::StateCodec::running_at))]
 fn read_running(b: &[u8]) -> Option<(RunningRef<'_>, &[u8])>
     ensures { option_map (λ x. (running_in x.0, x.1.now)) result ≡ running_at b.now }
 {
     let (proto, b) = read_proto(b)?;
-    let (phase, b) = read_u16(b)?;
-    if phase < 1 || phase > 200 {
-        return None;
-    }
+    let (phase, b) = read_phase(b)?;
     let (proposal, b) = read_proposal(b)?;
     let (proposed, b) = read_optional_bytes(b)?;
     Some((
@@ -181,9 +190,9 @@ impl<'a> RunningRef<'a> {
     {
         Ok(Running {
             proto: self.proto,
-            proposal: self.proposal.own(alloc)?,
             phase: self.phase,
             proposed: optional_text_of(alloc, self.proposed)?,
+            proposal: self.proposal.own(alloc)?,
         })
     }
 }

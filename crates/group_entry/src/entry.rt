@@ -35,7 +35,6 @@ pub type Rows = List<Row>;
 
 /// How a phase closed: the protocol, the phase (1 to 200), its rows, and the value and the message that its
 /// ballots carried.
-#[derive(Drop)]
 pub struct Closed {
     pub proto: ProtoId,
     pub phase: u16,
@@ -45,7 +44,6 @@ pub struct Closed {
 }
 
 /// An entry of a group's list.
-#[derive(Drop)]
 pub enum Entry {
     /// A one-phase protocol, begun and approved.
     Once(Proposal),
@@ -63,6 +61,36 @@ pub enum Entry {
         phase: u16,
         ps: Providers,
     },
+}
+
+// Written out, as for each type whose parts are many: a drop is one call then, whose proof is made once.
+impl Drop for Closed {
+    fn drop(self) {
+        let Closed {
+            proto: _,
+            phase: _,
+            rows: _rows,
+            value: _value,
+            message: _message,
+        } = self;
+    }
+}
+
+impl Drop for Entry {
+    fn drop(self) {
+        match self {
+            Entry::Once(_x) => {}
+            Entry::Begin(_x) => {}
+            Entry::Phase(_c) => {}
+            Entry::Approve(_c) => {}
+            Entry::Reject(_c) => {}
+            Entry::Late {
+                proto: _,
+                phase: _,
+                ps: _ps,
+            } => {}
+        }
+    }
 }
 
 impl Closed {

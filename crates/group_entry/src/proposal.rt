@@ -26,7 +26,6 @@ pub struct Failure {
 pub type Fallen = List<Failure>;
 
 /// What a protocol proposes. `r` is the number of the request of provider `p` that proposed it.
-#[derive(Drop)]
 pub enum Proposal {
     /// These providers join. `source_len` is the length of the source group's list where it was decided.
     Join {
@@ -73,6 +72,46 @@ pub enum Proposal {
         place: u32,
         value: Text,
     },
+}
+
+// Written out: a drop is one call then, whose proof is made once.
+impl Drop for Proposal {
+    fn drop(self) {
+        match self {
+            Proposal::Join {
+                ps: _ps,
+                attrs: _attrs,
+                source_len: _,
+            } => {}
+            Proposal::Leave { p: _, r: _ } => {}
+            Proposal::Fail { out: _out } => {}
+            Proposal::Expel {
+                p: _,
+                r: _,
+                out: _out,
+            } => {}
+            Proposal::State {
+                p: _,
+                r: _,
+                value: _value,
+            } => {}
+            Proposal::Message {
+                p: _,
+                r: _,
+                bytes: _bytes,
+            } => {}
+            Proposal::Attributes {
+                p: _,
+                r: _,
+                attrs: _attrs,
+            } => {}
+            Proposal::Reflect {
+                view: _,
+                place: _,
+                value: _value,
+            } => {}
+        }
+    }
 }
 
 impl Proposal {

@@ -26,7 +26,7 @@ use Rattle.entry_handing.specs.Received.{Handing}
 use Rattle.entry_handing.specs.Doing.{Does}
 use Rattle.entry_handing.proofs.DoingLaws.{does_as, does_before}
 use Rattle.group_leading.proofs.WorkLaws.{keeps_follows}
-use Rattle.group_following.proofs.KeepLaws.{does_row, does_behind}
+use Rattle.group_leading.proofs.RowLaws.{does_row, does_behind}
 
 waiting_keeps : (s : Core) (g : List ℕ) (change : WaitingView → WaitingView) → Keeps s (with_waiting s g change)
 unfolding with_waiting

@@ -1,6 +1,4 @@
-pub mod EntryLaws
 pub mod GoneLaws
-pub mod KeepLaws
 pub mod NameLaws
 pub mod TellLaws
 pub mod VoteLaws

@@ -15,7 +15,7 @@ use Rattle.node_groups.specs.Keeps.{Stays, Keeps}
 use Rattle.session_state.proofs.OwnerLaws.{owners_themselves}
 use Rattle.node_state.proofs.AlongLaws.{along_same}
 use Rattle.node_groups.proofs.KeepLaws.{keeps_then, keeps_as, sent_keeps}
-use Rattle.group_following.proofs.KeepLaws.{fold_stays}
+use Rattle.group_leading.proofs.RowLaws.{fold_stays}
 use Rattle.group_following.proofs.TellLaws.{tell_stays}
 
 -- ---- LOOKUP

@@ -14,7 +14,7 @@ use Rattle.node_groups.proofs.KeepLaws.{led_keeps}
 use Rattle.entry_handing.specs.Received.{Handing}
 use Rattle.entry_handing.specs.Doing.{Does}
 use Rattle.entry_handing.proofs.DoingLaws.{does_as}
-use Rattle.group_following.proofs.KeepLaws.{does_behind}
+use Rattle.group_leading.proofs.RowLaws.{does_behind}
 
 pub vote_unused : (f : Answering) (s : Core) (g : List ℕ) (proto : ProtoId) (phase : ℕ) (p : ProviderId) (v : Vote) (value message : Option (List ℕ)) → (leads s g && runs proto phase (state_of s g).running) ≡ false
     → s ≡ vote_row f s g proto phase p v value message

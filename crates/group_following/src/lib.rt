@@ -1,13 +1,11 @@
 //! What a node does with the packets of a group.
 #![tactic(auto)]
 
-mod entries;
 mod leaving;
 mod naming;
 mod telling;
 mod voting;
 
-pub use entries::{take_ack, take_entry};
 pub use leaving::take_gone;
 pub use naming::{send_name, take_lookup, take_name};
 pub use telling::take_tell;

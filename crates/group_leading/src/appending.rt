@@ -151,8 +151,31 @@ fn send_and_hand<C: Callbacks>(
     hand(core, clients, alloc, leader, g, place, e, before, after)
 }
 
-/// What follows where the entry was put: it is sent and handed on, what all have is forgotten, and new members that
-/// failed or are gone wait.
+/// Sends an entry that was put and hands it on; what all have is forgotten, and new members that failed or are gone
+/// wait. `after` is the group's state with the entry.
+fn send_and_settle<C: Callbacks>(
+    core: &mut Core,
+    clients: &mut Vec<C>,
+    alloc: Global,
+    g: &Name,
+    place: u32,
+    e: &Entry,
+    before: &GroupState,
+    after: &GroupState,
+) -> Result<(), NoMemory>
+    requires work { AtWork core.old clients.old.items }
+    requires joiners { IsTrue (joiners_fit after.now) }
+    requires state { after.now ≡ state_of core.old g.now }
+    ensures work { OnOk result (AtWork core.new clients.new.items) }
+    ensures scripts { OnOk result (map C.script clients.new.items ≡ map C.script clients.old.items) }
+    ensures does { OnOk result (Does (map C.script clients.old.items) (Receive C.stands_for clients.old.items clients.new.items) core.old core.new (λ f. append_finished f core.old g.now place before.now e.now)) }
+{
+    send_and_hand(core, clients, alloc, g, place, e, before, after)?;
+    forget_least(core, alloc, g)?;
+    new_members_wait(core, alloc, g, before, after)
+}
+
+/// What follows where the entry was put, with the group's state as it is now.
 fn finish_append<C: Callbacks>(
     core: &mut Core,
     clients: &mut Vec<C>,
@@ -168,9 +191,7 @@ fn finish_append<C: Callbacks>(
     ensures does { OnOk result (Does (map C.script clients.old.items) (Receive C.stands_for clients.old.items clients.new.items) core.old core.new (λ f. append_finished f core.old g.now place before.now e.now)) }
 {
     let after = state_of(core, alloc, g.bytes())?;
-    send_and_hand(core, clients, alloc, g, place, e, before, &after)?;
-    forget_least(core, alloc, g)?;
-    new_members_wait(core, alloc, g, before, &after)
+    send_and_settle(core, clients, alloc, g, place, e, before, &after)
 }
 
 /// Appends an entry that fits: it is put, sent to each other member and handed on; then what all have is forgotten.

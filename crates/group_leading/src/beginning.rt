@@ -1,6 +1,7 @@
 //! How a proposal begins.
 ghost use Rattle.std.specs.Prelude.{◌≡◌, OnOk, IsTrue, map};
 ghost use Rattle.group_entry.specs.declared.entry.Entry.TheVariants as entry;
+ghost use Rattle.group_entry.specs.declared.proposal.Proposal.{Proposal};
 ghost use Rattle.node_state.specs.State.{fits_at_end};
 ghost use Rattle.node_state.specs.Leading.{appended, appended_if, tally_opened, closes, begun_many, begins};
 ghost use Rattle.entry_handing.specs.Received.{Receive};
@@ -36,6 +37,25 @@ fn open_phase<C: Callbacks>(
     close(core, clients, alloc, g)
 }
 
+/// Opens a first phase with the entry that begins a proposal, where the entry fits.
+fn open_if_fits<C: Callbacks>(
+    core: &mut Core,
+    clients: &mut Vec<C>,
+    alloc: Global,
+    g: &Name,
+    e: &Entry,
+) -> Result<(), NoMemory>
+    requires work { AtWork core.old clients.old.items }
+    ensures work { OnOk result (AtWork core.new clients.new.items) }
+    ensures scripts { OnOk result (map C.script clients.new.items ≡ map C.script clients.old.items) }
+    ensures does { (x : Proposal) → e.now ≡ entry.Begin x → OnOk result (Does (map C.script clients.old.items) (Receive C.stands_for clients.old.items clients.new.items) core.old core.new (λ f. begun_many f core.old g.now x (fits_at_end core.old g.now (entry.Begin x)))) }
+{
+    if fits_at_end(core, alloc, g.bytes(), e) {
+        return open_phase(core, clients, alloc, g, e);
+    }
+    Ok(())
+}
+
 /// Begins a proposal of several phases, where its entry fits.
 fn begin_many<C: Callbacks>(
     core: &mut Core,
@@ -50,10 +70,7 @@ fn begin_many<C: Callbacks>(
     ensures does { OnOk result (Does (map C.script clients.old.items) (Receive C.stands_for clients.old.items clients.new.items) core.old core.new (λ f. begun_many f core.old g.now x.now (fits_at_end core.old g.now (entry.Begin x.now)))) }
 {
     let e = Entry::Begin(x.copy(alloc)?);
-    if fits_at_end(core, alloc, g.bytes(), &e) {
-        return open_phase(core, clients, alloc, g, &e);
-    }
-    Ok(())
+    open_if_fits(core, clients, alloc, g, &e)
 }
 
 /// Begins a proposal of one phase, where its entry fits.

@@ -1,7 +1,7 @@
 //! The tally of a phase, and what closes the phase.
 ghost use Rattle.std.specs.Prelude.{◌≡◌, ◌&&◌, OnOk, IfOk, IsTrue, map};
-ghost use Rattle.node_state.specs.State.{fits_at_end};
-ghost use Rattle.node_state.specs.Leading.{tally_opened, is_phase, closes_from, closes};
+ghost use Rattle.node_state.specs.State.{fits_at_end, led_of, state_of};
+ghost use Rattle.node_state.specs.Leading.{tally_for, tally_opened, is_phase, closes_from, closes};
 ghost use Rattle.entry_handing.specs.Received.{Receive};
 ghost use Rattle.entry_handing.specs.Doing.{Does};
 ghost use Rattle.node_groups.specs.Keeps.{Keeps};
@@ -16,9 +16,19 @@ use phase_closing::{closing_entry, is_phase, tally_for};
 use proposal_core::Entry;
 use rsct_packet::{Name, NoMemory};
 use std::alloc::Global;
+use vote_phases::Tally;
 
 /// How many phases a protocol has at most.
 const MAX_PHASES: u8 = 200;
+
+/// A tally of the phase that runs, in which nobody has voted.
+fn new_tally(core: &Core, alloc: Global, g: &Name) -> Result<Tally, NoMemory>
+    ensures { IfOk result (λ t. t ≡ tally_for (state_of core.now g.now) (led_of core.now g.now).gone) }
+{
+    let gone = gone_of(core, alloc, g.bytes())?;
+    let state = state_of(core, alloc, g.bytes())?;
+    tally_for(alloc, &state, gone.as_slice())
+}
 
 /// Opens the tally of the phase that runs.
 #[tactic(auto, unfolding(node_state::specs::Leading::tally_opened))]
@@ -26,9 +36,7 @@ pub fn open_tally(core: &mut Core, alloc: Global, g: &Name) -> Result<(), NoMemo
     ensures row { OnOk result (core.new ≡ tally_opened core.old g.now) }
     ensures keeps { OnOk result (Keeps core.old core.new) }
 {
-    let state = state_of(core, alloc, g.bytes())?;
-    let gone = gone_of(core, alloc, g.bytes())?;
-    let tally = tally_for(alloc, &state, gone.as_slice())?;
+    let tally = new_tally(core, alloc, g)?;
     node_groups::open_tally(core, alloc, g, Some(tally))
 }
 

@@ -7,7 +7,8 @@ ghost use Rattle.hags_cli.specs.Run.{PlaysAll, PlaysPast, PlaysFront, MayHavePla
 
 use crate::input::{InputFault, read_input};
 use hags_io::{Sink, Source};
-use net_script::{PlayFault, play};
+use net_script::play;
+use play_state::PlayFault;
 use script_lines::{ScriptFault, read_script};
 use std::alloc::Global;
 use transcript::Kinds;

@@ -1,7 +1,8 @@
 //! Runs of the whole program over sources and sinks in memory, with their statuses and faults.
 use hags_cli::hags;
 use hags_io::{MemSink, MemSource};
-use net_script::{PlayFault, play};
+use net_script::play;
+use play_state::PlayFault;
 use script_lines::read_script;
 use std::alloc::{AllocError, Global};
 use std::test::Fail;

@@ -9,25 +9,25 @@ use Rattle.node_state.specs.declared.happened.Happened.{Happened}
 use Rattle.node_state.specs.declared.packet.Packet.{Packet}
 use Rattle.world_model.specs.declared.event.Event.{Event}
 use Rattle.world_model.specs.World.{World, happens}
-use Rattle.world_runs.specs.Runs.{SameRun, Recorded}
-use Rattle.world_answers.proofs.Limits.{one_runs, one_ends, tells_of_runs}
-use Rattle.world_answers.proofs.Waits.{same_goes}
-use Rattle.world_answers.proofs.Adding.{event_adds}
-use Rattle.world_answers.proofs.Going.{event_goes}
-use Rattle.world_play.specs.declared.fault.WorldFault.{WorldFault}
-use Rattle.world_play.specs.declared.fault.WorldFault.TheVariants as world_fault
+use Rattle.world_laws.specs.world_runs.Runs.{SameRun, Recorded}
+use Rattle.world_laws.proofs.world_answers.Limits.{one_runs, one_ends, tells_of_runs}
+use Rattle.world_laws.proofs.world_answers.Waits.{same_goes}
+use Rattle.world_laws.proofs.world_answers.Adding.{event_adds}
+use Rattle.world_laws.proofs.world_answers.Going.{event_goes}
+use Rattle.play_state.specs.declared.fault.WorldFault.{WorldFault}
+use Rattle.play_state.specs.declared.fault.WorldFault.TheVariants as world_fault
 use Rattle.node_state.specs.HandOn.{Answering}
-use Rattle.world_answers.specs.Answers.{Items, Answered, happens_by, goes_on}
-use Rattle.world_answers.specs.Plays.{AnsweredPlay, with_answers, PlaysEvent}
+use Rattle.world_laws.specs.world_answers.Answers.{Items, Answered, happens_by, goes_on}
+use Rattle.world_laws.specs.world_answers.Plays.{AnsweredPlay, with_answers, PlaysEvent}
 use Rattle.world_play.specs.declared.world.World as kept
 use Rattle.world_play.specs.Standing.{Holds, Goes, Passes, Comes}
 use Rattle.world_play.specs.Hands.{Hears}
 use Rattle.transcript.specs.declared.kinds.Kinds.{Kinds}
 use Rattle.transcript.specs.Kinds.{kinds_text}
 use Rattle.net_script.specs.declared.stage.Stage.{Stage}
-use Rattle.net_script.specs.declared.faults.PutFault.{PutFault}
-use Rattle.net_script.specs.declared.faults.PutFault.TheVariants as put_fault
-use Rattle.net_script.specs.Faults.{fault_of_world, fault_of_put}
+use Rattle.play_state.specs.declared.faults.PutFault.{PutFault}
+use Rattle.play_state.specs.declared.faults.PutFault.TheVariants as put_fault
+use Rattle.play_state.specs.Faults.{fault_of_world, fault_of_put}
 use Rattle.net_script.specs.Stage.{At, RunHears, Moved, Broke, Stopped, LeadsTo}
 use Rattle.net_script.proofs.HandLaws.{hands_same}
 use Rattle.net_script.proofs.StageLaws.{broke_none}

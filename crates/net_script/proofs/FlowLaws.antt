@@ -8,16 +8,16 @@ use Rattle.world_model.specs.World.{World, Sent, node_at, is_node}
 use Rattle.world_model.specs.Play.{is_cut_of, is_cut}
 use Rattle.world_packets.specs.declared.waiting.Waiting.{Waiting}
 use Rattle.world_packets.specs.Packets.{waits_as, first_of}
-use Rattle.world_answers.specs.Answers.{Items}
-use Rattle.world_answers.specs.Plays.{AnsweredPlay, in_that_world, PlaysEvent, TakesPacket, PlaysFlow}
-use Rattle.world_answers.proofs.Adding.{flow_adds}
-use Rattle.world_answers.proofs.Going.{flow_goes, flow_none}
-use Rattle.world_answers.proofs.Going as going
+use Rattle.world_laws.specs.world_answers.Answers.{Items}
+use Rattle.world_laws.specs.world_answers.Plays.{AnsweredPlay, in_that_world, PlaysEvent, TakesPacket, PlaysFlow}
+use Rattle.world_laws.proofs.world_answers.Adding.{flow_adds}
+use Rattle.world_laws.proofs.world_answers.Going.{flow_goes, flow_none}
+use Rattle.world_laws.proofs.world_answers.Going as going
 use Rattle.world_play.specs.Standing.{is_me}
 use Rattle.world_play.proofs.NodeLaws.{stands_found}
 use Rattle.transcript.specs.declared.kinds.Kinds.{Kinds}
 use Rattle.net_script.specs.declared.stage.Stage.{Stage}
-use Rattle.net_script.specs.declared.faults.PlayFault.{PlayFault}
+use Rattle.play_state.specs.declared.faults.PlayFault.{PlayFault}
 use Rattle.net_script.specs.Stage.{At, Went, Stopped, LeadsTo}
 use Rattle.net_script.proofs.StageLaws.{moved_still, went_still, went_none, then_went, then_stopped, stopped_on}
 

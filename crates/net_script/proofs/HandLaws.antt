@@ -6,8 +6,8 @@ use Rattle.node_step.specs.Node.{NodeView}
 use Rattle.world_model.specs.declared.event.Event.{Event}
 use Rattle.world_model.specs.declared.event.Event.TheVariants as event
 use Rattle.world_model.specs.World.{World, Sent, node_at, kth_between}
-use Rattle.world_runs.specs.Runs.{SameRun}
-use Rattle.world_answers.specs.Answers.{Answered, goes_on}
+use Rattle.world_laws.specs.world_runs.Runs.{SameRun}
+use Rattle.world_laws.specs.world_answers.Answers.{Answered, goes_on}
 use Rattle.world_play.specs.Hands.{Logs, EventHands, RunHands}
 use Rattle.net_script.specs.Stage.{RunHears}
 

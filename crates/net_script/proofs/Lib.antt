@@ -1,5 +1,3 @@
-pub mod CutLaws
-pub mod TextLaws
 pub mod HandLaws
 pub mod StageLaws
 pub mod EventLaws

@@ -6,14 +6,14 @@ use Rattle.world_model.specs.declared.script.Line.{Line}
 use Rattle.world_model.specs.World.{World}
 use Rattle.world_model.specs.Play.{Cut, drops}
 use Rattle.world_packets.specs.Packets.{waits_as, is_between}
-use Rattle.world_answers.specs.Answers.{Items}
-use Rattle.world_answers.specs.Plays.{AnsweredPlay, in_that_world, PlaysLine}
-use Rattle.world_answers.proofs.Adding.{line_adds}
-use Rattle.world_answers.proofs.Going.{line_goes}
+use Rattle.world_laws.specs.world_answers.Answers.{Items}
+use Rattle.world_laws.specs.world_answers.Plays.{AnsweredPlay, in_that_world, PlaysLine}
+use Rattle.world_laws.proofs.world_answers.Adding.{line_adds}
+use Rattle.world_laws.proofs.world_answers.Going.{line_goes}
 use Rattle.transcript.specs.declared.kinds.Kinds.{Kinds}
 use Rattle.net_script.specs.declared.stage.Stage.{Stage}
 use Rattle.net_script.specs.Stage.{At, Went, Broke}
-use Rattle.net_script.proofs.CutLaws.{kept_in}
+use Rattle.play_state.proofs.CutLaws.{kept_in}
 use Rattle.net_script.proofs.ListLaws.{Playable}
 use Rattle.net_script.proofs.StageLaws.{moved_still, went_still, broke_none}
 

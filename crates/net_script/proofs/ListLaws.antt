@@ -2,15 +2,15 @@
 use Rattle.std.proofs.Common.{◌≡◌, ℕ, ◌+◌, ◌<◌, ◌≤◌, List, length, drop, get_or, Option, Ok, Err, refl, sym, subst}
 use Rattle.client_callbacks.specs.Handed.{Handed}
 use Rattle.world_model.specs.World.{World}
-use Rattle.world_answers.specs.Answers.{Items}
-use Rattle.world_answers.specs.Plays.{AnsweredPlay, PlaysEach}
-use Rattle.world_answers.proofs.Adding.{Adds, each_adds}
-use Rattle.world_answers.proofs.Going.{each_goes}
+use Rattle.world_laws.specs.world_answers.Answers.{Items}
+use Rattle.world_laws.specs.world_answers.Plays.{AnsweredPlay, PlaysEach}
+use Rattle.world_laws.proofs.world_answers.Adding.{Adds, each_adds}
+use Rattle.world_laws.proofs.world_answers.Going.{each_goes}
 use Rattle.transcript.specs.declared.kinds.Kinds.{Kinds}
 use Rattle.net_script.specs.declared.stage.Stage.{Stage}
-use Rattle.net_script.specs.declared.faults.PlayFault.{PlayFault}
+use Rattle.play_state.specs.declared.faults.PlayFault.{PlayFault}
 use Rattle.net_script.specs.Stage.{At, Went, Stopped, LeadsTo}
-use Rattle.net_script.proofs.TextLaws.{next_item, no_item}
+use Rattle.play_state.proofs.TextLaws.{next_item, no_item}
 use Rattle.net_script.proofs.StageLaws.{went_none, then_went, then_stopped, stopped_on}
 
 -- of what is to be played, the play is this far

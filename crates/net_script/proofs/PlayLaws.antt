@@ -13,30 +13,31 @@ use Rattle.world_model.specs.declared.script.Line.{Line}
 use Rattle.world_model.specs.declared.script.Script.{Script}
 use Rattle.world_model.specs.World.{World, empty_world, world_new}
 use Rattle.world_model.specs.Kept.{Bytes, Ended}
-use Rattle.world_runs.specs.Runs.{Recorded}
-use Rattle.world_runs.proofs.Backwards.{reversed, reversed_back}
-use Rattle.world_runs.proofs.Whole.{new_sends_nothing}
-use Rattle.world_answers.specs.Answers.{Items, Answered}
-use Rattle.world_answers.specs.Plays.{AnsweredPlay, starting, PlaysLines}
-use Rattle.world_answers.specs.Limits.{answered_within, answered_in, limited, AnsweredRuns, AnsweredEnds, AnsweredTells, Grew}
-use Rattle.world_answers.proofs.Adding.{lines_add}
-use Rattle.world_answers.proofs.Going.{lines_go}
-use Rattle.world_answers.proofs.Limits.{tells_none}
+use Rattle.world_laws.specs.world_runs.Runs.{Recorded}
+use Rattle.world_laws.proofs.world_runs.Backwards.{reversed, reversed_back}
+use Rattle.world_laws.proofs.world_runs.Whole.{new_sends_nothing}
+use Rattle.world_laws.specs.world_answers.Answers.{Items, Answered}
+use Rattle.world_laws.specs.world_answers.Plays.{AnsweredPlay, starting, PlaysLines}
+use Rattle.world_laws.specs.world_answers.Limits.{answered_within, answered_in, limited, AnsweredRuns, AnsweredEnds, AnsweredTells, Grew}
+use Rattle.world_laws.proofs.world_answers.Adding.{lines_add}
+use Rattle.world_laws.proofs.world_answers.Going.{lines_go}
+use Rattle.world_laws.proofs.world_answers.Limits.{tells_none}
 use Rattle.world_play.specs.declared.world.World as kept
-use Rattle.world_play.specs.Standing.{Goes, bytes_after, kept_empty}
+use Rattle.world_play.specs.Standing.{Goes, kept_empty}
+use Rattle.play_state.specs.Posting.{bytes_after}
 use Rattle.world_play.specs.Hands.{LogsStand, RunHands, empty_logs}
 use Rattle.transcript.specs.declared.kinds.Kinds.{Kinds}
 use Rattle.transcript.specs.Kinds.{kinds_text}
 use Rattle.net_script.specs.declared.stage.Stage.{Stage}
-use Rattle.net_script.specs.declared.faults.PlayFault.{PlayFault}
-use Rattle.net_script.specs.declared.faults.PlayFault.TheVariants as play_fault
-use Rattle.net_script.specs.declared.faults.PutFault.{PutFault}
-use Rattle.net_script.specs.declared.faults.PutFault.TheVariants as put_fault
-use Rattle.net_script.specs.Faults.{fault_of_put}
+use Rattle.play_state.specs.declared.faults.PlayFault.{PlayFault}
+use Rattle.play_state.specs.declared.faults.PlayFault.TheVariants as play_fault
+use Rattle.play_state.specs.declared.faults.PutFault.{PutFault}
+use Rattle.play_state.specs.declared.faults.PutFault.TheVariants as put_fault
+use Rattle.play_state.specs.Faults.{fault_of_put}
 use Rattle.net_script.specs.Stage.{At, Went, Passed, Broke, Stopped, LeadsTo}
 use Rattle.net_script.specs.Ends.{records_in, records_within, StopsAs, EndsAs, ClientsStand, PlayedAs}
 use Rattle.net_script.proofs.SafePlays.{answered_play_is_safe, answered_front_is_safe}
-use Rattle.net_script.proofs.TextLaws.{kinds_append, none_front}
+use Rattle.play_state.proofs.TextLaws.{kinds_append, none_front}
 
 -- ---- the beginning
 

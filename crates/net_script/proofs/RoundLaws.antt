@@ -6,15 +6,15 @@ use Rattle.world_model.specs.World.{World}
 use Rattle.world_model.specs.World as world
 use Rattle.world_model.specs.declared.event.Event.TheVariants as event
 use Rattle.world_model.specs.Play.{flow_limit}
-use Rattle.world_answers.specs.Answers.{Items}
-use Rattle.world_answers.specs.Plays.{AnsweredPlay, PlaysEach, PlaysFlow, PlaysTick, PlaysTicks, PlaysRounds}
-use Rattle.world_answers.proofs.Adding.{event_adds, flow_adds, rounds_add}
-use Rattle.world_answers.proofs.Going.{tick_goes, flow_goes, rounds_go, rounds_next, rounds_over}
+use Rattle.world_laws.specs.world_answers.Answers.{Items}
+use Rattle.world_laws.specs.world_answers.Plays.{AnsweredPlay, PlaysEach, PlaysFlow, PlaysTick, PlaysTicks, PlaysRounds}
+use Rattle.world_laws.proofs.world_answers.Adding.{event_adds, flow_adds, rounds_add}
+use Rattle.world_laws.proofs.world_answers.Going.{tick_goes, flow_goes, rounds_go, rounds_next, rounds_over}
 use Rattle.world_play.specs.Standing.{NodesStand, number_in}
 use Rattle.world_play.proofs.NodeLaws.{same_me}
 use Rattle.transcript.specs.declared.kinds.Kinds.{Kinds}
 use Rattle.net_script.specs.declared.stage.Stage.{Stage}
-use Rattle.net_script.specs.declared.faults.PlayFault.{PlayFault}
+use Rattle.play_state.specs.declared.faults.PlayFault.{PlayFault}
 use Rattle.net_script.specs.Stage.{At, Went, Stopped, LeadsTo}
 use Rattle.net_script.proofs.StageLaws.{went_none, then_went, then_stopped, stopped_on}
 use Rattle.net_script.proofs.ListLaws.{Playable}

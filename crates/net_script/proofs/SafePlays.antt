@@ -11,12 +11,12 @@ use Rattle.world_model.specs.declared.script.Script.{Script}
 use Rattle.world_model.specs.World.{Sent, World, node_at, world_new}
 use Rattle.world_model.specs.Kept.{Bytes, with_packet, sent_since, Ended}
 use Rattle.world_model.specs.Play.{is_cut, flow_limit}
-use Rattle.world_runs.specs.Runs.{SameRun}
-use Rattle.world_runs.proofs.Backwards.{reversed_back}
-use Rattle.world_answers.specs.Answers.{Items, Answered, events_in, goes_on, answered_after, answered_records}
-use Rattle.world_answers.specs.Plays.{AnsweredPlay, starting, PlaysEvent, PlaysEach, TakesPacket, TakesNext, PlaysFlow, PlaysTick, numbers_up, PlaysRounds, PlaysLine, PlaysLines}
-use Rattle.world_answers.specs.Limits.{answered_within, answered_in, limited}
-use Rattle.world_answers.proofs.Adding.{lines_add}
+use Rattle.world_laws.specs.world_runs.Runs.{SameRun}
+use Rattle.world_laws.proofs.world_runs.Backwards.{reversed_back}
+use Rattle.world_laws.specs.world_answers.Answers.{Items, Answered, events_in, goes_on, answered_after, answered_records}
+use Rattle.world_laws.specs.world_answers.Plays.{AnsweredPlay, starting, PlaysEvent, PlaysEach, TakesPacket, TakesNext, PlaysFlow, PlaysTick, numbers_up, PlaysRounds, PlaysLine, PlaysLines}
+use Rattle.world_laws.specs.world_answers.Limits.{answered_within, answered_in, limited}
+use Rattle.world_laws.proofs.world_answers.Adding.{lines_add}
 use Rattle.world_play.specs.Safe.{MayHappen, AllMayHappen, IsSafe, LineMay, LinesMay, MayPlay}
 use Rattle.world_play.proofs.SafeLaws.{every_answer_is_safe}
 use Rattle.net_script.specs.Ends.{records_in, FrontIsSafe}

@@ -9,21 +9,21 @@ use Rattle.hags_io.proofs.ByteLaws.{front_on}
 use Rattle.client_callbacks.specs.Handed.{Handed}
 use Rattle.node_state.specs.declared.happened.Happened.{Happened}
 use Rattle.world_model.specs.World.{World}
-use Rattle.world_answers.proofs.Limits.{runs_none, runs_then, runs_end, ends_on, tells_then, tells_on, tells_none}
-use Rattle.world_runs.proofs.Traces.{recorded_then}
-use Rattle.world_answers.proofs.Adding.{grew_then}
-use Rattle.world_answers.specs.Answers.{Items, Answered, goes_on}
-use Rattle.world_answers.specs.Plays.{AnsweredPlay}
-use Rattle.world_answers.specs.Limits.{AnsweredRuns, AnsweredEnds, AnsweredTells, Grew}
+use Rattle.world_laws.proofs.world_answers.Limits.{runs_none, runs_then, runs_end, ends_on, tells_then, tells_on, tells_none}
+use Rattle.world_laws.proofs.world_runs.Traces.{recorded_then}
+use Rattle.world_laws.proofs.world_answers.Adding.{grew_then}
+use Rattle.world_laws.specs.world_answers.Answers.{Items, Answered, goes_on}
+use Rattle.world_laws.specs.world_answers.Plays.{AnsweredPlay}
+use Rattle.world_laws.specs.world_answers.Limits.{AnsweredRuns, AnsweredEnds, AnsweredTells, Grew}
 use Rattle.world_play.specs.Hands.{LogsStand}
 use Rattle.transcript.specs.declared.kinds.Kinds.{Kinds}
 use Rattle.transcript.specs.Kinds.{kinds_text}
 use Rattle.net_script.specs.declared.stage.Stage.{Stage}
-use Rattle.net_script.specs.declared.faults.PlayFault.{PlayFault}
-use Rattle.net_script.specs.declared.faults.PlayFault.TheVariants as play_fault
+use Rattle.play_state.specs.declared.faults.PlayFault.{PlayFault}
+use Rattle.play_state.specs.declared.faults.PlayFault.TheVariants as play_fault
 use Rattle.net_script.specs.Stage.{At, Moved, Went, Passed, Broke, Stopped, Outcome, LeadsTo}
 use Rattle.net_script.proofs.HandLaws.{hears_then}
-use Rattle.net_script.proofs.TextLaws.{kinds_append, none_front}
+use Rattle.play_state.proofs.TextLaws.{kinds_append, none_front}
 
 appends_more : (k : Kinds) (a b c : Option (List ℕ)) (xs ys : List Happened) → Appends a b (kinds_text k xs) → Appends b c (kinds_text k ys) → Appends a c (kinds_text k (xs ++ ys))
 appends_more k a b c xs ys p q = subst (Appends a c) (sym (kinds_append k xs ys)) (Appends-trans a b c _ _ p q)

@@ -11,20 +11,20 @@ use Rattle.world_model.specs.declared.script.Script.{Script}
 use Rattle.world_model.specs.World.{World, world_new}
 use Rattle.world_model.specs.Play.{Played, events_of, played, played_records, script_records}
 use Rattle.world_model.specs.Kept.{Ended, runs_from, runs_within, ended, kept_past, kept_records}
-use Rattle.world_answers.specs.Answers.{Items, AllWorded, Answered, events_in}
-use Rattle.world_answers.specs.Plays.{AnsweredPlay, starting, PlaysLines}
-use Rattle.world_answers.specs.Limits.{answered_in, limited, WordedFrom}
-use Rattle.world_answers.proofs.Adding.{lines_add}
-use Rattle.world_answers.proofs.Limits.{within_worded}
-use Rattle.world_answers.proofs.Worded.{lines_same, worded_plays_are_one}
+use Rattle.world_laws.specs.world_answers.Answers.{Items, AllWorded, Answered, events_in}
+use Rattle.world_laws.specs.world_answers.Plays.{AnsweredPlay, starting, PlaysLines}
+use Rattle.world_laws.specs.world_answers.Limits.{answered_in, limited, WordedFrom}
+use Rattle.world_laws.proofs.world_answers.Adding.{lines_add}
+use Rattle.world_laws.proofs.world_answers.Limits.{within_worded}
+use Rattle.world_laws.proofs.world_answers.Worded.{lines_same, worded_plays_are_one}
 use Rattle.transcript.specs.declared.kinds.Kinds.{Kinds}
 use Rattle.transcript.specs.Kinds.{kinds_text}
 use Rattle.world_play.specs.declared.world.World as kept
-use Rattle.net_script.specs.declared.faults.PlayFault.{PlayFault}
-use Rattle.net_script.specs.declared.faults.PlayFault.TheVariants as play_fault
+use Rattle.play_state.specs.declared.faults.PlayFault.{PlayFault}
+use Rattle.play_state.specs.declared.faults.PlayFault.TheVariants as play_fault
 use Rattle.net_script.specs.Ends.{records_in, records_within, StopsAs, PlayedAs}
 use Rattle.net_script.proofs.PlayLaws.{answered_all}
-use Rattle.net_script.proofs.TextLaws.{all_front}
+use Rattle.play_state.proofs.TextLaws.{all_front}
 
 map_onto : {A B : Type 0} (f : A → B) (xs ys : List A) → map f (reverse_onto xs ys) ≡ reverse_onto (map f xs) (map f ys)
 map_onto f [] ys = refl

@@ -8,17 +8,17 @@ use Rattle.node_state.specs.declared.config.Config.{Config}
 use Rattle.node_state.specs.declared.happened.Happened.{Happened}
 use Rattle.world_model.specs.declared.script.Script.{Script}
 use Rattle.world_model.specs.World.{world_new}
-use Rattle.world_answers.specs.Answers.{Items, Answered}
-use Rattle.world_answers.specs.Plays.{AnsweredPlay, starting, PlaysLines}
-use Rattle.world_answers.specs.Limits.{answered_in, limited}
+use Rattle.world_laws.specs.world_answers.Answers.{Items, Answered}
+use Rattle.world_laws.specs.world_answers.Plays.{AnsweredPlay, starting, PlaysLines}
+use Rattle.world_laws.specs.world_answers.Limits.{answered_in, limited}
 use Rattle.world_play.specs.Safe.{IsSafe, MayPlay}
 use Rattle.world_play.specs.declared.world.World.{World}
 use Rattle.world_play.specs.Standing.{Stands}
 use Rattle.world_play.specs.Hands.{Logs, LogsStand, RunHands, empty_logs}
 use Rattle.transcript.specs.declared.kinds.Kinds.{Kinds}
 use Rattle.transcript.specs.Kinds.{kinds_text}
-use Rattle.net_script.specs.declared.faults.PlayFault.{PlayFault}
-use Rattle.net_script.specs.declared.faults.PlayFault.TheVariants as play_fault
+use Rattle.play_state.specs.declared.faults.PlayFault.{PlayFault}
+use Rattle.play_state.specs.declared.faults.PlayFault.TheVariants as play_fault
 
 -- the records of a play, in order, and those before its packets pass a number of bytes
 abbrev pub records_in : AnsweredPlay → List Happened

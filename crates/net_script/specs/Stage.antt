@@ -6,17 +6,17 @@ use Rattle.client_callbacks.specs.Handed.{Handed}
 use Rattle.node_state.specs.declared.happened.Happened.{Happened}
 use Rattle.node_step.specs.Node.{NodeView}
 use Rattle.world_model.specs.World.{World}
-use Rattle.world_runs.specs.Runs.{SameRun, Recorded}
-use Rattle.world_answers.specs.Answers.{Items, Answered, goes_on}
-use Rattle.world_answers.specs.Plays.{AnsweredPlay}
-use Rattle.world_answers.specs.Limits.{AnsweredRuns, AnsweredEnds, AnsweredTells, Grew}
+use Rattle.world_laws.specs.world_runs.Runs.{SameRun, Recorded}
+use Rattle.world_laws.specs.world_answers.Answers.{Items, Answered, goes_on}
+use Rattle.world_laws.specs.world_answers.Plays.{AnsweredPlay}
+use Rattle.world_laws.specs.world_answers.Limits.{AnsweredRuns, AnsweredEnds, AnsweredTells, Grew}
 use Rattle.world_play.specs.Standing.{Stands}
 use Rattle.world_play.specs.Hands.{Logs, LogsStand, RunHands}
 use Rattle.transcript.specs.declared.kinds.Kinds.{Kinds}
 use Rattle.transcript.specs.Kinds.{kinds_text}
 use Rattle.net_script.specs.declared.stage.Stage.{Stage}
-use Rattle.net_script.specs.declared.faults.PlayFault.{PlayFault}
-use Rattle.net_script.specs.declared.faults.PlayFault.TheVariants as play_fault
+use Rattle.play_state.specs.declared.faults.PlayFault.{PlayFault}
+use Rattle.play_state.specs.declared.faults.PlayFault.TheVariants as play_fault
 
 -- the play stands for this one; its plain events alone make the world v
 pub record At {C : Type 0} (script : C → Option Items) (said : Items → Option Items) (s : Stage C) (p : AnsweredPlay) (v : World) : Type 0 where

@@ -5,16 +5,16 @@ ghost use Rattle.hags_io.specs.Edges.{Rose};
 ghost use Rattle.world_model.specs.World.{Sent, node_at};
 ghost use Rattle.world_model.specs.World as world;
 ghost use Rattle.world_model.specs.Play.{is_cut_of, is_cut, flow_limit};
-ghost use Rattle.world_answers.specs.Plays.{AnsweredPlay, TakesPacket, PlaysFlow};
+ghost use Rattle.world_laws.specs.world_answers.Plays.{AnsweredPlay, TakesPacket, PlaysFlow};
 ghost use Rattle.world_packets.specs.Packets.{waits_as};
 ghost use Rattle.world_play.specs.Standing.{is_me};
 ghost use Rattle.net_script.specs.Stage.{At, LeadsTo};
 
-use crate::faults::PlayFault;
 use crate::happening::happen;
 use crate::stage::Stage;
 use client_callbacks::Made;
 use hags_io::Sink;
+use play_state::PlayFault;
 use std::alloc::Global;
 use transcript::Kinds;
 use world_model::Event;

@@ -2,15 +2,14 @@
 ghost use Rattle.std.specs.Prelude.{◌≡◌, ◌≤◌};
 ghost use Rattle.hags_io.specs.Edges.{Rose};
 ghost use Rattle.world_model.specs.World as world;
-ghost use Rattle.world_answers.specs.Plays.{AnsweredPlay, PlaysEvent};
+ghost use Rattle.world_laws.specs.world_answers.Plays.{AnsweredPlay, PlaysEvent};
 ghost use Rattle.net_script.specs.Stage.{At, LeadsTo};
 
-use crate::faults::PlayFault;
 use crate::stage::Stage;
-use crate::writing::write_records;
 use client_callbacks::Made;
 use hags_io::Sink;
 use node_state::Records;
+use play_state::{PlayFault, write_records};
 use rsct_packet::List;
 use std::alloc::Global;
 use transcript::Kinds;

@@ -1,18 +1,13 @@
 //! The play of scripts: lines become plain events, and the records of these are written as they come.
 #![tactic(auto)]
 
-mod cuts;
-mod faults;
 mod flowing;
 mod happening;
 mod lines;
 mod playing;
 mod rounds;
 mod stage;
-mod writing;
 
-pub use cuts::Cuts;
-pub use faults::PlayFault;
 pub use flowing::FLOW_LIMIT;
 pub use playing::{play, play_as};
 pub use stage::Stage;

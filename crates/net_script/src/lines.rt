@@ -2,16 +2,16 @@
 ghost use Rattle.std.specs.Prelude.{◌≡◌, ◌≤◌};
 ghost use Rattle.hags_io.specs.Edges.{Rose};
 ghost use Rattle.world_model.specs.World as world;
-ghost use Rattle.world_answers.specs.Plays.{AnsweredPlay, PlaysLine, PlaysLines};
+ghost use Rattle.world_laws.specs.world_answers.Plays.{AnsweredPlay, PlaysLine, PlaysLines};
 ghost use Rattle.net_script.specs.Stage.{At, LeadsTo};
 
-use crate::faults::PlayFault;
 use crate::flowing::flow;
 use crate::happening::happen;
 use crate::rounds::run;
 use crate::stage::Stage;
 use client_callbacks::Made;
 use hags_io::Sink;
+use play_state::PlayFault;
 use std::alloc::Global;
 use transcript::Kinds;
 use world_model::Line;

@@ -2,15 +2,15 @@
 ghost use Rattle.std.specs.Prelude.{◌≡◌, ◌≤◌};
 ghost use Rattle.hags_io.specs.Edges.{Rose};
 ghost use Rattle.world_model.specs.World as world;
-ghost use Rattle.world_answers.specs.Plays.{AnsweredPlay, PlaysEach, PlaysTick, PlaysTicks, PlaysRounds};
+ghost use Rattle.world_laws.specs.world_answers.Plays.{AnsweredPlay, PlaysEach, PlaysTick, PlaysTicks, PlaysRounds};
 ghost use Rattle.net_script.specs.Stage.{At, LeadsTo};
 
-use crate::faults::PlayFault;
 use crate::flowing::flow;
 use crate::happening::happen;
 use crate::stage::Stage;
 use client_callbacks::Made;
 use hags_io::Sink;
+use play_state::PlayFault;
 use std::alloc::Global;
 use transcript::Kinds;
 use world_model::Event;

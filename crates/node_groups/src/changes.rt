@@ -63,8 +63,7 @@ fn put_entry(core: &mut Core, alloc: Global, g: &Name, e: &Entry) -> Result<(), 
     ensures { OnOk result (core.new ≡ with_row core.old g.now (λ row. record row { list = Some (with_entry (list_or_new row.list) core.old.views.view e.now) })) }
 {
     let view = core.views.view;
-    let entry = e.copy(alloc)?;
-    edits::put(&mut core.groups, alloc, g, view, entry)
+    edits::put(&mut core.groups, alloc, g, view, e)
 }
 
 /// Puts an entry that fits at the end of the group's list, and records it.

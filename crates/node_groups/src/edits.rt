@@ -24,14 +24,14 @@ pub(crate) fn put(
     alloc: Global,
     name: &Name,
     v: ViewId,
-    e: Entry,
+    e: &Entry,
 ) -> Result<(), NoMemory>
     requires order { InNameOrder groups.old }
-    requires fits { IsTrue (entry_fits (list_or_new (row_found name.now (find (has_name name.now) groups.old)).list) e) }
-    ensures { OnOk result (groups.new ≡ rows_with name.now (λ row. record row { list = Some (with_entry (list_or_new row.list) v e) }) groups.old) }
+    requires fits { IsTrue (entry_fits (list_or_new (row_found name.now (find (has_name name.now) groups.old)).list) e.now) }
+    ensures { OnOk result (groups.new ≡ rows_with name.now (λ row. record row { list = Some (with_entry (list_or_new row.list) v e.now) }) groups.old) }
 {
     let i = open(groups, alloc, name)?;
-    row::put(&mut groups.rows[i], alloc, v, e)
+    row::put(&mut groups.rows[i], alloc, v, e.copy(alloc)?)
 }
 
 /// Lets the entries below a place go, where the group's list has that place.

@@ -28,12 +28,20 @@ fn mark(list: &mut List<ProviderId>, p: ProviderId) -> Result<(), NoMemory>
     list.push(p)
 }
 
+/// The list of a group that has none yet.
+#[tactic(auto, unfolding(proposal_core::specs::Fold::joiners_fit, proposal_core::specs::Fold::joiners_fit_at))]
+fn new_list(alloc: Global) -> GroupList
+    ensures { result ≡ list_or_new None }
+{
+    GroupList::new(alloc, GroupState::empty(alloc))
+}
+
 /// Does the entry fit at the end of a new list?
-#[tactic(auto, unfolding(proposal_core::specs::Lists::entry_fits, proposal_core::specs::Fold::joiners_fit, proposal_core::specs::Fold::joiners_fit_at))]
+#[tactic(auto, unfolding(proposal_core::specs::Lists::entry_fits))]
 pub fn fits_in_new(alloc: Global, e: &Entry) -> bool
     ensures { result ≡ entry_fits (list_or_new None) e.now }
 {
-    let list = GroupList::new(alloc, GroupState::empty(alloc));
+    let list = new_list(alloc);
     list.state().fits(e) && list.has_room(e)
 }
 
@@ -101,18 +109,25 @@ pub fn fits_at_end(row: &GroupRow, alloc: Global, e: &Entry) -> bool
     }
 }
 
+/// A new list of this entry alone, which fits there.
+#[tactic(auto, unfolding(proposal_core::specs::Lists::entry_fits))]
+fn list_of_one(alloc: Global, v: ViewId, e: Entry) -> Result<GroupList, NoMemory>
+    requires { IsTrue (entry_fits (list_or_new None) e) }
+    ensures { IfOk result (λ list. list ≡ with_entry (list_or_new None) v e) }
+{
+    let mut list = new_list(alloc);
+    list.put(alloc, v, e)?;
+    Ok(list)
+}
+
 /// Puts an entry that fits at the end of the list.
-#[tactic(auto, unfolding(proposal_core::specs::Lists::entry_fits, proposal_core::specs::Fold::joiners_fit, proposal_core::specs::Fold::joiners_fit_at))]
+#[tactic(auto, unfolding(proposal_core::specs::Lists::entry_fits))]
 pub fn put(row: &mut GroupRow, alloc: Global, v: ViewId, e: Entry) -> Result<(), NoMemory>
     requires { IsTrue (entry_fits (list_or_new row.old.list) e) }
     ensures { OnOk result (row.new ≡ record (row.old) { list = Some (with_entry (list_or_new row.old.list) v e) }) }
 {
     match &mut row.list {
-        None => {
-            let mut list = GroupList::new(alloc, GroupState::empty(alloc));
-            list.put(alloc, v, e)?;
-            row.list = Some(list);
-        }
+        None => row.list = Some(list_of_one(alloc, v, e)?),
         Some(list) => {
             list.put(alloc, v, e)?;
         }

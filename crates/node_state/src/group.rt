@@ -44,17 +44,26 @@ pub struct Decision {
 }
 
 /// The value and the message of a ballot that the tally recorded.
-#[derive(Drop)]
 pub struct Given {
     pub p: ProviderId,
     pub value: Option<Text>,
     pub message: Option<Text>,
 }
 
+// Written out: a drop is one call then, whose proof is made once.
+impl Drop for Given {
+    fn drop(self) {
+        let Given {
+            p: _,
+            value: _value,
+            message: _message,
+        } = self;
+    }
+}
+
 /// What the leader of a group keeps of it: the acknowledged lengths, what waits, the attributes of waiting joins,
 /// the tally of the phase that runs, what its ballots carried, who is gone, and the last decision on each
 /// requester.
-#[derive(Drop)]
 pub struct Led {
     pub acked: Table<Acked>,
     pub waiting: Waiting,
@@ -65,14 +74,38 @@ pub struct Led {
     pub decided: Table<Decision>,
 }
 
+impl Drop for Led {
+    fn drop(self) {
+        let Led {
+            acked: _acked,
+            waiting: _waiting,
+            join_attrs: _join_attrs,
+            tally: _tally,
+            given: _given,
+            gone: _gone,
+            decided: _decided,
+        } = self;
+    }
+}
+
 /// What a node has of a group: its list, if it holds one, its leader, if it is known, and what the node keeps of
 /// the group as its leader, which is nothing where another node leads.
-#[derive(Drop)]
 pub struct GroupRow {
     pub name: Name,
     pub list: Option<GroupList>,
     pub leader: Option<u8>,
     pub led: Led,
+}
+
+impl Drop for GroupRow {
+    fn drop(self) {
+        let GroupRow {
+            name: _name,
+            list: _list,
+            leader: _,
+            led: _led,
+        } = self;
+    }
 }
 
 /// The rows of groups in name order.

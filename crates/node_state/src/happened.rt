@@ -7,7 +7,6 @@ use rsct_packet::{
 use session_state::GsFault;
 
 /// A record: one thing that happened at a node, in the order in which it happened.
-#[derive(Drop)]
 pub enum Happened {
     /// The node starts, in this incarnation.
     Up {
@@ -100,6 +99,83 @@ pub enum Happened {
         node: u8,
         line: List<u8>,
     },
+}
+
+// Written out: a drop is one call then, whose proof is made once.
+impl Drop for Happened {
+    fn drop(self) {
+        match self {
+            Happened::Up { node: _, inc: _ } => {}
+            Happened::Down { node: _ } => {}
+            Happened::Ring {
+                node: _,
+                network: _,
+                ring: _,
+                members: _,
+                neighbour: _,
+            } => {}
+            Happened::In {
+                node: _,
+                view: _,
+                members: _members,
+            } => {}
+            Happened::Base {
+                node: _,
+                view: _,
+                group: _group,
+                old: _,
+                len: _,
+                state: _state,
+            } => {}
+            Happened::Put {
+                node: _,
+                view: _,
+                group: _group,
+                place: _,
+                entry: _entry,
+            } => {}
+            Happened::Heard {
+                p: _,
+                view: _,
+                group: _group,
+                place: _,
+                entry: _entry,
+                members: _members,
+                value: _value,
+            } => {}
+            Happened::Cast {
+                p: _,
+                proto: _,
+                phase: _,
+                vote: _,
+                value: _value,
+                message: _message,
+            } => {}
+            Happened::Asked {
+                p: _,
+                r: _,
+                group: _group,
+                proposal: _proposal,
+            } => {}
+            Happened::Told { p: _, r: _, why: _ } => {}
+            Happened::Noted {
+                node: _,
+                client: _client,
+                view: _,
+                place: _,
+                told: _told,
+            } => {}
+            Happened::Refused {
+                node: _,
+                client: _client,
+                fault: _,
+            } => {}
+            Happened::Shown {
+                node: _,
+                line: _line,
+            } => {}
+        }
+    }
 }
 
 /// The records of a run, in order.

@@ -11,7 +11,6 @@ use view_state::ViewPacket;
 pub type Report = List<ReportRow>;
 
 /// What a packet says.
-#[derive(Drop)]
 pub enum Body {
     /// What an adapter's ring says.
     Ring {
@@ -87,9 +86,78 @@ pub enum Body {
     },
 }
 
+// Written out: a drop is one call then, whose proof is made once.
+impl Drop for Body {
+    fn drop(self) {
+        match self {
+            Body::Ring { packet: _packet } => {}
+            Body::Report { rows: _rows } => {}
+            Body::View { packet: _packet } => {}
+            Body::Lookup {
+                view: _,
+                name: _name,
+            } => {}
+            Body::Name {
+                view: _,
+                name: _name,
+                leader: _,
+            } => {}
+            Body::Request {
+                view: _,
+                name: _name,
+                p: _,
+                r: _,
+                phases: _,
+                proposal: _proposal,
+            } => {}
+            Body::Tell {
+                view: _,
+                name: _name,
+                p: _,
+                r: _,
+                why: _,
+            } => {}
+            Body::Entry {
+                view: _,
+                name: _name,
+                place: _,
+                stable: _,
+                entry: _entry,
+            } => {}
+            Body::Ack {
+                view: _,
+                name: _name,
+                len: _,
+            } => {}
+            Body::Vote {
+                view: _,
+                name: _name,
+                proto: _,
+                phase: _,
+                p: _,
+                vote: _,
+                value: _value,
+                message: _message,
+            } => {}
+            Body::Gone {
+                view: _,
+                name: _name,
+                p: _,
+            } => {}
+            Body::Query {
+                question: _,
+                what: _,
+            } => {}
+            Body::Reply {
+                question: _,
+                text: _text,
+            } => {}
+        }
+    }
+}
+
 /// A packet: the network that it is sent on, its sender with its incarnation and its receiver (0 for a status
 /// client), its level (1 or 2) and at level 2 its domain, else 0.
-#[derive(Drop)]
 pub struct Packet {
     pub network: u8,
     pub from: u8,
@@ -98,6 +166,20 @@ pub struct Packet {
     pub level: u8,
     pub domain: u32,
     pub body: Body,
+}
+
+impl Drop for Packet {
+    fn drop(self) {
+        let Packet {
+            network: _,
+            from: _,
+            to: _,
+            inc: _,
+            level: _,
+            domain: _,
+            body: _body,
+        } = self;
+    }
 }
 
 /// Packets in the order of sending.

@@ -16,7 +16,6 @@ pub type Rings = List<Ring>;
 /// A node at work: its settings, its views, the names of groups where it is the coordinator, its groups, what it
 /// has of its clients, its rings, which nodes it reaches, and what this step has sent and recorded so far. The
 /// clients themselves stand beside it.
-#[derive(Drop)]
 pub struct Core {
     pub config: Config,
     pub views: Views,
@@ -27,4 +26,21 @@ pub struct Core {
     pub reach: Reach,
     pub sends: Packets,
     pub records: Records,
+}
+
+// Written out: a drop is one call then, whose proof is made once.
+impl Drop for Core {
+    fn drop(self) {
+        let Core {
+            config: _config,
+            views: _views,
+            names: _names,
+            groups: _groups,
+            sessions: _sessions,
+            rings: _rings,
+            reach: _reach,
+            sends: _sends,
+            records: _records,
+        } = self;
+    }
 }

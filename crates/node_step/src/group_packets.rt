@@ -17,12 +17,11 @@ ghost use Rattle.node_state.specs.Step.{is_used, used_if};
 ghost use Rattle.packet_codec.specs.InPlace.{packet_in};
 
 use client_callbacks::{Callbacks, Why};
+use entry_taking::{take_ack, take_entry};
 use group_attr::Phases;
 use group_codec::{EntryRef, ProposalRef};
 use group_entry::optional_text_of;
-use group_following::{
-    take_ack, take_entry, take_gone, take_lookup, take_name, take_tell, take_vote,
-};
+use group_following::{take_gone, take_lookup, take_name, take_tell, take_vote};
 use node_sending::is_frozen;
 use node_state::Core;
 use packet_bodies::{Ack, Gone, GroupRef, Leader};

@@ -6,7 +6,6 @@ mod group_packets;
 mod node;
 mod packets;
 mod sessions;
-mod starting;
 mod view_packets;
 
 pub use events::NodeEvent;

@@ -13,8 +13,8 @@ ghost use Rattle.node_step.specs.Event.{called, event_in, is_taken};
 
 use crate::events::{NodeEvent, take_event};
 use crate::sessions::{close_session, open_session};
-use crate::starting::start_core;
 use client_callbacks::Callbacks;
+use node_starting::start_core;
 use node_state::{Config, Core, Packets, Records};
 use rsct_packet::{List, NoMemory};
 use std::alloc::Global;

@@ -1,6 +1,9 @@
 //! Writing packets: each is taken to the end of `out` by its one spelling.
 ghost use Rattle.std.specs.Prelude.{◌≡◌, ◌++◌, OnOk, OnErr, IfOk};
-ghost use Rattle.rsct_packet.specs.Fields.{u8_text, bytes_text, AreShort};
+ghost use Rattle.rsct_packet.specs.Fields.{u8_text, u16_text, u32_text, provider_text, proto_text, bytes_text, AreShort, IsNode};
+ghost use Rattle.group_attr.specs.Codec.{phases_number};
+ghost use Rattle.group_entry.specs.ProposalCodec.{proposal_text, IsProposal};
+ghost use Rattle.group_entry.specs.EntryCodec.{entry_text, IsEntry};
 ghost use Rattle.rsct_packet.specs.Format.{OptionFits, optional_text};
 ghost use Rattle.node_state.specs.Bodies.{why_code, why_data_text, vote_number, kind_of, ring_kind, view_kind, ring_body_text, view_body_text, named_text, body_text};
 ghost use Rattle.node_state.specs.Bytes.{head_of, bytes_of};
@@ -8,17 +11,19 @@ ghost use Rattle.packet_codec.specs.Spelled.{IsRingBody, IsViewBody, IsWhy, IsBo
 
 use adapter_ring::RingPacket;
 use client_callbacks::Why;
+use group_attr::Phases;
 use group_codec::{phases_number, put_entry, put_proposal};
 use group_entry::optional_bytes;
 use node_state::{Body, Packet};
 use packet_bodies::{
-    Death, GroupRef, Leader, Prepare, Query, Refuse, RingMask, put_death, put_group, put_leader,
-    put_prepare, put_query, put_refuse, put_reply, put_report, put_ring_mask,
+    Ack, Death, Gone, GroupRef, Leader, Prepare, Query, Refuse, RingMask, put_ack, put_death,
+    put_gone, put_group, put_leader, put_prepare, put_query, put_refuse, put_reply, put_report,
+    put_ring_mask,
 };
-use proposal_core::Vote;
+use proposal_core::{Entry, Proposal, Vote};
 use rsct_packet::{
-    Head, NoMemory, Text, put_mask, put_optional_bytes, put_proto, put_provider, put_ring, put_u8,
-    put_u16, put_u32, put_view, write_head, write_head2,
+    Head, Name, NoMemory, ProtoId, ProviderId, Text, ViewId, put_mask, put_optional_bytes,
+    put_proto, put_provider, put_ring, put_u8, put_u16, put_u32, put_view, write_head, write_head2,
 };
 use std::alloc::Global;
 use view_exchange::{put_answer, put_install};
@@ -127,8 +132,74 @@ fn put_filled(
     put_optional_bytes(out, optional_bytes(message))
 }
 
+/// The group of this name in a view.
+fn put_named(out: &mut Vec<u8>, view: ViewId, name: &Name) -> Result<(), NoMemory>
+    requires { IsNode view.coord }
+    ensures { OnOk result (out.new.items ≡ out.old.items ++ named_text view name.now) }
+{
+    put_group(out, &GroupRef::new(view, name.bytes()))
+}
+
+/// What a request has behind its group.
+fn put_asked(
+    alloc: Global,
+    out: &mut Vec<u8>,
+    p: ProviderId,
+    r: u32,
+    phases: Phases,
+    proposal: &Proposal,
+) -> Result<(), NoMemory>
+    requires node { IsNode p.node }
+    requires proposal { IsProposal proposal.now }
+    ensures { OnOk result (out.new.items ≡ out.old.items ++ (provider_text p ++ (u32_text r ++ (u8_text (phases_number phases) ++ proposal_text proposal.now)))) }
+{
+    put_provider(out, p)?;
+    put_u32(out, r)?;
+    put_u8(out, phases_number(phases))?;
+    put_proposal(alloc, out, proposal)
+}
+
+/// What a refusal has behind its group.
+fn put_told(out: &mut Vec<u8>, p: ProviderId, r: u32, why: &Why) -> Result<(), NoMemory>
+    requires node { IsNode p.node }
+    requires why { IsWhy why.now }
+    ensures { OnOk result (out.new.items ≡ out.old.items ++ (provider_text p ++ (u32_text r ++ (u8_text (why_code why.now) ++ why_data_text why.now)))) }
+{
+    put_provider(out, p)?;
+    put_u32(out, r)?;
+    put_u8(out, why_code(why))?;
+    put_why_data(out, why)
+}
+
+/// An entry behind its place and the stable length.
+fn put_placed(
+    alloc: Global,
+    out: &mut Vec<u8>,
+    place: u32,
+    stable: u32,
+    entry: &Entry,
+) -> Result<(), NoMemory>
+    requires { IsEntry entry.now }
+    ensures { OnOk result (out.new.items ≡ out.old.items ++ (u32_text place ++ (u32_text stable ++ entry_text entry.now))) }
+{
+    put_u32(out, place)?;
+    put_u32(out, stable)?;
+    put_entry(alloc, out, entry)
+}
+
+/// The phase of a protocol that a voter votes in.
+fn put_voter(out: &mut Vec<u8>, proto: ProtoId, phase: u16, p: ProviderId) -> Result<(), NoMemory>
+    requires coord { IsNode proto.view.coord }
+    requires node { IsNode p.node }
+    ensures { OnOk result (out.new.items ≡ out.old.items ++ (proto_text proto ++ (u16_text phase ++ provider_text p))) }
+{
+    put_proto(out, proto)?;
+    put_u16(out, phase)?;
+    put_provider(out, p)
+}
+
 /// The body of a packet.
-#[tactic(auto, unfolding(node_state::specs::Bodies::body_text, packet_bodies::specs::Body::leader_text, packet_bodies::specs::Body::query_text, packet_bodies::specs::Group::reply_text))]
+#[tactic(auto, unfolding(node_state::specs::Bodies::body_text, packet_bodies::specs::Body::leader_text, packet_bodies::specs::Body::ack_text, packet_bodies::specs::Body::gone_text, packet_bodies::specs::Body::query_text, packet_bodies::specs::Group::reply_text))]
 fn put_body(alloc: Global, out: &mut Vec<u8>, body: &Body) -> Result<(), NoMemory>
     requires { IsBody body.now }
     ensures { OnOk result (out.new.items ≡ out.old.items ++ body_text body.now) }
@@ -137,7 +208,7 @@ fn put_body(alloc: Global, out: &mut Vec<u8>, body: &Body) -> Result<(), NoMemor
         Body::Ring { packet } => put_ring_packet(out, *packet),
         Body::Report { rows } => put_report(out, rows.as_slice()),
         Body::View { packet } => put_view_packet(alloc, out, packet),
-        Body::Lookup { view, name } => put_group(out, &GroupRef::new(*view, name.bytes())),
+        Body::Lookup { view, name } => put_named(out, *view, name),
         Body::Name { view, name, leader } => put_leader(
             out,
             &Leader {
@@ -153,11 +224,8 @@ fn put_body(alloc: Global, out: &mut Vec<u8>, body: &Body) -> Result<(), NoMemor
             phases,
             proposal,
         } => {
-            put_group(out, &GroupRef::new(*view, name.bytes()))?;
-            put_provider(out, *p)?;
-            put_u32(out, *r)?;
-            put_u8(out, phases_number(*phases))?;
-            put_proposal(alloc, out, proposal)
+            put_named(out, *view, name)?;
+            put_asked(alloc, out, *p, *r, *phases, proposal)
         }
         Body::Tell {
             view,
@@ -166,11 +234,8 @@ fn put_body(alloc: Global, out: &mut Vec<u8>, body: &Body) -> Result<(), NoMemor
             r,
             why,
         } => {
-            put_group(out, &GroupRef::new(*view, name.bytes()))?;
-            put_provider(out, *p)?;
-            put_u32(out, *r)?;
-            put_u8(out, why_code(why))?;
-            put_why_data(out, why)
+            put_named(out, *view, name)?;
+            put_told(out, *p, *r, why)
         }
         Body::Entry {
             view,
@@ -179,15 +244,16 @@ fn put_body(alloc: Global, out: &mut Vec<u8>, body: &Body) -> Result<(), NoMemor
             stable,
             entry,
         } => {
-            put_group(out, &GroupRef::new(*view, name.bytes()))?;
-            put_u32(out, *place)?;
-            put_u32(out, *stable)?;
-            put_entry(alloc, out, entry)
+            put_named(out, *view, name)?;
+            put_placed(alloc, out, *place, *stable, entry)
         }
-        Body::Ack { view, name, len } => {
-            put_group(out, &GroupRef::new(*view, name.bytes()))?;
-            put_u32(out, *len)
-        }
+        Body::Ack { view, name, len } => put_ack(
+            out,
+            &Ack {
+                group: GroupRef::new(*view, name.bytes()),
+                len: *len,
+            },
+        ),
         Body::Vote {
             view,
             name,
@@ -198,16 +264,17 @@ fn put_body(alloc: Global, out: &mut Vec<u8>, body: &Body) -> Result<(), NoMemor
             value,
             message,
         } => {
-            put_group(out, &GroupRef::new(*view, name.bytes()))?;
-            put_proto(out, *proto)?;
-            put_u16(out, *phase)?;
-            put_provider(out, *p)?;
+            put_named(out, *view, name)?;
+            put_voter(out, *proto, *phase, *p)?;
             put_filled(out, *vote, value, message)
         }
-        Body::Gone { view, name, p } => {
-            put_group(out, &GroupRef::new(*view, name.bytes()))?;
-            put_provider(out, *p)
-        }
+        Body::Gone { view, name, p } => put_gone(
+            out,
+            &Gone {
+                group: GroupRef::new(*view, name.bytes()),
+                p: *p,
+            },
+        ),
         Body::Query { question, what } => put_query(
             out,
             Query {

@@ -75,7 +75,6 @@ fn carried_by(given: &[Given], p: ProviderId, part: Part) -> Option<&Text>
 }
 
 /// What the earliest ballot carries, in voters' order, that carries this part.
-#[tactic(auto, using(crate::proofs::ClosingLaws::carried_here, crate::proofs::ClosingLaws::carried_on, crate::proofs::ClosingLaws::carried_last, std::proofs::lemmas::Grind::common_steps))]
 fn first_carried<'a>(given: &'a [Given], voters: &[Voter], part: Part) -> Option<&'a Text>
     ensures { option_copied result ≡ first_carried (part_of part) given.now voters.now }
 {

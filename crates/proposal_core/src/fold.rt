@@ -251,8 +251,7 @@ impl GroupState {
             self.running = Some(run);
             return Err(e);
         }
-        let Running { proposed, .. } = run;
-        self.take_value(v, place, newer(value, proposed));
+        self.take_value(v, place, newer(value, run.into_proposed()));
         Ok(())
     }
 

@@ -13,7 +13,6 @@ use std::marker::Model;
 
 /// A group's list in one view: the entries from `start` on, and the state at its end. `len` and `bytes` count
 /// the forgotten entries as well.
-#[derive(Drop)]
 pub struct GroupList {
     start: u32,
     bytes: u32,
@@ -31,6 +30,18 @@ impl Model for GroupList {
     ghost view = { λ g. record { start = g.start; len = g.start + length g.entries.items; bytes = g.bytes; state = g.state; entries = g.entries.items } };
 
     ghost invariant = { λ g. (g.start + length g.entries.items < 2 ^ 32) × IsTrue (joiners_fit g.state) };
+}
+
+// Written out: a drop is one call then, whose proof is made once.
+impl Drop for GroupList {
+    fn drop(self) {
+        let GroupList {
+            start: _,
+            bytes: _,
+            entries: _entries,
+            state: _state,
+        } = self;
+    }
 }
 
 /// Lets the first entries go.

@@ -9,7 +9,6 @@ use rsct_packet::{NoMemory, ProtoId, Providers, Text};
 use std::alloc::Global;
 
 /// A protocol that runs: its phase is from 1 to 200, and `proposed` is the value that its approval sets.
-#[derive(Drop)]
 pub struct Running {
     pub proto: ProtoId,
     pub proposal: Proposal,
@@ -20,7 +19,6 @@ pub struct Running {
 /// A group's state: its members in the order of their joins, its value and attributes, the members and
 /// running joiners that failed, where its value was set, up to where its source's value was reflected, and
 /// the protocol that runs.
-#[derive(Drop)]
 pub struct GroupState {
     pub members: Providers,
     pub value: Text,
@@ -31,16 +29,55 @@ pub struct GroupState {
     pub running: Option<Running>,
 }
 
+// Written out: a drop is one call then, whose proof is made once.
+impl Drop for Running {
+    fn drop(self) {
+        let Running {
+            proto: _,
+            proposal: _proposal,
+            phase: _,
+            proposed: _proposed,
+        } = self;
+    }
+}
+
+impl Drop for GroupState {
+    fn drop(self) {
+        let GroupState {
+            members: _members,
+            value: _value,
+            attrs: _attrs,
+            failed: _failed,
+            value_at: _,
+            reflected_at: _,
+            running: _running,
+        } = self;
+    }
+}
+
 impl Running {
+    /// The value that its approval sets, of one that ends.
+    pub(crate) fn into_proposed(self) -> Option<Text>
+        ensures { result ≡ self.proposed }
+    {
+        let Running {
+            proto: _,
+            proposal: _proposal,
+            phase: _,
+            proposed,
+        } = self;
+        proposed
+    }
+
     /// An equal record of it.
     pub fn copy(&self, alloc: Global) -> Result<Running, NoMemory>
         ensures { IfOk result (λ r. r ≡ self.now) }
     {
         Ok(Running {
             proto: self.proto,
-            proposal: self.proposal.copy(alloc)?,
             phase: self.phase,
             proposed: copy_text(alloc, &self.proposed)?,
+            proposal: self.proposal.copy(alloc)?,
         })
     }
 }

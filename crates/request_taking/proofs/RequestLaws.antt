@@ -19,7 +19,7 @@ use Rattle.node_groups.specs.Keeps.{Keeps}
 use Rattle.node_groups.proofs.KeepLaws.{keeps_itself, sent_keeps}
 use Rattle.entry_handing.specs.Received.{Handing}
 use Rattle.entry_handing.specs.Doing.{Does}
-use Rattle.group_following.proofs.KeepLaws.{leader_keeps, does_behind}
+use Rattle.group_leading.proofs.RowLaws.{leader_keeps, does_behind}
 
 pub again_keeps : (s : Core) (g : List ℕ) (p : ProviderId) (r : ℕ) (why : Option Why) → Keeps s (told_again s g p r why)
 unfolding told_again

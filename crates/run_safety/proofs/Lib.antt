@@ -25,3 +25,4 @@ pub mod Lives
 pub mod Shows
 pub mod SightLaws
 pub mod RunTallyLaw
+pub mod Failures

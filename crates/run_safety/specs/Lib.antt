@@ -15,3 +15,4 @@ pub mod Always
 pub mod Sight
 pub mod SafeGroups
 pub mod RunTallies
+pub mod Failures

@@ -5,6 +5,7 @@
 #![tactic(auto)]
 
 ghost use Rattle.run_safety.specs.Always.{AlwaysOneList, AlwaysInOrder, AlwaysRising, AlwaysSameMembers, AlwaysOneInstall, AlwaysOneBase, AlwaysTogether, AlwaysCut, AlwaysFold, AlwaysBase, AlwaysLed, AlwaysOnce, AlwaysStable, AlwaysTallied, AlwaysApprovedByAll, AlwaysFitted};
+ghost use Rattle.run_safety.specs.Failures.{FailureLeavesTakeTheFallen};
 ghost use Rattle.run_safety.specs.SafeGroups.{LivesAreSafe, GroupsGiveOneList};
 ghost use Rattle.run_safety.specs.RunTallies.{GroupsCloseByTally};
 
@@ -118,4 +119,10 @@ pub fn groups_give_one_list()
 /// that their kind says, and what is approved each row of the last phase approves.
 pub fn groups_close_by_tally()
     ensures { GroupsCloseByTally }
+{}
+
+/// Where a failure leave runs, its approval and its rejection both take those whom it names from the members, and
+/// nobody else: a rejected failure leave does not keep the dead.
+pub fn failure_leaves_take_the_fallen()
+    ensures { FailureLeavesTakeTheFallen }
 {}

@@ -1,16 +1,16 @@
 //! Words that set a group's attributes.
-ghost use Rattle.std.specs.Prelude.{◌≡◌, ◌==◌};
+ghost use Rattle.std.specs.Prelude.{◌≡◌, ◌==◌, IfErr, OnOk, Some};
 ghost use Rattle.std.specs.Option.{option_map};
 ghost use Rattle.std.specs.List.{list_any};
 ghost use Rattle.world_model.specs.Words.{key_number, key_word, attr_set, before_equals, after_equals, attr_words};
-ghost use Rattle.script_reader.specs.Answers.{GivesWord};
+ghost use Rattle.script_reader.specs.Answers.{FailsWord, GivesWord};
 ghost use Rattle.script_reader.specs.Attrs.{key_seen, new_key, attr_step};
 
 use crate::choices::{batch_word, default_word, phases_word};
 use crate::faults::WordFault;
 use crate::names::source_word;
 use crate::numbers::short_word;
-use crate::words::{Words, place_of};
+use crate::words::{Words, is_word, place_of};
 use group_attr::Attrs;
 use rsct_packet::List;
 use std::alloc::Global;
@@ -46,25 +46,25 @@ fn key_number(key: AttrKey) -> u8
 fn key_word(w: &[u8]) -> Option<AttrKey>
     ensures { option_map key_seen result ≡ key_word w.now }
 {
-    if b"phases".as_slice() == w {
+    if is_word(b"phases", w) {
         return Some(AttrKey::Phases);
     }
-    if b"batch".as_slice() == w {
+    if is_word(b"batch", w) {
         return Some(AttrKey::Batch);
     }
-    if b"default".as_slice() == w {
+    if is_word(b"default", w) {
         return Some(AttrKey::Default);
     }
-    if b"limit".as_slice() == w {
+    if is_word(b"limit", w) {
         return Some(AttrKey::Limit);
     }
-    if b"source".as_slice() == w {
+    if is_word(b"source", w) {
         return Some(AttrKey::Source);
     }
-    if b"sphases".as_slice() == w {
+    if is_word(b"sphases", w) {
         return Some(AttrKey::SourcePhases);
     }
-    if b"slimit".as_slice() == w {
+    if is_word(b"slimit", w) {
         return Some(AttrKey::SourceLimit);
     }
     None
@@ -90,10 +90,11 @@ fn after_equals(w: &[u8]) -> Option<&[u8]>
     Some(&w[i + 1..])
 }
 
-/// The attributes with one that the word sets.
+/// Sets the attribute as the word says.
 #[tactic(auto, unfolding(world_model::specs::Words::attr_set, crate::specs::Answers::bind_opens))]
-fn attr_set(alloc: Global, mut attrs: Attrs, key: AttrKey, w: &[u8]) -> Result<Attrs, WordFault>
-    ensures { GivesWord result (attr_set attrs (key_seen key) w.now) }
+fn set_attr(alloc: Global, attrs: &mut Attrs, key: AttrKey, w: &[u8]) -> Result<(), WordFault>
+    ensures set { OnOk result (attr_set attrs.old (key_seen key) w.now ≡ Some attrs.new) }
+    ensures refused { IfErr result (λ e. FailsWord e (attr_set attrs.old (key_seen key) w.now)) }
 {
     match key {
         AttrKey::Phases => attrs.phases = phases_word(w).ok_or(WordFault::BadWord)?,
@@ -106,7 +107,7 @@ fn attr_set(alloc: Global, mut attrs: Attrs, key: AttrKey, w: &[u8]) -> Result<A
             attrs.source_limit = short_word(0, u16::MAX, w).ok_or(WordFault::BadWord)?;
         }
     }
-    Ok(attrs)
+    Ok(())
 }
 
 /// The attributes that words set, and the numbers of those that are given.
@@ -137,17 +138,17 @@ fn new_key(seen: &[u8], w: &[u8]) -> Option<AttrKey>
     if is_seen(seen, key) { None } else { Some(key) }
 }
 
-/// With the attribute of one word more.
+/// Takes in the attribute of one word more.
 #[tactic(auto, unfolding(crate::specs::Attrs::attr_step, crate::specs::Answers::bind_opens))]
-fn with_word(alloc: Global, read: AttrsRead, w: &[u8]) -> Result<AttrsRead, WordFault>
-    ensures { GivesWord result (attr_step read w.now) }
+fn take_word(alloc: Global, read: &mut AttrsRead, w: &[u8]) -> Result<(), WordFault>
+    ensures taken { OnOk result (attr_step read.old w.now ≡ Some read.new) }
+    ensures refused { IfErr result (λ e. FailsWord e (attr_step read.old w.now)) }
 {
     let key = new_key(read.seen.as_slice(), w).ok_or(WordFault::BadWord)?;
     let value = after_equals(w).ok_or(WordFault::BadWord)?;
-    let AttrsRead { attrs, mut seen } = read;
-    let attrs = attr_set(alloc, attrs, key, value)?;
-    seen.push(key_number(key))?;
-    Ok(AttrsRead { attrs, seen })
+    set_attr(alloc, &mut read.attrs, key, value)?;
+    read.seen.push(key_number(key))?;
+    Ok(())
 }
 
 /// The attributes that the words set, each at most once; those that no word sets are as in a group that nobody
@@ -161,7 +162,7 @@ pub fn attr_words(alloc: Global, words: &mut Words<'_>) -> Result<Attrs, WordFau
         seen: List::new(alloc),
     };
     while let Some(w) = words.take() {
-        read = with_word(alloc, read, w)?;
+        take_word(alloc, &mut read, w)?;
     }
     Ok(read.attrs)
 }

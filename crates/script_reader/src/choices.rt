@@ -2,6 +2,7 @@
 ghost use Rattle.std.specs.Prelude.{◌≡◌};
 ghost use Rattle.world_model.specs.Words.{phases_word, mode_word, what_word, batch_word, default_word};
 
+use crate::words::is_word;
 use group_attr::{Batch, DefaultVote, Phases};
 use node_state::{Mode, What};
 
@@ -10,10 +11,10 @@ use node_state::{Mode, What};
 pub fn phases_word(w: &[u8]) -> Option<Phases>
     ensures { result ≡ phases_word w.now }
 {
-    if b"1".as_slice() == w {
+    if is_word(b"1", w) {
         return Some(Phases::One);
     }
-    if b"n".as_slice() == w {
+    if is_word(b"n", w) {
         return Some(Phases::Many);
     }
     None
@@ -24,13 +25,13 @@ pub fn phases_word(w: &[u8]) -> Option<Phases>
 pub fn mode_word(w: &[u8]) -> Option<Mode>
     ensures { result ≡ mode_word w.now }
 {
-    if b"fixed".as_slice() == w {
+    if is_word(b"fixed", w) {
         return Some(Mode::Fixed);
     }
-    if b"asked".as_slice() == w {
+    if is_word(b"asked", w) {
         return Some(Mode::Asked);
     }
-    if b"rings".as_slice() == w {
+    if is_word(b"rings", w) {
         return Some(Mode::Rings);
     }
     None
@@ -41,16 +42,16 @@ pub fn mode_word(w: &[u8]) -> Option<Mode>
 pub fn what_word(w: &[u8]) -> Option<What>
     ensures { result ≡ what_word w.now }
 {
-    if b"hats".as_slice() == w {
+    if is_word(b"hats", w) {
         return Some(What::Hats);
     }
-    if b"hagsns".as_slice() == w {
+    if is_word(b"hagsns", w) {
         return Some(What::Hagsns);
     }
-    if b"hagsgr".as_slice() == w {
+    if is_word(b"hagsgr", w) {
         return Some(What::Hagsgr);
     }
-    if b"hagsvote".as_slice() == w {
+    if is_word(b"hagsvote", w) {
         return Some(What::Hagsvote);
     }
     None
@@ -61,16 +62,16 @@ pub fn what_word(w: &[u8]) -> Option<What>
 pub fn batch_word(w: &[u8]) -> Option<Batch>
     ensures { result ≡ batch_word w.now }
 {
-    if b"none".as_slice() == w {
+    if is_word(b"none", w) {
         return Some(Batch::Neither);
     }
-    if b"joins".as_slice() == w {
+    if is_word(b"joins", w) {
         return Some(Batch::Joins);
     }
-    if b"failures".as_slice() == w {
+    if is_word(b"failures", w) {
         return Some(Batch::Failures);
     }
-    if b"both".as_slice() == w {
+    if is_word(b"both", w) {
         return Some(Batch::Both);
     }
     None
@@ -81,10 +82,10 @@ pub fn batch_word(w: &[u8]) -> Option<Batch>
 pub fn default_word(w: &[u8]) -> Option<DefaultVote>
     ensures { result ≡ default_word w.now }
 {
-    if b"approve".as_slice() == w {
+    if is_word(b"approve", w) {
         return Some(DefaultVote::Approve);
     }
-    if b"reject".as_slice() == w {
+    if is_word(b"reject", w) {
         return Some(DefaultVote::Reject);
     }
     None

@@ -5,6 +5,8 @@ ghost use Rattle.world_model.specs.Words.{chosen};
 ghost use Rattle.world_model.specs.Lines.{forms};
 ghost use Rattle.script_reader.specs.Heads.{head_seen, form_seen, frequent_forms, node_forms, group_forms, setting_forms};
 
+use crate::words::is_word;
+
 /// What the first word of a line says that the line is.
 #[derive(Clone, Copy)]
 pub enum Head {
@@ -84,28 +86,28 @@ fn between(head: Head, least: usize, most: usize) -> Form
 fn frequent_form(w: &[u8]) -> Option<Form>
     ensures { option_map form_seen result ≡ chosen frequent_forms w.now }
 {
-    if b"flow".as_slice() == w {
+    if is_word(b"flow", w) {
         return Some(exactly(Head::Flow, 0));
     }
-    if b"deliver".as_slice() == w {
+    if is_word(b"deliver", w) {
         return Some(exactly(Head::Deliver, 3));
     }
-    if b"join".as_slice() == w {
+    if is_word(b"join", w) {
         return Some(at_least(Head::Join, 3));
     }
-    if b"message".as_slice() == w {
+    if is_word(b"message", w) {
         return Some(exactly(Head::Message, 4));
     }
-    if b"state".as_slice() == w {
+    if is_word(b"state", w) {
         return Some(exactly(Head::State, 4));
     }
-    if b"vote".as_slice() == w {
+    if is_word(b"vote", w) {
         return Some(exactly(Head::Vote, 3));
     }
-    if b"client".as_slice() == w {
+    if is_word(b"client", w) {
         return Some(exactly(Head::Client, 3));
     }
-    if b"ask".as_slice() == w {
+    if is_word(b"ask", w) {
         return Some(at_least(Head::Ask, 2));
     }
     None
@@ -116,28 +118,28 @@ fn frequent_form(w: &[u8]) -> Option<Form>
 fn node_form(w: &[u8]) -> Option<Form>
     ensures { option_map form_seen result ≡ chosen node_forms w.now }
 {
-    if b"start".as_slice() == w {
+    if is_word(b"start", w) {
         return Some(exactly(Head::Start, 1));
     }
-    if b"stop".as_slice() == w {
+    if is_word(b"stop", w) {
         return Some(exactly(Head::Stop, 1));
     }
-    if b"tick".as_slice() == w {
+    if is_word(b"tick", w) {
         return Some(exactly(Head::Tick, 1));
     }
-    if b"run".as_slice() == w {
+    if is_word(b"run", w) {
         return Some(exactly(Head::Run, 1));
     }
-    if b"drop".as_slice() == w {
+    if is_word(b"drop", w) {
         return Some(exactly(Head::Drop, 2));
     }
-    if b"cut".as_slice() == w {
+    if is_word(b"cut", w) {
         return Some(between(Head::Cut, 2, 3));
     }
-    if b"heal".as_slice() == w {
+    if is_word(b"heal", w) {
         return Some(between(Head::Heal, 2, 3));
     }
-    if b"garbage".as_slice() == w {
+    if is_word(b"garbage", w) {
         return Some(exactly(Head::Garbage, 2));
     }
     None
@@ -148,28 +150,28 @@ fn node_form(w: &[u8]) -> Option<Form>
 fn group_form(w: &[u8]) -> Option<Form>
     ensures { option_map form_seen result ≡ chosen group_forms w.now }
 {
-    if b"show".as_slice() == w {
+    if is_word(b"show", w) {
         return Some(exactly(Head::Show, 2));
     }
-    if b"leave".as_slice() == w {
+    if is_word(b"leave", w) {
         return Some(exactly(Head::Leave, 3));
     }
-    if b"expel".as_slice() == w {
+    if is_word(b"expel", w) {
         return Some(at_least(Head::Expel, 4));
     }
-    if b"attrs".as_slice() == w {
+    if is_word(b"attrs", w) {
         return Some(at_least(Head::Attrs, 3));
     }
-    if b"subscribe".as_slice() == w {
+    if is_word(b"subscribe", w) {
         return Some(exactly(Head::Subscribe, 2));
     }
-    if b"unsubscribe".as_slice() == w {
+    if is_word(b"unsubscribe", w) {
         return Some(exactly(Head::Unsubscribe, 2));
     }
-    if b"goodbye".as_slice() == w {
+    if is_word(b"goodbye", w) {
         return Some(exactly(Head::Goodbye, 1));
     }
-    if b"mode".as_slice() == w {
+    if is_word(b"mode", w) {
         return Some(exactly(Head::Mode, 1));
     }
     None
@@ -180,25 +182,25 @@ fn group_form(w: &[u8]) -> Option<Form>
 fn setting_form(w: &[u8]) -> Option<Form>
     ensures { option_map form_seen result ≡ chosen setting_forms w.now }
 {
-    if b"node".as_slice() == w {
+    if is_word(b"node", w) {
         return Some(exactly(Head::Node, 1));
     }
-    if b"adapter".as_slice() == w {
+    if is_word(b"adapter", w) {
         return Some(exactly(Head::Adapter, 3));
     }
-    if b"hb".as_slice() == w {
+    if is_word(b"hb", w) {
         return Some(exactly(Head::Hb, 2));
     }
-    if b"port".as_slice() == w {
+    if is_word(b"port", w) {
         return Some(exactly(Head::Port, 1));
     }
-    if b"level".as_slice() == w {
+    if is_word(b"level", w) {
         return Some(exactly(Head::Level, 2));
     }
-    if b"domain".as_slice() == w {
+    if is_word(b"domain", w) {
         return Some(exactly(Head::Domain, 1));
     }
-    if b"begin".as_slice() == w {
+    if is_word(b"begin", w) {
         return Some(exactly(Head::Begin, 0));
     }
     None

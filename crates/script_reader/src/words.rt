@@ -3,6 +3,7 @@ ghost use Rattle.std.specs.Prelude.{◌≡◌, ◌==◌, ◌<◌, ◌+◌, ◌�
 ghost use Rattle.std.specs.Option.{option_map};
 ghost use Rattle.script_reader.specs.Counted.{first_of, one_of, two_of, three_of, four_of};
 ghost use Rattle.std.specs.List.{position};
+ghost use Rattle.std.specs.Str.{bytes_eq};
 ghost use Rattle.rsct_packet.specs.Lists.{is_empty};
 ghost use Rattle.world_model.specs.Words.{split_on};
 ghost use Rattle.world_model.specs.Reading.{words_in};
@@ -17,6 +18,13 @@ pub fn is_empty(b: &[u8]) -> bool
         [] => true,
         _ => false,
     }
+}
+
+/// Is it this word?
+pub fn is_word(word: &[u8], w: &[u8]) -> bool
+    ensures { result ≡ bytes_eq word.now w.now }
+{
+    word == w
 }
 
 /// Where the first such byte stands.

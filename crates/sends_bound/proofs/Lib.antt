@@ -22,3 +22,8 @@ pub mod Alone
 pub mod TickMoves
 pub mod Steps
 pub mod RowLaws
+pub mod Bases
+pub mod Nodes
+pub mod Brought
+pub mod Small
+pub mod Law

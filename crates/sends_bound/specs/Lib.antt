@@ -1,3 +1,4 @@
 pub mod Bound
 pub mod Lasting
 pub mod Laws
+pub mod RunLaws

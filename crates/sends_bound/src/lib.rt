@@ -2,6 +2,7 @@
 #![tactic(auto)]
 
 ghost use Rattle.sends_bound.specs.Laws.{AppendSends, CloseSends, BeginSends, LookupSends, NameSends, RequestSends, TellSends, EntrySends, AckSends, VoteSends, GoneSends, CallSends, RingSends, ReportSends, RingsPartSends, OwedPartSends, LedPartSends, EndSends, StepSends, ReopenedEnds};
+ghost use Rattle.sends_bound.specs.RunLaws.{RunsAreReady, StepsOfRunsSend, SentInstallsAreFew};
 
 /// An entry that the leader appends: ENTRY to the other members and VOTE for those that hear it.
 #[tactic(auto, using(crate::proofs::RowLaws::append_sends))]
@@ -121,4 +122,20 @@ pub fn step_sends_few()
 #[tactic(auto, using(crate::proofs::RowLaws::no_phase_follows))]
 pub fn reopened_phase_ends()
     ensures { ReopenedEnds }
+{}
+
+/// Each node of a run has between two events all that the bound on a step asks for, whatever happens to it next.
+pub fn runs_are_ready()
+    ensures { RunsAreReady }
+{}
+
+/// So every step of a run sends few packets.
+#[tactic(auto, using(crate::proofs::Law::runs_send))]
+pub fn steps_of_runs_send_few()
+    ensures { StepsOfRunsSend }
+{}
+
+/// Each install that is sent in a run has at most 32 members.
+pub fn sent_installs_are_few()
+    ensures { SentInstallsAreFew }
 {}

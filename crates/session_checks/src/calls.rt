@@ -1,5 +1,5 @@
 //! The calls of clients, as far as they change what a node has of them.
-ghost use Rattle.std.specs.Prelude.{◌≡◌, ◌++◌, ◌∷◌, [], ◌<◌, ◌^◌, length, IsTrue, IfOk, OnOk, OnErr, option_copied};
+ghost use Rattle.std.specs.Prelude.{◌≡◌, ◌++◌, ◌∷◌, [], ◌<◌, ◌^◌, length, None, IsTrue, IfOk, OnOk, OnErr, option_copied};
 ghost use Rattle.rsct_packet.specs.Text.{IsName};
 ghost use Rattle.client_callbacks.specs.Ballots.{is_level};
 ghost use Rattle.session_state.specs.Calls.{Answers, SameSessions, left, expelled, state_changed, message_sent, attributes_changed, voted, joined};
@@ -65,6 +65,24 @@ fn put_joiner(sessions: &mut SessionState, x: Provider, q: Request) -> Result<()
     }
 }
 
+/// The request of a provider that joins the group.
+fn join_request(alloc: Global, p: ProviderId, g: &[u8], a: Attrs) -> Result<Request, NoMemory>
+    requires { IsName g.now }
+    ensures { IfOk result (λ q. q ≡ record { p = p; r = p.join; group = g.now; phases = Phases.One; proposal = Proposal.Join (p ∷ []) a None }) }
+{
+    Ok(Request {
+        p,
+        r: p.join,
+        group: name_of(alloc, g)?,
+        phases: Phases::One,
+        proposal: Proposal::Join {
+            ps: Providers::one(alloc, p)?,
+            attrs: a,
+            source_len: None,
+        },
+    })
+}
+
 /// Adds a joining provider of the client, with its join's request.
 #[tactic(auto, unfolding(session_state::specs::Calls::joined, session_state::specs::Calls::join_asked))]
 pub fn join(
@@ -87,23 +105,14 @@ pub fn join(
         instance,
         join: r,
     };
+    let group = name_of(alloc, g)?;
+    let q = join_request(alloc, p, g, a)?;
     let x = Provider {
         p,
         client: t,
-        group: name_of(alloc, g)?,
+        group,
         takes_part: false,
         opened: None,
-    };
-    let q = Request {
-        p,
-        r,
-        group: name_of(alloc, g)?,
-        phases: Phases::One,
-        proposal: Proposal::Join {
-            ps: Providers::one(alloc, p)?,
-            attrs: a,
-            source_len: None,
-        },
     };
     put_joiner(sessions, x, q)?;
     Ok(MemberToken { n: r })

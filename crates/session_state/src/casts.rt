@@ -4,10 +4,16 @@ use rsct_packet::{List, ProtoId, ProviderId};
 
 /// A provider that was handed a notice, and the ballot that its client filled, with the protocol and the phase
 /// that it is for.
-#[derive(Drop)]
 pub struct Cast {
     pub p: ProviderId,
     pub cast: Option<(ProtoId, u16, Ballot)>,
+}
+
+// Written out: a drop is one call then, whose proof is made once.
+impl Drop for Cast {
+    fn drop(self) {
+        let Cast { p: _, cast: _cast } = self;
+    }
 }
 
 /// Those that were handed a notice, in that order.

@@ -38,7 +38,6 @@ pub struct Provider {
 }
 
 /// An outstanding request of a provider: its number, and what it proposes, in one phase or many.
-#[derive(Drop)]
 pub struct Request {
     pub p: ProviderId,
     pub r: u32,
@@ -47,8 +46,20 @@ pub struct Request {
     pub proposal: Proposal,
 }
 
+// Written out: a drop is one call then, whose proof is made once.
+impl Drop for Request {
+    fn drop(self) {
+        let Request {
+            p: _,
+            r: _,
+            group: _group,
+            phases: _,
+            proposal: _proposal,
+        } = self;
+    }
+}
+
 /// A ballot that is kept for a provider, protocol and phase until the phase closes.
-#[derive(Drop)]
 pub struct KeptBallot {
     pub p: ProviderId,
     pub group: Name,
@@ -57,10 +68,21 @@ pub struct KeptBallot {
     pub ballot: Ballot,
 }
 
+impl Drop for KeptBallot {
+    fn drop(self) {
+        let KeptBallot {
+            p: _,
+            group: _group,
+            proto: _,
+            phase: _,
+            ballot: _ballot,
+        } = self;
+    }
+}
+
 /// What a node of this number and incarnation has of its clients: the level that limits values, the numbers
 /// that were given last, and, oldest first, the live sessions, their providers, the outstanding requests, the
 /// subscriptions and the kept ballots.
-#[derive(Drop)]
 pub struct SessionState {
     pub me: u8,
     pub inc: u32,
@@ -72,4 +94,21 @@ pub struct SessionState {
     pub requests: List<Request>,
     pub subs: Subs,
     pub kept: List<KeptBallot>,
+}
+
+impl Drop for SessionState {
+    fn drop(self) {
+        let SessionState {
+            me: _,
+            inc: _,
+            level: _,
+            last_request: _,
+            last_client: _,
+            sessions: _sessions,
+            providers: _providers,
+            requests: _requests,
+            subs: _subs,
+            kept: _kept,
+        } = self;
+    }
 }

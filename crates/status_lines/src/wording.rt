@@ -64,14 +64,20 @@ pub fn put_counted(alloc: Global, out: &mut Vec<u8>, label: &[u8], n: u32) -> Re
     put_number(alloc, out, n)
 }
 
+/// A number and a dot.
+fn put_number_dot(alloc: Global, out: &mut Vec<u8>, n: u32) -> Result<(), NoMemory>
+    ensures { OnOk result (out.new.items ≡ out.old.items ++ (decimal n ++ codes ".")) }
+{
+    put_number(alloc, out, n)?;
+    put_text(out, b".")
+}
+
 #[tactic(auto, unfolding(node_state::specs::Wording::view_text))]
 pub fn put_view(alloc: Global, out: &mut Vec<u8>, v: ViewId) -> Result<(), NoMemory>
     ensures { OnOk result (out.new.items ≡ out.old.items ++ view_text v) }
 {
-    put_number(alloc, out, v.number)?;
-    put_text(out, b".")?;
-    put_number(alloc, out, u32::from(v.coord))?;
-    put_text(out, b".")?;
+    put_number_dot(alloc, out, v.number)?;
+    put_number_dot(alloc, out, u32::from(v.coord))?;
     put_number(alloc, out, v.inc)
 }
 
@@ -87,12 +93,9 @@ pub fn put_view_word(alloc: Global, out: &mut Vec<u8>, v: ViewId) -> Result<(), 
 pub fn put_provider(alloc: Global, out: &mut Vec<u8>, p: ProviderId) -> Result<(), NoMemory>
     ensures { OnOk result (out.new.items ≡ out.old.items ++ provider_text p) }
 {
-    put_number(alloc, out, u32::from(p.node))?;
-    put_text(out, b".")?;
-    put_number(alloc, out, p.inc)?;
-    put_text(out, b".")?;
-    put_number(alloc, out, u32::from(p.instance))?;
-    put_text(out, b".")?;
+    put_number_dot(alloc, out, u32::from(p.node))?;
+    put_number_dot(alloc, out, p.inc)?;
+    put_number_dot(alloc, out, u32::from(p.instance))?;
     put_number(alloc, out, p.join)
 }
 
@@ -108,12 +111,9 @@ pub fn put_provider_word(alloc: Global, out: &mut Vec<u8>, p: ProviderId) -> Res
 pub fn put_ring_word(alloc: Global, out: &mut Vec<u8>, r: RingId) -> Result<(), NoMemory>
     ensures { OnOk result (out.new.items ≡ out.old.items ++ word (ring_text r)) }
 {
-    put_number(alloc, out, u32::from(r.leader))?;
-    put_text(out, b".")?;
-    put_number(alloc, out, r.inc)?;
-    put_text(out, b".")?;
-    put_number(alloc, out, r.number)?;
-    put_text(out, b" ")
+    put_number_dot(alloc, out, u32::from(r.leader))?;
+    put_number_dot(alloc, out, r.inc)?;
+    put_number_word(alloc, out, r.number)
 }
 
 #[tactic(auto, unfolding(node_state::specs::Wording::proto_text))]
@@ -137,8 +137,7 @@ pub fn put_proto_word(alloc: Global, out: &mut Vec<u8>, p: ProtoId) -> Result<()
 fn put_member(alloc: Global, out: &mut Vec<u8>, m: Member) -> Result<(), NoMemory>
     ensures { OnOk result (out.new.items ≡ out.old.items ++ member_text m) }
 {
-    put_number(alloc, out, u32::from(m.node))?;
-    put_text(out, b".")?;
+    put_number_dot(alloc, out, u32::from(m.node))?;
     put_number(alloc, out, m.inc)
 }
 

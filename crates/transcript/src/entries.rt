@@ -117,6 +117,21 @@ fn put_closed(alloc: Global, out: &mut Vec<u8>, c: &Closed) -> Result<(), NoMemo
     put_rows(alloc, out, c.rows.as_slice())
 }
 
+/// A label, and behind it what closes a phase, and its value.
+fn put_closed_value(
+    alloc: Global,
+    out: &mut Vec<u8>,
+    label: &[u8],
+    c: &Closed,
+) -> Result<(), NoMemory>
+    ensures { OnOk result (out.new.items ≡ out.old.items ++ (label.now ++ closed_text c.now ++ codes " " ++ value_option_text c.now.value)) }
+{
+    put_text(out, label)?;
+    put_closed(alloc, out, c)?;
+    put_text(out, b" ")?;
+    put_value_option(out, &c.value)
+}
+
 #[tactic(auto, unfolding(world_model::specs::Text::entry_text))]
 pub fn put_entry(alloc: Global, out: &mut Vec<u8>, e: &Entry) -> Result<(), NoMemory>
     ensures { OnOk result (out.new.items ≡ out.old.items ++ entry_text e.now) }
@@ -130,18 +145,8 @@ pub fn put_entry(alloc: Global, out: &mut Vec<u8>, e: &Entry) -> Result<(), NoMe
             put_text(out, b"begin ")?;
             put_proposal(alloc, out, x)
         }
-        Entry::Phase(c) => {
-            put_text(out, b"phase ")?;
-            put_closed(alloc, out, c)?;
-            put_text(out, b" ")?;
-            put_value_option(out, &c.value)
-        }
-        Entry::Approve(c) => {
-            put_text(out, b"approve ")?;
-            put_closed(alloc, out, c)?;
-            put_text(out, b" ")?;
-            put_value_option(out, &c.value)
-        }
+        Entry::Phase(c) => put_closed_value(alloc, out, b"phase ", c),
+        Entry::Approve(c) => put_closed_value(alloc, out, b"approve ", c),
         Entry::Reject(c) => {
             put_text(out, b"reject ")?;
             put_closed(alloc, out, c)

@@ -1,5 +1,6 @@
 //! Which kinds of records are shown.
 ghost use Rattle.std.specs.Prelude.{◌≡◌};
+ghost use Rattle.std.specs.Str.{bytes_eq};
 ghost use Rattle.transcript.specs.Kinds.{shows, all_kinds, no_kinds, kind_word, has_kind, with_kind, with_new, kind_step, kinds_of};
 
 use node_state::Happened;
@@ -43,47 +44,54 @@ pub struct Kinds {
     pub shown: bool,
 }
 
+/// Is it this word?
+fn is_word(word: &[u8], w: &[u8]) -> bool
+    ensures { result ≡ bytes_eq word.now w.now }
+{
+    word == w
+}
+
 #[tactic(auto, unfolding(crate::specs::Kinds::kind_word, world_model::specs::Words::chosen))]
 fn kind_word(w: &[u8]) -> Option<Kind>
     ensures { result ≡ kind_word w.now }
 {
-    if b"up".as_slice() == w {
+    if is_word(b"up", w) {
         return Some(Kind::Up);
     }
-    if b"down".as_slice() == w {
+    if is_word(b"down", w) {
         return Some(Kind::Down);
     }
-    if b"ring".as_slice() == w {
+    if is_word(b"ring", w) {
         return Some(Kind::Ring);
     }
-    if b"in".as_slice() == w {
+    if is_word(b"in", w) {
         return Some(Kind::In);
     }
-    if b"base".as_slice() == w {
+    if is_word(b"base", w) {
         return Some(Kind::Base);
     }
-    if b"put".as_slice() == w {
+    if is_word(b"put", w) {
         return Some(Kind::Put);
     }
-    if b"heard".as_slice() == w {
+    if is_word(b"heard", w) {
         return Some(Kind::Heard);
     }
-    if b"cast".as_slice() == w {
+    if is_word(b"cast", w) {
         return Some(Kind::Cast);
     }
-    if b"asked".as_slice() == w {
+    if is_word(b"asked", w) {
         return Some(Kind::Asked);
     }
-    if b"told".as_slice() == w {
+    if is_word(b"told", w) {
         return Some(Kind::Told);
     }
-    if b"noted".as_slice() == w {
+    if is_word(b"noted", w) {
         return Some(Kind::Noted);
     }
-    if b"refused".as_slice() == w {
+    if is_word(b"refused", w) {
         return Some(Kind::Refused);
     }
-    if b"show".as_slice() == w {
+    if is_word(b"show", w) {
         return Some(Kind::Show);
     }
     None

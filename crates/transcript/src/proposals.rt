@@ -1,11 +1,12 @@
 //! Proposals.
-ghost use Rattle.std.specs.Prelude.{◌≡◌, ◌++◌, OnOk, codes, flat_map};
-ghost use Rattle.world_model.specs.Text.{source_len_text, cause_text, failure_text, asker_text, proposal_text};
-ghost use Rattle.node_state.specs.Wording.{joined};
+ghost use Rattle.std.specs.Prelude.{◌≡◌, ◌++◌, OnOk, codes, decimal, flat_map};
+ghost use Rattle.world_model.specs.Text.{attrs_text, source_len_text, cause_text, failure_text, asker_text, proposal_text};
+ghost use Rattle.node_state.specs.Wording.{joined, providers_text, value_text, view_text};
 
 use crate::attrs::put_attrs;
+use group_attr::Attrs;
 use proposal_core::{Cause, Failure, Proposal};
-use rsct_packet::{NoMemory, ProviderId};
+use rsct_packet::{NoMemory, ProviderId, Providers, Text, ViewId};
 use status_lines::{put_number, put_provider, put_providers, put_text, put_value, put_view};
 use std::alloc::Global;
 
@@ -76,6 +77,70 @@ fn put_asker(alloc: Global, out: &mut Vec<u8>, p: ProviderId, r: u32) -> Result<
     put_number(alloc, out, r)
 }
 
+/// A label, and who asks behind it.
+fn put_asked(
+    alloc: Global,
+    out: &mut Vec<u8>,
+    label: &[u8],
+    p: ProviderId,
+    r: u32,
+) -> Result<(), NoMemory>
+    ensures { OnOk result (out.new.items ≡ out.old.items ++ (label.now ++ asker_text p r)) }
+{
+    put_text(out, label)?;
+    put_asker(alloc, out, p, r)
+}
+
+/// A label, and behind it who asks, and a value.
+fn put_asked_value(
+    alloc: Global,
+    out: &mut Vec<u8>,
+    label: &[u8],
+    p: ProviderId,
+    r: u32,
+    value: &Text,
+) -> Result<(), NoMemory>
+    ensures { OnOk result (out.new.items ≡ out.old.items ++ (label.now ++ asker_text p r ++ codes " " ++ value_text value.now)) }
+{
+    put_asked(alloc, out, label, p, r)?;
+    put_text(out, b" ")?;
+    put_value(out, value.bytes())
+}
+
+/// A join.
+fn put_join(
+    alloc: Global,
+    out: &mut Vec<u8>,
+    ps: &Providers,
+    attrs: &Attrs,
+    source_len: Option<u32>,
+) -> Result<(), NoMemory>
+    ensures { OnOk result (out.new.items ≡ out.old.items ++ (codes "join " ++ providers_text ps.now ++ attrs_text attrs.now ++ source_len_text source_len)) }
+{
+    put_text(out, b"join ")?;
+    put_providers(alloc, out, ps.as_slice())?;
+    put_attrs(alloc, out, attrs)?;
+    put_source_len(alloc, out, source_len)
+}
+
+/// A value that is reflected.
+fn put_reflect(
+    alloc: Global,
+    out: &mut Vec<u8>,
+    view: ViewId,
+    place: u32,
+    value: &Text,
+) -> Result<(), NoMemory>
+    ensures { OnOk result (out.new.items ≡ out.old.items ++ (codes "reflect " ++ view_text view ++ codes "/" ++ decimal place ++ codes " " ++ value_text value.now)) }
+{
+    put_text(out, b"reflect ")?;
+    put_view(alloc, out, view)?;
+    put_text(out, b"/")?;
+    put_number(alloc, out, place)?;
+    put_text(out, b" ")?;
+    put_value(out, value.bytes())
+}
+
 #[tactic(auto, unfolding(world_model::specs::Text::proposal_text))]
 pub fn put_proposal(alloc: Global, out: &mut Vec<u8>, x: &Proposal) -> Result<(), NoMemory>
     ensures { OnOk result (out.new.items ≡ out.old.items ++ proposal_text x.now) }
@@ -85,50 +150,25 @@ pub fn put_proposal(alloc: Global, out: &mut Vec<u8>, x: &Proposal) -> Result<()
             ps,
             attrs,
             source_len,
-        } => {
-            put_text(out, b"join ")?;
-            put_providers(alloc, out, ps.as_slice())?;
-            put_attrs(alloc, out, attrs)?;
-            put_source_len(alloc, out, *source_len)
-        }
-        Proposal::Leave { p, r } => {
-            put_text(out, b"leave ")?;
-            put_asker(alloc, out, *p, *r)
-        }
+        } => put_join(alloc, out, ps, attrs, *source_len),
+        Proposal::Leave { p, r } => put_asked(alloc, out, b"leave ", *p, *r),
         Proposal::Fail { out: fallen } => {
             put_text(out, b"fail ")?;
             put_failures(alloc, out, fallen.as_slice())
         }
         Proposal::Expel { p, r, out: targets } => {
-            put_text(out, b"expel ")?;
-            put_asker(alloc, out, *p, *r)?;
+            put_asked(alloc, out, b"expel ", *p, *r)?;
             put_text(out, b" ")?;
             put_providers(alloc, out, targets.as_slice())
         }
-        Proposal::State { p, r, value } => {
-            put_text(out, b"state ")?;
-            put_asker(alloc, out, *p, *r)?;
-            put_text(out, b" ")?;
-            put_value(out, value.bytes())
-        }
+        Proposal::State { p, r, value } => put_asked_value(alloc, out, b"state ", *p, *r, value),
         Proposal::Message { p, r, bytes } => {
-            put_text(out, b"message ")?;
-            put_asker(alloc, out, *p, *r)?;
-            put_text(out, b" ")?;
-            put_value(out, bytes.bytes())
+            put_asked_value(alloc, out, b"message ", *p, *r, bytes)
         }
         Proposal::Attributes { p, r, attrs } => {
-            put_text(out, b"attrs ")?;
-            put_asker(alloc, out, *p, *r)?;
+            put_asked(alloc, out, b"attrs ", *p, *r)?;
             put_attrs(alloc, out, attrs)
         }
-        Proposal::Reflect { view, place, value } => {
-            put_text(out, b"reflect ")?;
-            put_view(alloc, out, *view)?;
-            put_text(out, b"/")?;
-            put_number(alloc, out, *place)?;
-            put_text(out, b" ")?;
-            put_value(out, value.bytes())
-        }
+        Proposal::Reflect { view, place, value } => put_reflect(alloc, out, *view, *place, value),
     }
 }

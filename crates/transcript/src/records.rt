@@ -1,17 +1,23 @@
 //! The line of each record.
-ghost use Rattle.std.specs.Prelude.{◌≡◌, ◌++◌, OnOk, IfOk};
-ghost use Rattle.node_state.specs.Wording.{word};
-ghost use Rattle.world_model.specs.Text.{running_text, cast_value_text, place_text, client_text, record_text, line_of};
+ghost use Rattle.std.specs.Prelude.{◌≡◌, ◌++◌, OnOk, IfOk, codes, decimal};
+ghost use Rattle.node_state.specs.declared.happened.Happened.TheVariants as happened;
+ghost use Rattle.node_state.specs.Wording.{word, provider_text, providers_text};
+ghost use Rattle.world_model.specs.Text.{running_text, phase_text, vote_text, state_text, cast_value_text, place_text, client_text, record_text, line_of};
 
 use crate::entries::{put_entry, put_phase, put_what_word, vote_text};
 use crate::faults::{put_fault, put_why};
 use crate::notes::{put_note, put_state};
+use client_callbacks::Told;
 use node_state::Happened;
-use proposal_core::Running;
-use rsct_packet::{NoMemory, ProviderId, Text, ViewId};
+use proposal_core::{Entry, GroupState, Proposal, Running, Vote};
+use rsct_packet::{
+    List, Mask, Members, Name, NoMemory, ProtoId, ProviderId, Providers, RingId, Text, ViewId,
+};
+use session_state::GsFault;
 use status_lines::{
-    kind_of, put_mask_word, put_members, put_number, put_number_word, put_proto, put_provider_word,
-    put_providers_word, put_ring_word, put_text, put_value, put_view_word, put_word,
+    kind_of, put_counted, put_mask_word, put_members, put_number, put_number_word, put_proto,
+    put_provider_word, put_providers_word, put_ring_word, put_text, put_value, put_view_word,
+    put_word,
 };
 use std::alloc::Global;
 
@@ -59,44 +65,224 @@ fn put_client(alloc: Global, out: &mut Vec<u8>, node: u8, client: &[u8]) -> Resu
     put_word(out, client)
 }
 
+/// A label, and the node and a space behind it.
+fn put_node(alloc: Global, out: &mut Vec<u8>, label: &[u8], node: u8) -> Result<(), NoMemory>
+    ensures { OnOk result (out.new.items ≡ out.old.items ++ (label.now ++ word (decimal node))) }
+{
+    put_text(out, label)?;
+    put_number_word(alloc, out, u32::from(node))
+}
+
+/// A label, and behind it the provider and the number of its request, each with a space.
+fn put_request(
+    alloc: Global,
+    out: &mut Vec<u8>,
+    label: &[u8],
+    p: ProviderId,
+    r: u32,
+) -> Result<(), NoMemory>
+    ensures { OnOk result (out.new.items ≡ out.old.items ++ (label.now ++ word (provider_text p) ++ word (decimal r))) }
+{
+    put_text(out, label)?;
+    put_provider_word(alloc, out, p)?;
+    put_number_word(alloc, out, r)
+}
+
+/// The record of a ring that is set; and likewise below, one function for each kind of records.
 #[tactic(auto, unfolding(world_model::specs::Text::record_text, node_state::specs::Wording::word))]
+fn put_ring(
+    alloc: Global,
+    out: &mut Vec<u8>,
+    node: u8,
+    network: u8,
+    ring: RingId,
+    members: Mask,
+    neighbour: u8,
+) -> Result<(), NoMemory>
+    ensures { OnOk result (out.new.items ≡ out.old.items ++ record_text (happened.Ring node network ring members neighbour)) }
+{
+    put_node(alloc, out, b"ring ", node)?;
+    put_number_word(alloc, out, u32::from(network))?;
+    put_ring_word(alloc, out, ring)?;
+    put_mask_word(alloc, out, members)?;
+    put_number(alloc, out, u32::from(neighbour))
+}
+
+#[tactic(auto, unfolding(world_model::specs::Text::record_text, node_state::specs::Wording::word))]
+fn put_in_view(
+    alloc: Global,
+    out: &mut Vec<u8>,
+    node: u8,
+    view: ViewId,
+    members: &Members,
+) -> Result<(), NoMemory>
+    ensures { OnOk result (out.new.items ≡ out.old.items ++ record_text (happened.In node view members.now)) }
+{
+    put_node(alloc, out, b"in ", node)?;
+    put_view_word(alloc, out, view)?;
+    put_members(alloc, out, members.as_slice())
+}
+
+/// The state of a group, as the record of its base ends.
+#[tactic(auto, unfolding(node_state::specs::Wording::word))]
+fn put_base_state(alloc: Global, out: &mut Vec<u8>, state: &GroupState) -> Result<(), NoMemory>
+    ensures { OnOk result (out.new.items ≡ out.old.items ++ (word (state_text state.now.members state.now.value) ++ word (providers_text state.now.failed) ++ running_text state.now.running)) }
+{
+    put_state(alloc, out, state.members.as_slice(), state.value.bytes())?;
+    put_text(out, b" ")?;
+    put_providers_word(alloc, out, state.failed.as_slice())?;
+    put_running(alloc, out, &state.running)
+}
+
+#[tactic(auto, unfolding(world_model::specs::Text::record_text))]
+fn put_base(
+    alloc: Global,
+    out: &mut Vec<u8>,
+    node: u8,
+    view: ViewId,
+    group: &Name,
+    old: ViewId,
+    len: u32,
+    state: &GroupState,
+) -> Result<(), NoMemory>
+    ensures { OnOk result (out.new.items ≡ out.old.items ++ record_text (happened.Base node view group.now old len state.now)) }
+{
+    put_node(alloc, out, b"base ", node)?;
+    put_view_word(alloc, out, view)?;
+    put_word(out, group.bytes())?;
+    put_view_word(alloc, out, old)?;
+    put_number_word(alloc, out, len)?;
+    put_base_state(alloc, out, state)
+}
+
+#[tactic(auto, unfolding(world_model::specs::Text::record_text))]
+fn put_appended(
+    alloc: Global,
+    out: &mut Vec<u8>,
+    node: u8,
+    view: ViewId,
+    group: &Name,
+    place: u32,
+    entry: &Entry,
+) -> Result<(), NoMemory>
+    ensures { OnOk result (out.new.items ≡ out.old.items ++ record_text (happened.Put node view group.now place entry.now)) }
+{
+    put_node(alloc, out, b"put ", node)?;
+    put_place(alloc, out, view, group.bytes(), place)?;
+    put_entry(alloc, out, entry)
+}
+
+#[tactic(auto, unfolding(world_model::specs::Text::record_text))]
+fn put_heard(
+    alloc: Global,
+    out: &mut Vec<u8>,
+    p: ProviderId,
+    view: ViewId,
+    group: &Name,
+    place: u32,
+    entry: &Entry,
+    members: &Providers,
+    value: &Text,
+) -> Result<(), NoMemory>
+    ensures { OnOk result (out.new.items ≡ out.old.items ++ record_text (happened.Heard p view group.now place entry.now members.now value.now)) }
+{
+    put_text(out, b"heard ")?;
+    put_provider_word(alloc, out, p)?;
+    put_place(alloc, out, view, group.bytes(), place)?;
+    put_what_word(out, entry)?;
+    put_state(alloc, out, members.as_slice(), value.bytes())
+}
+
+/// The record of a ballot, which does not show its message.
+fn put_ballot(
+    alloc: Global,
+    out: &mut Vec<u8>,
+    p: ProviderId,
+    proto: ProtoId,
+    phase: u16,
+    vote: Vote,
+    value: &Option<Text>,
+) -> Result<(), NoMemory>
+    ensures { OnOk result (out.new.items ≡ out.old.items ++ (codes "cast " ++ word (provider_text p) ++ phase_text proto phase ++ vote_text vote ++ cast_value_text value.now)) }
+{
+    put_text(out, b"cast ")?;
+    put_provider_word(alloc, out, p)?;
+    put_phase(alloc, out, proto, phase)?;
+    put_text(out, vote_text(vote))?;
+    put_cast_value(out, value)
+}
+
+#[tactic(auto, unfolding(world_model::specs::Text::record_text))]
+fn put_asked(
+    alloc: Global,
+    out: &mut Vec<u8>,
+    p: ProviderId,
+    r: u32,
+    group: &Name,
+    proposal: &Proposal,
+) -> Result<(), NoMemory>
+    ensures { OnOk result (out.new.items ≡ out.old.items ++ record_text (happened.Asked p r group.now proposal.now)) }
+{
+    put_request(alloc, out, b"asked ", p, r)?;
+    put_word(out, group.bytes())?;
+    put_text(out, kind_of(proposal))
+}
+
+#[tactic(auto, unfolding(world_model::specs::Text::record_text))]
+fn put_noted(
+    alloc: Global,
+    out: &mut Vec<u8>,
+    node: u8,
+    client: &List<u8>,
+    view: ViewId,
+    place: Option<u32>,
+    told: &Told,
+) -> Result<(), NoMemory>
+    ensures { OnOk result (out.new.items ≡ out.old.items ++ record_text (happened.Noted node client.now view place told.now)) }
+{
+    put_text(out, b"noted ")?;
+    put_client(alloc, out, node, client.as_slice())?;
+    put_view_word(alloc, out, view)?;
+    put_note(alloc, out, place, told)
+}
+
+#[tactic(auto, unfolding(world_model::specs::Text::record_text))]
+fn put_refused(
+    alloc: Global,
+    out: &mut Vec<u8>,
+    node: u8,
+    client: &List<u8>,
+    fault: GsFault,
+) -> Result<(), NoMemory>
+    ensures { OnOk result (out.new.items ≡ out.old.items ++ record_text (happened.Refused node client.now fault)) }
+{
+    put_text(out, b"refused ")?;
+    put_client(alloc, out, node, client.as_slice())?;
+    put_fault(alloc, out, fault)
+}
+
+#[tactic(auto, unfolding(world_model::specs::Text::record_text))]
 fn put_record(alloc: Global, out: &mut Vec<u8>, r: &Happened) -> Result<(), NoMemory>
     ensures { OnOk result (out.new.items ≡ out.old.items ++ record_text r.now) }
 {
     match r {
         Happened::Up { node, inc } => {
-            put_text(out, b"up ")?;
-            put_number_word(alloc, out, u32::from(*node))?;
+            put_node(alloc, out, b"up ", *node)?;
             put_number(alloc, out, *inc)
         }
-        Happened::Down { node } => {
-            put_text(out, b"down ")?;
-            put_number(alloc, out, u32::from(*node))
-        }
+        Happened::Down { node } => put_counted(alloc, out, b"down ", u32::from(*node)),
         Happened::Ring {
             node,
             network,
             ring,
             members,
             neighbour,
-        } => {
-            put_text(out, b"ring ")?;
-            put_number_word(alloc, out, u32::from(*node))?;
-            put_number_word(alloc, out, u32::from(*network))?;
-            put_ring_word(alloc, out, *ring)?;
-            put_mask_word(alloc, out, *members)?;
-            put_number(alloc, out, u32::from(*neighbour))
-        }
+        } => put_ring(alloc, out, *node, *network, *ring, *members, *neighbour),
         Happened::In {
             node,
             view,
             members,
-        } => {
-            put_text(out, b"in ")?;
-            put_number_word(alloc, out, u32::from(*node))?;
-            put_view_word(alloc, out, *view)?;
-            put_members(alloc, out, members.as_slice())
-        }
+        } => put_in_view(alloc, out, *node, *view, members),
         Happened::Base {
             node,
             view,
@@ -104,30 +290,14 @@ fn put_record(alloc: Global, out: &mut Vec<u8>, r: &Happened) -> Result<(), NoMe
             old,
             len,
             state,
-        } => {
-            put_text(out, b"base ")?;
-            put_number_word(alloc, out, u32::from(*node))?;
-            put_view_word(alloc, out, *view)?;
-            put_word(out, group.bytes())?;
-            put_view_word(alloc, out, *old)?;
-            put_number_word(alloc, out, *len)?;
-            put_state(alloc, out, state.members.as_slice(), state.value.bytes())?;
-            put_text(out, b" ")?;
-            put_providers_word(alloc, out, state.failed.as_slice())?;
-            put_running(alloc, out, &state.running)
-        }
+        } => put_base(alloc, out, *node, *view, group, *old, *len, state),
         Happened::Put {
             node,
             view,
             group,
             place,
             entry,
-        } => {
-            put_text(out, b"put ")?;
-            put_number_word(alloc, out, u32::from(*node))?;
-            put_place(alloc, out, *view, group.bytes(), *place)?;
-            put_entry(alloc, out, entry)
-        }
+        } => put_appended(alloc, out, *node, *view, group, *place, entry),
         Happened::Heard {
             p,
             view,
@@ -136,13 +306,7 @@ fn put_record(alloc: Global, out: &mut Vec<u8>, r: &Happened) -> Result<(), NoMe
             entry,
             members,
             value,
-        } => {
-            put_text(out, b"heard ")?;
-            put_provider_word(alloc, out, *p)?;
-            put_place(alloc, out, *view, group.bytes(), *place)?;
-            put_what_word(out, entry)?;
-            put_state(alloc, out, members.as_slice(), value.bytes())
-        }
+        } => put_heard(alloc, out, *p, *view, group, *place, entry, members, value),
         Happened::Cast {
             p,
             proto,
@@ -150,29 +314,15 @@ fn put_record(alloc: Global, out: &mut Vec<u8>, r: &Happened) -> Result<(), NoMe
             vote,
             value,
             ..
-        } => {
-            put_text(out, b"cast ")?;
-            put_provider_word(alloc, out, *p)?;
-            put_phase(alloc, out, *proto, *phase)?;
-            put_text(out, vote_text(*vote))?;
-            put_cast_value(out, value)
-        }
+        } => put_ballot(alloc, out, *p, *proto, *phase, *vote, value),
         Happened::Asked {
             p,
             r,
             group,
             proposal,
-        } => {
-            put_text(out, b"asked ")?;
-            put_provider_word(alloc, out, *p)?;
-            put_number_word(alloc, out, *r)?;
-            put_word(out, group.bytes())?;
-            put_text(out, kind_of(proposal))
-        }
+        } => put_asked(alloc, out, *p, *r, group, proposal),
         Happened::Told { p, r, why } => {
-            put_text(out, b"told ")?;
-            put_provider_word(alloc, out, *p)?;
-            put_number_word(alloc, out, *r)?;
+            put_request(alloc, out, b"told ", *p, *r)?;
             put_why(alloc, out, *why)
         }
         Happened::Noted {
@@ -181,24 +331,14 @@ fn put_record(alloc: Global, out: &mut Vec<u8>, r: &Happened) -> Result<(), NoMe
             view,
             place,
             told,
-        } => {
-            put_text(out, b"noted ")?;
-            put_client(alloc, out, *node, client.as_slice())?;
-            put_view_word(alloc, out, *view)?;
-            put_note(alloc, out, *place, told)
-        }
+        } => put_noted(alloc, out, *node, client, *view, *place, told),
         Happened::Refused {
             node,
             client,
             fault,
-        } => {
-            put_text(out, b"refused ")?;
-            put_client(alloc, out, *node, client.as_slice())?;
-            put_fault(alloc, out, *fault)
-        }
+        } => put_refused(alloc, out, *node, client, *fault),
         Happened::Shown { node, line } => {
-            put_text(out, b"show ")?;
-            put_number_word(alloc, out, u32::from(*node))?;
+            put_node(alloc, out, b"show ", *node)?;
             put_text(out, line.as_slice())
         }
     }

@@ -171,10 +171,11 @@ fn base_from(i: &Install, alloc: Global, w: &Winner) -> Result<Base, NoMemory>
 {
     let failed = failed(i, alloc, w.source, &w.part.state)?;
     let leader = first_not_in(&failed, w.part.state.members.as_slice(), i.view.coord);
+    let name = w.part.name.copy(alloc)?;
     let mut state = w.part.state.copy(alloc)?;
     state.failed = failed;
     Ok(Base {
-        name: w.part.name.copy(alloc)?,
+        name,
         state,
         from: w.source.view,
         len: w.part.len() as u32,

@@ -1,9 +1,9 @@
 //! What a node does with an order to ask, and with the packets of views.
-ghost use Rattle.std.specs.Prelude.{◌≡◌, ◌==◌, ◌&&◌, not, OnOk};
+ghost use Rattle.std.specs.Prelude.{◌≡◌, ◌==◌, ◌&&◌, true, not, OnOk};
 ghost use Rattle.rsct_packet.specs.Ids.{same_view, view_lt};
 ghost use Rattle.rsct_packet.specs.Mask.{has_node};
 ghost use Rattle.view_exchange.specs.InPlace.{answer_in};
-ghost use Rattle.view_state.specs.Views.{ask_row, answered, prepared, prepare_row, answer_row, refuse_row, install_row, taken_row};
+ghost use Rattle.view_state.specs.Views.{asks_view, ask_row, answered, prepared, prepare_row, answer_row, refuse_row, install_row, taken_row};
 
 use crate::lists::OwnLists;
 use crate::work::{
@@ -43,6 +43,25 @@ fn how_asked(views: &Views, from: u8, inc: u32, view: ViewId, mask: Mask) -> Ask
     }
 }
 
+/// Promises a view and asks the others of these nodes for it. The node's own answer is the first.
+#[tactic(auto, unfolding(view_state::specs::Views::asks_view))]
+fn ask_others<L: OwnLists>(
+    work: &mut ViewWork,
+    alloc: Global,
+    view: ViewId,
+    mask: Mask,
+    lists: &L,
+) -> Result<(), NoMemory>
+    ensures { OnOk result (work.new ≡ asks_view work.old view mask (L.parts_of lists.now) true) }
+{
+    let to = nodes_but(alloc, work.views.me, mask)?;
+    let own = own_answer(&work.views, alloc, lists)?;
+    promise(work, view);
+    send_prepare(work, to.as_slice(), view, mask)?;
+    let g = Exchange::open_with(alloc, view, mask, own)?;
+    gather_on(work, alloc, g)
+}
+
 /// An order to ask these nodes for a view. The node promises it, and its own answer is the first. An own answer
 /// without a spelling leaves the promise, and nobody is asked.
 #[tactic(auto, unfolding(view_state::specs::Views::ask_row, view_state::specs::Views::ask_if, view_state::specs::Views::asks_view, view_state::specs::Views::may_ask))]
@@ -62,12 +81,7 @@ pub(crate) fn ask_row<L: OwnLists>(
         promise(work, view);
         return Ok(());
     }
-    let own = own_answer(&work.views, alloc, lists)?;
-    let to = nodes_but(alloc, work.views.me, mask)?;
-    promise(work, view);
-    send_prepare(work, to.as_slice(), view, mask)?;
-    let g = Exchange::open_with(alloc, view, mask, own)?;
-    gather_on(work, alloc, g)
+    ask_others(work, alloc, view, mask, lists)
 }
 
 /// Answers for a view. An answer without a spelling is not sent.

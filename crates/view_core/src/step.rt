@@ -1,5 +1,5 @@
 //! A node's views, event by event.
-ghost use Rattle.std.specs.Prelude.{◌≡◌, ◌++◌, [], None, OnOk};
+ghost use Rattle.std.specs.Prelude.{◌≡◌, ◌++◌, [], None, IfOk, OnOk};
 ghost use Rattle.view_core.specs.Steps.{view_row, view_stepped};
 
 use crate::lists::OwnLists;
@@ -105,9 +105,43 @@ fn row<L: OwnLists>(
     }
 }
 
+/// The views after one event, with what was sent, and the install that is to be applied.
+#[tactic(auto, unfolding(crate::specs::Steps::view_stepped))]
+fn after_event<L: OwnLists>(
+    views: Views,
+    alloc: Global,
+    e: ViewEvent,
+    lists: &L,
+) -> Result<ViewWork, NoMemory>
+    ensures { IfOk result (λ w. w ≡ view_stepped views e.entry (L.parts_of lists.now)) }
+{
+    let mut work = ViewWork {
+        views,
+        sends: List::new(alloc),
+        install: None,
+    };
+    row(&mut work, alloc, e, lists)?;
+    Ok(work)
+}
+
+/// Puts the views back, takes what was sent to the end of `out`, and puts the install there.
+fn hand_out(work: ViewWork, views: &mut Views, out: &mut ViewOut) -> Result<(), NoMemory>
+    ensures views { OnOk result (views.new ≡ work.views) }
+    ensures sends { OnOk result (out.new.sends ≡ out.old.sends ++ work.sends) }
+    ensures install { OnOk result (out.new.install ≡ work.install) }
+{
+    let ViewWork {
+        views: stepped,
+        mut sends,
+        install,
+    } = work;
+    *views = stepped;
+    out.install = install;
+    out.sends.append(&mut sends)
+}
+
 /// One event, with the node's own lists. What is sent is taken to the end of `out`, and the install that is to
 /// be applied, if any, is put there. Where memory has run out nothing is said of the views.
-#[tactic(auto, unfolding(crate::specs::Steps::view_stepped))]
 pub fn take_event<L: OwnLists>(
     views: &mut Views,
     alloc: Global,
@@ -121,19 +155,6 @@ pub fn take_event<L: OwnLists>(
 {
     let view = views.view;
     let outside = Views::new(views.me, views.inc, view, List::new(alloc));
-    let mut work = ViewWork {
-        views: mem::replace(views, outside),
-        sends: List::new(alloc),
-        install: None,
-    };
-    row(&mut work, alloc, e, lists)?;
-    let ViewWork {
-        views: stepped,
-        mut sends,
-        install,
-    } = work;
-    *views = stepped;
-    out.sends.append(&mut sends)?;
-    out.install = install;
-    Ok(())
+    let work = after_event(mem::replace(views, outside), alloc, e, lists)?;
+    hand_out(work, views, out)
 }

@@ -4,6 +4,7 @@ ghost use Rattle.entry_handing.specs.Received.{Receive};
 ghost use Rattle.entry_handing.specs.Doing.{Does};
 ghost use Rattle.group_leading.specs.Working.{AtWork};
 ghost use Rattle.view_state.specs.Bases.{source_at};
+ghost use Rattle.proposal_core.specs.Lists.{list_or_new};
 ghost use Rattle.view_state.specs.Cut.{lacking_of};
 ghost use Rattle.node_state.specs.State.{list_of};
 ghost use Rattle.node_state.specs.Leading.{put_and_handed};
@@ -27,8 +28,16 @@ pub(crate) struct Missing<'a> {
     pub entries: &'a [Entry],
 }
 
+/// The list of a group that has none yet.
+#[tactic(auto, unfolding(proposal_core::specs::Fold::joiners_fit, proposal_core::specs::Fold::joiners_fit_at))]
+fn new_list(alloc: Global) -> GroupList
+    ensures { result ≡ list_or_new None }
+{
+    GroupList::new(alloc, GroupState::empty(alloc))
+}
+
 /// What the group's list lacks up to the length of a part; none where it does not go on to the part.
-#[tactic(auto, unfolding(node_state::specs::State::list_of, proposal_core::specs::Fold::joiners_fit, proposal_core::specs::Fold::joiners_fit_at))]
+#[tactic(auto, unfolding(node_state::specs::State::list_of))]
 fn missing_of<'a>(
     core: &Core,
     alloc: Global,
@@ -37,10 +46,7 @@ fn missing_of<'a>(
     ensures { IfOk result (λ o. option_copied o ≡ lacking_of core.now.views.view (list_of core.now part.now.name) part.now) }
 {
     match list_of(core, part.name.bytes()) {
-        None => {
-            let list = GroupList::new(alloc, GroupState::empty(alloc));
-            lacking_of(part, alloc, core.views.view, &list)
-        }
+        None => lacking_of(part, alloc, core.views.view, &new_list(alloc)),
         Some(list) => lacking_of(part, alloc, core.views.view, list),
     }
 }

@@ -6,6 +6,7 @@ ghost use Rattle.entry_handing.specs.Received.{Receive};
 ghost use Rattle.entry_handing.specs.Doing.{Does};
 ghost use Rattle.group_leading.specs.Working.{AtWork};
 ghost use Rattle.node_groups.specs.Keeps.{Keeps};
+ghost use Rattle.node_state.specs.State.{state_of};
 ghost use Rattle.node_state.specs.Applying.{failed_wait, phase_reopened, group_led, groups_led};
 
 use client_callbacks::Callbacks;
@@ -63,7 +64,26 @@ fn failed_members(alloc: Global, state: &GroupState) -> Result<Vec<ProviderId>, 
     )
 }
 
-/// The node leads the group: its failed members wait, and its phase that runs is opened anew.
+/// The node leads the group in this state: its failed members wait, and its phase that runs is opened anew.
+fn lead_from<C: Callbacks>(
+    core: &mut Core,
+    clients: &mut Vec<C>,
+    alloc: Global,
+    g: &Name,
+    state: &GroupState,
+) -> Result<(), NoMemory>
+    requires work { AtWork core.old clients.old.items }
+    requires state { state.now ≡ state_of core.old g.now }
+    ensures work { OnOk result (AtWork core.new clients.new.items) }
+    ensures scripts { OnOk result (map C.script clients.new.items ≡ map C.script clients.old.items) }
+    ensures does { OnOk result (Does (map C.script clients.old.items) (Receive C.stands_for clients.old.items clients.new.items) core.old core.new (λ f. group_led f core.old g.now)) }
+{
+    let failed = failed_members(alloc, state)?;
+    wait_failed(core, alloc, g, failed.as_slice())?;
+    reopen(core, clients, alloc, g, state.running.is_some())
+}
+
+/// The node leads the group, whose state is read once.
 fn lead<C: Callbacks>(
     core: &mut Core,
     clients: &mut Vec<C>,
@@ -76,9 +96,7 @@ fn lead<C: Callbacks>(
     ensures does { OnOk result (Does (map C.script clients.old.items) (Receive C.stands_for clients.old.items clients.new.items) core.old core.new (λ f. group_led f core.old g.now)) }
 {
     let state = state_of(core, alloc, g.bytes())?;
-    let failed = failed_members(alloc, &state)?;
-    wait_failed(core, alloc, g, failed.as_slice())?;
-    reopen(core, clients, alloc, g, state.running.is_some())
+    lead_from(core, clients, alloc, g, &state)
 }
 
 fn lead_each<C: Callbacks>(

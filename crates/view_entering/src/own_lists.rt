@@ -41,8 +41,8 @@ fn part_of(alloc: Global, row: &GroupRow, list: &GroupList) -> Result<Part, NoMe
     Ok(Part {
         name: row.name.copy(alloc)?,
         start: list.start(),
-        state: list.state().copy(alloc)?,
         entries: entries_of(alloc, list)?,
+        state: list.state().copy(alloc)?,
     })
 }
 

@@ -215,8 +215,8 @@ impl<'a> PartRef<'a> {
         Ok(Part {
             name: Name::of(alloc, self.name)?.unwrap(),
             start: self.start,
-            state: self.state.own(alloc)?,
             entries: self.entries.own(alloc)?,
+            state: self.state.own(alloc)?,
         })
     }
 }

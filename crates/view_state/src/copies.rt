@@ -34,8 +34,8 @@ impl Copied for Part {
         Ok(Part {
             name: self.name.copy(alloc)?,
             start: self.start,
-            state: self.state.copy(alloc)?,
             entries: copy_all(alloc, self.entries.as_slice())?,
+            state: self.state.copy(alloc)?,
         })
     }
 }

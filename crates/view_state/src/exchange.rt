@@ -13,13 +13,25 @@ use std::alloc::Global;
 
 /// A gathering: the view that is to be, the nodes asked for it, those who have answered with their incarnations,
 /// the longest lists that they brought, and the ticks since it began.
-#[derive(Drop)]
 pub struct Exchange {
     pub view: ViewId,
     pub asked: Mask,
     pub members: Members,
     pub sides: Sides,
     pub age: u32,
+}
+
+// Written out: a drop is one call then, whose proof is made once.
+impl Drop for Exchange {
+    fn drop(self) {
+        let Exchange {
+            view: _,
+            asked: _,
+            members: _members,
+            sides: _sides,
+            age: _,
+        } = self;
+    }
 }
 
 impl Exchange {
@@ -122,10 +134,17 @@ impl Exchange {
         ensures value { IfOk result (λ i. i ≡ install_of self) }
         ensures tails { KeepsTails self → IfOk result HasTails }
     {
+        let Exchange {
+            view,
+            asked: _,
+            members,
+            sides,
+            age: _,
+        } = self;
         Ok(Install {
-            view: self.view,
-            members: self.members,
-            sources: self.sides.into_sources(alloc)?,
+            view,
+            sources: sides.into_sources(alloc)?,
+            members,
         })
     }
 }

@@ -3,7 +3,6 @@ use crate::install::{Install, Parts};
 use rsct_packet::{List, Mask, ViewId};
 
 /// A packet of a view that is to be.
-#[derive(Drop)]
 pub enum ViewPacket {
     /// Whoever is in `mask` is to answer for this view.
     Prepare {
@@ -29,6 +28,23 @@ pub enum ViewPacket {
     Taken {
         view: ViewId,
     },
+}
+
+// Written out: a drop is one call then, whose proof is made once.
+impl Drop for ViewPacket {
+    fn drop(self) {
+        match self {
+            ViewPacket::Prepare { view: _, mask: _ } => {}
+            ViewPacket::Answer {
+                view: _,
+                old: _,
+                parts: _parts,
+            } => {}
+            ViewPacket::Refuse { view: _, number: _ } => {}
+            ViewPacket::Install { install: _install } => {}
+            ViewPacket::Taken { view: _ } => {}
+        }
+    }
 }
 
 /// A packet of a view on its way to a node.

@@ -12,7 +12,6 @@ use std::alloc::Global;
 /// it promised, which is never less; the greatest number refused to it; the gathering for a view of its own, if
 /// one is under way; the install of the view where the node is its coordinator, and who has taken it; and whether
 /// the node was stuck at each of the last three ticks, the latest last.
-#[derive(Drop)]
 pub struct Views {
     pub me: u8,
     pub inc: u32,
@@ -24,6 +23,24 @@ pub struct Views {
     pub install: Option<Install>,
     pub taken: Mask,
     pub stuck: [bool; 3],
+}
+
+// Written out: a drop is one call then, whose proof is made once.
+impl Drop for Views {
+    fn drop(self) {
+        let Views {
+            me: _,
+            inc: _,
+            view: _,
+            members: _members,
+            promise: _,
+            floor: _,
+            gathering: _gathering,
+            install: _install,
+            taken: _,
+            stuck: _stuck,
+        } = self;
+    }
 }
 
 impl Views {

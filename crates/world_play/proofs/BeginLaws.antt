@@ -12,8 +12,9 @@ use Rattle.world_model.specs.Kept.{with_packet}
 use Rattle.world_model.specs.World.{empty_world, node_starts, world_of, world_new}
 use Rattle.world_model.specs.World as world
 use Rattle.world_play.specs.declared.world.World.{World}
-use Rattle.world_answers.specs.Answers.{Items}
-use Rattle.world_play.specs.Standing.{Stands, Goes, bytes_after, kept_empty}
+use Rattle.world_laws.specs.world_answers.Answers.{Items}
+use Rattle.world_play.specs.Standing.{Stands, Goes, kept_empty}
+use Rattle.play_state.specs.Posting.{bytes_after}
 use Rattle.world_play.proofs.WorldLaws.{goes_nowhere}
 
 reversed : {A : Type 0} (xs ys zs : List A) → reverse_onto ys (reverse_onto xs zs) ≡ reverse_onto (xs ++ ys) zs

@@ -35,9 +35,10 @@ use Rattle.world_model.specs.World.{Script, by_scripts, is_node, node_at, traced
 use Rattle.world_model.specs.World as world
 use Rattle.world_play.specs.declared.stepping.Left.{Left}
 use Rattle.world_play.specs.declared.world.World.{World}
-use Rattle.world_answers.specs.Answers.{step_by, calls_by_if}
-use Rattle.world_answers.specs.Answers.{Items, AllWorded}
-use Rattle.world_play.specs.Standing.{is_me, silent_or, votes_by, votes_in, NodesStand, Leaves, StepDone, StepsAs, StepsNode, StepsSome, StepsIn, with_scripts, CallDone, bytes_after, Goes, Passes, Comes, Settled}
+use Rattle.world_laws.specs.world_answers.Answers.{step_by, calls_by_if}
+use Rattle.world_laws.specs.world_answers.Answers.{Items, AllWorded}
+use Rattle.world_play.specs.Standing.{is_me, silent_or, votes_by, votes_in, NodesStand, Leaves, StepDone, StepsAs, StepsNode, StepsSome, StepsIn, with_scripts, CallDone, Goes, Passes, Comes, Settled}
+use Rattle.play_state.specs.Posting.{bytes_after}
 use Rattle.world_play.proofs.NodeLaws.{steps_by}
 use Rattle.world_play.proofs.StepLaws.{same_lives, row_done}
 use Rattle.world_play.proofs.WorldLaws.{goes_recorded, after_goes, after_passes}

@@ -21,8 +21,9 @@ use Rattle.node_step.specs.Node.{NodeView}
 use Rattle.world_model.specs.World.{is_node, node_at, traced, inc_in, starts_with, started_at, starts_if, node_starts, stops_if, shows_if}
 use Rattle.world_model.specs.World as world
 use Rattle.world_play.specs.declared.world.World.{World}
-use Rattle.world_answers.specs.Answers.{Items}
-use Rattle.world_play.specs.Standing.{is_me, comes_before, is_start, started_in, NodeStands, NodesStand, Stands, Goes}
+use Rattle.world_laws.specs.world_answers.Answers.{Items}
+use Rattle.world_play.specs.Standing.{is_me, comes_before, NodeStands, NodesStand, Stands, Goes}
+use Rattle.play_state.specs.Starts.{is_start, started_in}
 use Rattle.world_play.proofs.NodeLaws.{StandsAt, node_before, same_me, stands_first, stands_inserted, stands_dropped, stands_found, stands_none}
 use Rattle.world_play.proofs.WorldLaws.{goes_nowhere, goes_recorded}
 

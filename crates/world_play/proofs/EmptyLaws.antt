@@ -13,7 +13,7 @@ use Rattle.node_state.specs.Handed.{handed_in}
 use Rattle.world_model.specs.declared.event.Event.TheVariants as event
 use Rattle.world_model.specs.World.{node_at, traced, started_at, starts_if, node_starts, empty_world, world_of, world_new}
 use Rattle.world_model.specs.World as world
-use Rattle.world_answers.specs.Answers.{Items}
+use Rattle.world_laws.specs.world_answers.Answers.{Items}
 use Rattle.world_play.specs.declared.world.World.{World}
 use Rattle.world_play.specs.Standing.{Stands, Goes, kept_empty}
 use Rattle.world_play.specs.Hands.{ClientLogs, Logs, LogsStand, logs_begun, logs_started, last_start, empty_logs, Hears}

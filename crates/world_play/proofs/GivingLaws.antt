@@ -16,9 +16,10 @@ use Rattle.world_packets.specs.declared.waiting.Waiting.{Waiting}
 use Rattle.world_packets.specs.Packets.{world_pairs, find_pair, waits_as, is_waiting}
 use Rattle.world_play.specs.declared.stepping.Left.{Left}
 use Rattle.world_play.specs.declared.world.World.{World}
-use Rattle.world_answers.specs.Answers.{step_by, delivers_by_if}
-use Rattle.world_answers.specs.Answers.{Items, AllWorded}
-use Rattle.world_play.specs.Standing.{is_me, NodesStand, Stands, Holds, StepsNode, StepsSome, bytes_after, Goes, Passes, Comes, Settled}
+use Rattle.world_laws.specs.world_answers.Answers.{step_by, delivers_by_if}
+use Rattle.world_laws.specs.world_answers.Answers.{Items, AllWorded}
+use Rattle.world_play.specs.Standing.{is_me, NodesStand, Stands, Holds, StepsNode, StepsSome, Goes, Passes, Comes, Settled}
+use Rattle.play_state.specs.Posting.{bytes_after}
 use Rattle.world_play.proofs.NodeLaws.{stands_found}
 use Rattle.world_play.proofs.WorldLaws.{stands_hold, goes_nowhere, after_goes, after_passes}
 

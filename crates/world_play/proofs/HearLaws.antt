@@ -23,10 +23,11 @@ use Rattle.node_step.specs.Node.{NodeView}
 use Rattle.world_model.specs.World.{Script, is_node, node_at, kth_in, kth_between}
 use Rattle.world_model.specs.World as world
 use Rattle.world_packets.specs.Packets.{world_pairs, find_pair}
-use Rattle.world_answers.specs.Answers.{Items}
+use Rattle.world_laws.specs.world_answers.Answers.{Items}
 use Rattle.world_play.specs.declared.stepping.Left.{Left}
 use Rattle.world_play.specs.declared.world.World.{World}
-use Rattle.world_play.specs.Standing.{is_me, comes_before, started_in, is_start, NodeStands, NodesStand, StepDone, Stands, Settled}
+use Rattle.world_play.specs.Standing.{is_me, comes_before, NodeStands, NodesStand, StepDone, Stands, Settled}
+use Rattle.play_state.specs.Starts.{started_in, is_start}
 use Rattle.world_play.specs.Hands.{Logs, is_log, logs_of, logs_with, LogsStand, logs_begun, logs_started, last_start, StepHands, StepHears, HandsNothing, NodeHands, DeliveryHands, BeginHands, NodesHear, HearsAs}
 use Rattle.world_play.proofs.NodeLaws.{StandsAt, same_me, stands_at, stands_found}
 use Rattle.world_play.proofs.WorldLaws.{stands_hold}

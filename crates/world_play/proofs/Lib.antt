@@ -1,9 +1,7 @@
 pub mod VoteLaws
 pub mod NodeLaws
-pub mod PacketLaws
 pub mod CalledLaws
 pub mod StepLaws
-pub mod StartLaws
 pub mod WorldLaws
 pub mod ComingLaws
 pub mod GivingLaws

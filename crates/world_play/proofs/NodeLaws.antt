@@ -11,7 +11,7 @@ use Rattle.node_state.specs.Step.{NodeEvent}
 use Rattle.node_step.specs.Node.{NodeView}
 use Rattle.world_model.specs.World.{Script, is_node, nodes_with}
 use Rattle.world_model.specs.World as world
-use Rattle.world_answers.specs.Answers.{Items}
+use Rattle.world_laws.specs.world_answers.Answers.{Items}
 use Rattle.world_play.specs.Standing.{is_me, comes_before, NodeStands, NodesStand, StepDone, StepsAs, StepsNode, StepsIn}
 use Rattle.world_play.specs.declared.stepping.Left.{Left}
 

@@ -7,19 +7,19 @@ use Rattle.node_state.specs.declared.happened.Happened.{Happened}
 use Rattle.world_model.specs.declared.event.Event.{Event}
 use Rattle.world_model.specs.World.{empty_world, happens, world_new, world_after, records_of}
 use Rattle.world_model.specs.World as world
-use Rattle.world_runs.specs.Runs.{SameRun}
-use Rattle.world_runs.proofs.Backwards.{reversed_back}
-use Rattle.world_runs.proofs.Queue.{same_happens}
-use Rattle.world_answers.specs.Answers.{Answered, events_in, happens_by, goes_on, answered_after, answered_records}
+use Rattle.world_laws.specs.world_runs.Runs.{SameRun}
+use Rattle.world_laws.proofs.world_runs.Backwards.{reversed_back}
+use Rattle.world_laws.proofs.world_runs.Queue.{same_happens}
+use Rattle.world_laws.specs.world_answers.Answers.{Answered, events_in, happens_by, goes_on, answered_after, answered_records}
 use Rattle.world_safety.specs.Events.{MayHappen, AllMayHappen}
 use Rattle.world_safety.specs.Scripts.{IsSafe, IsSafeRun}
-use Rattle.world_answers.proofs.Waits.{same_goes}
+use Rattle.world_laws.proofs.world_answers.Waits.{same_goes}
 use Rattle.world_safety.proofs.Turned.{onto_more}
 use Rattle.world_safety.proofs.Scripts.{events_are_safe}
 pub use Rattle.world_safety.proofs.Scripts.{every_answer_is_safe, every_play_is_safe, every_kept_play_is_safe}
 pub use Rattle.world_safety.proofs.Lined.{scripts_may_play}
 use Rattle.world_play.specs.declared.world.World.{World}
-use Rattle.world_answers.specs.Answers.{Items}
+use Rattle.world_laws.specs.world_answers.Answers.{Items}
 use Rattle.world_play.specs.Standing.{Goes, Comes, kept_empty}
 use Rattle.world_play.specs.Safe.{SafeOn, AnswersSafely, GoesSafely}
 use Rattle.world_play.proofs.WorldLaws.{as_worded}

@@ -13,7 +13,7 @@ use Rattle.node_step.specs.Node.{NodeView}
 use Rattle.world_model.specs.World.{Script, by_scripts}
 use Rattle.world_model.specs.World as world
 use Rattle.world_play.specs.declared.stepping.Left.{Left}
-use Rattle.world_answers.specs.Answers.{Items, AllWorded}
+use Rattle.world_laws.specs.world_answers.Answers.{Items, AllWorded}
 use Rattle.world_play.specs.Standing.{votes_by, votes_in, NodeStands, Leaves, StepDone, StepsAs}
 use Rattle.world_play.proofs.CalledLaws.{is_within, called_lives}
 use Rattle.world_play.proofs.VoteLaws.{scripts_agree}

@@ -10,10 +10,12 @@ use Rattle.world_model.specs.World.{Script, by_scripts, is_node, node_at, nodes_
 use Rattle.world_model.specs.World as world
 use Rattle.world_play.specs.declared.stepping.Left.{Left}
 use Rattle.world_play.specs.declared.world.World.{World}
-use Rattle.world_answers.specs.Answers.{step_by, step_by_if}
-use Rattle.world_answers.specs.Answers.{Items, AllWorded}
-use Rattle.world_play.specs.Standing.{NodesStand, PacketsStand, Stands, Holds, StepsNode, StepsSome, bytes_after, Goes, Passes, Comes, Settled, started_in}
-use Rattle.world_play.proofs.PacketLaws.{SentOnly, sent_only}
+use Rattle.world_laws.specs.world_answers.Answers.{step_by, step_by_if}
+use Rattle.world_laws.specs.world_answers.Answers.{Items, AllWorded}
+use Rattle.world_play.specs.Standing.{NodesStand, Stands, Holds, StepsNode, StepsSome, Goes, Passes, Comes, Settled}
+use Rattle.play_state.specs.Posting.{PacketsStand, bytes_after}
+use Rattle.play_state.specs.Starts.{started_in}
+use Rattle.play_state.proofs.PacketLaws.{SentOnly, sent_only}
 
 pub after_passes : {C : Type 0} (c m : World C) (k : ℕ) (l : Left) (y : Core) (scripts : List Script) (w : world.World)
     → m ≡ record c { nodes = m.nodes } → l.sends ≡ y.sends → (bytes_after m.limit m.kept l.sends).passed ≡ Some k → Passes k c w (after_step w scripts y)

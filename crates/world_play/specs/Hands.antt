@@ -23,7 +23,7 @@ use Rattle.world_model.specs.declared.event.Event.{Event}
 use Rattle.world_model.specs.declared.event.Event.TheVariants as event
 use Rattle.world_model.specs.World.{inc_in, node_at, kth_between}
 use Rattle.world_model.specs.World as world
-use Rattle.world_answers.specs.Answers.{Items, Answered, goes_on}
+use Rattle.world_laws.specs.world_answers.Answers.{Items, Answered, goes_on}
 use Rattle.world_play.specs.declared.world.World.{World}
 use Rattle.world_play.specs.declared.stepping.Left.{Left}
 use Rattle.world_play.specs.Standing.{NodesStand, Stands}

@@ -6,13 +6,13 @@ use Rattle.node_state.specs.HandOn.{Answering}
 use Rattle.world_model.specs.declared.event.Event.{Event}
 use Rattle.world_model.specs.World.{world_after, records_of}
 use Rattle.world_model.specs.World as world
-use Rattle.world_runs.specs.Runs.{SameRun}
-use Rattle.world_answers.specs.Answers.{Answered, events_in, answered_after, answered_records}
+use Rattle.world_laws.specs.world_runs.Runs.{SameRun}
+use Rattle.world_laws.specs.world_answers.Answers.{Answered, events_in, answered_after, answered_records}
 pub use Rattle.world_safety.specs.Events.{MayHappen, AllMayHappen}
 pub use Rattle.world_safety.specs.Scripts.{IsSafe, IsSafeRun, ScriptIsSafe, KeptRunIsSafe}
 pub use Rattle.world_safety.specs.Plays.{LineMay, LinesMay, MayPlay}
 use Rattle.world_play.specs.declared.world.World.{World}
-use Rattle.world_answers.specs.Answers.{Items, AllWorded}
+use Rattle.world_laws.specs.world_answers.Answers.{Items, AllWorded}
 use Rattle.world_play.specs.Standing.{Stands}
 
 -- the world stands for this one, but for what waits there

@@ -16,8 +16,10 @@ use Rattle.world_model.specs.World as world
 use Rattle.world_model.specs.Kept.{Bytes, with_packet}
 use Rattle.world_packets.specs.Packets.{Kept, world_pairs, waits_as}
 use Rattle.node_state.specs.declared.state.Core.{Core}
-use Rattle.world_answers.specs.Answers.{Items, AllWorded}
-use Rattle.world_play.specs.declared.starts.Started.{Started}
+use Rattle.world_laws.specs.world_answers.Answers.{Items, AllWorded}
+use Rattle.play_state.specs.declared.starts.Started.{Started}
+use Rattle.play_state.specs.Starts.{started_in}
+use Rattle.play_state.specs.Posting.{PacketsStand, bytes_after}
 use Rattle.world_play.specs.declared.world.World.{World}
 use Rattle.world_play.specs.declared.stepping.Left.{Left}
 
@@ -107,20 +109,7 @@ CallDone script said n o l c = (a : Answering) × ((x : world.Node) → NodeStan
 abbrev pub comes_before : {C : Type 0} → ℕ → NodeView C → Bool
 comes_before k n = nat_lt k n.core.views.me
 
-abbrev pub is_start_of : ℕ → Started → Bool
-is_start_of n s = s.node == n
-
-abbrev pub is_start : ℕ → world.Started → Bool
-is_start n s = s.node == n
-
-abbrev pub started_in : Started → world.Started
-started_in s = record { node = s.node; inc = s.inc }
-
 -- ---- the world
-
--- the packets that are kept stand for all that were sent and for those that wait
-abbrev pub PacketsStand : Kept → world.World → Type 0
-PacketsStand k w = (w.pairs ≡ world_pairs k.pairs) × (map waits_as w.queue ≡ k.waiting)
 
 pub record Stands {C : Type 0} (script : C → Option Items) (said : Items → Option Items) (c : World C) (w : world.World) : Type 0 where
   pub config : w.config ≡ c.config
@@ -132,10 +121,6 @@ pub record Stands {C : Type 0} (script : C → Option Items) (said : Items → O
 pub record Holds {C : Type 0} (script : C → Option Items) (said : Items → Option Items) (c : World C) (w : world.World) : Type 0 where
   pub nodes : NodesStand script said c.nodes w.nodes
   pub pairs : w.pairs ≡ world_pairs c.packets.pairs
-
--- the bytes of packets that are sent, from so many on
-abbrev pub bytes_after : ℕ → ℕ → List Packet → Bytes
-bytes_after limit sum ps = fold (with_packet limit) (record { sum = sum; passed = None }) ps
 
 -- what happens makes the one world into the other: what it records comes behind what was, and the packets that it
 -- sends are within the limit

@@ -9,10 +9,10 @@ ghost use Rattle.world_play.specs.Safe.{SafeOn};
 ghost use Rattle.world_safety.specs.Scripts.{IsSafeRun};
 
 use crate::nodes::Nodes;
-use crate::starts::Starts;
 use crate::world::World;
 use client_callbacks::Made;
 use node_state::{Config, Mode, Records};
+use play_state::Starts;
 use rsct_packet::NoMemory;
 use std::alloc::Global;
 use world_packets::WorldPackets;

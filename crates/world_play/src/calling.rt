@@ -10,17 +10,17 @@ ghost use Rattle.session_state.specs.declared.fault.GsFault.TheVariants as fault
 ghost use Rattle.node_state.specs.Calls.{caller_of};
 ghost use Rattle.node_state.specs.Step.{Calls};
 ghost use Rattle.world_model.specs.World.{node_at, calls_if};
-ghost use Rattle.world_answers.specs.Answers.{calls_by_if};
+ghost use Rattle.world_laws.specs.world_answers.Answers.{calls_by_if};
 ghost use Rattle.world_play.specs.Standing.{silent_or, CallDone, Goes, Passes, Comes};
 ghost use Rattle.world_play.specs.Hands.{NodeHands, StepHears, HearsAs};
 
-use crate::fault::WorldFault;
 use crate::stepping::{Left, leave, step_node};
 use crate::world::World;
 use client_callbacks::{Callbacks, Made, votes_word};
 use client_session::scripted_clients_fill_their_scripts;
 use node_state::{CallLine, Happened, Records};
 use node_step::{Node, NodeEvent};
+use play_state::WorldFault;
 use rsct_packet::{List, NoMemory};
 use session_state::GsFault;
 use std::alloc::Global;

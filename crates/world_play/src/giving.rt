@@ -2,16 +2,16 @@
 ghost use Rattle.std.specs.Prelude.{◌≡◌, ℕ, OnOk, IsErrOf, is_some, find, ◌&&◌};
 ghost use Rattle.world_model.specs.declared.event.Event.TheVariants as event;
 ghost use Rattle.world_model.specs.World.{node_at, kth_in, kth_between, delivers};
-ghost use Rattle.world_answers.specs.Answers.{delivers_by_if};
+ghost use Rattle.world_laws.specs.world_answers.Answers.{delivers_by_if};
 ghost use Rattle.world_packets.specs.Packets.{world_pairs, find_pair};
 ghost use Rattle.world_play.specs.Standing.{is_me, Goes, Passes, Comes};
 ghost use Rattle.world_play.specs.Hands.{Hears};
 
-use crate::fault::WorldFault;
 use crate::world::World;
 use client_callbacks::Made;
 use node_state::Records;
 use node_step::NodeEvent;
+use play_state::WorldFault;
 use std::alloc::Global;
 
 impl<C: Made> World<C> {

@@ -2,16 +2,16 @@
 ghost use Rattle.std.specs.Prelude.{◌≡◌, ℕ, OnOk, IsErrOf};
 ghost use Rattle.node_state.specs.Step.{Garbage};
 ghost use Rattle.world_model.specs.World.{node_at, node_steps, happens};
-ghost use Rattle.world_answers.specs.Answers.{step_by_if, happens_by};
+ghost use Rattle.world_laws.specs.world_answers.Answers.{step_by_if, happens_by};
 ghost use Rattle.world_play.specs.Standing.{Goes, Passes, Comes};
 ghost use Rattle.world_play.specs.Hands.{NodeHands, HearsAs, Hears};
 ghost use Rattle.world_play.specs.Safe.{AnswersSafely, GoesSafely};
 
-use crate::fault::WorldFault;
 use crate::world::World;
 use client_callbacks::Made;
 use node_state::Records;
 use node_step::NodeEvent;
+use play_state::WorldFault;
 use std::alloc::Global;
 use world_model::Event;
 
@@ -27,7 +27,7 @@ impl<C: Made> World<C> {
     }
 
     /// A plain event happens, each kind by its own call.
-    #[tactic(auto, unfolding(world_model::specs::World::happens, world_answers::specs::Answers::happens_by))]
+    #[tactic(auto, unfolding(world_model::specs::World::happens, world_laws::specs::world_answers::Answers::happens_by))]
     fn happen(&mut self, alloc: Global, e: &Event, out: &mut Records) -> Result<(), WorldFault>
         ensures goes { OnOk result (Comes C.script C.script_of self.old (Goes C.script C.script_of self.old self.new out.old out.new) (λ f w. happens_by f w e.now) (λ w. happens w e.now)) }
         ensures hears { OnOk result (Hears C.stands_for C.script C.script_of self.old self.new out.old out.new e.now) }

@@ -2,18 +2,17 @@
 ghost use Rattle.std.specs.Prelude.{◌≡◌, ℕ, OnOk, IsErrOf, IsTrue, Some};
 ghost use Rattle.node_step.specs.Event.{event_in, is_taken};
 ghost use Rattle.world_model.specs.World.{node_at, node_steps};
-ghost use Rattle.world_answers.specs.Answers.{step_by_if};
-ghost use Rattle.world_play.specs.Standing.{Goes, Passes, Comes, Settled, bytes_after};
+ghost use Rattle.world_laws.specs.world_answers.Answers.{step_by_if};
+ghost use Rattle.world_play.specs.Standing.{Goes, Passes, Comes, Settled};
+ghost use Rattle.play_state.specs.Posting.{bytes_after};
 ghost use Rattle.world_play.specs.Hands.{NodeHands, HearsAs};
 
-use crate::fault::WorldFault;
 use crate::nodes::Nodes;
-use crate::posting::post_all;
-use crate::starts::Starts;
 use crate::stepping::Left;
 use client_callbacks::{Callbacks, Made, ScriptClient};
 use node_state::{Config, Records};
 use node_step::NodeEvent;
+use play_state::{Starts, WorldFault, post_all};
 use std::alloc::Global;
 use world_packets::WorldPackets;
 

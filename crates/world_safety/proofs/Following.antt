@@ -22,18 +22,18 @@ use Rattle.node_state.specs.Step as step
 use Rattle.world_model.specs.declared.event.Event.{Event}
 use Rattle.world_model.specs.declared.event.Event.TheVariants as event
 use Rattle.world_model.specs.World.{Script, Node, World, is_node, node_at, kth_between, handled, traced, after_step, started_at, starts_if, node_starts, stops_if, shows_if, scripts_after}
-use Rattle.world_runs.proofs.Traces.{after_records}
+use Rattle.world_laws.proofs.world_runs.Traces.{after_records}
 use Rattle.step_ties.specs.Tied.{Scene, NodeIsIf, Rests}
 use Rattle.step_ties.specs.Rows.{over, stopped, start_with, ended, Arises}
-use Rattle.late_rows.specs.Runs.{NotedAs, TicksAreNoted}
-use Rattle.failed_rows.specs.Scenes.{Names, Played}
-use Rattle.failed_rows.specs.Scenes as played
-use Rattle.leaving.specs.Scenes.{IsCall, NoCall, IsDown, Recounted}
-use Rattle.leaving.specs.Scenes as recounted
+use Rattle.row_laws.specs.late_rows.Runs.{NotedAs, TicksAreNoted}
+use Rattle.row_laws.specs.failed_rows.Scenes.{Names, Played}
+use Rattle.row_laws.specs.failed_rows.Scenes as played
+use Rattle.run_laws.specs.leaving.Scenes.{IsCall, NoCall, IsDown, Recounted}
+use Rattle.run_laws.specs.leaving.Scenes as recounted
 use Rattle.step_ties.specs.Runs.{IsNote, noted, Reached, Starts, Stops, Steps, Notes}
 use Rattle.step_ties.proofs.Changed.{set_here}
 use Rattle.step_ties.proofs.RunLaw.{reached_rests}
-use Rattle.world_answers.specs.Answers.{step_by, step_by_if, calls_by_if, delivers_by_if, happens_by}
+use Rattle.world_laws.specs.world_answers.Answers.{step_by, step_by_if, calls_by_if, delivers_by_if, happens_by}
 use Rattle.world_safety.specs.Events.{MayHappen}
 use Rattle.world_safety.specs.Mirrors.{core_in, inc_at, Mirrors}
 use Rattle.world_safety.proofs.Mirroring.{later_mirrors, handled_mirrors, step_mirrors, stop_mirrors, same_start, start_mirrors}

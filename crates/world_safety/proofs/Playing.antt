@@ -11,8 +11,8 @@ use Rattle.world_model.specs.declared.script.Line.TheVariants as line
 use Rattle.world_model.specs.World.{Node, Sent, World, node_at, happens, world_new, world_after}
 use Rattle.world_model.specs.Play.{Played, is_cut, drops, in_world, with_event, flows_to, flows, flow_limit, all_tick, rounds, plays, played, events_of}
 use Rattle.world_model.specs.Kept.{Bytes, with_packet, sent_since, Ended, runs_from}
-use Rattle.world_runs.specs.Runs.{SameRun}
-use Rattle.world_runs.proofs.Queue.{same_happens}
+use Rattle.world_laws.specs.world_runs.Runs.{SameRun}
+use Rattle.world_laws.proofs.world_runs.Queue.{same_happens}
 use Rattle.world_safety.specs.Events.{MayHappen, AllMayHappen}
 use Rattle.world_safety.specs.Plays.{LineMay, LinesMay}
 use Rattle.world_safety.proofs.Turned.{onto_more}

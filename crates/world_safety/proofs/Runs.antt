@@ -9,12 +9,12 @@ use Rattle.run_safety.specs.Past.{turned, history_of}
 use Rattle.run_safety.specs.SafeLists.{OneEntry}
 use Rattle.run_safety.specs.SafeGroups.{SafeGroups}
 use Rattle.step_ties.specs.Tied.{Scene, opening_of}
-use Rattle.late_rows.specs.Runs.{TicksAreNoted}
-use Rattle.failed_rows.specs.Scenes.{Played}
-use Rattle.leaving.specs.Scenes.{Recounted}
+use Rattle.row_laws.specs.late_rows.Runs.{TicksAreNoted}
+use Rattle.row_laws.specs.failed_rows.Scenes.{Played}
+use Rattle.run_laws.specs.leaving.Scenes.{Recounted}
 use Rattle.step_ties.specs.Runs.{Reached}
 use Rattle.step_ties.proofs.RunLaw.{reached_runs}
-use Rattle.world_answers.specs.Answers.{Answered, goes_on, events_in, answered_after}
+use Rattle.world_laws.specs.world_answers.Answers.{Answered, goes_on, events_in, answered_after}
 use Rattle.world_safety.specs.Events.{happening, events_from, beginning, AllMayHappen}
 use Rattle.world_safety.specs.Mirrors.{Mirrors}
 use Rattle.world_safety.specs.Safety.{EveryRunIsReached, EveryRunIsSafe}

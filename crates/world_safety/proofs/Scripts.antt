@@ -8,49 +8,49 @@ use Rattle.world_model.specs.World.{World, world_new, world_after, records_of}
 use Rattle.world_model.specs.Play.{events_of, played_records, script_records}
 use Rattle.world_model.specs.Kept.{Ended, runs_from, runs_within, ended, kept_records}
 use Rattle.world_safety.specs.Events.{AllMayHappen}
-use Rattle.world_answers.specs.Answers.{Answered, events_in, answered_after, answered_records, all_worded}
-use Rattle.world_answers.proofs.Words.{all_events, worded_after}
+use Rattle.world_laws.specs.world_answers.Answers.{Answered, events_in, answered_after, answered_records, all_worded}
+use Rattle.world_laws.proofs.world_answers.Words.{all_events, worded_after}
 use Rattle.world_safety.specs.Scripts.{IsSafe, IsSafeRun, EveryScriptIsSafe, EveryKeptRunIsSafe}
 use Rattle.world_safety.proofs.Traces.{run_has_the_records}
 use Rattle.world_safety.proofs.Runs.{every_run_is_safe, every_run_is_reached}
-use Rattle.hearing.specs.Hearing.{HeardInARow, NoGap}
-use Rattle.hearing.proofs.Listening.{providers_hear}
-use Rattle.hearing.proofs.NoGap.{no_gap}
-use Rattle.honest_votes.specs.Casts.{VotesWereCast}
-use Rattle.honest_votes.proofs.Law.{recorded_votes}
-use Rattle.closing_rows.specs.Rows.{RowsAreVoters}
-use Rattle.closing_rows.proofs.Law.{rows_are_voters}
-use Rattle.late_rows.specs.Late.{LateHadTime}
-use Rattle.late_rows.specs.Announced.{LateWereAnnounced}
-use Rattle.attending.specs.Places.{PlacesHeardOnce, PutNamed}
-use Rattle.attending.proofs.Law.{places_once}
-use Rattle.attending.proofs.States.{entries_named}
-use Rattle.single_casts.specs.Single.{CastsOnce, CastsAfterNotice}
-use Rattle.single_casts.proofs.Law.{cast_after_notice}
-use Rattle.single_casts.proofs.Once.{cast_once}
-use Rattle.carried_values.specs.Carried.{FirstBallotsCarry}
-use Rattle.carried_values.proofs.Law.{first_ballots_carry}
-use Rattle.failed_rows.specs.Failures.{FailuresHaveCauses}
-use Rattle.failed_rows.proofs.Law.{failures_are_honest}
-use Rattle.failed_causes.specs.Causes.{FailuresHaveExactCauses}
-use Rattle.failed_causes.proofs.Causes.{failures_are_exact}
-use Rattle.failed_causes.specs.Entering.{BasesFollowEntering}
-use Rattle.failed_causes.proofs.Bases.{each_base_follows}
-use Rattle.source_order.specs.Sources.{ReflectionsRise, ReflectionsClimb, JoinsCarryLengths, FirstsFollowSources, JoinsOverSources}
-use Rattle.source_order.proofs.Law.{reflections_rise, reflections_climb, joins_carry_lengths, firsts_follow_sources, joins_over_sources}
-use Rattle.late_rows.proofs.Law.{who_is_late_had_time, who_is_late_was_announced}
-use Rattle.ring_runs.specs.Rings.{NetworkAgrees}
-use Rattle.ring_runs.proofs.Law.{rings_agree_in_runs}
-use Rattle.seen_runs.specs.Seen.{Seen}
-use Rattle.seen_runs.proofs.Law.{traces_seen}
-use Rattle.seen_runs.specs.Rings.{RingsSeen}
-use Rattle.seen_runs.proofs.Rings.{every_ring_seen}
+use Rattle.row_laws.specs.hearing.Hearing.{HeardInARow, NoGap}
+use Rattle.row_laws.proofs.hearing.Listening.{providers_hear}
+use Rattle.row_laws.proofs.hearing.NoGap.{no_gap}
+use Rattle.row_laws.specs.honest_votes.Casts.{VotesWereCast}
+use Rattle.row_laws.proofs.honest_votes.Law.{recorded_votes}
+use Rattle.row_laws.specs.closing_rows.Rows.{RowsAreVoters}
+use Rattle.row_laws.proofs.closing_rows.Law.{rows_are_voters}
+use Rattle.row_laws.specs.late_rows.Late.{LateHadTime}
+use Rattle.row_laws.specs.late_rows.Announced.{LateWereAnnounced}
+use Rattle.run_laws.specs.attending.Places.{PlacesHeardOnce, PutNamed}
+use Rattle.run_laws.proofs.attending.Law.{places_once}
+use Rattle.run_laws.proofs.attending.States.{entries_named}
+use Rattle.run_laws.specs.single_casts.Single.{CastsOnce, CastsAfterNotice}
+use Rattle.run_laws.proofs.single_casts.Law.{cast_after_notice}
+use Rattle.run_laws.proofs.single_casts.Once.{cast_once}
+use Rattle.row_laws.specs.carried_values.Carried.{FirstBallotsCarry}
+use Rattle.row_laws.proofs.carried_values.Law.{first_ballots_carry}
+use Rattle.row_laws.specs.failed_rows.Failures.{FailuresHaveCauses}
+use Rattle.row_laws.proofs.failed_rows.Law.{failures_are_honest}
+use Rattle.run_laws.specs.failed_causes.Causes.{FailuresHaveExactCauses}
+use Rattle.run_laws.proofs.failed_causes.Causes.{failures_are_exact}
+use Rattle.run_laws.specs.failed_causes.Entering.{BasesFollowEntering}
+use Rattle.run_laws.proofs.failed_causes.Bases.{each_base_follows}
+use Rattle.row_laws.specs.source_order.Sources.{ReflectionsRise, ReflectionsClimb, JoinsCarryLengths, FirstsFollowSources, JoinsOverSources}
+use Rattle.row_laws.proofs.source_order.Law.{reflections_rise, reflections_climb, joins_carry_lengths, firsts_follow_sources, joins_over_sources}
+use Rattle.row_laws.proofs.late_rows.Law.{who_is_late_had_time, who_is_late_was_announced}
+use Rattle.row_laws.specs.ring_runs.Rings.{NetworkAgrees}
+use Rattle.row_laws.proofs.ring_runs.Law.{rings_agree_in_runs}
+use Rattle.run_laws.specs.seen_runs.Seen.{Seen}
+use Rattle.run_laws.proofs.seen_runs.Law.{traces_seen}
+use Rattle.run_laws.specs.seen_runs.Rings.{RingsSeen}
+use Rattle.run_laws.proofs.seen_runs.Rings.{every_ring_seen}
 use Rattle.run_safety.specs.SafeLists.{Each}
 use Rattle.run_safety.specs.SafeHeard.{InOrder, NotLetGo, AllHear, Dissolves}
-use Rattle.attending.proofs.OrderLaw.{heard_in_order}
-use Rattle.leaving.proofs.Law.{who_is_let_go}
-use Rattle.gapless.proofs.Quiet.{all_hear}
-use Rattle.gapless.proofs.Just.{just_the_left}
+use Rattle.run_laws.proofs.attending.OrderLaw.{heard_in_order}
+use Rattle.run_laws.proofs.leaving.Law.{who_is_let_go}
+use Rattle.run_laws.proofs.gapless.Quiet.{all_hear}
+use Rattle.run_laws.proofs.gapless.Just.{just_the_left}
 use Rattle.run_safety.specs.Past.{EachEvent, EachRecord, Within}
 use Rattle.run_safety.specs.Past as past
 use Rattle.world_safety.specs.Plays.{EveryAnswerIsSafe, EventsAreSafe, EveryPlayIsSafe, EveryKeptPlayIsSafe}

@@ -9,13 +9,13 @@ use Rattle.node_state.specs.declared.config.Mode.TheVariants.{Fixed, Asked, Ring
 use Rattle.node_state.specs.declared.happened.Happened.{Happened}
 use Rattle.world_model.specs.Run.{Happening, trace_of}
 use Rattle.world_model.specs.World.{World, world_of, world_new}
-use Rattle.world_runs.specs.Runs.{Recorded}
-use Rattle.world_runs.proofs.Backwards.{added_since}
-use Rattle.world_answers.specs.Answers.{Answered, goes_on, answered_after, answered_records}
+use Rattle.world_laws.specs.world_runs.Runs.{Recorded}
+use Rattle.world_laws.proofs.world_runs.Backwards.{added_since}
+use Rattle.world_laws.specs.world_answers.Answers.{Answered, goes_on, answered_after, answered_records}
 use Rattle.world_safety.specs.Events.{records_since, events_from, beginning}
 use Rattle.world_safety.specs.Safety.{RunHasTheRecords}
 use Rattle.world_safety.proofs.Turned.{onto_more}
-use Rattle.world_answers.proofs.Grown.{grows_by}
+use Rattle.world_laws.proofs.world_answers.Grown.{grows_by}
 
 -- the records that were added since
 pub since_is : (w v : World) (rs : List Happened) → Recorded w v rs → records_since w v ≡ rs

@@ -10,7 +10,7 @@ use Rattle.world_model.specs.declared.event.Event.{Event}
 use Rattle.world_model.specs.declared.event.Event.TheVariants as event
 use Rattle.world_model.specs.World.{World, world_new}
 use Rattle.world_model.specs.Run.{Happening, Run}
-use Rattle.world_answers.specs.Answers.{Answered, goes_on}
+use Rattle.world_laws.specs.world_answers.Answers.{Answered, goes_on}
 
 -- the records that a world has more than an older one, in order
 abbrev pub records_since : World → World → List Happened

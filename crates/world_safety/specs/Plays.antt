@@ -10,7 +10,7 @@ use Rattle.world_model.specs.declared.script.Line.TheVariants as line
 use Rattle.world_model.specs.declared.script.Script.{Script}
 use Rattle.world_model.specs.Reading.{IsScript, script_of}
 use Rattle.world_model.specs.World.{records_of}
-use Rattle.world_answers.specs.Answers.{Answered, events_in, answered_records}
+use Rattle.world_laws.specs.world_answers.Answers.{Answered, events_in, answered_records}
 use Rattle.world_safety.specs.Events.{AllMayHappen}
 use Rattle.world_safety.specs.Scripts.{IsSafe, IsSafeRun, ScriptIsSafe, KeptRunIsSafe}
 

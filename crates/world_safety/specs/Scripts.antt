@@ -13,24 +13,24 @@ use Rattle.run_safety.specs.Past as past
 use Rattle.run_safety.specs.SafeLists.{OneEntry}
 use Rattle.run_safety.specs.SafeGroups.{SafeGroups}
 use Rattle.step_ties.specs.Tied.{opening_of}
-use Rattle.hearing.specs.Hearing.{HeardInARow, NoGap}
-use Rattle.honest_votes.specs.Casts.{VotesWereCast}
-use Rattle.closing_rows.specs.Rows.{RowsAreVoters}
-use Rattle.late_rows.specs.Late.{LateHadTime}
-use Rattle.late_rows.specs.Announced.{LateWereAnnounced}
-use Rattle.attending.specs.Places.{PlacesHeardOnce, PutNamed}
-use Rattle.single_casts.specs.Single.{CastsOnce, CastsAfterNotice}
-use Rattle.carried_values.specs.Carried.{FirstBallotsCarry}
-use Rattle.failed_rows.specs.Failures.{FailuresHaveCauses}
-use Rattle.failed_causes.specs.Causes.{FailuresHaveExactCauses}
-use Rattle.failed_causes.specs.Entering.{BasesFollowEntering}
-use Rattle.source_order.specs.Sources.{ReflectionsRise, ReflectionsClimb, JoinsCarryLengths, FirstsFollowSources, JoinsOverSources}
-use Rattle.ring_runs.specs.Rings.{AddressesFit, NetworkAgrees}
-use Rattle.seen_runs.specs.Seen.{Seen}
-use Rattle.seen_runs.specs.Rings.{RingsSeen}
+use Rattle.row_laws.specs.hearing.Hearing.{HeardInARow, NoGap}
+use Rattle.row_laws.specs.honest_votes.Casts.{VotesWereCast}
+use Rattle.row_laws.specs.closing_rows.Rows.{RowsAreVoters}
+use Rattle.row_laws.specs.late_rows.Late.{LateHadTime}
+use Rattle.row_laws.specs.late_rows.Announced.{LateWereAnnounced}
+use Rattle.run_laws.specs.attending.Places.{PlacesHeardOnce, PutNamed}
+use Rattle.run_laws.specs.single_casts.Single.{CastsOnce, CastsAfterNotice}
+use Rattle.row_laws.specs.carried_values.Carried.{FirstBallotsCarry}
+use Rattle.row_laws.specs.failed_rows.Failures.{FailuresHaveCauses}
+use Rattle.run_laws.specs.failed_causes.Causes.{FailuresHaveExactCauses}
+use Rattle.run_laws.specs.failed_causes.Entering.{BasesFollowEntering}
+use Rattle.row_laws.specs.source_order.Sources.{ReflectionsRise, ReflectionsClimb, JoinsCarryLengths, FirstsFollowSources, JoinsOverSources}
+use Rattle.row_laws.specs.ring_runs.Rings.{AddressesFit, NetworkAgrees}
+use Rattle.run_laws.specs.seen_runs.Seen.{Seen}
+use Rattle.run_laws.specs.seen_runs.Rings.{RingsSeen}
 use Rattle.run_safety.specs.SafeLists.{Each}
 use Rattle.run_safety.specs.SafeHeard.{InOrder, NotLetGo, AllHear, Dissolves}
-use Rattle.world_answers.specs.Answers.{Answered, all_worded}
+use Rattle.world_laws.specs.world_answers.Answers.{Answered, all_worded}
 use Rattle.world_safety.specs.Events.{run_of_events}
 
 -- These are the records of the run of these events with these answers, and it is safe: what each group sees of it, and that each view

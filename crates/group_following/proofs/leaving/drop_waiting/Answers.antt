@@ -2,7 +2,7 @@
 use Rattle.std.proofs.Common.{true, false, refl}
 use Rattle.std.specs.Option.{option_copied}
 use Rattle.std.proofs.lemmas.Result.{on_ok_weaker}
-use Rattle.group_following.proofs.KeepLaws.{copied_is}
+use Rattle.group_leading.proofs.RowLaws.{copied_is}
 use Rattle.group_following.proofs.GoneLaws.{join_none, join_some}
 use Rattle.group_following.proofs.leaving.drop_waiting.Goals as goal
 

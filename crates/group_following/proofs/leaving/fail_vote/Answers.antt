@@ -3,7 +3,7 @@ use Rattle.std.proofs.Common.{◌≡◌, true, is_some}
 use Rattle.std.proofs.lemmas.Result.{on_ok_weaker}
 use Rattle.node_state.specs.State.{led_of}
 use Rattle.entry_handing.proofs.DoingLaws.{receive_nothing}
-use Rattle.group_following.proofs.KeepLaws.{copied_is}
+use Rattle.group_leading.proofs.RowLaws.{copied_is}
 use Rattle.group_following.proofs.GoneLaws.{unfailed_does, failing_does}
 use Rattle.group_following.proofs.leaving.fail_vote.Goals as goal
 

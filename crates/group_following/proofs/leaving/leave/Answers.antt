@@ -1,6 +1,6 @@
 -- Marked, failed, and then it waits.
 use Rattle.std.proofs.lemmas.Result.{on_ok_weaker}
-use Rattle.group_following.proofs.KeepLaws.{work_row}
+use Rattle.group_leading.proofs.RowLaws.{work_row}
 use Rattle.group_following.proofs.GoneLaws.{gone_waits_keeps, present_does}
 use Rattle.group_following.proofs.leaving.leave.Goals as goal
 

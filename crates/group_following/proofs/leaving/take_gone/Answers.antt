@@ -3,7 +3,7 @@ use Rattle.std.proofs.Common.{refl, sym}
 use Rattle.std.proofs.lemmas.Result.{on_ok_weaker}
 use Rattle.node_groups.proofs.KeepLaws.{keeps_itself}
 use Rattle.entry_handing.proofs.DoingLaws.{receive_nothing, does_as}
-use Rattle.group_following.proofs.KeepLaws.{does_row, on_ok_two}
+use Rattle.group_leading.proofs.RowLaws.{does_row, on_ok_two}
 use Rattle.group_following.proofs.GoneLaws.{gone_unled, gone_here, away_does}
 use Rattle.group_following.proofs.leaving.take_gone.Goals as goal
 

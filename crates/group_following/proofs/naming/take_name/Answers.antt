@@ -5,7 +5,7 @@ use Rattle.node_state.specs.Following.{is_name_used, name_row}
 use Rattle.node_groups.proofs.KeepLaws.{keeps_itself}
 use Rattle.entry_handing.proofs.DoingLaws.{receive_nothing, does_plain, does_as}
 use Rattle.group_leading.proofs.WorkLaws.{keeps_follows}
-use Rattle.group_following.proofs.KeepLaws.{does_row, work_told, on_ok_two}
+use Rattle.group_leading.proofs.RowLaws.{does_row, work_told, on_ok_two}
 use Rattle.group_following.proofs.NameLaws.{name_unused, name_refused, name_led, refused_stays}
 use Rattle.group_following.proofs.naming.take_name.Goals as goal
 

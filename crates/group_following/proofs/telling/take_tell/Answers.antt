@@ -1,5 +1,5 @@
 -- A telling is the whole row.
-use Rattle.group_following.proofs.KeepLaws.{work_told, on_ok_two}
+use Rattle.group_leading.proofs.RowLaws.{work_told, on_ok_two}
 use Rattle.group_following.proofs.TellLaws.{tell_stays}
 use Rattle.group_following.proofs.telling.take_tell.Goals as goal
 

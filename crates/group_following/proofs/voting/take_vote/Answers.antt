@@ -3,7 +3,7 @@ use Rattle.std.proofs.Common.{refl, sym}
 use Rattle.std.proofs.lemmas.Result.{on_ok_weaker}
 use Rattle.node_groups.proofs.KeepLaws.{keeps_itself}
 use Rattle.entry_handing.proofs.DoingLaws.{receive_nothing}
-use Rattle.group_following.proofs.KeepLaws.{does_row}
+use Rattle.group_leading.proofs.RowLaws.{does_row}
 use Rattle.group_following.proofs.VoteLaws.{vote_unused, vote_does}
 use Rattle.group_following.proofs.voting.take_vote.Goals as goal
 

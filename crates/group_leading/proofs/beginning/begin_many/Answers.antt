@@ -1,16 +1,7 @@
--- Where the entry fits, it opens the first phase.
-use Rattle.std.proofs.Common.{sym, ◌∙◌}
-use Rattle.std.proofs.lemmas.Result.{on_ok_weaker}
-use Rattle.entry_handing.proofs.DoingLaws.{receive_nothing}
-use Rattle.group_leading.proofs.CloseLaws.{begun_where, begun_nowhere}
+-- The entry has the proposal.
+use Rattle.std.proofs.Common.{ap}
+use Rattle.group_entry.specs.declared.entry.Entry.TheVariants.{Begin}
 use Rattle.group_leading.proofs.beginning.begin_many.Goals as goal
 
-pub returns-then-fits_at_end-clause-does : goal.returns-then-fits_at_end-clause-does
-returns-then-fits_at_end-clause-does g c =
-    on_ok_weaker c.open_phase.result
-    (λ opening. begun_where _ _ c.args.core.now c.open_phase.new.core c.args.g.now c.args.x.now _ (sym (rw (c.bytes.ensures.value, c.in_ok-copy.ensures) at c.fits_at_end.ensures) ∙ c.if-fits_at_end.true) opening)
-    (rw c.in_ok-copy.ensures at c.open_phase.ensures.does)
-
 pub returns-clause-does : goal.returns-clause-does
-returns-clause-does g c =
-    begun_nowhere _ _ (receive_nothing _ _) c.args.core.now c.args.g.now c.args.x.now _ (sym (rw (c.bytes.ensures.value, c.in_ok-copy.ensures) at c.fits_at_end.ensures) ∙ c.if-fits_at_end.false)
+returns-clause-does g c = c.open_if_fits.ensures.does c.args.x.now (ap Begin c.in_ok-copy.ensures)

@@ -1,5 +1,5 @@
 use Rattle.std.proofs.Common.{refl, ap, Err}
-use Rattle.net_script.specs.Faults.{fault_of_world, fault_of_put}
+use Rattle.play_state.specs.Faults.{fault_of_world, fault_of_put}
 use Rattle.net_script.proofs.StageLaws.{leads_stopped}
 use Rattle.net_script.proofs.EventLaws.{event_went, event_stops, event_put_stops}
 use Rattle.net_script.proofs.happening.happen.Goals as goal

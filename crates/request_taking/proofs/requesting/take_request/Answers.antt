@@ -5,7 +5,7 @@ use Rattle.node_state.specs.State.{led_of, decision_of}
 use Rattle.node_state.specs.Following.{is_group_refused}
 use Rattle.node_groups.proofs.KeepLaws.{keeps_itself, sent_keeps}
 use Rattle.entry_handing.proofs.DoingLaws.{receive_nothing, does_as}
-use Rattle.group_following.proofs.KeepLaws.{does_row, work_row}
+use Rattle.group_leading.proofs.RowLaws.{does_row, work_row}
 use Rattle.request_taking.proofs.RequestLaws.{again_keeps, request_refused, request_first, request_late, request_same, request_next}
 use Rattle.request_taking.proofs.requesting.take_request.Goals as goal
 

@@ -2,8 +2,8 @@
 use Rattle.std.proofs.Common.{ℕ, OnOk, IsErrOf, subst}
 use Rattle.node_state.specs.Step.{NodeEvent}
 use Rattle.world_model.specs.World.{node_at, node_steps}
-use Rattle.world_answers.specs.Answers.{step_by_if}
-use Rattle.world_play.specs.declared.fault.WorldFault.TheVariants.{TooMuchKept}
+use Rattle.world_laws.specs.world_answers.Answers.{step_by_if}
+use Rattle.play_state.specs.declared.fault.WorldFault.TheVariants.{TooMuchKept}
 use Rattle.world_play.specs.Standing.{Goes, Passes, Comes}
 use Rattle.world_play.specs.Hands.{NodeHands, HearsAs}
 use Rattle.world_play.proofs.GivingLaws.{no_bytes}

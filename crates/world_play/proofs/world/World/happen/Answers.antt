@@ -1,6 +1,6 @@
 -- Each kind of event is what its call does.
 use Rattle.world_model.specs.World.{happens}
-use Rattle.world_answers.specs.Answers.{happens_by}
+use Rattle.world_laws.specs.world_answers.Answers.{happens_by}
 use Rattle.world_play.proofs.WorldLaws.{comes_anyway}
 use Rattle.world_play.proofs.world.World.happen.Goals as goal
 

@@ -1,6 +1,0 @@
--- No gap is said of any two places, so the law is named here.
-use Rattle.hearing.proofs.NoGap.{no_gap}
-use Rattle.hearing.proofs.heard_leaves_no_gap.Goals as goal
-
-pub returns : goal.returns
-returns c = no_gap

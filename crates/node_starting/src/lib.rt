@@ -1,0 +1,6 @@
+//! What a node is when it starts.
+#![tactic(auto)]
+
+mod starting;
+
+pub use starting::start_core;

@@ -1,0 +1,4 @@
+pub mod StartLaws
+pub mod PacketLaws
+pub mod CutLaws
+pub mod TextLaws

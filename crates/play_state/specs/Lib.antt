@@ -1,0 +1,4 @@
+pub mod Starts
+pub mod Posting
+pub mod Cuts
+pub mod Faults

@@ -1,0 +1,213 @@
+-- Between events: what each node has of who failed, and that it goes on.
+use Rattle.std.proofs.Common.{◌≡◌, ◌≢◌, ℕ, List, [], ◌∷◌, ◌++◌, Option, Some, None, Bool, true, false, refl, sym, ap, ◌∙◌, subst, inl, inr, ⊎_elim}
+use Rattle.std.specs.Prelude.{◌==◌, ◌&&◌, ◌||◌, if◌then◌else◌}
+use Rattle.std.specs.List.{list_any}
+use Rattle.std.specs.Str.{bytes_eq}
+use Rattle.std.proofs.lemmas.Bool.{eqb-true}
+use Rattle.rsct_packet.specs.declared.ids.ViewId.{ViewId}
+use Rattle.rsct_packet.specs.declared.ids.ProviderId.{ProviderId}
+use Rattle.rsct_packet.specs.Providers.{among, same_provider}
+use Rattle.rsct_packet.specs.Search.{Has}
+use Rattle.group_entry.specs.declared.proposal.Cause.{Cause}
+use Rattle.group_entry.specs.declared.proposal.Cause.TheVariants as cause
+use Rattle.group_entry.specs.declared.proposal.Failure.{Failure}
+use Rattle.group_entry.specs.declared.entry.RowVote.{RowVote}
+use Rattle.group_entry.specs.declared.entry.RowVote.TheVariants as row_vote
+use Rattle.proposal_core.specs.declared.group_state.GroupState.{GroupState}
+use Rattle.proposal_core.specs.declared.group_state.Running.{Running}
+use Rattle.proposal_core.specs.Fold.{empty_state, joiners_fit}
+use Rattle.proposal_core.specs.Lists.{len_in, state_in}
+use Rattle.vote_phases.specs.Tally.{TallyView}
+use Rattle.session_state.specs.declared.state.Provider.{Provider}
+use Rattle.session_state.specs.declared.state.SessionState.{SessionState}
+use Rattle.node_state.specs.declared.happened.Happened.{Happened}
+use Rattle.node_state.specs.declared.happened.Happened.TheVariants as happened
+use Rattle.node_state.specs.declared.packet.Body.{Body}
+use Rattle.node_state.specs.declared.packet.Body.TheVariants as body
+use Rattle.node_state.specs.declared.packet.Packet.{Packet}
+use Rattle.node_state.specs.declared.state.Core.{Core}
+use Rattle.world_model.specs.Run.{Happening}
+use Rattle.run_safety.specs.Past.{History, records_of}
+use Rattle.run_safety.specs.Stays.{Stay, stays, stays_after, with_base, with_entry, asks_join, client_of, joining_client}
+use Rattle.node_state.specs.State.{InNameOrder}
+use Rattle.step_ties.specs.Tied.{Scene, NodeIsIf, Rests}
+use Rattle.step_ties.proofs.SessionLaws.{provider_same}
+use Rattle.row_laws.proofs.honest_votes.At.{found, leads_row}
+use Rattle.row_laws.specs.failed_rows.Failures.{GoneCause, RowFails, FailuresHaveCauses, SaidGoodbye}
+use Rattle.row_laws.proofs.failed_rows.Facts.{Whys, Takers, takers_more, VoterFails, TallyWhile, TallyFails, TallyIs, Waits, QueueIs, Track, Of, stood_on, Lives, told_on, off_on, none_asked}
+use Rattle.row_laws.proofs.failed_rows.Living.{slim_same}
+use Rattle.row_laws.proofs.failed_rows.Owners.{Owned, owned_slim}
+use Rattle.row_laws.proofs.failed_rows.Steps.{BodyGone}
+
+-- ---- what is said goes on being said
+
+pub goodbye_on : (e : Happening) (h : History) (p : ProviderId) → SaidGoodbye h p → SaidGoodbye (e ∷ h) p
+goodbye_on e h p k = record { event = k.event; newer = e ∷ k.newer; older = k.older; moment = ap (λ z. e ∷ z) k.moment; said = k.said; taken = k.taken }
+
+pub gone_on : (e : Happening) (h : History) (v : ViewId) (g : List ℕ) (p : ProviderId) → GoneCause h v g p → GoneCause (e ∷ h) v g p
+gone_on e h v g p (inl k) = inl (goodbye_on e h p k)
+gone_on e h v g p (inr k) = inr (stood_on e.records (records_of h) v g p k)
+
+pub own_on : (e : Happening) (h : History) (t : SessionState) (p : ProviderId) → Lives (SaidGoodbye h) t (records_of h) p → Lives (SaidGoodbye (e ∷ h)) t (e.records ++ records_of h) p
+own_on e h t p (inl k) = inl k
+own_on e h t p (inr (inl k)) = inr (inl (goodbye_on e h p k))
+own_on e h t p (inr (inr (inl k))) = inr (inr (inl (told_on e.records (records_of h) p k)))
+own_on e h t p (inr (inr (inr k))) = inr (inr (inr (off_on e.records (records_of h) p k)))
+
+pub body_gone_on : (e : Happening) (h : History) (b : Body) → BodyGone h b → BodyGone (e ∷ h) b
+body_gone_on e h (body.Ring x) k = tt
+body_gone_on e h (body.Report rows) k = tt
+body_gone_on e h (body.View y) k = tt
+body_gone_on e h (body.Lookup v g) k = tt
+body_gone_on e h (body.Name v g n) k = tt
+body_gone_on e h (body.Request v g q r phases x) k = tt
+body_gone_on e h (body.Tell v g q r y) k = k
+body_gone_on e h (body.Entry v g place stable x) k = tt
+body_gone_on e h (body.Ack v g n) k = tt
+body_gone_on e h (body.Vote v g proto phase p vote value message) k = tt
+body_gone_on e h (body.Gone v g p) k = gone_on e h v g p k
+body_gone_on e h (body.Query question what) k = tt
+body_gone_on e h (body.Reply question text) k = tt
+
+module _ (gone now : ProviderId → Type 0) (on : (p : ProviderId) → gone p → now p) where
+  row_on : (st : GroupState) (p : ProviderId) (v : RowVote) → RowFails gone st p v → RowFails now st p v
+  row_on st p (row_vote.Cast v) k = tt
+  row_on st p (row_vote.Late d) k = tt
+  row_on st p (row_vote.Failed d) k = (k.0, ⊎_elim (λ (a : among st.failed p ≡ true). inl a) (λ (a : gone p). inr (on p a)) k.1)
+
+  voter_on : (st : GroupState) (p : ProviderId) (o : Option RowVote) → VoterFails gone st p o → VoterFails now st p o
+  voter_on st p None k = tt
+  voter_on st p (Some v) k = row_on st p v k
+
+  while_on : (st : GroupState) (t : TallyView) (run : Option Running) → TallyWhile gone st t run → TallyWhile now st t run
+  while_on st t None k = tt
+  while_on st t (Some run) k = record { default = k.default; voters = λ x i. voter_on st x.p x.vote (k.voters x i) }
+
+  fails_on : (st : GroupState) (t : Option TallyView) → TallyFails gone st t → TallyFails now st t
+  fails_on st None k = tt
+  fails_on st (Some t) k = while_on st t st.running k
+
+  pub tally_on : (led : Bool) (t : Option TallyView) (st : GroupState) → TallyIs gone led t st → TallyIs now led t st
+  tally_on led t st (inl e) = inl e
+  tally_on led t st (inr k) = inr (k.0, fails_on st t k.1)
+
+  waits_on : (st : GroupState) (p : ProviderId) (c : Cause) → Waits gone st p c → Waits now st p c
+  waits_on st p cause.Died k = k
+  waits_on st p cause.Gone k = on p k
+  waits_on st p cause.Cast k = k
+
+  pub queue_on : (led : Bool) (fs : List Failure) (st : GroupState) → QueueIs gone led fs st → QueueIs now led fs st
+  queue_on led fs st (inl e) = inl e
+  queue_on led fs st (inr k) = inr (k.0, λ f i. waits_on st f.p f.cause (k.1 f i))
+
+-- ---- between events
+
+pub record CoreFails (h : History) (s : Core) : Type 0 where
+  pub order : InNameOrder s.groups
+  pub tracks : (g : List ℕ) → Track (stays s.views.me g (records_of h)) s.views.view (len_in (found s g).list) (state_in (found s g).list)
+  pub marks : (g : List ℕ) (p : ProviderId) → among (found s g).led.gone p ≡ true → GoneCause h s.views.view g p
+  pub tallies : (g : List ℕ) → TallyIs (GoneCause h s.views.view g) (leads_row s (found s g)) (found s g).led.tally (state_in (found s g).list)
+  pub queues : (g : List ℕ) → QueueIs (GoneCause h s.views.view g) (leads_row s (found s g)) (found s g).led.waiting.failures (state_in (found s g).list)
+  pub apart : (g : List ℕ) → joiners_fit (state_in (found s g).list) ≡ true
+  pub own : (p : ProviderId) → p.node ≡ s.views.me → p.inc ≡ s.views.inc → list_any (asks_join p) (records_of h) ≡ true → Lives (SaidGoodbye h) s.sessions (records_of h) p
+  pub mine : (x : Provider) → Has x s.sessions.providers → x.p.node ≡ s.views.me
+  pub owners : Owned (λ p. client_of p h) s.sessions
+  pub whys : (g : List ℕ) → Whys (found s g).led
+  pub takers : Takers s.views.me s.sessions (records_of h)
+
+abbrev pub CoreIf : History → Option Core → Type 0
+CoreIf h None = Unit {0}
+CoreIf h (Some s) = CoreFails h s
+
+pub record Honest (w : Scene) : Type 0 where
+  pub sent : (p : Packet) → Has p w.sent → BodyGone w.before p.body
+  pub nodes : (m : ℕ) → CoreIf w.before (w.cores m)
+  pub puts : FailuresHaveCauses w.before
+
+-- records of another node change no stay
+pub other_stays : (n m : ℕ) (g : List ℕ) (r : Happened) → m ≢ n → Of n r → (xs : List Stay) → stays_after m g r xs ≡ xs
+other_stays n m g (happened.Up k j) ne o xs = by (k == m) refl
+  where
+    by : (b : Bool) → (k == m) ≡ b → (if b then [] else xs) ≡ xs
+    by true e = absurd (ne (sym (eqb-true k m e) ∙ o))
+    by false e = refl
+other_stays n m g (happened.Down k) ne o xs = by (k == m) refl
+  where
+    by : (b : Bool) → (k == m) ≡ b → (if b then [] else xs) ≡ xs
+    by true e = absurd (ne (sym (eqb-true k m e) ∙ o))
+    by false e = refl
+other_stays n m g (happened.Ring k j i ms b) ne o xs = refl
+other_stays n m g (happened.In k v ms) ne o xs = by (k == m) refl
+  where
+    by : (b : Bool) → (k == m) ≡ b → (if b then record { view = v; base = empty_state; entries = [] } ∷ xs else xs) ≡ xs
+    by true e = absurd (ne (sym (eqb-true k m e) ∙ o))
+    by false e = refl
+other_stays n m g (happened.Base k v f u len s) ne o xs = by (k == m) refl
+  where
+    by : (b : Bool) → (k == m) ≡ b → (if (b && bytes_eq f g) then with_base s xs else xs) ≡ xs
+    by true e = absurd (ne (sym (eqb-true k m e) ∙ o))
+    by false e = refl
+other_stays n m g (happened.Put k v f i d) ne o xs = by (k == m) refl
+  where
+    by : (b : Bool) → (k == m) ≡ b → (if (b && bytes_eq f g) then with_entry d xs else xs) ≡ xs
+    by true e = absurd (ne (sym (eqb-true k m e) ∙ o))
+    by false e = refl
+other_stays n m g (happened.Heard p v f i d ms value) ne o xs = refl
+other_stays n m g (happened.Cast p proto phase vote value message) ne o xs = refl
+other_stays n m g (happened.Asked p r f x) ne o xs = refl
+other_stays n m g (happened.Told p r why) ne o xs = refl
+other_stays n m g (happened.Noted k c v i told) ne o xs = refl
+other_stays n m g (happened.Refused k c fault) ne o xs = refl
+other_stays n m g (happened.Shown k line) ne o xs = refl
+
+pub others_stay : (n m : ℕ) (g : List ℕ) (rs xs : List Happened) → m ≢ n → ((r : Happened) → Has r rs → Of n r) → stays m g (rs ++ xs) ≡ stays m g xs
+others_stay n m g [] xs ne all = refl
+others_stay n m g (r ∷ rs) xs ne all = other_stays n m g r ne (all r (inl refl)) (stays m g (rs ++ xs)) ∙ others_stay n m g rs xs ne (λ q i. all q (inr i))
+
+-- another node asks for no join of this one
+pub other_asks : (n : ℕ) (p : ProviderId) (r : Happened) → (p.node ≡ n → ⊥) → Of n r → asks_join p r ≡ false
+other_asks n p (happened.Up k j) ne o = refl
+other_asks n p (happened.Down k) ne o = refl
+other_asks n p (happened.Ring k j i ms b) ne o = refl
+other_asks n p (happened.In k v ms) ne o = refl
+other_asks n p (happened.Base k v f u len s) ne o = refl
+other_asks n p (happened.Put k v f i d) ne o = refl
+other_asks n p (happened.Heard q v f i d ms value) ne o = refl
+other_asks n p (happened.Cast q proto phase vote value message) ne o = refl
+other_asks n p (happened.Asked q r f x) ne o = by (same_provider q p) refl
+  where
+    by : (b : Bool) → same_provider q p ≡ b → (b && (r == p.join)) ≡ false
+    by true e = absurd (ne (ap (λ (z : ProviderId). z.node) (sym (provider_same q p e)) ∙ o))
+    by false e = refl
+other_asks n p (happened.Told q r why) ne o = refl
+other_asks n p (happened.Noted k c v i told) ne o = refl
+other_asks n p (happened.Refused k c fault) ne o = refl
+other_asks n p (happened.Shown k line) ne o = refl
+
+none_any : (p : ProviderId) (rs : List Happened) → ((r : Happened) → Has r rs → asks_join p r ≡ false) → list_any (asks_join p) rs ≡ false
+none_any p [] all = refl
+none_any p (r ∷ rs) all = ap (λ b. b || list_any (asks_join p) rs) (all r (inl refl)) ∙ none_any p rs (λ q i. all q (inr i))
+
+pub core_on : (n m : ℕ) (e : Happening) (h : History) (s : Core) → s.views.me ≡ m → m ≢ n → ((r : Happened) → Has r e.records → Of n r) → CoreFails h s → CoreFails (e ∷ h) s
+core_on n m e h s me ne all k =
+    record {
+      order = k.order;
+      tracks = λ g. subst (λ z. Track z s.views.view (len_in (found s g).list) (state_in (found s g).list)) (ap (λ z. stays z g (records_of h)) me ∙ sym (others_stay n m g e.records (records_of h) ne all) ∙ ap (λ z. stays z g (e.records ++ records_of h)) (sym me)) (k.tracks g);
+      marks = λ g p i. gone_on e h s.views.view g p (k.marks g p i);
+      tallies = λ g. tally_on (GoneCause h s.views.view g) (GoneCause (e ∷ h) s.views.view g) (gone_on e h s.views.view g) (leads_row s (found s g)) (found s g).led.tally (state_in (found s g).list) (k.tallies g);
+      queues = λ g. queue_on (GoneCause h s.views.view g) (GoneCause (e ∷ h) s.views.view g) (gone_on e h s.views.view g) (leads_row s (found s g)) (found s g).led.waiting.failures (state_in (found s g).list) (k.queues g);
+      apart = k.apart;
+      own = λ p node inc asked. own_on e h s.sessions p (k.own p node inc (sym (none_asked p e.records (records_of h) (λ r i. other_asks n p r (λ q. ne (sym (node ∙ me) ∙ q)) (all r i))) ∙ asked));
+      mine = k.mine;
+      whys = k.whys;
+      takers = takers_more s.views.me s.sessions e.records (records_of h) k.takers;
+      owners = owned_slim (λ p. client_of p h) (λ p. client_of p (e ∷ h)) s.sessions s.sessions (λ x i. ap (λ b. if b then joining_client e.event else client_of x.p h) (none_any x.p e.records (λ r j. other_asks n x.p r (λ q. ne (sym (k.mine x i ∙ me) ∙ q)) (all r j)))) (slim_same s.sessions s.sessions refl refl refl) k.owners;
+    }
+
+pub core_if_on : (n m : ℕ) (e : Happening) (h : History) (o : Option Core) → ((s : Core) → o ≡ Some s → s.views.me ≡ m) → m ≢ n → ((r : Happened) → Has r e.records → Of n r) → CoreIf h o → CoreIf (e ∷ h) o
+core_if_on n m e h None me ne all k = tt
+core_if_on n m e h (Some s) me ne all k = core_on n m e h s (me s refl) ne all k
+
+-- a node of a scene is who it is
+pub who_is : (w : Scene) → Rests [] w → (m : ℕ) (s : Core) → w.cores m ≡ Some s → s.views.me ≡ m
+who_is w rests m s up = (subst (NodeIsIf w.config rests.ghost [] m (w.incs m)) up (rests.nodes m)).0.stands.me

@@ -1,0 +1,251 @@
+-- Each scene that events lead to.
+use Rattle.std.proofs.Common.{◌≡◌, ◌⊎◌, ℕ, List, [], ◌∷◌, ◌++◌, Some, None, true, false, refl, sym, ap, ◌∙◌, subst, inl, inr}
+use Rattle.std.specs.Prelude.{◌&&◌, ◌||◌, fold, reverse, if◌then◌else◌}
+use Rattle.std.specs.List.{list_any}
+use Rattle.std.proofs.lemmas.Bool.{eq-eqb}
+use Rattle.rsct_packet.specs.declared.ids.ProviderId.{ProviderId}
+use Rattle.rsct_packet.specs.Mask.{nodes_of}
+use Rattle.rsct_packet.specs.Search.{Has}
+use Rattle.rsct_packet.proofs.HasLaws.{has_append, append_has_left, has_filter}
+use Rattle.proposal_core.specs.Lists.{state_in}
+use Rattle.session_state.specs.declared.state.Provider.{Provider}
+use Rattle.session_state.specs.State.{is_client_of, client_token}
+use Rattle.node_state.specs.declared.call.CallLine.{CallLine}
+use Rattle.node_state.specs.declared.call.CallLine.TheVariants as call
+use Rattle.node_state.specs.declared.config.Config.{Config}
+use Rattle.node_state.specs.declared.happened.Happened.{Happened}
+use Rattle.node_state.specs.declared.happened.Happened.TheVariants as happened
+use Rattle.group_entry.specs.declared.proposal.Proposal.{Proposal}
+use Rattle.node_state.specs.declared.packet.Body.{Body}
+use Rattle.node_state.specs.declared.packet.Body.TheVariants as body
+use Rattle.node_state.specs.declared.packet.Packet.{Packet}
+use Rattle.node_state.specs.declared.state.Core.{Core}
+use Rattle.node_state.specs.HandOn.{Answering}
+use Rattle.node_state.specs.Calls.{call_row}
+use Rattle.node_state.specs.Step.{NodeEvent, Ticks, Asks, Given, Calls, Garbage, at_work, stepped}
+use Rattle.world_model.specs.declared.event.Event.{Event}
+use Rattle.run_safety.specs.Past.{records_of, inc_now}
+use Rattle.run_safety.specs.Stays.{is_refused, asks_join, client_of, joining_client, goodbye_of, is_named}
+use Rattle.step_ties.specs.Tied.{Scene, NodeIs, NodeIsIf, Rests}
+use Rattle.step_ties.specs.Rows.{over, ended, nothing_yet, starts_too, Arises}
+use Rattle.step_ties.specs.Runs.{IsNote, noted, Reached}
+use Rattle.step_ties.specs.Runs as runs
+use Rattle.step_ties.proofs.Changed.{each_set, set_here}
+use Rattle.step_ties.proofs.Begins.{begin_tied}
+use Rattle.step_ties.proofs.RunLaw.{reached_rests}
+use Rattle.step_ties.proofs.Turns.{has_turned}
+use Rattle.row_laws.proofs.honest_votes.At.{found, leads_row}
+use Rattle.row_laws.proofs.honest_votes.Ending.{Every, NoGroup}
+use Rattle.row_laws.proofs.hearing.Incarnations.{incs_of}
+use Rattle.row_laws.proofs.hearing.Listening.{reverse_has}
+use Rattle.row_laws.specs.failed_rows.Failures.{GoneCause, SaidGoodbye}
+use Rattle.row_laws.specs.failed_rows.Scenes.{Names, Played, Nothing, AllStart, Starts, Stops, Steps, Notes, FailuresAreHonest}
+use Rattle.row_laws.proofs.failed_rows.Fitting.{noted_fit}
+use Rattle.row_laws.proofs.failed_rows.Facts.{Of, stepped_of, BasesFit, BodyFails, Lives}
+use Rattle.row_laws.proofs.failed_rows.Origin.{origin_of, root_of}
+use Rattle.row_laws.proofs.failed_rows.Owners.{Owned, owned_slim, goodbye_named}
+use Rattle.row_laws.proofs.failed_rows.Joining.{call_now}
+use Rattle.row_laws.proofs.failed_rows.At.{At}
+use Rattle.row_laws.proofs.failed_rows.Calling.{Taken, Ended}
+use Rattle.row_laws.proofs.failed_rows.Steps.{BodyGone, Calling, at_stepped}
+use Rattle.row_laws.proofs.failed_rows.Between.{tally_on, queue_on, goodbye_on, gone_on, body_gone_on, CoreFails, CoreIf, Honest, core_if_on, who_is}
+use Rattle.row_laws.proofs.failed_rows.Starting.{start_honest, stop_honest, note_honest, fold_fresh, fresh_honest}
+
+pub reached : (c : Config) (w : Scene) → Played c w → Reached c w
+reached c _ Nothing = runs.Nothing
+reached c _ (AllStart fixed) = runs.AllStart fixed
+reached c _ (Starts w n e k free real down) = runs.Starts w n e (reached c w k) free real down
+reached c _ (Stops w n e s k up) = runs.Stops w n e s (reached c w k) up
+reached c _ (Steps w n f s e v k up arises says) = runs.Steps w n f s e v (reached c w k) up arises
+reached c _ (Notes w e rs k notes) = runs.Notes w e rs (reached c w k) notes
+
+-- ---- a step
+
+none_refused : (rs : List Happened) → ((r : Happened) → Has r rs → is_refused r ≡ false) → list_any is_refused rs ≡ false
+none_refused [] all = refl
+none_refused (r ∷ rs) all = ap (λ b. b || list_any is_refused rs) (all r (inl refl)) ∙ none_refused rs (λ q i. all q (inr i))
+
+module _ (w : Scene) (n : ℕ) (f : Answering) (s : Core) (e : NodeEvent) (v : Event) (up : w.cores n ≡ Some s) (rests : (g : List ℕ) → Rests g w) (after : (g : List ℕ) → Rests g (ended w n v (stepped f s e))) (arises : Arises w e) (says : Names n e v) (counts : inc_now n (records_of w.before) ≡ w.incs n) (k : Honest w) where
+  abbrev t : Core
+  t = stepped f s e
+
+  -- a goodbye of this event is taken
+  abbrev Leaves : Type 0
+  Leaves = (client : List ℕ) × (e ≡ Calls (call.Goodbye client)) × Taken s.sessions (call.Goodbye client)
+
+  abbrev Said : ProviderId → Type 0
+  Said p = ((l : Leaves) × (p.node ≡ n) × (is_named l.0 (client_of p w.before) ≡ true)) ⊎ SaidGoodbye w.before p
+
+  were : CoreFails w.before s
+  were = subst (CoreIf w.before) up (k.nodes n)
+
+  is_node : NodeIsIf w.config (rests []).ghost [] n (w.incs n) (Some s)
+  is_node = subst (NodeIsIf w.config (rests []).ghost [] n (w.incs n)) up ((rests []).nodes n)
+
+  counted : inc_now s.views.me (records_of w.before) ≡ s.views.inc
+  counted = ap (λ m. inc_now m (records_of w.before)) ((is_node.0).stands.me) ∙ counts ∙ sym is_node.2
+
+  begin : CoreFails w.before s → At w.before Said (origin_of s None) (Unit {0}) (Unit {0}) Leaves Every NoGroup Every (at_work s)
+  begin c =
+      record {
+        inc = refl;
+        counted = counted;
+        own = λ p node inc asked. begun p (c.own p node inc asked);
+        slim = tt;
+        sends = λ p i. absurd i;
+        puts = λ l fit. tt;
+        accepted = λ m r i. absurd i;
+        whose = λ r i. absurd i;
+        order = c.order;
+        tracks = λ l g. c.tracks g;
+        marks = λ l g p i. c.marks g p i;
+        tallies = λ g u. c.tallies g;
+        queues = λ fit g u. c.queues g;
+        apart = λ l fit g. c.apart g;
+        led = λ g z. absurd z;
+        whys = c.whys;
+        takers = c.takers;
+      }
+    where
+      begun : (p : ProviderId) → Lives (SaidGoodbye w.before) s.sessions (records_of w.before) p → Lives Said s.sessions (records_of w.before) p
+      begun p (inl k) = inl k
+      begun p (inr (inl k)) = inr (inl (inr k))
+      begun p (inr (inr k)) = inr (inr k)
+
+  at_begin : At w.before Said (origin_of s None) (Unit {0}) (Unit {0}) Leaves Every NoGroup Every (at_work s)
+  at_begin = begin were
+
+  calls : Calling (at_work s) Said Leaves e
+  calls = record { mine = λ p i. subst (λ (z : ProviderId). z.node ≡ s.views.me) i.2 ((here.owes.providers i.0 i.1).0 ∙ sym here.stands.me); me = here.owes.me ∙ sym here.stands.me; taken = taken; says = goodbye; owner = ((rests []).turns n s up).owner }
+    where
+      here : NodeIs (rests []).ghost [] n s
+      here = (subst (NodeIsIf w.config (rests []).ghost [] n (w.incs n)) up ((rests []).nodes n)).0
+
+      taken : (c : CallLine) → e ≡ Calls c → Leaves → Taken s.sessions c
+      taken c q m = let z : Calls (call.Goodbye m.0) ≡ Calls c = sym m.1 ∙ q in
+          let y : call.Goodbye m.0 ≡ c = cc in subst (Taken s.sessions) y m.2
+
+      goodbye : (c : CallLine) → e ≡ Calls c → Taken s.sessions c → (x : Provider) → Has x (Ended s.sessions c) → Said x.p
+      goodbye (call.Goodbye client) q m x i =
+          let j = has_filter (is_client_of (client_token s.sessions client)) x s.sessions.providers i in
+          inl ((client, q, m), (here.owes.providers x j.0).0, goodbye_named (λ p. client_of p w.before) s.sessions client were.owners x j.0 j.1)
+      goodbye (call.Init node name votes) q m x i = absurd m
+      goodbye (call.Join client g instance attrs) q m x i = absurd m
+      goodbye (call.Leave client g phases) q m x i = absurd m
+      goodbye (call.Expel client g phases out) q m x i = absurd m
+      goodbye (call.ChangeState client g phases value) q m x i = absurd m
+      goodbye (call.SendMessage client g phases bytes) q m x i = absurd m
+      goodbye (call.ChangeAttributes client g phases attrs) q m x i = absurd m
+      goodbye (call.Vote client g b value) q m x i = absurd m
+      goodbye (call.Subscribe client g) q m x i = absurd m
+      goodbye (call.Unsubscribe client g) q m x i = absurd m
+
+  at : At w.before Said (origin_of s (Some (root_of (at_work s) e))) (Unit {0}) (Unit {0}) Leaves Every NoGroup Every t
+  at = at_stepped w n f s Said Leaves e k.sent (λ h. begin_tied h w n s up (rests h)) arises at_begin calls
+
+  -- whoever asks for a join in this event asks by the call
+  pub asked_by_call : (p : ProviderId) (g : List ℕ) (x : Proposal) → Has (happened.Asked p p.join g x) t.records → Has (happened.Asked p p.join g x) (root_of (at_work s) e).records
+  asked_by_call = at.slim.asked
+
+  -- at its own node
+  pub asked_here : (p : ProviderId) (g : List ℕ) (x : Proposal) → Has (happened.Asked p p.join g x) t.records → p.node ≡ t.views.me
+  asked_here p g x i = at.whose (happened.Asked p p.join g x) i
+
+  fit : BasesFit t.records
+  fit r i = noted_fit (ended w n v t) after r (has_turned r t.records (records_of w.before) (append_has_left r t.records (records_of w.before) i))
+
+  me : t.views.me ≡ n
+  me = who_is (ended w n v t) (after []) n t (set_here w.cores n (Some t))
+
+  -- a goodbye of this event, or of an earlier one
+  goodbye_said : (p : ProviderId) → Said p → SaidGoodbye (over v t ∷ w.before) p
+  goodbye_said p (inl c) =
+      record {
+        event = over v t;
+        newer = [];
+        older = w.before;
+        moment = refl;
+        said = ap (λ z. goodbye_of p.node (client_of p w.before) (Some z)) (says (call.Goodbye (c.0).0) (c.0).1) ∙ (λ i. eq-eqb n p.node (sym c.1) i && c.2 i);
+        taken = none_refused (reverse t.records) (λ r i. at.accepted c.0 r (reverse_has r t.records i));
+      }
+  goodbye_said p (inr k) = goodbye_on (over v t) w.before p k
+
+  own_after : (p : ProviderId) → Lives Said t.sessions (reverse t.records ++ records_of w.before) p → Lives (SaidGoodbye (over v t ∷ w.before)) t.sessions (reverse t.records ++ records_of w.before) p
+  own_after p (inl k) = inl k
+  own_after p (inr (inl k)) = inr (inl (goodbye_said p k))
+  own_after p (inr (inr k)) = inr (inr k)
+
+  -- GONE that is sent has its cause
+  sent_gone : (b : Body) → BodyFails Said (reverse t.records ++ records_of w.before) b → BodyGone (over v t ∷ w.before) b
+  sent_gone (body.Ring x) c = tt
+  sent_gone (body.Report rows) c = tt
+  sent_gone (body.View y) c = tt
+  sent_gone (body.Lookup u g) c = tt
+  sent_gone (body.Name u g m) c = tt
+  sent_gone (body.Request u g q r phases x) c = tt
+  sent_gone (body.Tell u g q r y) c = c
+  sent_gone (body.Entry u g place stable x) c = tt
+  sent_gone (body.Ack u g m) c = tt
+  sent_gone (body.Vote u g proto phase p vote value message) c = tt
+  sent_gone (body.Gone u g p) (inl c) = inl (goodbye_said p c)
+  sent_gone (body.Gone u g p) (inr c) = inr c
+  sent_gone (body.Query question what) c = tt
+  sent_gone (body.Reply question text) c = tt
+
+  -- after a call each provider is of the client whose call joined it
+  abbrev root : Core
+  root = root_of (at_work s) e
+
+  rooted : (e : NodeEvent) → Names n e v → Owned (λ p. if list_any (asks_join p) (reverse (root_of (at_work s) e).records) then joining_client (Some v) else client_of p w.before) (root_of (at_work s) e).sessions
+  rooted Ticks says = were.owners
+  rooted (Asks mask) says = were.owners
+  rooted (Given p) says = were.owners
+  rooted Garbage says = were.owners
+  rooted (Calls c) says =
+      subst (λ (z : Event). Owned (λ p. if list_any (asks_join p) (reverse (call_row (at_work s) c).records) then joining_client (Some z) else client_of p w.before) (call_row (at_work s) c).sessions) (sym (says c refl)) (call_now (λ p. client_of p w.before) c (at_work s) refl ((rests []).turns n s up).numbered were.owners)
+
+  step_honest : Honest (ended w n v t)
+  step_honest =
+      record {
+        sent = λ p i. by p (has_append p t.sends w.sent i);
+        nodes = each_set (λ m o. CoreIf (over v t ∷ w.before) o) w.cores n (Some t) own (λ m ne. core_if_on n m (over v t) w.before (w.cores m) (who_is w (rests []) m) ne (λ r i. subst (λ z. Of z r) me (stepped_of t.views.me r (at.whose r (reverse_has r t.records i)))) (k.nodes m));
+        puts = (at.puts tt fit, k.puts);
+      }
+    where
+      by : (p : Packet) → Has p t.sends ⊎ Has p w.sent → BodyGone (over v t ∷ w.before) p.body
+      by p (inl i) = sent_gone p.body (at.sends p i)
+      by p (inr i) = body_gone_on (over v t) w.before p.body (k.sent p i)
+
+      here : NodeIs (after []).ghost [] n t
+      here = (subst (NodeIsIf w.config (after []).ghost [] n (w.incs n)) (set_here w.cores n (Some t)) ((after []).nodes n)).0
+
+      own : CoreFails (over v t ∷ w.before) t
+      own =
+          record {
+            order = at.order;
+            tracks = λ g. at.tracks tt g;
+            marks = λ g p i. gone_on (over v t) w.before t.views.view g p (at.marks tt g p i);
+            tallies = λ g. tally_on (GoneCause w.before t.views.view g) (GoneCause (over v t ∷ w.before) t.views.view g) (gone_on (over v t) w.before t.views.view g) (leads_row t (found t g)) (found t g).led.tally (state_in (found t g).list) (at.tallies g tt);
+            queues = λ g. queue_on (GoneCause w.before t.views.view g) (GoneCause (over v t ∷ w.before) t.views.view g) (gone_on (over v t) w.before t.views.view g) (leads_row t (found t g)) (found t g).led.waiting.failures (state_in (found t g).list) (at.queues fit g tt);
+            apart = λ g. at.apart tt fit g;
+            own = λ p node inc asked. own_after p (at.own p node (inc ∙ at.inc) asked);
+            mine = λ x i. (here.owes.providers x i).0 ∙ sym me;
+            whys = at.whys;
+            takers = at.takers;
+            owners = owned_slim (λ p. if list_any (asks_join p) (reverse root.records) then joining_client (Some v) else client_of p w.before) (λ p. client_of p (over v t ∷ w.before)) root.sessions t.sessions (λ x i. ap (λ b. if b then joining_client (Some v) else client_of x.p w.before) (at.slim.asks x.p)) at.slim.sessions (rooted e says);
+          }
+
+-- ---- every scene
+
+pub played_honest : (c : Config) (w : Scene) → Played c w → Honest w
+played_honest c _ Nothing = record { sent = λ p i. absurd i; nodes = λ m. tt; puts = tt }
+played_honest c _ (AllStart fixed) =
+    fresh_honest (fold (λ (w : Scene) n. starts_too w n (w.cores n)) (record (nothing_yet c) { before = record { event = None; records = [] } ∷ [] }) (nodes_of c.nodes)) (fold_fresh (nodes_of c.nodes) (record (nothing_yet c) { before = record { event = None; records = [] } ∷ [] }) (record { sent = refl; nodes = λ m. tt; puts = (tt, tt); unasked = λ p. refl }))
+played_honest c _ (Starts w n e k free real down) = start_honest w n e (λ g. reached_rests c w (reached c w k) g) down (played_honest c w k)
+played_honest c _ (Stops w n e s k up) = stop_honest w n e (reached_rests c w (reached c w k) []) (played_honest c w k)
+played_honest c _ (Steps w n f s e v k up arises says) =
+    step_honest w n f s e v up (λ g. reached_rests c w (reached c w k) g) (λ g. reached_rests c (ended w n v (stepped f s e)) (reached c (ended w n v (stepped f s e)) (Steps w n f s e v k up arises says)) g) arises says (incs_of c w (reached c w k) n) (played_honest c w k)
+played_honest c _ (Notes w e rs k notes) = note_honest w e rs (reached_rests c w (reached c w k) []) notes (played_honest c w k)
+
+pub failures_are_honest : FailuresAreHonest
+failures_are_honest c w k = (played_honest c w k).puts

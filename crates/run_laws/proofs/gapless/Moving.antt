@@ -1,0 +1,251 @@
+-- A step as it goes: what comes before a view is entered, the view, and what comes after it; no refusal is that a group was dissolved,
+-- and a call enters no view.
+use Rattle.std.proofs.Common.{◌≡◌, ℕ, List, Option, Some, None, Bool, true, false, refl, sym, ap, ◌∙◌, subst}
+use Rattle.std.specs.Prelude.{not, ◌==◌, ◌&&◌, map, fold}
+use Rattle.rsct_packet.specs.declared.mask.Mask.{Mask}
+use Rattle.rsct_packet.specs.Search.{Has}
+use Rattle.rsct_packet.proofs.HasLaws.{has_map}
+use Rattle.group_entry.specs.declared.entry.Entry.{Entry}
+use Rattle.view_state.specs.declared.answer.Answer.{Answer}
+use Rattle.view_state.specs.declared.install.Install.{Install}
+use Rattle.view_state.specs.declared.install.Base.{Base}
+use Rattle.view_state.specs.Bases.{bases_of}
+use Rattle.view_state.specs.declared.packet.ViewPacket.{ViewPacket}
+use Rattle.view_state.specs.declared.packet.ViewPacket.TheVariants as packet
+use Rattle.view_state.specs.declared.packet.ViewSend.{ViewSend}
+use Rattle.view_core.specs.declared.step.ViewEvent.TheVariants as event
+use Rattle.view_state.specs.declared.views.ViewWork.{ViewWork}
+use Rattle.view_state.specs.Views.{is_coordinator, is_frozen, install_again_of, view_sent_all, views_at_work, ask_row, prepare_row, answer_row, refuse_row, install_row, taken_row, gathering_ticks, install_again}
+use Rattle.view_core.specs.Steps.{view_stepped}
+use Rattle.view_core.specs.Steps as steps
+use Rattle.view_core.specs.Laws.{AreViews, IsNext, AppliesNext, Goes}
+use Rattle.view_core.proofs.Promises.{promises_stand}
+use Rattle.node_state.specs.declared.group.Decision.{Decision}
+use Rattle.node_state.specs.declared.group.GroupRow.{GroupRow}
+use Rattle.node_state.specs.declared.packet.Body.{Body}
+use Rattle.node_state.specs.declared.packet.Body.TheVariants as body
+use Rattle.node_state.specs.declared.packet.Packet.{Packet}
+use Rattle.node_state.specs.declared.state.Core.{Core}
+use Rattle.node_state.specs.Settings.{is_fixed}
+use Rattle.node_state.specs.State.{InNameOrder, row_of, list_of, state_of, len_of, held_rows, recorded_all}
+use Rattle.node_state.specs.Sending.{sent}
+use Rattle.node_state.specs.HandOn.{Answering}
+use Rattle.node_state.specs.Leading.{put_and_handed}
+use Rattle.node_state.specs.Applying.{Lacking, lacking, own_parts, lists_filled, base_row, view_entered, entered, entered_if, install_applied, views_taken}
+use Rattle.node_state.specs.Ticks.{ring_ask, rings_part, views_part, owed_part, led_part, tick_row}
+use Rattle.node_state.specs.Step.{NodeEvent, Ticks, Asks, Given, Calls, Garbage, order_row, view_row, body_row, packet_row, event_row, stepped, at_work}
+use Rattle.node_state.specs.Ending.{step_ended}
+use Rattle.run_safety.specs.ViewOrder.{is_before, Lt}
+use Rattle.row_laws.specs.hearing.Changes.{Same, Does, Stays, Then, entering}
+use Rattle.row_laws.proofs.hearing.Changes.{Sends, sends_fold, sends_one, Onward, same_sends, put_handed_onward}
+use Rattle.row_laws.proofs.hearing.Rows.{onward_fold, rings_onward}
+use Rattle.row_laws.proofs.hearing.Viewing.{Fit, sides_stand}
+use Rattle.row_laws.proofs.hearing.Whose.{whose_asks, whose_prepares, whose_answers, whose_refuses, whose_installs, whose_takes, whose_ticks}
+use Rattle.run_laws.proofs.gapless.FairWalk.{Fairly, FairBody, on_ended}
+use Rattle.run_laws.proofs.gapless.FairRows.{on_owed_part, on_led_part, on_call}
+use Rattle.run_laws.proofs.gapless.FairWalking.{on_filled, on_views_sent, on_rest, on_rings, on_body}
+use Rattle.run_laws.proofs.gapless.Fair.{Speaks, Fair, fair_self, fair_then, fair_keeps}
+use Rattle.run_laws.proofs.gapless.Tellings.{sides_send}
+
+-- what holds of a node in the middle of a step, and goes on to hold up to where it enters a view
+pub record Carries (Q : Core → Type 0) (f : Answering) : Type 0 where
+  pub alike : (s t : Core) → Same s t → t.groups ≡ s.groups → Q s → Q t
+  pub rings : (s : Core) → Q s → Q (rings_part s)
+  pub fills : (s : Core) (xs : List Lacking) → Q s → Q (lists_filled f s xs)
+
+-- what comes of it all: no view is entered; or the node is at t then, enters a view, and goes on
+pub data Moves (Q : Core → Type 0) (X : Type 0) (c d : Core) : Type 0 where
+  Remains : Fair c d → Moves Q X c d
+  Enters : X → (t : Core) (i : Install) → Does c t → Fair c t → Q t → t.views.view ≡ c.views.view → Lt t.views.view i.view → Fair (entering t i) d → Moves Q X c d
+
+module _ (Q : Core → Type 0) (X : Type 0) where
+  moves_after : (a b c : Core) → ((r : Core) → Fair r b → Fair r c) → Moves Q X a b → Moves Q X a c
+  moves_after a b c next (Remains k) = Remains (next a k)
+  moves_after a b c next (Enters x t i d k q v lt z) = Enters x t i d k q v lt (next (entering t i) z)
+
+  moves_before : (a b c : Core) → Does a b → b.views.view ≡ a.views.view → Fair a b → Moves Q X b c → Moves Q X a c
+  moves_before a b c d e p (Remains k) = Remains (fair_then a b c p k)
+  moves_before a b c d e p (Enters x t i y k q v lt z) = Enters x t i (Then a b t d y) (fair_then a b t p k) q (v ∙ e) lt z
+
+-- who entered a view decided nothing there
+entering_speaks : (t : Core) (i : Install) → Speaks t → Speaks (entering t i)
+unfolding view_entered recorded_all base_row
+entering_speaks t i k =
+    record { spoken = λ x h. k.spoken x (subst (Has x) (sides_send (view_entered t i bs) t.views.view bs (held_rows t)) h); decided = λ row h d j. bare row (subst (Has row) (sides_stand (view_entered t i bs) (held_rows t) t.views.view bs).groups h) d j }
+  where
+    bs : List Base
+    bs = bases_of i
+
+    bare : (row : GroupRow) → Has row (map base_row bs) → (d : Decision) → Has d row.led.decided → Fairly d.why
+    bare row h d j = let q = has_map base_row row bs h in absurd (subst (λ (z : GroupRow). Has d z.led.decided) q.2 j)
+
+filled_onward : (f : Answering) (xs : List Lacking) (c : Core) → Onward c (lists_filled f c xs)
+unfolding lists_filled
+filled_onward f xs c =
+    onward_fold (λ t (x : Lacking). fold (λ u e. put_and_handed f u None x.name e) t x.entries) (λ t x. onward_fold (λ u (e : Entry). put_and_handed f u None x.name e) (λ u e. put_handed_onward f u None x.name e) x.entries t) xs c
+
+-- ---- rows of views
+
+module _ (Q : Core → Type 0) (X : Type 0) (x : X) (f : Answering) (carries : Carries Q f) (c : Core) (order : InNameOrder c.groups) (views : AreViews c.views) (speaks : Speaks c) (holds : Q c) where
+  self : Fair c c
+  self = fair_self c speaks
+
+  taken_moves : (w : ViewWork) → Goes c.views w → w.views.me ≡ c.views.me → w.views.inc ≡ c.views.inc → Moves Q X c (views_taken f c w)
+  unfolding views_taken install_applied entered_if entered is_before len_of state_of list_of row_of
+  taken_moves w goes me inc = by w.install goes.applies
+    where
+      d : Core
+      d = record c { views = w.views }
+
+      u : Core
+      u = fold (λ t (y : ViewSend). sent t y.to (body.View y.packet)) d w.sends
+
+      sends : Sends d u
+      sends = sends_fold (λ t (y : ViewSend). sent t y.to (body.View y.packet)) (λ t y. sends_one t _ _) w.sends d
+
+      same : Same c d
+      same = record { me = me; inc = inc; view = goes.view; sessions = refl; records = refl; lens = λ j. refl; states = λ j. refl }
+
+      fair : Fair c u
+      fair = on_views_sent (Fair c) (fair_keeps c) w self
+
+      -- what is lacking is put, and the view is entered
+      fills : (i : Install) (xs : List Lacking) → IsNext w.views i.view → Moves Q X c (entered f u i xs)
+      fills i xs next =
+          let t : Core = lists_filled f u xs in
+          let filled = filled_onward f xs u (subst InNameOrder (sym sends.groups) order) in
+          let there : t.views ≡ w.views = filled.views ∙ sends.views in
+          let before : Fair c t = on_filled (Fair c) (fair_keeps c) f xs fair in
+          let e : Core = entering t i in
+          Enters x t i (Then c d t (Stays c d same) (Then d u t (Stays d u (same_sends d u sends)) filled.does)) before (carries.fills u xs (carries.alike d u (same_sends d u sends) sends.groups (carries.alike c d same refl holds))) (ap (λ z. z.view) there ∙ goes.view) (subst (λ z. Lt z.view i.view) (sym there) next.above) (on_rest (Fair e) (fair_keeps e) f (bases_of i) (fair_self e (entering_speaks t i before.speaks)))
+
+      if_lacking : (i : Install) (o : Option (List Lacking)) → IsNext w.views i.view → Moves Q X c (entered_if f u i o)
+      if_lacking i None next = Remains fair
+      if_lacking i (Some xs) next = fills i xs next
+
+      by : (o : Option Install) → AppliesNext w.views o → Moves Q X c (install_applied f u o)
+      by None next = Remains fair
+      by (Some i) next = if_lacking i (lacking u i) next
+
+  ask_moves : (mask : Mask) → Moves Q X c (views_taken f c (ask_row (views_at_work c.views) mask (own_parts c)))
+  unfolding view_stepped steps.view_row
+  ask_moves mask =
+      let k = whose_asks (views_at_work c.views) mask (own_parts c) in
+      taken_moves (ask_row (views_at_work c.views) mask (own_parts c)) (promises_stand c.views (event.Ask mask) (own_parts c) views) k.0 k.1
+
+  order_moves : (mask : Mask) → Moves Q X c (order_row f c mask)
+  unfolding order_row
+  order_moves mask = by (is_fixed c.config.mode)
+    where
+      by : (b : Bool) → Moves Q X c (elim b as (λ _. Core) [ true ↦ c | false ↦ views_taken f c (ask_row (views_at_work c.views) mask (own_parts c)) ])
+      by true = Remains self
+      by false = ask_moves mask
+
+  view_moves : (from inc : ℕ) (y : ViewPacket) → Moves Q X c (view_row f c from inc y)
+  unfolding view_row view_stepped steps.view_row
+  view_moves from inc (packet.Prepare v mask) =
+      let k = whose_prepares (views_at_work c.views) from inc v mask (own_parts c) in
+      taken_moves (prepare_row (views_at_work c.views) from inc v mask (own_parts c)) (promises_stand c.views (event.Prepare from inc v mask) (own_parts c) views) k.0 k.1
+  view_moves from inc (packet.Answer v old parts) =
+      let a : Answer = record { node = from; inc = inc; view = old; parts = parts } in
+      let k = whose_answers (views_at_work c.views) v a in
+      taken_moves (answer_row (views_at_work c.views) v a) (promises_stand c.views (event.Answer from inc v (record { view = old; parts = parts })) (own_parts c) views) k.0 k.1
+  view_moves from inc (packet.Refuse v n) =
+      let k = whose_refuses (views_at_work c.views) v n in
+      taken_moves (refuse_row (views_at_work c.views) v n) (promises_stand c.views (event.Refuse v n) (own_parts c) views) k.0 k.1
+  view_moves from inc (packet.Install i) =
+      let k = whose_installs (views_at_work c.views) i in
+      taken_moves (install_row (views_at_work c.views) i) (promises_stand c.views (event.Install i) (own_parts c) views) k.0 k.1
+  view_moves from inc (packet.Taken v) =
+      let k = whose_takes (views_at_work c.views) from v in
+      taken_moves (taken_row (views_at_work c.views) from v) (promises_stand c.views (event.Taken from v) (own_parts c) views) k.0 k.1
+
+  tick_moves : Moves Q X c (views_taken f c (gathering_ticks (views_at_work c.views) (ring_ask c) (own_parts c)))
+  unfolding view_stepped steps.view_row
+  tick_moves =
+      let k = whose_ticks (views_at_work c.views) (ring_ask c) (own_parts c) in
+      taken_moves (gathering_ticks (views_at_work c.views) (ring_ask c) (own_parts c)) (promises_stand c.views (event.Tick (ring_ask c)) (own_parts c) views) k.0 k.1
+
+  -- ---- packets
+
+  body_moves : (p : Packet) (b : Body) → FairBody b → Moves Q X c (body_row f c p b)
+  unfolding body_row
+  body_moves p (body.View y) fair = view_moves p.from p.inc y
+  body_moves p (body.Ring y) fair = Remains (on_body (Fair c) (fair_keeps c) f p (body.Ring y) tt fair self)
+  body_moves p (body.Report rows) fair = Remains (on_body (Fair c) (fair_keeps c) f p (body.Report rows) tt fair self)
+  body_moves p (body.Lookup v g) fair = Remains (on_body (Fair c) (fair_keeps c) f p (body.Lookup v g) tt fair self)
+  body_moves p (body.Name v g n) fair = Remains (on_body (Fair c) (fair_keeps c) f p (body.Name v g n) tt fair self)
+  body_moves p (body.Request v g a r phases y) fair = Remains (on_body (Fair c) (fair_keeps c) f p (body.Request v g a r phases y) tt fair self)
+  body_moves p (body.Tell v g a r y) fair = Remains (on_body (Fair c) (fair_keeps c) f p (body.Tell v g a r y) tt fair self)
+  body_moves p (body.Entry v g place stable e) fair = Remains (on_body (Fair c) (fair_keeps c) f p (body.Entry v g place stable e) tt fair self)
+  body_moves p (body.Ack v g n) fair = Remains (on_body (Fair c) (fair_keeps c) f p (body.Ack v g n) tt fair self)
+  body_moves p (body.Vote v g proto phase a vote value message) fair = Remains (on_body (Fair c) (fair_keeps c) f p (body.Vote v g proto phase a vote value message) tt fair self)
+  body_moves p (body.Gone v g a) fair = Remains (on_body (Fair c) (fair_keeps c) f p (body.Gone v g a) tt fair self)
+  body_moves p (body.Query question what) fair = Remains (on_body (Fair c) (fair_keeps c) f p (body.Query question what) tt fair self)
+  body_moves p (body.Reply question text) fair = Remains (on_body (Fair c) (fair_keeps c) f p (body.Reply question text) tt fair self)
+
+  packet_moves : (p : Packet) → FairBody p.body → Moves Q X c (packet_row f c p)
+  unfolding packet_row
+  packet_moves p fair = by (p.to == c.views.me)
+    where
+      by : (b : Bool) → Moves Q X c (elim b as (λ _. Core) [ true ↦ body_row f c p p.body | false ↦ c ])
+      by true = body_moves p p.body fair
+      by false = Remains self
+
+-- INSTALL that is sent again applies nothing
+module _ (f : Answering) (c : Core) where
+  reminds_only : (install_again (views_at_work c.views)).install ≡ None
+  unfolding install_again install_again_of view_sent_all
+  reminds_only = by (is_coordinator c.views && not (is_frozen c.views))
+    where
+      w : ViewWork
+      w = views_at_work c.views
+
+      at : (o : Option Install) → (install_again_of w o).install ≡ None
+      at None = refl
+      at (Some i) = refl
+
+      by : (b : Bool) → (elim b as (λ _. ViewWork) [ true ↦ install_again_of w c.views.install | false ↦ w ]).install ≡ None
+      by true = at c.views.install
+      by false = refl
+
+  remind_fair : (r : Core) → Fair r c → Fair r (views_taken f c (install_again (views_at_work c.views)))
+  unfolding views_taken install_applied
+  remind_fair r k =
+      let w : ViewWork = install_again (views_at_work c.views) in
+      subst (λ o. Fair r (install_applied f (fold (λ t (y : ViewSend). sent t y.to (body.View y.packet)) (record c { views = w.views }) w.sends) o)) (sym reminds_only) (on_views_sent (Fair r) (fair_keeps r) w k)
+
+-- ---- a whole step
+
+abbrev pub NotCall : NodeEvent → Type 0
+NotCall (Calls c) = ⊥
+NotCall _ = Unit {0}
+
+abbrev pub FairEvent : NodeEvent → Type 0
+FairEvent (Given p) = FairBody p.body
+FairEvent _ = Unit {0}
+
+module _ (Q : Core → Type 0) (f : Answering) (carries : Carries Q f) where
+  ended_moves : (X : Type 0) (a b : Core) → Moves Q X a b → Moves Q X a (step_ended f b)
+  ended_moves X a b k = moves_after Q X a b (step_ended f b) (λ r z. on_ended (Fair r) (fair_keeps r) f z) k
+
+  pub step_moves : (s : Core) (e : NodeEvent) → Fit s → Speaks (at_work s) → FairEvent e → Q (at_work s) → Moves Q (NotCall e) (at_work s) (stepped f s e)
+  unfolding stepped event_row tick_row views_part
+  step_moves s Ticks fit speaks fair holds =
+      let a : Core = at_work s in
+      let b : Core = rings_part a in
+      let t : Core = views_taken f b (gathering_ticks (views_at_work b.views) (ring_ask b) (own_parts b)) in
+      let d : Core = views_taken f t (install_again (views_at_work t.views)) in
+      let k = rings_onward a fit.order in
+      let rings : Fair a b = on_rings (Fair a) (fair_keeps a) (fair_self a speaks) in
+      let ticks : Moves Q (Unit {0}) b t = tick_moves Q (Unit {0}) tt f carries b k.order (subst AreViews (sym k.views) fit.views) rings.speaks (carries.rings a holds) in
+      let reminded : Moves Q (Unit {0}) a d = moves_after Q (Unit {0}) a t d (remind_fair f t) (moves_before Q (Unit {0}) a b t k.does (ap (λ z. z.view) k.views) rings ticks) in
+      ended_moves (Unit {0}) a (led_part f (owed_part d)) (moves_after Q (Unit {0}) a d (led_part f (owed_part d)) (λ r z. on_led_part (Fair r) (fair_keeps r) f (on_owed_part (Fair r) (fair_keeps r) z)) reminded)
+  step_moves s (Asks mask) fit speaks fair holds =
+      ended_moves (Unit {0}) (at_work s) (order_row f (at_work s) mask) (order_moves Q (Unit {0}) tt f carries (at_work s) fit.order fit.views speaks holds mask)
+  step_moves s (Given p) fit speaks fair holds =
+      ended_moves (Unit {0}) (at_work s) (packet_row f (at_work s) p) (packet_moves Q (Unit {0}) tt f carries (at_work s) fit.order fit.views speaks holds p fair)
+  step_moves s (Calls x) fit speaks fair holds =
+      Remains (on_ended (Fair (at_work s)) (fair_keeps (at_work s)) f (on_call (Fair (at_work s)) (fair_keeps (at_work s)) x (fair_self (at_work s) speaks)))
+  step_moves s Garbage fit speaks fair holds =
+      Remains (on_ended (Fair (at_work s)) (fair_keeps (at_work s)) f (fair_self (at_work s) speaks))

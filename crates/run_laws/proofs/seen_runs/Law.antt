@@ -1,0 +1,144 @@
+-- The law: what every run records shows itself.
+use Rattle.std.proofs.Common.{◌≡◌, ℕ, subst, refl, Bool, true, false, List, [], ◌∷◌, ◌++◌, Option, Some, None}
+use Rattle.std.specs.Prelude.{if◌then◌else◌}
+use Rattle.rsct_packet.specs.declared.ids.ViewId.{ViewId}
+use Rattle.group_entry.specs.declared.entry.Entry.{Entry}
+use Rattle.node_state.specs.declared.config.Config.{Config}
+use Rattle.node_state.specs.declared.happened.Happened.{Happened}
+use Rattle.node_state.specs.declared.happened.Happened.TheVariants as happened
+use Rattle.run_safety.specs.Past.{History, records_of, earlier, Within, EachRecord, is_list}
+use Rattle.run_safety.specs.SafeHeard.{latest_put, put_after, HeardState}
+use Rattle.row_laws.specs.hearing.Hearing.{AtPut}
+use Rattle.row_laws.proofs.hearing.Listening.{providers_hear}
+use Rattle.row_laws.specs.honest_votes.Casts.{RecordCast}
+use Rattle.row_laws.specs.closing_rows.Rows.{RecordRows}
+use Rattle.row_laws.proofs.closing_rows.Law.{rows_are_voters}
+use Rattle.run_laws.specs.attending.Places.{NextHeard}
+use Rattle.run_laws.proofs.attending.Law.{places_once}
+use Rattle.run_laws.specs.single_casts.Single.{CastAfterNotice, NotCastBefore}
+use Rattle.run_laws.proofs.single_casts.Law.{cast_after_notice}
+use Rattle.run_laws.proofs.single_casts.Once.{cast_once}
+use Rattle.row_laws.proofs.honest_votes.Law.{recorded_votes}
+use Rattle.step_ties.specs.Tied.{Scene}
+use Rattle.step_ties.specs.Runs.{Reached}
+use Rattle.run_laws.specs.seen_runs.Seen.{SeenAt, Seen, VotesSeen, RowsSeen, HeardSeen}
+use Rattle.run_laws.specs.seen_runs.Law.{EveryTraceIsSeen}
+use Rattle.run_laws.proofs.seen_runs.Pairs.{Two, each_both}
+use Rattle.run_laws.proofs.seen_runs.Folds.{heard_folds}
+use Rattle.run_laws.proofs.seen_runs.Shown.{GroupShown, all_shown}
+use Rattle.run_laws.proofs.seen_runs.Nodes.{NodeShown}
+use Rattle.run_laws.proofs.seen_runs.Scenes.{all_show, nodes_shown}
+
+votes_seen : (now : List Happened) (before : History) (r : Happened) → RecordCast now before r → VotesSeen (now ++ records_of before) r
+votes_seen now before (happened.Put n v g i e) k = k
+votes_seen now before (happened.Up n j) k = tt
+votes_seen now before (happened.Down n) k = tt
+votes_seen now before (happened.Ring n net id ms x) k = tt
+votes_seen now before (happened.In n v ms) k = tt
+votes_seen now before (happened.Base n v g u len s) k = tt
+votes_seen now before (happened.Heard p v g i e ms value) k = tt
+votes_seen now before (happened.Cast p proto phase vote value message) k = tt
+votes_seen now before (happened.Asked p r g x) k = tt
+votes_seen now before (happened.Told p r why) k = tt
+votes_seen now before (happened.Noted n c v i t) k = tt
+votes_seen now before (happened.Refused n c f) k = tt
+votes_seen now before (happened.Shown n l) k = tt
+
+-- what was put last among some records was put last
+latest_more : (n : ℕ) (v : ViewId) (g : List ℕ) (x : ℕ × Entry) (now xs : List Happened) → latest_put n v g now ≡ Some x → latest_put n v g (now ++ xs) ≡ Some x
+latest_more n v g x [] xs e = absurd (cc)
+latest_more n v g x (r ∷ now) xs e = by r e (latest_more n v g x now xs)
+  where
+    by : (r : Happened) → put_after n v g r (latest_put n v g now) ≡ Some x → (latest_put n v g now ≡ Some x → latest_put n v g (now ++ xs) ≡ Some x) → put_after n v g r (latest_put n v g (now ++ xs)) ≡ Some x
+    by (happened.Put m u h i f) e old = at (is_list n v g m u h) e old
+      where
+        at : (b : Bool) → (if b then Some (i, f) else latest_put n v g now) ≡ Some x → (latest_put n v g now ≡ Some x → latest_put n v g (now ++ xs) ≡ Some x) → (if b then Some (i, f) else latest_put n v g (now ++ xs)) ≡ Some x
+        at true e old = e
+        at false e old = old e
+    by (happened.Up m j) e old = old e
+    by (happened.Down m) e old = old e
+    by (happened.Ring m net id ms y) e old = old e
+    by (happened.In m u ms) e old = old e
+    by (happened.Base m u h o len s) e old = old e
+    by (happened.Heard p u h i f ms value) e old = old e
+    by (happened.Cast p proto phase vote value message) e old = old e
+    by (happened.Asked p r h y) e old = old e
+    by (happened.Told p r why) e old = old e
+    by (happened.Noted m c u i y) e old = old e
+    by (happened.Refused m c f) e old = old e
+    by (happened.Shown m l) e old = old e
+
+-- what laws of runs say of a record and its event
+record Said (now : List Happened) (before : History) (r : Happened) : Type 0 where
+  votes : RecordCast now before r
+  rows : RecordRows now before r
+  put : AtPut now before r
+  next : NextHeard now before r
+
+said_rows : (now : List Happened) (before : History) (r : Happened) → Said now before r → RowsSeen (now ++ records_of before) r × HeardSeen (now ++ records_of before) r
+said_rows now before (happened.Put n v g i e) k = (k.rows, tt)
+said_rows now before (happened.Heard p v g i e ms value) k = (tt, (latest_more p.node v g (i, e) now (records_of before) k.put.0, k.next.0, k.next.1))
+said_rows now before (happened.Up n j) k = (tt, tt)
+said_rows now before (happened.Down n) k = (tt, tt)
+said_rows now before (happened.Ring n net id ms x) k = (tt, tt)
+said_rows now before (happened.In n v ms) k = (tt, tt)
+said_rows now before (happened.Base n v g u len s) k = (tt, tt)
+said_rows now before (happened.Cast p proto phase vote value message) k = (tt, tt)
+said_rows now before (happened.Asked p r g x) k = (tt, tt)
+said_rows now before (happened.Told p r why) k = (tt, tt)
+said_rows now before (happened.Noted n c v i t) k = (tt, tt)
+said_rows now before (happened.Refused n c f) k = (tt, tt)
+said_rows now before (happened.Shown n l) k = (tt, tt)
+
+-- all of it, of one record
+record All (now : List Happened) (before : History) (r : Happened) : Type 0 where
+  group : GroupShown (now ++ records_of before) r
+  node : NodeShown (now ++ records_of before) r
+  said : Said now before r
+  carries : HeardState (earlier now before) r
+  noticed : CastAfterNotice (now ++ records_of before) r
+  cast : NotCastBefore (now ++ records_of before) r
+
+seen_at : (now : List Happened) (before : History) (r : Happened) → All now before r → SeenAt (now ++ records_of before) r
+seen_at now before r k =
+    let s = said_rows now before r k.said in
+    record {
+      life = k.node.later;
+      rising = k.node.rising;
+      among = k.node.among;
+      members = k.group.members;
+      together = k.group.together;
+      base = k.group.base;
+      bases = k.group.bases_same;
+      in_view = k.node.in_view;
+      place = k.group.place;
+      entry = k.group.entry;
+      fitting = k.group.fitting;
+      tally = k.group.tally;
+      votes = votes_seen now before r k.said.votes;
+      once = k.group.once;
+      rows = s.0;
+      heard = s.1;
+      carries = k.carries;
+      noticed = k.noticed;
+      cast = k.cast;
+    }
+
+-- of the records of one event, and of those before
+seen_now : (now : List Happened) (before : History) → Within All now before → Seen (records_of before) → Seen (now ++ records_of before)
+seen_now [] before k old = old
+seen_now (r ∷ now) before k old = (seen_at now before r k.0, seen_now now before k.1 old)
+
+seen_all : (h : History) → EachRecord All h → Seen (records_of h)
+seen_all [] k = tt
+seen_all (e ∷ before) k = seen_now e.records before k.0 (seen_all before k.1)
+
+pub traces_seen : EveryTraceIsSeen
+traces_seen c w k =
+    let a : EachRecord (Two RecordCast RecordRows) w.before = each_both (λ now before r x y. (x, y)) w.before (recorded_votes c w k) (rows_are_voters c w k) in
+    let b : EachRecord (Two AtPut NextHeard) w.before = each_both (λ now before r x y. (x, y)) w.before (providers_hear c w k) (places_once c w k) in
+    let s : EachRecord Said w.before = each_both (λ now before r x y. record { votes = x.0; rows = x.1; put = y.0; next = y.1 }) w.before a b in
+    let d : EachRecord (Two (λ now before r. CastAfterNotice (now ++ records_of before) r) (λ now before r. NotCastBefore (now ++ records_of before) r)) w.before = each_both (λ now before r x y. (x, y)) w.before (cast_after_notice c w k) (cast_once c w k) in
+    let g : EachRecord (Two (λ now before r. GroupShown (now ++ records_of before) r) (λ now before r. NodeShown (now ++ records_of before) r)) w.before = each_both (λ now before r x y. (x, y)) w.before (all_shown w.before (all_show c w k)) (nodes_shown c w k) in
+    let x : EachRecord (Two (Two Said (λ now before r. HeardState (earlier now before) r)) (Two (λ now before r. CastAfterNotice (now ++ records_of before) r) (λ now before r. NotCastBefore (now ++ records_of before) r))) w.before = each_both (λ now before r x y. (x, y)) w.before (each_both (λ now before r x y. (x, y)) w.before s (heard_folds c w k)) d in
+    seen_all w.before (each_both (λ now before r p q. record { group = p.0; node = p.1; said = q.0.0; carries = q.0.1; noticed = q.1.0; cast = q.1.1 }) w.before g x)

@@ -1,0 +1,2 @@
+pub mod world_runs
+pub mod world_answers
