@@ -33,7 +33,7 @@ fn a_heartbeat_is_read(rt: HostRuntime) {
 }
 
 #[test]
-#[tactic(auto, using(crate::proofs::Samples::heartbeat_is_spelled))]
+#[tactic(auto, using(crate::proofs::Heartbeats::heartbeat_is_spelled))]
 fn a_heartbeat_is_written(rt: HostRuntime) {
     let packet = Packet {
         network: 1,
