@@ -1,3 +1,4 @@
+pub mod TextLaws
 pub mod HandLaws
 pub mod StageLaws
 pub mod EventLaws

@@ -10,7 +10,7 @@ use Rattle.transcript.specs.declared.kinds.Kinds.{Kinds}
 use Rattle.net_script.specs.declared.stage.Stage.{Stage}
 use Rattle.play_state.specs.declared.faults.PlayFault.{PlayFault}
 use Rattle.net_script.specs.Stage.{At, Went, Stopped, LeadsTo}
-use Rattle.play_state.proofs.TextLaws.{next_item, no_item}
+use Rattle.net_script.proofs.TextLaws.{next_item, no_item}
 use Rattle.net_script.proofs.StageLaws.{went_none, then_went, then_stopped, stopped_on}
 
 -- of what is to be played, the play is this far

@@ -37,7 +37,7 @@ use Rattle.play_state.specs.Faults.{fault_of_put}
 use Rattle.net_script.specs.Stage.{At, Went, Passed, Broke, Stopped, LeadsTo}
 use Rattle.net_script.specs.Ends.{records_in, records_within, StopsAs, EndsAs, ClientsStand, PlayedAs}
 use Rattle.net_script.proofs.SafePlays.{answered_play_is_safe, answered_front_is_safe}
-use Rattle.play_state.proofs.TextLaws.{kinds_append, none_front}
+use Rattle.net_script.proofs.TextLaws.{kinds_append, none_front}
 
 -- ---- the beginning
 

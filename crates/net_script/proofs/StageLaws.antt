@@ -23,7 +23,7 @@ use Rattle.play_state.specs.declared.faults.PlayFault.{PlayFault}
 use Rattle.play_state.specs.declared.faults.PlayFault.TheVariants as play_fault
 use Rattle.net_script.specs.Stage.{At, Moved, Went, Passed, Broke, Stopped, Outcome, LeadsTo}
 use Rattle.net_script.proofs.HandLaws.{hears_then}
-use Rattle.play_state.proofs.TextLaws.{kinds_append, none_front}
+use Rattle.net_script.proofs.TextLaws.{kinds_append, none_front}
 
 appends_more : (k : Kinds) (a b c : Option (List ℕ)) (xs ys : List Happened) → Appends a b (kinds_text k xs) → Appends b c (kinds_text k ys) → Appends a c (kinds_text k (xs ++ ys))
 appends_more k a b c xs ys p q = subst (Appends a c) (sym (kinds_append k xs ys)) (Appends-trans a b c _ _ p q)

@@ -24,7 +24,7 @@ use Rattle.play_state.specs.declared.faults.PlayFault.{PlayFault}
 use Rattle.play_state.specs.declared.faults.PlayFault.TheVariants as play_fault
 use Rattle.net_script.specs.Ends.{records_in, records_within, StopsAs, PlayedAs}
 use Rattle.net_script.proofs.PlayLaws.{answered_all}
-use Rattle.play_state.proofs.TextLaws.{all_front}
+use Rattle.net_script.proofs.TextLaws.{all_front}
 
 map_onto : {A B : Type 0} (f : A → B) (xs ys : List A) → map f (reverse_onto xs ys) ≡ reverse_onto (map f xs) (map f ys)
 map_onto f [] ys = refl

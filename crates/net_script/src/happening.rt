@@ -6,10 +6,11 @@ ghost use Rattle.world_laws.specs.world_answers.Plays.{AnsweredPlay, PlaysEvent}
 ghost use Rattle.net_script.specs.Stage.{At, LeadsTo};
 
 use crate::stage::Stage;
+use crate::writing::write_records;
 use client_callbacks::Made;
 use hags_io::Sink;
 use node_state::Records;
-use play_state::{PlayFault, write_records};
+use play_state::PlayFault;
 use rsct_packet::List;
 use std::alloc::Global;
 use transcript::Kinds;

@@ -7,6 +7,7 @@ mod lines;
 mod playing;
 mod rounds;
 mod stage;
+mod writing;
 
 pub use flowing::FLOW_LIMIT;
 pub use playing::{play, play_as};

@@ -12,10 +12,11 @@ ghost use Rattle.net_script.specs.Ends.{PlayedAs};
 
 use crate::lines::play_lines;
 use crate::stage::Stage;
+use crate::writing::write_records;
 use client_callbacks::{Made, ScriptClient};
 use hags_io::Sink;
 use node_state::Records;
-use play_state::{Cuts, PlayFault, write_records};
+use play_state::{Cuts, PlayFault};
 use rsct_packet::List;
 use std::alloc::Global;
 use transcript::Kinds;

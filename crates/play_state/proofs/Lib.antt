@@ -1,4 +1,3 @@
 pub mod StartLaws
 pub mod PacketLaws
 pub mod CutLaws
-pub mod TextLaws

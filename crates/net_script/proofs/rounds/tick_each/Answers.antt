@@ -1,6 +1,6 @@
 use Rattle.std.proofs.Common.{ℕ, get_or, arith}
 use Rattle.world_laws.specs.world_answers.Plays.{PlaysTick}
-use Rattle.play_state.proofs.TextLaws.{same_item}
+use Rattle.net_script.proofs.TextLaws.{same_item}
 use Rattle.net_script.proofs.StageLaws.{leads_stopped}
 use Rattle.net_script.proofs.ListLaws.{list_begins, list_next, list_stops, list_ends}
 use Rattle.net_script.proofs.RoundLaws.{ticks_playable}

@@ -1,7 +1,7 @@
 use Rattle.std.proofs.Common.{◌≤◌, drop}
 use Rattle.transcript.specs.Kinds.{kinds_text}
-use Rattle.play_state.proofs.TextLaws.{WrittenTo}
-use Rattle.play_state.proofs.writing.write_records.Given as goal
+use Rattle.net_script.proofs.TextLaws.{WrittenTo}
+use Rattle.net_script.proofs.writing.write_records.Given as goal
 
 abbrev pub invariant-loop-r : goal.invariant-loop-r
 invariant-loop-r g l =

@@ -5,9 +5,9 @@ ghost use Rattle.hags_io.specs.Edges.{GrowsByFront, Rose};
 ghost use Rattle.world_model.specs.Text.{line_of};
 ghost use Rattle.transcript.specs.Kinds.{kinds_text};
 
-use crate::faults::PutFault;
 use hags_io::{Put, Sink};
 use node_state::Happened;
+use play_state::PutFault;
 use std::alloc::Global;
 use transcript::{Kinds, line_of};
 
