@@ -31,7 +31,7 @@ use Rattle.entry_handing.specs.Doing.{Does}
 use Rattle.entry_handing.proofs.DoingLaws.{receive_nothing, does_plain, follows_itself}
 use Rattle.entry_handing.proofs.OwnerLaws.{telling_owners}
 use Rattle.entry_handing.proofs.ReceiveLaws.{receive_one}
-use Rattle.owed_sending.proofs.SendLaws.{groups_stay}
+use Rattle.ring_ticking.proofs.SendLaws.{groups_stay}
 
 -- ---- what is kept
 

@@ -14,8 +14,8 @@ use client_callbacks::Callbacks;
 use group_leading::close;
 use node_groups::{drop_join, fail_voter, leads, mark_gone, row_of, tally_of, wait_failure};
 use node_state::Core;
-use owed_sending::held_state;
 use proposal_core::{Cause, Proposal, Running};
+use ring_ticking::held_state;
 use rsct_packet::{Name, NoMemory, ProviderId, is_among};
 use std::alloc::Global;
 

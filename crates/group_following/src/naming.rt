@@ -20,7 +20,7 @@ use name_server::{NameFault, Names};
 use node_groups::{leader_of, set_leader};
 use node_sending::{coordinates, is_fixed, send};
 use node_state::{Body, Core};
-use owed_sending::send_requests_of;
+use ring_ticking::send_requests_of;
 use rsct_packet::{Name, NoMemory, ProviderId};
 use std::alloc::Global;
 

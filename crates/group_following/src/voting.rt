@@ -11,8 +11,8 @@ use client_callbacks::Callbacks;
 use group_leading::close;
 use node_groups::{cast_vote, leads};
 use node_state::Core;
-use owed_sending::is_running;
 use proposal_core::Vote;
+use ring_ticking::is_running;
 use rsct_packet::{Name, NoMemory, ProtoId, ProviderId, Text};
 use std::alloc::Global;
 

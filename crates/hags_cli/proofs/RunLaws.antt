@@ -12,8 +12,8 @@ use Rattle.world_model.specs.Kept.{kept_past, kept_records, most_kept}
 use Rattle.transcript.specs.declared.kinds.Kinds.{Kinds}
 use Rattle.transcript.specs.Kinds.{all_kinds, kinds_text}
 use Rattle.transcript.proofs.KindLaws.{all_lines}
-use Rattle.net_script.specs.Safe.{ScriptIsSafe, KeptRunIsSafe, MayPlay}
-use Rattle.net_script.proofs.SafeLaws.{scripts_may_play}
+use Rattle.net_script.specs.PlaySafe.{ScriptIsSafe, KeptRunIsSafe, MayPlay}
+use Rattle.net_script.proofs.PlaySafeLaws.{scripts_may_play}
 use Rattle.hags_cli.specs.declared.running.Ending.{Ending}
 use Rattle.hags_cli.specs.declared.running.Ending.TheVariants as ending
 use Rattle.hags_cli.specs.Run.{ReadsAs, PlaysAll, PlaysPast, PlaysFront, MayHavePlayed, IsOutside, SaysLine, SpellsScript, OnBadLine, status_of, ending_text}

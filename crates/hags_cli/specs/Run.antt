@@ -8,7 +8,7 @@ use Rattle.world_model.specs.declared.script.Script.{Script}
 use Rattle.world_model.specs.Reading.{IsScript, IsNone, script_of}
 use Rattle.world_model.specs.Play.{script_records, lines_text, written}
 use Rattle.world_model.specs.Kept.{kept_past, kept_records, most_kept}
-use Rattle.net_script.specs.Safe.{ScriptIsSafe, KeptRunIsSafe}
+use Rattle.net_script.specs.PlaySafe.{ScriptIsSafe, KeptRunIsSafe}
 use Rattle.hags_cli.specs.declared.running.Ending.{Ending}
 use Rattle.hags_cli.specs.declared.running.Ending.TheVariants as ending
 

@@ -1,12 +1,8 @@
 //! Runs of the whole program over sources and sinks in memory, with their statuses and faults.
 use hags_cli::hags;
 use hags_io::{MemSink, MemSource};
-use net_script::play;
-use play_state::PlayFault;
-use script_lines::read_script;
 use std::alloc::{AllocError, Global};
 use std::test::Fail;
-use transcript::Kinds;
 
 const ONE_JOIN: &[u8] =
     b"mode fixed\nnode 1\nbegin\nclient 1 a A\njoin a db 7\nflow\nshow 1 hagsgr\n";
@@ -128,22 +124,5 @@ fn other_words_are_told_the_usage(rt: HostRuntime) -> Result<(), Fail> {
     let (status, err) = said(rt.alloc(), &[], ONE_JOIN)?;
     assert_eq!(rt; status, 1);
     assert!(rt; err.held().starts_with(b"hags: usage: hags run ".as_slice()));
-    Ok(())
-}
-
-/// The request of a join has 68 bytes.
-#[test]
-fn a_play_ends_where_too_much_is_kept(rt: HostRuntime) -> Result<(), Fail> {
-    let alloc = rt.alloc();
-    let lines = b"mode fixed\nnode 1\nbegin\nclient 1 a A\njoin a db 7\nflow\n".as_slice();
-    let script = read_script(alloc, lines)?;
-    let mut out = sink(alloc, &[])?;
-    let ended = play(alloc, &script, Kinds::all(), 67, &mut out);
-    assert!(rt; ended == Err(PlayFault::Kept(68)));
-    assert!(rt; out.held() == b"up 1 1\nin 1 1.1.1 1.1\n".as_slice());
-    let mut out = sink(alloc, &[])?;
-    let ended = play(alloc, &script, Kinds::all(), 68, &mut out);
-    assert!(rt; ended.is_ok());
-    assert_eq!(rt; count_lines(out.held()), 5);
     Ok(())
 }

@@ -19,9 +19,9 @@ use Rattle.play_state.specs.declared.fault.WorldFault.TheVariants as world_fault
 use Rattle.node_state.specs.HandOn.{Answering}
 use Rattle.world_laws.specs.world_answers.Answers.{Items, Answered, happens_by, goes_on}
 use Rattle.world_laws.specs.world_answers.Plays.{AnsweredPlay, with_answers, PlaysEvent}
-use Rattle.world_play.specs.declared.world.World as kept
-use Rattle.world_play.specs.Standing.{Holds, Goes, Passes, Comes}
-use Rattle.world_play.specs.Hands.{Hears}
+use Rattle.net_script.specs.declared.world.World as kept
+use Rattle.net_script.specs.Standing.{Holds, Goes, Passes, Comes}
+use Rattle.net_script.specs.Hands.{Hears}
 use Rattle.transcript.specs.declared.kinds.Kinds.{Kinds}
 use Rattle.transcript.specs.Kinds.{kinds_text}
 use Rattle.net_script.specs.declared.stage.Stage.{Stage}
@@ -29,7 +29,7 @@ use Rattle.play_state.specs.declared.faults.PutFault.{PutFault}
 use Rattle.play_state.specs.declared.faults.PutFault.TheVariants as put_fault
 use Rattle.play_state.specs.Faults.{fault_of_world, fault_of_put}
 use Rattle.net_script.specs.Stage.{At, RunHears, Moved, Broke, Stopped, LeadsTo}
-use Rattle.net_script.proofs.HandLaws.{hands_same}
+use Rattle.net_script.proofs.PlayHands.{hands_same}
 use Rattle.net_script.proofs.StageLaws.{broke_none}
 
 -- what is sent where nothing waits is sent where something does

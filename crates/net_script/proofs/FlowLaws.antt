@@ -13,8 +13,8 @@ use Rattle.world_laws.specs.world_answers.Plays.{AnsweredPlay, in_that_world, Pl
 use Rattle.world_laws.proofs.world_answers.Adding.{flow_adds}
 use Rattle.world_laws.proofs.world_answers.Going.{flow_goes, flow_none}
 use Rattle.world_laws.proofs.world_answers.Going as going
-use Rattle.world_play.specs.Standing.{is_me}
-use Rattle.world_play.proofs.NodeLaws.{stands_found}
+use Rattle.net_script.specs.Standing.{is_me}
+use Rattle.net_script.proofs.NodeLaws.{stands_found}
 use Rattle.transcript.specs.declared.kinds.Kinds.{Kinds}
 use Rattle.net_script.specs.declared.stage.Stage.{Stage}
 use Rattle.play_state.specs.declared.faults.PlayFault.{PlayFault}

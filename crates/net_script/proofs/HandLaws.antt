@@ -1,41 +1,147 @@
--- What the events of a run hand to clients, part by part.
-use Rattle.std.proofs.Common.{◌≡◌, List, [], ◌∷◌, ◌++◌, fold, sym, subst}
+-- What a step of a node hands to its clients.
+use Rattle.std.proofs.Common.{◌≡◌, ℕ, zero, suc, List, [], ◌∷◌, ◌++◌, Option, Some, None, Result, Ok, Err, IsTrue, refl, sym, ap, ◌∙◌, subst}
+use Rattle.std.specs.Prelude.{remove}
 use Rattle.client_callbacks.specs.Handed.{Handed}
+use Rattle.client_callbacks.specs.declared.votes.VoteItem.{VoteItem}
+use Rattle.client_session.specs.Clients.{StandFor}
+use Rattle.session_state.specs.declared.fault.GsFault.{GsFault}
+use Rattle.session_state.specs.declared.state.SessionState.{SessionState}
+use Rattle.session_state.specs.Calls.{removed_at}
+use Rattle.session_calls.specs.Calling.{clients_with}
+use Rattle.node_state.specs.declared.call.CallLine.TheVariants as call
 use Rattle.node_state.specs.declared.happened.Happened.{Happened}
+use Rattle.node_state.specs.declared.packet.Packet.{Packet}
+use Rattle.node_state.specs.declared.state.Core.{Core}
+use Rattle.node_state.specs.Bytes.{packet_of, event_in, event_of}
+use Rattle.node_state.specs.HandOn.{Answering}
+use Rattle.node_state.specs.Step.{NodeEvent, Calls, at_work}
+use Rattle.node_state.specs.State.{InNameOrder, state_of}
+use Rattle.node_state.specs.Handed.{handed_in, Along, Logged, logged_in}
+use Rattle.node_state.proofs.AlongLaws.{state_as, along_then, logged_same}
+use Rattle.entry_handing.specs.Received.{TellAll, WereHanded, AreFor, told_by, after_handings, Receive}
+use Rattle.entry_handing.specs.Doing.{Does}
+use Rattle.entry_handing.proofs.DoingLaws.{stated_after}
+use Rattle.node_step.specs.declared.events.NodeEvent.TheVariants as event
+use Rattle.node_step.specs.declared.events.NodeEvent as events
+use Rattle.node_step.specs.Event.{called, is_taken}
+use Rattle.node_step.specs.Event as taken
 use Rattle.node_step.specs.Node.{NodeView}
-use Rattle.world_model.specs.declared.event.Event.{Event}
-use Rattle.world_model.specs.declared.event.Event.TheVariants as event
-use Rattle.world_model.specs.World.{World, Sent, node_at, kth_between}
-use Rattle.world_laws.specs.world_runs.Runs.{SameRun}
-use Rattle.world_laws.specs.world_answers.Answers.{Answered, goes_on}
-use Rattle.world_play.specs.Hands.{Logs, EventHands, RunHands}
-use Rattle.net_script.specs.Stage.{RunHears}
+use Rattle.net_script.specs.declared.stepping.Left.{Left}
+use Rattle.net_script.specs.Standing.{Leaves}
+use Rattle.net_script.specs.Hands.{logs_called, StepHands, StepHears}
+use Rattle.net_script.proofs.CalledLaws.{called_unhanded, called_along, is_within}
 
--- ---- one event
+-- ---- events that neither begin nor end a session
 
--- what waits is not read
-hands_alike : (w : World) (q : List Sent) (e : Event) (rs : List Happened) (old new : Logs) → EventHands w e rs old new → EventHands (record w { queue = q }) e rs old new
-unfolding node_at kth_between
-hands_alike w q (event.Start n) rs old new h = h
-hands_alike w q (event.Stop n) rs old new h = h
-hands_alike w q (event.Tick n) rs old new h = h
-hands_alike w q (event.Ask n mask) rs old new h = h
-hands_alike w q (event.Call n c) rs old new h = h
-hands_alike w q (event.Show n what) rs old new h = h
-hands_alike w q (event.Deliver a b k) rs old new h = h
-hands_alike w q (event.Garbage n bytes) rs old new h = h
+within_packet : (p : Option Packet) → IsTrue (is_within (event_in p))
+within_packet None = refl
+within_packet (Some p) = refl
 
-pub hands_same : (w v : World) (e : Event) (rs : List Happened) (old new : Logs) → SameRun w v → EventHands w e rs old new → EventHands v e rs old new
-hands_same w v e rs old new same h = subst (λ z. EventHands z e rs old new) (sym same) (hands_alike w v.queue e rs old new h)
+-- those that a step takes
+pub taken_within : (e : events.NodeEvent) → IsTrue (is_taken e) → IsTrue (is_within (taken.event_in e))
+unfolding event_of
+taken_within event.Tick h = refl
+taken_within (event.Ask mask) h = refl
+taken_within (event.Datagram bytes) h = within_packet (packet_of bytes.now)
+taken_within (event.Call c) h = h
 
--- ---- one part and then the next
+-- the logs stay as they are
+pub within_logs : (s : Core) (ev : NodeEvent) (ls : List (List Logged)) → IsTrue (is_within ev) → logs_called s ev ls ≡ ls
+within_logs s (Calls (call.Init node name votes)) ls h = absurd cc
+within_logs s (Calls (call.Goodbye client)) ls h = absurd cc
+within_logs s (Calls _) ls h = refl
+within_logs s _ ls h = refl
 
-hands_then : (w : World) (es fs : List Answered) (old mid new : Logs) → RunHands w es old mid → RunHands (fold goes_on w es) fs mid new → RunHands w (es ++ fs) old new
-hands_then w [] fs old mid new e h = subst (λ ls. RunHands w fs ls new) e h
-hands_then w (a ∷ es) fs old mid new f h = (f.0, f.1, f.2, f.3, hands_then (goes_on w a) es fs f.1 mid new f.4 h)
+-- ---- what does not depend on what an earlier step left
 
-pub hears_then : {C : Type 0} (R : C → List Handed → Type 0) (ns ms os : List (NodeView C)) (w v : World) (es fs : List Answered) → v ≡ fold goes_on w es → RunHears R ns ms w es → RunHears R ms os v fs → RunHears R ns os w (es ++ fs)
-hears_then R ns ms os w v es fs comes f g old stand =
-    let x = f old stand in
-    let y = g x.0 x.2 in
-    (y.0, hands_then w es fs old x.0 y.0 x.1 (subst (λ z. RunHands z fs x.0 y.0) comes y.1), y.2)
+work_logs : (s : Core) (ev : NodeEvent) (ls : List (List Logged)) → logs_called (at_work s) ev ls ≡ logs_called s ev ls
+work_logs s (Calls (call.Init node name votes)) ls = refl
+work_logs s (Calls (call.Goodbye client)) ls = refl
+work_logs s (Calls _) ls = refl
+work_logs s _ ls = refl
+
+-- the groups have the same states
+same_states : (s t : Core) → at_work s ≡ at_work t → (g : List ℕ) → state_of s g ≡ state_of t g
+same_states s t e g = state_as t s g (ap (λ (z : Core). z.groups) e)
+
+-- the same step of the node that it stands for
+pub hands_as : (s t : Core) (ev : NodeEvent) (rs : List Happened) (old new : List (List Logged)) → at_work s ≡ at_work t → StepHands s ev rs old new → StepHands t ev rs old new
+hands_as s t ev rs old new e h = record {
+  handings = h.handings;
+  told = h.told;
+  stated = logged_same rs (state_of t) (state_of s) (same_states t s (sym e)) ∙ h.stated;
+  owned = subst (λ (z : Core). AreFor (called z ev).sessions h.handings) e h.owned;
+  logs = h.logs ∙ ap (after_handings h.handings) (sym (work_logs s ev old) ∙ (ap (λ (z : Core). logs_called z ev old) e ∙ work_logs t ev old));
+}
+
+-- ---- clients that come and go
+
+tell_added : (xss : List (List Handed)) (rss : List (List Logged)) → TellAll xss rss → TellAll (xss ++ [] ∷ []) (rss ++ [] ∷ [])
+tell_added [] [] h = (tt, tt)
+tell_added [] (rs ∷ rss) h = absurd h
+tell_added (xs ∷ xss) [] h = absurd h
+tell_added (xs ∷ xss) (rs ∷ rss) h = (h.0, tell_added xss rss h.1)
+
+tell_removed : (i : ℕ) (xss : List (List Handed)) (rss : List (List Logged)) → TellAll xss rss → TellAll (remove xss i) (remove rss i)
+tell_removed zero [] [] h = tt
+tell_removed (suc i) [] [] h = tt
+tell_removed i [] (rs ∷ rss) h = absurd h
+tell_removed i (xs ∷ xss) [] h = absurd h
+tell_removed zero (xs ∷ xss) (rs ∷ rss) h = h.1
+tell_removed (suc i) (xs ∷ xss) (rs ∷ rss) h = (h.0, tell_removed i xss rss h.1)
+
+module _ {C : Type 0} (R : C → List Handed → Type 0) where
+  stand_added : (cs : List C) (xss : List (List Handed)) (c : C) → R c [] → StandFor R cs xss → StandFor R (cs ++ c ∷ []) (xss ++ [] ∷ [])
+  stand_added [] [] c new h = (new, tt)
+  stand_added [] (xs ∷ xss) c new h = absurd h
+  stand_added (d ∷ cs) [] c new h = absurd h
+  stand_added (d ∷ cs) (xs ∷ xss) c new h = (h.0, stand_added cs xss c new h.1)
+
+  stand_removed : (i : ℕ) (cs : List C) (xss : List (List Handed)) → StandFor R cs xss → StandFor R (remove cs i) (remove xss i)
+  stand_removed zero [] [] h = tt
+  stand_removed (suc i) [] [] h = tt
+  stand_removed i [] (xs ∷ xss) h = absurd h
+  stand_removed i (c ∷ cs) [] h = absurd h
+  stand_removed zero (c ∷ cs) (xs ∷ xss) h = h.1
+  stand_removed (suc i) (c ∷ cs) (xs ∷ xss) h = (h.0, stand_removed i cs xss h.1)
+
+  -- a session that begins has handed nothing to its client yet
+  pub handed_with : (c : C) (cs : List C) (rss : List (List Logged)) (r : Result SessionState GsFault) → R c [] → WereHanded R cs rss → WereHanded R (clients_with c cs r) (clients_with [] rss r)
+  handed_with c cs rss (Ok t) new h = record { lists = h.lists ++ [] ∷ []; stand = stand_added cs h.lists c new h.stand; told = tell_added h.lists rss h.told }
+  handed_with c cs rss (Err f) new h = h
+
+  -- a session that ends takes its client and its log away
+  pub handed_without : (place : Option ℕ) (cs : List C) (rss : List (List Logged)) → WereHanded R cs rss → WereHanded R (removed_at place cs) (removed_at place rss)
+  handed_without None cs rss h = h
+  handed_without (Some i) cs rss h = record { lists = remove h.lists i; stand = stand_removed i cs h.lists h.stand; told = tell_removed i h.lists rss h.told }
+
+  -- ---- a step
+
+  -- a step whose rows begin with these clients
+  pub hears_from : (n m o : NodeView C) (l : Left) (cs : List C) (ev : NodeEvent) (ss : List (Option (List (Option VoteItem)))) (row : Answering → Core) (k : ℕ)
+      → InNameOrder n.core.groups → ((rss : List (List Logged)) → WereHanded R n.clients rss → WereHanded R cs (logs_called n.core ev rss))
+      → Does ss (Receive R cs m.clients) (called (at_work n.core) ev) m.core row → Leaves m o l k → StepHears R n o l.records ev
+  unfolding along_then
+  hears_from n m o l cs ev ss row k order begun d left rss were =
+      let mid : List (List Logged) = logs_called n.core ev rss in
+      let w : Core = at_work n.core in
+      let a : Core = called w ev in
+      let before : Along w a = called_along n.core ev in
+      let all : Along w m.core = along_then w a m.core before d.along in (
+        after_handings d.handings mid,
+        record {
+          handings = d.handings;
+          told = ap handed_in left.records ∙ (d.told ∙ ap (λ (rs : List Happened). rs ++ told_by d.handings) (called_unhanded n.core ev));
+          stated = ap (λ rs. logged_in rs (state_of n.core)) (left.records ∙ all.more)
+              ∙ (logged_same all.records (state_of n.core) (state_of w) (λ g. state_as w n.core g refl)
+              ∙ stated_after w a m.core before d.along d.handings (called_unhanded n.core ev) d.stated order);
+          owned = d.owned;
+          logs = refl;
+        },
+        subst (λ (z : NodeView C). WereHanded R z.clients (after_handings d.handings mid)) (sym left.node) (d.received mid (begun rss were)),
+      )
+
+  -- one that neither begins nor ends a session
+  pub hears_within : (n m o : NodeView C) (l : Left) (ev : NodeEvent) (ss : List (Option (List (Option VoteItem)))) (row : Answering → Core) (k : ℕ) → InNameOrder n.core.groups → IsTrue (is_within ev)
+      → Does ss (Receive R n.clients m.clients) (called (at_work n.core) ev) m.core row → Leaves m o l k → StepHears R n o l.records ev
+  hears_within n m o l ev ss row k order within d left = hears_from n m o l n.clients ev ss row k order (λ rss were. subst (WereHanded R n.clients) (sym (within_logs n.core ev rss within)) were) d left

@@ -22,10 +22,10 @@ use Rattle.world_laws.specs.world_answers.Limits.{answered_within, answered_in, 
 use Rattle.world_laws.proofs.world_answers.Adding.{lines_add}
 use Rattle.world_laws.proofs.world_answers.Going.{lines_go}
 use Rattle.world_laws.proofs.world_answers.Limits.{tells_none}
-use Rattle.world_play.specs.declared.world.World as kept
-use Rattle.world_play.specs.Standing.{Goes, kept_empty}
+use Rattle.net_script.specs.declared.world.World as kept
+use Rattle.net_script.specs.Standing.{Goes, kept_empty}
 use Rattle.play_state.specs.Posting.{bytes_after}
-use Rattle.world_play.specs.Hands.{LogsStand, RunHands, empty_logs}
+use Rattle.net_script.specs.Hands.{LogsStand, RunHands, empty_logs}
 use Rattle.transcript.specs.declared.kinds.Kinds.{Kinds}
 use Rattle.transcript.specs.Kinds.{kinds_text}
 use Rattle.net_script.specs.declared.stage.Stage.{Stage}

@@ -10,8 +10,8 @@ use Rattle.world_laws.specs.world_answers.Answers.{Items}
 use Rattle.world_laws.specs.world_answers.Plays.{AnsweredPlay, PlaysEach, PlaysFlow, PlaysTick, PlaysTicks, PlaysRounds}
 use Rattle.world_laws.proofs.world_answers.Adding.{event_adds, flow_adds, rounds_add}
 use Rattle.world_laws.proofs.world_answers.Going.{tick_goes, flow_goes, rounds_go, rounds_next, rounds_over}
-use Rattle.world_play.specs.Standing.{NodesStand, number_in}
-use Rattle.world_play.proofs.NodeLaws.{same_me}
+use Rattle.net_script.specs.Standing.{NodesStand, number_in}
+use Rattle.net_script.proofs.NodeLaws.{same_me}
 use Rattle.transcript.specs.declared.kinds.Kinds.{Kinds}
 use Rattle.net_script.specs.declared.stage.Stage.{Stage}
 use Rattle.play_state.specs.declared.faults.PlayFault.{PlayFault}

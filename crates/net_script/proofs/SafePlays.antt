@@ -17,8 +17,8 @@ use Rattle.world_laws.specs.world_answers.Answers.{Items, Answered, events_in, g
 use Rattle.world_laws.specs.world_answers.Plays.{AnsweredPlay, starting, PlaysEvent, PlaysEach, TakesPacket, TakesNext, PlaysFlow, PlaysTick, numbers_up, PlaysRounds, PlaysLine, PlaysLines}
 use Rattle.world_laws.specs.world_answers.Limits.{answered_within, answered_in, limited}
 use Rattle.world_laws.proofs.world_answers.Adding.{lines_add}
-use Rattle.world_play.specs.Safe.{MayHappen, AllMayHappen, IsSafe, LineMay, LinesMay, MayPlay}
-use Rattle.world_play.proofs.SafeLaws.{every_answer_is_safe}
+use Rattle.net_script.specs.Safe.{MayHappen, AllMayHappen, IsSafe, LineMay, LinesMay, MayPlay}
+use Rattle.net_script.proofs.SafeLaws.{every_answer_is_safe}
 use Rattle.net_script.specs.Ends.{records_in, FrontIsSafe}
 
 event_may : (c : Config) (e : Event) → LineMay c.mode (line.Plain e) → MayHappen c e

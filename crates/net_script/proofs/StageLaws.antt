@@ -15,14 +15,14 @@ use Rattle.world_laws.proofs.world_answers.Adding.{grew_then}
 use Rattle.world_laws.specs.world_answers.Answers.{Items, Answered, goes_on}
 use Rattle.world_laws.specs.world_answers.Plays.{AnsweredPlay}
 use Rattle.world_laws.specs.world_answers.Limits.{AnsweredRuns, AnsweredEnds, AnsweredTells, Grew}
-use Rattle.world_play.specs.Hands.{LogsStand}
+use Rattle.net_script.specs.Hands.{LogsStand}
 use Rattle.transcript.specs.declared.kinds.Kinds.{Kinds}
 use Rattle.transcript.specs.Kinds.{kinds_text}
 use Rattle.net_script.specs.declared.stage.Stage.{Stage}
 use Rattle.play_state.specs.declared.faults.PlayFault.{PlayFault}
 use Rattle.play_state.specs.declared.faults.PlayFault.TheVariants as play_fault
 use Rattle.net_script.specs.Stage.{At, Moved, Went, Passed, Broke, Stopped, Outcome, LeadsTo}
-use Rattle.net_script.proofs.HandLaws.{hears_then}
+use Rattle.net_script.proofs.PlayHands.{hears_then}
 use Rattle.net_script.proofs.TextLaws.{kinds_append, none_front}
 
 appends_more : (k : Kinds) (a b c : Option (List ℕ)) (xs ys : List Happened) → Appends a b (kinds_text k xs) → Appends b c (kinds_text k ys) → Appends a c (kinds_text k (xs ++ ys))

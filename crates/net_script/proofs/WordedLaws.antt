@@ -19,7 +19,7 @@ use Rattle.world_laws.proofs.world_answers.Limits.{within_worded}
 use Rattle.world_laws.proofs.world_answers.Worded.{lines_same, worded_plays_are_one}
 use Rattle.transcript.specs.declared.kinds.Kinds.{Kinds}
 use Rattle.transcript.specs.Kinds.{kinds_text}
-use Rattle.world_play.specs.declared.world.World as kept
+use Rattle.net_script.specs.declared.world.World as kept
 use Rattle.play_state.specs.declared.faults.PlayFault.{PlayFault}
 use Rattle.play_state.specs.declared.faults.PlayFault.TheVariants as play_fault
 use Rattle.net_script.specs.Ends.{records_in, records_within, StopsAs, PlayedAs}

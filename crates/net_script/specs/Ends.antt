@@ -11,10 +11,10 @@ use Rattle.world_model.specs.World.{world_new}
 use Rattle.world_laws.specs.world_answers.Answers.{Items, Answered}
 use Rattle.world_laws.specs.world_answers.Plays.{AnsweredPlay, starting, PlaysLines}
 use Rattle.world_laws.specs.world_answers.Limits.{answered_in, limited}
-use Rattle.world_play.specs.Safe.{IsSafe, MayPlay}
-use Rattle.world_play.specs.declared.world.World.{World}
-use Rattle.world_play.specs.Standing.{Stands}
-use Rattle.world_play.specs.Hands.{Logs, LogsStand, RunHands, empty_logs}
+use Rattle.net_script.specs.Safe.{IsSafe, MayPlay}
+use Rattle.net_script.specs.declared.world.World.{World}
+use Rattle.net_script.specs.Standing.{Stands}
+use Rattle.net_script.specs.Hands.{Logs, LogsStand, RunHands, empty_logs}
 use Rattle.transcript.specs.declared.kinds.Kinds.{Kinds}
 use Rattle.transcript.specs.Kinds.{kinds_text}
 use Rattle.play_state.specs.declared.faults.PlayFault.{PlayFault}

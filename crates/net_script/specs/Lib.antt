@@ -1,3 +1,6 @@
+pub mod Standing
+pub mod Safe
+pub mod Hands
 pub mod Stage
 pub mod Ends
-pub mod Safe
+pub mod PlaySafe

@@ -10,8 +10,8 @@ use Rattle.world_laws.specs.world_runs.Runs.{SameRun, Recorded}
 use Rattle.world_laws.specs.world_answers.Answers.{Items, Answered, goes_on}
 use Rattle.world_laws.specs.world_answers.Plays.{AnsweredPlay}
 use Rattle.world_laws.specs.world_answers.Limits.{AnsweredRuns, AnsweredEnds, AnsweredTells, Grew}
-use Rattle.world_play.specs.Standing.{Stands}
-use Rattle.world_play.specs.Hands.{Logs, LogsStand, RunHands}
+use Rattle.net_script.specs.Standing.{Stands}
+use Rattle.net_script.specs.Hands.{Logs, LogsStand, RunHands}
 use Rattle.transcript.specs.declared.kinds.Kinds.{Kinds}
 use Rattle.transcript.specs.Kinds.{kinds_text}
 use Rattle.net_script.specs.declared.stage.Stage.{Stage}

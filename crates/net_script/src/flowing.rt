@@ -7,10 +7,10 @@ ghost use Rattle.world_model.specs.World as world;
 ghost use Rattle.world_model.specs.Play.{is_cut_of, is_cut, flow_limit};
 ghost use Rattle.world_laws.specs.world_answers.Plays.{AnsweredPlay, TakesPacket, PlaysFlow};
 ghost use Rattle.world_packets.specs.Packets.{waits_as};
-ghost use Rattle.world_play.specs.Standing.{is_me};
+ghost use Rattle.net_script.specs.Standing.{is_me};
 ghost use Rattle.net_script.specs.Stage.{At, LeadsTo};
 
-use crate::happening::happen;
+use crate::events::happen;
 use crate::stage::Stage;
 use client_callbacks::Made;
 use hags_io::Sink;

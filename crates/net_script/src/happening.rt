@@ -1,35 +1,63 @@
-//! A plain event of a play.
-ghost use Rattle.std.specs.Prelude.{◌≡◌, ◌≤◌};
-ghost use Rattle.hags_io.specs.Edges.{Rose};
-ghost use Rattle.world_model.specs.World as world;
-ghost use Rattle.world_laws.specs.world_answers.Plays.{AnsweredPlay, PlaysEvent};
-ghost use Rattle.net_script.specs.Stage.{At, LeadsTo};
+//! What happens, in one call.
+ghost use Rattle.std.specs.Prelude.{◌≡◌, ℕ, OnOk, IsErrOf};
+ghost use Rattle.node_state.specs.Step.{Garbage};
+ghost use Rattle.world_model.specs.World.{node_at, node_steps, happens};
+ghost use Rattle.world_laws.specs.world_answers.Answers.{step_by_if, happens_by};
+ghost use Rattle.net_script.specs.Standing.{Goes, Passes, Comes};
+ghost use Rattle.net_script.specs.Hands.{NodeHands, HearsAs, Hears};
+ghost use Rattle.net_script.specs.Safe.{AnswersSafely, GoesSafely};
 
-use crate::stage::Stage;
-use crate::writing::write_records;
+use crate::world::World;
 use client_callbacks::Made;
-use hags_io::Sink;
 use node_state::Records;
-use play_state::PlayFault;
-use rsct_packet::List;
+use node_step::NodeEvent;
+use play_state::WorldFault;
 use std::alloc::Global;
-use transcript::Kinds;
 use world_model::Event;
 
-/// A plain event happens, and what it records is written.
-pub fn happen<C: Made, K: Sink>(
-    alloc: Global,
-    stage: &mut Stage<C>,
-    kinds: Kinds,
-    e: &Event,
-    out: &mut K,
-) -> Result<(), PlayFault>
-    ensures outcome { (p : AnsweredPlay) → (v : world.World) → At C.script C.script_of stage.old p v → LeadsTo C.script C.script_of C.stands_for result kinds (K.held out.old) (K.held out.new) stage.old stage.new p (PlaysEvent C.script_of p e.now) v }
-    ensures later { K.faults out.old ≤ K.faults out.new }
-    ensures fault { result ≡ Err PlayFault.WriteFault → Rose (K.faults out.old) (K.faults out.new) }
-{
-    let mut records: Records = List::new(alloc);
-    stage.world.event(alloc, e, &mut records)?;
-    write_records(alloc, kinds, records.as_slice(), out)?;
-    Ok(())
+impl<C: Made> World<C> {
+    /// A node is given bytes that are no packet.
+    fn give_garbage(&mut self, alloc: Global, n: u8, out: &mut Records) -> Result<(), WorldFault>
+        ensures goes { OnOk result (Comes C.script C.script_of self.old (Goes C.script C.script_of self.old self.new out.old out.new) (λ f w. step_by_if f w Garbage (node_at w n)) (λ w. node_steps w n Garbage)) }
+        ensures hears { OnOk result (HearsAs C.stands_for C.script C.script_of self.old self.new.nodes out.old out.new (λ w rs old new. NodeHands (node_at w n) n Garbage rs old new)) }
+        ensures passes { (k : ℕ) → IsErrOf result (WorldFault.TooMuchKept k) → Comes C.script C.script_of self.old (Passes k self.old) (λ f w. step_by_if f w Garbage (node_at w n)) (λ w. node_steps w n Garbage) }
+        ensures kept { (k : ℕ) → IsErrOf result (WorldFault.TooMuchKept k) → out.new ≡ out.old }
+    {
+        self.step(alloc, n, NodeEvent::Datagram(b""), out)
+    }
+
+    /// A plain event happens, each kind by its own call.
+    #[tactic(auto, unfolding(world_model::specs::World::happens, world_laws::specs::world_answers::Answers::happens_by))]
+    fn happen(&mut self, alloc: Global, e: &Event, out: &mut Records) -> Result<(), WorldFault>
+        ensures goes { OnOk result (Comes C.script C.script_of self.old (Goes C.script C.script_of self.old self.new out.old out.new) (λ f w. happens_by f w e.now) (λ w. happens w e.now)) }
+        ensures hears { OnOk result (Hears C.stands_for C.script C.script_of self.old self.new out.old out.new e.now) }
+        ensures passes { (k : ℕ) → IsErrOf result (WorldFault.TooMuchKept k) → Comes C.script C.script_of self.old (Passes k self.old) (λ f w. happens_by f w e.now) (λ w. happens w e.now) }
+        ensures kept { (k : ℕ) → IsErrOf result (WorldFault.TooMuchKept k) → out.new ≡ out.old }
+    {
+        match e {
+            Event::Start(n) => Ok(self.start(alloc, *n, out)?),
+            Event::Stop(n) => Ok(self.stop(*n, out)?),
+            Event::Tick(n) => self.step(alloc, *n, NodeEvent::Tick, out),
+            Event::Ask(n, mask) => self.step(alloc, *n, NodeEvent::Ask(*mask), out),
+            Event::Call(n, c) => self.call(alloc, *n, c, out),
+            Event::Show(n, what) => Ok(self.show(alloc, *n, *what, out)?),
+            Event::Deliver(a, b, k) => self.give(alloc, *a, *b, *k, out),
+            Event::Garbage(n, _) => self.give_garbage(alloc, *n, out),
+        }
+    }
+
+    /// A plain event happens: what it records comes behind what is in `out`, and the run with this event is safe,
+    /// wherever the world stands after events that may happen. The clients answer somehow; where each votes just as its
+    /// word says, what happens is the world's own. Where its packets pass the limit, `out` is as it was. After an error
+    /// nothing is said of the world.
+    pub fn event(&mut self, alloc: Global, e: &Event, out: &mut Records) -> Result<(), WorldFault>
+        ensures goes { OnOk result (Comes C.script C.script_of self.old (Goes C.script C.script_of self.old self.new out.old out.new) (λ f w. happens_by f w e.now) (λ w. happens w e.now)) }
+        ensures answers { OnOk result (AnswersSafely C.script C.script_of self.old self.new out.old out.new e.now) }
+        ensures safe { OnOk result (GoesSafely C.script C.script_of self.old self.new out.old out.new e.now) }
+        ensures hears { OnOk result (Hears C.stands_for C.script C.script_of self.old self.new out.old out.new e.now) }
+        ensures passes { (k : ℕ) → IsErrOf result (WorldFault.TooMuchKept k) → Comes C.script C.script_of self.old (Passes k self.old) (λ f w. happens_by f w e.now) (λ w. happens w e.now) }
+        ensures kept { (k : ℕ) → IsErrOf result (WorldFault.TooMuchKept k) → out.new ≡ out.old }
+    {
+        self.happen(alloc, e, out)
+    }
 }

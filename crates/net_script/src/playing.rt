@@ -6,10 +6,11 @@ ghost use Rattle.world_model.specs.World.{world_new};
 ghost use Rattle.world_model.specs.Play.{script_records};
 ghost use Rattle.world_model.specs.Kept.{kept_past, kept_records};
 ghost use Rattle.transcript.specs.Kinds.{kinds_text};
-ghost use Rattle.world_play.specs.Safe.{ScriptIsSafe, KeptRunIsSafe, MayPlay};
-ghost use Rattle.world_play.specs.Standing.{Stands};
+ghost use Rattle.net_script.specs.Safe.{ScriptIsSafe, KeptRunIsSafe, MayPlay};
+ghost use Rattle.net_script.specs.Standing.{Stands};
 ghost use Rattle.net_script.specs.Ends.{PlayedAs};
 
+use crate::World;
 use crate::lines::play_lines;
 use crate::stage::Stage;
 use crate::writing::write_records;
@@ -21,7 +22,6 @@ use rsct_packet::List;
 use std::alloc::Global;
 use transcript::Kinds;
 use world_model::Script;
-use world_play::World;
 
 /// Plays a script that has begun, and gives the world at its end.
 fn play_begun<C: Made, K: Sink>(

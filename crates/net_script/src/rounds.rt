@@ -5,8 +5,8 @@ ghost use Rattle.world_model.specs.World as world;
 ghost use Rattle.world_laws.specs.world_answers.Plays.{AnsweredPlay, PlaysEach, PlaysTick, PlaysTicks, PlaysRounds};
 ghost use Rattle.net_script.specs.Stage.{At, LeadsTo};
 
+use crate::events::happen;
 use crate::flowing::flow;
-use crate::happening::happen;
 use crate::stage::Stage;
 use client_callbacks::Made;
 use hags_io::Sink;

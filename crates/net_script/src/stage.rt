@@ -1,8 +1,8 @@
 //! What a play has.
 
+use crate::World;
 use client_callbacks::{Callbacks, ScriptClient};
 use play_state::Cuts;
-use world_play::World;
 
 /// The world that a script is played in, and which nodes are cut off from each other.
 #[derive(Drop)]

@@ -17,7 +17,6 @@ ghost use Rattle.node_state.specs.Step.{is_used, used_if};
 ghost use Rattle.packet_codec.specs.InPlace.{packet_in};
 
 use client_callbacks::{Callbacks, Why};
-use entry_taking::{take_ack, take_entry};
 use group_attr::Phases;
 use group_codec::{EntryRef, ProposalRef};
 use group_entry::optional_text_of;
@@ -27,7 +26,7 @@ use node_state::Core;
 use packet_bodies::{Ack, Gone, GroupRef, Leader};
 use packet_codec::PacketRef;
 use proposal_core::Vote;
-use request_taking::take_request;
+use request_taking::{take_ack, take_entry, take_request};
 use rsct_packet::{Member, Name, NoMemory, ProtoId, ProviderId, ViewId};
 use std::alloc::Global;
 

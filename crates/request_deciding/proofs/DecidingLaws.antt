@@ -30,7 +30,7 @@ use Rattle.node_groups.proofs.RowLaws.{opened_row}
 use Rattle.entry_handing.specs.Received.{Handing}
 use Rattle.entry_handing.specs.Doing.{Does}
 use Rattle.entry_handing.proofs.DoingLaws.{does_after, does_as}
-use Rattle.request_refusing.proofs.RefusingLaws.{decision_keeps}
+use Rattle.request_deciding.proofs.RefusingLaws.{decision_keeps}
 use Rattle.group_leading.proofs.WorkLaws.{keeps_follows, kept_does}
 
 -- ---- what is kept

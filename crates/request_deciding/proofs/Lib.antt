@@ -1,2 +1,3 @@
+pub mod RefusingLaws
 pub mod DecidingLaws
 pub mod QueueLaws

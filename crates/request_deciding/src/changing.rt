@@ -9,13 +9,13 @@ ghost use Rattle.group_leading.specs.Working.{AtWork};
 ghost use Rattle.node_state.specs.Leading.{begins};
 ghost use Rattle.node_state.specs.Deciding.{decision_kept, expelled_by, has_other_source, is_no_member, collide_refusal, other_refusal, decided_other};
 
+use crate::{full_refusal, refuse};
 use client_callbacks::{Callbacks, Why};
 use group_attr::{Attrs, Phases};
 use group_leading::begin;
 use node_groups::{gone_of, keep_decision, state_of};
 use node_state::Core;
 use proposal_core::{GroupState, Proposal, Running};
-use request_refusing::{full_refusal, refuse};
 use rsct_packet::{Name, NoMemory, ProviderId, is_among};
 use std::alloc::Global;
 

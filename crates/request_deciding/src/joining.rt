@@ -8,12 +8,12 @@ ghost use Rattle.node_state.specs.Deciding.{is_idle_empty, meant_attrs, join_ref
 ghost use Rattle.node_groups.specs.Keeps.{Keeps};
 
 use crate::queue::{is_duplicate, queue_join};
+use crate::{full_refusal, lacks_source, refuse, source_len};
 use client_callbacks::Why;
 use group_attr::Attrs;
 use node_groups::{keep_decision, open, state_of, waiting_joins};
 use node_state::Core;
 use proposal_core::{GroupState, Proposal, Running};
-use request_refusing::{full_refusal, lacks_source, refuse, source_len};
 use rsct_packet::{List, MAX_PROVIDERS, Name, NoMemory, ProviderId};
 use std::alloc::Global;
 

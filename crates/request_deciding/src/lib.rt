@@ -1,4 +1,4 @@
-//! How the leader of a group decides requests.
+//! How the leader of a group decides requests: what it knows before, and how it refuses.
 #![tactic(auto)]
 
 ghost use Rattle.std.specs.Prelude.{◌≡◌, OnOk, map};
@@ -9,13 +9,19 @@ ghost use Rattle.node_state.specs.Deciding.{decided};
 
 mod changing;
 mod joining;
+mod limits;
 mod queue;
+mod refusing;
+mod sources;
 
 use client_callbacks::Callbacks;
 use group_attr::Phases;
+pub use limits::{full_refusal, is_at_limit};
 use node_state::Core;
 use proposal_core::Proposal;
+pub use refusing::refuse;
 use rsct_packet::{Name, NoMemory, ProviderId};
+pub use sources::{known_state, lacks_source, source_len};
 use std::alloc::Global;
 
 /// Decides a request: a join waits or is refused, another proposal begins or is refused.

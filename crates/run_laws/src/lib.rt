@@ -1,10 +1,7 @@
-//! What every run shows: where providers hear, which ballots count, what records tell, who is let go, and that nothing is left out.
+//! What every run shows: that rings agree, what records tell, why each provider failed, and that nothing is left out.
 #![tactic(auto)]
 
-pub mod attending;
 pub mod failed_causes;
 pub mod gapless;
-pub mod leaving;
-pub mod resting;
+pub mod ring_runs;
 pub mod seen_runs;
-pub mod single_casts;

@@ -1,1 +1,4 @@
+pub mod EntryLaws
+pub mod TellLaws
+pub mod TickLaws
 pub mod CallLaws

@@ -16,7 +16,7 @@ use node_groups::holds;
 use node_state::{CallLine, Core};
 use proposal_core::Vote;
 use rsct_packet::{List, NoMemory, ProviderId};
-use session_opening::{client_token, member_token, sub_token};
+use session_checks::{client_token, member_token, sub_token};
 use session_state::{MemberToken, SessionState};
 use std::alloc::Global;
 use subscribe_core::SubToken;

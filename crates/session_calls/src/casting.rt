@@ -12,7 +12,7 @@ ghost use Rattle.node_groups.specs.Keeps.{Stays};
 use crate::answers::refuse;
 use node_sending::is_frozen;
 use node_state::{Core, Happened};
-use owed_sending::{copy_kept, send_kept};
+use ring_ticking::{copy_kept, send_kept};
 use rsct_packet::NoMemory;
 use session_state::{GsFault, KeptBallot};
 use std::alloc::Global;

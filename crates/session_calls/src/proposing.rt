@@ -12,7 +12,7 @@ ghost use Rattle.node_groups.specs.Keeps.{Stays};
 
 use crate::answers::refuse;
 use node_state::{Core, Happened};
-use owed_sending::{copy_request, send_request};
+use ring_ticking::{copy_request, send_request};
 use rsct_packet::NoMemory;
 use session_state::{GsFault, Request};
 use std::alloc::Global;

@@ -15,7 +15,7 @@ use node_groups::leader_of;
 use node_sending::{is_frozen, send_if_known};
 use node_state::{Body, Core};
 use rsct_packet::{List, NoMemory};
-use session_opening::{client_token, close_session, open_session};
+use session_checks::{client_token, close_session, open_session};
 use session_state::Provider;
 use std::alloc::Global;
 use subscribe_core::ClientToken;

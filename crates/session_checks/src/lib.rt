@@ -1,10 +1,15 @@
-//! What the calls of clients make of a node's sessions, by their checks in order.
+//! What the calls of clients make of a node's sessions, by their checks in order; sessions that begin and end with their
+//! clients, and sessions with their clients as one value.
 #![tactic(auto)]
 
 mod calls;
 mod checks;
 mod ends;
+mod reads;
+mod sessions;
 
 pub use calls::{change_attributes, change_state, expel, join, leave, send_message, vote};
 pub use checks::{check_client, check_init};
 pub use ends::{add_session, end_session, has_subscription, subscribe, subscriber_of, unsubscribe};
+pub use reads::{client_token, member_token, sub_token};
+pub use sessions::{Sessions, close_session, open_session};

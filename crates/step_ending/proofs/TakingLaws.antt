@@ -16,7 +16,7 @@ use Rattle.node_state.specs.Ending.{attrs_for, source_refused}
 use Rattle.node_groups.specs.Keeps.{Keeps}
 use Rattle.node_groups.proofs.KeepLaws.{keeps_itself, keeps_then, keeps_as, led_keeps}
 use Rattle.node_state.proofs.NameOrder.{cases_text, row_here, row_there}
-use Rattle.request_refusing.proofs.RefusingLaws.{refused_keeps}
+use Rattle.request_deciding.proofs.RefusingLaws.{refused_keeps}
 use Rattle.step_ending.specs.Joining.{chosen_joins, chosen_attrs, sourced, unsourced, joins_chosen}
 
 pub waiting_keeps : (s t : Core) (g : List ℕ) (change : WaitingView → WaitingView) → t ≡ with_waiting s g change → Keeps s t

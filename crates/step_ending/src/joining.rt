@@ -15,7 +15,7 @@ use group_leading::begin;
 use node_groups::{join_attrs_of, len_of, state_of};
 use node_state::Core;
 use proposal_core::{GroupState, Proposal};
-use request_refusing::{lacks_source, refuse, source_len};
+use request_deciding::{lacks_source, refuse, source_len};
 use rsct_packet::{Name, NoMemory, ProviderId, Providers};
 use std::alloc::Global;
 

@@ -15,7 +15,7 @@ use group_leading::begin;
 use node_groups::state_of;
 use node_state::Core;
 use proposal_core::{Fallen, GroupState, Proposal};
-use request_refusing::known_state;
+use request_deciding::known_state;
 use rsct_packet::{List, Name, NoMemory, Text};
 use source_target::{Due, due};
 use std::alloc::Global;

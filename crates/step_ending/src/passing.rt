@@ -12,7 +12,7 @@ use crate::owing::begin_due;
 use client_callbacks::Callbacks;
 use node_groups::{led_groups, list_of, waiting_failures, waiting_joins};
 use node_state::Core;
-use request_refusing::is_at_limit;
+use request_deciding::is_at_limit;
 use rsct_packet::{Name, NoMemory};
 use std::alloc::Global;
 

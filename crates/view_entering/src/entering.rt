@@ -22,7 +22,7 @@ use client_callbacks::Callbacks;
 use name_server::Names;
 use node_sending::{send, view_level};
 use node_state::{Body, Core, Groups, Happened, Records};
-use owed_sending::{send_requests, send_votes_again};
+use ring_ticking::{send_requests, send_votes_again};
 use rsct_packet::{List, NoMemory, ViewId};
 use std::alloc::Global;
 use std::mem;

@@ -6,9 +6,9 @@ ghost use Rattle.node_state.specs.Bytes.{packet_len};
 ghost use Rattle.world_model.specs.World.{kth_in, pairs_with};
 ghost use Rattle.world_packets.specs.Packets.{world_pairs, find_pair, is_waiting, is_between, waits_next, first_of};
 
+use crate::Datagram;
 use crate::pairs::{Pair, add, kth};
 use crate::waiting::Waiting;
-use datagram::Datagram;
 use node_state::Packet;
 use rsct_packet::NoMemory;
 use std::alloc::Global;

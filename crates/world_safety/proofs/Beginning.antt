@@ -15,11 +15,11 @@ use Rattle.world_model.specs.World.{Node, World, is_node, node_at, traced, start
 use Rattle.run_safety.specs.Past.{History, history_of}
 use Rattle.step_ties.specs.Tied.{Scene}
 use Rattle.step_ties.specs.Rows.{at_node, nothing_yet, with_records, starts_too, all_started}
-use Rattle.row_laws.specs.late_rows.Runs.{TicksAreNoted}
+use Rattle.entry_laws.specs.late_rows.Runs.{TicksAreNoted}
 use Rattle.row_laws.specs.failed_rows.Scenes.{Played}
 use Rattle.row_laws.specs.failed_rows.Scenes as played
-use Rattle.run_laws.specs.leaving.Scenes.{Recounted}
-use Rattle.run_laws.specs.leaving.Scenes as recounted
+use Rattle.provider_laws.specs.leaving.Scenes.{Recounted}
+use Rattle.provider_laws.specs.leaving.Scenes as recounted
 use Rattle.step_ties.specs.Runs.{Reached, Nothing, AllStart}
 use Rattle.step_ties.proofs.Changed.{set_there, each_set}
 use Rattle.world_safety.specs.Events.{beginning}

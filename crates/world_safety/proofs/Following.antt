@@ -25,11 +25,11 @@ use Rattle.world_model.specs.World.{Script, Node, World, is_node, node_at, kth_b
 use Rattle.world_laws.proofs.world_runs.Traces.{after_records}
 use Rattle.step_ties.specs.Tied.{Scene, NodeIsIf, Rests}
 use Rattle.step_ties.specs.Rows.{over, stopped, start_with, ended, Arises}
-use Rattle.row_laws.specs.late_rows.Runs.{NotedAs, TicksAreNoted}
+use Rattle.entry_laws.specs.late_rows.Runs.{NotedAs, TicksAreNoted}
 use Rattle.row_laws.specs.failed_rows.Scenes.{Names, Played}
 use Rattle.row_laws.specs.failed_rows.Scenes as played
-use Rattle.run_laws.specs.leaving.Scenes.{IsCall, NoCall, IsDown, Recounted}
-use Rattle.run_laws.specs.leaving.Scenes as recounted
+use Rattle.provider_laws.specs.leaving.Scenes.{IsCall, NoCall, IsDown, Recounted}
+use Rattle.provider_laws.specs.leaving.Scenes as recounted
 use Rattle.step_ties.specs.Runs.{IsNote, noted, Reached, Starts, Stops, Steps, Notes}
 use Rattle.step_ties.proofs.Changed.{set_here}
 use Rattle.step_ties.proofs.RunLaw.{reached_rests}

@@ -9,9 +9,9 @@ use Rattle.run_safety.specs.Past.{turned, history_of}
 use Rattle.run_safety.specs.SafeLists.{OneEntry}
 use Rattle.run_safety.specs.SafeGroups.{SafeGroups}
 use Rattle.step_ties.specs.Tied.{Scene, opening_of}
-use Rattle.row_laws.specs.late_rows.Runs.{TicksAreNoted}
+use Rattle.entry_laws.specs.late_rows.Runs.{TicksAreNoted}
 use Rattle.row_laws.specs.failed_rows.Scenes.{Played}
-use Rattle.run_laws.specs.leaving.Scenes.{Recounted}
+use Rattle.provider_laws.specs.leaving.Scenes.{Recounted}
 use Rattle.step_ties.specs.Runs.{Reached}
 use Rattle.step_ties.proofs.RunLaw.{reached_runs}
 use Rattle.world_laws.specs.world_answers.Answers.{Answered, goes_on, events_in, answered_after}

@@ -18,37 +18,37 @@ use Rattle.row_laws.proofs.hearing.Listening.{providers_hear}
 use Rattle.row_laws.proofs.hearing.NoGap.{no_gap}
 use Rattle.row_laws.specs.honest_votes.Casts.{VotesWereCast}
 use Rattle.row_laws.proofs.honest_votes.Law.{recorded_votes}
-use Rattle.row_laws.specs.closing_rows.Rows.{RowsAreVoters}
-use Rattle.row_laws.proofs.closing_rows.Law.{rows_are_voters}
-use Rattle.row_laws.specs.late_rows.Late.{LateHadTime}
-use Rattle.row_laws.specs.late_rows.Announced.{LateWereAnnounced}
-use Rattle.run_laws.specs.attending.Places.{PlacesHeardOnce, PutNamed}
-use Rattle.run_laws.proofs.attending.Law.{places_once}
-use Rattle.run_laws.proofs.attending.States.{entries_named}
-use Rattle.run_laws.specs.single_casts.Single.{CastsOnce, CastsAfterNotice}
-use Rattle.run_laws.proofs.single_casts.Law.{cast_after_notice}
-use Rattle.run_laws.proofs.single_casts.Once.{cast_once}
-use Rattle.row_laws.specs.carried_values.Carried.{FirstBallotsCarry}
-use Rattle.row_laws.proofs.carried_values.Law.{first_ballots_carry}
+use Rattle.entry_laws.specs.closing_rows.Rows.{RowsAreVoters}
+use Rattle.entry_laws.proofs.closing_rows.Law.{rows_are_voters}
+use Rattle.entry_laws.specs.late_rows.Late.{LateHadTime}
+use Rattle.entry_laws.specs.late_rows.Announced.{LateWereAnnounced}
+use Rattle.provider_laws.specs.attending.Places.{PlacesHeardOnce, PutNamed}
+use Rattle.provider_laws.proofs.attending.Law.{places_once}
+use Rattle.provider_laws.proofs.attending.States.{entries_named}
+use Rattle.provider_laws.specs.single_casts.Single.{CastsOnce, CastsAfterNotice}
+use Rattle.provider_laws.proofs.single_casts.Law.{cast_after_notice}
+use Rattle.provider_laws.proofs.single_casts.Once.{cast_once}
+use Rattle.entry_laws.specs.carried_values.Carried.{FirstBallotsCarry}
+use Rattle.entry_laws.proofs.carried_values.Law.{first_ballots_carry}
 use Rattle.row_laws.specs.failed_rows.Failures.{FailuresHaveCauses}
 use Rattle.row_laws.proofs.failed_rows.Law.{failures_are_honest}
 use Rattle.run_laws.specs.failed_causes.Causes.{FailuresHaveExactCauses}
 use Rattle.run_laws.proofs.failed_causes.Causes.{failures_are_exact}
 use Rattle.run_laws.specs.failed_causes.Entering.{BasesFollowEntering}
 use Rattle.run_laws.proofs.failed_causes.Bases.{each_base_follows}
-use Rattle.row_laws.specs.source_order.Sources.{ReflectionsRise, ReflectionsClimb, JoinsCarryLengths, FirstsFollowSources, JoinsOverSources}
-use Rattle.row_laws.proofs.source_order.Law.{reflections_rise, reflections_climb, joins_carry_lengths, firsts_follow_sources, joins_over_sources}
-use Rattle.row_laws.proofs.late_rows.Law.{who_is_late_had_time, who_is_late_was_announced}
-use Rattle.row_laws.specs.ring_runs.Rings.{NetworkAgrees}
-use Rattle.row_laws.proofs.ring_runs.Law.{rings_agree_in_runs}
+use Rattle.entry_laws.specs.source_order.Sources.{ReflectionsRise, ReflectionsClimb, JoinsCarryLengths, FirstsFollowSources, JoinsOverSources}
+use Rattle.entry_laws.proofs.source_order.Law.{reflections_rise, reflections_climb, joins_carry_lengths, firsts_follow_sources, joins_over_sources}
+use Rattle.entry_laws.proofs.late_rows.Law.{who_is_late_had_time, who_is_late_was_announced}
+use Rattle.run_laws.specs.ring_runs.Rings.{NetworkAgrees}
+use Rattle.run_laws.proofs.ring_runs.Law.{rings_agree_in_runs}
 use Rattle.run_laws.specs.seen_runs.Seen.{Seen}
 use Rattle.run_laws.proofs.seen_runs.Law.{traces_seen}
 use Rattle.run_laws.specs.seen_runs.Rings.{RingsSeen}
 use Rattle.run_laws.proofs.seen_runs.Rings.{every_ring_seen}
 use Rattle.run_safety.specs.SafeLists.{Each}
 use Rattle.run_safety.specs.SafeHeard.{InOrder, NotLetGo, AllHear, Dissolves}
-use Rattle.run_laws.proofs.attending.OrderLaw.{heard_in_order}
-use Rattle.run_laws.proofs.leaving.Law.{who_is_let_go}
+use Rattle.provider_laws.proofs.attending.OrderLaw.{heard_in_order}
+use Rattle.provider_laws.proofs.leaving.Law.{who_is_let_go}
 use Rattle.run_laws.proofs.gapless.Quiet.{all_hear}
 use Rattle.run_laws.proofs.gapless.Just.{just_the_left}
 use Rattle.run_safety.specs.Past.{EachEvent, EachRecord, Within}

@@ -7,9 +7,9 @@ use Rattle.run_safety.specs.SafeLists.{OneEntry}
 use Rattle.run_safety.specs.SafeGroups.{SafeGroups}
 use Rattle.step_ties.specs.Tied.{Scene, opening_of}
 use Rattle.step_ties.specs.Runs.{Reached}
-use Rattle.row_laws.specs.late_rows.Runs.{TicksAreNoted}
+use Rattle.entry_laws.specs.late_rows.Runs.{TicksAreNoted}
 use Rattle.row_laws.specs.failed_rows.Scenes.{Played}
-use Rattle.run_laws.specs.leaving.Scenes.{Recounted}
+use Rattle.provider_laws.specs.leaving.Scenes.{Recounted}
 use Rattle.world_laws.specs.world_answers.Answers.{Answered, events_in, answered_after, answered_records}
 use Rattle.world_safety.specs.Events.{run_of_events, AllMayHappen}
 use Rattle.world_safety.specs.Mirrors.{Mirrors}

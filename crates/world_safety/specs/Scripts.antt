@@ -15,17 +15,17 @@ use Rattle.run_safety.specs.SafeGroups.{SafeGroups}
 use Rattle.step_ties.specs.Tied.{opening_of}
 use Rattle.row_laws.specs.hearing.Hearing.{HeardInARow, NoGap}
 use Rattle.row_laws.specs.honest_votes.Casts.{VotesWereCast}
-use Rattle.row_laws.specs.closing_rows.Rows.{RowsAreVoters}
-use Rattle.row_laws.specs.late_rows.Late.{LateHadTime}
-use Rattle.row_laws.specs.late_rows.Announced.{LateWereAnnounced}
-use Rattle.run_laws.specs.attending.Places.{PlacesHeardOnce, PutNamed}
-use Rattle.run_laws.specs.single_casts.Single.{CastsOnce, CastsAfterNotice}
-use Rattle.row_laws.specs.carried_values.Carried.{FirstBallotsCarry}
+use Rattle.entry_laws.specs.closing_rows.Rows.{RowsAreVoters}
+use Rattle.entry_laws.specs.late_rows.Late.{LateHadTime}
+use Rattle.entry_laws.specs.late_rows.Announced.{LateWereAnnounced}
+use Rattle.provider_laws.specs.attending.Places.{PlacesHeardOnce, PutNamed}
+use Rattle.provider_laws.specs.single_casts.Single.{CastsOnce, CastsAfterNotice}
+use Rattle.entry_laws.specs.carried_values.Carried.{FirstBallotsCarry}
 use Rattle.row_laws.specs.failed_rows.Failures.{FailuresHaveCauses}
 use Rattle.run_laws.specs.failed_causes.Causes.{FailuresHaveExactCauses}
 use Rattle.run_laws.specs.failed_causes.Entering.{BasesFollowEntering}
-use Rattle.row_laws.specs.source_order.Sources.{ReflectionsRise, ReflectionsClimb, JoinsCarryLengths, FirstsFollowSources, JoinsOverSources}
-use Rattle.row_laws.specs.ring_runs.Rings.{AddressesFit, NetworkAgrees}
+use Rattle.entry_laws.specs.source_order.Sources.{ReflectionsRise, ReflectionsClimb, JoinsCarryLengths, FirstsFollowSources, JoinsOverSources}
+use Rattle.run_laws.specs.ring_runs.Rings.{AddressesFit, NetworkAgrees}
 use Rattle.run_laws.specs.seen_runs.Seen.{Seen}
 use Rattle.run_laws.specs.seen_runs.Rings.{RingsSeen}
 use Rattle.run_safety.specs.SafeLists.{Each}

@@ -30,7 +30,7 @@ use Rattle.row_laws.specs.hearing.Changes.{Inner, Does, Stays, Then, Records, Ha
 use Rattle.row_laws.proofs.hearing.Attending.{pushed, pushed_reverse}
 use Rattle.row_laws.proofs.hearing.Listening.{steps_change}
 use Rattle.row_laws.proofs.hearing.Added.{Adds, sides_add}
-use Rattle.row_laws.proofs.closing_rows.Told.{each_map}
+use Rattle.entry_laws.proofs.closing_rows.Told.{each_map}
 use Rattle.run_laws.proofs.failed_causes.Records.{NoBase, inner_none, none_pushed, turned_none, hands_none, each_scene}
 use Rattle.run_laws.specs.failed_causes.Passed.{latest_entries, BaseFirst, BasesComeFirst}
 use Rattle.run_laws.specs.failed_causes.Entering.{just_entered, FollowsEntering, EachBaseFollows}

@@ -18,7 +18,7 @@ use Rattle.node_state.specs.declared.happened.Happened.TheVariants as happened
 use Rattle.run_safety.specs.Past.{History, records_of, earlier, EachEvent}
 use Rattle.row_laws.specs.failed_rows.Failures.{GoneCause, RowFails, RowsFail, CauseHolds, LeavesFail, EntryFails, PutHolds, Since, EachPut, FailuresHaveCauses, state_held}
 use Rattle.row_laws.proofs.failed_rows.Law.{reached, failures_are_honest}
-use Rattle.run_laws.proofs.attending.OrderLaw.{heard_in_order}
+use Rattle.provider_laws.proofs.attending.OrderLaw.{heard_in_order}
 use Rattle.run_laws.specs.seen_runs.Seen.{Seen}
 use Rattle.run_laws.proofs.seen_runs.Scenes.{all_show}
 use Rattle.run_laws.proofs.seen_runs.Law.{traces_seen}

@@ -34,14 +34,14 @@ use Rattle.step_ties.proofs.BaseOrder.{base_noted}
 use Rattle.row_laws.specs.hearing.Changes.{Inner, Unentered, Does, Stays, Then, Records, Hands, Loses, Joins, Votes, Enters}
 use Rattle.row_laws.proofs.hearing.Attending.{pushed, pushed_reverse}
 use Rattle.row_laws.proofs.hearing.Listening.{steps_change}
-use Rattle.run_laws.proofs.attending.Doing.{AllFine}
+use Rattle.provider_laws.proofs.attending.Doing.{AllFine}
 use Rattle.row_laws.proofs.hearing.Added.{Adds, sides_add, does_grow}
-use Rattle.run_laws.proofs.attending.Fresh.{fresh_now}
-use Rattle.run_laws.proofs.attending.Law.{begin_strict, step_fine}
+use Rattle.provider_laws.proofs.attending.Fresh.{fresh_now}
+use Rattle.provider_laws.proofs.attending.Law.{begin_strict, step_fine}
 use Rattle.row_laws.proofs.hearing.Incarnations.{incs_of}
-use Rattle.run_laws.proofs.attending.Living.{lively_now, failed_now}
-use Rattle.run_laws.proofs.attending.OrderLaw.{reached_orderly}
-use Rattle.run_laws.proofs.attending.Ordering.{Ordered, Fresh, Lively, ordered_does, entering_recorded, base_recorded_at}
+use Rattle.provider_laws.proofs.attending.Living.{lively_now, failed_now}
+use Rattle.provider_laws.proofs.attending.OrderLaw.{reached_orderly}
+use Rattle.provider_laws.proofs.attending.Ordering.{Ordered, Fresh, Lively, ordered_does, entering_recorded, base_recorded_at}
 use Rattle.run_laws.specs.failed_causes.Passed.{ElsewhereFails, BasesFromElsewhereFail}
 use Rattle.run_laws.proofs.failed_causes.Bases.{view_self}
 use Rattle.run_laws.proofs.failed_causes.Records.{NoBase, inner_none, none_pushed, turned_none, hands_none, each_scene}

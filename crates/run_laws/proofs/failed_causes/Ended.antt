@@ -18,7 +18,7 @@ use Rattle.run_safety.specs.Past.{fold_from}
 use Rattle.run_safety.specs.Stays.{Stay, stays, with_base, with_entry, is_join_of, Part, part, passes, first_in, last_in, last_from}
 use Rattle.node_state.proofs.NameOrder.{text_same}
 use Rattle.row_laws.specs.failed_rows.Failures.{state_of_stay}
-use Rattle.run_laws.proofs.attending.Parts.{first_stays, last_comes, fold_push, pushed_stay}
+use Rattle.provider_laws.proofs.attending.Parts.{first_stays, last_comes, fold_push, pushed_stay}
 use Rattle.run_laws.specs.failed_causes.Passed.{puts_join, latest_entries, BaseFirst}
 use Rattle.row_laws.proofs.failed_rows.Grows.{there_before, there_first}
 

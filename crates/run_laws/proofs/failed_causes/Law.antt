@@ -28,7 +28,7 @@ use Rattle.run_safety.proofs.Order.{le_antisym}
 use Rattle.run_safety.proofs.Tests.{has_any}
 use Rattle.node_state.proofs.NameOrder.{text_same, text_self}
 use Rattle.row_laws.proofs.hearing.Handing.{among_is}
-use Rattle.run_laws.proofs.attending.OrderLaw.{heard_in_order}
+use Rattle.provider_laws.proofs.attending.OrderLaw.{heard_in_order}
 use Rattle.row_laws.specs.failed_rows.Failures.{state_in_stays, state_held, FromElsewhere, IsCut, IsRefused, WasTold, TakenOff, StoodThere}
 use Rattle.row_laws.proofs.failed_rows.Asked.{join_carried}
 use Rattle.run_laws.specs.seen_runs.Seen.{Seen, SeenAt, OnceSeen, BeginsOnce, WasTold as WasRefused}

@@ -48,13 +48,13 @@ use Rattle.row_laws.proofs.hearing.Listening.{reverse_has}
 use Rattle.row_laws.proofs.hearing.Doing.{present_row, rows_stay}
 use Rattle.row_laws.proofs.failed_rows.Living.{IsLive}
 use Rattle.row_laws.proofs.hearing.Added.{Adds, sides_add, enters_add}
-use Rattle.run_laws.proofs.attending.Law.{begin_strict, step_fine}
+use Rattle.provider_laws.proofs.attending.Law.{begin_strict, step_fine}
 use Rattle.row_laws.proofs.hearing.Incarnations.{incs_of}
-use Rattle.run_laws.proofs.attending.Ordering.{view_same, Ordered, entering_recorded, base_recorded_at, ordered_does}
-use Rattle.run_laws.proofs.attending.OrderLaw.{reached_orderly}
-use Rattle.run_laws.proofs.attending.Entering.{named_has, base_is, new_stay, entered_stays}
-use Rattle.run_laws.proofs.attending.Fresh.{fresh_now}
-use Rattle.run_laws.proofs.attending.Living.{lively_now, failed_now}
+use Rattle.provider_laws.proofs.attending.Ordering.{view_same, Ordered, entering_recorded, base_recorded_at, ordered_does}
+use Rattle.provider_laws.proofs.attending.OrderLaw.{reached_orderly}
+use Rattle.provider_laws.proofs.attending.Entering.{named_has, base_is, new_stay, entered_stays}
+use Rattle.provider_laws.proofs.attending.Fresh.{fresh_now}
+use Rattle.provider_laws.proofs.attending.Living.{lively_now, failed_now}
 use Rattle.run_laws.proofs.gapless.Fair.{Fair, fair_grows}
 use Rattle.run_laws.proofs.gapless.Forward.{some_is, live_found, found_live}
 use Rattle.run_laws.proofs.gapless.Tellings.{Leaves, told_leaves, sides_back, Stayed, stays_or_told}

@@ -12,7 +12,7 @@ use Rattle.proposal_core.specs.declared.group_state.GroupState.{GroupState}
 use Rattle.proposal_core.specs.Fold.{after, present}
 use Rattle.run_safety.specs.Past.{fold_from}
 use Rattle.run_safety.specs.Stays.{Stay, is_join_of, passes, first_in, last_from, last_in, part, from_first, up_to_last, takes_part}
-use Rattle.run_laws.proofs.attending.Parts.{first_stays, first_comes, pushed_stay}
+use Rattle.provider_laws.proofs.attending.Parts.{first_stays, first_comes, pushed_stay}
 use Rattle.run_laws.specs.gapless.Takers.{Taker}
 
 -- ---- the first place

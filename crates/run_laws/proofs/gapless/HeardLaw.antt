@@ -21,9 +21,9 @@ use Rattle.step_ties.specs.Runs.{Reached}
 use Rattle.row_laws.proofs.hearing.Listening.{reverse_has}
 use Rattle.row_laws.specs.failed_rows.Scenes.{Names}
 use Rattle.row_laws.proofs.failed_rows.Origin.{root_of}
-use Rattle.run_laws.specs.leaving.Scenes.{IsCall, Nothing, AllStart, Starts, Stops, Steps, Notes}
-use Rattle.run_laws.proofs.leaving.Keeping.{Clean}
-use Rattle.run_laws.proofs.leaving.Law.{reached, clean}
+use Rattle.provider_laws.specs.leaving.Scenes.{IsCall, Nothing, AllStart, Starts, Stops, Steps, Notes}
+use Rattle.provider_laws.proofs.leaving.Keeping.{Clean}
+use Rattle.provider_laws.proofs.leaving.Law.{reached, clean}
 use Rattle.run_laws.specs.gapless.Takers.{Dissolving}
 use Rattle.run_laws.proofs.gapless.Standing.{Heard_at, Law}
 use Rattle.run_laws.proofs.gapless.Adding.{Walked}

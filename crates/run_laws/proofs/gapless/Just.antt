@@ -25,9 +25,9 @@ use Rattle.step_ties.specs.Rows.{over, nothing_yet, Arises}
 use Rattle.step_ties.specs.Runs.{Reached}
 use Rattle.row_laws.proofs.hearing.Listening.{reverse_has, reached_attends}
 use Rattle.row_laws.proofs.hearing.Listening as listening
-use Rattle.run_laws.proofs.attending.OrderLaw.{Placed, reached_orderly}
-use Rattle.run_laws.specs.leaving.Scenes.{Recounted, Nothing, AllStart, Starts, Stops, Steps, Notes}
-use Rattle.run_laws.proofs.leaving.Law.{reached}
+use Rattle.provider_laws.proofs.attending.OrderLaw.{Placed, reached_orderly}
+use Rattle.provider_laws.specs.leaving.Scenes.{Recounted, Nothing, AllStart, Starts, Stops, Steps, Notes}
+use Rattle.provider_laws.proofs.leaving.Law.{reached}
 use Rattle.run_laws.specs.gapless.Takers.{Taker, Stood}
 use Rattle.run_laws.proofs.gapless.Growing.{Over}
 use Rattle.run_laws.proofs.gapless.Keeping.{Standing}

@@ -35,7 +35,7 @@ use Rattle.step_ties.proofs.BaseOrder.{bases_ordered, base_noted}
 use Rattle.row_laws.specs.hearing.Changes.{Same, handing}
 use Rattle.row_laws.proofs.hearing.Attending.{pushed, pushed_reverse, heard_at}
 use Rattle.row_laws.proofs.hearing.Doing.{base_len, entered_groups}
-use Rattle.run_laws.proofs.attending.Entering.{bases_stay, with_state, base_is, new_stay, state_named}
+use Rattle.provider_laws.proofs.attending.Entering.{bases_stay, with_state, base_is, new_stay, state_named}
 use Rattle.run_laws.specs.seen_runs.Seen.{Seen, SeenAt}
 use Rattle.run_laws.specs.gapless.Takers.{Taker, Stood, AskedJoin, Dissolving}
 use Rattle.run_laws.proofs.gapless.Firsts.{taker_passed}

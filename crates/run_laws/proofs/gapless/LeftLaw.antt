@@ -26,11 +26,11 @@ use Rattle.step_ties.proofs.RunLaw.{reached_rests}
 use Rattle.row_laws.proofs.hearing.Listening.{reverse_has, start_each}
 use Rattle.row_laws.proofs.failed_rows.Living.{IsLive}
 use Rattle.row_laws.proofs.failed_rows.Origin.{root_of}
-use Rattle.run_laws.specs.leaving.Scenes.{Recounted, Nothing, AllStart, Starts, Stops, Steps, Notes}
-use Rattle.run_laws.proofs.leaving.Walk.{Known}
-use Rattle.run_laws.proofs.leaving.Walking.{on_stepped}
-use Rattle.run_laws.proofs.leaving.Left.{Left, Says, left_self, left_keeps}
-use Rattle.run_laws.proofs.leaving.Law.{reached, providers_stay}
+use Rattle.provider_laws.specs.leaving.Scenes.{Recounted, Nothing, AllStart, Starts, Stops, Steps, Notes}
+use Rattle.provider_laws.proofs.leaving.Walk.{Known}
+use Rattle.provider_laws.proofs.leaving.Walking.{on_stepped}
+use Rattle.provider_laws.proofs.leaving.Left.{Left, Says, left_self, left_keeps}
+use Rattle.provider_laws.proofs.leaving.Law.{reached, providers_stay}
 use Rattle.run_laws.specs.gapless.Left.{ToldWereLeft, TheToldWereLeftBehind}
 use Rattle.run_laws.proofs.gapless.Moving.{Moves, Remains, Enters, NotCall}
 use Rattle.run_laws.proofs.gapless.Spoken.{Nought, nought_carries, spoken_moves, reached_spoken}

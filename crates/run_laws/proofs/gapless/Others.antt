@@ -17,7 +17,7 @@ use Rattle.run_safety.proofs.Tests.{any_has}
 use Rattle.step_ties.specs.Tied.{Scene}
 use Rattle.step_ties.specs.Rows.{starts_too}
 use Rattle.step_ties.specs.Runs.{IsNote}
-use Rattle.run_laws.proofs.attending.OrderLaw.{with_is, started_stays, others_stay}
+use Rattle.provider_laws.proofs.attending.OrderLaw.{with_is, started_stays, others_stay}
 use Rattle.run_laws.proofs.gapless.FairWalk.{Mild}
 
 -- no view is entered

@@ -27,10 +27,10 @@ use Rattle.run_safety.specs.Stays.{Stay, stays, is_join_of, part, takes_part}
 use Rattle.node_state.proofs.NameOrder.{cases_text}
 use Rattle.row_laws.proofs.hearing.Attending.{heard_at, has_cast}
 use Rattle.row_laws.proofs.hearing.Handing.{among_is, new_hears, present_hears}
-use Rattle.run_laws.proofs.attending.Fresh.{join_carried}
-use Rattle.run_laws.proofs.attending.Parts.{pushed_stay}
-use Rattle.run_laws.proofs.attending.Turns.{begins_by_join}
-use Rattle.run_laws.proofs.attending.Staying.{InStay, join_begins, put_here, put_there, stay_pushed}
+use Rattle.provider_laws.proofs.attending.Fresh.{join_carried}
+use Rattle.provider_laws.proofs.attending.Parts.{pushed_stay}
+use Rattle.provider_laws.proofs.attending.Turns.{begins_by_join}
+use Rattle.provider_laws.proofs.attending.Staying.{InStay, join_begins, put_here, put_there, stay_pushed}
 use Rattle.run_laws.specs.seen_runs.Seen.{SeenAt, BeginsOnce}
 use Rattle.run_laws.specs.gapless.Takers.{Taker, Stood, AskedJoin, Dissolving}
 use Rattle.run_laws.proofs.gapless.Firsts.{taker_present, taker_came, part_came}

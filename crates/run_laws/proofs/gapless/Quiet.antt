@@ -13,10 +13,10 @@ use Rattle.world_model.specs.declared.event.Event.{Event}
 use Rattle.run_safety.specs.Past.{History, EachEvent, Within, earlier}
 use Rattle.run_safety.specs.SafeHeard.{AllHear}
 use Rattle.run_safety.specs.Stays.{stays, part, takes_part, client_of, goodbye_of, is_refused, was_let_go}
-use Rattle.run_laws.proofs.leaving.Events.{goodbye_is}
+use Rattle.provider_laws.proofs.leaving.Events.{goodbye_is}
 use Rattle.run_laws.specs.gapless.Heard.{leaves, AllHearUnlessLeaving, EachIsHeard, AllHearEachPut}
-use Rattle.run_laws.specs.resting.Rest.{GoodbyePutsNothing}
-use Rattle.run_laws.proofs.resting.Law.{goodbyes_put_nothing}
+use Rattle.provider_laws.specs.resting.Rest.{GoodbyePutsNothing}
+use Rattle.provider_laws.proofs.resting.Law.{goodbyes_put_nothing}
 use Rattle.run_laws.proofs.gapless.HeardLaw.{each_put_is_heard}
 
 module _ (event : Happening) (before : History) (quiet : GoodbyePutsNothing event) where

@@ -16,8 +16,8 @@ use Rattle.run_safety.specs.Past.{History, records_of, inc_now, fold_from}
 use Rattle.run_safety.specs.Stays.{Stay, stays, ends, client_of, goodbye_of, is_refused, lets_go, was_let_go}
 use Rattle.step_ties.specs.Tied.{Scene}
 use Rattle.step_ties.proofs.SessionLaws.{provider_self}
-use Rattle.run_laws.proofs.attending.Staying.{InStay}
-use Rattle.run_laws.proofs.leaving.Events.{any_one}
+use Rattle.provider_laws.proofs.attending.Staying.{InStay}
+use Rattle.provider_laws.proofs.leaving.Events.{any_one}
 use Rattle.run_laws.specs.gapless.Takers.{Taker, Stood, AskedJoin, Dissolving}
 use Rattle.run_laws.specs.gapless.Hears.{EachHears}
 use Rattle.run_laws.proofs.gapless.Firsts.{taker_present}

@@ -26,11 +26,11 @@ use Rattle.run_safety.specs.Stays as stay
 use Rattle.step_ties.proofs.SessionLaws.{handed_later, handed_gone}
 use Rattle.row_laws.proofs.hearing.Handing.{handed_kept}
 use Rattle.row_laws.proofs.hearing.Sessions.{fewer_told}
-use Rattle.run_laws.proofs.attending.Fresh.{join_carried}
-use Rattle.run_laws.proofs.attending.Turns.{begins_by_join}
-use Rattle.run_laws.proofs.attending.Staying.{InStay}
+use Rattle.provider_laws.proofs.attending.Fresh.{join_carried}
+use Rattle.provider_laws.proofs.attending.Turns.{begins_by_join}
+use Rattle.provider_laws.proofs.attending.Staying.{InStay}
 use Rattle.run_laws.specs.seen_runs.Seen.{WasTold}
-use Rattle.run_laws.proofs.leaving.Left.{told_kept}
+use Rattle.provider_laws.proofs.leaving.Left.{told_kept}
 use Rattle.run_laws.specs.gapless.Takers.{Taker, Stood, AskedJoin, Dissolving}
 use Rattle.run_laws.proofs.gapless.Forward.{Drops, told_stands, asked_own}
 use Rattle.run_laws.proofs.gapless.Growing.{asked_back, Over, over_more, dissolving_more, Inert, inert_unasked, inert_stays, stay_view}

@@ -39,21 +39,21 @@ use Rattle.step_ties.proofs.RunLaw.{reached_rests}
 use Rattle.step_ties.proofs.SessionLaws.{provider_same}
 use Rattle.step_ties.proofs.Turns.{has_turned}
 use Rattle.row_laws.proofs.hearing.Listening.{steps_change, reverse_has}
-use Rattle.run_laws.proofs.attending.Law.{begin_strict, step_fine}
+use Rattle.provider_laws.proofs.attending.Law.{begin_strict, step_fine}
 use Rattle.row_laws.proofs.hearing.Incarnations.{incs_of}
-use Rattle.run_laws.proofs.attending.Staying.{InStay}
-use Rattle.run_laws.proofs.attending.Ordering.{Ordered, ordered_does}
-use Rattle.run_laws.proofs.attending.OrderLaw.{reached_orderly}
-use Rattle.run_laws.proofs.attending.Fresh.{fresh_now}
-use Rattle.run_laws.proofs.attending.Living.{lively_now}
+use Rattle.provider_laws.proofs.attending.Staying.{InStay}
+use Rattle.provider_laws.proofs.attending.Ordering.{Ordered, ordered_does}
+use Rattle.provider_laws.proofs.attending.OrderLaw.{reached_orderly}
+use Rattle.provider_laws.proofs.attending.Fresh.{fresh_now}
+use Rattle.provider_laws.proofs.attending.Living.{lively_now}
 use Rattle.run_laws.specs.seen_runs.Seen.{Seen}
 use Rattle.run_laws.proofs.seen_runs.Law.{traces_seen}
 use Rattle.row_laws.specs.failed_rows.Scenes.{Names}
 use Rattle.row_laws.proofs.failed_rows.Origin.{root_of}
 use Rattle.row_laws.proofs.failed_rows.Owners.{goodbye_named}
-use Rattle.run_laws.specs.leaving.Scenes.{IsCall}
-use Rattle.run_laws.proofs.leaving.Events.{any_none}
-use Rattle.run_laws.proofs.leaving.Keeping.{KeptIf, Clean}
+use Rattle.provider_laws.specs.leaving.Scenes.{IsCall}
+use Rattle.provider_laws.proofs.leaving.Events.{any_none}
+use Rattle.provider_laws.proofs.leaving.Keeping.{KeptIf, Clean}
 use Rattle.run_laws.specs.gapless.Takers.{Taker, Stood, AskedJoin, Dissolving}
 use Rattle.run_laws.specs.gapless.Hears.{AllHearUnlessLetGo}
 use Rattle.run_laws.proofs.gapless.Growing.{Over}

@@ -30,12 +30,12 @@ use Rattle.step_ties.proofs.RunLaw.{reached_rests}
 use Rattle.step_ties.proofs.SessionLaws.{provider_self, provider_same}
 use Rattle.row_laws.proofs.hearing.Listening.{start_each, reverse_has}
 use Rattle.row_laws.proofs.hearing.Incarnations.{incs_of}
-use Rattle.run_laws.proofs.attending.Staying.{InStay}
-use Rattle.run_laws.proofs.attending.OrderLaw.{inner_all, others_stay, note_inner, reached_orderly}
+use Rattle.provider_laws.proofs.attending.Staying.{InStay}
+use Rattle.provider_laws.proofs.attending.OrderLaw.{inner_all, others_stay, note_inner, reached_orderly}
 use Rattle.row_laws.proofs.failed_rows.Starting.{FreshIf, AllFresh, fold_fresh}
-use Rattle.run_laws.specs.leaving.Scenes.{Recounted, Nothing, AllStart, Starts, Stops, Steps, Notes}
-use Rattle.run_laws.proofs.leaving.Events.{any_one}
-use Rattle.run_laws.proofs.leaving.Law.{reached, clean}
+use Rattle.provider_laws.specs.leaving.Scenes.{Recounted, Nothing, AllStart, Starts, Stops, Steps, Notes}
+use Rattle.provider_laws.proofs.leaving.Events.{any_one}
+use Rattle.provider_laws.proofs.leaving.Law.{reached, clean}
 use Rattle.run_laws.specs.gapless.Takers.{Taker, Stood, AskedJoin, TakersTakePart}
 use Rattle.run_laws.specs.gapless.Hears.{AllHearUnlessLetGo, EachHears, TakersHear}
 use Rattle.run_laws.proofs.gapless.Growing.{Unasked, asked_back, Over, over_more}

@@ -38,13 +38,13 @@ use Rattle.step_ties.specs.Runs.{Reached}
 use Rattle.row_laws.specs.hearing.Changes.{Aside, entering, Does}
 use Rattle.row_laws.proofs.hearing.Added.{Adds, enters_add}
 use Rattle.row_laws.proofs.hearing.Listening.{reverse_has}
-use Rattle.run_laws.proofs.attending.Entering.{base_is, new_stay, entered_stays}
-use Rattle.run_laws.proofs.attending.Fresh.{join_carried}
+use Rattle.provider_laws.proofs.attending.Entering.{base_is, new_stay, entered_stays}
+use Rattle.provider_laws.proofs.attending.Fresh.{join_carried}
 use Rattle.run_laws.specs.seen_runs.Seen.{Seen, BeginsOnce, WasTold}
 use Rattle.row_laws.specs.failed_rows.Scenes.{Names}
 use Rattle.row_laws.proofs.failed_rows.Origin.{root_of}
-use Rattle.run_laws.specs.leaving.Scenes.{IsCall}
-use Rattle.run_laws.proofs.leaving.Keeping.{Clean}
+use Rattle.provider_laws.specs.leaving.Scenes.{IsCall}
+use Rattle.provider_laws.proofs.leaving.Keeping.{Clean}
 use Rattle.run_laws.specs.gapless.Takers.{Taker, Stood, AskedJoin, Dissolving}
 use Rattle.run_laws.proofs.gapless.Firsts.{taker_passed}
 use Rattle.run_laws.proofs.gapless.Forward.{some_is}

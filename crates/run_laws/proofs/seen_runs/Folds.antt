@@ -25,9 +25,9 @@ use Rattle.run_safety.proofs.HeardLaw.{puts_front, take_front, HeardAt, HeardOk,
 use Rattle.run_safety.proofs.Lives.{whole}
 use Rattle.row_laws.specs.hearing.Hearing.{AtPut}
 use Rattle.row_laws.proofs.hearing.Listening.{providers_hear}
-use Rattle.row_laws.proofs.closing_rows.Orders.{Clause, Ordered}
-use Rattle.row_laws.proofs.closing_rows.Told.{Told, less_many, each_told, each_all}
-use Rattle.row_laws.proofs.closing_rows.Law.{bases_in, logs_in, told_in}
+use Rattle.entry_laws.proofs.closing_rows.Orders.{Clause, Ordered}
+use Rattle.entry_laws.proofs.closing_rows.Told.{Told, less_many, each_told, each_all}
+use Rattle.entry_laws.proofs.closing_rows.Law.{bases_in, logs_in, told_in}
 use Rattle.step_ties.specs.Tied.{Scene, Rests, opening_of}
 use Rattle.step_ties.proofs.RunLaw.{reached_rests}
 use Rattle.run_laws.specs.seen_runs.Law.{EveryHeardIsFold}

@@ -11,13 +11,13 @@ use Rattle.run_safety.specs.SafeHeard.{latest_put, put_after, HeardState}
 use Rattle.row_laws.specs.hearing.Hearing.{AtPut}
 use Rattle.row_laws.proofs.hearing.Listening.{providers_hear}
 use Rattle.row_laws.specs.honest_votes.Casts.{RecordCast}
-use Rattle.row_laws.specs.closing_rows.Rows.{RecordRows}
-use Rattle.row_laws.proofs.closing_rows.Law.{rows_are_voters}
-use Rattle.run_laws.specs.attending.Places.{NextHeard}
-use Rattle.run_laws.proofs.attending.Law.{places_once}
-use Rattle.run_laws.specs.single_casts.Single.{CastAfterNotice, NotCastBefore}
-use Rattle.run_laws.proofs.single_casts.Law.{cast_after_notice}
-use Rattle.run_laws.proofs.single_casts.Once.{cast_once}
+use Rattle.entry_laws.specs.closing_rows.Rows.{RecordRows}
+use Rattle.entry_laws.proofs.closing_rows.Law.{rows_are_voters}
+use Rattle.provider_laws.specs.attending.Places.{NextHeard}
+use Rattle.provider_laws.proofs.attending.Law.{places_once}
+use Rattle.provider_laws.specs.single_casts.Single.{CastAfterNotice, NotCastBefore}
+use Rattle.provider_laws.proofs.single_casts.Law.{cast_after_notice}
+use Rattle.provider_laws.proofs.single_casts.Once.{cast_once}
 use Rattle.row_laws.proofs.honest_votes.Law.{recorded_votes}
 use Rattle.step_ties.specs.Tied.{Scene}
 use Rattle.step_ties.specs.Runs.{Reached}

@@ -13,8 +13,8 @@ use Rattle.node_state.specs.declared.config.Config.{Config}
 use Rattle.node_state.specs.declared.happened.Happened.{Happened}
 use Rattle.node_state.specs.declared.happened.Happened.TheVariants as happened
 use Rattle.run_safety.specs.Past.{records_of}
-use Rattle.row_laws.specs.ring_runs.Rings.{ring_settings, told_on, rings_told}
-use Rattle.row_laws.proofs.ring_runs.Law.{rings_agree_in_runs}
+use Rattle.run_laws.specs.ring_runs.Rings.{ring_settings, told_on, rings_told}
+use Rattle.run_laws.proofs.ring_runs.Law.{rings_agree_in_runs}
 use Rattle.run_laws.specs.seen_runs.Rings.{RingSeenAt, RingSeen, RingsSeen, SeenWithRings}
 use Rattle.run_laws.specs.seen_runs.Law.{EveryRingIsSeen, EveryTraceIsSeenWithRings}
 use Rattle.run_laws.proofs.seen_runs.Law.{traces_seen}

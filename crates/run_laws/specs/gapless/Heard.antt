@@ -11,7 +11,7 @@ use Rattle.run_safety.specs.Past.{History, EachEvent, Within, earlier}
 use Rattle.run_safety.specs.SafeHeard.{AllHear}
 use Rattle.run_safety.specs.Stays.{stays, part, takes_part, client_of, goodbye_of, is_refused, was_let_go}
 use Rattle.step_ties.specs.Tied.{Scene}
-use Rattle.run_laws.specs.leaving.Scenes.{Recounted}
+use Rattle.provider_laws.specs.leaving.Scenes.{Recounted}
 
 -- in this very event the provider's client says goodbye, and the call is taken
 abbrev pub leaves : ProviderId → Happening → History → Bool

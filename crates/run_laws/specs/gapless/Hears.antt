@@ -9,7 +9,7 @@ use Rattle.world_model.specs.Run.{Happening}
 use Rattle.run_safety.specs.Past.{History, EachEvent, Within, earlier}
 use Rattle.run_safety.specs.Stays.{stays, part, takes_part, lets_go, was_let_go}
 use Rattle.step_ties.specs.Tied.{Scene}
-use Rattle.run_laws.specs.leaving.Scenes.{Recounted}
+use Rattle.provider_laws.specs.leaving.Scenes.{Recounted}
 
 -- each provider of the node that takes part at the place of the put hears it in that event, unless it was let go, by an earlier
 -- event or by this one

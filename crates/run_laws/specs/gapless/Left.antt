@@ -9,7 +9,7 @@ use Rattle.world_model.specs.Run.{Happening}
 use Rattle.run_safety.specs.Past.{History, EachEvent}
 use Rattle.run_safety.specs.SafeHeard.{LeftBehind, Dissolves}
 use Rattle.step_ties.specs.Tied.{Scene}
-use Rattle.run_laws.specs.leaving.Scenes.{Recounted}
+use Rattle.provider_laws.specs.leaving.Scenes.{Recounted}
 
 -- whoever is told DISSOLVED in the event is left behind in it
 abbrev pub ToldWereLeft : Happening → History → Type 0

@@ -18,7 +18,7 @@ use Rattle.node_state.specs.declared.state.Core.{Core}
 use Rattle.run_safety.specs.Past.{records_of}
 use Rattle.run_safety.specs.Stays.{Stay, stays, is_join_of, part, is_dissolved, was_let_go}
 use Rattle.step_ties.specs.Tied.{Scene}
-use Rattle.run_laws.specs.leaving.Scenes.{Recounted}
+use Rattle.provider_laws.specs.leaving.Scenes.{Recounted}
 
 -- the provider has a first place in the latest of these stays, and no last one
 pub record Taker (p : ProviderId) (xs : List Stay) : Type 0 where

@@ -5,7 +5,7 @@ use Rattle.run_safety.specs.Past.{records_of}
 use Rattle.run_safety.specs.SafeHeard.{FoldHeard}
 use Rattle.step_ties.specs.Tied.{Scene}
 use Rattle.step_ties.specs.Runs.{Reached}
-use Rattle.row_laws.specs.ring_runs.Rings.{AddressesFit}
+use Rattle.run_laws.specs.ring_runs.Rings.{AddressesFit}
 use Rattle.run_laws.specs.seen_runs.Seen.{Seen}
 use Rattle.run_laws.specs.seen_runs.Rings.{RingsSeen, SeenWithRings}
 

@@ -20,9 +20,9 @@ use Rattle.run_safety.specs.Tallies.{IsTallied}
 use Rattle.run_safety.specs.SafeHeard.{latest_put, HeardState}
 use Rattle.row_laws.specs.hearing.Hearing.{last_heard}
 use Rattle.row_laws.specs.honest_votes.Casts.{EntryCast}
-use Rattle.row_laws.specs.closing_rows.Rows.{HasRows}
-use Rattle.run_laws.specs.attending.Places.{IsNext, IsUp}
-use Rattle.run_laws.specs.single_casts.Single.{CastAfterNotice, NotCastBefore}
+use Rattle.entry_laws.specs.closing_rows.Rows.{HasRows}
+use Rattle.provider_laws.specs.attending.Places.{IsNext, IsUp}
+use Rattle.provider_laws.specs.single_casts.Single.{CastAfterNotice, NotCastBefore}
 
 -- ---- nodes and views
 

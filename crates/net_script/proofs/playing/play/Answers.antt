@@ -1,8 +1,8 @@
 -- A client that is made of a votes word votes just as it says. And a safe run speaks of all groups, for any number, so
 -- its laws are named here.
 use Rattle.std.proofs.Common.{refl}
-use Rattle.world_play.proofs.SafeLaws.{every_play_is_safe, every_kept_play_is_safe}
-use Rattle.net_script.proofs.SafeLaws.{always}
+use Rattle.net_script.proofs.SafeLaws.{every_play_is_safe, every_kept_play_is_safe}
+use Rattle.net_script.proofs.PlaySafeLaws.{always}
 use Rattle.net_script.proofs.WordedLaws.{says_done, says_kept, says_front, unbegun_past, unbegun_text}
 use Rattle.net_script.proofs.playing.play.Goals.{in-Ok, in-Err}
 use Rattle.net_script.proofs.playing.play.Goals as goal

@@ -1,0 +1,298 @@
+-- In the middle of a step: the tallies of a node are of the voters of the states that its lists have, these states are those
+-- of its records, and the rows of what it put are right.
+use Rattle.std.proofs.Common.{◌≡◌, ◌⊎◌, ℕ, ◌+◌, suc, List, [], ◌∷◌, ◌++◌, length, take, Option, Some, None, Bool, true, false, refl, sym, ap, ◌∙◌, subst, inl, inr, append_assoc, append-nil, length-append, arith}
+use Rattle.std.specs.Prelude.{◌==◌, ◌&&◌, fold, find, reverse, if◌then◌else◌}
+use Rattle.std.specs.Str.{bytes_eq}
+use Rattle.std.proofs.lemmas.List.{reverse-append}
+use Rattle.std.proofs.lemmas.Bool.{eq-eqb}
+use Rattle.std.proofs.lemmas.Bool.Decides.{nat_tests}
+use Rattle.rsct_packet.specs.declared.ids.ViewId.{ViewId}
+use Rattle.rsct_packet.specs.Ids.{same_view}
+use Rattle.rsct_packet.specs.Search.{Has}
+use Rattle.group_entry.specs.declared.entry.Entry.{Entry}
+use Rattle.proposal_core.specs.declared.group_state.GroupState.{GroupState}
+use Rattle.proposal_core.specs.Fold.{empty_state, after}
+use Rattle.proposal_core.specs.GroupView.{GroupView}
+use Rattle.proposal_core.specs.Lists.{list_or_new, state_in, len_in, with_entry}
+use Rattle.view_state.specs.declared.views.Views.{Views}
+use Rattle.node_state.specs.declared.config.Config.{Config}
+use Rattle.node_state.specs.declared.group.GroupRow.{GroupRow}
+use Rattle.node_state.specs.declared.happened.Happened.{Happened}
+use Rattle.node_state.specs.declared.happened.Happened.TheVariants as happened
+use Rattle.node_state.specs.declared.state.Core.{Core}
+use Rattle.node_state.specs.State.{InNameOrder, row_found, row_of, with_row, list_of, len_of, is_this, leader_by, leader_in, leads_in, leads, recorded, recorded_all, has_name}
+use Rattle.node_state.specs.Leading.{put}
+use Rattle.run_safety.specs.Past.{History, earlier, Within, is_list, puts_of, base_of, fold_from, state_at, state_now}
+use Rattle.node_state.proofs.NameOrder.{KeepsName, cases_text, text_self, text_other, row_here, row_there, rows_ordered}
+use Rattle.entry_laws.specs.closing_rows.Rows.{HasRows, TallyFits}
+use Rattle.entry_laws.proofs.closing_rows.Entered.{Since}
+
+-- the node leads a group with this row
+abbrev pub leads_row : Core → GroupRow → Bool
+leads_row s row = is_this s.views.me (leader_by s.config.mode s.views.view.coord row.leader)
+
+abbrev pub found : Core → List ℕ → GroupRow
+found s g = row_found g (find (has_name g) s.groups)
+
+pub leads_is : (s : Core) (g : List ℕ) → leads_row s (found s g) ≡ leads s g
+unfolding leads leads_in leader_in row_of
+leads_is s g = refl
+
+-- a row has no tally, or the node leads the group and the tally is of the voters
+abbrev pub RowIs : Bool → GroupRow → Type 0
+RowIs led row = (row.led.tally ≡ None) ⊎ ((led ≡ true) × TallyFits row.led.tally (state_in row.list))
+
+-- T: the groups whose tally is of the phase that runs; G: those that the node leads
+pub record Rows (T G : List ℕ → Type 0) (s : Core) : Type 0 where
+  pub order : InNameOrder s.groups
+  pub tallies : (g : List ℕ) → T g → RowIs (leads_row s (found s g)) (found s g)
+  pub led : (g : List ℕ) → G g → leads_row s (found s g) ≡ true
+
+-- ---- what is recorded
+
+-- a view that is entered has no records of the node yet
+abbrev pub FreshIn : List Happened → History → Happened → Type 0
+FreshIn now before (happened.In n v ms) =
+    (g : List ℕ) → (puts_of n v g (earlier now before) ≡ []) × (base_of n v g (earlier now before) ≡ empty_state)
+FreshIn now before _ = Unit {0}
+
+abbrev pub Fresh : List Happened → History → Type 0
+Fresh now h = Within FreshIn now h
+
+-- the rows of a put are right, or someone put the entry there before
+abbrev pub PutFact : List Happened → History → ℕ → ViewId → List ℕ → ℕ → Entry → Type 0
+PutFact now h n v g i e = (Fresh now h → HasRows (state_at n v g i (earlier now h)) e) ⊎ ((m : ℕ) × Has (happened.Put m v g i e) (earlier now h))
+
+abbrev pub RecordFact : List Happened → History → Happened → Type 0
+RecordFact now h (happened.Put n v g i e) = PutFact now h n v g i e
+RecordFact now h _ = Unit {0}
+
+-- of each put since the node entered a view
+abbrev pub Facts : History → List Happened → Type 0
+Facts h now = Since RecordFact now h
+
+-- the records say what state the list has, and how long it is
+pub record StateIs (n : ℕ) (v : ViewId) (g : List ℕ) (l : Option GroupView) (rs : List Happened) : Type 0 where
+  pub state : state_in l ≡ state_now n v g rs
+  pub len : len_in l ≡ length (puts_of n v g rs)
+
+pub record At (h : History) (T G : List ℕ → Type 0) (s : Core) : Type 0 where
+  pub rows : Rows T G s
+  pub facts : Facts h (reverse s.records)
+  pub states : Fresh (reverse s.records) h → (g : List ℕ) → StateIs s.views.me s.views.view g (found s g).list (earlier (reverse s.records) h)
+
+-- what changes no list and enters no view
+abbrev pub Silent : Happened → Type 0
+Silent (happened.Put n v g i e) = ⊥
+Silent (happened.In n v ms) = ⊥
+Silent (happened.Base n v g old len st) = ⊥
+Silent _ = Unit {0}
+
+silent_fact : (h : History) (now : List Happened) (r : Happened) → Silent r → Facts h now → Facts h (r ∷ now)
+silent_fact h now (happened.Put n v g i e) z k = absurd z
+silent_fact h now (happened.In n v ms) z k = absurd z
+silent_fact h now (happened.Base n v g old len st) z k = absurd z
+silent_fact h now _ z k = (tt, k)
+
+silent_state : (n : ℕ) (v : ViewId) (g : List ℕ) (l : Option GroupView) (rs : List Happened) (r : Happened) → Silent r → StateIs n v g l rs → StateIs n v g l (r ∷ rs)
+silent_state n v g l rs (happened.Put m u h i e) z k = absurd z
+silent_state n v g l rs (happened.In m u ms) z k = absurd z
+silent_state n v g l rs (happened.Base m u h old len st) z k = absurd z
+silent_state n v g l rs _ z k = record { state = k.state; len = k.len }
+
+-- ---- lists with one more entry
+
+pub fold_pushed : (v : ViewId) (xs : List Entry) (s : GroupState) (i : ℕ) (e : Entry) → fold_from v s i (xs ++ e ∷ []) ≡ after (fold_from v s i xs) v (i + length xs) e
+fold_pushed v [] s i e = let q : i ≡ i + 0 = omega arith in ap (λ k. after s v k e) q
+fold_pushed v (x ∷ xs) s i e =
+    let q : (i + 1) + length xs ≡ i + suc (length xs) = omega arith in
+    fold_pushed v xs (after s v i x) (i + 1) e ∙ ap (λ k. after (fold_from v (after s v i x) (i + 1) xs) v k e) q
+
+length_pushed : (xs : List Entry) (e : Entry) → length (xs ++ e ∷ []) ≡ length xs + 1
+length_pushed xs e = length-append xs (e ∷ [])
+
+take_all : (xs : List Entry) → take (length xs) xs ≡ xs
+take_all [] = refl
+take_all (x ∷ xs) = ap (λ l. x ∷ l) (take_all xs)
+
+pub is_list_self : (n : ℕ) (v : ViewId) (g : List ℕ) → is_list n v g n v g ≡ true
+is_list_self n v g =
+    let a : (n == n) ≡ true = eq-eqb n n refl in
+    let b : same_view v v ≡ true = view_self v in
+    let c : bytes_eq g g ≡ true = text_self g in
+    (λ i. a i && (b i && c i))
+  where
+    view_self : (v : ViewId) → same_view v v ≡ true
+    view_self v = grind (arith, nat_tests)
+
+pub is_list_other : (n : ℕ) (v : ViewId) (k : List ℕ) (m : ℕ) (u : ViewId) (g : List ℕ) → (g ≡ k → ⊥) → is_list n v k m u g ≡ false
+is_list_other n v k m u g ne = ap (λ c. m == n && (same_view u v && c)) (text_other g k ne) ∙ none (m == n) (same_view u v)
+  where
+    none : (a b : Bool) → (a && (b && false)) ≡ false
+    none true true = refl
+    none true false = refl
+    none false b = refl
+
+state_pushed : (n : ℕ) (v : ViewId) (g : List ℕ) (l : Option GroupView) (rs : List Happened) (i : ℕ) (e : Entry) → StateIs n v g l rs → StateIs n v g (Some (with_entry (list_or_new l) v e)) (happened.Put n v g i e ∷ rs)
+unfolding with_entry
+state_pushed n v g l rs i e k =
+    let xs : List Entry = puts_of n v g rs in
+    let base : GroupState = base_of n v g rs in
+    let own : puts_of n v g (happened.Put n v g i e ∷ rs) ≡ puts_of n v g rs ++ e ∷ [] = ap (λ b. if b then puts_of n v g rs ++ e ∷ [] else puts_of n v g rs) (is_list_self n v g) in
+    let now : after (state_in l) v (len_in l) e ≡ after (fold_from v base 0 xs) v (length xs) e = λ j. after (k.state j) v (k.len j) e in
+    let from : length xs ≡ 0 + length xs = omega arith in
+    let pushed : fold_from v base 0 (xs ++ e ∷ []) ≡ after (fold_from v base 0 xs) v (0 + length xs) e = fold_pushed v xs base 0 e in
+    let whole : fold_from v base 0 (puts_of n v g (happened.Put n v g i e ∷ rs)) ≡ fold_from v base 0 (xs ++ e ∷ []) = ap (fold_from v base 0) own in
+    record {
+      state = now ∙ ap (λ z. after (fold_from v base 0 xs) v z e) from ∙ sym pushed ∙ sym whole;
+      len = ap (λ z. z + 1) k.len ∙ sym (length_pushed (puts_of n v g rs) e) ∙ sym (ap length own);
+    }
+
+state_beside : (n : ℕ) (v : ViewId) (k : List ℕ) (l : Option GroupView) (rs : List Happened) (m : ℕ) (u : ViewId) (g : List ℕ) (i : ℕ) (e : Entry) → (g ≡ k → ⊥) → StateIs n v k l rs → StateIs n v k l (happened.Put m u g i e ∷ rs)
+state_beside n v k l rs m u g i e ne s =
+    let same : puts_of n v k (happened.Put m u g i e ∷ rs) ≡ puts_of n v k rs = ap (λ b. if b then puts_of n v k rs ++ e ∷ [] else puts_of n v k rs) (is_list_other n v k m u g ne) in
+    record { state = s.state ∙ sym (ap (fold_from v (base_of n v k rs) 0) same); len = s.len ∙ sym (ap length same) }
+
+-- ---- rows
+
+-- nothing changes but what is sent, and the sessions
+pub record Calm (c d : Core) : Type 0 where
+  pub groups : d.groups ≡ c.groups
+  pub views : d.views ≡ c.views
+  pub config : d.config ≡ c.config
+  pub records : d.records ≡ c.records
+
+pub calm_self : (c : Core) → Calm c c
+calm_self c = record { groups = refl; views = refl; config = refl; records = refl }
+
+pub calm_then : (a b c : Core) → Calm a b → Calm b c → Calm a c
+calm_then a b c p q = record { groups = q.groups ∙ p.groups; views = q.views ∙ p.views; config = q.config ∙ p.config; records = q.records ∙ p.records }
+
+pub calm_fold : {A : Type 0} (f : Core → A → Core) → ((c : Core) (x : A) → Calm c (f c x)) → (xs : List A) (c : Core) → Calm c (fold f c xs)
+calm_fold f one [] c = calm_self c
+calm_fold f one (x ∷ xs) c = calm_then c (f c x) (fold f (f c x) xs) (one c x) (calm_fold f one xs (f c x))
+
+-- a row changes
+pub rows_for : (T G U : List ℕ → Type 0) (s : Core) (g : List ℕ) (f : GroupRow → GroupRow) → KeepsName f → ((x : GroupRow) → (f x).leader ≡ x.leader) → ((k : List ℕ) → U k → (g ≡ k → ⊥) → T k) → (U g → RowIs (leads_row s (found s g)) (f (found s g))) → Rows T G s → Rows U G (with_row s g f)
+unfolding with_row row_of
+rows_for T G U s g f keeps leader others own a =
+    record { order = rows_ordered g f keeps s a.order; tallies = λ k u. tally k u (cases_text g k); led = λ k i. leads k i (cases_text g k) }
+  where
+    here : found (with_row s g f) g ≡ f (found s g)
+    here = row_here g f keeps s a.order
+
+    there : (k : List ℕ) → (g ≡ k → ⊥) → found (with_row s g f) k ≡ found s k
+    there k ne = row_there g f keeps s k ne
+
+    lead : leads_row s (f (found s g)) ≡ leads_row s (found s g)
+    lead = ap (λ o. is_this s.views.me (leader_by s.config.mode s.views.view.coord o)) (leader (found s g))
+
+    tally : (k : List ℕ) → U k → (g ≡ k) ⊎ (g ≡ k → ⊥) → RowIs (leads_row s (found (with_row s g f) k)) (found (with_row s g f) k)
+    tally k u (inl e) =
+        subst (λ z. RowIs (leads_row s (found (with_row s g f) z)) (found (with_row s g f) z)) e (subst (λ z. RowIs (leads_row s z) z) (sym here) (subst (λ b. RowIs b (f (found s g))) (sym lead) (own (subst U (sym e) u))))
+    tally k u (inr ne) = subst (λ z. RowIs (leads_row s z) z) (sym (there k ne)) (a.tallies k (others k u ne))
+
+    leads : (k : List ℕ) → G k → (g ≡ k) ⊎ (g ≡ k → ⊥) → leads_row s (found (with_row s g f) k) ≡ true
+    leads k i (inl e) = subst (λ z. leads_row s (found (with_row s g f) z) ≡ true) e (ap (leads_row s) here ∙ lead ∙ a.led g (subst G (sym e) i))
+    leads k i (inr ne) = ap (leads_row s) (there k ne) ∙ a.led k i
+
+-- what is said of a group's list goes on where its row changes
+pub list_with : (P : List ℕ → Option GroupView → Type 0) (s : Core) (g : List ℕ) (f : GroupRow → GroupRow) → KeepsName f → InNameOrder s.groups → P g (f (found s g)).list → ((k : List ℕ) → (g ≡ k → ⊥) → P k (found s k).list) → (k : List ℕ) → P k (found (with_row s g f) k).list
+unfolding with_row row_of
+list_with P s g f keeps order here there k = by (cases_text g k)
+  where
+    by : (g ≡ k) ⊎ (g ≡ k → ⊥) → P k (found (with_row s g f) k).list
+    by (inl e) = subst (λ z. P z (found (with_row s g f) z).list) e (subst (λ (z : GroupRow). P g z.list) (sym (row_here g f keeps s order)) here)
+    by (inr ne) = subst (λ (z : GroupRow). P k z.list) (sym (row_there g f keeps s k ne)) (there k ne)
+
+module _ (h : History) where
+  -- other groups
+  pub at_for : (T G U V : List ℕ → Type 0) (s : Core) → ((g : List ℕ) → U g → T g) → ((g : List ℕ) → V g → leads_row s (found s g) ≡ true) → At h T G s → At h U V s
+  at_for T G U V s less led a =
+      record { rows = record { order = a.rows.order; tallies = λ g t. a.rows.tallies g (less g t); led = led }; facts = a.facts; states = a.states }
+
+  -- the entry is put at the end of a list
+  pub at_put_for : (T G U : List ℕ → Type 0) (s : Core) (g : List ℕ) (e : Entry) → PutFact (reverse s.records) h s.views.me s.views.view g (len_in (found s g).list) e → ((k : List ℕ) → U k → (g ≡ k → ⊥) → T k) → (U g → RowIs (leads_row s (found s g)) (record (found s g) { list = Some (with_entry (list_or_new (found s g).list) s.views.view e) })) → At h T G s → At h U G (put s g e)
+  unfolding put recorded with_row row_of len_of list_of
+  at_put_for T G U s g e fact others own a =
+      let f : GroupRow → GroupRow = λ row. record row { list = Some (with_entry (list_or_new row.list) s.views.view e) } in
+      let rows : Rows U G (with_row s g f) = rows_for T G U s g f (λ x. refl) (λ x. refl) others own a.rows in
+      record {
+        rows = record { order = rows.order; tallies = rows.tallies; led = rows.led };
+        facts = subst (Facts h) (sym turned) (fact, a.facts);
+        states = λ fresh. subst (λ rs. (k : List ℕ) → StateIs s.views.me s.views.view k (found (with_row s g f) k).list (earlier rs h)) (sym turned) (new (subst (λ rs. Fresh rs h) turned fresh).1);
+      }
+    where
+      r : Happened
+      r = happened.Put s.views.me s.views.view g (len_in (found s g).list) e
+
+      turned : reverse (s.records ++ r ∷ []) ≡ r ∷ reverse s.records
+      turned = reverse-append s.records (r ∷ [])
+
+      new : Fresh (reverse s.records) h → (k : List ℕ) → StateIs s.views.me s.views.view k (found (with_row s g (λ row. record row { list = Some (with_entry (list_or_new row.list) s.views.view e) })) k).list (r ∷ earlier (reverse s.records) h)
+      new fresh =
+          list_with (λ k l. StateIs s.views.me s.views.view k l (r ∷ earlier (reverse s.records) h)) s g (λ row. record row { list = Some (with_entry (list_or_new row.list) s.views.view e) }) (λ x. refl) a.rows.order (state_pushed s.views.me s.views.view g (found s g).list (earlier (reverse s.records) h) (len_in (found s g).list) e (a.states fresh g)) (λ k ne. state_beside s.views.me s.views.view k (found s k).list (earlier (reverse s.records) h) s.views.me s.views.view g (len_in (found s g).list) e ne (a.states fresh k))
+
+  module _ (T G : List ℕ → Type 0) where
+    pub at_fold : {A : Type 0} (f : Core → A → Core) (xs : List A) → ((s : Core) (x : A) → Has x xs → At h T G s → At h T G (f s x)) → (s : Core) → At h T G s → At h T G (fold f s xs)
+    at_fold f [] step s a = a
+    at_fold f (x ∷ xs) step s a = at_fold f xs (λ t y i k. step t y (inr i) k) (f s x) (step s x (inl refl) a)
+
+    pub at_calm : (c d : Core) → Calm c d → At h T G c → At h T G d
+    at_calm c d k a =
+        let x : At h T G (record c { groups = d.groups; views = d.views; config = d.config; records = d.records }) = subst (λ (z : List GroupRow × Views × Config × List Happened). At h T G (record c { groups = z.0; views = z.1; config = z.2; records = z.3 })) (λ i. (sym k.groups i, sym k.views i, sym k.config i, sym k.records i)) a in
+        record { rows = record { order = x.rows.order; tallies = x.rows.tallies; led = x.rows.led }; facts = x.facts; states = x.states }
+
+    pub at_recorded : (s : Core) (r : Happened) → Silent r → At h T G s → At h T G (recorded s r)
+    unfolding recorded
+    at_recorded s r silent a =
+        let turned : reverse (s.records ++ r ∷ []) ≡ r ∷ reverse s.records = reverse-append s.records (r ∷ []) in
+        record {
+          rows = record { order = a.rows.order; tallies = a.rows.tallies; led = a.rows.led };
+          facts = subst (Facts h) (sym turned) (silent_fact h (reverse s.records) r silent a.facts);
+          states = λ fresh. subst (λ rs. (k : List ℕ) → StateIs s.views.me s.views.view k (found s k).list (earlier rs h)) (sym turned) (λ k. silent_state s.views.me s.views.view k (found s k).list (earlier (reverse s.records) h) r silent (a.states (subst (λ rs. Fresh rs h) turned fresh).1 k));
+        }
+
+    pub at_recorded_all : (rs : List Happened) (s : Core) → ((r : Happened) → Has r rs → Silent r) → At h T G s → At h T G (recorded_all s rs)
+    unfolding recorded_all recorded
+    at_recorded_all [] s none a = subst (λ l. At h T G (record s { records = l })) (sym (append-nil s.records)) a
+    at_recorded_all (r ∷ rs) s none a =
+        subst (λ l. At h T G (record s { records = l })) (append_assoc s.records (r ∷ []) rs) (at_recorded_all rs (recorded s r) (λ x i. none x (inr i)) (at_recorded s r (none r (inl refl)) a))
+
+    pub at_views : (s : Core) (v : Views) → v.me ≡ s.views.me → v.view ≡ s.views.view → At h T G s → At h T G (record s { views = v })
+    at_views s v me at a =
+        record {
+          rows = record { order = a.rows.order; tallies = λ g t. subst (λ b. RowIs b (found s g)) (same g) (a.rows.tallies g t); led = λ g t. sym (same g) ∙ a.rows.led g t };
+          facts = a.facts;
+          states = λ fresh k. subst (λ (z : ℕ × ViewId). StateIs z.0 z.1 k (found s k).list (earlier (reverse s.records) h)) (λ i. (sym me i, sym at i)) (a.states fresh k);
+        }
+      where
+        same : (g : List ℕ) → leads_row s (found s g) ≡ leads_row (record s { views = v }) (found s g)
+        same g = λ i. is_this (sym me i) (leader_by s.config.mode (sym at i).coord (found s g).leader)
+
+    -- a row changes, whose list has the same state and length
+    module _ (U : List ℕ → Type 0) where
+      pub at_row_for : (s : Core) (g : List ℕ) (f : GroupRow → GroupRow) → KeepsName f → ((x : GroupRow) → (f x).leader ≡ x.leader) → ((x : GroupRow) → state_in (f x).list ≡ state_in x.list) → ((x : GroupRow) → len_in (f x).list ≡ len_in x.list) → ((k : List ℕ) → U k → (g ≡ k → ⊥) → T k) → (U g → RowIs (leads_row s (found s g)) (f (found s g))) → At h T G s → At h U G (with_row s g f)
+      unfolding with_row
+      at_row_for s g f keeps leader states lens others own a =
+          let rows : Rows U G (with_row s g f) = rows_for T G U s g f keeps leader others own a.rows in
+          record {
+            rows = record { order = rows.order; tallies = rows.tallies; led = rows.led };
+            facts = a.facts;
+            states = λ fresh. list_with (λ k l. StateIs s.views.me s.views.view k l (earlier (reverse s.records) h)) s g f keeps a.rows.order (let b = a.states fresh g in record { state = states (found s g) ∙ b.state; len = lens (found s g) ∙ b.len }) (λ k ne. a.states fresh k);
+          }
+
+    pub at_row : (s : Core) (g : List ℕ) (f : GroupRow → GroupRow) → KeepsName f → ((x : GroupRow) → (f x).leader ≡ x.leader) → ((x : GroupRow) → state_in (f x).list ≡ state_in x.list) → ((x : GroupRow) → len_in (f x).list ≡ len_in x.list) → (T g → RowIs (leads_row s (found s g)) (f (found s g))) → At h T G s → At h T G (with_row s g f)
+    at_row s g f keeps leader states lens own a = at_row_for T s g f keeps leader states lens (λ k t ne. t) own a
+
+    -- what the leader puts
+    pub put_fact : (s : Core) (g : List ℕ) (e : Entry) → HasRows (state_in (found s g).list) e → At h T G s → PutFact (reverse s.records) h s.views.me s.views.view g (len_in (found s g).list) e
+    put_fact s g e ok a = inl (λ fresh. subst (λ st. HasRows st e) (at (a.states fresh g)) ok)
+      where
+        rs : List Happened
+        rs = earlier (reverse s.records) h
+
+        at : StateIs s.views.me s.views.view g (found s g).list rs → state_in (found s g).list ≡ state_at s.views.me s.views.view g (len_in (found s g).list) rs
+        at k =
+            let all : take (len_in (found s g).list) (puts_of s.views.me s.views.view g rs) ≡ puts_of s.views.me s.views.view g rs = ap (λ i. take i (puts_of s.views.me s.views.view g rs)) k.len ∙ take_all (puts_of s.views.me s.views.view g rs) in
+            k.state ∙ sym (ap (fold_from s.views.view (base_of s.views.me s.views.view g rs) 0) all)

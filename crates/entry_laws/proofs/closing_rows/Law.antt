@@ -1,0 +1,213 @@
+-- Each scene that events lead to.
+use Rattle.std.proofs.Common.{◌≡◌, ℕ, ◌+◌, List, [], ◌∷◌, length, Option, Some, None, refl, sym, ap, ◌∙◌, subst, inl, inr}
+use Rattle.std.specs.Prelude.{fold, reverse}
+use Rattle.rsct_packet.specs.declared.ids.ViewId.{ViewId}
+use Rattle.rsct_packet.specs.Search.{Has}
+use Rattle.rsct_packet.specs.Mask.{nodes_of}
+use Rattle.group_entry.specs.declared.entry.Entry.{Entry}
+use Rattle.proposal_core.specs.Fold.{empty_state}
+use Rattle.proposal_core.specs.Lists.{list_or_new, state_in}
+use Rattle.view_state.specs.Views.{views_new}
+use Rattle.node_state.specs.declared.config.Config.{Config}
+use Rattle.node_state.specs.declared.happened.Happened.{Happened}
+use Rattle.node_state.specs.declared.happened.Happened.TheVariants as happened
+use Rattle.node_state.specs.declared.state.Core.{Core}
+use Rattle.node_state.specs.State.{row_of, led_of, list_of, state_of, with_sessions}
+use Rattle.node_state.specs.HandOn.{Answering}
+use Rattle.node_state.specs.Applying.{level_set}
+use Rattle.node_state.specs.Step.{NodeEvent, at_work, started, stepped}
+use Rattle.world_model.specs.declared.event.Event.{Event}
+use Rattle.run_safety.specs.Past.{History, records_of, earlier, Within, EachRecord, puts_of, base_of}
+use Rattle.run_safety.specs.Sight.{lines_with, lines_of}
+use Rattle.run_safety.specs.Group.{Origin, Based, Noted, kept}
+use Rattle.run_safety.specs.GroupLists as lists
+use Rattle.run_safety.specs.Bases.{Bases, state_of_list}
+use Rattle.run_safety.proofs.Whole.{Whole}
+use Rattle.run_safety.proofs.Lives.{whole}
+use Rattle.step_ties.specs.Ghost.{Ghost, Keeps}
+use Rattle.step_ties.specs.Tied.{Scene, opening_of, NodeIs, NodeIsIf, Rests}
+use Rattle.step_ties.specs.Rows.{ended, start_with, stopped, nothing_yet, starts_too, Arises}
+use Rattle.step_ties.specs.Runs.{IsNote, noted, Reached, Nothing, AllStart, Starts, Stops, Steps, Notes}
+use Rattle.step_ties.proofs.Changed.{each_set}
+use Rattle.step_ties.proofs.Begins.{begin_tied}
+use Rattle.step_ties.proofs.RowWorks.{keeps_of}
+use Rattle.step_ties.proofs.RunLaw.{reached_rests}
+use Rattle.entry_laws.specs.closing_rows.Rows.{RowsAreAlwaysVoters, TallyFits, TalliesAreOfVoters}
+use Rattle.entry_laws.proofs.closing_rows.Told.{Told, told_of, within_told, within_all}
+use Rattle.entry_laws.proofs.closing_rows.Lists.{puts_all, fresh_before, state_rest}
+use Rattle.entry_laws.proofs.closing_rows.Entered.{since_within, PutsNone, note_puts_none, started_puts_none, within_nothing, with_nothing}
+use Rattle.entry_laws.proofs.closing_rows.Evident.{Evident, ToldNow, told_less, rows_right, again_evident}
+use Rattle.entry_laws.proofs.closing_rows.At.{found, leads_row, RowIs, FreshIn, Fresh, RecordFact, Facts, StateIs, At}
+use Rattle.entry_laws.proofs.closing_rows.Ending.{Every, NoGroup}
+use Rattle.entry_laws.proofs.closing_rows.Steps.{at_stepped}
+
+-- ---- what a step has recorded
+
+-- in a scene in which each group's life goes on
+module _ (w : Scene) (rests : (g : List ℕ) → Rests g w) where
+  abbrev pub bases_in : List ℕ → Bases
+  bases_in g = (rests g).ghost.bases
+
+  abbrev pub logs_in : List ℕ → ViewId → List Entry
+  logs_in g = (whole (rests g).life).log
+
+  pub told_in : (g : List ℕ) → Told (bases_in g) (logs_in g) (lines_of g w.before)
+  told_in g =
+      let t = rests g in subst (Told (bases_in g) (logs_in g)) t.lines (told_of (opening_of w.config) t.ghost t.life)
+
+  -- the records say what state the list of a node has
+  states_rest : (n : ℕ) (s : Core) → w.cores n ≡ Some s → (g : List ℕ) → StateIs s.views.me s.views.view g (found s g).list (records_of w.before)
+  unfolding row_of
+  states_rest n s up g = subst (λ m. StateIs m s.views.view g (found s g).list (records_of w.before)) (sym k.stands.me) here
+    where
+      t : Rests g w
+      t = rests g
+
+      x : Ghost
+      x = t.ghost
+
+      o : Whole (opening_of w.config) x.nodes x.ps x.all x.leads x.bases
+      o = whole t.life
+
+      k : NodeIs x g n s
+      k = (subst (NodeIsIf w.config x g n (w.incs n)) up (t.nodes n)).0
+
+      shows : Keeps x s.views.view (x.nodes n).list (list_or_new (found s g).list)
+      shows = keeps_of x s.views.view (x.nodes n).list (found s g).list k.row_is.list
+
+      full : lists.puts_of n s.views.view (kept (lines_of g w.before)) ≡ (x.nodes n).list
+      full =
+          ap (λ l. lists.puts_of n s.views.view (kept l)) (sym t.lines) ∙ ap (λ v. lists.puts_of n v (kept x.all)) (sym k.stands.view) ∙ (o.good.past.seated n).list
+
+      based : (b : Origin) → x.bases s.views.view ≡ Some b → Has (Noted (Based n s.views.view b)) (lines_of g w.before)
+      based b q = subst (Has (Noted (Based n s.views.view b))) t.lines (o.based_ok.by_all n s.views.inc s.views.view s.views.members b k.stands.seated q)
+
+      puts : puts_of n s.views.view g (records_of w.before) ≡ (x.nodes n).list
+      puts = puts_all n s.views.view g w.before ∙ full
+
+      here : StateIs n s.views.view g (found s g).list (records_of w.before)
+      here =
+          record {
+            state = shows.state ∙ ap (state_of_list x.bases s.views.view) (sym full) ∙ state_rest n s.views.view g (bases_in g) (logs_in g) w.before (told_in g) based;
+            len = shows.len ∙ sym (ap length puts);
+          }
+
+-- a view that is entered is a new one
+abbrev FreshOf : List ℕ → List Happened → History → Happened → Type 0
+FreshOf g now before (happened.In n v ms) = (puts_of n v g (earlier now before) ≡ []) × (base_of n v g (earlier now before) ≡ empty_state)
+FreshOf g now before _ = Unit {0}
+
+fresh_one : (bases : Bases) (log : ViewId → List Entry) (g : List ℕ) (now : List Happened) (before : History) (r : Happened) → Told bases log (lines_with g (r ∷ now) before (lines_of g before)) → FreshOf g now before r
+fresh_one bases log g now before (happened.In n v ms) t = fresh_before n v g bases log _ ms now before t
+fresh_one bases log g now before _ t = tt
+
+fresh_each : (now : List Happened) (before : History) (r : Happened) → ((g : List ℕ) → FreshOf g now before r) → FreshIn now before r
+fresh_each now before (happened.In n v ms) k = k
+fresh_each now before _ k = tt
+
+all_fresh : (rs : List Happened) (before : History) → Within (λ now b r. (g : List ℕ) → FreshOf g now b r) rs before → Fresh rs before
+all_fresh [] before k = tt
+all_fresh (r ∷ now) before k = (fresh_each now before r k.0, all_fresh now before k.1)
+
+module _ (bases : List ℕ → Bases) (log : List ℕ → ViewId → List Entry) (h : History) where
+  fresh_now : (rs : List Happened) → ToldNow bases log rs h → Fresh rs h
+  fresh_now rs t =
+      all_fresh rs h (within_all FreshOf rs h (λ g. within_told (bases g) (log g) g (FreshOf g) (λ now b r k. fresh_one (bases g) (log g) g now b r k) rs h (t g)))
+
+  fact_evident : (r : Happened) (now : List Happened) → Fresh now h → RecordFact now h r → Evident now h r
+  fact_evident (happened.Put n v g i e) now fresh (inl a) = inl (a fresh)
+  fact_evident (happened.Put n v g i e) now fresh (inr a) = inr a
+  fact_evident _ now fresh k = tt
+
+  facts_evident : (now : List Happened) → ToldNow bases log now h → Facts h now → Within Evident now h
+  facts_evident now t k =
+      since_within RecordFact Evident h (λ rs. ToldNow bases log rs h) (λ r rs c. told_less bases log r rs h c) (λ r rs c. fact_evident r rs (fresh_now rs (told_less bases log r rs h c))) (λ n v ms rs c. (tt, again_evident bases log rs h (told_less bases log (happened.In n v ms) rs h c) (λ g. (c g).in_order.0))) now t k
+
+-- ---- the invariant
+
+abbrev CoreIs : Option Core → Type 0
+CoreIs None = Unit {0}
+CoreIs (Some s) = (g : List ℕ) → RowIs (leads_row s (found s g)) (found s g)
+
+record Holds (w : Scene) : Type 0 where
+  evident : EachRecord Evident w.before
+  nodes : (m : ℕ) → CoreIs (w.cores m)
+
+none_evident : (r : Happened) (now : List Happened) (before : History) → PutsNone r → Evident now before r
+none_evident (happened.Put n v g i e) now before z = absurd z
+none_evident _ now before z = tt
+
+-- a node that starts
+started_is : (c : Config) (n j : ℕ) → CoreIs (Some (started c n j))
+unfolding started with_sessions level_set views_new
+started_is c n j = λ g. inl refl
+
+start_holds : (w : Scene) (n : ℕ) (v : Event) → Holds w → Holds (start_with w n v (started w.config n (w.incs n + 1)))
+start_holds w n v k =
+    let s : Core = started w.config n (w.incs n + 1) in
+    record {
+      evident = (within_nothing Evident none_evident w.before s.records (started_puts_none w.config n (w.incs n + 1)), k.evident);
+      nodes = each_set (λ m o. CoreIs o) w.cores n (Some s) (started_is w.config n (w.incs n + 1)) (λ m ne. k.nodes m);
+    }
+
+stop_holds : (w : Scene) (n : ℕ) (v : Event) → Holds w → Holds (stopped w n v)
+stop_holds w n v k = record { evident = ((tt, tt), k.evident); nodes = each_set (λ m o. CoreIs o) w.cores n None tt (λ m ne. k.nodes m) }
+
+note_holds : (w : Scene) (v : Event) (rs : List Happened) → ((r : Happened) → Has r rs → IsNote r) → Holds w → Holds (noted w v rs)
+note_holds w v rs notes k =
+    record { evident = (within_nothing Evident none_evident w.before rs (λ r i. note_puts_none r (notes r i)), k.evident); nodes = k.nodes }
+
+-- every node starts, in one event
+module _ (w : Scene) (n : ℕ) where
+  too_holds : (o : Option Core) → Holds w → Holds (starts_too w n o)
+  too_holds (Some s) k = k
+  too_holds None k =
+      record {
+        evident = with_nothing Evident none_evident w.before (started w.config n (w.incs n + 1)).records (started_puts_none w.config n (w.incs n + 1)) k.evident;
+        nodes = each_set (λ m o. CoreIs o) w.cores n (Some (started w.config n (w.incs n + 1))) (started_is w.config n (w.incs n + 1)) (λ m ne. k.nodes m);
+      }
+
+fold_holds : (ns : List ℕ) (w : Scene) → Holds w → Holds (fold (λ (w : Scene) n. starts_too w n (w.cores n)) w ns)
+fold_holds [] w k = k
+fold_holds (n ∷ ns) w k = fold_holds ns (starts_too w n (w.cores n)) (too_holds w n (w.cores n) k)
+
+-- a step
+step_holds : (w : Scene) (n : ℕ) (f : Answering) (s : Core) (e : NodeEvent) (v : Event) → w.cores n ≡ Some s → ((g : List ℕ) → Rests g w) → ((g : List ℕ) → Rests g (ended w n v (stepped f s e))) → Arises w e → Holds w → Holds (ended w n v (stepped f s e))
+step_holds w n f s e v up rests after arises k =
+    let now : Scene = ended w n v (stepped f s e) in
+    let a : At w.before Every NoGroup (stepped f s e) = at_stepped w n f s e (λ h. begin_tied h w n s up (rests h)) arises begin in
+    record {
+      evident = (facts_evident (bases_in now after) (logs_in now after) w.before (reverse (stepped f s e).records) (λ g. told_in now after g) a.facts, k.evident);
+      nodes = each_set (λ m o. CoreIs o) w.cores n (Some (stepped f s e)) (λ g. a.rows.tallies g tt) (λ m ne. k.nodes m);
+    }
+  where
+    begin : At w.before Every NoGroup (at_work s)
+    begin =
+        record {
+          rows = record { order = (subst (NodeIsIf w.config (rests []).ghost [] n (w.incs n)) up ((rests []).nodes n)).0.order; tallies = λ g t. (subst CoreIs up (k.nodes n)) g; led = λ g z. absurd z };
+          facts = tt;
+          states = λ fresh. states_rest w rests n s up;
+        }
+
+reached_holds : (c : Config) (w : Scene) → Reached c w → Holds w
+reached_holds c _ Nothing = record { evident = tt; nodes = λ m. tt }
+reached_holds c _ (AllStart fixed) =
+    fold_holds (nodes_of c.nodes) (record (nothing_yet c) { before = record { event = None; records = [] } ∷ [] }) (record { evident = (tt, tt); nodes = λ m. tt })
+reached_holds c _ (Starts w n e k free real down) = start_holds w n e (reached_holds c w k)
+reached_holds c _ (Stops w n e s k up) = stop_holds w n e (reached_holds c w k)
+reached_holds c _ (Steps w n f s e v k up arises) =
+    step_holds w n f s e v up (λ g. reached_rests c w k g) (λ g. reached_rests c (ended w n v (stepped f s e)) (Steps w n f s e v k up arises) g) arises (reached_holds c w k)
+reached_holds c _ (Notes w e rs k notes) = note_holds w e rs notes (reached_holds c w k)
+
+pub rows_are_voters : RowsAreAlwaysVoters
+rows_are_voters c w k =
+    let rests : (g : List ℕ) → Rests g w = λ g. reached_rests c w k g in
+    rows_right (bases_in w rests) (logs_in w rests) w.before (λ g. told_in w rests g) (reached_holds c w k).evident
+
+pub tallies_are_of_voters : TalliesAreOfVoters
+unfolding led_of state_of list_of row_of
+tallies_are_of_voters c w k n s up g = by ((subst CoreIs up ((reached_holds c w k).nodes n)) g)
+  where
+    by : RowIs (leads_row s (found s g)) (found s g) → TallyFits (found s g).led.tally (state_in (found s g).list)
+    by (inl none) = subst (λ o. TallyFits o (state_in (found s g).list)) (sym none) tt
+    by (inr j) = j.1

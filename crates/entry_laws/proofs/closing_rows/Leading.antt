@@ -1,0 +1,225 @@
+-- What the leader of a group does.
+use Rattle.std.proofs.Common.{◌≡◌, ℕ, zero, suc, ◌-◌, max, List, [], drop, Option, Some, None, Bool, true, false, refl, sym, ap, ◌∙◌, subst, inl, inr}
+use Rattle.std.specs.Prelude.{◌&&◌, not, filter, is_none, nat_le, reverse, if◌then◌else◌}
+use Rattle.std.proofs.lemmas.Bool.{and_parts}
+use Rattle.rsct_packet.specs.declared.ids.ViewId.{ViewId}
+use Rattle.rsct_packet.specs.declared.ids.ProviderId.{ProviderId}
+use Rattle.rsct_packet.specs.Providers.{among}
+use Rattle.group_attr.specs.declared.attrs.Phases.{Phases}
+use Rattle.group_attr.specs.declared.attrs.Phases.TheVariants.{One, Many}
+use Rattle.group_entry.specs.declared.proposal.Cause.TheVariants.{Died, Gone}
+use Rattle.group_entry.specs.declared.proposal.Proposal.{Proposal}
+use Rattle.group_entry.specs.declared.entry.Entry.{Entry}
+use Rattle.group_entry.specs.declared.entry.Entry.TheVariants.{Once, Begin}
+use Rattle.proposal_core.specs.declared.group_state.GroupState.{GroupState}
+use Rattle.proposal_core.specs.declared.group_state.Running.{Running}
+use Rattle.proposal_core.specs.Fold.{max_phases, can_begin, fits, begun, approved, applied, after_if, after, voters}
+use Rattle.proposal_core.proofs.FoldLaws.{idle_approved}
+use Rattle.proposal_core.specs.GroupView.{GroupView}
+use Rattle.proposal_core.specs.Lists.{list_or_new, state_in, len_in, has_room, entry_fits, with_entry, forgotten}
+use Rattle.batch_rules.specs.Waiting.{WaitingView, waits_failure}
+use Rattle.vote_phases.specs.Tally.{TallyView}
+use Rattle.node_state.specs.declared.group.GroupRow.{GroupRow}
+use Rattle.node_state.specs.declared.group.Led.{Led}
+use Rattle.node_state.specs.declared.packet.Body.TheVariants as body
+use Rattle.node_state.specs.declared.state.Core.{Core}
+use Rattle.node_state.specs.State.{row_of, with_led, led_of, list_of, state_of, len_of, fits_at_end, list_forgotten, forgets_below, leader_of, others, least_acked}
+use Rattle.node_state.specs.Sending.{sent_all}
+use Rattle.node_state.specs.HandOn.{Answering, handed_on}
+use Rattle.node_state.specs.Leading.{put, put_and_handed, forgets_least, with_waiting, waits_if, new_members_wait, appended, appended_if, tally_for, tally_set, tally_opened, closing_entry, is_phase, closes_from, closes, begun_many, begins}
+use Rattle.run_safety.specs.Past.{History}
+use Rattle.entry_laws.specs.closing_rows.Rows.{HasRows, TallyFits}
+use Rattle.entry_laws.proofs.closing_rows.At.{found, leads_row, RowIs, PutFact, At, at_put_for, at_fold, at_calm, at_row, at_row_for, put_fact}
+use Rattle.entry_laws.proofs.closing_rows.Calms.{calm_all, at_handed}
+use Rattle.entry_laws.proofs.closing_rows.Tallies.{opened_fits, idle_voters, closing_rows}
+
+-- ---- lists
+
+pub forgotten_state : (l : Option GroupView) (n : ℕ) → state_in (list_forgotten n l) ≡ state_in l
+unfolding forgotten
+forgotten_state None n = refl
+forgotten_state (Some l) n = by (nat_le n l.len)
+  where
+    by : (b : Bool) → (if b then record l { start = max l.start n; entries = drop (n - l.start) l.entries } else l).state ≡ l.state
+    by true = refl
+    by false = refl
+
+forgotten_len : (l : Option GroupView) (n : ℕ) → len_in (list_forgotten n l) ≡ len_in l
+unfolding forgotten
+forgotten_len None n = refl
+forgotten_len (Some l) n = by (nat_le n l.len)
+  where
+    by : (b : Bool) → (if b then record l { start = max l.start n; entries = drop (n - l.start) l.entries } else l).len ≡ l.len
+    by true = refl
+    by false = refl
+
+-- an entry that begins and ends at once finds and leaves nothing running, and one of who is late leaves what runs
+pub once_idle : (st : GroupState) (v : ViewId) (i : ℕ) (x : Proposal) → fits st (Once x) ≡ true → (after st v i (Once x)).running ≡ None
+unfolding after after_if applied approved
+once_idle st v i x e =
+    ap (λ b. (after_if st v i (Once x) b).running) e ∙ idle_approved (begun st v i x) v i None (begun st v i x).running refl
+
+once_finds : (st : GroupState) (x : Proposal) → fits st (Once x) ≡ true → st.running ≡ None
+unfolding fits
+once_finds st x e = by st.running e
+  where
+    by : (o : Option Running) → (is_none o && can_begin st x) ≡ true → o ≡ None
+    by None q = refl
+    by (Some run) q = absurd (cc)
+
+pub late_same : (st : GroupState) (v : ViewId) (i : ℕ) (e : Entry) → applied st v i e ≡ st → after st v i e ≡ st
+unfolding after after_if
+late_same st v i e same = by (fits st e)
+  where
+    by : (b : Bool) → after_if st v i e b ≡ st
+    by true = same
+    by false = refl
+
+-- where the voters are the same, so is the tally
+row_is_same : (led : Bool) (row now : GroupRow) → now.led.tally ≡ row.led.tally → voters (state_in now.list) ≡ voters (state_in row.list) → RowIs led row → RowIs led now
+row_is_same led row now t r (inl e) = inl (t ∙ e)
+row_is_same led row now t r (inr k) = inr (k.0, subst (λ o. TallyFits o (state_in now.list)) (sym t) (by row.led.tally k.1))
+  where
+    by : (o : Option TallyView) → TallyFits o (state_in row.list) → TallyFits o (state_in now.list)
+    by None z = tt
+    by (Some x) z = z ∙ sym r
+
+module _ (h : History) where
+  -- ---- an entry is put
+
+  abbrev pub put_row : Core → GroupRow → Entry → GroupRow
+  put_row s row e = record row { list = Some (with_entry (list_or_new row.list) s.views.view e) }
+
+  module _ (T G U : List ℕ → Type 0) where
+    pub at_put_and_handed_for : (f : Answering) (s : Core) (to : Option ℕ) (g : List ℕ) (e : Entry) → PutFact (reverse s.records) h s.views.me s.views.view g (len_in (found s g).list) e → ((k : List ℕ) → U k → (g ≡ k → ⊥) → T k) → (U g → RowIs (leads_row s (found s g)) (put_row s (found s g) e)) → At h T G s → At h U G (put_and_handed f s to g e)
+    unfolding put_and_handed
+    at_put_and_handed_for f s to g e fact rest own a =
+        at_handed h U G f (put s g e) to g (len_of s g) (state_of s g) (state_of (put s g e) g) e (at_put_for h T G U s g e fact rest own a)
+
+  module _ (T G : List ℕ → Type 0) where
+    -- what a leader keeps changes, and the tally does not
+    pub at_led : (s : Core) (g : List ℕ) (f : Led → Led) → ((l : Led) → (f l).tally ≡ l.tally) → At h T G s → At h T G (with_led s g f)
+    unfolding with_led
+    at_led s g f same a =
+        at_row h T G s g (λ row. record row { led = f row.led }) (λ x. refl) (λ x. refl) (λ x. refl) (λ x. refl) (λ t. row_is_same (leads_row s (found s g)) (found s g) (record (found s g) { led = f (found s g).led }) (same (found s g).led) refl (a.rows.tallies g t)) a
+
+    pub at_waits : (s : Core) (g : List ℕ) (change : WaitingView → WaitingView) → At h T G s → At h T G (with_waiting s g change)
+    unfolding with_waiting
+    at_waits s g change a = at_led s g (λ l. record l { waiting = change l.waiting }) (λ l. refl) a
+
+    pub at_forgets : (s : Core) (g : List ℕ) (n : ℕ) → At h T G s → At h T G (forgets_below s g n)
+    unfolding forgets_below
+    at_forgets s g n a =
+        at_row h T G s g (λ row. record row { list = list_forgotten n row.list }) (λ x. refl) (λ x. refl) (λ x. forgotten_state x.list n) (λ x. forgotten_len x.list n) (λ t. row_is_same (leads_row s (found s g)) (found s g) (record (found s g) { list = list_forgotten n (found s g).list }) refl (ap voters (forgotten_state (found s g).list n)) (a.rows.tallies g t)) a
+
+    pub at_forgets_least : (s : Core) (g : List ℕ) → At h T G s → At h T G (forgets_least s g)
+    unfolding forgets_least
+    at_forgets_least s g a = at_forgets s g (least_acked s g) a
+
+    at_waits_if : (s : Core) (g : List ℕ) (p : ProviderId) (a b : Bool) → At h T G s → At h T G (waits_if s g p a b)
+    unfolding waits_if
+    at_waits_if s g p true b k = at_waits s g (waits_failure p Died) k
+    at_waits_if s g p false true k = at_waits s g (waits_failure p Gone) k
+    at_waits_if s g p false false k = k
+
+    at_new_members : (s : Core) (g : List ℕ) (before after : GroupState) → At h T G s → At h T G (new_members_wait s g before after)
+    unfolding new_members_wait
+    at_new_members s g before after a =
+        at_fold h T G (λ t p. waits_if t g p (among after.failed p) (among (led_of s g).gone p)) (filter (λ p. not (among before.members p)) after.members) (λ t p i k. at_waits_if t g p (among after.failed p) (among (led_of s g).gone p) k) s a
+
+  module _ (T G U : List ℕ → Type 0) where
+    pub at_appended_for : (f : Answering) (s : Core) (g : List ℕ) (e : Entry) → HasRows (state_in (found s g).list) e → ((k : List ℕ) → U k → (g ≡ k → ⊥) → T k) → (U g → RowIs (leads_row s (found s g)) (put_row s (found s g) e)) → At h T G s → At h U G (appended f s g e)
+    unfolding appended
+    at_appended_for f s g e ok rest own a =
+        let t : Core = put s g e in
+        let u : Core = sent_all t (others t) (body.Entry t.views.view g (len_of s g) (least_acked t g) e) in
+        let w : Core = handed_on f u (leader_of u g) g (len_of s g) (state_of s g) (state_of t g) e in
+        let put_at : At h U G t = at_put_for h T G U s g e (put_fact h T G s g e ok a) rest own a in
+        let sent_at : At h U G u = at_calm h U G t u (calm_all t (others t) (body.Entry t.views.view g (len_of s g) (least_acked t g) e)) put_at in
+        let handed_at : At h U G w = at_handed h U G f u (leader_of u g) g (len_of s g) (state_of s g) (state_of t g) e sent_at in
+        at_new_members U G (forgets_least w g) g (state_of s g) (state_of t g) (at_forgets_least U G w g handed_at)
+
+  -- ---- the tally of a phase
+
+  -- but for one group
+  abbrev pub But : List ℕ → (List ℕ → Type 0) → List ℕ → Type 0
+  But g T k = T k × (g ≡ k → ⊥)
+
+  module _ (T G : List ℕ → Type 0) where
+    pub at_tally_set : (s : Core) (g : List ℕ) (t : Option TallyView) → (T g → RowIs (leads_row s (found s g)) (record (found s g) { led = record ((found s g).led) { tally = t; given = [] } })) → At h (But g T) G s → At h T G (tally_set s g t)
+    unfolding tally_set with_led
+    at_tally_set s g t own a =
+        at_row_for h (But g T) G T s g (λ row. record row { led = record (row.led) { tally = t; given = [] } }) (λ x. refl) (λ x. refl) (λ x. refl) (λ x. refl) (λ k u ne. (u, ne)) own a
+
+    pub at_tally_opened : (s : Core) (g : List ℕ) → G g → At h (But g T) G s → At h T G (tally_opened s g)
+    unfolding tally_opened state_of list_of row_of
+    at_tally_opened s g led a =
+        at_tally_set s g (Some (tally_for (state_in (found s g).list) (led_of s g).gone)) (λ t. inr (a.rows.led g led, opened_fits (state_in (found s g).list) (led_of s g).gone)) a
+
+    pub at_opened_anew : (s : Core) (g : List ℕ) → G g → At h T G s → At h T G (tally_opened s g)
+    at_opened_anew s g led a =
+        at_tally_opened s g led (record { rows = record { order = a.rows.order; tallies = λ k t. a.rows.tallies k t.0; led = a.rows.led }; facts = a.facts; states = a.states })
+
+    at_appended_loose : (f : Answering) (s : Core) (g : List ℕ) (e : Entry) → HasRows (state_in (found s g).list) e → At h T G s → At h (But g T) G (appended f s g e)
+    at_appended_loose f s g e ok a = at_appended_for T G (But g T) f s g e ok (λ k u ne. u.0) (λ u. absurd (u.1 refl)) a
+
+    at_closes_from : (n : ℕ) (f : Answering) (s : Core) (g : List ℕ) → T g → G g → At h T G s → At h T G (closes_from n f s g)
+    unfolding closes_from led_of state_of list_of row_of
+    at_closes_from zero f s g t led a = a
+    at_closes_from (suc n) f s g t led a =
+        by (closing_entry (found s g).led (found s g).led.tally (state_in (found s g).list).running) refl (at_closes_from n f)
+      where
+        Rec : Type 0
+        Rec = (c : Core) (g : List ℕ) → T g → G g → At h T G c → At h T G (closes_from n f c g)
+
+        made : (e : Entry) → closing_entry (found s g).led (found s g).led.tally (state_in (found s g).list).running ≡ Some e → HasRows (state_in (found s g).list) e
+        made e q = at (a.rows.tallies g t)
+          where
+            at : RowIs (leads_row s (found s g)) (found s g) → HasRows (state_in (found s g).list) e
+            at (inl none) =
+                closing_rows (found s g).led None (state_in (found s g).list) e tt (ap (λ o. closing_entry (found s g).led o (state_in (found s g).list).running) (sym none) ∙ q)
+            at (inr k) = closing_rows (found s g).led (found s g).led.tally (state_in (found s g).list) e k.1 q
+
+        last : (e : Entry) → HasRows (state_in (found s g).list) e → Rec → (b : Bool) → At h T G (elim b as (λ _. Core) [ true ↦ closes_from n f (tally_opened (appended f s g e) g) g | false ↦ tally_set (appended f s g e) g None ])
+        last e ok rec true = rec (tally_opened (appended f s g e) g) g t led (at_tally_opened (appended f s g e) g led (at_appended_loose f s g e ok a))
+        last e ok rec false = at_tally_set (appended f s g e) g None (λ u. inl refl) (at_appended_loose f s g e ok a)
+
+        fitting : (e : Entry) → HasRows (state_in (found s g).list) e → Rec → (b : Bool) → At h T G (elim b as (λ _. Core) [ false ↦ s | true ↦ elim (is_phase e) as (λ _. Core) [ true ↦ closes_from n f (tally_opened (appended f s g e) g) g | false ↦ tally_set (appended f s g e) g None ] ])
+        fitting e ok rec false = a
+        fitting e ok rec true = last e ok rec (is_phase e)
+
+        by : (o : Option Entry) → closing_entry (found s g).led (found s g).led.tally (state_in (found s g).list).running ≡ o → Rec → At h T G (elim o as (λ _. Core) [ None ↦ s | Some e ↦ elim (fits_at_end s g e) as (λ _. Core) [ false ↦ s | true ↦ elim (is_phase e) as (λ _. Core) [ true ↦ closes_from n f (tally_opened (appended f s g e) g) g | false ↦ tally_set (appended f s g e) g None ] ] ])
+        by None q rec = a
+        by (Some e) q rec = fitting e (made e q) rec (fits_at_end s g e)
+
+    pub at_closes : (f : Answering) (s : Core) (g : List ℕ) → T g → G g → At h T G s → At h T G (closes f s g)
+    unfolding closes
+    at_closes f s g t led a = at_closes_from max_phases f s g t led a
+
+    at_begun_many : (f : Answering) (s : Core) (g : List ℕ) (x : Proposal) (b : Bool) → T g → G g → At h T G s → At h T G (begun_many f s g x b)
+    unfolding begun_many
+    at_begun_many f s g x false t led a = a
+    at_begun_many f s g x true t led a =
+        at_closes f (tally_opened (appended f s g (Begin x)) g) g t led (at_tally_opened (appended f s g (Begin x)) g led (at_appended_loose f s g (Begin x) tt a))
+
+    pub at_begins : (f : Answering) (s : Core) (g : List ℕ) (x : Proposal) (phases : Phases) → T g → G g → At h T G s → At h T G (begins f s g x phases)
+    unfolding begins appended_if fits_at_end entry_fits list_of row_of with_entry
+    at_begins f s g x Many t led a = at_begun_many f s g x (fits_at_end s g (Begin x)) t led a
+    at_begins f s g x One t led a = by (fits_at_end s g (Once x)) refl
+      where
+        same : fits_at_end s g (Once x) ≡ true → voters (state_in (put_row s (found s g) (Once x)).list) ≡ voters (state_in (found s g).list)
+        same e =
+            let fit : fits (state_in (found s g).list) (Once x) ≡ true = (and_parts (fits (state_in (found s g).list) (Once x)) (has_room (list_or_new (found s g).list) (Once x)) e).0 in
+            idle_voters (state_in (put_row s (found s g) (Once x)).list) (once_idle (state_in (found s g).list) s.views.view (list_or_new (found s g).list).len x fit) ∙ sym (idle_voters (state_in (found s g).list) (once_finds (state_in (found s g).list) x fit))
+
+        by : (b : Bool) → fits_at_end s g (Once x) ≡ b → At h T G (appended_if f s g (Once x) b)
+        by false e = a
+        by true e =
+            at_appended_for T G T f s g (Once x) tt (λ k u ne. u) (λ u. row_is_same (leads_row s (found s g)) (found s g) (put_row s (found s g) (Once x)) refl (same e) (a.rows.tallies g u)) a
+
+    -- who is late is announced
+    pub at_announces : (f : Answering) (s : Core) (g : List ℕ) (e : Entry) → ((st : GroupState) → HasRows st e) → ((st : GroupState) (v : ViewId) (i : ℕ) → applied st v i e ≡ st) → (b : Bool) → At h T G s → At h T G (appended_if f s g e b)
+    unfolding appended_if with_entry
+    at_announces f s g e ok same false a = a
+    at_announces f s g e ok same true a =
+        at_appended_for T G T f s g e (ok (state_in (found s g).list)) (λ k u ne. u) (λ u. row_is_same (leads_row s (found s g)) (found s g) (put_row s (found s g) e) refl (ap voters (late_same (state_in (found s g).list) s.views.view (list_or_new (found s g).list).len e (same (state_in (found s g).list) s.views.view (list_or_new (found s g).list).len))) (a.rows.tallies g u)) a

@@ -1,0 +1,56 @@
+-- What a leader decides.
+use Rattle.std.proofs.Common.{ℕ, List, Option, Some, None}
+use Rattle.rsct_packet.specs.declared.ids.ProviderId.{ProviderId}
+use Rattle.rsct_packet.specs.Search.{Has}
+use Rattle.group_attr.specs.declared.attrs.Attrs.{Attrs}
+use Rattle.group_attr.specs.declared.attrs.Phases.{Phases}
+use Rattle.group_entry.specs.declared.proposal.Proposal.{Proposal}
+use Rattle.group_entry.specs.declared.proposal.Proposal.TheVariants.{Join, Leave, Fail, Expel, State, Message, Attributes, Reflect}
+use Rattle.batch_rules.specs.Waiting.{waits_join}
+use Rattle.client_callbacks.specs.declared.told.Why.{Why}
+use Rattle.node_state.specs.declared.packet.Body.TheVariants as body
+use Rattle.node_state.specs.declared.state.Core.{Core}
+use Rattle.node_state.specs.State.{state_of, decisions_with}
+use Rattle.node_state.specs.HandOn.{Answering}
+use Rattle.node_state.specs.Deciding.{decision_kept, refused, is_idle_empty, join_refusal, attrs_kept, join_waits, decided_join, other_refusal, decided_other, decided}
+use Rattle.run_safety.specs.Past.{History}
+use Rattle.run_safety.specs.Requests.{requests_of}
+use Rattle.entry_laws.proofs.closing_rows.Calms.{calm_sent}
+use Rattle.entry_laws.proofs.source_order.At.{Plain, plain_well, At, at_calm}
+use Rattle.entry_laws.proofs.source_order.Leading.{at_led, at_begins}
+
+module _ (h : History) (P : Type 0) where
+  abbrev Full : Core → Type 0
+  Full s = At h P s
+
+  pub at_decision : (s : Core) (g : List ℕ) (p : ProviderId) (r : ℕ) (y : Option Why) → Full s → Full (decision_kept s g p r y)
+  unfolding decision_kept
+  at_decision s g p r y a = at_led h P s g (λ l. record l { decided = decisions_with (record { p = p; r = r; why = y }) l.decided }) a
+
+  pub at_refused : (s : Core) (g : List ℕ) (p : ProviderId) (r : ℕ) (y : Why) → Full s → Full (refused s g p r y)
+  unfolding refused
+  at_refused s g p r y a = at_calm h P (decision_kept s g p r (Some y)) _ (calm_sent (decision_kept s g p r (Some y)) p.node (body.Tell s.views.view g p r y)) (at_decision s g p r (Some y) a)
+
+  at_decided_join : (s : Core) (g : List ℕ) (p : ProviderId) (r : ℕ) (attrs : Attrs) (o : Option Why) → Full s → Full (decided_join s g p r attrs o)
+  unfolding decided_join join_waits
+  at_decided_join s g p r attrs None a =
+      at_led h P (decision_kept s g p r None) g (λ l. record l { waiting = waits_join p l.waiting; join_attrs = attrs_kept l.join_attrs p attrs (is_idle_empty (state_of s g)) }) (at_decision s g p r None a)
+  at_decided_join s g p r attrs (Some y) a = at_refused s g p r y a
+
+  at_decided_other : (f : Answering) (s : Core) (g : List ℕ) (p : ProviderId) (r : ℕ) (phases : Phases) (x : Proposal) (o : Option Why) → Plain x → Full s → Full (decided_other f s g p r phases x o)
+  unfolding decided_other
+  at_decided_other f s g p r phases x None plain a =
+      let c : Core = decision_kept s g p r None in at_begins h P f c g x phases (plain_well _ _ g _ _ x plain) (at_decision s g p r None a)
+  at_decided_other f s g p r phases x (Some y) plain a = at_refused s g p r y a
+
+  -- nobody asks for a reflection
+  pub at_decided : (f : Answering) (s : Core) (g : List ℕ) (p : ProviderId) (r : ℕ) (phases : Phases) (x : Proposal) → Has (p, r) (requests_of x) → Full s → Full (decided f s g p r phases x)
+  unfolding decided
+  at_decided f s g p r phases (Join ps attrs n) asked a = at_decided_join s g p r attrs (join_refusal s g p attrs) a
+  at_decided f s g p r phases (Leave q k) asked a = at_decided_other f s g p r phases (Leave q k) (other_refusal s g p (Leave q k)) tt a
+  at_decided f s g p r phases (Fail out) asked a = absurd asked
+  at_decided f s g p r phases (Expel q k out) asked a = at_decided_other f s g p r phases (Expel q k out) (other_refusal s g p (Expel q k out)) tt a
+  at_decided f s g p r phases (State q k value) asked a = at_decided_other f s g p r phases (State q k value) (other_refusal s g p (State q k value)) tt a
+  at_decided f s g p r phases (Message q k bytes) asked a = at_decided_other f s g p r phases (Message q k bytes) (other_refusal s g p (Message q k bytes)) tt a
+  at_decided f s g p r phases (Attributes q k attrs) asked a = at_decided_other f s g p r phases (Attributes q k attrs) (other_refusal s g p (Attributes q k attrs)) tt a
+  at_decided f s g p r phases (Reflect v i value) asked a = absurd asked

@@ -1,0 +1,255 @@
+-- What begins at the end of a step.
+use Rattle.std.proofs.Common.{◌≡◌, ℕ, zero, suc, List, [], ◌∷◌, length, Option, Some, None, Bool, true, false, refl, sym, ap, ◌∙◌, subst}
+use Rattle.std.specs.Prelude.{not, fold, filter, reverse, if◌then◌else◌}
+use Rattle.std.specs.List.{list_any}
+use Rattle.std.specs.Option.{option_map}
+use Rattle.rsct_packet.specs.declared.ids.ViewId.{ViewId}
+use Rattle.rsct_packet.specs.declared.ids.ProtoId.{ProtoId}
+use Rattle.rsct_packet.specs.declared.ids.ProviderId.{ProviderId}
+use Rattle.rsct_packet.specs.Ids.{place_lt}
+use Rattle.rsct_packet.specs.Lists.{is_empty}
+use Rattle.rsct_packet.specs.Providers.{among}
+use Rattle.rsct_packet.specs.Search.{Has}
+use Rattle.rsct_packet.proofs.HasLaws.{has_filter}
+use Rattle.group_attr.specs.declared.attrs.Attrs.{Attrs}
+use Rattle.group_entry.specs.declared.proposal.Failure.{Failure}
+use Rattle.group_entry.specs.declared.proposal.Proposal.TheVariants.{Join, Fail, Reflect}
+use Rattle.proposal_core.specs.declared.group_state.GroupState.{GroupState}
+use Rattle.proposal_core.specs.GroupView.{GroupView}
+use Rattle.proposal_core.specs.Lists.{list_or_new, state_in}
+use Rattle.batch_rules.specs.Waiting.{batches_failures, chosen_of, next_failures, failures_left, next_joins, joins_left}
+use Rattle.source_target.specs.declared.Due.{Due}
+use Rattle.source_target.specs.declared.Due.TheVariants as owed
+use Rattle.source_target.specs.Due.{is_on, allowed, cast_outs, reflect_from, value_place, reflection_due, due_from, due}
+use Rattle.client_callbacks.specs.declared.told.Why.TheVariants.{NoSource}
+use Rattle.node_state.specs.declared.group.GroupRow.{GroupRow}
+use Rattle.node_state.specs.declared.state.Core.{Core}
+use Rattle.node_state.specs.State.{row_of, with_row, with_led, led_of, list_of, state_of, len_of, frozen, led_groups}
+use Rattle.node_state.specs.Sending.{sent, sent_on}
+use Rattle.node_state.specs.HandOn.{Answering}
+use Rattle.node_state.specs.Leading.{with_waiting, begins}
+use Rattle.node_state.specs.Deciding.{decision_kept, refused, known_state, lacks_source, source_len}
+use Rattle.node_state.specs.Ending.{Pass, quiet, begun_now, failures_begin, due_begins, source_begins, attrs_for, carried_len, source_refused, joins_begin, or_due, or_joins, may_begin, first_begins, group_begins, one_pass, passes, most_begun, step_ended}
+use Rattle.run_safety.specs.Past.{History, earlier, state_now}
+use Rattle.entry_laws.proofs.closing_rows.At.{found, StateIs}
+use Rattle.entry_laws.specs.source_order.Sources.{SameThere, JoinsFrom}
+use Rattle.entry_laws.proofs.source_order.At.{state_whole, At, at_fold}
+use Rattle.entry_laws.proofs.source_order.Leading.{NextBegun, at_waits, at_begins}
+use Rattle.entry_laws.proofs.source_order.Deciding.{at_refused}
+
+-- ---- what is due
+
+-- a reflection that is due is of the source's value, whose place is greater than the reflected one
+record IsDue (st : GroupState) (source : Option GroupState) (at : ProtoId) : Type 0 where
+  place : value_place source ≡ Some at
+  greater : place_lt st.reflected_at (Some at) ≡ true
+
+due_is : (st : GroupState) (source : Option GroupState) (v : ViewId) (i : ℕ) → due st source ≡ Some (owed.Reflect v i) → IsDue st source (record { view = v; place = i })
+unfolding due reflection_due
+due_is st source v i q = outs (cast_outs st.members source) q
+  where
+    at : (o : Option ProtoId) → value_place source ≡ o → reflect_from st.reflected_at o ≡ Some (owed.Reflect v i) → IsDue st source (record { view = v; place = i })
+    at None p e = absurd (cc)
+    at (Some x) p e = by (place_lt st.reflected_at (Some x)) refl e
+      where
+        by : (b : Bool) → place_lt st.reflected_at (Some x) ≡ b → (if b then Some (owed.Reflect x.view x.place) else None) ≡ Some (owed.Reflect v i) → IsDue st source (record { view = v; place = i })
+        by false l e = absurd (cc)
+        by true l e =
+            let a : x.view ≡ v = cc in
+            let b : x.place ≡ i = cc in
+            subst (IsDue st source) (λ j. record { view = a j; place = b j }) (record { place = p; greater = l })
+
+    members : (ps : List ProviderId) → reflection_due st source ps ≡ Some (owed.Reflect v i) → IsDue st source (record { view = v; place = i })
+    members [] e = absurd (cc)
+    members (p ∷ ps) e = at (value_place source) refl e
+
+    outs : (fs : List Failure) → due_from st source fs ≡ Some (owed.Reflect v i) → IsDue st source (record { view = v; place = i })
+    outs [] e = members st.members e
+    outs (f ∷ fs) e = absurd (cc)
+
+-- a list that is known
+known_value : (l : Option GroupView) (at : ProtoId) → value_place (option_map (λ (l : GroupView). l.state) l) ≡ Some at → (state_in l).value_at ≡ Some at
+known_value None at e = absurd (cc)
+known_value (Some l) at e = e
+
+known_allowed : (l : Option GroupView) (n : ℕ) → allowed (option_map (λ (l : GroupView). l.state) l) n ≡ true → list_any (is_on n) (state_in l).members ≡ true
+unfolding allowed
+known_allowed None n e = absurd (cc)
+known_allowed (Some l) n e = e
+
+not_not : (b : Bool) → not (not b) ≡ true → b ≡ true
+not_not true e = refl
+not_not false e = absurd (cc)
+
+-- ---- a refusal records nothing
+
+record Still (s t : Core) : Type 0 where
+  views : t.views ≡ s.views
+  records : t.records ≡ s.records
+
+refused_still : (g : List ℕ) (source : Option (List ℕ)) (ps : List ProviderId) (s t : Core) → Still s t → Still s (source_refused t g source ps)
+unfolding source_refused refused decision_kept with_led with_row sent sent_on
+refused_still g source [] s t k = k
+refused_still g source (p ∷ ps) s t k =
+    refused_still g source ps s (refused t g p p.join (NoSource (source_len t source))) (record { views = k.views; records = k.records })
+
+waits_still : (s : Core) (g : List ℕ) (b : Attrs) → Still s (with_waiting s g (joins_left b.batch))
+unfolding with_waiting with_led with_row
+waits_still s g b = record { views = refl; records = refl }
+
+module _ (h : History) where
+  abbrev Full : Core → Type 0
+  Full s = At h (Unit {0}) s
+
+  -- the records say what state a list has
+  state_is : (s : Core) (g : List ℕ) → Full s → StateIs s.views.me s.views.view g (found s g).list (earlier (reverse s.records) h)
+  state_is s g a = a.states tt g
+
+  -- a reflection that is due
+  reflects_well : (s : Core) (g k : List ℕ) (v : ViewId) (i : ℕ) → (state_of s g).attrs.source ≡ Some k → due (state_of s g) (known_state s k) ≡ Some (owed.Reflect v i) → Full s → NextBegun h s g (Reflect v i (state_of s k).value)
+  unfolding state_of list_of row_of known_state
+  reflects_well s g k v i from q a =
+      let d = due_is (state_in (found s g).list) (option_map (λ (l : GroupView). l.state) (found s k).list) v i q in
+      let here = state_is s g a in
+      let there = state_is s k a in
+      let at : ProtoId = record { view = v; place = i } in
+      let whole = state_whole s.views.me s.views.view g (found s g).list (earlier (reverse s.records) h) here in (
+        ap (λ (st : GroupState). place_lt st.reflected_at (Some at)) whole ∙ d.greater,
+        tt,
+        record {
+          source = k;
+          attrs = ap (λ (st : GroupState). st.attrs.source) (sym here.state) ∙ from;
+          value_place = ap (λ (st : GroupState). st.value_at) (sym there.state) ∙ known_value (found s k).list at d.place;
+          value_is = ap (λ (st : GroupState). st.value) (sym there.state);
+        },
+      )
+
+  -- joins over a source, which nobody lost since they were chosen
+  joins_well : (s c : Core) (g : List ℕ) (ps : List ProviderId) (attrs : Attrs) → Still s c → ((p : ProviderId) → Has p ps → not (lacks_source s attrs.source p.node) ≡ true) → Full s → Full c → NextBegun h c g (Join ps attrs (carried_len c attrs.source))
+  unfolding carried_len len_of list_of row_of known_state lacks_source
+  joins_well s c g ps attrs still keep a b = (tt, lengths attrs.source, from attrs.source keep)
+    where
+      lengths : (o : Option (List ℕ)) → SameThere o (carried_len c o)
+      lengths None = tt
+      lengths (Some k) = tt
+
+      states : (k : List ℕ) → state_in (found c k).list ≡ state_in (found s k).list
+      states k =
+          (state_is c k b).state ∙ (λ j. state_now (still.views j).me (still.views j).view k (earlier (reverse (still.records j)) h)) ∙ sym (state_is s k a).state
+
+      from : (o : Option (List ℕ)) → ((p : ProviderId) → Has p ps → not (lacks_source s o p.node) ≡ true) → JoinsFrom c.views.me c.views.view o (carried_len c o) (earlier (reverse c.records) h) ps
+      from None keep = tt
+      from (Some k) keep =
+          record {
+            len = (state_is c k b).len;
+            members = λ p i. ap (λ (st : GroupState). list_any (is_on p.node) st.members) (state_whole c.views.me c.views.view k (found c k).list (earlier (reverse c.records) h) (state_is c k b) ∙ states k) ∙ known_allowed (found s k).list p.node (not_not (allowed (option_map (λ (l : GroupView). l.state) (found s k).list) p.node) (keep p i));
+          }
+
+  -- ---- what begins in a group
+
+  module _ (f : Answering) (g : List ℕ) where
+    at_failures : (n : ℕ) (s : Core) → Full s → Full (failures_begin n f s g).core
+    unfolding failures_begin
+    at_failures zero s a = a
+    at_failures (suc n) s a =
+        let st : GroupState = state_of s g in
+        let out : List Failure = filter (λ (x : Failure). among st.members x.p) (next_failures st.attrs.batch (led_of s g).waiting) in
+        let c : Core = with_waiting s g (failures_left st.attrs.batch) in
+        let k : Full c = at_waits h (Unit {0}) s g (failures_left st.attrs.batch) a in by c out st (is_empty out) k (at_failures n c k)
+      where
+        by : (c : Core) (out : List Failure) (st : GroupState) (b : Bool) → Full c → Full (failures_begin n f c g).core → Full (elim b as (λ _. Pass) [ true ↦ failures_begin n f c g | false ↦ begun_now (begins f c g (Fail out) st.attrs.phases) ]).core
+        by c out st true k rest = rest
+        by c out st false k rest = at_begins h (Unit {0}) f c g (Fail out) st.attrs.phases (tt, tt, tt) k
+
+    at_due : (s : Core) (k : List ℕ) (o : Option Due) → (state_of s g).attrs.source ≡ Some k → due (state_of s g) (known_state s k) ≡ o → Full s → Full (due_begins f s g (state_of s g) k o).core
+    unfolding due_begins
+    at_due s k None from q a = a
+    at_due s k (Some (owed.CastOut out)) from q a = at_begins h (Unit {0}) f s g (Fail (chosen_of (batches_failures (state_of s g).attrs.batch) out)) (state_of s g).attrs.phases (tt, tt, tt) a
+    at_due s k (Some (owed.Reflect v i)) from q a =
+        at_begins h (Unit {0}) f s g (Reflect v i (state_of s k).value) (state_of s g).attrs.source_phases (reflects_well s g k v i from q a) a
+
+    at_source : (s : Core) (o : Option (List ℕ)) → (state_of s g).attrs.source ≡ o → Full s → Full (source_begins f s g (state_of s g) o).core
+    unfolding source_begins
+    at_source s None from a = a
+    at_source s (Some k) from a = at_due s k (due (state_of s g) (known_state s k)) from refl a
+
+    at_source_refused : (s : Core) (source : Option (List ℕ)) (ps : List ProviderId) → Full s → Full (source_refused s g source ps)
+    unfolding source_refused
+    at_source_refused s source ps a =
+        at_fold h (Unit {0}) (λ c (p : ProviderId). refused c g p p.join (NoSource (source_len c source))) ps (λ c p i k. at_refused h (Unit {0}) c g p p.join (NoSource (source_len c source)) k) s a
+
+    at_joins : (n : ℕ) (s : Core) → Full s → Full (joins_begin n f s g).core
+    unfolding joins_begin
+    at_joins zero s a = a
+    at_joins (suc n) s a =
+        let st : GroupState = state_of s g in
+        let chosen : List ProviderId = next_joins st.attrs.batch (led_of s g).waiting in
+        let at : Attrs = attrs_for st (led_of s g).join_attrs chosen in
+        let ps : List ProviderId = filter (λ (p : ProviderId). not (lacks_source s at.source p.node)) chosen in
+        let out : List ProviderId = filter (λ (p : ProviderId). lacks_source s at.source p.node) chosen in
+        let d : Core = with_waiting s g (joins_left st.attrs.batch) in
+        let c : Core = source_refused d g at.source out in
+        let k : Full c = at_source_refused d at.source out (at_waits h (Unit {0}) s g (joins_left st.attrs.batch) a) in
+        let still : Still s c = refused_still g at.source out s d (waits_still s g st.attrs) in
+        by c ps at (is_empty ps) k (joins_well s c g ps at still (λ p i. (has_filter (λ (p : ProviderId). not (lacks_source s at.source p.node)) p chosen i).1) a k) (at_joins n c k)
+      where
+        by : (c : Core) (ps : List ProviderId) (at : Attrs) (b : Bool) → Full c → NextBegun h c g (Join ps at (carried_len c at.source)) → Full (joins_begin n f c g).core → Full (elim b as (λ _. Pass) [ true ↦ joins_begin n f c g | false ↦ begun_now (begins f c g (Join ps at (carried_len c at.source)) at.phases) ]).core
+        by c ps at true k well rest = rest
+        by c ps at false k well rest = at_begins h (Unit {0}) f c g (Join ps at (carried_len c at.source)) at.phases well k
+
+    at_or_due : (p : Pass) → Full p.core → Full (or_due f g p).core
+    unfolding or_due
+    at_or_due p a = by p.began
+      where
+        by : (b : Bool) → Full (elim b as (λ _. Pass) [ true ↦ p | false ↦ source_begins f p.core g (state_of p.core g) (state_of p.core g).attrs.source ]).core
+        by true = a
+        by false = at_source p.core (state_of p.core g).attrs.source refl a
+
+    at_or_joins : (p : Pass) → Full p.core → Full (or_joins f g p).core
+    unfolding or_joins
+    at_or_joins p a = by p.began
+      where
+        by : (b : Bool) → Full (elim b as (λ _. Pass) [ true ↦ p | false ↦ joins_begin (length (led_of p.core g).waiting.joins) f p.core g ]).core
+        by true = a
+        by false = at_joins (length (led_of p.core g).waiting.joins) p.core a
+
+    at_first : (s : Core) (row : GroupRow) → Full s → Full (first_begins f s g row).core
+    unfolding first_begins
+    at_first s row a = by (may_begin (list_or_new row.list))
+      where
+        by : (b : Bool) → Full (elim b as (λ _. Pass) [ false ↦ quiet s | true ↦ or_joins f g (or_due f g (failures_begin (length row.led.waiting.failures) f s g)) ]).core
+        by false = a
+        by true =
+            at_or_joins (or_due f g (failures_begin (length row.led.waiting.failures) f s g)) (at_or_due (failures_begin (length row.led.waiting.failures) f s g) (at_failures (length row.led.waiting.failures) s a))
+
+    at_group : (n : ℕ) (p : Pass) → Full p.core → Full (group_begins n f g p).core
+    unfolding group_begins
+    at_group zero p a = a
+    at_group (suc n) p a = let q : Pass = first_begins f p.core g (row_of p.core g) in
+        let k : Full q.core = at_first p.core (row_of p.core g) a in by q q.began k (at_group n q k)
+      where
+        by : (q : Pass) (b : Bool) → Full q.core → Full (group_begins n f g q).core → Full (elim b as (λ _. Pass) [ true ↦ group_begins n f g q | false ↦ record { core = q.core; began = p.began } ]).core
+        by q true k rest = rest
+        by q false k rest = k
+
+  at_groups : (most : ℕ) (f : Answering) (gs : List (List ℕ)) (p : Pass) → Full p.core → Full (fold (λ p g. group_begins most f g p) p gs).core
+  at_groups most f [] p a = a
+  at_groups most f (g ∷ gs) p a = at_groups most f gs (group_begins most f g p) (at_group f g most p a)
+
+  at_passes : (n most : ℕ) (f : Answering) (s : Core) → Full s → Full (passes n most f s)
+  unfolding passes one_pass
+  at_passes zero most f s a = a
+  at_passes (suc n) most f s a = let p : Pass = one_pass most f s in
+      let k : Full p.core = at_groups most f (led_groups s) (quiet s) a in by p p.began k (at_passes n most f p.core k)
+    where
+      by : (p : Pass) (b : Bool) → Full p.core → Full (passes n most f p.core) → Full (elim b as (λ _. Core) [ true ↦ passes n most f p.core | false ↦ p.core ])
+      by p true k rest = rest
+      by p false k rest = k
+
+  pub at_step_ended : (f : Answering) (s : Core) → Full s → Full (step_ended f s)
+  unfolding step_ended
+  at_step_ended f s a = by (frozen s)
+    where
+      by : (b : Bool) → Full (elim b as (λ _. Core) [ true ↦ s | false ↦ passes (most_begun s) (most_begun s) f s ])
+      by true = a
+      by false = at_passes (most_begun s) (most_begun s) f s a

@@ -1,0 +1,192 @@
+-- What the leader of a group does.
+use Rattle.std.proofs.Common.{◌≡◌, ℕ, zero, suc, ◌-◌, max, List, [], drop, Option, Some, None, Bool, true, false, refl, subst, inl}
+use Rattle.std.specs.Prelude.{not, filter, nat_le, reverse, if◌then◌else◌}
+use Rattle.rsct_packet.specs.declared.ids.ProviderId.{ProviderId}
+use Rattle.rsct_packet.specs.Providers.{among}
+use Rattle.group_attr.specs.declared.attrs.Phases.{Phases}
+use Rattle.group_attr.specs.declared.attrs.Phases.TheVariants.{One, Many}
+use Rattle.group_entry.specs.declared.proposal.Cause.TheVariants.{Died, Gone}
+use Rattle.group_entry.specs.declared.proposal.Proposal.{Proposal}
+use Rattle.group_entry.specs.declared.entry.Vote.{Vote}
+use Rattle.group_entry.specs.declared.entry.Vote.TheVariants as vote
+use Rattle.group_entry.specs.declared.entry.Entry.{Entry}
+use Rattle.group_entry.specs.declared.entry.Entry.TheVariants.{Once, Begin, Phase, Approve, Reject, Late}
+use Rattle.proposal_core.specs.declared.group_state.GroupState.{GroupState}
+use Rattle.proposal_core.specs.declared.group_state.Running.{Running}
+use Rattle.proposal_core.specs.Fold.{max_phases}
+use Rattle.proposal_core.specs.GroupView.{GroupView}
+use Rattle.proposal_core.specs.Lists.{len_in, forgotten}
+use Rattle.batch_rules.specs.Waiting.{WaitingView, waits_failure}
+use Rattle.vote_phases.specs.Tally.{TallyView, outcome}
+use Rattle.node_state.specs.declared.group.Led.{Led}
+use Rattle.node_state.specs.declared.packet.Body.TheVariants as body
+use Rattle.node_state.specs.declared.state.Core.{Core}
+use Rattle.node_state.specs.State.{with_led, led_of, state_of, len_of, fits_at_end, list_forgotten, forgets_below, leader_of, others, least_acked, led_by}
+use Rattle.node_state.specs.Sending.{sent_all}
+use Rattle.node_state.specs.HandOn.{Answering, handed_on}
+use Rattle.node_state.specs.Leading.{put, put_and_handed, forgets_least, with_waiting, waits_if, new_members_wait, appended, appended_if, tally_set, with_tally, tally_opened, closing, closing_of, closing_entry, is_phase, closes_from, closes, begun_many, begins}
+use Rattle.run_safety.specs.Past.{History, earlier}
+use Rattle.entry_laws.proofs.closing_rows.At.{found}
+use Rattle.entry_laws.proofs.closing_rows.Calms.{calm_all}
+use Rattle.entry_laws.proofs.closing_rows.Leading.{forgotten_state}
+use Rattle.entry_laws.proofs.source_order.At.{BegunWell, PutWell, PutFact, At, at_put, at_fold, at_calm, at_row}
+use Rattle.entry_laws.proofs.source_order.Quiet.{at_handed}
+
+forgotten_len : (l : Option GroupView) (n : ℕ) → len_in (list_forgotten n l) ≡ len_in l
+unfolding forgotten
+forgotten_len None n = refl
+forgotten_len (Some l) n = by (nat_le n l.len)
+  where
+    by : (b : Bool) → (if b then record l { start = max l.start n; entries = drop (n - l.start) l.entries } else l).len ≡ l.len
+    by true = refl
+    by false = refl
+
+-- what begins nothing
+abbrev pub Closes : Entry → Type 0
+Closes (Once x) = ⊥
+Closes (Begin x) = ⊥
+Closes _ = Unit {0}
+
+-- the entry that closes a phase
+closing_closes : (l : Led) (t : Option TallyView) (run : Option Running) (e : Entry) → closing_entry l t run ≡ Some e → Closes e
+unfolding closing_entry closing_of closing
+closing_closes l None run e q = absurd (cc)
+closing_closes l (Some t) None e q = absurd (cc)
+closing_closes l (Some t) (Some run) e q = by (outcome t) q
+  where
+    one : (v : Vote) (last : Bool) → Closes (closing l t run v last)
+    one vote.Approve last = tt
+    one vote.Reject last = tt
+    one vote.Continue true = tt
+    one vote.Continue false = tt
+
+    by : (o : Option Vote) → closing_of l t run o ≡ Some e → Closes e
+    by None q = absurd (cc)
+    by (Some v) q = let z : closing l t run v (nat_le max_phases run.phase) ≡ e = cc in subst Closes z (one v (nat_le max_phases run.phase))
+
+module _ (h : History) where
+  -- what the node puts next into the group's list
+  abbrev pub NextWell : Core → List ℕ → Entry → Type 0
+  NextWell s g e = PutWell s.views.me s.views.view g (len_in (found s g).list) (earlier (reverse s.records) h) e
+
+  abbrev pub NextBegun : Core → List ℕ → Proposal → Type 0
+  NextBegun s g x = BegunWell s.views.me s.views.view g (len_in (found s g).list) (earlier (reverse s.records) h) x
+
+  closes_well : (s : Core) (g : List ℕ) (e : Entry) → Closes e → NextWell s g e
+  closes_well s g (Once x) z = absurd z
+  closes_well s g (Begin x) z = absurd z
+  closes_well s g (Phase c) z = tt
+  closes_well s g (Approve c) z = tt
+  closes_well s g (Reject c) z = tt
+  closes_well s g (Late proto phase ps) z = tt
+
+  module _ (P : Type 0) where
+    abbrev Full : Core → Type 0
+    Full s = At h P s
+
+    -- ---- an entry is put
+
+    pub at_put_and_handed : (f : Answering) (s : Core) (to : Option ℕ) (g : List ℕ) (e : Entry) → PutFact (reverse s.records) h s.views.me s.views.view g (len_in (found s g).list) e → Full s → Full (put_and_handed f s to g e)
+    unfolding put_and_handed
+    at_put_and_handed f s to g e fact a =
+        at_handed h P f (put s g e) to g (len_of s g) (state_of s g) (state_of (put s g e) g) e (at_put h P s g e fact a)
+
+    -- what a leader keeps changes
+    pub at_led : (s : Core) (g : List ℕ) (f : Led → Led) → Full s → Full (with_led s g f)
+    unfolding with_led
+    at_led s g f a = at_row h P s g (λ row. record row { led = f row.led }) (λ x. refl) (λ x. refl) (λ x. refl) a
+
+    -- a leader is known
+    pub at_led_by : (s : Core) (g : List ℕ) (n : ℕ) → Full s → Full (led_by s g n)
+    unfolding led_by
+    at_led_by s g n a = at_row h P s g (λ row. record row { leader = Some n }) (λ x. refl) (λ x. refl) (λ x. refl) a
+
+    pub at_waits : (s : Core) (g : List ℕ) (change : WaitingView → WaitingView) → Full s → Full (with_waiting s g change)
+    unfolding with_waiting
+    at_waits s g change a = at_led s g (λ l. record l { waiting = change l.waiting }) a
+
+    pub at_forgets : (s : Core) (g : List ℕ) (n : ℕ) → Full s → Full (forgets_below s g n)
+    unfolding forgets_below
+    at_forgets s g n a =
+        at_row h P s g (λ row. record row { list = list_forgotten n row.list }) (λ x. refl) (λ x. forgotten_state x.list n) (λ x. forgotten_len x.list n) a
+
+    pub at_forgets_least : (s : Core) (g : List ℕ) → Full s → Full (forgets_least s g)
+    unfolding forgets_least
+    at_forgets_least s g a = at_forgets s g (least_acked s g) a
+
+    at_waits_if : (s : Core) (g : List ℕ) (p : ProviderId) (a b : Bool) → Full s → Full (waits_if s g p a b)
+    unfolding waits_if
+    at_waits_if s g p true b k = at_waits s g (waits_failure p Died) k
+    at_waits_if s g p false true k = at_waits s g (waits_failure p Gone) k
+    at_waits_if s g p false false k = k
+
+    at_new_members : (s : Core) (g : List ℕ) (before after : GroupState) → Full s → Full (new_members_wait s g before after)
+    unfolding new_members_wait
+    at_new_members s g before after a =
+        at_fold h P (λ t p. waits_if t g p (among after.failed p) (among (led_of s g).gone p)) (filter (λ p. not (among before.members p)) after.members) (λ t p i k. at_waits_if t g p (among after.failed p) (among (led_of s g).gone p) k) s a
+
+    at_appended : (f : Answering) (s : Core) (g : List ℕ) (e : Entry) → NextWell s g e → Full s → Full (appended f s g e)
+    unfolding appended
+    at_appended f s g e ok a =
+        let t : Core = put s g e in
+        let u : Core = sent_all t (others t) (body.Entry t.views.view g (len_of s g) (least_acked t g) e) in
+        let w : Core = handed_on f u (leader_of u g) g (len_of s g) (state_of s g) (state_of t g) e in
+        let put_at : Full t = at_put h P s g e (inl ok) a in
+        let sent_at : Full u = at_calm h P t u (calm_all t (others t) (body.Entry t.views.view g (len_of s g) (least_acked t g) e)) put_at in
+        let handed_at : Full w = at_handed h P f u (leader_of u g) g (len_of s g) (state_of s g) (state_of t g) e sent_at in
+        at_new_members (forgets_least w g) g (state_of s g) (state_of t g) (at_forgets_least w g handed_at)
+
+    -- ---- the tally of a phase
+
+    pub at_tally : (s : Core) (g : List ℕ) (t : Option TallyView) → Full s → Full (with_tally s g t)
+    unfolding with_tally
+    at_tally s g t a = at_led s g (λ l. record l { tally = t }) a
+
+    at_tally_set : (s : Core) (g : List ℕ) (t : Option TallyView) → Full s → Full (tally_set s g t)
+    unfolding tally_set
+    at_tally_set s g t a = at_led s g (λ l. record l { tally = t; given = [] }) a
+
+    pub at_tally_opened : (s : Core) (g : List ℕ) → Full s → Full (tally_opened s g)
+    unfolding tally_opened
+    at_tally_opened s g a = at_tally_set s g _ a
+
+    at_closes_from : (n : ℕ) (f : Answering) (s : Core) (g : List ℕ) → Full s → Full (closes_from n f s g)
+    unfolding closes_from
+    at_closes_from zero f s g a = a
+    at_closes_from (suc n) f s g a =
+        by (closing_entry (led_of s g) (led_of s g).tally (state_of s g).running) refl (at_closes_from n f)
+      where
+        Rec : Type 0
+        Rec = (c : Core) (g : List ℕ) → Full c → Full (closes_from n f c g)
+
+        last : (e : Entry) → Closes e → Rec → (b : Bool) → Full (elim b as (λ _. Core) [ true ↦ closes_from n f (tally_opened (appended f s g e) g) g | false ↦ tally_set (appended f s g e) g None ])
+        last e ok rec true = rec (tally_opened (appended f s g e) g) g (at_tally_opened (appended f s g e) g (at_appended f s g e (closes_well s g e ok) a))
+        last e ok rec false = at_tally_set (appended f s g e) g None (at_appended f s g e (closes_well s g e ok) a)
+
+        fitting : (e : Entry) → Closes e → Rec → (b : Bool) → Full (elim b as (λ _. Core) [ false ↦ s | true ↦ elim (is_phase e) as (λ _. Core) [ true ↦ closes_from n f (tally_opened (appended f s g e) g) g | false ↦ tally_set (appended f s g e) g None ] ])
+        fitting e ok rec false = a
+        fitting e ok rec true = last e ok rec (is_phase e)
+
+        by : (o : Option Entry) → closing_entry (led_of s g) (led_of s g).tally (state_of s g).running ≡ o → Rec → Full (elim o as (λ _. Core) [ None ↦ s | Some e ↦ elim (fits_at_end s g e) as (λ _. Core) [ false ↦ s | true ↦ elim (is_phase e) as (λ _. Core) [ true ↦ closes_from n f (tally_opened (appended f s g e) g) g | false ↦ tally_set (appended f s g e) g None ] ] ])
+        by None q rec = a
+        by (Some e) q rec = fitting e (closing_closes (led_of s g) (led_of s g).tally (state_of s g).running e q) rec (fits_at_end s g e)
+
+    pub at_closes : (f : Answering) (s : Core) (g : List ℕ) → Full s → Full (closes f s g)
+    unfolding closes
+    at_closes f s g a = at_closes_from max_phases f s g a
+
+    at_begun_many : (f : Answering) (s : Core) (g : List ℕ) (x : Proposal) (b : Bool) → NextBegun s g x → Full s → Full (begun_many f s g x b)
+    unfolding begun_many
+    at_begun_many f s g x false ok a = a
+    at_begun_many f s g x true ok a =
+        at_closes f (tally_opened (appended f s g (Begin x)) g) g (at_tally_opened (appended f s g (Begin x)) g (at_appended f s g (Begin x) ok a))
+
+    pub at_appended_if : (f : Answering) (s : Core) (g : List ℕ) (e : Entry) (b : Bool) → NextWell s g e → Full s → Full (appended_if f s g e b)
+    unfolding appended_if
+    at_appended_if f s g e false ok a = a
+    at_appended_if f s g e true ok a = at_appended f s g e ok a
+
+    pub at_begins : (f : Answering) (s : Core) (g : List ℕ) (x : Proposal) (phases : Phases) → NextBegun s g x → Full s → Full (begins f s g x phases)
+    unfolding begins
+    at_begins f s g x Many ok a = at_begun_many f s g x (fits_at_end s g (Begin x)) ok a
+    at_begins f s g x One ok a = at_appended_if f s g (Once x) (fits_at_end s g (Once x)) ok a

@@ -1,0 +1,101 @@
+-- What the relation of each group to its life says in the middle of a step: of the states that the lists of the node have,
+-- and of what is sent to it.
+use Rattle.std.proofs.Common.{◌≡◌, ℕ, List, ◌∷◌, length, Some, None, true, refl, sym, ap, ◌∙◌, subst, inr}
+use Rattle.std.specs.Prelude.{◌==◌, reverse, slice_get}
+use Rattle.std.proofs.lemmas.Bool.{eqb-true}
+use Rattle.rsct_packet.specs.declared.ids.ViewId.{ViewId}
+use Rattle.rsct_packet.specs.declared.ids.ProviderId.{ProviderId}
+use Rattle.rsct_packet.specs.Search.{Has}
+use Rattle.rsct_packet.proofs.HasLaws.{append_has_right}
+use Rattle.group_attr.specs.declared.attrs.Phases.{Phases}
+use Rattle.group_entry.specs.declared.entry.Entry.{Entry}
+use Rattle.group_entry.specs.declared.proposal.Proposal.{Proposal}
+use Rattle.proposal_core.specs.Lists.{list_or_new, len_in}
+use Rattle.node_state.specs.declared.happened.Happened.TheVariants as happened
+use Rattle.node_state.specs.declared.packet.Body.TheVariants as body
+use Rattle.node_state.specs.declared.packet.Packet.{Packet}
+use Rattle.node_state.specs.declared.state.Core.{Core}
+use Rattle.node_state.specs.State.{row_of, list_of, len_of}
+use Rattle.node_state.specs.Step.{is_used}
+use Rattle.run_safety.specs.Past.{History, records_of, earlier, puts_of}
+use Rattle.run_safety.specs.Sight.{lines_of}
+use Rattle.run_safety.specs.Group.{Origin, Put, Based, Line, Noted, kept}
+use Rattle.run_safety.specs.Group as group
+use Rattle.run_safety.specs.GroupLists as lists
+use Rattle.run_safety.specs.Requests.{requests_of}
+use Rattle.run_safety.specs.Bases.{state_of_list}
+use Rattle.run_safety.proofs.Whole.{Whole}
+use Rattle.run_safety.proofs.Lives.{whole}
+use Rattle.step_ties.specs.Ghost.{Ghost, Keeps}
+use Rattle.step_ties.specs.Tied.{ShowsBody, ShowsEntry, Scene, opening_of, NodeIs, Tied}
+use Rattle.step_ties.proofs.Acks.{used_is}
+use Rattle.step_ties.proofs.RowWorks.{keeps_of}
+use Rattle.entry_laws.proofs.closing_rows.At.{found, StateIs}
+use Rattle.entry_laws.proofs.closing_rows.Told.{Told, told_of}
+use Rattle.entry_laws.proofs.closing_rows.Lists.{puts_all, state_rest}
+use Rattle.entry_laws.proofs.closing_rows.Evident.{put_back}
+use Rattle.entry_laws.proofs.source_order.At.{PutFact}
+
+-- the records say what state each list of the node has
+pub states_tied : (g : List ℕ) (w : Scene) (n : ℕ) (s : Core) → Tied g w n s → StateIs s.views.me s.views.view g (found s g).list (earlier (reverse s.records) w.before)
+unfolding row_of
+states_tied g w n s t = subst (λ m. StateIs m s.views.view g (found s g).list (records_of h)) (sym k.stands.me) here
+  where
+    h : History
+    h = record { event = None; records = reverse s.records } ∷ w.before
+
+    x : Ghost
+    x = t.ghost
+
+    o : Whole (opening_of w.config) x.nodes x.ps x.all x.leads x.bases
+    o = whole t.life
+
+    k : NodeIs x g n s
+    k = t.own.0
+
+    lines : x.all ≡ lines_of g h
+    lines = t.lines
+
+    told : Told x.bases o.log (lines_of g h)
+    told = subst (Told x.bases o.log) lines (told_of (opening_of w.config) x t.life)
+
+    shows : Keeps x s.views.view (x.nodes n).list (list_or_new (found s g).list)
+    shows = keeps_of x s.views.view (x.nodes n).list (found s g).list k.row_is.list
+
+    full : lists.puts_of n s.views.view (kept (lines_of g h)) ≡ (x.nodes n).list
+    full =
+        ap (λ l. lists.puts_of n s.views.view (kept l)) (sym lines) ∙ ap (λ v. lists.puts_of n v (kept x.all)) (sym k.stands.view) ∙ (o.good.past.seated n).list
+
+    based : (b : Origin) → x.bases s.views.view ≡ Some b → Has (Noted (Based n s.views.view b)) (lines_of g h)
+    based b q = subst (Has (Noted (Based n s.views.view b))) lines (o.based_ok.by_all n s.views.inc s.views.view s.views.members b k.stands.seated q)
+
+    puts : puts_of n s.views.view g (records_of h) ≡ (x.nodes n).list
+    puts = puts_all n s.views.view g h ∙ full
+
+    here : StateIs n s.views.view g (found s g).list (records_of h)
+    here =
+        record {
+          state = shows.state ∙ ap (state_of_list x.bases s.views.view) (sym full) ∙ state_rest n s.views.view g x.bases o.log h told based;
+          len = shows.len ∙ sym (ap length puts);
+        }
+
+-- an entry that was sent someone had put
+pub entry_was_put : (v : ViewId) (g : List ℕ) (place stable : ℕ) (e : Entry) (w : Scene) (n : ℕ) (s : Core) (p : Packet) → p.body ≡ body.Entry v g place stable e → Has p w.sent → Tied g w n s → is_used s p v ≡ true → (place == len_of s g) ≡ true → PutFact (reverse s.records) w.before s.views.me s.views.view g (len_in (found s g).list) e
+unfolding len_of list_of row_of
+entry_was_put v g place stable e w n s p is delivered t used at =
+    let o : Whole (opening_of w.config) t.ghost.nodes t.ghost.ps t.ghost.all t.ghost.leads t.ghost.bases = whole t.life in
+    let shown : ShowsEntry t.ghost p.from p.inc v place stable e = (subst (ShowsBody t.ghost g p.from p.inc p.to) is (t.packets p (append_has_right p s.sends w.sent delivered))) refl in
+    let get : slice_get (o.log v) place ≡ Some e = o.good.inv.packet (group.Append v place e) shown.sent in
+    let k = o.firsts.put v place e get in
+    let there : slice_get (o.log v) place ≡ Some k.1 = o.good.inv.records (Put k.0 v place k.1) k.2 in
+    let same : k.1 ≡ e = let z : Some k.1 ≡ Some e = sym there ∙ get in cc in
+    let here : v ≡ s.views.view = (used_is s p v used).0 in
+    let end : place ≡ len_in (found s g).list = eqb-true place (len_of s g) at in
+    let line : Has (Put k.0 v place e) (kept t.ghost.all) = subst (λ z. Has (Put k.0 v place z) (kept t.ghost.all)) same k.2 in
+    let put : Has (happened.Put k.0 v g place e) (earlier (reverse s.records) w.before) = put_back g k.0 v place e (reverse s.records) w.before (subst (λ l. Has (Put k.0 v place e) (kept l)) t.lines line) in
+    inr (k.0, subst (λ (z : ViewId × ℕ). Has (happened.Put k.0 z.0 g z.1 e) (earlier (reverse s.records) w.before)) (λ i. (here i, end i)) put)
+
+-- a request that was sent carries itself: none is for a reflection
+pub request_carries : (v : ViewId) (g : List ℕ) (q : ProviderId) (r : ℕ) (phases : Phases) (x : Proposal) (w : Scene) (n : ℕ) (s : Core) (p : Packet) → p.body ≡ body.Request v g q r phases x → Has p w.sent → Tied g w n s → Has (q, r) (requests_of x)
+request_carries v g q r phases x w n s p is sent t =
+    (subst (ShowsBody t.ghost g p.from p.inc p.to) is (t.packets p (append_has_right p s.sends w.sent sent))).1

@@ -1,0 +1,35 @@
+//! A plain event of a play.
+ghost use Rattle.std.specs.Prelude.{◌≡◌, ◌≤◌};
+ghost use Rattle.hags_io.specs.Edges.{Rose};
+ghost use Rattle.world_model.specs.World as world;
+ghost use Rattle.world_laws.specs.world_answers.Plays.{AnsweredPlay, PlaysEvent};
+ghost use Rattle.net_script.specs.Stage.{At, LeadsTo};
+
+use crate::stage::Stage;
+use crate::writing::write_records;
+use client_callbacks::Made;
+use hags_io::Sink;
+use node_state::Records;
+use play_state::PlayFault;
+use rsct_packet::List;
+use std::alloc::Global;
+use transcript::Kinds;
+use world_model::Event;
+
+/// A plain event happens, and what it records is written.
+pub fn happen<C: Made, K: Sink>(
+    alloc: Global,
+    stage: &mut Stage<C>,
+    kinds: Kinds,
+    e: &Event,
+    out: &mut K,
+) -> Result<(), PlayFault>
+    ensures outcome { (p : AnsweredPlay) → (v : world.World) → At C.script C.script_of stage.old p v → LeadsTo C.script C.script_of C.stands_for result kinds (K.held out.old) (K.held out.new) stage.old stage.new p (PlaysEvent C.script_of p e.now) v }
+    ensures later { K.faults out.old ≤ K.faults out.new }
+    ensures fault { result ≡ Err PlayFault.WriteFault → Rose (K.faults out.old) (K.faults out.new) }
+{
+    let mut records: Records = List::new(alloc);
+    stage.world.event(alloc, e, &mut records)?;
+    write_records(alloc, kinds, records.as_slice(), out)?;
+    Ok(())
+}

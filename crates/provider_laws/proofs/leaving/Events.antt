@@ -1,0 +1,160 @@
+-- What an event says of a provider: whom it lets go, and whose join it asks for.
+use Rattle.std.proofs.Common.{◌≡◌, ℕ, List, [], ◌∷◌, Option, Some, None, Bool, true, false, refl, sym, ap, ◌∙◌, subst, inl, inr}
+use Rattle.std.specs.Prelude.{◌==◌, ◌&&◌, ◌||◌, not, if◌then◌else◌}
+use Rattle.std.specs.List.{list_any}
+use Rattle.std.proofs.lemmas.Bool.{eqb-true}
+use Rattle.rsct_packet.specs.declared.ids.ProviderId.{ProviderId}
+use Rattle.rsct_packet.specs.Providers.{same_provider}
+use Rattle.rsct_packet.specs.Search.{Has}
+use Rattle.rsct_packet.proofs.HasLaws.{append_has_left, append_has_right}
+use Rattle.client_callbacks.specs.declared.told.Why.{Why}
+use Rattle.client_callbacks.specs.declared.told.Why.TheVariants as why
+use Rattle.session_state.specs.declared.state.SessionState.{SessionState}
+use Rattle.session_state.specs.HandOn as session
+use Rattle.node_state.specs.declared.call.CallLine.TheVariants as call
+use Rattle.node_state.specs.declared.happened.Happened.{Happened}
+use Rattle.node_state.specs.declared.happened.Happened.TheVariants as happened
+use Rattle.world_model.specs.declared.event.Event.{Event}
+use Rattle.world_model.specs.declared.event.Event.TheVariants as event
+use Rattle.run_safety.specs.Past.{History, records_of, inc_now}
+use Rattle.run_safety.specs.Stays.{asks_join, joining_client, client_of, is_named, goodbye_of, is_refused, is_dissolved, ends, was_let_go}
+use Rattle.step_ties.proofs.SessionLaws.{provider_same}
+use Rattle.row_laws.proofs.failed_rows.Living.{IsLive}
+use Rattle.provider_laws.proofs.leaving.Walk.{Known}
+use Rattle.provider_laws.proofs.leaving.Left.{Says}
+
+pub any_none : {A : Type 0} (test : A → Bool) (xs : List A) → ((x : A) → Has x xs → test x ≡ false) → list_any test xs ≡ false
+any_none test [] all = refl
+any_none test (x ∷ xs) all = λ i. all x (inl refl) i || any_none test xs (λ y j. all y (inr j)) i
+
+pub any_one : {A : Type 0} (test : A → Bool) (x : A) (xs : List A) → Has x xs → test x ≡ true → list_any test xs ≡ true
+any_one test x [] i e = absurd i
+any_one test x (y ∷ xs) (inl q) e = ap (λ b. b || list_any test xs) (ap test (sym q) ∙ e)
+any_one test x (y ∷ xs) (inr i) e = either (test y) (any_one test x xs i e)
+  where
+    either : (b : Bool) → list_any test xs ≡ true → (b || list_any test xs) ≡ true
+    either true k = refl
+    either false k = k
+
+-- ---- whom an event lets go
+
+pub same_dissolved : (y : Why) → is_dissolved y ≡ true → session.is_dissolved y ≡ true
+same_dissolved (why.Collide a) e = absurd (cc)
+same_dissolved why.DuplicateInstance e = absurd (cc)
+same_dissolved (why.NoSource a) e = absurd (cc)
+same_dissolved why.BadAttributes e = absurd (cc)
+same_dissolved why.NotAMember e = absurd (cc)
+same_dissolved (why.ListFull a b) e = absurd (cc)
+same_dissolved (why.GroupFull a) e = absurd (cc)
+same_dissolved (why.GroupsFull a) e = absurd (cc)
+same_dissolved why.Dissolved e = refl
+
+-- a record of a step ends nobody who is not known, or who is still there
+pub says_spares : (a t : SessionState) (p : ProviderId) (inc : ℕ) (r : Happened) → (Known a p → IsLive t p) → Says a t r → ends p inc r ≡ false
+says_spares a t p inc (happened.Up n j) k s = refl
+says_spares a t p inc (happened.Down n) k s = absurd s
+says_spares a t p inc (happened.Ring n j i ms b) k s = refl
+says_spares a t p inc (happened.In n v ms) k s = refl
+says_spares a t p inc (happened.Base n v g old len st) k s = refl
+says_spares a t p inc (happened.Put n v g i e) k s = refl
+says_spares a t p inc (happened.Heard q v g i e ms value) k s = refl
+says_spares a t p inc (happened.Cast q proto phase vote value message) k s = refl
+says_spares a t p inc (happened.Asked q r g x) k s = refl
+says_spares a t p inc (happened.Told q r y) k s = by (same_provider q p) (is_dissolved y) refl refl
+  where
+    by : (b c : Bool) → same_provider q p ≡ b → is_dissolved y ≡ c → (b && c) ≡ false
+    by false c e d = refl
+    by true false e d = refl
+    by true true e d =
+        let same : q ≡ p = provider_same q p e in
+        absurd (s.1 (same_dissolved y d) (subst (IsLive t) (sym same) (k (subst (Known a) same s.0))))
+says_spares a t p inc (happened.Noted n c v i told) k s = refl
+says_spares a t p inc (happened.Refused n c fault) k s = refl
+says_spares a t p inc (happened.Shown n line) k s = refl
+
+-- nobody stops, and nobody is told
+abbrev pub Dull : Happened → Type 0
+Dull (happened.Down n) = ⊥
+Dull (happened.Told p r y) = ⊥
+Dull (happened.Asked p r g x) = ⊥
+Dull (happened.Heard p v g i e ms value) = ⊥
+Dull _ = Unit {0}
+
+pub dull_spares : (p : ProviderId) (inc : ℕ) (r : Happened) → Dull r → ends p inc r ≡ false
+dull_spares p inc (happened.Up n j) s = refl
+dull_spares p inc (happened.Down n) s = absurd s
+dull_spares p inc (happened.Ring n j i ms b) s = refl
+dull_spares p inc (happened.In n v ms) s = refl
+dull_spares p inc (happened.Base n v g old len st) s = refl
+dull_spares p inc (happened.Put n v g i e) s = refl
+dull_spares p inc (happened.Heard q v g i e ms value) s = refl
+dull_spares p inc (happened.Cast q proto phase vote value message) s = refl
+dull_spares p inc (happened.Asked q r g x) s = refl
+dull_spares p inc (happened.Told q r y) s = absurd s
+dull_spares p inc (happened.Noted n c v i told) s = refl
+dull_spares p inc (happened.Refused n c fault) s = refl
+dull_spares p inc (happened.Shown n line) s = refl
+
+pub dull_unasked : (p : ProviderId) (r : Happened) → Dull r → asks_join p r ≡ false
+dull_unasked p (happened.Up n j) s = refl
+dull_unasked p (happened.Down n) s = refl
+dull_unasked p (happened.Ring n j i ms b) s = refl
+dull_unasked p (happened.In n v ms) s = refl
+dull_unasked p (happened.Base n v g old len st) s = refl
+dull_unasked p (happened.Put n v g i e) s = refl
+dull_unasked p (happened.Heard q v g i e ms value) s = refl
+dull_unasked p (happened.Cast q proto phase vote value message) s = refl
+dull_unasked p (happened.Asked q r g x) s = absurd s
+dull_unasked p (happened.Told q r y) s = refl
+dull_unasked p (happened.Noted n c v i told) s = refl
+dull_unasked p (happened.Refused n c fault) s = refl
+dull_unasked p (happened.Shown n line) s = refl
+
+-- what a goodbye is
+pub goodbye_is : (n : ℕ) (o : Option (List ℕ)) (v : Event) → goodbye_of n o (Some v) ≡ true → (m : ℕ) × (c : List ℕ) × (v ≡ event.Call m (call.Goodbye c)) × (m ≡ n) × (is_named c o ≡ true)
+goodbye_is n o (event.Call m (call.Goodbye c)) e = (m, c, refl, eqb-true m n (first (m == n) (is_named c o) e), second (m == n) (is_named c o) e)
+  where
+    first : (a b : Bool) → (a && b) ≡ true → a ≡ true
+    first true b e = refl
+    first false b e = absurd (cc)
+
+    second : (a b : Bool) → (a && b) ≡ true → b ≡ true
+    second true b e = e
+    second false b e = absurd (cc)
+goodbye_is n o (event.Call m (call.Init node name votes)) e = absurd (cc)
+goodbye_is n o (event.Call m (call.Join client g instance attrs)) e = absurd (cc)
+goodbye_is n o (event.Call m (call.Leave client g phases)) e = absurd (cc)
+goodbye_is n o (event.Call m (call.Expel client g phases out)) e = absurd (cc)
+goodbye_is n o (event.Call m (call.ChangeState client g phases value)) e = absurd (cc)
+goodbye_is n o (event.Call m (call.SendMessage client g phases bytes)) e = absurd (cc)
+goodbye_is n o (event.Call m (call.ChangeAttributes client g phases attrs)) e = absurd (cc)
+goodbye_is n o (event.Call m (call.Vote client g b value)) e = absurd (cc)
+goodbye_is n o (event.Call m (call.Subscribe client g)) e = absurd (cc)
+goodbye_is n o (event.Call m (call.Unsubscribe client g)) e = absurd (cc)
+goodbye_is n o (event.Start m) e = absurd (cc)
+goodbye_is n o (event.Stop m) e = absurd (cc)
+goodbye_is n o (event.Tick m) e = absurd (cc)
+goodbye_is n o (event.Ask m mask) e = absurd (cc)
+goodbye_is n o (event.Show m what) e = absurd (cc)
+goodbye_is n o (event.Deliver m k i) e = absurd (cc)
+goodbye_is n o (event.Garbage m bytes) e = absurd (cc)
+
+-- whoever is not let go
+pub spared : (p : ProviderId) (v : Event) (rs : List Happened) (h : History) → ((r : Happened) → Has r rs → ends p (inc_now p.node (records_of h)) r ≡ false) → ((m : ℕ) (c : List ℕ) → v ≡ event.Call m (call.Goodbye c) → m ≡ p.node → is_named c (client_of p h) ≡ true → list_any is_refused rs ≡ false → ⊥) → was_let_go p h ≡ false → was_let_go p (record { event = Some v; records = rs } ∷ h) ≡ false
+spared p v rs h none stays old = λ i. (any_none (ends p (inc_now p.node (records_of h))) rs none i || bye (goodbye_of p.node (client_of p h) (Some v)) (list_any is_refused rs) refl refl i) || old i
+  where
+    bye : (a b : Bool) → goodbye_of p.node (client_of p h) (Some v) ≡ a → list_any is_refused rs ≡ b → (goodbye_of p.node (client_of p h) (Some v) && not (list_any is_refused rs)) ≡ false
+    bye false b e f = ap (λ z. z && not (list_any is_refused rs)) e
+    bye true true e f = (λ i. e i && not (f i))
+    bye true false e f = let z = goodbye_is p.node (client_of p h) v e in absurd (stays z.0 z.1 z.2 z.3 z.4 f)
+
+-- ---- whose join is asked for
+
+-- nobody asked
+pub client_none : (p : ProviderId) (h : History) → ((r : Happened) → Has r (records_of h) → asks_join p r ≡ false) → client_of p h ≡ None
+client_none p [] none = refl
+client_none p (e ∷ h) none =
+    ap (λ b. if b then joining_client e.event else client_of p h) (any_none (asks_join p) e.records (λ r i. none r (append_has_left r e.records (records_of h) i))) ∙ client_none p h (λ r i. none r (append_has_right r e.records (records_of h) i))
+
+pub client_on : (p : ProviderId) (o : Option Event) (rs : List Happened) (h : History) → list_any (asks_join p) rs ≡ false → client_of p (record { event = o; records = rs } ∷ h) ≡ client_of p h
+client_on p o rs h none = ap (λ b. if b then joining_client o else client_of p h) none

@@ -1,0 +1,219 @@
+-- What appending, closing and beginning keep of the rows of groups.
+use Rattle.std.proofs.Common.{◌≡◌, ℕ, zero, suc, List, [], ◌∷◌, length, Option, Some, None, Bool, true, false, refl}
+use Rattle.std.specs.Prelude.{not, map, filter, fold, flat_map}
+use Rattle.rsct_packet.specs.declared.ids.ProviderId.{ProviderId}
+use Rattle.rsct_packet.specs.declared.ids.ProtoId.{ProtoId}
+use Rattle.rsct_packet.specs.Providers.{among}
+use Rattle.group_attr.specs.declared.attrs.Phases.{Phases}
+use Rattle.group_attr.specs.declared.attrs.Phases.TheVariants.{One, Many}
+use Rattle.group_entry.specs.declared.proposal.Cause.TheVariants.{Died, Gone}
+use Rattle.group_entry.specs.declared.proposal.Proposal.{Proposal}
+use Rattle.group_entry.specs.declared.entry.Entry.{Entry}
+use Rattle.group_entry.specs.declared.entry.Entry.TheVariants.{Once, Begin}
+use Rattle.proposal_core.specs.declared.group_state.GroupState.{GroupState}
+use Rattle.proposal_core.specs.Fold.{max_phases}
+use Rattle.proposal_core.specs.Lists.{list_or_new, with_entry}
+use Rattle.batch_rules.specs.Waiting.{WaitingView, waits_failure}
+use Rattle.vote_phases.specs.Tally.{TallyView}
+use Rattle.subscribe_core.specs.Subs.{is_of_group, differs}
+use Rattle.client_callbacks.specs.declared.told.Why.{Why}
+use Rattle.client_callbacks.specs.declared.ballot.Filled.{Filled}
+use Rattle.client_callbacks.specs.Ballots.{BallotView}
+use Rattle.session_state.specs.declared.casts.Cast.{Cast}
+use Rattle.session_state.specs.declared.state.SessionState.{SessionState}
+use Rattle.session_state.specs.HandOn.{hearers, casts_out, telling_taken}
+use Rattle.session_state.specs.HandOn as session
+use Rattle.node_state.specs.declared.group.GroupRow.{GroupRow}
+use Rattle.node_state.specs.declared.group.Led.{Led}
+use Rattle.node_state.specs.declared.happened.Happened.{Happened}
+use Rattle.node_state.specs.declared.happened.Happened.TheVariants as happened
+use Rattle.node_state.specs.declared.packet.Body.{Body}
+use Rattle.node_state.specs.declared.packet.Body.TheVariants as body
+use Rattle.node_state.specs.declared.state.Core.{Core}
+use Rattle.node_state.specs.State.{with_row, with_led, led_of, state_of, len_of, list_forgotten, fits_at_end, forgets_below, frozen, leader_of, others, least_acked, decisions_with, recorded, recorded_all, with_sessions}
+use Rattle.node_state.specs.Sending.{sent_on, sent, sent_all, sent_if_known, network_to, vote_of}
+use Rattle.node_state.specs.HandOn.{Answering, fills, heard, note_of, notes, noted, ballot_sent, cast_sent_of, casts_sent, handed_on}
+use Rattle.node_state.specs.Leading.{put, put_and_handed, forgets_least, with_waiting, waits_if, new_members_wait, appended, appended_if, with_tally, tally_set, tally_for, tally_opened, closing_entry, is_phase, closes_from, closes, begun_many, begins}
+use Rattle.node_state.specs.Deciding.{decision_kept, refused}
+use Rattle.provider_laws.proofs.resting.Orderly.{MildLed, MildWaits, fails_few}
+use Rattle.provider_laws.proofs.resting.Growing.{Grows, led_grows, put_grows, forgets_grow}
+
+-- what is said of a node in the middle of a step depends on its view, its config and its groups alone, and is kept by such changes of
+-- the rows that are spoken of
+pub record Keeps (P : Core → Type 0) (Ok : List ℕ → Type 0) : Type 0 where
+  pub alike : (s t : Core) → t.groups ≡ s.groups → t.views ≡ s.views → t.config ≡ s.config → P s → P t
+  pub row : (s : Core) (g : List ℕ) (f : GroupRow → GroupRow) → Ok g → Grows f → P s → P (with_row s g f)
+
+module _ (P : Core → Type 0) (Ok : List ℕ → Type 0) (k : Keeps P Ok) where
+  pub on_either : {s t : Core} (b : Bool) → P s → P t → P (elim b as (λ _. Core) [ true ↦ s | false ↦ t ])
+  on_either true p q = p
+  on_either false p q = q
+
+  pub on_fold : {A : Type 0} (f : Core → A → Core) → ((s : Core) (x : A) → P s → P (f s x)) → (xs : List A) {s : Core} → P s → P (fold f s xs)
+  on_fold f one [] p = p
+  on_fold f one (x ∷ xs) {s} p = on_fold f one xs (one s x p)
+
+  -- ---- what is sent and recorded
+
+  pub on_sent_on : {s : Core} (network to : ℕ) (b : Body) → P s → P (sent_on s network to b)
+  unfolding sent_on
+  on_sent_on {s} network to b p = k.alike s (sent_on s network to b) refl refl refl p
+
+  pub on_sent : {s : Core} (to : ℕ) (b : Body) → P s → P (sent s to b)
+  unfolding sent
+  on_sent {s} to b p = on_sent_on (network_to s to) to b p
+
+  pub on_sent_all : {s : Core} (ns : List ℕ) (b : Body) → P s → P (sent_all s ns b)
+  unfolding sent_all
+  on_sent_all ns b p = on_fold (λ t n. sent t n b) (λ t n q. on_sent n b q) ns p
+
+  pub on_known : {s : Core} (to : Option ℕ) (b : Body) → P s → P (sent_if_known s to b)
+  unfolding sent_if_known
+  on_known None b p = p
+  on_known (Some n) b p = on_sent n b p
+
+  pub on_records : {s : Core} (rs : List Happened) → P s → P (recorded_all s rs)
+  unfolding recorded_all
+  on_records {s} rs p = k.alike s (recorded_all s rs) refl refl refl p
+
+  pub on_record : {s : Core} (r : Happened) → P s → P (recorded s r)
+  unfolding recorded
+  on_record {s} r p = k.alike s (recorded s r) refl refl refl p
+
+  pub on_sessions : {s : Core} (t : SessionState) → P s → P (with_sessions s t)
+  unfolding with_sessions
+  on_sessions {s} t p = k.alike s (with_sessions s t) refl refl refl p
+
+  -- ---- handing on
+
+  on_noted : {s : Core} (g : List ℕ) (i : ℕ) (before after : GroupState) → P s → P (noted s g i before after)
+  unfolding noted notes
+  on_noted {s} g i before after p = on_either (differs before after) (on_records (map (note_of s g (Some i) after) (filter (is_of_group g) s.sessions.subs.live)) p) p
+
+  on_ballot : {s : Core} (g : List ℕ) (to : Option ℕ) (p : ProviderId) (proto : ProtoId) (phase : ℕ) (b : Option Filled) → P s → P (ballot_sent s g to p proto phase b)
+  unfolding ballot_sent vote_of
+  on_ballot g to p proto phase None q = q
+  on_ballot g to p proto phase (Some b) q = on_known to _ q
+
+  on_cast : {s : Core} (g : List ℕ) (to : Option ℕ) (p : ProviderId) (o : Option (ProtoId × ℕ × BallotView)) → P s → P (cast_sent_of s g to p o)
+  unfolding cast_sent_of
+  on_cast g to p None q = q
+  on_cast g to p (Some c) q = on_ballot g to p c.0 c.1 (c.2).filled q
+
+  on_casts : {s : Core} (g : List ℕ) (to : Option ℕ) (cs : List Cast) → P s → P (casts_sent s g to cs)
+  unfolding casts_sent
+  on_casts {s} g to cs p =
+      on_either (frozen s) p (on_fold (λ t (c : Cast). cast_sent_of t g to c.p c.cast) (λ t c q. on_cast g to c.p c.cast q) cs p)
+
+  pub on_handed : (f : Answering) {s : Core} (to : Option ℕ) (g : List ℕ) (i : ℕ) (before after : GroupState) (e : Entry) → P s → P (handed_on f s to g i before after e)
+  unfolding handed_on
+  on_handed f {s} to g i before after e p =
+      let bs : List (Option Filled) = fills f (length s.records) s.sessions e after (hearers s.sessions g before e) in
+      let cs : List Cast = casts_out s.sessions g before after e bs in
+      on_casts g to cs (on_sessions (session.handed_on s.sessions g before after e bs) (on_noted g i before after (on_records (flat_map (heard s g i e after) cs) p)))
+
+  -- ---- a row changes
+
+  pub on_row : {s : Core} (g : List ℕ) (ok : Ok g) (f : GroupRow → GroupRow) → Grows f → P s → P (with_row s g f)
+  on_row {s} g ok f m p = k.row s g f ok m p
+
+  pub on_led : {s : Core} (g : List ℕ) (ok : Ok g) (f : Led → Led) → MildLed f → P s → P (with_led s g f)
+  unfolding with_led
+  on_led g ok f m p = on_row g ok (λ row. record row { led = f row.led }) (led_grows f m) p
+
+  -- ---- appending
+
+  on_put : {s : Core} (g : List ℕ) (ok : Ok g) (e : Entry) → P s → P (put s g e)
+  unfolding put
+  on_put {s} g ok e p =
+      on_record (happened.Put s.views.me s.views.view g (len_of s g) e) (on_row g ok (λ row. record row { list = Some (with_entry (list_or_new row.list) s.views.view e) }) (put_grows s.views.view e) p)
+
+  pub on_put_handed : (f : Answering) {s : Core} (to : Option ℕ) (g : List ℕ) (ok : Ok g) (e : Entry) → P s → P (put_and_handed f s to g e)
+  unfolding put_and_handed
+  on_put_handed f {s} to g ok e p = on_handed f to g (len_of s g) (state_of s g) (state_of (put s g e) g) e (on_put g ok e p)
+
+  pub on_forgets : {s : Core} (g : List ℕ) (ok : Ok g) (n : ℕ) → P s → P (forgets_below s g n)
+  unfolding forgets_below
+  on_forgets g ok n p = on_row g ok (λ row. record row { list = list_forgotten n row.list }) (forgets_grow n) p
+
+  pub on_forgets_least : {s : Core} (g : List ℕ) (ok : Ok g) → P s → P (forgets_least s g)
+  unfolding forgets_least
+  on_forgets_least {s} g ok p = on_forgets g ok (least_acked s g) p
+
+  pub on_waiting : {s : Core} (g : List ℕ) (ok : Ok g) (f : WaitingView → WaitingView) → MildWaits f → P s → P (with_waiting s g f)
+  unfolding with_waiting
+  on_waiting g ok f m p = on_led g ok (λ l. record l { waiting = f l.waiting }) (λ l w. m l.waiting w) p
+
+  on_waits_if : {s : Core} (g : List ℕ) (ok : Ok g) (q : ProviderId) (a b : Bool) → P s → P (waits_if s g q a b)
+  unfolding waits_if
+  on_waits_if g ok q true b p = on_waiting g ok (waits_failure q Died) (fails_few q Died) p
+  on_waits_if g ok q false true p = on_waiting g ok (waits_failure q Gone) (fails_few q Gone) p
+  on_waits_if g ok q false false p = p
+
+  pub on_new_members : {s : Core} (g : List ℕ) (ok : Ok g) (before after : GroupState) → P s → P (new_members_wait s g before after)
+  unfolding new_members_wait
+  on_new_members {s} g ok before after p =
+      on_fold (λ t q. waits_if t g q (among after.failed q) (among (led_of s g).gone q)) (λ t q h. on_waits_if g ok q (among after.failed q) (among (led_of s g).gone q) h) (filter (λ q. not (among before.members q)) after.members) p
+
+  on_appended : (f : Answering) {s : Core} (g : List ℕ) (ok : Ok g) (e : Entry) → P s → P (appended f s g e)
+  unfolding appended
+  on_appended f {s} g ok e p =
+      let t : Core = put s g e in
+      let u : Core = sent_all t (others t) (body.Entry t.views.view g (len_of s g) (least_acked t g) e) in
+      on_new_members g ok (state_of s g) (state_of t g) (on_forgets_least g ok (on_handed f (leader_of u g) g (len_of s g) (state_of s g) (state_of t g) e (on_sent_all (others t) (body.Entry t.views.view g (len_of s g) (least_acked t g) e) (on_put g ok e p))))
+
+  pub on_appended_if : (f : Answering) {s : Core} (g : List ℕ) (ok : Ok g) (e : Entry) (b : Bool) → P s → P (appended_if f s g e b)
+  unfolding appended_if
+  on_appended_if f g ok e false p = p
+  on_appended_if f g ok e true p = on_appended f g ok e p
+
+  -- ---- closing and beginning
+
+  pub on_tally : {s : Core} (g : List ℕ) (ok : Ok g) (t : Option TallyView) → P s → P (with_tally s g t)
+  unfolding with_tally
+  on_tally g ok t p = on_led g ok (λ l. record l { tally = t }) (λ l w. w) p
+
+  on_tally_set : {s : Core} (g : List ℕ) (ok : Ok g) (t : Option TallyView) → P s → P (tally_set s g t)
+  unfolding tally_set
+  on_tally_set g ok t p = on_led g ok (λ l. record l { tally = t; given = [] }) (λ l w. w) p
+
+  pub on_opened : {s : Core} (g : List ℕ) (ok : Ok g) → P s → P (tally_opened s g)
+  unfolding tally_opened
+  on_opened {s} g ok p = on_tally_set g ok (Some (tally_for (state_of s g) (led_of s g).gone)) p
+
+  on_closes_from : (n : ℕ) (f : Answering) (s : Core) (g : List ℕ) (ok : Ok g) → P s → P (closes_from n f s g)
+  unfolding closes_from
+  on_closes_from zero f s g ok p = p
+  on_closes_from (suc n) f s g ok p = by (closing_entry (led_of s g) (led_of s g).tally (state_of s g).running) (on_closes_from n)
+    where
+      fits : (e : Entry) → ((f : Answering) (s : Core) (g : List ℕ) (ok : Ok g) → P s → P (closes_from n f s g)) → (a b : Bool) → P (elim a as (λ _. Core) [ false ↦ s | true ↦ elim b as (λ _. Core) [ true ↦ closes_from n f (tally_opened (appended f s g e) g) g | false ↦ tally_set (appended f s g e) g None ] ])
+      fits e rest false b = p
+      fits e rest true true = rest f (tally_opened (appended f s g e) g) g ok (on_opened g ok (on_appended f g ok e p))
+      fits e rest true false = on_tally_set g ok None (on_appended f g ok e p)
+
+      by : (o : Option Entry) → ((f : Answering) (s : Core) (g : List ℕ) (ok : Ok g) → P s → P (closes_from n f s g)) → P (elim o as (λ _. Core) [ None ↦ s | Some e ↦ elim (fits_at_end s g e) as (λ _. Core) [ false ↦ s | true ↦ elim (is_phase e) as (λ _. Core) [ true ↦ closes_from n f (tally_opened (appended f s g e) g) g | false ↦ tally_set (appended f s g e) g None ] ] ])
+      by None rest = p
+      by (Some e) rest = fits e rest (fits_at_end s g e) (is_phase e)
+
+  pub on_closes : (f : Answering) {s : Core} (g : List ℕ) (ok : Ok g) → P s → P (closes f s g)
+  unfolding closes
+  on_closes f {s} g ok p = on_closes_from max_phases f s g ok p
+
+  pub on_begins : (f : Answering) {s : Core} (g : List ℕ) (ok : Ok g) (x : Proposal) (phases : Phases) → P s → P (begins f s g x phases)
+  unfolding begins begun_many
+  on_begins f {s} g ok x One p = on_appended_if f g ok (Once x) (fits_at_end s g (Once x)) p
+  on_begins f {s} g ok x Many p = by (fits_at_end s g (Begin x))
+    where
+      by : (b : Bool) → P (begun_many f s g x b)
+      by false = p
+      by true = on_closes f g ok (on_opened g ok (on_appended f g ok (Begin x) p))
+
+  -- ---- deciding
+
+  pub on_kept : {s : Core} (g : List ℕ) (ok : Ok g) (q : ProviderId) (r : ℕ) (y : Option Why) → P s → P (decision_kept s g q r y)
+  unfolding decision_kept
+  on_kept g ok q r y p = on_led g ok (λ l. record l { decided = decisions_with (record { p = q; r = r; why = y }) l.decided }) (λ l w. w) p
+
+  pub on_refused : {s : Core} (g : List ℕ) (ok : Ok g) (q : ProviderId) (r : ℕ) (y : Why) → P s → P (refused s g q r y)
+  unfolding refused
+  on_refused {s} g ok q r y p = on_sent q.node (body.Tell s.views.view g q r y) (on_kept g ok q r (Some y) p)

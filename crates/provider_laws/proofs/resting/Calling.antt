@@ -1,0 +1,134 @@
+-- In a call few joins and failures wait; and a goodbye changes no group and no view, and puts nothing.
+use Rattle.std.proofs.Common.{◌≡◌, ℕ, List, [], ◌∷◌, ◌++◌, fold, Option, Some, None, Bool, true, false, refl, sym, subst, inl, inr}
+use Rattle.std.specs.Prelude.{filter, Result, Ok, Err}
+use Rattle.std.specs.List.{last_or}
+use Rattle.rsct_packet.specs.Search.{Has}
+use Rattle.client_callbacks.specs.declared.ballot.Filled.{Filled}
+use Rattle.session_state.specs.declared.fault.GsFault.{GsFault}
+use Rattle.session_state.specs.declared.state.KeptBallot.{KeptBallot}
+use Rattle.session_state.specs.declared.state.Provider.{Provider}
+use Rattle.session_state.specs.declared.state.Request.{Request}
+use Rattle.session_state.specs.declared.state.SessionState.{SessionState}
+use Rattle.session_state.specs.State.{is_client_of, client_token}
+use Rattle.session_state.specs.Calls.{goodbye_taken}
+use Rattle.node_state.specs.declared.call.CallLine.{CallLine}
+use Rattle.node_state.specs.declared.call.CallLine.TheVariants as call
+use Rattle.node_state.specs.declared.happened.Happened.{Happened}
+use Rattle.node_state.specs.declared.happened.Happened.TheVariants as happened
+use Rattle.node_state.specs.declared.packet.Body.{Body}
+use Rattle.node_state.specs.declared.packet.Body.TheVariants as body
+use Rattle.node_state.specs.declared.state.Core.{Core}
+use Rattle.node_state.specs.State.{frozen, leader_of, recorded, with_sessions}
+use Rattle.node_state.specs.Sending.{sent_on, sent, sent_if_known}
+use Rattle.node_state.specs.Calls.{call_refused, changed, last_asked, proposed, ballot_recorded, ballot_sent_if, last_cast, ballot_given, gone_sent, all_gone_sent, goodbye_said, call_row}
+use Rattle.provider_laws.proofs.resting.Orderly.{Orderly}
+use Rattle.provider_laws.proofs.resting.Walk.{on_either, on_fold, on_known, on_record, on_sessions}
+use Rattle.provider_laws.proofs.resting.Rows.{on_request_sent, on_kept_sent}
+
+on_call_refused : {s : Core} (client : List ℕ) (fault : GsFault) → Orderly s → Orderly (call_refused s client fault)
+unfolding call_refused
+on_call_refused {s} client fault p = on_record (happened.Refused s.views.me client fault) p
+
+on_changed : {s : Core} (client : List ℕ) (r : Result SessionState GsFault) → Orderly s → Orderly (changed s client r)
+unfolding changed
+on_changed client (Ok t) p = on_sessions t p
+on_changed client (Err fault) p = on_call_refused client fault p
+
+on_asked : {s : Core} (o : Option Request) → Orderly s → Orderly (last_asked s o)
+unfolding last_asked
+on_asked None p = p
+on_asked (Some q) p = on_request_sent q (on_record (happened.Asked q.p q.r q.group q.proposal) p)
+
+on_proposed : {s : Core} (client : List ℕ) (r : Result SessionState GsFault) → Orderly s → Orderly (proposed s client r)
+unfolding proposed
+on_proposed client (Ok t) p = on_asked (last_or None t.requests) (on_sessions t p)
+on_proposed client (Err fault) p = on_call_refused client fault p
+
+on_ballot_recorded : {s : Core} (k : KeptBallot) (o : Option Filled) → Orderly s → Orderly (ballot_recorded s k o)
+unfolding ballot_recorded
+on_ballot_recorded k None p = p
+on_ballot_recorded k (Some b) p = on_record (happened.Cast k.p k.proto k.phase b.vote b.value b.message) p
+
+on_ballot_sent : {s : Core} (k : KeptBallot) (b : Bool) → Orderly s → Orderly (ballot_sent_if s k b)
+unfolding ballot_sent_if
+on_ballot_sent k true p = p
+on_ballot_sent k false p = on_kept_sent k p
+
+on_cast : {s : Core} (o : Option KeptBallot) → Orderly s → Orderly (last_cast s o)
+unfolding last_cast
+on_cast None p = p
+on_cast {s} (Some k) p = on_ballot_sent k (frozen s) (on_ballot_recorded k k.ballot.filled p)
+
+on_given : {s : Core} (client : List ℕ) (r : Result SessionState GsFault) → Orderly s → Orderly (ballot_given s client r)
+unfolding ballot_given
+on_given client (Ok t) p = on_cast (last_or None t.kept) (on_sessions t p)
+on_given client (Err fault) p = on_call_refused client fault p
+
+on_all_gone : {s : Core} (ended : List Provider) → Orderly s → Orderly (all_gone_sent s ended)
+unfolding all_gone_sent gone_sent
+on_all_gone {s} ended p = on_either (frozen s) p (on_fold gone_sent (λ t x q. on_known (leader_of t x.group) (body.Gone t.views.view x.group x.p) q) ended p)
+
+on_said : {s : Core} (client : List ℕ) (ended : List Provider) (r : Result SessionState GsFault) → Orderly s → Orderly (goodbye_said s client ended r)
+unfolding goodbye_said
+on_said client ended (Ok t) p = on_all_gone ended (on_sessions t p)
+on_said client ended (Err fault) p = on_call_refused client fault p
+
+pub on_call : {s : Core} (c : CallLine) → Orderly s → Orderly (call_row s c)
+unfolding call_row
+on_call (call.Init node name votes) p = on_changed name _ p
+on_call (call.Join client g instance attrs) p = on_proposed client _ p
+on_call (call.Leave client g phases) p = on_proposed client _ p
+on_call (call.Expel client g phases out) p = on_proposed client _ p
+on_call (call.ChangeState client g phases value) p = on_proposed client _ p
+on_call (call.SendMessage client g phases bytes) p = on_proposed client _ p
+on_call (call.ChangeAttributes client g phases attrs) p = on_proposed client _ p
+on_call (call.Vote client g v value) p = on_given client _ p
+on_call (call.Subscribe client g) p = on_changed client _ p
+on_call (call.Unsubscribe client g) p = on_changed client _ p
+on_call (call.Goodbye client) p = on_said client _ _ p
+
+-- ---- a goodbye
+
+abbrev pub NoPut : Happened → Type 0
+NoPut (happened.Put n v g i e) = ⊥
+NoPut _ = Unit {0}
+
+-- groups, view and config stay, and nothing is put
+pub record Parts (s u : Core) : Type 0 where
+  pub groups : u.groups ≡ s.groups
+  pub views : u.views ≡ s.views
+  pub config : u.config ≡ s.config
+  pub none : (r : Happened) → Has r u.records → NoPut r
+
+parts_sent : (s u : Core) (to : Option ℕ) (b : Body) → Parts s u → Parts s (sent_if_known u to b)
+unfolding sent_if_known sent sent_on
+parts_sent s u None b k = k
+parts_sent s u (Some n) b k = record { groups = k.groups; views = k.views; config = k.config; none = k.none }
+
+parts_gone : (s u : Core) (ended : List Provider) → Parts s u → Parts s (fold gone_sent u ended)
+unfolding gone_sent
+parts_gone s u [] k = k
+parts_gone s u (x ∷ xs) k = parts_gone s (gone_sent u x) xs (parts_sent s u (leader_of u x.group) (body.Gone u.views.view x.group x.p) k)
+
+parts_all : (s u : Core) (ended : List Provider) → Parts s u → Parts s (all_gone_sent u ended)
+unfolding all_gone_sent
+parts_all s u ended k = by (frozen u)
+  where
+    by : (b : Bool) → Parts s (elim b as (λ _. Core) [ true ↦ u | false ↦ fold gone_sent u ended ])
+    by true = k
+    by false = parts_gone s u ended k
+
+parts_said : (s : Core) (client : List ℕ) (ended : List Provider) (r : Result SessionState GsFault) → s.records ≡ [] → Parts s (goodbye_said s client ended r)
+unfolding goodbye_said with_sessions call_refused recorded
+parts_said s client ended (Ok t) none = parts_all s (record s { sessions = t }) ended (record { groups = refl; views = refl; config = refl; none = λ r i. absurd (subst (Has r) none i) })
+parts_said s client ended (Err fault) none =
+    record { groups = refl; views = refl; config = refl; none = λ r i. one r (subst (λ rs. Has r (rs ++ happened.Refused s.views.me client fault ∷ [])) none i) }
+  where
+    one : (r : Happened) → Has r (happened.Refused s.views.me client fault ∷ []) → NoPut r
+    one r (inl e) = subst NoPut (sym e) tt
+    one r (inr z) = absurd z
+
+pub goodbye_parts : (s : Core) (client : List ℕ) → s.records ≡ [] → Parts s (call_row s (call.Goodbye client))
+unfolding call_row
+goodbye_parts s client none =
+    parts_said s client (filter (is_client_of (client_token s.sessions client)) s.sessions.providers) (goodbye_taken s.sessions (client_token s.sessions client)) none

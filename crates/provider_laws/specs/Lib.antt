@@ -1,0 +1,4 @@
+pub mod attending
+pub mod single_casts
+pub mod leaving
+pub mod resting

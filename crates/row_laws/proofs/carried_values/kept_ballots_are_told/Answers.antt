@@ -1,5 +1,0 @@
-use Rattle.row_laws.proofs.carried_values.Law.{kept_ballots}
-use Rattle.row_laws.proofs.carried_values.kept_ballots_are_told.Goals as goal
-
-pub returns : goal.returns
-returns c = kept_ballots

@@ -1,6 +1,0 @@
--- What stands at any node and in any group, so the law is named here.
-use Rattle.run_laws.proofs.attending.States.{stand_once}
-use Rattle.run_laws.proofs.attending.members_stand_once.Goals as goal
-
-pub returns : goal.returns
-returns c = stand_once

@@ -1,0 +1,9 @@
+use Rattle.std.proofs.Common.{◌≡◌, length}
+use Rattle.group_entry.specs.ProposalCodec.{failures_differ}
+use Rattle.world_packets.proofs.entries.are_apart.Given as goal
+
+abbrev pub invariant-loop-f : goal.invariant-loop-f
+invariant-loop-f l = failures_differ l.fs ≡ failures_differ l.left
+
+abbrev pub decreases-loop-f : goal.decreases-loop-f
+decreases-loop-f l = length l.left

@@ -1,6 +1,0 @@
-use Rattle.std.proofs.Common.{◌≡◌, map, take}
-use Rattle.world_play.specs.Standing.{number_in}
-use Rattle.world_play.proofs.nodes.Nodes.numbers.Given as goal
-
-abbrev pub invariant-loop-x : goal.invariant-loop-x
-invariant-loop-x g l = l.ns.items ≡ map number_in (take l.x-index l.x-items)
