@@ -10,7 +10,7 @@ mod lists;
 mod pairs;
 mod waiting;
 
-pub use crate::Datagram;
+pub use datagram::Datagram;
 pub use kept::WorldPackets;
 pub use pairs::Pair;
 pub use waiting::Waiting;
