@@ -2,7 +2,7 @@
 use Rattle.std.specs.Prelude.{Bool, ◌==◌, ◌||◌, List, [], ◌∷◌, length, Option, Some, None, if◌then◌else◌}
 use Rattle.rsct_packet.specs.declared.ids.ProviderId.{ProviderId}
 use Rattle.group_attr.specs.declared.attrs.Batch.{Batch}
-use Rattle.group_entry.specs.declared.proposal.Failure.{Failure}
+use Rattle.proposal_core.specs.declared.proposal.Failure.{Failure}
 use Rattle.batch_rules.specs.declared.waiting.Added.{Added}
 use Rattle.batch_rules.specs.declared.waiting.Added.TheVariants.{Queued, Full, DuplicateInstance}
 use Rattle.batch_rules.specs.declared.waiting.Chosen.{Chosen}

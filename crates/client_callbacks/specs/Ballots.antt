@@ -1,6 +1,6 @@
 -- What ballots may be filled with, and when.
 use Rattle.std.specs.Prelude.{ℕ, Bool, true, ◌==◌, ◌&&◌, ◌||◌, List, length, Option, Some, None, nat_le, is_none, if◌then◌else◌}
-use Rattle.group_entry.specs.declared.entry.Vote.{Vote}
+use Rattle.proposal_core.specs.declared.entry.Vote.{Vote}
 use Rattle.client_callbacks.specs.declared.ballot.Filled.{Filled}
 
 -- a ballot: whether a vote is asked for, the level that limits its value, and what it is filled with

@@ -1,7 +1,7 @@
 //! Kinds of clients.
 ghost use Rattle.std.specs.Prelude.{◌≡◌, ◌∷◌, ◌++◌, [], List, Option, Some, None, OnOk, IfOk};
 ghost use Rattle.std.specs.Option.{option_map};
-ghost use Rattle.group_entry.specs.declared.entry.Vote.TheVariants.{Approve};
+ghost use Rattle.proposal_core.specs.declared.entry.Vote.TheVariants.{Approve};
 ghost use Rattle.client_callbacks.specs.declared.votes.VoteItem.{VoteItem};
 ghost use Rattle.client_callbacks.specs.Handed.{Handed, steady_items, phase_in};
 ghost use Rattle.client_callbacks.specs.Votes.{votes_word};

@@ -9,7 +9,7 @@ use Rattle.rsct_packet.specs.declared.ids.ViewId.{ViewId}
 use Rattle.client_callbacks.specs.Ballots.{new_ballot, may_hold}
 use Rattle.client_callbacks.specs.Handed.{Notified}
 use Rattle.session_state.specs.declared.casts.Cast.{Cast}
-use Rattle.group_entry.specs.declared.entry.Entry.{Entry}
+use Rattle.proposal_core.specs.declared.entry.Entry.{Entry}
 use Rattle.proposal_core.specs.declared.group_state.GroupState.{GroupState}
 use Rattle.rsct_packet.specs.declared.ids.ProviderId.{ProviderId}
 use Rattle.client_callbacks.specs.declared.ballot.Filled.{Filled}

@@ -10,10 +10,10 @@ ghost use Rattle.session_state.specs.HandOn.{hearers, handed_on, casts_out, cast
 ghost use Rattle.client_session.specs.Clients.{StandFor, add_at, add_for, is_at, KeepsAllBut};
 ghost use Rattle.client_session.specs.Notices.{notice_to, notified, hears_at, FillsAs, Filling, Fillings};
 
-use crate::{beginners, hear, hearers, place_of};
 use client_callbacks::{Ballot, Callbacks, Notice, Told};
 use proposal_core::{GroupState, Running};
 use rsct_packet::{List, NoMemory, ProviderId};
+use session_hearing::{beginners, hear, hearers, place_of};
 use session_state::{Cast, Casts, NewEntry, SessionState};
 use std::alloc::Global;
 

@@ -10,10 +10,11 @@ ghost use Rattle.entry_handing.specs.Telling.{heard_in, note_in, note_handing};
 ghost use Rattle.entry_handing.specs.Received.{Receive};
 
 use client_callbacks::{Callbacks, Filled, Told};
-use client_session::{client_place, tell_at};
+use client_session::tell_at;
 use node_state::{Happened, Records};
 use proposal_core::GroupState;
 use rsct_packet::{List, Name, NoMemory, ProtoId, ProviderId, ViewId};
+use session_hearing::client_place;
 use session_state::{Cast, NewEntry, Session, SessionState};
 use std::alloc::Global;
 use subscribe_core::{ClientToken, Subscription};

@@ -7,13 +7,13 @@ use Rattle.rsct_packet.specs.Format.{IsFormat, IsVariant, IsBytes, EachFits}
 use Rattle.rsct_packet.specs.Fields.{IsNode}
 use Rattle.rsct_packet.proofs.FormatLaws.{both_format, made_format, guarded_format, fits_format, counted_format, optional_format, keyed_of, choice_format, or_variant, no_variant, made_variant, wide8, u16_format}
 use Rattle.rsct_packet.proofs.FieldLaws.{bytes_format, proto_format, some_providers_format}
-use Rattle.group_entry.proofs.RowFormat.{row_format}
-use Rattle.group_entry.specs.declared.entry.Row.{Row}
-use Rattle.group_entry.specs.declared.entry.Closed.{Closed}
-use Rattle.group_entry.specs.declared.entry.Entry.{Entry}
-use Rattle.group_entry.specs.declared.entry.Entry.TheVariants.{Once, Begin, Phase, Approve, Reject, Late}
+use Rattle.proposal_core.proofs.RowFormat.{row_format}
+use Rattle.proposal_core.specs.declared.entry.Row.{Row}
+use Rattle.proposal_core.specs.declared.entry.Closed.{Closed}
+use Rattle.proposal_core.specs.declared.entry.Entry.{Entry}
+use Rattle.proposal_core.specs.declared.entry.Entry.TheVariants.{Once, Begin, Phase, Approve, Reject, Late}
 use Rattle.group_codec.proofs.ProposalFormat.{proposal_format}
-use Rattle.group_entry.specs.EntryCodec.{IsRow, closed_of_parts, closed_at, closed_text, IsClosed, once_at, begin_at, phase_at, approve_at, reject_at, late_at, entry_body_at, entry_front_at, entry_kind, entry_body, entry_text, IsEntry, whole}
+use Rattle.proposal_core.specs.EntryCodec.{IsRow, closed_of_parts, closed_at, closed_text, IsClosed, once_at, begin_at, phase_at, approve_at, reject_at, late_at, entry_body_at, entry_front_at, entry_kind, entry_body, entry_text, IsEntry, whole}
 
 closed_format : IsFormat closed_at closed_text IsClosed
 unfolding closed_at closed_text

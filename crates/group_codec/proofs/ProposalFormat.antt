@@ -11,13 +11,13 @@ use Rattle.rsct_packet.specs.declared.ids.ProviderId.{ProviderId}
 use Rattle.rsct_packet.specs.Fields.{IsNode, IsProvider, IsProviders, IsSomeProviders}
 use Rattle.rsct_packet.proofs.FormatLaws.{both_format, guarded_format, fits_format, counted_format, optional_format, keyed_of, choice_format, or_variant, no_variant, made_variant, wide8, u32_format}
 use Rattle.rsct_packet.proofs.FieldLaws.{and_true, bytes_format, view_format, provider_format, some_providers_format}
-use Rattle.group_entry.proofs.FailureFormat.{failure_format}
+use Rattle.proposal_core.proofs.FailureFormat.{failure_format}
 use Rattle.group_codec.proofs.AttrFormat.{attrs_format, stands_gives}
-use Rattle.group_entry.specs.declared.proposal.Failure.{Failure}
-use Rattle.group_entry.specs.declared.proposal.Proposal.{Proposal}
-use Rattle.group_entry.specs.declared.proposal.Proposal.TheVariants.{Join, Leave, Fail, Expel, State, Message, Attributes, Reflect}
+use Rattle.proposal_core.specs.declared.proposal.Failure.{Failure}
+use Rattle.proposal_core.specs.declared.proposal.Proposal.{Proposal}
+use Rattle.proposal_core.specs.declared.proposal.Proposal.TheVariants.{Join, Leave, Fail, Expel, State, Message, Attributes, Reflect}
 use Rattle.group_codec.specs.declared.proposals.ProposalRef.{ProposalRef}
-use Rattle.group_entry.specs.ProposalCodec.{IsFailure, are_failures, failures_differ, fallen_at, fallen_text, IsFallen, join_at, leave_at, fail_at, expel_at, state_change_at, message_at, attributes_at, reflect_at, proposal_body_at, proposal_at, proposal_kind, proposal_body, proposal_text, IsProposal}
+use Rattle.proposal_core.specs.ProposalCodec.{IsFailure, are_failures, failures_differ, fallen_at, fallen_text, IsFallen, join_at, leave_at, fail_at, expel_at, state_change_at, message_at, attributes_at, reflect_at, proposal_body_at, proposal_at, proposal_kind, proposal_body, proposal_text, IsProposal}
 use Rattle.group_codec.specs.InPlace.{proposal_in, proposal_of}
 
 few_failures : (fs : List Failure) → IsTrue (are_failures fs) → length fs ≤ 64

@@ -9,16 +9,16 @@ use Rattle.rsct_packet.specs.Format.{counted_text, optional_text}
 use Rattle.rsct_packet.specs.Fields.{u8_text, u16_text, u32_text, bytes_text, view_text, provider_text, proto_text, providers_text}
 use Rattle.group_attr.specs.declared.attrs.Attrs.{Attrs}
 use Rattle.group_attr.specs.Codec.{attrs_text, source_text}
-use Rattle.group_entry.specs.declared.proposal.Failure.{Failure}
-use Rattle.group_entry.specs.declared.proposal.Proposal.{Proposal}
-use Rattle.group_entry.specs.declared.proposal.Proposal.TheVariants.{Join, Leave, Fail, Expel, State, Message, Attributes, Reflect}
-use Rattle.group_entry.specs.declared.entry.Row.{Row}
-use Rattle.group_entry.specs.declared.entry.Closed.{Closed}
-use Rattle.group_entry.specs.declared.entry.Entry.{Entry}
-use Rattle.group_entry.specs.declared.entry.Entry.TheVariants.{Once, Begin, Phase, Approve, Reject, Late}
-use Rattle.group_entry.specs.ProposalCodec.{failure_text, fallen_text, proposal_text, cause_number}
-use Rattle.group_entry.specs.EntryCodec.{row_text, row_vote_number, closed_text, entry_text}
-use Rattle.group_entry.specs.Sizes.{name_option_len, text_option_len, number_option_len, attrs_len, proposal_len, closed_len, entry_len}
+use Rattle.proposal_core.specs.declared.proposal.Failure.{Failure}
+use Rattle.proposal_core.specs.declared.proposal.Proposal.{Proposal}
+use Rattle.proposal_core.specs.declared.proposal.Proposal.TheVariants.{Join, Leave, Fail, Expel, State, Message, Attributes, Reflect}
+use Rattle.proposal_core.specs.declared.entry.Row.{Row}
+use Rattle.proposal_core.specs.declared.entry.Closed.{Closed}
+use Rattle.proposal_core.specs.declared.entry.Entry.{Entry}
+use Rattle.proposal_core.specs.declared.entry.Entry.TheVariants.{Once, Begin, Phase, Approve, Reject, Late}
+use Rattle.proposal_core.specs.ProposalCodec.{failure_text, fallen_text, proposal_text, cause_number}
+use Rattle.proposal_core.specs.EntryCodec.{row_text, row_vote_number, closed_text, entry_text}
+use Rattle.proposal_core.specs.Sizes.{name_option_len, text_option_len, number_option_len, attrs_len, proposal_len, closed_len, entry_len}
 
 u16_len : (n : ℕ) → length (u16_text n) ≡ 2
 unfolding u16_text

@@ -15,12 +15,12 @@ use Rattle.rsct_packet.proofs.FieldLaws.{and_true, both_true}
 use Rattle.rsct_packet.proofs.ProviderLaws.{AreProviders-without_all, AreProviders-append}
 use Rattle.group_attr.specs.declared.attrs.Attrs.{Attrs}
 use Rattle.group_attr.specs.Codec.{IsAttrs}
-use Rattle.group_entry.specs.declared.proposal.Proposal.{Proposal}
-use Rattle.group_entry.specs.declared.proposal.Proposal.TheVariants.{Join, Leave, Fail, Expel, State, Message, Attributes, Reflect}
-use Rattle.group_entry.specs.declared.entry.Entry.{Entry}
-use Rattle.group_entry.specs.declared.entry.Entry.TheVariants.{Once, Begin, Phase, Approve, Reject, Late}
-use Rattle.group_entry.specs.ProposalCodec.{IsProposal}
-use Rattle.group_entry.specs.EntryCodec.{IsEntry, IsClosed}
+use Rattle.proposal_core.specs.declared.proposal.Proposal.{Proposal}
+use Rattle.proposal_core.specs.declared.proposal.Proposal.TheVariants.{Join, Leave, Fail, Expel, State, Message, Attributes, Reflect}
+use Rattle.proposal_core.specs.declared.entry.Entry.{Entry}
+use Rattle.proposal_core.specs.declared.entry.Entry.TheVariants.{Once, Begin, Phase, Approve, Reject, Late}
+use Rattle.proposal_core.specs.ProposalCodec.{IsProposal}
+use Rattle.proposal_core.specs.EntryCodec.{IsEntry, IsClosed}
 use Rattle.proposal_core.specs.declared.group_state.GroupState.{GroupState}
 use Rattle.proposal_core.specs.declared.group_state.Running.{Running}
 use Rattle.proposal_core.specs.Fold.{joins_of, joiners_in, fallen_of, without, can_begin, fits, runs, effect, first_value, first_attrs, with_attrs, begun, newer, valued, approved, once, applied, rejected, rejected_of, next_phase, advanced, joiners_fit}

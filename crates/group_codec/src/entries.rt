@@ -2,11 +2,11 @@
 ghost use Rattle.std.specs.Prelude.{◌≡◌, ◌++◌, IfOk, IfSome, OnOk, OnErr};
 ghost use Rattle.std.specs.Option.{option_map};
 ghost use Rattle.rsct_packet.specs.Format.{IsBytes};
-ghost use Rattle.group_entry.specs.EntryCodec.{closed_at, closed_text, IsClosed, once_at, begin_at, phase_at, approve_at, reject_at, late_at, entry_front_at, entry_text, IsEntry, whole};
+ghost use Rattle.proposal_core.specs.EntryCodec.{closed_at, closed_text, IsClosed, once_at, begin_at, phase_at, approve_at, reject_at, late_at, entry_front_at, entry_text, IsEntry, whole};
 ghost use Rattle.group_codec.specs.InPlace.{closed_in, entry_in};
 
 use crate::proposals::{ProposalRef, put_proposal, read_proposal};
-use group_entry::{Closed, Entry, Row, optional_bytes, optional_text_of};
+use proposal_core::{Closed, Entry, Row, optional_bytes, optional_text_of};
 use rsct_packet::{
     Listed, NoMemory, ProtoId, ProviderId, Providers, known, put_list, put_optional_bytes,
     put_proto, put_providers, put_u8, put_u16, read_list, read_optional_bytes, read_proto,
@@ -39,7 +39,7 @@ pub enum EntryRef<'a> {
     },
 }
 
-#[tactic(auto, unfolding(group_entry::specs::EntryCodec::closed_at))]
+#[tactic(auto, unfolding(proposal_core::specs::EntryCodec::closed_at))]
 fn read_closed(b: &[u8]) -> Option<(ClosedRef<'_>, &[u8])>
     ensures { option_map (λ x. (closed_in x.0, x.1.now)) result ≡ closed_at b.now }
 {
@@ -60,7 +60,7 @@ fn read_closed(b: &[u8]) -> Option<(ClosedRef<'_>, &[u8])>
     ))
 }
 
-#[tactic(auto, unfolding(group_entry::specs::EntryCodec::once_at))]
+#[tactic(auto, unfolding(proposal_core::specs::EntryCodec::once_at))]
 fn read_once(b: &[u8]) -> Option<(EntryRef<'_>, &[u8])>
     ensures { option_map (λ x. (entry_in x.0, x.1.now)) result ≡ once_at b.now }
 {
@@ -68,7 +68,7 @@ fn read_once(b: &[u8]) -> Option<(EntryRef<'_>, &[u8])>
     Some((EntryRef::Once(x), b))
 }
 
-#[tactic(auto, unfolding(group_entry::specs::EntryCodec::begin_at))]
+#[tactic(auto, unfolding(proposal_core::specs::EntryCodec::begin_at))]
 fn read_begin(b: &[u8]) -> Option<(EntryRef<'_>, &[u8])>
     ensures { option_map (λ x. (entry_in x.0, x.1.now)) result ≡ begin_at b.now }
 {
@@ -76,7 +76,7 @@ fn read_begin(b: &[u8]) -> Option<(EntryRef<'_>, &[u8])>
     Some((EntryRef::Begin(x), b))
 }
 
-#[tactic(auto, unfolding(group_entry::specs::EntryCodec::phase_at))]
+#[tactic(auto, unfolding(proposal_core::specs::EntryCodec::phase_at))]
 fn read_phase(b: &[u8]) -> Option<(EntryRef<'_>, &[u8])>
     ensures { option_map (λ x. (entry_in x.0, x.1.now)) result ≡ phase_at b.now }
 {
@@ -84,7 +84,7 @@ fn read_phase(b: &[u8]) -> Option<(EntryRef<'_>, &[u8])>
     Some((EntryRef::Phase(c), b))
 }
 
-#[tactic(auto, unfolding(group_entry::specs::EntryCodec::approve_at))]
+#[tactic(auto, unfolding(proposal_core::specs::EntryCodec::approve_at))]
 fn read_approve(b: &[u8]) -> Option<(EntryRef<'_>, &[u8])>
     ensures { option_map (λ x. (entry_in x.0, x.1.now)) result ≡ approve_at b.now }
 {
@@ -93,7 +93,7 @@ fn read_approve(b: &[u8]) -> Option<(EntryRef<'_>, &[u8])>
 }
 
 /// A rejection has no value.
-#[tactic(auto, unfolding(group_entry::specs::EntryCodec::reject_at))]
+#[tactic(auto, unfolding(proposal_core::specs::EntryCodec::reject_at))]
 fn read_reject(b: &[u8]) -> Option<(EntryRef<'_>, &[u8])>
     ensures { option_map (λ x. (entry_in x.0, x.1.now)) result ≡ reject_at b.now }
 {
@@ -104,7 +104,7 @@ fn read_reject(b: &[u8]) -> Option<(EntryRef<'_>, &[u8])>
     Some((EntryRef::Reject(c), b))
 }
 
-#[tactic(auto, unfolding(group_entry::specs::EntryCodec::late_at))]
+#[tactic(auto, unfolding(proposal_core::specs::EntryCodec::late_at))]
 fn read_late(b: &[u8]) -> Option<(EntryRef<'_>, &[u8])>
     ensures { option_map (λ x. (entry_in x.0, x.1.now)) result ≡ late_at b.now }
 {
@@ -115,7 +115,7 @@ fn read_late(b: &[u8]) -> Option<(EntryRef<'_>, &[u8])>
 }
 
 /// An entry off the front of bytes, with the bytes after it.
-#[tactic(auto, unfolding(group_entry::specs::EntryCodec::entry_front_at))]
+#[tactic(auto, unfolding(proposal_core::specs::EntryCodec::entry_front_at))]
 fn entry_front(b: &[u8]) -> Option<(EntryRef<'_>, &[u8])>
     ensures { option_map (λ x. (entry_in x.0, x.1.now)) result ≡ entry_front_at b.now }
 {
@@ -180,7 +180,7 @@ impl<'a> EntryRef<'a> {
     }
 }
 
-#[tactic(auto, unfolding(group_entry::specs::EntryCodec::closed_text), using(crate::proofs::EntryFormat::row_nodes, std::proofs::lemmas::Grind::common_steps))]
+#[tactic(auto, unfolding(proposal_core::specs::EntryCodec::closed_text), using(crate::proofs::EntryFormat::row_nodes, std::proofs::lemmas::Grind::common_steps))]
 fn put_closed(out: &mut Vec<u8>, c: &Closed) -> Result<(), NoMemory>
     requires { IsClosed c.now }
     ensures { OnOk result (out.new.items ≡ out.old.items ++ closed_text c.now) }
@@ -204,7 +204,7 @@ pub fn read_entry(b: &[u8]) -> Option<EntryRef<'_>>
 }
 
 /// Takes the spelling to the end of `out`, which may keep a part of it where memory has run out.
-#[tactic(auto, unfolding(group_entry::specs::EntryCodec::entry_text), using(crate::proofs::ProposalFormat::some_nodes, std::proofs::lemmas::Grind::common_steps))]
+#[tactic(auto, unfolding(proposal_core::specs::EntryCodec::entry_text), using(crate::proofs::ProposalFormat::some_nodes, std::proofs::lemmas::Grind::common_steps))]
 fn put_parts(alloc: Global, out: &mut Vec<u8>, e: &Entry) -> Result<(), NoMemory>
     requires { IsEntry e.now }
     ensures { OnOk result (out.new.items ≡ out.old.items ++ entry_text e.now) }

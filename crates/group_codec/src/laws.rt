@@ -2,9 +2,9 @@
 ghost use Rattle.std.specs.Prelude.{◌≡◌, ℕ, IsTrue, length};
 ghost use Rattle.rsct_packet.specs.declared.ids.ViewId.{ViewId};
 ghost use Rattle.rsct_packet.specs.Fields.{IsU32, IsView};
-ghost use Rattle.group_entry.specs.declared.entry.Entry.{Entry};
-ghost use Rattle.group_entry.specs.EntryCodec.{entry_text, IsEntry};
-ghost use Rattle.group_entry.specs.Sizes.{entry_len};
+ghost use Rattle.proposal_core.specs.declared.entry.Entry.{Entry};
+ghost use Rattle.proposal_core.specs.EntryCodec.{entry_text, IsEntry};
+ghost use Rattle.proposal_core.specs.Sizes.{entry_len};
 ghost use Rattle.proposal_core.specs.declared.group_state.GroupState.{GroupState};
 ghost use Rattle.proposal_core.specs.Fold.{fits, applied};
 ghost use Rattle.proposal_core.specs.StateCodec.{IsState};

@@ -5,11 +5,11 @@ ghost use Rattle.rsct_packet.specs.Reading.{Gives};
 ghost use Rattle.std.specs.List.{list_any};
 ghost use Rattle.rsct_packet.specs.Format.{IsFoundAt, IsOnlyAt};
 ghost use Rattle.rsct_packet.specs.Fields.{u8_text, u32_text, provider_text, IsNode};
-ghost use Rattle.group_entry.specs.ProposalCodec.{same_failure, failures_differ, are_failures, fallen_at, join_at, leave_at, fail_at, expel_at, state_change_at, message_at, attributes_at, reflect_at, proposal_at, proposal_text, IsProposal};
+ghost use Rattle.proposal_core.specs.ProposalCodec.{same_failure, failures_differ, are_failures, fallen_at, join_at, leave_at, fail_at, expel_at, state_change_at, message_at, attributes_at, reflect_at, proposal_at, proposal_text, IsProposal};
 ghost use Rattle.group_codec.specs.InPlace.{proposal_in, proposal_of};
 
 use crate::attrs::{AttrsRef, put_attrs, read_attrs};
-use group_entry::{Failure, Proposal, is_same_failure, text_of};
+use proposal_core::{Failure, Proposal, is_same_failure, text_of};
 use rsct_packet::{
     Listed, NoMemory, ProviderId, Providers, ViewId, known, put_bytes, put_list, put_optional_u32,
     put_provider, put_providers, put_u8, put_u32, put_view, read_bytes, read_list,
@@ -92,7 +92,7 @@ fn are_failures(fs: &Listed<Failure>) -> bool
 }
 
 /// 1 to 64 pairs of a provider and a cause that differ.
-#[tactic(auto, unfolding(group_entry::specs::ProposalCodec::fallen_at))]
+#[tactic(auto, unfolding(proposal_core::specs::ProposalCodec::fallen_at))]
 fn read_fallen(b: &[u8]) -> Option<(Listed<Failure>, &[u8])>
     ensures { Gives result (fallen_at b.now) }
 {
@@ -103,7 +103,7 @@ fn read_fallen(b: &[u8]) -> Option<(Listed<Failure>, &[u8])>
     Some((out, b))
 }
 
-#[tactic(auto, unfolding(group_entry::specs::ProposalCodec::join_at))]
+#[tactic(auto, unfolding(proposal_core::specs::ProposalCodec::join_at))]
 fn read_join(b: &[u8]) -> Option<(ProposalRef<'_>, &[u8])>
     ensures { option_map (λ x. (proposal_in x.0, x.1.now)) result ≡ join_at b.now }
 {
@@ -120,7 +120,7 @@ fn read_join(b: &[u8]) -> Option<(ProposalRef<'_>, &[u8])>
     ))
 }
 
-#[tactic(auto, unfolding(group_entry::specs::ProposalCodec::leave_at))]
+#[tactic(auto, unfolding(proposal_core::specs::ProposalCodec::leave_at))]
 fn read_leave(b: &[u8]) -> Option<(ProposalRef<'_>, &[u8])>
     ensures { option_map (λ x. (proposal_in x.0, x.1.now)) result ≡ leave_at b.now }
 {
@@ -129,7 +129,7 @@ fn read_leave(b: &[u8]) -> Option<(ProposalRef<'_>, &[u8])>
     Some((ProposalRef::Leave { p, r }, b))
 }
 
-#[tactic(auto, unfolding(group_entry::specs::ProposalCodec::fail_at))]
+#[tactic(auto, unfolding(proposal_core::specs::ProposalCodec::fail_at))]
 fn read_fail(b: &[u8]) -> Option<(ProposalRef<'_>, &[u8])>
     ensures { option_map (λ x. (proposal_in x.0, x.1.now)) result ≡ fail_at b.now }
 {
@@ -137,7 +137,7 @@ fn read_fail(b: &[u8]) -> Option<(ProposalRef<'_>, &[u8])>
     Some((ProposalRef::Fail { out }, b))
 }
 
-#[tactic(auto, unfolding(group_entry::specs::ProposalCodec::expel_at))]
+#[tactic(auto, unfolding(proposal_core::specs::ProposalCodec::expel_at))]
 fn read_expel(b: &[u8]) -> Option<(ProposalRef<'_>, &[u8])>
     ensures { option_map (λ x. (proposal_in x.0, x.1.now)) result ≡ expel_at b.now }
 {
@@ -147,7 +147,7 @@ fn read_expel(b: &[u8]) -> Option<(ProposalRef<'_>, &[u8])>
     Some((ProposalRef::Expel { p, r, out }, b))
 }
 
-#[tactic(auto, unfolding(group_entry::specs::ProposalCodec::state_change_at))]
+#[tactic(auto, unfolding(proposal_core::specs::ProposalCodec::state_change_at))]
 fn read_state_change(b: &[u8]) -> Option<(ProposalRef<'_>, &[u8])>
     ensures { option_map (λ x. (proposal_in x.0, x.1.now)) result ≡ state_change_at b.now }
 {
@@ -157,7 +157,7 @@ fn read_state_change(b: &[u8]) -> Option<(ProposalRef<'_>, &[u8])>
     Some((ProposalRef::State { p, r, value }, b))
 }
 
-#[tactic(auto, unfolding(group_entry::specs::ProposalCodec::message_at))]
+#[tactic(auto, unfolding(proposal_core::specs::ProposalCodec::message_at))]
 fn read_message(b: &[u8]) -> Option<(ProposalRef<'_>, &[u8])>
     ensures { option_map (λ x. (proposal_in x.0, x.1.now)) result ≡ message_at b.now }
 {
@@ -167,7 +167,7 @@ fn read_message(b: &[u8]) -> Option<(ProposalRef<'_>, &[u8])>
     Some((ProposalRef::Message { p, r, bytes }, b))
 }
 
-#[tactic(auto, unfolding(group_entry::specs::ProposalCodec::attributes_at))]
+#[tactic(auto, unfolding(proposal_core::specs::ProposalCodec::attributes_at))]
 fn read_attributes(b: &[u8]) -> Option<(ProposalRef<'_>, &[u8])>
     ensures { option_map (λ x. (proposal_in x.0, x.1.now)) result ≡ attributes_at b.now }
 {
@@ -177,7 +177,7 @@ fn read_attributes(b: &[u8]) -> Option<(ProposalRef<'_>, &[u8])>
     Some((ProposalRef::Attributes { p, r, attrs }, b))
 }
 
-#[tactic(auto, unfolding(group_entry::specs::ProposalCodec::reflect_at))]
+#[tactic(auto, unfolding(proposal_core::specs::ProposalCodec::reflect_at))]
 fn read_reflect(b: &[u8]) -> Option<(ProposalRef<'_>, &[u8])>
     ensures { option_map (λ x. (proposal_in x.0, x.1.now)) result ≡ reflect_at b.now }
 {
@@ -187,7 +187,7 @@ fn read_reflect(b: &[u8]) -> Option<(ProposalRef<'_>, &[u8])>
     Some((ProposalRef::Reflect { view, place, value }, b))
 }
 
-#[tactic(auto, unfolding(group_entry::specs::ProposalCodec::proposal_at))]
+#[tactic(auto, unfolding(proposal_core::specs::ProposalCodec::proposal_at))]
 fn proposal_front(b: &[u8]) -> Option<(ProposalRef<'_>, &[u8])>
     ensures { option_map (λ x. (proposal_in x.0, x.1.now)) result ≡ proposal_at b.now }
 {
@@ -227,7 +227,7 @@ fn put_request(out: &mut Vec<u8>, kind: u8, p: ProviderId, r: u32) -> Result<(),
 }
 
 /// Takes the spelling to the end of `out`, which may keep a part of it where memory has run out.
-#[tactic(auto, unfolding(group_entry::specs::ProposalCodec::proposal_text, group_entry::specs::ProposalCodec::fallen_text), using(crate::proofs::ProposalFormat::some_nodes, crate::proofs::ProposalFormat::fallen_nodes, std::proofs::lemmas::Grind::common_steps))]
+#[tactic(auto, unfolding(proposal_core::specs::ProposalCodec::proposal_text, proposal_core::specs::ProposalCodec::fallen_text), using(crate::proofs::ProposalFormat::some_nodes, crate::proofs::ProposalFormat::fallen_nodes, std::proofs::lemmas::Grind::common_steps))]
 fn put_parts(out: &mut Vec<u8>, x: &Proposal) -> Result<(), NoMemory>
     requires { IsProposal x.now }
     ensures { OnOk result (out.new.items ≡ out.old.items ++ proposal_text x.now) }

@@ -12,8 +12,7 @@ ghost use Rattle.group_codec.specs.InPlace.{running_in, optional_running_in, par
 
 use crate::attrs::{AttrsRef, put_attrs, read_attrs};
 use crate::proposals::{ProposalRef, put_proposal, read_proposal};
-use group_entry::{optional_bytes, optional_text_of, text_of};
-use proposal_core::{GroupState, Running};
+use proposal_core::{GroupState, Running, optional_bytes, optional_text_of, text_of};
 use rsct_packet::{
     Listed, MAX_PROVIDERS, NoMemory, ProtoId, ProviderId, Providers, is_listed, known, put_bytes,
     put_optional_bytes, put_optional_proto, put_proto, put_providers, put_u8, put_u16, read_bytes,

@@ -6,7 +6,7 @@ use Rattle.std.specs.Str.{bytes_eq}
 use Rattle.rsct_packet.specs.Text.{name_lt}
 use Rattle.rsct_packet.specs.declared.ids.ProviderId.{ProviderId}
 use Rattle.rsct_packet.specs.Providers.{same_provider, among, without}
-use Rattle.group_entry.specs.declared.proposal.Cause.TheVariants.{Gone}
+use Rattle.proposal_core.specs.declared.proposal.Cause.TheVariants.{Gone}
 use Rattle.proposal_core.specs.Fold.{present}
 use Rattle.vote_phases.specs.Tally.{TallyView, tally_fail}
 use Rattle.batch_rules.specs.Waiting.{WaitingView, waits_failure, join_dropped}

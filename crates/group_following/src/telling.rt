@@ -12,9 +12,10 @@ ghost use Rattle.group_leading.specs.Working.{AtWork};
 ghost use Rattle.node_state.specs.Following.{tell_row};
 
 use client_callbacks::{Callbacks, Told, Why};
-use client_session::{outstanding, place_of, take_telling, takes_telling, tell_at};
+use client_session::tell_at;
 use node_state::{Core, Happened};
 use rsct_packet::{NoMemory, ProviderId};
+use session_hearing::{outstanding, place_of, take_telling, takes_telling};
 use session_state::SessionState;
 use std::alloc::Global;
 

@@ -1,8 +1,8 @@
 -- What opening, closing and beginning do.
 use Rattle.std.proofs.Common.{◌≡◌, ℕ, zero, suc, ◌-◌, ◌<◌, Bool, true, false, ◌&&◌, List, [], Option, Some, None, refl, sym, ap, ◌∙◌, arith}
-use Rattle.group_entry.specs.declared.proposal.Proposal.{Proposal}
-use Rattle.group_entry.specs.declared.entry.Entry.{Entry}
-use Rattle.group_entry.specs.declared.entry.Entry.TheVariants.{Begin}
+use Rattle.proposal_core.specs.declared.proposal.Proposal.{Proposal}
+use Rattle.proposal_core.specs.declared.entry.Entry.{Entry}
+use Rattle.proposal_core.specs.declared.entry.Entry.TheVariants.{Begin}
 use Rattle.proposal_core.specs.declared.group_state.Running.{Running}
 use Rattle.vote_phases.specs.Tally.{TallyView}
 use Rattle.client_callbacks.specs.declared.votes.VoteItem.{VoteItem}

@@ -1,7 +1,7 @@
 //! How a proposal begins.
 ghost use Rattle.std.specs.Prelude.{◌≡◌, OnOk, IsTrue, map};
-ghost use Rattle.group_entry.specs.declared.entry.Entry.TheVariants as entry;
-ghost use Rattle.group_entry.specs.declared.proposal.Proposal.{Proposal};
+ghost use Rattle.proposal_core.specs.declared.entry.Entry.TheVariants as entry;
+ghost use Rattle.proposal_core.specs.declared.proposal.Proposal.{Proposal};
 ghost use Rattle.node_state.specs.State.{fits_at_end};
 ghost use Rattle.node_state.specs.Leading.{appended, appended_if, tally_opened, closes, begun_many, begins};
 ghost use Rattle.entry_handing.specs.Received.{Receive};

@@ -17,7 +17,7 @@ use transcript::Kinds;
 use world_model::Event;
 
 /// A plain event happens, and what it records is written.
-pub fn happen<C: Made, K: Sink>(
+pub fn play_event<C: Made, K: Sink>(
     alloc: Global,
     stage: &mut Stage<C>,
     kinds: Kinds,

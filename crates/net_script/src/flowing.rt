@@ -10,7 +10,7 @@ ghost use Rattle.world_packets.specs.Packets.{waits_as};
 ghost use Rattle.net_script.specs.Standing.{is_me};
 ghost use Rattle.net_script.specs.Stage.{At, LeadsTo};
 
-use crate::events::happen;
+use crate::events::play_event;
 use crate::stage::Stage;
 use client_callbacks::Made;
 use hags_io::Sink;
@@ -43,7 +43,7 @@ fn pass<C: Made, K: Sink>(
     ensures fault { result ≡ Err PlayFault.WriteFault → Rose (K.faults out.old) (K.faults out.new) }
 {
     if is_given(stage, x) {
-        happen(alloc, stage, kinds, &Event::Deliver(x.from, x.to, x.k), out)
+        play_event(alloc, stage, kinds, &Event::Deliver(x.from, x.to, x.k), out)
     } else {
         stage.world.packets.skip_first();
         Ok(())

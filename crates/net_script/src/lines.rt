@@ -5,7 +5,7 @@ ghost use Rattle.world_model.specs.World as world;
 ghost use Rattle.world_laws.specs.world_answers.Plays.{AnsweredPlay, PlaysLine, PlaysLines};
 ghost use Rattle.net_script.specs.Stage.{At, LeadsTo};
 
-use crate::events::happen;
+use crate::events::play_event;
 use crate::flowing::flow;
 use crate::rounds::run;
 use crate::stage::Stage;
@@ -29,7 +29,7 @@ fn play_line<C: Made, K: Sink>(
     ensures fault { result ≡ Err PlayFault.WriteFault → Rose (K.faults out.old) (K.faults out.new) }
 {
     match line {
-        Line::Plain(e) => happen(alloc, stage, kinds, e, out),
+        Line::Plain(e) => play_event(alloc, stage, kinds, e, out),
         Line::Drop(a, b) => {
             stage.world.packets.lose(alloc, *a, *b)?;
             Ok(())

@@ -5,7 +5,7 @@ ghost use Rattle.world_model.specs.World as world;
 ghost use Rattle.world_laws.specs.world_answers.Plays.{AnsweredPlay, PlaysEach, PlaysTick, PlaysTicks, PlaysRounds};
 ghost use Rattle.net_script.specs.Stage.{At, LeadsTo};
 
-use crate::events::happen;
+use crate::events::play_event;
 use crate::flowing::flow;
 use crate::stage::Stage;
 use client_callbacks::Made;
@@ -28,7 +28,7 @@ fn tick_each<C: Made, K: Sink>(
     ensures fault { result ≡ Err PlayFault.WriteFault → Rose (K.faults out.old) (K.faults out.new) }
 {
     for n in ns {
-        happen(alloc, stage, kinds, &Event::Tick(*n), out)?;
+        play_event(alloc, stage, kinds, &Event::Tick(*n), out)?;
     }
     Ok(())
 }

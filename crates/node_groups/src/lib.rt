@@ -21,5 +21,5 @@ pub use reads::{
     acked_by, fits_at_end, held_count, holds, leader_in, leader_of, leads, leads_in, least_acked,
     led_groups, len_of, list_of, state_of,
 };
-pub use row::new_row;
+pub use row::{new_list, new_row};
 pub use tables::decision_on;

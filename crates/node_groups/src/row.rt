@@ -30,7 +30,7 @@ fn mark(list: &mut List<ProviderId>, p: ProviderId) -> Result<(), NoMemory>
 
 /// The list of a group that has none yet.
 #[tactic(auto, unfolding(proposal_core::specs::Fold::joiners_fit, proposal_core::specs::Fold::joiners_fit_at))]
-fn new_list(alloc: Global) -> GroupList
+pub fn new_list(alloc: Global) -> GroupList
     ensures { result ≡ list_or_new None }
 {
     GroupList::new(alloc, GroupState::empty(alloc))

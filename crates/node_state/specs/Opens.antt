@@ -5,7 +5,7 @@ use Rattle.rsct_packet.specs.Mask.{mask_opens}
 use Rattle.group_attr.specs.Attrs.{is_bad_source, first_fault}
 use Rattle.group_attr.specs.Agree.{agree}
 use Rattle.proposal_core.specs.Fold.{fold_opens}
-use Rattle.group_entry.specs.Sizes.{sizes_opens}
+use Rattle.proposal_core.specs.Sizes.{sizes_opens}
 use Rattle.proposal_core.specs.Lists.{lists_opens}
 use Rattle.ring_commit.specs.Gather.{gather_opens}
 use Rattle.adapter_ring.specs.Addresses.{addresses_opens}
@@ -44,8 +44,8 @@ use Rattle.rsct_packet.specs.Packet.{is_head, is_front, front_at, front_text, he
 use Rattle.packet_bodies.specs.Group.{group_text, group_at, reply_at}
 use Rattle.packet_bodies.specs.Body.{ring_mask_at, death_at, report_row_text, report_row_at, report_text, report_at, prepare_at, refuse_at, leader_at, ack_at, gone_at, what_at, query_at}
 use Rattle.group_attr.specs.Codec.{phases_at, batch_at, default_at, dissolve_at, source_at, source_text, attrs_at, attrs_text}
-use Rattle.group_entry.specs.ProposalCodec.{cause_at, fallen_at, fallen_text, join_at, leave_at, fail_at, expel_at, state_change_at, message_at, attributes_at, reflect_at, proposal_at, proposal_text}
-use Rattle.group_entry.specs.EntryCodec.{row_vote_at, closed_at, closed_text, once_at, begin_at, phase_at, approve_at, reject_at, late_at, entry_front_at, entry_text}
+use Rattle.proposal_core.specs.ProposalCodec.{cause_at, fallen_at, fallen_text, join_at, leave_at, fail_at, expel_at, state_change_at, message_at, attributes_at, reflect_at, proposal_at, proposal_text}
+use Rattle.proposal_core.specs.EntryCodec.{row_vote_at, closed_at, closed_text, once_at, begin_at, phase_at, approve_at, reject_at, late_at, entry_front_at, entry_text}
 use Rattle.proposal_core.specs.StateCodec.{running_at, running_text, failed_are_present, parts_at, state_at, state_text}
 
 -- the words of spellings

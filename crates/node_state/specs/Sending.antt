@@ -4,7 +4,7 @@ use Rattle.std.specs.Option.{unwrap_or, option_map}
 use Rattle.rsct_packet.specs.declared.ids.ProtoId.{ProtoId}
 use Rattle.rsct_packet.specs.declared.ids.ProviderId.{ProviderId}
 use Rattle.rsct_packet.specs.Mask.{has_node}
-use Rattle.group_entry.specs.declared.entry.Vote.{Vote}
+use Rattle.proposal_core.specs.declared.entry.Vote.{Vote}
 use Rattle.proposal_core.specs.Fold.{runs}
 use Rattle.adapter_ring.specs.declared.ring.Ring.{Ring}
 use Rattle.client_callbacks.specs.declared.ballot.Filled.{Filled}

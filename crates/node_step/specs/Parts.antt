@@ -3,8 +3,8 @@ use Rattle.std.specs.Prelude.{◌≡◌}
 use Rattle.rsct_packet.specs.Text.{IsName}
 use Rattle.rsct_packet.specs.Format.{OptionFits}
 use Rattle.rsct_packet.specs.Fields.{AreShort}
-use Rattle.group_entry.specs.ProposalCodec.{IsProposal}
-use Rattle.group_entry.specs.EntryCodec.{IsEntry}
+use Rattle.proposal_core.specs.ProposalCodec.{IsProposal}
+use Rattle.proposal_core.specs.EntryCodec.{IsEntry}
 use Rattle.node_state.specs.declared.packet.Body.{Body}
 use Rattle.node_state.specs.declared.packet.Body.TheVariants as body
 

@@ -12,12 +12,12 @@ ghost use Rattle.node_step.specs.Event.{called, event_in, is_taken};
 
 use crate::packets::take_datagram;
 use client_callbacks::Callbacks;
+use group_deciding::end_step;
 use node_state::{CallLine, Core};
 use ring_ticking::tick_rings;
 use rsct_packet::{List, Mask, NoMemory};
 use session_calls::{take_call, tick_led, tick_owed};
 use std::alloc::Global;
-use step_ending::end_step;
 use view_entering::{take_order, tick_views};
 
 /// What happens to a node: a tick, an order to ask for a view of these nodes, a datagram, or a call of a client in

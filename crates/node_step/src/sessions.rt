@@ -12,11 +12,11 @@ ghost use Rattle.node_state.specs.Step.{Calls, at_work, stepped};
 
 use crate::events::clear;
 use client_callbacks::Callbacks;
+use group_deciding::end_step;
 use node_state::Core;
 use rsct_packet::NoMemory;
 use session_calls::{take_goodbye, take_init};
 use std::alloc::Global;
-use step_ending::end_step;
 
 /// A client begins its session, or is refused; and the end of the step.
 #[tactic(auto, using(crate::proofs::StepLaws::work_cleared))]

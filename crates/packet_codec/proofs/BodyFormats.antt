@@ -20,10 +20,10 @@ use Rattle.group_attr.specs.declared.attrs.Phases.{Phases}
 use Rattle.group_attr.specs.Codec.{phases_at, phases_number}
 use Rattle.group_codec.proofs.AttrFormat.{phases_format}
 use Rattle.group_attr.proofs.Chosen.{chosen, not_chosen}
-use Rattle.group_entry.specs.declared.entry.Vote.{Vote}
-use Rattle.group_entry.specs.declared.entry.Vote.TheVariants as vote
-use Rattle.group_entry.specs.declared.proposal.Proposal.{Proposal}
-use Rattle.group_entry.specs.ProposalCodec.{proposal_at, proposal_text, IsProposal}
+use Rattle.proposal_core.specs.declared.entry.Vote.{Vote}
+use Rattle.proposal_core.specs.declared.entry.Vote.TheVariants as vote
+use Rattle.proposal_core.specs.declared.proposal.Proposal.{Proposal}
+use Rattle.proposal_core.specs.ProposalCodec.{proposal_at, proposal_text, IsProposal}
 use Rattle.group_codec.proofs.ProposalFormat.{proposal_format}
 use Rattle.group_codec.proofs.EntryFormat.{entry_format}
 use Rattle.view_exchange.proofs.Formats.{answer_format, install_format}

@@ -4,8 +4,8 @@ use Rattle.std.specs.Option.{option_map}
 use Rattle.std.specs.Int.{w32}
 use Rattle.rsct_packet.specs.Reading.{◌>>=◌, number_at, both_at, made_at}
 use Rattle.rsct_packet.specs.Format.{IsFormat}
-use Rattle.group_entry.specs.declared.entry.Entry.{Entry}
-use Rattle.group_entry.specs.EntryCodec.{whole, entry_front_at}
+use Rattle.proposal_core.specs.declared.entry.Entry.{Entry}
+use Rattle.proposal_core.specs.EntryCodec.{whole, entry_front_at}
 use Rattle.packet_bodies.specs.Group.{GroupIn, group_at}
 use Rattle.packet_bodies.specs.Body.{whole_of}
 use Rattle.node_state.specs.declared.packet.Body.TheVariants as body

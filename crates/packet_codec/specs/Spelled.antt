@@ -5,8 +5,8 @@ use Rattle.rsct_packet.specs.Fields.{IsU16, IsU32, IsMask, IsRing, IsView, IsPro
 use Rattle.rsct_packet.specs.Packet.{is_head, is_level, DomainFits}
 use Rattle.packet_bodies.specs.Group.{IsGroup}
 use Rattle.packet_bodies.specs.Body.{IsRingMask, IsDeath, IsReport, IsPrepare, IsRefuse, IsLeader, IsAck, IsGone}
-use Rattle.group_entry.specs.ProposalCodec.{IsProposal}
-use Rattle.group_entry.specs.EntryCodec.{IsEntry}
+use Rattle.proposal_core.specs.ProposalCodec.{IsProposal}
+use Rattle.proposal_core.specs.EntryCodec.{IsEntry}
 use Rattle.view_state.specs.Codec.{IsAnswer, IsInstall}
 use Rattle.adapter_ring.specs.declared.packet.RingPacket.{RingPacket}
 use Rattle.adapter_ring.specs.declared.packet.RingPacket.TheVariants as ring

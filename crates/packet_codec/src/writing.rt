@@ -2,8 +2,8 @@
 ghost use Rattle.std.specs.Prelude.{◌≡◌, ◌++◌, OnOk, OnErr, IfOk};
 ghost use Rattle.rsct_packet.specs.Fields.{u8_text, u16_text, u32_text, provider_text, proto_text, bytes_text, AreShort, IsNode};
 ghost use Rattle.group_attr.specs.Codec.{phases_number};
-ghost use Rattle.group_entry.specs.ProposalCodec.{proposal_text, IsProposal};
-ghost use Rattle.group_entry.specs.EntryCodec.{entry_text, IsEntry};
+ghost use Rattle.proposal_core.specs.ProposalCodec.{proposal_text, IsProposal};
+ghost use Rattle.proposal_core.specs.EntryCodec.{entry_text, IsEntry};
 ghost use Rattle.rsct_packet.specs.Format.{OptionFits, optional_text};
 ghost use Rattle.node_state.specs.Bodies.{why_code, why_data_text, vote_number, kind_of, ring_kind, view_kind, ring_body_text, view_body_text, named_text, body_text};
 ghost use Rattle.node_state.specs.Bytes.{head_of, bytes_of};
@@ -13,14 +13,13 @@ use adapter_ring::RingPacket;
 use client_callbacks::Why;
 use group_attr::Phases;
 use group_codec::{phases_number, put_entry, put_proposal};
-use group_entry::optional_bytes;
 use node_state::{Body, Packet};
 use packet_bodies::{
     Ack, Death, Gone, GroupRef, Leader, Prepare, Query, Refuse, RingMask, put_ack, put_death,
     put_gone, put_group, put_leader, put_prepare, put_query, put_refuse, put_reply, put_report,
     put_ring_mask,
 };
-use proposal_core::{Entry, Proposal, Vote};
+use proposal_core::{Entry, Proposal, Vote, optional_bytes};
 use rsct_packet::{
     Head, Name, NoMemory, ProtoId, ProviderId, Text, ViewId, put_mask, put_optional_bytes,
     put_proto, put_provider, put_ring, put_u8, put_u16, put_u32, put_view, write_head, write_head2,

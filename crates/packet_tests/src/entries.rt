@@ -1,10 +1,10 @@
 //! The spelling of a proposal and of an entry of each kind, and the calls that take memory.
 ghost use Rattle.rsct_packet.specs.Fields.{AreShort};
-ghost use Rattle.group_entry.specs.ProposalCodec.{IsProposal};
-ghost use Rattle.group_entry.specs.EntryCodec.{IsEntry};
+ghost use Rattle.proposal_core.specs.ProposalCodec.{IsProposal};
+ghost use Rattle.proposal_core.specs.EntryCodec.{IsEntry};
 
 use group_codec::{put_entry, put_proposal, read_entry, read_proposal};
-use group_entry::{Entry, Proposal, copy_text, optional_bytes, optional_text_of};
+use proposal_core::{Entry, Proposal, copy_text, optional_bytes, optional_text_of};
 use rsct_packet::Text;
 use std::alloc::Global;
 use std::process::Abort;

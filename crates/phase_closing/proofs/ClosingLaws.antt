@@ -5,7 +5,7 @@ use Rattle.std.specs.Option.{option_or}
 use Rattle.std.proofs.Math.Seq.{take-suc}
 use Rattle.std.proofs.lemmas.List.{append-nil, at_drop_all}
 use Rattle.rsct_packet.specs.Providers.{same_provider}
-use Rattle.group_entry.specs.declared.entry.Row.{Row}
+use Rattle.proposal_core.specs.declared.entry.Row.{Row}
 use Rattle.vote_phases.specs.declared.voter.Voter.{Voter}
 use Rattle.vote_phases.specs.Tally.{row_in, row_or, rows_of}
 use Rattle.node_state.specs.declared.group.Given.{Given}

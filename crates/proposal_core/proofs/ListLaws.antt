@@ -6,10 +6,10 @@ use Rattle.std.proofs.lemmas.List.{map-append, length-map, append-nil, drop-drop
 use Rattle.std.proofs.lemmas.List.Sums.{sum_by_push}
 use Rattle.std.proofs.lemmas.Option.{slice_get_past}
 use Rattle.rsct_packet.specs.declared.ids.ViewId.{ViewId}
-use Rattle.group_entry.specs.declared.entry.Entry.{Entry}
+use Rattle.proposal_core.specs.declared.entry.Entry.{Entry}
 use Rattle.proposal_core.specs.declared.group_state.GroupState.{GroupState}
 use Rattle.proposal_core.specs.Fold.{fits, applied, after, after_if}
-use Rattle.group_entry.specs.Sizes.{entry_len}
+use Rattle.proposal_core.specs.Sizes.{entry_len}
 use Rattle.proposal_core.specs.GroupView.{GroupView, new_list}
 use Rattle.proposal_core.specs.Lists.{with_entry, forgotten, entry_at}
 use Rattle.proposal_core.specs.ListLaw.{ListCall, Put, Forget, all_called, AllTaken, puts_of, fold_from, IsListOf}

@@ -7,11 +7,11 @@ use Rattle.rsct_packet.specs.Ids.{same_proto}
 use Rattle.rsct_packet.specs.Providers.{none_among, without_all}
 use Rattle.group_attr.specs.declared.attrs.Attrs.{Attrs}
 use Rattle.group_attr.specs.Attrs.{empty_attrs}
-use Rattle.group_entry.specs.declared.proposal.Failure.{Failure}
-use Rattle.group_entry.specs.declared.proposal.Proposal.{Proposal}
-use Rattle.group_entry.specs.declared.proposal.Proposal.TheVariants.{Join, Leave, Fail, Expel, State, Message, Attributes, Reflect}
-use Rattle.group_entry.specs.declared.entry.Entry.{Entry}
-use Rattle.group_entry.specs.declared.entry.Entry.TheVariants.{Once, Begin, Phase, Approve, Reject, Late}
+use Rattle.proposal_core.specs.declared.proposal.Failure.{Failure}
+use Rattle.proposal_core.specs.declared.proposal.Proposal.{Proposal}
+use Rattle.proposal_core.specs.declared.proposal.Proposal.TheVariants.{Join, Leave, Fail, Expel, State, Message, Attributes, Reflect}
+use Rattle.proposal_core.specs.declared.entry.Entry.{Entry}
+use Rattle.proposal_core.specs.declared.entry.Entry.TheVariants.{Once, Begin, Phase, Approve, Reject, Late}
 use Rattle.proposal_core.specs.declared.group_state.GroupState.{GroupState}
 use Rattle.proposal_core.specs.declared.group_state.Running.{Running}
 

@@ -1,6 +1,6 @@
 -- What contracts see of a group's list.
 use Rattle.std.specs.Prelude.{ℕ, List, []}
-use Rattle.group_entry.specs.declared.entry.Entry.{Entry}
+use Rattle.proposal_core.specs.declared.entry.Entry.{Entry}
 use Rattle.proposal_core.specs.declared.group_state.GroupState.{GroupState}
 
 -- the entries from start on, and the state at the end; len and bytes count all entries

@@ -1,10 +1,10 @@
 -- What a list is after any calls of put and forget_below.
 use Rattle.std.specs.Prelude.{◌≡◌, ℕ, suc, ◌≤◌, IsTrue, List, [], ◌∷◌, length, map, drop, sum_by, None, nat_lt, slice_get, if◌then◌else◌}
 use Rattle.rsct_packet.specs.declared.ids.ViewId.{ViewId}
-use Rattle.group_entry.specs.declared.entry.Entry.{Entry}
+use Rattle.proposal_core.specs.declared.entry.Entry.{Entry}
 use Rattle.proposal_core.specs.declared.group_state.GroupState.{GroupState}
 use Rattle.proposal_core.specs.Fold.{fits, after}
-use Rattle.group_entry.specs.Sizes.{entry_len}
+use Rattle.proposal_core.specs.Sizes.{entry_len}
 use Rattle.proposal_core.specs.GroupView.{GroupView}
 use Rattle.proposal_core.specs.Lists.{has_room, with_entry, forgotten, entry_at}
 

@@ -4,10 +4,10 @@ use Rattle.rsct_packet.specs.declared.ids.ProviderId.{ProviderId}
 use Rattle.rsct_packet.specs.declared.ids.ViewId.{ViewId}
 use Rattle.rsct_packet.specs.declared.ids.ProtoId.{ProtoId}
 use Rattle.group_attr.specs.Attrs.{empty_attrs}
-use Rattle.group_entry.specs.declared.proposal.Proposal.TheVariants.{Join}
-use Rattle.group_entry.specs.declared.entry.Closed.{Closed}
-use Rattle.group_entry.specs.declared.entry.Entry.{Entry}
-use Rattle.group_entry.specs.declared.entry.Entry.TheVariants.{Once}
+use Rattle.proposal_core.specs.declared.proposal.Proposal.TheVariants.{Join}
+use Rattle.proposal_core.specs.declared.entry.Closed.{Closed}
+use Rattle.proposal_core.specs.declared.entry.Entry.{Entry}
+use Rattle.proposal_core.specs.declared.entry.Entry.TheVariants.{Once}
 use Rattle.proposal_core.specs.declared.group_state.GroupState.{GroupState}
 use Rattle.proposal_core.specs.Fold.{empty_state}
 use Rattle.proposal_core.specs.ListLaw.{fold_from}

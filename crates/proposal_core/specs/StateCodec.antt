@@ -10,11 +10,11 @@ use Rattle.rsct_packet.specs.Format.{OptionFits, optional_text}
 use Rattle.rsct_packet.specs.Fields.{u16_text, bytes_at, bytes_text, AreShort, proto_at, proto_text, IsProto, providers_at, providers_text, IsProviders}
 use Rattle.group_attr.specs.declared.attrs.Attrs.{Attrs}
 use Rattle.group_attr.specs.Codec.{attrs_at, attrs_text, IsAttrs}
-use Rattle.group_entry.specs.declared.proposal.Proposal.{Proposal}
+use Rattle.proposal_core.specs.declared.proposal.Proposal.{Proposal}
 use Rattle.proposal_core.specs.declared.group_state.GroupState.{GroupState}
 use Rattle.proposal_core.specs.declared.group_state.Running.{Running}
 use Rattle.proposal_core.specs.Fold.{max_phases, present, joiners_fit}
-use Rattle.group_entry.specs.ProposalCodec.{proposal_at, proposal_text, IsProposal}
+use Rattle.proposal_core.specs.ProposalCodec.{proposal_at, proposal_text, IsProposal}
 
 -- the protocol that runs, in a phase from 1 to 200
 

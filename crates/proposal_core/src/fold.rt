@@ -4,9 +4,11 @@ ghost use Rattle.std.specs.Prelude.{◌≡◌, ◌∷◌, [], ◌<◌, length, I
 ghost use Rattle.rsct_packet.specs.Providers.{without_all};
 ghost use Rattle.proposal_core.specs.Fold.{fallen_of, without, can_begin, runs, fits, joiners_fit, effect, first_value, begun, valued, approved, rejected_of, rejected, next_phase, applied, newer, first_attrs, with_attrs, advanced, once};
 
+use crate::entry::{Closed, Entry};
 use crate::group_state::{GroupState, Running};
+use crate::proposal::{Failure, Proposal};
+use crate::texts::copy_text;
 use group_attr::Attrs;
-use group_entry::{Closed, Entry, Failure, Proposal, copy_text};
 use rsct_packet::{
     MAX_PROVIDERS, NoMemory, ProtoId, ProviderId, Providers, Text, ViewId, is_none_among,
 };

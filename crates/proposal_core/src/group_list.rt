@@ -4,8 +4,8 @@ ghost use Rattle.proposal_core.specs.Fold.{fits, joiners_fit};
 ghost use Rattle.proposal_core.specs.GroupView.{new_list};
 ghost use Rattle.proposal_core.specs.Lists.{has_room, with_entry, forgotten, entry_at};
 
+use crate::entry::Entry;
 use crate::group_state::GroupState;
-use group_entry::Entry;
 use rsct_packet::{NoMemory, ViewId};
 use std::alloc::Global;
 use std::collections::VecDeque;

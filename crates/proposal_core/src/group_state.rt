@@ -3,8 +3,9 @@ ghost use Rattle.std.specs.Prelude.{◌≡◌, IfOk, IsTrue};
 ghost use Rattle.proposal_core.specs.Fold.{empty_state, voters, voters_on, can_begin, joiners_fit};
 
 use crate::fold::take_off_fallen;
+use crate::proposal::Proposal;
+use crate::texts::copy_text;
 use group_attr::Attrs;
-use group_entry::{Proposal, copy_text};
 use rsct_packet::{NoMemory, ProtoId, Providers, Text};
 use std::alloc::Global;
 

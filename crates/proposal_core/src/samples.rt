@@ -3,9 +3,9 @@
 ghost use Rattle.std.specs.Prelude.{◌≡◌, ◌∷◌, [], Some, None, codes};
 ghost use Rattle.group_attr.specs.declared.attrs.Batch.TheVariants.{Joins};
 ghost use Rattle.group_attr.specs.Attrs.{empty_attrs};
-ghost use Rattle.group_entry.specs.declared.proposal.Cause.TheVariants.{Died};
-ghost use Rattle.group_entry.specs.declared.proposal.Proposal.TheVariants as proposal;
-ghost use Rattle.group_entry.specs.declared.entry.Entry.TheVariants as entry;
+ghost use Rattle.proposal_core.specs.declared.proposal.Cause.TheVariants.{Died};
+ghost use Rattle.proposal_core.specs.declared.proposal.Proposal.TheVariants as proposal;
+ghost use Rattle.proposal_core.specs.declared.entry.Entry.TheVariants as entry;
 ghost use Rattle.proposal_core.specs.Fold.{empty_state, voters};
 ghost use Rattle.proposal_core.specs.Samples.{first_view, place_of, member, joined, closed, after_entries, grown};
 

@@ -7,12 +7,12 @@ ghost use Rattle.node_state.specs.Following.{told_again, request_new, is_group_r
 
 use client_callbacks::{Callbacks, Why};
 use group_attr::Phases;
+use group_deciding::{decide, tell};
 use group_following::send_name;
 use node_groups::{decision_of, held_count, holds, set_leader};
 use node_sending::{is_fixed, send};
-use node_state::{Body, Core};
+use node_state::Core;
 use proposal_core::Proposal;
-use request_deciding::decide;
 use rsct_packet::{Name, NoMemory, ProviderId};
 use std::alloc::Global;
 
@@ -42,14 +42,8 @@ fn tell_again(
     match why {
         None => Ok(()),
         Some(why) => {
-            let body = Body::Tell {
-                view: core.views.view,
-                name: g.copy(alloc)?,
-                p,
-                r,
-                why,
-            };
-            send(core, p.node, body)
+            let told = tell(alloc, core.views.view, g, p, r, why)?;
+            send(core, p.node, told)
         }
     }
 }

@@ -2,7 +2,7 @@
 use Rattle.std.proofs.Common.{refl, Some, None, ◌≡◌, ◌≢◌, ℕ, ◌⊎◌, List, [], ◌∷◌, ◌++◌, length, sym, ap, ◌∙◌, subst, inl, inr, arith}
 use Rattle.std.specs.Prelude.{slice_get}
 use Rattle.rsct_packet.specs.declared.ids.ViewId.{ViewId}
-use Rattle.group_entry.specs.declared.entry.Entry.{Entry}
+use Rattle.proposal_core.specs.declared.entry.Entry.{Entry}
 use Rattle.rsct_packet.specs.Search.{Has}
 use Rattle.run_safety.specs.Group.{member, Standing, Packet, Append, Record, Put}
 use Rattle.run_safety.specs.Moves.{Leads, Changes}

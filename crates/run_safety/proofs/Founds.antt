@@ -2,7 +2,7 @@
 use Rattle.std.proofs.Common.{refl, Some, None, Option, ◌≡◌, ℕ, ◌<◌, ◌⊎◌, List, [], ◌∷◌, length, drop, true, false, sym, ap, ◌∙◌, subst, inl, inr, arith}
 use Rattle.rsct_packet.specs.declared.ids.ViewId.{ViewId}
 use Rattle.rsct_packet.specs.declared.ids.Member.{Member}
-use Rattle.group_entry.specs.declared.entry.Entry.{Entry}
+use Rattle.proposal_core.specs.declared.entry.Entry.{Entry}
 use Rattle.rsct_packet.specs.Search.{Has}
 use Rattle.run_safety.specs.ViewOrder.{Lt, Le}
 use Rattle.run_safety.specs.Group.{member, Standing, Reply, members_of, Packet, Answer, Install, Record, In, puts_from}

@@ -3,7 +3,7 @@ use Rattle.std.proofs.Common.{refl, Some, ◌≤◌, ◌≡◌, ℕ, zero, suc, 
 use Rattle.std.specs.Prelude.{◌&&◌, ◌==◌, if◌then◌else◌, slice_get}
 use Rattle.rsct_packet.specs.declared.ids.ViewId.{ViewId}
 use Rattle.rsct_packet.specs.declared.ids.ProviderId.{ProviderId}
-use Rattle.group_entry.specs.declared.entry.Entry.{Entry}
+use Rattle.proposal_core.specs.declared.entry.Entry.{Entry}
 use Rattle.proposal_core.specs.declared.group_state.GroupState.{GroupState}
 use Rattle.rsct_packet.specs.Search.{Has}
 use Rattle.run_safety.specs.Past.{fold_from}

@@ -3,7 +3,7 @@ use Rattle.std.proofs.Common.{refl, Some, None, Option, ◌≡◌, ℕ, zero, su
 use Rattle.std.specs.Prelude.{slice_get}
 use Rattle.rsct_packet.specs.declared.ids.ViewId.{ViewId}
 use Rattle.rsct_packet.specs.declared.ids.Member.{Member}
-use Rattle.group_entry.specs.declared.entry.Entry.{Entry}
+use Rattle.proposal_core.specs.declared.entry.Entry.{Entry}
 use Rattle.rsct_packet.specs.Search.{Has}
 use Rattle.run_safety.specs.Group.{Standing, Origin, In, Put, Note, Based, Line, Kept, Noted, kept, lines_from, puts_from}
 use Rattle.run_safety.specs.Moves.{based, entered, Inserted}

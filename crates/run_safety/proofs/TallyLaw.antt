@@ -4,11 +4,11 @@ use Rattle.std.specs.Prelude.{slice_get, if◌then◌else◌}
 use Rattle.std.proofs.lemmas.List.{take_at}
 use Rattle.rsct_packet.specs.declared.ids.ViewId.{ViewId}
 use Rattle.rsct_packet.specs.Search.{Has}
-use Rattle.group_entry.specs.declared.entry.Vote.{Vote}
-use Rattle.group_entry.specs.declared.entry.Vote.TheVariants as vote
-use Rattle.group_entry.specs.declared.entry.Row.{Row}
-use Rattle.group_entry.specs.declared.entry.Entry.{Entry}
-use Rattle.group_entry.specs.declared.entry.Entry.TheVariants.{Approve}
+use Rattle.proposal_core.specs.declared.entry.Vote.{Vote}
+use Rattle.proposal_core.specs.declared.entry.Vote.TheVariants as vote
+use Rattle.proposal_core.specs.declared.entry.Row.{Row}
+use Rattle.proposal_core.specs.declared.entry.Entry.{Entry}
+use Rattle.proposal_core.specs.declared.entry.Entry.TheVariants.{Approve}
 use Rattle.proposal_core.specs.Fold.{fits}
 use Rattle.vote_phases.specs.Tally.{vote_of_row, is_reject, is_continue, any_stands, tally_of}
 use Rattle.run_safety.specs.Group.{Record}

@@ -6,7 +6,7 @@ use Rattle.std.proofs.lemmas.Bool.Decides.{nat_tests}
 use Rattle.std.proofs.lemmas.List.{append-nil}
 use Rattle.rsct_packet.specs.declared.ids.ViewId.{ViewId}
 use Rattle.rsct_packet.specs.declared.ids.Member.{Member}
-use Rattle.group_entry.specs.declared.entry.Entry.{Entry}
+use Rattle.proposal_core.specs.declared.entry.Entry.{Entry}
 use Rattle.rsct_packet.specs.Search.{Has}
 use Rattle.run_safety.specs.ViewOrder.{is_same}
 use Rattle.run_safety.specs.Group.{Record, In, Put, Begins, puts_from}

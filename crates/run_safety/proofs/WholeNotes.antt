@@ -3,8 +3,8 @@ use Rattle.std.proofs.Common.{refl, Some, None, ◌≡◌, ℕ, ◌+◌, ◌<◌
 use Rattle.std.specs.Prelude.{slice_get}
 use Rattle.rsct_packet.specs.declared.ids.ViewId.{ViewId}
 use Rattle.rsct_packet.specs.declared.ids.ProviderId.{ProviderId}
-use Rattle.group_entry.specs.declared.entry.Entry.{Entry}
-use Rattle.group_entry.specs.declared.proposal.Proposal.{Proposal}
+use Rattle.proposal_core.specs.declared.entry.Entry.{Entry}
+use Rattle.proposal_core.specs.declared.proposal.Proposal.{Proposal}
 use Rattle.proposal_core.specs.declared.group_state.GroupState.{GroupState}
 use Rattle.rsct_packet.specs.Search.{Has}
 use Rattle.run_safety.specs.ViewOrder.{Le}

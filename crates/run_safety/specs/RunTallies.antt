@@ -2,11 +2,11 @@
 use Rattle.std.specs.Prelude.{ℕ, ◌≡◌, List}
 use Rattle.rsct_packet.specs.declared.ids.ViewId.{ViewId}
 use Rattle.rsct_packet.specs.Search.{Has}
-use Rattle.group_entry.specs.declared.entry.Vote.TheVariants as vote
-use Rattle.group_entry.specs.declared.entry.Row.{Row}
-use Rattle.group_entry.specs.declared.entry.Closed.{Closed}
-use Rattle.group_entry.specs.declared.entry.Entry.{Entry}
-use Rattle.group_entry.specs.declared.entry.Entry.TheVariants.{Approve}
+use Rattle.proposal_core.specs.declared.entry.Vote.TheVariants as vote
+use Rattle.proposal_core.specs.declared.entry.Row.{Row}
+use Rattle.proposal_core.specs.declared.entry.Closed.{Closed}
+use Rattle.proposal_core.specs.declared.entry.Entry.{Entry}
+use Rattle.proposal_core.specs.declared.entry.Entry.TheVariants.{Approve}
 use Rattle.vote_phases.specs.Tally.{vote_of_row}
 use Rattle.node_state.specs.declared.happened.Happened.TheVariants as happened
 use Rattle.run_safety.specs.Past.{History, records_of}

@@ -19,4 +19,4 @@ pub use heads::{Form, Head, form_of};
 pub use hex::hex_word;
 pub use names::{client_word, group_word};
 pub use numbers::{network_word, node_word, number_word, short_word};
-pub use words::{Words, cut_at};
+pub use words::{Words, cut_at, is_word};

@@ -7,7 +7,7 @@ use Rattle.rsct_packet.specs.declared.ids.ViewId.{ViewId}
 use Rattle.rsct_packet.specs.Providers.{among}
 use Rattle.rsct_packet.specs.Search.{Has}
 use Rattle.group_attr.specs.Attrs.{host_membership}
-use Rattle.group_entry.specs.declared.proposal.Cause.TheVariants.{Died}
+use Rattle.proposal_core.specs.declared.proposal.Cause.TheVariants.{Died}
 use Rattle.proposal_core.specs.declared.group_state.GroupState.{GroupState}
 use Rattle.proposal_core.specs.Fold.{present}
 use Rattle.proposal_core.specs.Lists.{state_in}

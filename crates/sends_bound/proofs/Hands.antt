@@ -3,8 +3,8 @@ use Rattle.std.proofs.Common.{◌≡◌, ◌≤◌, ℕ, ◌+◌, List, [], ◌�
 use Rattle.std.specs.Prelude.{is_none}
 use Rattle.rsct_packet.specs.declared.ids.ProviderId.{ProviderId}
 use Rattle.rsct_packet.specs.declared.ids.ProtoId.{ProtoId}
-use Rattle.group_entry.specs.declared.entry.Entry.{Entry}
-use Rattle.group_entry.specs.declared.entry.Entry.TheVariants.{Once, Begin, Phase, Approve, Reject, Late}
+use Rattle.proposal_core.specs.declared.entry.Entry.{Entry}
+use Rattle.proposal_core.specs.declared.entry.Entry.TheVariants.{Once, Begin, Phase, Approve, Reject, Late}
 use Rattle.proposal_core.specs.declared.group_state.GroupState.{GroupState}
 use Rattle.proposal_core.specs.declared.group_state.Running.{Running}
 use Rattle.proposal_core.specs.Fold.{joiners_in, can_begin, fits}

@@ -4,12 +4,12 @@ use Rattle.std.proofs.Common.{◌≡◌, ◌≤◌, ℕ, zero, suc, ◌+◌, ◌
 use Rattle.std.specs.Prelude.{not, is_some, nat_le, max, drop, ◌-◌, if◌then◌else◌}
 use Rattle.rsct_packet.specs.declared.ids.ProviderId.{ProviderId}
 use Rattle.rsct_packet.specs.Providers.{among}
-use Rattle.group_entry.specs.declared.proposal.Cause.{Cause}
-use Rattle.group_entry.specs.declared.proposal.Cause.TheVariants.{Died, Gone}
-use Rattle.group_entry.specs.declared.entry.Vote.{Vote}
-use Rattle.group_entry.specs.declared.entry.Vote.TheVariants as vote
-use Rattle.group_entry.specs.declared.entry.Entry.{Entry}
-use Rattle.group_entry.specs.declared.entry.Entry.TheVariants.{Once, Begin, Phase, Approve, Reject, Late}
+use Rattle.proposal_core.specs.declared.proposal.Cause.{Cause}
+use Rattle.proposal_core.specs.declared.proposal.Cause.TheVariants.{Died, Gone}
+use Rattle.proposal_core.specs.declared.entry.Vote.{Vote}
+use Rattle.proposal_core.specs.declared.entry.Vote.TheVariants as vote
+use Rattle.proposal_core.specs.declared.entry.Entry.{Entry}
+use Rattle.proposal_core.specs.declared.entry.Entry.TheVariants.{Once, Begin, Phase, Approve, Reject, Late}
 use Rattle.client_callbacks.specs.declared.ballot.Filled.{Filled}
 use Rattle.proposal_core.specs.declared.group_state.GroupState.{GroupState}
 use Rattle.proposal_core.specs.declared.group_state.Running.{Running}

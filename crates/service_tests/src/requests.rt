@@ -3,12 +3,12 @@ ghost use Rattle.std.specs.Prelude.{◌≡◌, []};
 
 use client_callbacks::{SteadyClient, Why};
 use group_attr::{Attrs, Phases};
+use group_deciding::{decide, known_state, lacks_source, refuse, source_len};
 use name_server::Names;
 use node_groups::waiting_joins;
 use node_reach::Reach;
 use node_state::{Body, Config, Core, Mode, Table};
 use proposal_core::Proposal;
-use request_deciding::{decide, known_state, lacks_source, refuse, source_len};
 use rsct_packet::{List, Mask, Name, ProviderId, Providers, ViewId};
 use session_state::{Locals, SessionState};
 use std::alloc::Global;

@@ -1,7 +1,7 @@
 -- The entry that announces who passes the time limit in a tick.
 use Rattle.std.specs.Prelude.{ℕ, Bool, true, false, ◌==◌, ◌&&◌, List, Option, Some, None}
-use Rattle.group_entry.specs.declared.entry.Entry.{Entry}
-use Rattle.group_entry.specs.declared.entry.Entry.TheVariants.{Late}
+use Rattle.proposal_core.specs.declared.entry.Entry.{Entry}
+use Rattle.proposal_core.specs.declared.entry.Entry.TheVariants.{Late}
 use Rattle.proposal_core.specs.declared.group_state.Running.{Running}
 use Rattle.vote_phases.specs.Tally.{TallyView, expires, open_voters}
 use Rattle.node_state.specs.declared.state.Core.{Core}

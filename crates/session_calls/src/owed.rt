@@ -8,13 +8,13 @@ ghost use Rattle.node_state.specs.Sending.{sent_if_known};
 ghost use Rattle.node_state.specs.Ticks.{is_lost, lost_told, owed_part};
 ghost use Rattle.session_calls.specs.Telling.{told_at};
 
-use client_session::is_live;
 use node_groups::leader_of;
 use node_sending::{is_frozen, send_if_known};
 use node_state::{Body, Core};
 use proposal_core::{GroupState, Proposal, Running};
 use ring_ticking::{send_requests, send_votes_again};
 use rsct_packet::{Name, NoMemory, ProviderId};
+use session_hearing::is_live;
 use std::alloc::Global;
 
 /// Is the provider of the own incarnation, and no live one of it?

@@ -1,5 +1,5 @@
 //! The calls of clients, as far as they change what a node has of them.
-ghost use Rattle.std.specs.Prelude.{◌≡◌, ◌++◌, ◌∷◌, [], ◌<◌, ◌^◌, length, None, IsTrue, IfOk, OnOk, OnErr, option_copied};
+ghost use Rattle.std.specs.Prelude.{◌≡◌, ◌++◌, ◌∷◌, [], None, IsTrue, IfOk, OnOk, OnErr, option_copied};
 ghost use Rattle.rsct_packet.specs.Text.{IsName};
 ghost use Rattle.client_callbacks.specs.Ballots.{is_level};
 ghost use Rattle.session_state.specs.Calls.{Answers, SameSessions, left, expelled, state_changed, message_sent, attributes_changed, voted, joined};
@@ -10,8 +10,8 @@ use crate::checks::{
 };
 use client_callbacks::Ballot;
 use group_attr::{Attrs, Phases};
-use proposal_core::{Proposal, Vote};
-use rsct_packet::{List, Name, NoMemory, ProviderId, Providers, Text};
+use proposal_core::{Proposal, Vote, text_of};
+use rsct_packet::{Name, NoMemory, ProviderId, Providers};
 use session_state::{GsFault, KeptBallot, MemberToken, Provider, Request, SessionState};
 use std::alloc::Global;
 use subscribe_core::ClientToken;
@@ -24,17 +24,6 @@ fn name_of(alloc: Global, g: &[u8]) -> Result<Name, NoMemory>
     match Name::of(alloc, g)? {
         None => Err(NoMemory),
         Some(name) => Ok(name),
-    }
-}
-
-/// The text of these bytes.
-fn text_of(alloc: Global, b: &[u8]) -> Result<Text, NoMemory>
-    requires { length b.now < 2 ^ 16 }
-    ensures { IfOk result (λ t. t ≡ b.now) }
-{
-    match Text::of(alloc, b)? {
-        None => Err(NoMemory),
-        Some(text) => Ok(text),
     }
 }
 

@@ -10,9 +10,9 @@ ghost use Rattle.std.specs.List.{list_any};
 ghost use Rattle.subscribe_core.specs.Subs.{has_token, is_of_client};
 
 use client_callbacks::{MAX_MESSAGE, value_limit};
-use client_session::outstanding;
 use group_attr::{Attrs, HOST_MEMBERSHIP};
 use rsct_packet::{MAX_NAME, ProviderId, is_among, is_name};
+use session_hearing::outstanding;
 use session_state::{Field, GsFault, MemberToken, OpenPhase, Provider, Request, SessionState};
 use subscribe_core::{ClientToken, SubToken, Subscription};
 

@@ -7,8 +7,8 @@ ghost use Rattle.session_state.specs.Calls.{Answers, AnswersAlways, SameSessions
 ghost use Rattle.session_state.specs.HandOn.{subscriber_of};
 
 use crate::checks::{check_subscribe, check_unsubscribe};
-use client_session::client_place;
 use rsct_packet::{List, NoMemory, ProviderId};
+use session_hearing::client_place;
 use session_state::{GsFault, KeptBallot, Provider, Request, Session, SessionState};
 use std::alloc::Global;
 use subscribe_core::{ClientToken, SubToken, Subscription};

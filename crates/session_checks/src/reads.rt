@@ -7,9 +7,9 @@ ghost use Rattle.client_session.specs.Clients.{client_named};
 
 use crate::sessions::Sessions;
 use client_callbacks::Callbacks;
-use client_session::is_live;
 use proposal_core::GroupState;
 use rsct_packet::{NoMemory, ProviderId};
+use session_hearing::is_live;
 use session_state::{KeptBallot, MemberToken, Provider, Request, Session, SessionState};
 use std::alloc::Global;
 use subscribe_core::{ClientToken, SubToken, Subscription, Tokens};

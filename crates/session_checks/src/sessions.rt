@@ -10,12 +10,15 @@ ghost use Rattle.session_state.specs.HandOn.{hearers, casts_out, handed_on, take
 ghost use Rattle.client_session.specs.Clients.{StandFor, is_at, KeepsAllBut};
 ghost use Rattle.client_session.specs.Notices.{notified, hears_at, told_lists, noted_lists, Fillings};
 
-use crate::{add_session, check_client, check_init, end_session, has_subscription, subscriber_of};
+use crate::calls;
+use crate::checks::{check_client, check_init};
+use crate::ends::{self, add_session, end_session, has_subscription, subscriber_of};
 use client_callbacks::{Callbacks, Told, Why};
-use client_session::{client_place, hand_entry_on, place_of, take_telling, takes_telling, tell_at};
+use client_session::{hand_entry_on, tell_at};
 use group_attr::{Attrs, Phases};
 use proposal_core::{Entry, GroupState, Vote};
 use rsct_packet::{List, Name, NoMemory, ProviderId, ViewId};
+use session_hearing::{client_place, place_of, take_telling, takes_telling};
 use session_state::{Casts, GsFault, Locals, MemberToken, NewEntry, SessionState};
 use std::alloc::Global;
 use std::marker::Model;
@@ -169,7 +172,7 @@ impl<C: Callbacks> Sessions<C> {
         ensures token { IfOk result (λ m. m.n ≡ self.new.state.last_request) }
         ensures clients { self.new.clients ≡ self.old.clients }
     {
-        crate::join(&mut self.state, alloc, t, g, instance, a)
+        calls::join(&mut self.state, alloc, t, g, instance, a)
     }
 
     /// Asks that the provider leaves.
@@ -177,7 +180,7 @@ impl<C: Callbacks> Sessions<C> {
         ensures answer { Answers result self.old.state self.new.state (left self.old.state m ph) }
         ensures clients { self.new.clients ≡ self.old.clients }
     {
-        crate::leave(&mut self.state, alloc, m, ph)
+        calls::leave(&mut self.state, alloc, m, ph)
     }
 
     /// Asks that these are expelled: 1 to 64, which differ.
@@ -191,7 +194,7 @@ impl<C: Callbacks> Sessions<C> {
         ensures answer { Answers result self.old.state self.new.state (expelled self.old.state m ph out.now) }
         ensures clients { self.new.clients ≡ self.old.clients }
     {
-        crate::expel(&mut self.state, alloc, m, ph, out)
+        calls::expel(&mut self.state, alloc, m, ph, out)
     }
 
     /// Asks that the group's value becomes this one, within the limit of the level.
@@ -205,7 +208,7 @@ impl<C: Callbacks> Sessions<C> {
         ensures answer { Answers result self.old.state self.new.state (state_changed self.old.state m ph value.now) }
         ensures clients { self.new.clients ≡ self.old.clients }
     {
-        crate::change_state(&mut self.state, alloc, m, ph, value)
+        calls::change_state(&mut self.state, alloc, m, ph, value)
     }
 
     /// Asks that this message, of at most 1,024 bytes, is sent to all.
@@ -219,7 +222,7 @@ impl<C: Callbacks> Sessions<C> {
         ensures answer { Answers result self.old.state self.new.state (message_sent self.old.state m ph b.now) }
         ensures clients { self.new.clients ≡ self.old.clients }
     {
-        crate::send_message(&mut self.state, alloc, m, ph, b)
+        calls::send_message(&mut self.state, alloc, m, ph, b)
     }
 
     /// Asks that the group's attributes become these.
@@ -233,7 +236,7 @@ impl<C: Callbacks> Sessions<C> {
         ensures answer { Answers result self.old.state self.new.state (attributes_changed self.old.state m ph a) }
         ensures clients { self.new.clients ≡ self.old.clients }
     {
-        crate::change_attributes(&mut self.state, alloc, m, ph, a)
+        calls::change_attributes(&mut self.state, alloc, m, ph, a)
     }
 
     /// Keeps a ballot of the provider for the phase that is open for it.
@@ -247,7 +250,7 @@ impl<C: Callbacks> Sessions<C> {
         ensures answer { Answers result self.old.state self.new.state (voted self.old.state m v (option_copied value.entry)) }
         ensures clients { self.new.clients ≡ self.old.clients }
     {
-        crate::vote(&mut self.state, alloc, m, v, value)
+        calls::vote(&mut self.state, alloc, m, v, value)
     }
 
     /// Subscribes the client to a group; `known` says whether the node holds a list of it.
@@ -262,7 +265,7 @@ impl<C: Callbacks> Sessions<C> {
         ensures token { IfOk result (λ s. s.n ≡ self.new.state.subs.last) }
         ensures clients { self.new.clients ≡ self.old.clients }
     {
-        crate::subscribe(&mut self.state, alloc, t, g, known)
+        ends::subscribe(&mut self.state, alloc, t, g, known)
     }
 
     /// Ends a subscription of the client.
@@ -270,7 +273,7 @@ impl<C: Callbacks> Sessions<C> {
         ensures answer { AnswersAlways result self.old.state self.new.state (unsubscribe_taken self.old.state t s) }
         ensures clients { self.new.clients ≡ self.old.clients }
     {
-        crate::unsubscribe(&mut self.state, t, s)
+        ends::unsubscribe(&mut self.state, t, s)
     }
 
     /// Ends the session, with its providers and its subscriptions.

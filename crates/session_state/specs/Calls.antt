@@ -11,9 +11,9 @@ use Rattle.group_attr.specs.declared.attrs.AttrFault.{AttrFault}
 use Rattle.group_attr.specs.declared.attrs.Phases.{Phases}
 use Rattle.group_attr.specs.declared.attrs.Phases.TheVariants.{One}
 use Rattle.group_attr.specs.Attrs.{first_fault, host_membership}
-use Rattle.group_entry.specs.declared.entry.Vote.{Vote}
-use Rattle.group_entry.specs.declared.proposal.Proposal.{Proposal}
-use Rattle.group_entry.specs.declared.proposal.Proposal.TheVariants.{Join, Leave, Expel, State, Message, Attributes}
+use Rattle.proposal_core.specs.declared.entry.Vote.{Vote}
+use Rattle.proposal_core.specs.declared.proposal.Proposal.{Proposal}
+use Rattle.proposal_core.specs.declared.proposal.Proposal.TheVariants.{Join, Leave, Expel, State, Message, Attributes}
 use Rattle.client_callbacks.specs.declared.ballot.Filled.{Filled}
 use Rattle.client_callbacks.specs.Ballots.{BallotView, is_within, value_limit, message_limit}
 use Rattle.subscribe_core.specs.declared.subs.ClientToken.{ClientToken}

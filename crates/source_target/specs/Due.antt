@@ -4,8 +4,8 @@ use Rattle.std.specs.List.{list_any}
 use Rattle.rsct_packet.specs.declared.ids.ProviderId.{ProviderId}
 use Rattle.rsct_packet.specs.declared.ids.ProtoId.{ProtoId}
 use Rattle.rsct_packet.specs.Ids.{place_lt}
-use Rattle.group_entry.specs.declared.proposal.Cause.TheVariants.{Cast}
-use Rattle.group_entry.specs.declared.proposal.Failure.{Failure}
+use Rattle.proposal_core.specs.declared.proposal.Cause.TheVariants.{Cast}
+use Rattle.proposal_core.specs.declared.proposal.Failure.{Failure}
 use Rattle.proposal_core.specs.declared.group_state.GroupState.{GroupState}
 use Rattle.source_target.specs.declared.owed.Due.{Due}
 use Rattle.source_target.specs.declared.owed.Due.TheVariants.{CastOut, Reflect}

@@ -9,7 +9,7 @@ use Rattle.rsct_packet.specs.declared.ids.Member.{Member}
 use Rattle.rsct_packet.specs.declared.ids.ProviderId.{ProviderId}
 use Rattle.rsct_packet.specs.Search.{Has}
 use Rattle.rsct_packet.proofs.HasLaws.{append_has_right}
-use Rattle.group_entry.specs.declared.entry.Entry.{Entry}
+use Rattle.proposal_core.specs.declared.entry.Entry.{Entry}
 use Rattle.adapter_ring.specs.declared.ring.Ring.{Ring}
 use Rattle.node_state.specs.declared.config.Config.{Config}
 use Rattle.node_state.specs.declared.config.Mode.{Mode}
@@ -26,7 +26,7 @@ use Rattle.view_state.specs.Views.{views_new}
 use Rattle.world_model.specs.declared.event.Event.{Event}
 use Rattle.run_safety.specs.Past.{records_of, place_after, view_now}
 use Rattle.run_safety.specs.Sight.{inc_in, lines_with, lines_of}
-use Rattle.group_entry.specs.declared.proposal.Proposal.{Proposal}
+use Rattle.proposal_core.specs.declared.proposal.Proposal.{Proposal}
 use Rattle.run_safety.specs.Group.{member, Standing, Kept, Noted, Told, In, Put, Begins, kept}
 use Rattle.run_safety.specs.Group as group
 use Rattle.run_safety.specs.Moves.{Opening, Alone, Born, Led, Dawn, NextEvent, Starts, first}

@@ -12,8 +12,8 @@ use Rattle.rsct_packet.specs.Ids.{same_view}
 use Rattle.rsct_packet.specs.Search.{Has}
 use Rattle.rsct_packet.proofs.HasLaws.{find_has, has_map, append_has_right, append_has_left, has_append}
 use Rattle.rsct_packet.specs.Providers as providers
-use Rattle.group_entry.specs.declared.entry.Entry.{Entry}
-use Rattle.group_entry.specs.declared.proposal.Proposal.{Proposal}
+use Rattle.proposal_core.specs.declared.entry.Entry.{Entry}
+use Rattle.proposal_core.specs.declared.proposal.Proposal.{Proposal}
 use Rattle.proposal_core.specs.declared.group_state.GroupState.{GroupState}
 use Rattle.proposal_core.specs.GroupView.{new_list}
 use Rattle.session_state.specs.declared.state.Request.{Request}

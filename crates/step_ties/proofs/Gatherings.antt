@@ -11,7 +11,7 @@ use Rattle.rsct_packet.specs.Ids.{last_u32, same_view}
 use Rattle.rsct_packet.specs.Mask.{has_node, nodes_of}
 use Rattle.rsct_packet.specs.Search.{Has, insert_before}
 use Rattle.rsct_packet.proofs.HasLaws.{has_append, append_has_left, append_has_right}
-use Rattle.group_entry.specs.declared.entry.Entry.{Entry}
+use Rattle.proposal_core.specs.declared.entry.Entry.{Entry}
 use Rattle.view_state.specs.declared.answer.Answer.{Answer}
 use Rattle.view_state.specs.declared.exchange.Exchange.{Exchange}
 use Rattle.view_state.specs.declared.install.Part.{Part}

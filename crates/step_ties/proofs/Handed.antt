@@ -7,8 +7,8 @@ use Rattle.rsct_packet.specs.declared.ids.ProviderId.{ProviderId}
 use Rattle.rsct_packet.specs.declared.ids.ProtoId.{ProtoId}
 use Rattle.rsct_packet.specs.Search.{Has}
 use Rattle.rsct_packet.proofs.HasLaws.{has_append, has_map}
-use Rattle.group_entry.specs.declared.entry.Entry.{Entry}
-use Rattle.group_entry.specs.declared.proposal.Proposal.{Proposal}
+use Rattle.proposal_core.specs.declared.entry.Entry.{Entry}
+use Rattle.proposal_core.specs.declared.proposal.Proposal.{Proposal}
 use Rattle.proposal_core.specs.declared.group_state.GroupState.{GroupState}
 use Rattle.client_callbacks.specs.declared.ballot.Filled.{Filled}
 use Rattle.client_callbacks.specs.Ballots.{BallotView}

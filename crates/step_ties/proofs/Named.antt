@@ -10,7 +10,7 @@ use Rattle.rsct_packet.specs.declared.ids.Member.{Member}
 use Rattle.rsct_packet.specs.declared.ids.ProviderId.{ProviderId}
 use Rattle.rsct_packet.specs.Search.{Has}
 use Rattle.rsct_packet.proofs.HasLaws.{has_filter, append_has_right}
-use Rattle.group_entry.specs.declared.entry.Entry.{Entry}
+use Rattle.proposal_core.specs.declared.entry.Entry.{Entry}
 use Rattle.name_server.specs.declared.names.Leader.{Leader}
 use Rattle.name_server.specs.Names as names
 use Rattle.client_callbacks.specs.declared.told.Why.TheVariants.{GroupsFull}

@@ -4,8 +4,8 @@ use Rattle.std.specs.Prelude.{filter, fold}
 use Rattle.rsct_packet.specs.declared.ids.ViewId.{ViewId}
 use Rattle.rsct_packet.specs.declared.ids.ProviderId.{ProviderId}
 use Rattle.rsct_packet.specs.Search.{Has}
-use Rattle.group_entry.specs.declared.entry.Entry.{Entry}
-use Rattle.group_entry.specs.declared.proposal.Proposal.{Proposal}
+use Rattle.proposal_core.specs.declared.entry.Entry.{Entry}
+use Rattle.proposal_core.specs.declared.proposal.Proposal.{Proposal}
 use Rattle.proposal_core.specs.Fold.{runs, present}
 use Rattle.proposal_core.specs.Lists.{state_in}
 use Rattle.client_callbacks.specs.declared.ballot.Filled.{Filled}

@@ -6,7 +6,7 @@ use Rattle.rsct_packet.specs.declared.ids.ViewId.{ViewId}
 use Rattle.rsct_packet.specs.declared.ids.ProviderId.{ProviderId}
 use Rattle.rsct_packet.specs.Providers.{among}
 use Rattle.rsct_packet.specs.Search.{Has}
-use Rattle.group_entry.specs.declared.entry.Entry.{Entry}
+use Rattle.proposal_core.specs.declared.entry.Entry.{Entry}
 use Rattle.name_server.specs.declared.names.Leader.{Leader}
 use Rattle.view_state.specs.declared.views.Views.{Views}
 use Rattle.node_state.specs.declared.config.Config.{Config}
@@ -27,7 +27,7 @@ use Rattle.step_ties.specs.Tied.{LeaderKeeps, Closed, NodeOf, NodeIsIf, Sound, S
 use Rattle.step_ties.proofs.Goes.{Spares, owes_by, node_by, shows_on, node_on, node_if_on}
 use Rattle.step_ties.proofs.Gone.{with_packet, packet_goes}
 use Rattle.step_ties.proofs.Turns.{turns_packets}
-use Rattle.group_entry.specs.declared.proposal.Proposal.{Proposal}
+use Rattle.proposal_core.specs.declared.proposal.Proposal.{Proposal}
 use Rattle.session_state.specs.declared.state.SessionState.{SessionState}
 
 module _ (x : Ghost) (v : ViewId) (p : ProviderId) (r : ℕ) where

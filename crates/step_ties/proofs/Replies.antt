@@ -18,7 +18,7 @@ use Rattle.rsct_packet.specs.Search.{Has}
 use Rattle.rsct_packet.specs.Text.{name_lt}
 use Rattle.rsct_packet.proofs.HasLaws.{append_has_left, find_has, find_none}
 use Rattle.rsct_packet.proofs.MaskLaws.{has_is_node}
-use Rattle.group_entry.specs.declared.entry.Entry.{Entry}
+use Rattle.proposal_core.specs.declared.entry.Entry.{Entry}
 use Rattle.proposal_core.specs.declared.group_state.GroupState.{GroupState}
 use Rattle.proposal_core.specs.Fold.{empty_state, present, joiners_in}
 use Rattle.view_state.specs.declared.answer.Answer.{Answer}

@@ -9,7 +9,7 @@ use Rattle.rsct_packet.specs.Mask.{nodes_of}
 use Rattle.rsct_packet.specs.Search.{Has}
 use Rattle.rsct_packet.proofs.HasLaws.{has_append}
 use Rattle.group_attr.specs.declared.attrs.Phases.{Phases}
-use Rattle.group_entry.specs.declared.proposal.Proposal.{Proposal}
+use Rattle.proposal_core.specs.declared.proposal.Proposal.{Proposal}
 use Rattle.adapter_ring.specs.declared.ring.Ring.{Ring}
 use Rattle.adapter_ring.specs.declared.ring.RingSet.{RingSet}
 use Rattle.adapter_ring.specs.declared.packet.RingSend.{RingSend}

@@ -6,8 +6,8 @@ use Rattle.rsct_packet.specs.declared.ids.ViewId.{ViewId}
 use Rattle.rsct_packet.specs.declared.ids.ProtoId.{ProtoId}
 use Rattle.rsct_packet.specs.declared.ids.ProviderId.{ProviderId}
 use Rattle.rsct_packet.specs.Providers.{same_provider, among, differ, without}
-use Rattle.group_entry.specs.declared.proposal.Cause.TheVariants.{Gone}
-use Rattle.group_entry.specs.declared.entry.Vote.{Vote}
+use Rattle.proposal_core.specs.declared.proposal.Cause.TheVariants.{Gone}
+use Rattle.proposal_core.specs.declared.entry.Vote.{Vote}
 use Rattle.proposal_core.specs.Fold.{runs, present}
 use Rattle.vote_phases.specs.Tally.{TallyView, tally_fail}
 use Rattle.batch_rules.specs.Waiting.{waits_failure, join_dropped}

@@ -7,8 +7,8 @@ use Rattle.rsct_packet.specs.declared.ids.Member.{Member}
 use Rattle.rsct_packet.specs.declared.ids.ProviderId.{ProviderId}
 use Rattle.rsct_packet.specs.Mask.{has_node}
 use Rattle.rsct_packet.specs.Search.{Has}
-use Rattle.group_entry.specs.declared.entry.Entry.{Entry}
-use Rattle.group_entry.specs.Sizes.{entry_len}
+use Rattle.proposal_core.specs.declared.entry.Entry.{Entry}
+use Rattle.proposal_core.specs.Sizes.{entry_len}
 use Rattle.proposal_core.specs.GroupView.{GroupView, new_list}
 use Rattle.view_state.specs.declared.answer.Answer.{Answer}
 use Rattle.view_state.specs.declared.exchange.Exchange.{Exchange}

@@ -10,9 +10,9 @@ use Rattle.packet_bodies.specs.declared.body.ReportRow.{ReportRow}
 use Rattle.packet_bodies.specs.declared.body.What.{What}
 use Rattle.adapter_ring.specs.declared.packet.RingPacket.{RingPacket}
 use Rattle.group_attr.specs.declared.attrs.Phases.{Phases}
-use Rattle.group_entry.specs.declared.proposal.Proposal.{Proposal}
-use Rattle.group_entry.specs.declared.entry.Entry.{Entry}
-use Rattle.group_entry.specs.declared.entry.Vote.{Vote}
+use Rattle.proposal_core.specs.declared.proposal.Proposal.{Proposal}
+use Rattle.proposal_core.specs.declared.entry.Entry.{Entry}
+use Rattle.proposal_core.specs.declared.entry.Vote.{Vote}
 use Rattle.view_state.specs.declared.packet.ViewPacket.{ViewPacket}
 use Rattle.view_state.specs.declared.packet.ViewPacket.TheVariants as view
 use Rattle.client_callbacks.specs.declared.told.Why.{Why}

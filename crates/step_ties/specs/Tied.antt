@@ -6,8 +6,8 @@ use Rattle.rsct_packet.specs.declared.ids.Member.{Member}
 use Rattle.rsct_packet.specs.Providers.{among, differ}
 use Rattle.std.specs.Str.{bytes_eq}
 use Rattle.rsct_packet.specs.Search.{Has}
-use Rattle.group_entry.specs.declared.entry.Entry.{Entry}
-use Rattle.group_entry.specs.declared.proposal.Proposal.{Proposal}
+use Rattle.proposal_core.specs.declared.entry.Entry.{Entry}
+use Rattle.proposal_core.specs.declared.proposal.Proposal.{Proposal}
 use Rattle.proposal_core.specs.Lists.{list_or_new}
 use Rattle.name_server.specs.declared.names.Leader.{Leader}
 use Rattle.name_server.specs.Names.{node_of, max_names}

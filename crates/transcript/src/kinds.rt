@@ -1,10 +1,9 @@
 //! Which kinds of records are shown.
 ghost use Rattle.std.specs.Prelude.{◌≡◌};
-ghost use Rattle.std.specs.Str.{bytes_eq};
 ghost use Rattle.transcript.specs.Kinds.{shows, all_kinds, no_kinds, kind_word, has_kind, with_kind, with_new, kind_step, kinds_of};
 
 use node_state::Happened;
-use script_reader::cut_at;
+use script_reader::{cut_at, is_word};
 
 /// A kind of records.
 #[derive(Clone, Copy)]
@@ -42,13 +41,6 @@ pub struct Kinds {
     pub refused: bool,
     /// `show`: a line of a status.
     pub shown: bool,
-}
-
-/// Is it this word?
-fn is_word(word: &[u8], w: &[u8]) -> bool
-    ensures { result ≡ bytes_eq word.now w.now }
-{
-    word == w
 }
 
 #[tactic(auto, unfolding(crate::specs::Kinds::kind_word, world_model::specs::Words::chosen))]

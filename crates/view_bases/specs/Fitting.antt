@@ -1,8 +1,8 @@
 -- The end of a list, at which entries fit or not.
 use Rattle.std.specs.Prelude.{ℕ, ◌+◌, []}
 use Rattle.rsct_packet.specs.declared.ids.ViewId.{ViewId}
-use Rattle.group_entry.specs.declared.entry.Entry.{Entry}
-use Rattle.group_entry.specs.Sizes.{entry_len}
+use Rattle.proposal_core.specs.declared.entry.Entry.{Entry}
+use Rattle.proposal_core.specs.Sizes.{entry_len}
 use Rattle.proposal_core.specs.Fold.{after}
 use Rattle.proposal_core.specs.GroupView.{GroupView}
 use Rattle.view_bases.specs.declared.cut.ListEnd.{ListEnd}

@@ -1,7 +1,7 @@
 -- How what the lists lack is gathered, and then put.
 use Rattle.std.proofs.Common.{◌≡◌, ℕ, ◌+◌, ◌<◌, ◌≤◌, List, [], ◌∷◌, ◌++◌, length, drop, get_or, map, Option, Some, None, refl, sym, ap, ◌∙◌, append_assoc, drop-cons, add-one}
 use Rattle.std.proofs.lemmas.List.{append-nil, map-append, at_drop_all}
-use Rattle.group_entry.specs.declared.entry.Entry.{Entry}
+use Rattle.proposal_core.specs.declared.entry.Entry.{Entry}
 use Rattle.view_state.specs.declared.install.Part.{Part}
 use Rattle.view_state.specs.Cut.{lacking_of}
 use Rattle.node_state.specs.declared.state.Core.{Core}

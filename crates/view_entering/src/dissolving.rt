@@ -16,10 +16,11 @@ ghost use Rattle.session_state.specs.Calls.{SameSessions};
 ghost use Rattle.node_state.specs.Applying.{is_in_base, number_of, dissolved, dissolved_if, group_dissolved, sides_dissolved};
 
 use client_callbacks::{Callbacks, Told, Why};
-use client_session::{place_of, take_telling, takes_telling, tell_at};
+use client_session::tell_at;
 use node_state::{Core, GroupRow, Happened};
 use proposal_core::{Proposal, Running};
 use rsct_packet::{Name, NoMemory, ProviderId, ViewId, is_among};
+use session_hearing::{place_of, take_telling, takes_telling};
 use session_state::{Provider, Request, SessionState};
 use view_state::Base;
 

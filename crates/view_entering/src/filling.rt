@@ -4,7 +4,6 @@ ghost use Rattle.entry_handing.specs.Received.{Receive};
 ghost use Rattle.entry_handing.specs.Doing.{Does};
 ghost use Rattle.group_leading.specs.Working.{AtWork};
 ghost use Rattle.view_state.specs.Bases.{source_at};
-ghost use Rattle.proposal_core.specs.Lists.{list_or_new};
 ghost use Rattle.view_state.specs.Cut.{lacking_of};
 ghost use Rattle.node_state.specs.State.{list_of};
 ghost use Rattle.node_state.specs.Leading.{put_and_handed};
@@ -13,9 +12,9 @@ ghost use Rattle.view_entering.specs.Filling.{lacking_at, all_lacking, list_fill
 
 use client_callbacks::Callbacks;
 use group_leading::put_and_hand;
-use node_groups::{fits_at_end, list_of};
+use node_groups::{fits_at_end, list_of, new_list};
 use node_state::Core;
-use proposal_core::{Entry, GroupList, GroupState};
+use proposal_core::Entry;
 use rsct_packet::{Name, NoMemory, ViewId};
 use std::alloc::Global;
 use view_bases::lacking_of;
@@ -26,14 +25,6 @@ use view_state::{Install, Part, Source};
 pub(crate) struct Missing<'a> {
     pub group: &'a Name,
     pub entries: &'a [Entry],
-}
-
-/// The list of a group that has none yet.
-#[tactic(auto, unfolding(proposal_core::specs::Fold::joiners_fit, proposal_core::specs::Fold::joiners_fit_at))]
-fn new_list(alloc: Global) -> GroupList
-    ensures { result ≡ list_or_new None }
-{
-    GroupList::new(alloc, GroupState::empty(alloc))
 }
 
 /// What the group's list lacks up to the length of a part; none where it does not go on to the part.

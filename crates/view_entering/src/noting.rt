@@ -14,10 +14,11 @@ ghost use Rattle.view_entering.specs.Arriving.{note_at, notes_at, handed_at, not
 
 use crate::dissolving::base_named;
 use client_callbacks::{Callbacks, Told};
-use client_session::{client_place, tell_at};
+use client_session::tell_at;
 use group_attr::HOST_MEMBERSHIP;
 use node_state::{Core, Happened, Records};
 use rsct_packet::{List, Members, NoMemory, ViewId};
+use session_hearing::client_place;
 use session_state::{Session, SessionState};
 use std::alloc::Global;
 use subscribe_core::{ClientToken, Subscription};

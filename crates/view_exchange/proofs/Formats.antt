@@ -10,7 +10,7 @@ use Rattle.rsct_packet.specs.Fields.{u32_text, IsU32, IsNode, IsMember}
 use Rattle.rsct_packet.specs.declared.ids.Member.{Member}
 use Rattle.rsct_packet.proofs.FormatLaws.{bind_some, both_format, made_format, guarded_format, fits_format, counted_format, part_keyed, wide8, wide32, u32_format}
 use Rattle.rsct_packet.proofs.FieldLaws.{and_true, both_true, name_format, mask_format, view_format, member_format}
-use Rattle.group_entry.specs.EntryCodec.{whole}
+use Rattle.proposal_core.specs.EntryCodec.{whole}
 use Rattle.group_codec.proofs.EntryFormat.{entry_format}
 use Rattle.group_codec.proofs.StateFormat.{state_format}
 use Rattle.std.specs.Borrow.{Bor}

@@ -3,7 +3,7 @@ ghost use Rattle.std.specs.Prelude.{◌≡◌, ◌++◌, IfSome, OnOk, OnErr, If
 ghost use Rattle.std.specs.Option.{option_map};
 ghost use Rattle.rsct_packet.specs.Fields.{IsNode};
 ghost use Rattle.rsct_packet.specs.Format.{IsBytes};
-ghost use Rattle.group_entry.specs.EntryCodec.{whole};
+ghost use Rattle.proposal_core.specs.EntryCodec.{whole};
 ghost use Rattle.view_state.specs.Codec.{Brought, answer_at, answer_text, IsAnswer, IsParts};
 ghost use Rattle.view_exchange.specs.InPlace.{brought_in};
 

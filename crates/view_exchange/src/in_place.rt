@@ -3,7 +3,7 @@ ghost use Rattle.std.specs.Prelude.{◌≡◌, ◌++◌, ◌∷◌, [], length, 
 ghost use Rattle.std.specs.Option.{option_map};
 ghost use Rattle.rsct_packet.specs.Reading.{Gives, many_at};
 ghost use Rattle.rsct_packet.specs.Text.{IsName};
-ghost use Rattle.group_entry.specs.EntryCodec.{IsEntry};
+ghost use Rattle.proposal_core.specs.EntryCodec.{IsEntry};
 ghost use Rattle.group_codec.specs.InPlace.{entry_in};
 ghost use Rattle.view_state.specs.Codec.{sized_entry_at, group_part_at, IsPart, names_ascend, parts_at};
 ghost use Rattle.view_state.specs.Parts.{part_len, entry_of};
@@ -27,7 +27,7 @@ impl<'a> Model for EntriesRef<'a> {
     ghost use Rattle.std.specs.Prelude.{List, IsSome};
     ghost use Rattle.rsct_packet.specs.Reading.{many_at};
     ghost use Rattle.rsct_packet.specs.Listed.{items_in};
-    ghost use Rattle.group_entry.specs.declared.entry.Entry.{Entry};
+    ghost use Rattle.proposal_core.specs.declared.entry.Entry.{Entry};
     ghost use Rattle.view_state.specs.Codec.{sized_entry_at};
 
     ghost Value = { List Entry };

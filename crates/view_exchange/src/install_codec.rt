@@ -2,7 +2,7 @@
 ghost use Rattle.std.specs.Prelude.{◌≡◌, ◌++◌, IfOk, IfSome, OnOk, OnErr, flat_map};
 ghost use Rattle.std.specs.Option.{option_map};
 ghost use Rattle.rsct_packet.specs.Format.{IsBytes, EachFits};
-ghost use Rattle.group_entry.specs.EntryCodec.{whole};
+ghost use Rattle.proposal_core.specs.EntryCodec.{whole};
 ghost use Rattle.view_state.specs.Codec.{source_text, IsSource, has_member, comes_once, each_comes_once, members_ascend, is_in_order, install_at, install_text, IsInstall};
 ghost use Rattle.view_state.specs.Tails.{HasTails};
 ghost use Rattle.view_exchange.specs.SourcesInPlace.{install_in};

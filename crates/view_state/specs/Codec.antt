@@ -12,9 +12,9 @@ use Rattle.rsct_packet.specs.Text.{IsName, name_lt}
 use Rattle.rsct_packet.specs.Reading.{◌>>=◌, number_at, part_at, both_at, made_at, guarded_at, counted_at}
 use Rattle.rsct_packet.specs.Format.{EachFits, counted_text}
 use Rattle.rsct_packet.specs.Fields.{u32_text, IsU32, name_at, name_text, mask_at, mask_text, IsMask, view_at, view_text, IsView, member_at, member_text, IsMember}
-use Rattle.group_entry.specs.declared.entry.Entry.{Entry}
+use Rattle.proposal_core.specs.declared.entry.Entry.{Entry}
 use Rattle.proposal_core.specs.declared.group_state.GroupState.{GroupState}
-use Rattle.group_entry.specs.EntryCodec.{entry_front_at, entry_text, IsEntry, whole}
+use Rattle.proposal_core.specs.EntryCodec.{entry_front_at, entry_text, IsEntry, whole}
 use Rattle.proposal_core.specs.StateCodec.{state_at, state_text, IsState}
 use Rattle.view_state.specs.declared.install.Part.{Part}
 use Rattle.view_state.specs.declared.install.Source.{Source}

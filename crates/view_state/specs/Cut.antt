@@ -1,7 +1,7 @@
 -- The entries that a list lacks of a longer one.
 use Rattle.std.specs.Prelude.{ℕ, Bool, ◌+◌, ◌-◌, List, [], ◌∷◌, drop, true, false, Option, Some, None, nat_le, nat_lt}
 use Rattle.rsct_packet.specs.declared.ids.ViewId.{ViewId}
-use Rattle.group_entry.specs.declared.entry.Entry.{Entry}
+use Rattle.proposal_core.specs.declared.entry.Entry.{Entry}
 use Rattle.proposal_core.specs.GroupView.{GroupView}
 use Rattle.proposal_core.specs.Lists.{entry_fits, with_entry}
 use Rattle.view_state.specs.declared.install.Part.{Part}

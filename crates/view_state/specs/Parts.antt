@@ -1,6 +1,6 @@
 -- The list that a part is of: how long it is, and its entries.
 use Rattle.std.specs.Prelude.{ℕ, ◌+◌, ◌-◌, Option, None, length, nat_lt, slice_get, if◌then◌else◌}
-use Rattle.group_entry.specs.declared.entry.Entry.{Entry}
+use Rattle.proposal_core.specs.declared.entry.Entry.{Entry}
 use Rattle.view_state.specs.declared.install.Part.{Part}
 
 abbrev pub part_len : Part → ℕ

@@ -4,7 +4,7 @@ use Rattle.std.specs.Prelude.{filter, not, IsTrue}
 use Rattle.std.proofs.lemmas.Bool.{and_parts, and_from, or_parts, not_from_false}
 use Rattle.rsct_packet.specs.declared.ids.ProviderId.{ProviderId}
 use Rattle.rsct_packet.specs.Providers.{same_provider, among, differ, AreProviders}
-use Rattle.group_entry.specs.declared.entry.RowVote.{RowVote}
+use Rattle.proposal_core.specs.declared.entry.RowVote.{RowVote}
 use Rattle.vote_phases.specs.declared.voter.Voter.{Voter}
 use Rattle.vote_phases.specs.Tally.{no_vote, given, given_to, is_open, is_voter, AreVoters}
 

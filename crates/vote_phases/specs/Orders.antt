@@ -3,9 +3,9 @@ use Rattle.std.specs.Prelude.{ℕ, true, false, List, [], ◌∷◌, map, Option
 use Rattle.rsct_packet.specs.declared.ids.ProviderId.{ProviderId}
 use Rattle.rsct_packet.specs.Providers.{same_provider}
 use Rattle.group_attr.specs.declared.attrs.DefaultVote.{DefaultVote}
-use Rattle.group_entry.specs.declared.entry.Vote.{Vote}
-use Rattle.group_entry.specs.declared.entry.RowVote.{RowVote}
-use Rattle.group_entry.specs.declared.entry.RowVote.TheVariants as row_vote
+use Rattle.proposal_core.specs.declared.entry.Vote.{Vote}
+use Rattle.proposal_core.specs.declared.entry.RowVote.{RowVote}
+use Rattle.proposal_core.specs.declared.entry.RowVote.TheVariants as row_vote
 use Rattle.vote_phases.specs.declared.voter.Voter.{Voter}
 use Rattle.vote_phases.specs.Tally.{TallyView, tally_cast, tally_fail, tally_tick, counted, passes}
 

@@ -13,19 +13,19 @@ use Rattle.group_attr.specs.declared.attrs.DefaultVote.{DefaultVote}
 use Rattle.group_attr.specs.declared.attrs.DefaultVote.TheVariants as default_vote
 use Rattle.group_attr.specs.declared.attrs.AttrFault.{AttrFault}
 use Rattle.group_attr.specs.declared.attrs.AttrFault.TheVariants as attr_fault
-use Rattle.group_entry.specs.declared.proposal.Cause.{Cause}
-use Rattle.group_entry.specs.declared.proposal.Cause.TheVariants as cause
-use Rattle.group_entry.specs.declared.proposal.Failure.{Failure}
-use Rattle.group_entry.specs.declared.proposal.Proposal.{Proposal}
-use Rattle.group_entry.specs.declared.proposal.Proposal.TheVariants.{Join, Leave, Fail, Expel, State, Message, Attributes, Reflect}
-use Rattle.group_entry.specs.declared.entry.Vote.{Vote}
-use Rattle.group_entry.specs.declared.entry.Vote.TheVariants as vote
-use Rattle.group_entry.specs.declared.entry.RowVote.{RowVote}
-use Rattle.group_entry.specs.declared.entry.RowVote.TheVariants as row_vote
-use Rattle.group_entry.specs.declared.entry.Row.{Row}
-use Rattle.group_entry.specs.declared.entry.Closed.{Closed}
-use Rattle.group_entry.specs.declared.entry.Entry.{Entry}
-use Rattle.group_entry.specs.declared.entry.Entry.TheVariants as entry
+use Rattle.proposal_core.specs.declared.proposal.Cause.{Cause}
+use Rattle.proposal_core.specs.declared.proposal.Cause.TheVariants as cause
+use Rattle.proposal_core.specs.declared.proposal.Failure.{Failure}
+use Rattle.proposal_core.specs.declared.proposal.Proposal.{Proposal}
+use Rattle.proposal_core.specs.declared.proposal.Proposal.TheVariants.{Join, Leave, Fail, Expel, State, Message, Attributes, Reflect}
+use Rattle.proposal_core.specs.declared.entry.Vote.{Vote}
+use Rattle.proposal_core.specs.declared.entry.Vote.TheVariants as vote
+use Rattle.proposal_core.specs.declared.entry.RowVote.{RowVote}
+use Rattle.proposal_core.specs.declared.entry.RowVote.TheVariants as row_vote
+use Rattle.proposal_core.specs.declared.entry.Row.{Row}
+use Rattle.proposal_core.specs.declared.entry.Closed.{Closed}
+use Rattle.proposal_core.specs.declared.entry.Entry.{Entry}
+use Rattle.proposal_core.specs.declared.entry.Entry.TheVariants as entry
 use Rattle.proposal_core.specs.declared.group_state.Running.{Running}
 use Rattle.session_state.specs.declared.fault.Field.{Field}
 use Rattle.session_state.specs.declared.fault.Field.TheVariants as field

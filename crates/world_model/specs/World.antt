@@ -5,7 +5,7 @@ use Rattle.rsct_packet.specs.Lists.{drop_where, reverse_onto}
 use Rattle.rsct_packet.specs.Ids.{last_u32}
 use Rattle.rsct_packet.specs.Mask.{nodes_of}
 use Rattle.rsct_packet.specs.Search.{insert_before}
-use Rattle.group_entry.specs.declared.entry.Entry.{Entry}
+use Rattle.proposal_core.specs.declared.entry.Entry.{Entry}
 use Rattle.proposal_core.specs.declared.group_state.GroupState.{GroupState}
 use Rattle.rsct_packet.specs.declared.ids.ProviderId.{ProviderId}
 use Rattle.subscribe_core.specs.declared.subs.ClientToken.{ClientToken}

@@ -17,9 +17,9 @@ use crate::lists::{are_parts, is_install};
 use adapter_ring::RingPacket;
 use client_callbacks::Why;
 use group_attr::Phases;
-use group_entry::Proposal;
 use node_state::{Body, Packet, ReportRow};
 use packet_codec::head_of;
+use proposal_core::Proposal;
 use rsct_packet::{
     Name, ProtoId, ProviderId, Text, ViewId, is_group_kind, is_head, is_node_number,
 };

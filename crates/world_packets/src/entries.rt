@@ -4,17 +4,17 @@ ghost use Rattle.std.specs.List.{list_any};
 ghost use Rattle.rsct_packet.specs.Format.{EachFits, OptionFits};
 ghost use Rattle.rsct_packet.specs.Fields.{IsProto, IsU16, IsU32};
 ghost use Rattle.rsct_packet.specs.Text.{IsName};
-ghost use Rattle.group_entry.specs.declared.proposal.Proposal.TheVariants.{Join};
+ghost use Rattle.proposal_core.specs.declared.proposal.Proposal.TheVariants.{Join};
 ghost use Rattle.group_attr.specs.Codec.{IsAttrs};
-ghost use Rattle.group_entry.specs.ProposalCodec.{same_failure, failures_differ, are_failures, IsFailure, IsFallen, IsProposal};
+ghost use Rattle.proposal_core.specs.ProposalCodec.{same_failure, failures_differ, are_failures, IsFailure, IsFallen, IsProposal};
 ghost use Rattle.view_state.specs.Codec.{IsSizedEntry};
-ghost use Rattle.group_entry.specs.EntryCodec.{IsRow, IsClosed, IsEntry, entry_text};
+ghost use Rattle.proposal_core.specs.EntryCodec.{IsRow, IsClosed, IsEntry, entry_text};
 
 use crate::ids::{
     are_some_providers, is_optional_text, is_place, is_proto, is_provider, is_request, is_text,
 };
 use group_attr::Attrs;
-use group_entry::{Closed, Entry, Failure, Proposal, Row};
+use proposal_core::{Closed, Entry, Failure, Proposal, Row};
 use rsct_packet::{Name, ProtoId, Providers};
 
 /// How many failures an entry has at most.

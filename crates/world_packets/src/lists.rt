@@ -10,8 +10,7 @@ ghost use Rattle.view_state.specs.Codec.{is_after, names_ascend, IsSizedEntry, I
 
 use crate::entries::{are_attrs, is_proposal, is_sized_entry};
 use crate::ids::{are_providers, is_mask, is_member, is_optional_text, is_proto, is_text, is_view};
-use group_entry::Entry;
-use proposal_core::{GroupState, Proposal, Running};
+use proposal_core::{Entry, GroupState, Proposal, Running};
 use rsct_packet::{MAX_PROVIDERS, Member, ProtoId, ProviderId, ViewId, is_among, is_none_among};
 use view_state::{Install, Part, Source};
 

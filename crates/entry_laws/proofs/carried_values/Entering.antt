@@ -10,7 +10,7 @@ use Rattle.rsct_packet.specs.Providers.{among}
 use Rattle.rsct_packet.specs.Search.{Has}
 use Rattle.rsct_packet.proofs.HasLaws.{has_append}
 use Rattle.group_attr.specs.Attrs.{host_membership}
-use Rattle.group_entry.specs.declared.proposal.Cause.TheVariants.{Died}
+use Rattle.proposal_core.specs.declared.proposal.Cause.TheVariants.{Died}
 use Rattle.proposal_core.specs.Fold.{present}
 use Rattle.proposal_core.specs.Lists.{state_in}
 use Rattle.batch_rules.specs.Waiting.{waits_failure}
@@ -44,7 +44,7 @@ use Rattle.entry_laws.proofs.carried_values.At.{Facts, Course, At, ballot_on, bo
 use Rattle.row_laws.proofs.honest_votes.Keeps.{told_no_more}
 use Rattle.rsct_packet.proofs.HasLaws.{append_has_left, append_has_right}
 use Rattle.node_state.specs.Leading.{put_and_handed}
-use Rattle.group_entry.specs.declared.entry.Entry.{Entry}
+use Rattle.proposal_core.specs.declared.entry.Entry.{Entry}
 use Rattle.entry_laws.proofs.carried_values.Sends.{at_requests_sent, at_votes_again}
 use Rattle.entry_laws.proofs.carried_values.Leading.{at_put_and_handed_for, at_waits, at_opened_anew, at_closes}
 use Rattle.entry_laws.proofs.carried_values.Ending.{Every, NoGroup, at_led_groups}

@@ -5,7 +5,7 @@ use Rattle.rsct_packet.specs.declared.ids.ViewId.{ViewId}
 use Rattle.rsct_packet.specs.Search.{Has}
 use Rattle.rsct_packet.specs.Mask.{nodes_of}
 use Rattle.rsct_packet.proofs.HasLaws.{has_append, append_has_right}
-use Rattle.group_entry.specs.declared.entry.Entry.{Entry}
+use Rattle.proposal_core.specs.declared.entry.Entry.{Entry}
 use Rattle.session_state.specs.declared.state.KeptBallot.{KeptBallot}
 use Rattle.view_state.specs.Views.{views_new}
 use Rattle.node_state.specs.declared.config.Config.{Config}

@@ -18,7 +18,7 @@ use Rattle.node_state.specs.Settings.{is_rings}
 use Rattle.node_state.specs.declared.packet.Body.TheVariants as body
 use Rattle.rsct_packet.specs.Search.{Has}
 use Rattle.entry_laws.proofs.closing_rows.At.{Silent}
-use Rattle.group_entry.specs.declared.entry.Entry.TheVariants.{Late}
+use Rattle.proposal_core.specs.declared.entry.Entry.TheVariants.{Late}
 use Rattle.proposal_core.specs.declared.group_state.Running.{Running}
 use Rattle.proposal_core.specs.Fold.{applied, present}
 use Rattle.proposal_core.specs.Lists.{state_in}
@@ -33,7 +33,7 @@ use Rattle.node_state.specs.Leading.{appended_if, with_tally}
 use Rattle.node_state.specs.Applying.{own_parts, views_taken}
 use Rattle.node_state.specs.Ticks.{ring_put, set_records, ring_taken, ring_row_of, ring_row, row_reported, report_row, rings_union, report_of, report_sent, rings_tick, rings_part, ring_ask, views_part, is_lost, lost_told, owed_part, late_appended, announced, ticked_in, tally_ticks, entries_sent, list_sent_again, sent_again, group_ticks, led_part}
 use Rattle.node_state.specs.declared.happened.Happened.{Happened}
-use Rattle.group_entry.specs.declared.entry.Entry.{Entry}
+use Rattle.proposal_core.specs.declared.entry.Entry.{Entry}
 use Rattle.proposal_core.specs.GroupView.{GroupView}
 use Rattle.run_safety.specs.Past.{records_of}
 use Rattle.entry_laws.proofs.closing_rows.At.{found, leads_row}

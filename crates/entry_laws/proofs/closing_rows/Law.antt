@@ -4,7 +4,7 @@ use Rattle.std.specs.Prelude.{fold, reverse}
 use Rattle.rsct_packet.specs.declared.ids.ViewId.{ViewId}
 use Rattle.rsct_packet.specs.Search.{Has}
 use Rattle.rsct_packet.specs.Mask.{nodes_of}
-use Rattle.group_entry.specs.declared.entry.Entry.{Entry}
+use Rattle.proposal_core.specs.declared.entry.Entry.{Entry}
 use Rattle.proposal_core.specs.Fold.{empty_state}
 use Rattle.proposal_core.specs.Lists.{list_or_new, state_in}
 use Rattle.view_state.specs.Views.{views_new}

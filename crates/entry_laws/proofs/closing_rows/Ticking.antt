@@ -2,7 +2,7 @@
 use Rattle.std.proofs.Common.{ℕ, List, Option, Some, None, Bool, true, false, refl, ap, inl, inr}
 use Rattle.std.specs.Prelude.{◌==◌, ◌&&◌, fold}
 use Rattle.rsct_packet.specs.declared.ids.ProviderId.{ProviderId}
-use Rattle.group_entry.specs.declared.entry.Entry.TheVariants.{Late}
+use Rattle.proposal_core.specs.declared.entry.Entry.TheVariants.{Late}
 use Rattle.proposal_core.specs.declared.group_state.Running.{Running}
 use Rattle.proposal_core.specs.Fold.{applied}
 use Rattle.proposal_core.specs.Lists.{state_in}

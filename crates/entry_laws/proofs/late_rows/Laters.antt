@@ -6,7 +6,7 @@ use Rattle.rsct_packet.specs.declared.ids.ProtoId.{ProtoId}
 use Rattle.rsct_packet.specs.Search.{Has}
 use Rattle.rsct_packet.specs.Providers.{among}
 use Rattle.rsct_packet.proofs.HasLaws.{has_append}
-use Rattle.group_entry.specs.declared.entry.Entry.{Entry}
+use Rattle.proposal_core.specs.declared.entry.Entry.{Entry}
 use Rattle.proposal_core.specs.declared.group_state.GroupState.{GroupState}
 use Rattle.subscribe_core.specs.Subs.{is_of_group, differs}
 use Rattle.client_callbacks.specs.declared.ballot.Filled.{Filled}

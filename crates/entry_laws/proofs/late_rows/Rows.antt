@@ -4,9 +4,9 @@ use Rattle.std.specs.Prelude.{fold, filter, not}
 use Rattle.rsct_packet.specs.declared.ids.ProtoId.{ProtoId}
 use Rattle.rsct_packet.specs.declared.ids.ProviderId.{ProviderId}
 use Rattle.rsct_packet.specs.Providers.{among}
-use Rattle.group_entry.specs.declared.proposal.Cause.TheVariants.{Died, Gone}
-use Rattle.group_entry.specs.declared.entry.Entry.{Entry}
-use Rattle.group_entry.specs.declared.entry.Entry.TheVariants.{Late}
+use Rattle.proposal_core.specs.declared.proposal.Cause.TheVariants.{Died, Gone}
+use Rattle.proposal_core.specs.declared.entry.Entry.{Entry}
+use Rattle.proposal_core.specs.declared.entry.Entry.TheVariants.{Late}
 use Rattle.proposal_core.specs.declared.group_state.GroupState.{GroupState}
 use Rattle.proposal_core.specs.Lists.{list_or_new, state_in, with_entry}
 use Rattle.batch_rules.specs.Waiting.{waits_failure}

@@ -9,20 +9,20 @@ use Rattle.rsct_packet.specs.Ids.{last_u32}
 use Rattle.rsct_packet.specs.Providers.{among}
 use Rattle.rsct_packet.specs.Search.{Has}
 use Rattle.rsct_packet.proofs.HasLaws.{find_has, has_map, has_filter}
-use Rattle.group_entry.specs.declared.entry.Entry.{Entry}
-use Rattle.group_entry.specs.declared.entry.Entry.TheVariants.{Late}
+use Rattle.proposal_core.specs.declared.entry.Entry.{Entry}
+use Rattle.proposal_core.specs.declared.entry.Entry.TheVariants.{Late}
 use Rattle.group_attr.specs.declared.attrs.DefaultVote.{DefaultVote}
-use Rattle.group_entry.specs.declared.entry.Vote.{Vote}
-use Rattle.group_entry.specs.declared.entry.Vote.TheVariants as vote
-use Rattle.group_entry.specs.declared.entry.RowVote.{RowVote}
-use Rattle.group_entry.specs.declared.entry.RowVote.TheVariants as row_vote
-use Rattle.group_entry.specs.declared.entry.Row.{Row}
+use Rattle.proposal_core.specs.declared.entry.Vote.{Vote}
+use Rattle.proposal_core.specs.declared.entry.Vote.TheVariants as vote
+use Rattle.proposal_core.specs.declared.entry.RowVote.{RowVote}
+use Rattle.proposal_core.specs.declared.entry.RowVote.TheVariants as row_vote
+use Rattle.proposal_core.specs.declared.entry.Row.{Row}
 use Rattle.proposal_core.specs.declared.group_state.GroupState.{GroupState}
 use Rattle.proposal_core.specs.declared.group_state.Running.{Running}
 use Rattle.proposal_core.specs.GroupView.{GroupView}
 use Rattle.proposal_core.specs.Lists.{list_or_new, state_in, has_room, entry_fits}
 use Rattle.proposal_core.specs.Fold.{max_phases, runs, fits, voters}
-use Rattle.group_entry.specs.Sizes.{closed_len, entry_len}
+use Rattle.proposal_core.specs.Sizes.{closed_len, entry_len}
 use Rattle.vote_phases.specs.declared.voter.Voter.{Voter}
 use Rattle.vote_phases.specs.Tally.{TallyView, tally_new, tally_cast, tally_fail, tally_tick, given, given_to, or_vote, is_voter, is_open, has_open, late_if, passes, counted, expires, open_voters, no_vote, row_or, rows_of, outcome, vote_of_row, answer_of}
 use Rattle.vote_phases.specs.declared.tally.Cast.{Cast}

@@ -9,7 +9,7 @@ use Rattle.rsct_packet.specs.Providers.{among}
 use Rattle.rsct_packet.specs.Search.{Has}
 use Rattle.rsct_packet.proofs.HasLaws.{has_append}
 use Rattle.group_attr.specs.Attrs.{host_membership}
-use Rattle.group_entry.specs.declared.proposal.Cause.TheVariants.{Died}
+use Rattle.proposal_core.specs.declared.proposal.Cause.TheVariants.{Died}
 use Rattle.proposal_core.specs.Fold.{present}
 use Rattle.proposal_core.specs.Lists.{state_in}
 use Rattle.batch_rules.specs.Waiting.{waits_failure}

@@ -1,9 +1,9 @@
 -- Each join is over the source by the records of every node that has so many entries of the source's list.
 use Rattle.std.proofs.Common.{ℕ, List, sym, subst, inl, inr, arith}
 use Rattle.rsct_packet.specs.declared.ids.ViewId.{ViewId}
-use Rattle.group_entry.specs.declared.proposal.Proposal.{Proposal}
-use Rattle.group_entry.specs.declared.proposal.Proposal.TheVariants.{Join, Leave, Fail, Expel, State, Message, Attributes, Reflect}
-use Rattle.group_entry.specs.declared.entry.Entry.{Entry}
+use Rattle.proposal_core.specs.declared.proposal.Proposal.{Proposal}
+use Rattle.proposal_core.specs.declared.proposal.Proposal.TheVariants.{Join, Leave, Fail, Expel, State, Message, Attributes, Reflect}
+use Rattle.proposal_core.specs.declared.entry.Entry.{Entry}
 use Rattle.run_safety.specs.Past.{History, records_of, EachRecord}
 use Rattle.run_safety.specs.Sight.{lines_of}
 use Rattle.run_safety.specs.Bases.{Bases}

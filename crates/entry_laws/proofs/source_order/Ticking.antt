@@ -1,7 +1,7 @@
 -- A tick.
 use Rattle.std.proofs.Common.{ℕ, List, Option, Some, None, Bool, true, false}
 use Rattle.std.specs.Prelude.{◌==◌, ◌&&◌, fold}
-use Rattle.group_entry.specs.declared.entry.Entry.TheVariants.{Late}
+use Rattle.proposal_core.specs.declared.entry.Entry.TheVariants.{Late}
 use Rattle.proposal_core.specs.declared.group_state.Running.{Running}
 use Rattle.vote_phases.specs.Tally.{TallyView, expires, open_voters}
 use Rattle.view_state.specs.Views.{views_at_work, gathering_ticks, install_again}

@@ -9,8 +9,8 @@ use Rattle.rsct_packet.specs.Search.{Has, place_where}
 use Rattle.rsct_packet.proofs.HasLaws.{has_append, append_has_right}
 use Rattle.group_attr.specs.declared.attrs.Attrs.{Attrs}
 use Rattle.group_attr.specs.declared.attrs.Phases.{Phases}
-use Rattle.group_entry.specs.declared.proposal.Proposal.{Proposal}
-use Rattle.group_entry.specs.declared.proposal.Proposal.TheVariants.{Attributes}
+use Rattle.proposal_core.specs.declared.proposal.Proposal.{Proposal}
+use Rattle.proposal_core.specs.declared.proposal.Proposal.TheVariants.{Attributes}
 use Rattle.client_callbacks.specs.declared.ballot.Filled.{Filled}
 use Rattle.subscribe_core.specs.declared.subs.ClientToken.{ClientToken}
 use Rattle.session_state.specs.declared.fault.GsFault.{GsFault}

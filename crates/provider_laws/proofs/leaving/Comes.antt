@@ -11,7 +11,7 @@ use Rattle.proposal_core.specs.Lists.{state_in}
 use Rattle.client_callbacks.specs.declared.told.Why.TheVariants.{Dissolved}
 use Rattle.client_callbacks.specs.declared.ballot.Filled.{Filled}
 use Rattle.group_attr.specs.declared.attrs.Attrs.{Attrs}
-use Rattle.group_entry.specs.declared.entry.Entry.{Entry}
+use Rattle.proposal_core.specs.declared.entry.Entry.{Entry}
 use Rattle.subscribe_core.specs.declared.subs.ClientToken.{ClientToken}
 use Rattle.session_state.specs.declared.state.Provider.{Provider}
 use Rattle.session_state.specs.declared.state.SessionState.{SessionState}

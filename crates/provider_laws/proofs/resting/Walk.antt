@@ -3,8 +3,8 @@ use Rattle.std.proofs.Common.{ℕ, List, Option, Bool, true, false}
 use Rattle.std.specs.Prelude.{fold}
 use Rattle.rsct_packet.specs.declared.ids.ProviderId.{ProviderId}
 use Rattle.group_attr.specs.declared.attrs.Phases.{Phases}
-use Rattle.group_entry.specs.declared.proposal.Proposal.{Proposal}
-use Rattle.group_entry.specs.declared.entry.Entry.{Entry}
+use Rattle.proposal_core.specs.declared.proposal.Proposal.{Proposal}
+use Rattle.proposal_core.specs.declared.entry.Entry.{Entry}
 use Rattle.batch_rules.specs.Waiting.{WaitingView}
 use Rattle.vote_phases.specs.Tally.{TallyView}
 use Rattle.client_callbacks.specs.declared.told.Why.{Why}

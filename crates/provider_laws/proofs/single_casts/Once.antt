@@ -4,7 +4,7 @@ use Rattle.rsct_packet.specs.declared.ids.ProviderId.{ProviderId}
 use Rattle.rsct_packet.specs.declared.ids.ProtoId.{ProtoId}
 use Rattle.rsct_packet.specs.Search.{Has}
 use Rattle.client_callbacks.specs.declared.ballot.Filled.{Filled}
-use Rattle.group_entry.specs.declared.entry.Entry.{Entry}
+use Rattle.proposal_core.specs.declared.entry.Entry.{Entry}
 use Rattle.node_state.specs.declared.happened.Happened.{Happened}
 use Rattle.node_state.specs.declared.happened.Happened.TheVariants as happened
 use Rattle.run_safety.specs.Past.{History, EachRecord, Within, earlier, records_of}

@@ -10,11 +10,11 @@ use Rattle.group_attr.specs.declared.attrs.Attrs.{Attrs}
 use Rattle.group_attr.specs.declared.attrs.Batch.{Batch}
 use Rattle.group_attr.specs.declared.attrs.Phases.{Phases}
 use Rattle.group_attr.specs.Agree.{agree}
-use Rattle.group_entry.specs.declared.proposal.Cause.{Cause}
-use Rattle.group_entry.specs.declared.proposal.Cause.TheVariants.{Died, Gone, Cast}
-use Rattle.group_entry.specs.declared.proposal.Failure.{Failure}
-use Rattle.group_entry.specs.declared.proposal.Proposal.{Proposal}
-use Rattle.group_entry.specs.declared.proposal.Proposal.TheVariants.{Join, Leave, Fail, Expel, State, Message, Attributes, Reflect}
+use Rattle.proposal_core.specs.declared.proposal.Cause.{Cause}
+use Rattle.proposal_core.specs.declared.proposal.Cause.TheVariants.{Died, Gone, Cast}
+use Rattle.proposal_core.specs.declared.proposal.Failure.{Failure}
+use Rattle.proposal_core.specs.declared.proposal.Proposal.{Proposal}
+use Rattle.proposal_core.specs.declared.proposal.Proposal.TheVariants.{Join, Leave, Fail, Expel, State, Message, Attributes, Reflect}
 use Rattle.proposal_core.specs.declared.group_state.GroupState.{GroupState}
 use Rattle.proposal_core.specs.declared.group_state.Running.{Running}
 use Rattle.proposal_core.specs.Fold.{max_providers, joins_of, present}

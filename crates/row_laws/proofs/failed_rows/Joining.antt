@@ -10,8 +10,8 @@ use Rattle.rsct_packet.proofs.HasLaws.{has_append}
 use Rattle.group_attr.specs.declared.attrs.Attrs.{Attrs}
 use Rattle.group_attr.specs.declared.attrs.Phases.{Phases}
 use Rattle.group_attr.specs.declared.attrs.Phases.TheVariants.{One}
-use Rattle.group_entry.specs.declared.proposal.Proposal.{Proposal}
-use Rattle.group_entry.specs.declared.proposal.Proposal.TheVariants.{Join, Attributes}
+use Rattle.proposal_core.specs.declared.proposal.Proposal.{Proposal}
+use Rattle.proposal_core.specs.declared.proposal.Proposal.TheVariants.{Join, Attributes}
 use Rattle.client_callbacks.specs.declared.ballot.Filled.{Filled}
 use Rattle.subscribe_core.specs.Subs.{subscribed, unsubscribed}
 use Rattle.session_state.specs.declared.fault.GsFault.{GsFault}

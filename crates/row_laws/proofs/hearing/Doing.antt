@@ -11,7 +11,7 @@ use Rattle.rsct_packet.specs.Ids.{same_view}
 use Rattle.rsct_packet.specs.Providers.{among}
 use Rattle.rsct_packet.specs.Search.{Has}
 use Rattle.rsct_packet.proofs.HasLaws.{find_has, filter_has, has_map}
-use Rattle.group_entry.specs.declared.entry.Entry.{Entry}
+use Rattle.proposal_core.specs.declared.entry.Entry.{Entry}
 use Rattle.proposal_core.specs.declared.group_state.GroupState.{GroupState}
 use Rattle.proposal_core.specs.Fold.{present}
 use Rattle.proposal_core.specs.GroupView.{GroupView}

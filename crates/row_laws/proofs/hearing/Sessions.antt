@@ -7,8 +7,8 @@ use Rattle.rsct_packet.specs.Providers.{same_provider, among}
 use Rattle.rsct_packet.specs.Search.{Has}
 use Rattle.rsct_packet.proofs.HasLaws.{find_has, has_filter, filter_has}
 use Rattle.group_attr.specs.declared.attrs.Phases.{Phases}
-use Rattle.group_entry.specs.declared.entry.Vote.{Vote}
-use Rattle.group_entry.specs.declared.proposal.Proposal.{Proposal}
+use Rattle.proposal_core.specs.declared.entry.Vote.{Vote}
+use Rattle.proposal_core.specs.declared.proposal.Proposal.{Proposal}
 use Rattle.client_callbacks.specs.declared.told.Why.{Why}
 use Rattle.client_callbacks.specs.declared.ballot.Filled.{Filled}
 use Rattle.client_callbacks.specs.Ballots.{is_within, value_limit}
@@ -17,7 +17,7 @@ use Rattle.session_state.specs.declared.fault.GsFault.{GsFault}
 use Rattle.session_state.specs.declared.fault.GsFault.TheVariants as fault
 use Rattle.session_state.specs.declared.fault.Field.TheVariants as field
 use Rattle.group_attr.specs.declared.attrs.Attrs.{Attrs}
-use Rattle.group_entry.specs.declared.proposal.Proposal.TheVariants.{Attributes}
+use Rattle.proposal_core.specs.declared.proposal.Proposal.TheVariants.{Attributes}
 use Rattle.session_state.specs.declared.state.KeptBallot.{KeptBallot}
 use Rattle.session_state.specs.declared.state.MemberToken.{MemberToken}
 use Rattle.session_state.specs.declared.state.OpenPhase.{OpenPhase}

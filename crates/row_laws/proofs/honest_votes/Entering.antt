@@ -10,8 +10,8 @@ use Rattle.rsct_packet.specs.Providers.{among, differ}
 use Rattle.rsct_packet.specs.Search.{Has}
 use Rattle.rsct_packet.proofs.HasLaws.{has_append, append_has_left, append_has_right, has_map, has_filter, find_has}
 use Rattle.group_attr.specs.Attrs.{host_membership}
-use Rattle.group_entry.specs.declared.proposal.Cause.TheVariants.{Died}
-use Rattle.group_entry.specs.declared.entry.Entry.{Entry}
+use Rattle.proposal_core.specs.declared.proposal.Cause.TheVariants.{Died}
+use Rattle.proposal_core.specs.declared.entry.Entry.{Entry}
 use Rattle.proposal_core.specs.Fold.{present}
 use Rattle.proposal_core.specs.GroupView.{GroupView}
 use Rattle.proposal_core.specs.Lists.{list_or_new, state_in}

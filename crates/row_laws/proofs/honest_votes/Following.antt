@@ -7,10 +7,10 @@ use Rattle.rsct_packet.specs.declared.ids.ProtoId.{ProtoId}
 use Rattle.rsct_packet.specs.Providers.{among, same_provider, differ}
 use Rattle.rsct_packet.specs.Search.{Has}
 use Rattle.group_attr.specs.declared.attrs.Phases.{Phases}
-use Rattle.group_entry.specs.declared.proposal.Cause.TheVariants.{Gone}
-use Rattle.group_entry.specs.declared.proposal.Proposal.{Proposal}
-use Rattle.group_entry.specs.declared.entry.Entry.{Entry}
-use Rattle.group_entry.specs.declared.entry.Vote.{Vote}
+use Rattle.proposal_core.specs.declared.proposal.Cause.TheVariants.{Gone}
+use Rattle.proposal_core.specs.declared.proposal.Proposal.{Proposal}
+use Rattle.proposal_core.specs.declared.entry.Entry.{Entry}
+use Rattle.proposal_core.specs.declared.entry.Vote.{Vote}
 use Rattle.proposal_core.specs.declared.group_state.Running.{Running}
 use Rattle.proposal_core.specs.Fold.{runs, present}
 use Rattle.proposal_core.specs.Lists.{state_in}

@@ -7,7 +7,7 @@ use Rattle.rsct_packet.specs.Search.{Has}
 use Rattle.rsct_packet.specs.Mask.{nodes_of}
 use Rattle.rsct_packet.proofs.HasLaws.{has_append, has_map}
 use Rattle.adapter_ring.specs.declared.ring.Ring.{Ring}
-use Rattle.group_entry.specs.declared.entry.Entry.{Entry}
+use Rattle.proposal_core.specs.declared.entry.Entry.{Entry}
 use Rattle.proposal_core.specs.declared.group_state.GroupState.{GroupState}
 use Rattle.client_callbacks.specs.declared.ballot.Filled.{Filled}
 use Rattle.client_callbacks.specs.Ballots.{BallotView}

@@ -4,7 +4,7 @@ use Rattle.std.specs.Prelude.{map, flat_map}
 use Rattle.rsct_packet.specs.declared.ids.ProviderId.{ProviderId}
 use Rattle.rsct_packet.specs.Search.{Has}
 use Rattle.rsct_packet.proofs.HasLaws.{has_append, has_map}
-use Rattle.group_entry.specs.declared.entry.Entry.{Entry}
+use Rattle.proposal_core.specs.declared.entry.Entry.{Entry}
 use Rattle.proposal_core.specs.declared.group_state.GroupState.{GroupState}
 use Rattle.client_callbacks.specs.declared.ballot.Filled.{Filled}
 use Rattle.client_callbacks.specs.declared.told.Why.{Why}

@@ -9,8 +9,8 @@ use Rattle.rsct_packet.proofs.HasLaws.{has_append, has_filter, append_has_right,
 use Rattle.group_attr.specs.declared.attrs.Attrs.{Attrs}
 use Rattle.group_attr.specs.declared.attrs.Phases.{Phases}
 use Rattle.group_attr.specs.declared.attrs.Phases.TheVariants.{One}
-use Rattle.group_entry.specs.declared.proposal.Proposal.{Proposal}
-use Rattle.group_entry.specs.declared.proposal.Proposal.TheVariants.{Join, Attributes}
+use Rattle.proposal_core.specs.declared.proposal.Proposal.{Proposal}
+use Rattle.proposal_core.specs.declared.proposal.Proposal.TheVariants.{Join, Attributes}
 use Rattle.proposal_core.specs.Fold.{joins_of}
 use Rattle.client_callbacks.specs.declared.ballot.Filled.{Filled}
 use Rattle.subscribe_core.specs.declared.subs.ClientToken.{ClientToken}

@@ -8,8 +8,8 @@ use Rattle.rsct_packet.specs.Providers.{among}
 use Rattle.rsct_packet.specs.Search.{Has}
 use Rattle.rsct_packet.proofs.HasLaws.{has_append}
 use Rattle.group_attr.specs.Attrs.{host_membership}
-use Rattle.group_entry.specs.declared.proposal.Cause.TheVariants.{Died}
-use Rattle.group_entry.specs.declared.entry.Entry.{Entry}
+use Rattle.proposal_core.specs.declared.proposal.Cause.TheVariants.{Died}
+use Rattle.proposal_core.specs.declared.entry.Entry.{Entry}
 use Rattle.batch_rules.specs.Waiting.{waits_failure}
 use Rattle.adapter_ring.specs.declared.ring.Ring.{Ring}
 use Rattle.adapter_ring.specs.declared.ring.RingSet.{RingSet}

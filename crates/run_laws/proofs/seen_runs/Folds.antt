@@ -9,7 +9,7 @@ use Rattle.rsct_packet.specs.Ids.{same_view}
 use Rattle.rsct_packet.specs.Search.{Has}
 use Rattle.rsct_packet.proofs.HasLaws.{append_has_left, append_has_right}
 use Rattle.view_state.proofs.ViewOrder.{same_view_is}
-use Rattle.group_entry.specs.declared.entry.Entry.{Entry}
+use Rattle.proposal_core.specs.declared.entry.Entry.{Entry}
 use Rattle.proposal_core.specs.declared.group_state.GroupState.{GroupState}
 use Rattle.node_state.proofs.NameOrder.{text_same, text_self}
 use Rattle.node_state.specs.declared.config.Config.{Config}

@@ -5,7 +5,7 @@ use Rattle.std.proofs.lemmas.Bool.Decides.{nat_tests}
 use Rattle.rsct_packet.specs.declared.ids.Member.{Member}
 use Rattle.rsct_packet.specs.declared.ids.ViewId.{ViewId}
 use Rattle.rsct_packet.specs.Search.{Has}
-use Rattle.group_entry.specs.declared.entry.Entry.{Entry}
+use Rattle.proposal_core.specs.declared.entry.Entry.{Entry}
 use Rattle.run_safety.specs.ViewOrder.{is_same, Lt, Le}
 use Rattle.run_safety.specs.Group.{member, Standing, Origin, Record, In, Put, Begins, Line, Kept, Noted, kept, puts_from, lines_from}
 use Rattle.run_safety.specs.GroupLists.{puts_of, held_by, held, InOrder, WasIn, From}

@@ -8,7 +8,7 @@ use Rattle.rsct_packet.specs.declared.ids.ProtoId.{ProtoId}
 use Rattle.rsct_packet.specs.declared.ids.ViewId.{ViewId}
 use Rattle.rsct_packet.specs.Search.{Has}
 use Rattle.rsct_packet.proofs.HasLaws.{has_append, has_map}
-use Rattle.group_entry.specs.declared.entry.Entry.{Entry}
+use Rattle.proposal_core.specs.declared.entry.Entry.{Entry}
 use Rattle.proposal_core.specs.Fold.{present}
 use Rattle.proposal_core.specs.Lists.{state_in}
 use Rattle.proposal_core.specs.declared.group_state.GroupState.{GroupState}

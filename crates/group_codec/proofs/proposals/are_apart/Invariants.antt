@@ -1,5 +1,5 @@
 use Rattle.std.proofs.Common.{◌≡◌, length}
-use Rattle.group_entry.specs.ProposalCodec.{failures_differ}
+use Rattle.proposal_core.specs.ProposalCodec.{failures_differ}
 use Rattle.group_codec.proofs.proposals.are_apart.Given as goal
 
 abbrev pub invariant-loop-f : goal.invariant-loop-f

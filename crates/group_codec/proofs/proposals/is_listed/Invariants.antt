@@ -1,6 +1,6 @@
 use Rattle.std.proofs.Common.{◌≡◌, length}
 use Rattle.std.specs.List.{list_any}
-use Rattle.group_entry.specs.ProposalCodec.{same_failure}
+use Rattle.proposal_core.specs.ProposalCodec.{same_failure}
 use Rattle.group_codec.proofs.proposals.is_listed.Given as goal
 
 abbrev pub invariant-loop-g : goal.invariant-loop-g

@@ -1,5 +1,5 @@
 use Rattle.std.proofs.Common.{append_assoc, arith}
-use Rattle.group_entry.specs.ProposalCodec.{proposal_text, fallen_text}
+use Rattle.proposal_core.specs.ProposalCodec.{proposal_text, fallen_text}
 use Rattle.group_codec.proofs.proposals.put_parts.Goals as goal
 
 pub returns-in_ok-put_attrs-in-Join : goal.returns-in_ok-put_attrs-in-Join

@@ -3,7 +3,7 @@ use Rattle.net_script.proofs.FlowLaws.{packet_given, packet_lost}
 use Rattle.net_script.proofs.flowing.pass.Goals as goal
 
 pub returns-then-is_given-clause-outcome : goal.returns-then-is_given-clause-outcome
-returns-then-is_given-clause-outcome g c = packet_given c.happen.result c.args.kinds _ _ c.args.stage.now c.happen.new.stage c.args.x _ c.is_given.ensures c.if-is_given.true c.happen.ensures.outcome
+returns-then-is_given-clause-outcome g c = packet_given c.play_event.result c.args.kinds _ _ c.args.stage.now c.play_event.new.stage c.args.x _ c.is_given.ensures c.if-is_given.true c.play_event.ensures.outcome
 
 pub returns-else-is_given-clause-outcome : goal.returns-else-is_given-clause-outcome
 returns-else-is_given-clause-outcome g c =

@@ -10,8 +10,8 @@ use Rattle.net_script.proofs.lines.play_line.Goals as goal
 pub returns-in-Plain-clause-outcome : goal.returns-in-Plain-clause-outcome
 returns-in-Plain-clause-outcome g c p v h =
     subst
-    (λ l. LeadsTo g.C.Callbacks.script g.C.Made.script_of g.C.Callbacks.stands_for c.happen.result c.args.kinds (g.K.Sink.held c.args.out.now) (g.K.Sink.held c.happen.new.out) c.args.stage.now c.happen.new.stage p (PlaysLine g.C.Made.script_of p l) v)
-    (sym c.in-Plain.is) (c.happen.ensures.outcome p v h)
+    (λ l. LeadsTo g.C.Callbacks.script g.C.Made.script_of g.C.Callbacks.stands_for c.play_event.result c.args.kinds (g.K.Sink.held c.args.out.now) (g.K.Sink.held c.play_event.new.out) c.args.stage.now c.play_event.new.stage p (PlaysLine g.C.Made.script_of p l) v)
+    (sym c.in-Plain.is) (c.play_event.ensures.outcome p v h)
 
 pub returns-in-Flow-clause-outcome : goal.returns-in-Flow-clause-outcome
 returns-in-Flow-clause-outcome g c p v h =

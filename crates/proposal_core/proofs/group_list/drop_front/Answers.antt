@@ -1,6 +1,6 @@
 use Rattle.std.proofs.Common.{List, ap, ◌∙◌, drop}
 use Rattle.std.proofs.lemmas.List.{drop-drop}
-use Rattle.group_entry.specs.declared.entry.Entry.{Entry}
+use Rattle.proposal_core.specs.declared.entry.Entry.{Entry}
 use Rattle.proposal_core.proofs.group_list.drop_front.Goals as goal
 
 pub loop-i-preserved : goal.loop-i-preserved

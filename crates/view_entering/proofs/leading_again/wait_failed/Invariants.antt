@@ -1,7 +1,7 @@
 -- Those so far wait.
 use Rattle.std.proofs.Common.{◌≡◌, take}
 use Rattle.std.specs.List.{fold}
-use Rattle.group_entry.specs.declared.proposal.Cause.TheVariants.{Died}
+use Rattle.proposal_core.specs.declared.proposal.Cause.TheVariants.{Died}
 use Rattle.batch_rules.specs.Waiting.{waits_failure}
 use Rattle.node_groups.specs.Keeps.{Keeps}
 use Rattle.node_state.specs.Leading.{with_waiting}

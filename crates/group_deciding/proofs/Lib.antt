@@ -1,0 +1,6 @@
+pub mod RefusingLaws
+pub mod DecidingLaws
+pub mod QueueLaws
+pub mod PassLaws
+pub mod EndingLaws
+pub mod TakingLaws

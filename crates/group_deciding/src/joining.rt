@@ -1,0 +1,141 @@
+//! Deciding a join: it is refused, or it waits.
+ghost use Rattle.std.specs.Prelude.{◌≡◌, [], IfOk, OnOk};
+ghost use Rattle.batch_rules.specs.Next.{added_as};
+ghost use Rattle.batch_rules.specs.declared.waiting.Added.TheVariants.{Queued};
+ghost use Rattle.proposal_core.specs.Fold.{joins_of, joiners_in, present};
+ghost use Rattle.node_state.specs.State.{InNameOrder, led_of, state_of};
+ghost use Rattle.node_state.specs.Deciding.{is_idle_empty, meant_attrs, join_refusal, join_waits, decided_join};
+ghost use Rattle.node_groups.specs.Keeps.{Keeps};
+
+use crate::limits::full_refusal;
+use crate::queue::{is_duplicate, queue_join};
+use crate::refusing::refuse;
+use crate::sources::{lacks_source, source_len};
+use client_callbacks::Why;
+use group_attr::Attrs;
+use node_groups::{keep_decision, open, state_of, waiting_joins};
+use node_state::Core;
+use proposal_core::{GroupState, Proposal, Running};
+use rsct_packet::{List, MAX_PROVIDERS, Name, NoMemory, ProviderId};
+use std::alloc::Global;
+
+/// The providers of a join.
+fn joins_of(x: &Proposal) -> &[ProviderId]
+    ensures { result.now ≡ joins_of x.now }
+{
+    match x {
+        Proposal::Join { ps, .. } => ps.as_slice(),
+        _ => &[],
+    }
+}
+
+/// The running joiners.
+fn joiners_in(running: &Option<Running>) -> &[ProviderId]
+    ensures { result.now ≡ joiners_in running.now }
+{
+    match running {
+        None => &[],
+        Some(run) => joins_of(&run.proposal),
+    }
+}
+
+/// The members, then the running joiners.
+fn present(alloc: Global, state: &GroupState) -> Result<List<ProviderId>, NoMemory>
+    ensures { IfOk result (λ ps. ps ≡ present state.now) }
+{
+    let mut ps = List::of(alloc, state.members.as_slice())?;
+    ps.extend(joiners_in(&state.running))?;
+    Ok(ps)
+}
+
+/// Is nobody there, and does nothing run?
+#[tactic(auto, unfolding(node_state::specs::Deciding::is_idle_empty))]
+fn is_idle_empty(state: &GroupState) -> bool
+    ensures { result ≡ is_idle_empty state.now }
+{
+    state.members.as_slice().is_empty() && state.running.is_none()
+}
+
+/// The source that is meant: in an empty idle group that of the request, else the group's own.
+#[tactic(auto, unfolding(node_state::specs::Deciding::meant_attrs))]
+fn meant_source<'a>(state: &'a GroupState, a: &'a Attrs, idle: bool) -> &'a Option<Name>
+    ensures { result.now ≡ (meant_attrs state.now a.now idle).source }
+{
+    if idle { &a.source } else { &state.attrs.source }
+}
+
+/// Why a join is refused: the first that holds of bad attributes, a duplicate, a missing source, a full group and a
+/// full list.
+#[tactic(auto, unfolding(node_state::specs::Deciding::join_refusal, node_state::specs::Deciding::full_refusal), using(std::proofs::lemmas::Grind::common_steps))]
+fn join_refusal(
+    core: &Core,
+    alloc: Global,
+    g: &[u8],
+    p: ProviderId,
+    a: &Attrs,
+    state: &GroupState,
+) -> Result<Option<Why>, NoMemory>
+    requires { state.now ≡ state_of core.now g.now }
+    ensures { IfOk result (λ y. y ≡ join_refusal core.now g.now p a.now) }
+{
+    let idle = is_idle_empty(state);
+    if !idle && !a.agrees(&state.attrs) {
+        return Ok(Some(Why::BadAttributes));
+    }
+    let ps = present(alloc, state)?;
+    if is_duplicate(core, g, p, ps.as_slice()) {
+        return Ok(Some(Why::DuplicateInstance));
+    }
+    let source = meant_source(state, a, idle);
+    if lacks_source(core, source, p.node) {
+        return Ok(Some(Why::NoSource(source_len(core, source))));
+    }
+    if ps.len() + waiting_joins(core, g) >= MAX_PROVIDERS {
+        return Ok(Some(Why::GroupFull(MAX_PROVIDERS as u32)));
+    }
+    if state.running.is_some() {
+        return Ok(None);
+    }
+    Ok(full_refusal(core, g))
+}
+
+/// A join waits, and this decision is kept.
+#[tactic(auto, unfolding(node_state::specs::Deciding::join_waits, node_state::specs::State::with_led, node_state::specs::State::with_row), using(node_groups::proofs::RowLaws::set_is_row, node_groups::proofs::RowLaws::opened_within, crate::proofs::DecidingLaws::still_free, std::proofs::lemmas::Grind::common_steps))]
+fn wait_join(
+    core: &mut Core,
+    alloc: Global,
+    g: &Name,
+    p: ProviderId,
+    r: u32,
+    a: &Attrs,
+    idle: bool,
+) -> Result<(), NoMemory>
+    requires order { InNameOrder core.old.groups }
+    requires free { added_as p [] (led_of core.old g.now).waiting ≡ Queued }
+    ensures { OnOk result (core.new ≡ join_waits core.old g.now p r a.now idle) }
+{
+    keep_decision(core, alloc, g, p, r, None)?;
+    let i = open(&mut core.groups, alloc, g)?;
+    queue_join(&mut core.groups.rows[i], alloc, p, a, idle)
+}
+
+/// Decides a join: it waits or is refused.
+#[tactic(auto, unfolding(node_state::specs::Deciding::decided_join), using(crate::proofs::DecidingLaws::join_free, crate::proofs::DecidingLaws::waiting_keeps))]
+pub(crate) fn decide_join(
+    core: &mut Core,
+    alloc: Global,
+    g: &Name,
+    p: ProviderId,
+    r: u32,
+    a: &Attrs,
+) -> Result<(), NoMemory>
+    requires order { InNameOrder core.old.groups }
+    ensures row { OnOk result (core.new ≡ decided_join core.old g.now p r a.now (join_refusal core.old g.now p a.now)) }
+    ensures keeps { OnOk result (Keeps core.old core.new) }
+{
+    let state = state_of(core, alloc, g.bytes())?;
+    match join_refusal(core, alloc, g.bytes(), p, a, &state)? {
+        None => wait_join(core, alloc, g, p, r, a, is_idle_empty(&state)),
+        Some(y) => refuse(core, alloc, g, p, r, y),
+    }
+}

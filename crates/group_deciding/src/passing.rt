@@ -1,0 +1,152 @@
+//! A pass over the groups that the node leads.
+ghost use Rattle.std.specs.Prelude.{◌≡◌, IfOk, OnOk, fold, length, map};
+ghost use Rattle.group_leading.specs.Working.{AtWork};
+ghost use Rattle.node_state.specs.State.{row_of, list_of, led_of};
+ghost use Rattle.node_state.specs.Ending.{quiet, failures_begin, or_due, or_joins, may_begin, first_begins, group_begins, one_pass};
+ghost use Rattle.entry_handing.specs.Received.{Receive};
+ghost use Rattle.group_deciding.specs.Passing.{passed, DoesPass};
+
+use crate::beginning_failures::begin_failures;
+use crate::beginning_joins::begin_joins;
+use crate::limits::is_at_limit;
+use crate::owing::begin_due;
+use client_callbacks::Callbacks;
+use node_groups::{led_groups, list_of, waiting_failures, waiting_joins};
+use node_state::Core;
+use rsct_packet::{Name, NoMemory};
+use std::alloc::Global;
+
+/// Does nothing run in the group, and is its list below its limits?
+#[tactic(auto, unfolding(node_state::specs::Ending::may_begin, node_state::specs::State::list_of, proposal_core::specs::Lists::is_at_limit))]
+fn may_begin(core: &Core, g: &[u8]) -> bool
+    ensures { result ≡ may_begin (list_of core.now g.now) }
+{
+    match list_of(core, g) {
+        None => true,
+        Some(list) => list.state().running.is_none() && !is_at_limit(list),
+    }
+}
+
+/// The first begins of what is due of the group's source, and waiting joins. Has something begun?
+#[tactic(auto, unfolding(node_state::specs::Ending::or_due, node_state::specs::Ending::or_joins))]
+fn begin_due_or_joins<C: Callbacks>(
+    core: &mut Core,
+    clients: &mut Vec<C>,
+    alloc: Global,
+    g: &Name,
+) -> Result<bool, NoMemory>
+    requires work { AtWork core.old clients.old.items }
+    ensures work { OnOk result (AtWork core.new clients.new.items) }
+    ensures scripts { OnOk result (map C.script clients.new.items ≡ map C.script clients.old.items) }
+    ensures does { IfOk result (λ began. DoesPass (map C.script clients.old.items) (Receive C.stands_for clients.old.items clients.new.items) core.old core.new began (λ f. or_joins f g.now (or_due f g.now (quiet core.old)))) }
+{
+    if begin_due(core, clients, alloc, g)? {
+        return Ok(true);
+    }
+    let joins = waiting_joins(core, g.bytes());
+    begin_joins(core, clients, alloc, g, joins)
+}
+
+/// The first begins of waiting failures, what is due of the group's source, and waiting joins. Has something begun?
+#[tactic(auto, unfolding(node_state::specs::Ending::or_due, node_state::specs::Ending::or_joins))]
+fn begin_waiting<C: Callbacks>(
+    core: &mut Core,
+    clients: &mut Vec<C>,
+    alloc: Global,
+    g: &Name,
+) -> Result<bool, NoMemory>
+    requires work { AtWork core.old clients.old.items }
+    ensures work { OnOk result (AtWork core.new clients.new.items) }
+    ensures scripts { OnOk result (map C.script clients.new.items ≡ map C.script clients.old.items) }
+    ensures does { IfOk result (λ began. DoesPass (map C.script clients.old.items) (Receive C.stands_for clients.old.items clients.new.items) core.old core.new began (λ f. or_joins f g.now (or_due f g.now (failures_begin (length (led_of core.old g.now).waiting.failures) f core.old g.now)))) }
+{
+    let failures = waiting_failures(core, g.bytes());
+    if begin_failures(core, clients, alloc, g, failures)? {
+        return Ok(true);
+    }
+    begin_due_or_joins(core, clients, alloc, g)
+}
+
+/// What waits begins in a group where nothing runs and whose list is not full. Has something begun?
+#[tactic(auto, unfolding(node_state::specs::Ending::first_begins, node_state::specs::State::list_of, node_state::specs::State::led_of))]
+fn begin_first<C: Callbacks>(
+    core: &mut Core,
+    clients: &mut Vec<C>,
+    alloc: Global,
+    g: &Name,
+) -> Result<bool, NoMemory>
+    requires work { AtWork core.old clients.old.items }
+    ensures work { OnOk result (AtWork core.new clients.new.items) }
+    ensures scripts { OnOk result (map C.script clients.new.items ≡ map C.script clients.old.items) }
+    ensures does { IfOk result (λ began. DoesPass (map C.script clients.old.items) (Receive C.stands_for clients.old.items clients.new.items) core.old core.new began (λ f. first_begins f core.old g.now (row_of core.old g.now))) }
+{
+    if !may_begin(core, g.bytes()) {
+        return Ok(false);
+    }
+    begin_waiting(core, clients, alloc, g)
+}
+
+/// What waits begins in a group, at most `n` times, until nothing begins. Has something begun, here or before?
+#[tactic(auto, unfolding(node_state::specs::Ending::group_begins))]
+fn begin_in_group<C: Callbacks>(
+    core: &mut Core,
+    clients: &mut Vec<C>,
+    alloc: Global,
+    g: &Name,
+    n: u128,
+    began: bool,
+) -> Result<bool, NoMemory>
+    requires work { AtWork core.old clients.old.items }
+    ensures work { OnOk result (AtWork core.new clients.new.items) }
+    ensures scripts { OnOk result (map C.script clients.new.items ≡ map C.script clients.old.items) }
+    ensures does { IfOk result (λ b. DoesPass (map C.script clients.old.items) (Receive C.stands_for clients.old.items clients.new.items) core.old core.new b (λ f. group_begins n f g.now (passed core.old began))) }
+{
+    if n == 0 {
+        return Ok(began);
+    }
+    if !begin_first(core, clients, alloc, g)? {
+        return Ok(began);
+    }
+    begin_in_group(core, clients, alloc, g, n - 1, true)
+}
+
+/// What waits begins in each of these groups. Has something begun, here or before?
+fn begin_in_each<C: Callbacks>(
+    core: &mut Core,
+    clients: &mut Vec<C>,
+    alloc: Global,
+    names: &[Name],
+    most: u128,
+    began: bool,
+) -> Result<bool, NoMemory>
+    requires work { AtWork core.old clients.old.items }
+    ensures work { OnOk result (AtWork core.new clients.new.items) }
+    ensures scripts { OnOk result (map C.script clients.new.items ≡ map C.script clients.old.items) }
+    ensures does { IfOk result (λ b. DoesPass (map C.script clients.old.items) (Receive C.stands_for clients.old.items clients.new.items) core.old core.new b (λ f. fold (λ p g. group_begins most f g p) (passed core.old began) names.now)) }
+{
+    match names {
+        [] => Ok(began),
+        [g, rest @ ..] => {
+            let began = begin_in_group(core, clients, alloc, g, most, began)?;
+            begin_in_each(core, clients, alloc, rest, most, began)
+        }
+    }
+}
+
+/// Passes over the groups that the node leads, in name order, and in each, at most `most` times, what waits begins.
+/// Has something begun?
+#[tactic(auto, unfolding(node_state::specs::Ending::one_pass))]
+pub fn pass<C: Callbacks>(
+    core: &mut Core,
+    clients: &mut Vec<C>,
+    alloc: Global,
+    most: u128,
+) -> Result<bool, NoMemory>
+    requires work { AtWork core.old clients.old.items }
+    ensures work { OnOk result (AtWork core.new clients.new.items) }
+    ensures scripts { OnOk result (map C.script clients.new.items ≡ map C.script clients.old.items) }
+    ensures does { IfOk result (λ began. DoesPass (map C.script clients.old.items) (Receive C.stands_for clients.old.items clients.new.items) core.old core.new began (λ f. one_pass most f core.old)) }
+{
+    let names = led_groups(core, alloc)?;
+    begin_in_each(core, clients, alloc, names.as_slice(), most, false)
+}

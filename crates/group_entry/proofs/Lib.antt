@@ -1,2 +1,0 @@
-pub mod FailureFormat
-pub mod RowFormat

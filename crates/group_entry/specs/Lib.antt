@@ -1,3 +1,0 @@
-pub mod EntryCodec
-pub mod ProposalCodec
-pub mod Sizes

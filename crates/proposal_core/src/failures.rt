@@ -1,0 +1,76 @@
+//! How a failure is spelled: the provider, and a byte for the cause.
+ghost use Rattle.std.specs.Prelude.{◌≡◌};
+ghost use Rattle.rsct_packet.specs.Reading.{Gives};
+ghost use Rattle.proposal_core.specs.ProposalCodec.{cause_number, cause_at, failure_at, same_failure};
+
+use crate::proposal::{Cause, Failure};
+use rsct_packet::{Item, NoMemory, known, put_provider, put_u8, read_provider, read_u8};
+
+fn cause_number(cause: Cause) -> u8
+    ensures { result ≡ cause_number cause }
+{
+    match cause {
+        Cause::Died => 1,
+        Cause::Gone => 2,
+        Cause::Cast => 3,
+    }
+}
+
+#[tactic(auto, unfolding(crate::specs::ProposalCodec::cause_at))]
+fn read_cause(b: &[u8]) -> Option<(Cause, &[u8])>
+    ensures { Gives result (cause_at b.now) }
+{
+    let (n, b) = read_u8(b)?;
+    match n {
+        1 => Some((Cause::Died, b)),
+        2 => Some((Cause::Gone, b)),
+        3 => Some((Cause::Cast, b)),
+        _ => None,
+    }
+}
+
+fn read_failure(b: &[u8]) -> Option<(Failure, &[u8])>
+    ensures { Gives result (failure_at b.now) }
+{
+    let (p, b) = read_provider(b)?;
+    let (cause, b) = read_cause(b)?;
+    Some((Failure { p, cause }, b))
+}
+
+impl Item for Failure {
+    ghost use Rattle.rsct_packet.specs.Fields.{IsNode};
+    ghost use Rattle.proposal_core.specs.ProposalCodec.{failure_at, failure_text, IsFailure};
+
+    ghost read_at = { failure_at };
+
+    ghost text = { failure_text };
+
+    ghost fits = { IsFailure };
+
+    ghost can_put = { λ x. IsNode x.p.node };
+
+    #[tactic(auto, using(rsct_packet::proofs::FormatLaws::gives_found, rsct_packet::proofs::FormatLaws::gives_only, crate::proofs::FailureFormat::failure_format))]
+    fn read(b: &[u8]) -> Option<(Failure, &[u8])> {
+        read_failure(known(b))
+    }
+
+    fn put(&self, out: &mut Vec<u8>) -> Result<(), NoMemory> {
+        let before = out.len();
+        put_provider(out, self.p)?;
+        if let Err(e) = put_u8(out, cause_number(self.cause)) {
+            out.truncate(before);
+            return Err(e);
+        }
+        Ok(())
+    }
+
+    #[tactic(auto, using(crate::proofs::FailureFormat::failure_format))]
+    fn format_law() {}
+}
+
+/// Is it the same provider with the same cause?
+pub fn is_same_failure(a: &Failure, b: &Failure) -> bool
+    ensures { result ≡ same_failure a.now b.now }
+{
+    a.p == b.p && cause_number(a.cause) == cause_number(b.cause)
+}

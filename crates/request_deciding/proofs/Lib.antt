@@ -1,3 +1,0 @@
-pub mod RefusingLaws
-pub mod DecidingLaws
-pub mod QueueLaws
