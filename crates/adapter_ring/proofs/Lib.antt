@@ -1,3 +1,4 @@
+pub mod Below
 pub mod AddressLaws
 pub mod Parts
 pub mod Works

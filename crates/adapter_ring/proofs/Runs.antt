@@ -3,11 +3,11 @@ use Rattle.std.proofs.Common.{◌≡◌, ℕ, ◌<◌, ◌≤◌, ◌⊎◌, Boo
 use Rattle.std.specs.Prelude.{◌==◌, ◌&&◌, ◌||◌, not, nat_lt, map, filter, find, is_none, slice_get}
 use Rattle.std.specs.List.{list_all}
 use Rattle.std.proofs.lemmas.Bool.{and_parts, or_cases, eqb-false, eq-eqb, not-true, ltb-true}
-use Rattle.rsct_packet.specs.declared.ids.RingId.{RingId}
-use Rattle.rsct_packet.specs.declared.mask.Mask.{Mask}
-use Rattle.rsct_packet.specs.Mask.{no_nodes, with_node}
-use Rattle.rsct_packet.specs.Search.{Has}
-use Rattle.rsct_packet.proofs.HasLaws.{all_has, find_has, find_none, get_has, has_filter, has_append, has_map}
+use Rattle.ring_commit.specs.rsct_packet.declared.ids.RingId.{RingId}
+use Rattle.ring_commit.specs.rsct_packet.declared.mask.Mask.{Mask}
+use Rattle.ring_commit.specs.rsct_packet.Mask.{no_nodes, with_node}
+use Rattle.ring_commit.specs.rsct_packet.Search.{Has}
+use Rattle.ring_commit.proofs.rsct_packet_laws.HasLaws.{all_has, find_has, find_none, get_has, has_filter, has_append, has_map}
 use Rattle.adapter_ring.specs.declared.packet.RingEvent.{RingEvent}
 use Rattle.adapter_ring.specs.declared.packet.RingEvent.TheVariants.{Tick, Packet}
 use Rattle.adapter_ring.specs.declared.ring.Ring.{Ring}
@@ -16,7 +16,7 @@ use Rattle.adapter_ring.specs.declared.ring.RingSettings.{RingSettings}
 use Rattle.adapter_ring.specs.declared.ring.Gathering.{Gathering}
 use Rattle.adapter_ring.specs.declared.work.RingWork.{RingWork}
 use Rattle.adapter_ring.specs.Addresses.{addr_of, has_addr, neighbour_in}
-use Rattle.adapter_ring.specs.Rings.{neighbour, ring_new, ring_stepped}
+use Rattle.adapter_ring.specs.Rings.{neighbour, ring_new, ring_step}
 use Rattle.adapter_ring.specs.Network.{Happening, Starts, Stops, Ticks, Given, Sent, Told, Started, Network, quiet, ring_at, may_start, ring_told, ring_started, sent_by, told_by, with_ring, step_taken, stepped_in, given_in, happens, after}
 use Rattle.adapter_ring.specs.Agreement.{AddressesDiffer, IsNeighbour, RingsAgree}
 use Rattle.adapter_ring.proofs.AddressLaws.{neighbour_is, greatest_alone}
@@ -138,7 +138,7 @@ stepped_fine s differ w e n f ok = by (find (λ (r : Ring). r.me == n) w.rings) 
     by (Some r) g =
         let h = (find_has (λ (q : Ring). q.me == n) w.rings r g).0 in
         let o = stepped_ok s differ f.made r e f.books (f.ring r h) ok in
-        taken_fine s w r (ring_stepped r e) f o.0 h o.1
+        taken_fine s w r (ring_step r e) f o.0 h o.1
 
 given_fine : (s : RingSettings) (differ : AddressesDiffer s) (w : Network) (k : ℕ) → Fine s w → Fine s (given_in w (slice_get w.sent k))
 unfolding given_in

@@ -2,13 +2,13 @@
 use Rattle.std.proofs.Common.{◌≡◌, ◌≢◌, ℕ, ◌+◌, ◌*◌, ◌≤◌, true, false, List, [], ◌∷◌, ◌++◌, Option, Some, None, refl, sym, ap, ◌∙◌, subst, inl, inr, ⊎_elim, arith}
 use Rattle.std.specs.Prelude.{◌==◌, ◌&&◌, not, nat_le, map, is_none, IsTrue}
 use Rattle.std.proofs.lemmas.Bool.{and_parts, or_cases, eqb-true, eqb-false, not-true}
-use Rattle.rsct_packet.specs.declared.ids.RingId.{RingId}
-use Rattle.rsct_packet.specs.declared.mask.Mask.{Mask}
-use Rattle.rsct_packet.specs.Ids.{same_ring, last_u32, risen}
-use Rattle.rsct_packet.specs.Mask.{no_nodes, has_node, with_node, without_node, union_of, nodes_of}
-use Rattle.rsct_packet.specs.Search.{Has}
-use Rattle.rsct_packet.proofs.HasLaws.{all_has, has_append, has_map}
-use Rattle.rsct_packet.proofs.MaskLaws.{has_listed}
+use Rattle.ring_commit.specs.rsct_packet.declared.ids.RingId.{RingId}
+use Rattle.ring_commit.specs.rsct_packet.declared.mask.Mask.{Mask}
+use Rattle.ring_commit.specs.rsct_packet.Ids.{same_ring, last_u32, risen}
+use Rattle.ring_commit.specs.rsct_packet.Mask.{no_nodes, has_node, with_node, without_node, union_of, nodes_of}
+use Rattle.ring_commit.specs.rsct_packet.Search.{Has}
+use Rattle.ring_commit.proofs.rsct_packet_laws.HasLaws.{all_has, has_append, has_map}
+use Rattle.ring_commit.proofs.rsct_packet_laws.MaskLaws.{has_listed}
 use Rattle.ring_commit.specs.declared.gather.Gather.{Gather}
 use Rattle.ring_commit.specs.Gather.{gather_opened, is_awaited, gather_acked, all_acked}
 use Rattle.adapter_ring.specs.declared.packet.RingPacket.{RingPacket}
@@ -21,7 +21,7 @@ use Rattle.adapter_ring.specs.declared.ring.RingSettings.{RingSettings}
 use Rattle.adapter_ring.specs.declared.ring.Gathering.{Gathering}
 use Rattle.adapter_ring.specs.declared.work.RingWork.{RingWork}
 use Rattle.adapter_ring.specs.Addresses.{has_addr, outside, is_higher, neighbour_in, crown_prince_in}
-use Rattle.adapter_ring.specs.Rings.{ring_sent, ring_sent_all, ring_set, ring_closed, ring_gathering, next_ring, ring_numbered, ring_gathers_on, ring_gathers, ring_alone, heartbeat_sent, ring_proclaimed, ring_beats, buries, death_counts, death_row, death_told, ring_waited, ring_waits, ring_ages_of, ring_ages, ring_tick, heartbeat_row, proclaim_row, is_lower, all_lower, takes_join, join_row, ptc_row, ack_row_of, ack_row, commit_row, packet_row, ring_row, at_work, ring_stepped, is_shared, neighbour, upstream, death_told_to, patience, ring_leads, crown_prince, answers_proclaim, may_promise, is_promised}
+use Rattle.adapter_ring.specs.Rings.{ring_send, ring_send_all, ring_set, ring_close, ring_gathering, next_ring, ring_numbered, ring_gather_on, ring_gather, ring_alone, send_heartbeat, ring_proclaim, ring_beat, buries, death_counts, death_row, tell_death, ring_wait_on, ring_wait, ring_ages_of, ring_age, ring_tick, heartbeat_row, proclaim_row, is_lower, all_lower, takes_join, join_row, ptc_row, ack_row_of, ack_row, commit_row, packet_row, ring_row, at_work, ring_step, is_shared, neighbour, upstream, death_told_to, patience, ring_leads, crown_prince, answers_proclaim, may_promise, is_promised}
 use Rattle.adapter_ring.specs.Agreement.{AddressesDiffer, HasGreatest, IsNeighbour}
 use Rattle.adapter_ring.proofs.AddressLaws.{higher_lt, neighbour_is, greatest_alone, greatest_without, greatest_union, greatest_with, prince_greatest}
 use Rattle.adapter_ring.proofs.Parts.{Made, Books, GatheringOk, GathersOk, RingOk, PacketOk, WorkOk, books_more, sets_kept, packet_kept, gathers_later, either}
@@ -77,14 +77,14 @@ module _ (s : RingSettings) (differ : AddressesDiffer s) (n inc : ℕ) (before :
         set = o.set;
       }
 
-  sent : (made : List Made) (w : RingWork) (to : ℕ) (p : RingPacket) → Ok made w → PacketOk made p → Ok made (ring_sent w to p)
-  unfolding ring_sent
+  sent : (made : List Made) (w : RingWork) (to : ℕ) (p : RingPacket) → Ok made w → PacketOk made p → Ok made (ring_send w to p)
+  unfolding ring_send
   sent made w to p o h =
       let x : RingSend = record { network = w.ring.net; to = to; packet = p } in
       sends_more made w (x ∷ []) o (λ y t. ⊎_elim (λ (e : y ≡ x). subst (λ (z : RingSend). PacketOk made z.packet) (sym e) h) (λ (f : ⊥). absurd f) t)
 
-  sent_all : (made : List Made) (w : RingWork) (to : List ℕ) (p : RingPacket) → Ok made w → PacketOk made p → Ok made (ring_sent_all w to p)
-  unfolding ring_sent_all
+  sent_all : (made : List Made) (w : RingWork) (to : List ℕ) (p : RingPacket) → Ok made w → PacketOk made p → Ok made (ring_send_all w to p)
+  unfolding ring_send_all
   sent_all made w to p o h =
       let f : ℕ → RingSend = λ k. record { network = w.ring.net; to = k; packet = p } in
       sends_more made w (map f to) o (λ y t. (let m = has_map f y to t in subst (λ (z : RingSend). PacketOk made z.packet) (sym m.2) h))
@@ -132,18 +132,18 @@ module _ (s : RingSettings) (differ : AddressesDiffer s) (n inc : ℕ) (before :
         set = sets_kept s made (a ∷ made) (λ b h. inr h) w.ring.me w.set o.set;
       }
 
-  closed : (made : List Made) (w : RingWork) (g : Gather) → Ok made w → GatheringOk s made w.ring.me w.ring.inc w.ring.last g → Ok (record { id = g.id; members = g.acked } ∷ made) (ring_closed w g)
-  unfolding ring_closed
+  closed : (made : List Made) (w : RingWork) (g : Gather) → Ok made w → GatheringOk s made w.ring.me w.ring.inc w.ring.last g → Ok (record { id = g.id; members = g.acked } ∷ made) (ring_close w g)
+  unfolding ring_close
   closed made w g o h =
       let v : RingWork = record w { ring = record (w.ring) { gathering = None } } in
       let more : List Made = record { id = g.id; members = g.acked } ∷ made in
       let p = booked made v g.id g.acked (gathering made w None w.ring.promised o tt) (λ m. tt) h.leader h.life h.number h.fresh h.acked in
       sent_all more (ring_set v g.id g.acked) (nodes_of (without_node g.acked w.ring.me)) (Commit g.id g.acked) (set_to more v g.id g.acked p (inl refl) h.acked.among) (inl refl)
 
-  gathers_on : (made : List Made) (w : RingWork) (g : Gathering) → Ok made w → GatheringOk s made w.ring.me w.ring.inc w.ring.last g.gather → Well (ring_gathers_on w g)
-  unfolding ring_gathers_on ring_gathering
+  gathers_on : (made : List Made) (w : RingWork) (g : Gathering) → Ok made w → GatheringOk s made w.ring.me w.ring.inc w.ring.last g.gather → Well (ring_gather_on w g)
+  unfolding ring_gather_on ring_gathering
   gathers_on made w g o h =
-      either Well (all_acked g.gather) (ring_closed w g.gather) (ring_gathering w g)
+      either Well (all_acked g.gather) (ring_close w g.gather) (ring_gathering w g)
       (λ e. (record { id = g.gather.id; members = g.gather.acked } ∷ made, closed made w g.gather o h))
       (λ e. (made, gathering made w (Some g) w.ring.promised o h))
 
@@ -177,13 +177,13 @@ module _ (s : RingSettings) (differ : AddressesDiffer s) (n inc : ℕ) (before :
         set = o.set;
       }
 
-  gathers : (made : List Made) (w : RingWork) (asked : Mask) → Ok made w → HasGreatest s w.ring.me asked → Well (ring_gathers w asked)
-  unfolding ring_gathers ring_numbered ring_sent_all next_ring gather_opened
+  gathers : (made : List Made) (w : RingWork) (asked : Mask) → Ok made w → HasGreatest s w.ring.me asked → Well (ring_gather w asked)
+  unfolding ring_gather ring_numbered ring_send_all next_ring gather_opened
   gathers made w asked o great =
       let id = next_ring w.ring in
-      let v : RingWork = ring_sent_all (ring_numbered w) (nodes_of (without_node asked w.ring.me)) (Ptc id asked) in
+      let v : RingWork = ring_send_all (ring_numbered w) (nodes_of (without_node asked w.ring.me)) (Ptc id asked) in
       let g : Gathering = record { gather = gather_opened id asked w.ring.me; age = 0 } in
-      either Well (w.ring.last == last_u32) w (ring_gathers_on v g)
+      either Well (w.ring.last == last_u32) w (ring_gather_on v g)
       (λ e. (made, o))
       (λ e.
       gathers_on made v g (sent_all made (ring_numbered w) (nodes_of (without_node asked w.ring.me)) (Ptc id asked) (numbered made w o) tt) (record {
@@ -209,15 +209,15 @@ module _ (s : RingSettings) (differ : AddressesDiffer s) (n inc : ℕ) (before :
       (λ e. (more, set_to more v id ms (booked made v id ms (gathering made u None u.ring.promised (numbered made w o) tt) (λ m. tt) refl refl (omega arith) (next_is_new made w o) great) (inl refl) great.among))
 
   -- a tick
-  beats : (made : List Made) (w : RingWork) → Ok made w → Ok made (ring_beats w)
-  unfolding ring_beats ring_proclaimed heartbeat_sent
+  beats : (made : List Made) (w : RingWork) → Ok made w → Ok made (ring_beat w)
+  unfolding ring_beat ring_proclaim send_heartbeat
   beats made w o =
       let u : RingWork = record w { ring = record (w.ring) { beat = 0 } } in
-      let v : RingWork = heartbeat_sent u in
+      let v : RingWork = send_heartbeat u in
       let p : Ok made u = counted made w w.ring.silent 0 o in
-      let q : Ok made v = either (Ok made) (is_shared u.ring) (ring_sent u (neighbour u.ring) (Heartbeat u.ring.id)) u (λ e. sent made u (neighbour u.ring) (Heartbeat u.ring.id) p tt) (λ e. p) in
-      either (Ok made) (risen w.ring.beat == w.ring.settings.every) (ring_proclaimed v) (record w { ring = record (w.ring) { beat = risen w.ring.beat } })
-      (λ e. either (Ok made) (ring_leads v.ring && is_none v.ring.gathering) (ring_sent_all v (outside v.ring.settings v.ring.members) (Proclaim v.ring.id)) v (λ f. sent_all made v (outside v.ring.settings v.ring.members) (Proclaim v.ring.id) q tt) (λ f. q))
+      let q : Ok made v = either (Ok made) (is_shared u.ring) (ring_send u (neighbour u.ring) (Heartbeat u.ring.id)) u (λ e. sent made u (neighbour u.ring) (Heartbeat u.ring.id) p tt) (λ e. p) in
+      either (Ok made) (risen w.ring.beat == w.ring.settings.every) (ring_proclaim v) (record w { ring = record (w.ring) { beat = risen w.ring.beat } })
+      (λ e. either (Ok made) (ring_leads v.ring && is_none v.ring.gathering) (ring_send_all v (outside v.ring.settings v.ring.members) (Proclaim v.ring.id)) v (λ f. sent_all made v (outside v.ring.settings v.ring.members) (Proclaim v.ring.id) q tt) (λ f. q))
       (λ e. counted made w w.ring.silent (risen w.ring.beat) o)
 
   -- who acts on a death is the highest of those that are left
@@ -246,46 +246,46 @@ module _ (s : RingSettings) (differ : AddressesDiffer s) (n inc : ℕ) (before :
   deaths : (made : List Made) (w : RingWork) (id : RingId) (d : ℕ) → Ok made w → Well (death_row w id d)
   unfolding death_row
   deaths made w id d o =
-      either Well (death_counts w.ring id d) (ring_gathers w (without_node w.ring.members d)) w
+      either Well (death_counts w.ring id d) (ring_gather w (without_node w.ring.members d)) w
       (λ e. gathers made w (without_node w.ring.members d) o (left_greatest made w id d o e))
       (λ e. (made, o))
 
-  told_death : (made : List Made) (w : RingWork) (d to : ℕ) → Ok made w → Well (death_told w d to)
-  unfolding death_told
+  told_death : (made : List Made) (w : RingWork) (d to : ℕ) → Ok made w → Well (tell_death w d to)
+  unfolding tell_death
   told_death made w d to o =
-      either Well (to == w.ring.me) (death_row w w.ring.id d) (ring_sent w to (Death w.ring.id d))
+      either Well (to == w.ring.me) (death_row w w.ring.id d) (ring_send w to (Death w.ring.id d))
       (λ e. deaths made w w.ring.id d o)
       (λ e. (made, sent made w to (Death w.ring.id d) o tt))
 
-  waited : (made : List Made) (w : RingWork) → Ok made w → Well (ring_waited w)
-  unfolding ring_waited
+  waited : (made : List Made) (w : RingWork) → Ok made w → Well (ring_wait_on w)
+  unfolding ring_wait_on
   waited made w o =
       let to = death_told_to w.ring (upstream w.ring) in
-      let late : RingWork = death_told w (upstream w.ring) to in
+      let late : RingWork = tell_death w (upstream w.ring) to in
       either Well (w.ring.silent == 3 * patience w.ring.settings) (ring_alone w) (elim (nat_le (patience w.ring.settings) w.ring.silent) [ true ↦ late | false ↦ w ])
       (λ e. alone made w o)
       (λ e. either Well (nat_le (patience w.ring.settings) w.ring.silent) late w (λ f. told_death made w (upstream w.ring) to o) (λ f. (made, o)))
 
-  waits : (made : List Made) (w : RingWork) → Ok made w → Well (ring_waits w)
-  unfolding ring_waits
+  waits : (made : List Made) (w : RingWork) → Ok made w → Well (ring_wait w)
+  unfolding ring_wait
   waits made w o =
       let v : RingWork = record w { ring = record (w.ring) { silent = risen w.ring.silent } } in
-      either Well (is_shared w.ring) (ring_waited v) w (λ e. waited made v (counted made w (risen w.ring.silent) w.ring.beat o)) (λ e. (made, o))
+      either Well (is_shared w.ring) (ring_wait_on v) w (λ e. waited made v (counted made w (risen w.ring.silent) w.ring.beat o)) (λ e. (made, o))
 
-  ages : (made : List Made) (w : RingWork) → Ok made w → Well (ring_ages w)
-  unfolding ring_ages ring_ages_of ring_gathering
+  ages : (made : List Made) (w : RingWork) → Ok made w → Well (ring_age w)
+  unfolding ring_age ring_ages_of ring_gathering
   ages made w o = by w.ring.gathering o.ring.gathers
     where
       by : (g : Option Gathering) → GathersOk s made w.ring.me w.ring.inc w.ring.last g → Well (ring_ages_of w g)
       by None h = (made, o)
       by (Some g) h =
-          either Well (risen g.age == 2) (ring_closed w g.gather) (ring_gathering w (record g { age = risen g.age }))
+          either Well (risen g.age == 2) (ring_close w g.gather) (ring_gathering w (record g { age = risen g.age }))
           (λ e. (record { id = g.gather.id; members = g.gather.acked } ∷ made, closed made w g.gather o h))
           (λ e. (made, gathering made w (Some (record g { age = risen g.age })) w.ring.promised o h))
 
   ticks : (w : RingWork) → Ok before w → Well (ring_tick w)
   unfolding ring_tick
-  ticks w o = let p = waits before (ring_beats w) (beats before w o) in ages p.0 (ring_waits (ring_beats w)) p.1
+  ticks w o = let p = waits before (ring_beat w) (beats before w o) in ages p.0 (ring_wait (ring_beat w)) p.1
 
   -- the rows of packets
   hears : (made : List Made) (w : RingWork) (from : ℕ) (id : RingId) → Ok made w → Well (heartbeat_row w from id)
@@ -298,7 +298,7 @@ module _ (s : RingSettings) (differ : AddressesDiffer s) (n inc : ℕ) (before :
   answers : (made : List Made) (w : RingWork) (from : ℕ) → Ok made w → Well (proclaim_row w from)
   unfolding proclaim_row
   answers made w from o =
-      either Well (answers_proclaim w.ring from) (ring_sent w from (Join w.ring.members)) w
+      either Well (answers_proclaim w.ring from) (ring_send w from (Join w.ring.members)) w
       (λ e. (made, sent made w from (Join w.ring.members) o tt))
       (λ e. (made, o))
 
@@ -320,7 +320,7 @@ module _ (s : RingSettings) (differ : AddressesDiffer s) (n inc : ℕ) (before :
   joins : (made : List Made) (w : RingWork) (from : ℕ) (ms : Mask) → Ok made w → Well (join_row w from ms)
   unfolding join_row
   joins made w from ms o =
-      either Well (takes_join w.ring from ms) (ring_gathers w (union_of w.ring.members ms)) w
+      either Well (takes_join w.ring from ms) (ring_gather w (union_of w.ring.members ms)) w
       (λ e. gathers made w (union_of w.ring.members ms) o (joined_greatest made w from ms o e))
       (λ e. (made, o))
 
@@ -328,7 +328,7 @@ module _ (s : RingSettings) (differ : AddressesDiffer s) (n inc : ℕ) (before :
   unfolding ptc_row
   promises made w from j id ms o =
       let v : RingWork = record w { ring = record (w.ring) { gathering = None; promised = Some id } } in
-      either Well (may_promise w.ring from j id ms) (ring_sent v from (PtcAck id)) w
+      either Well (may_promise w.ring from j id ms) (ring_send v from (PtcAck id)) w
       (λ e. (made, sent made v from (PtcAck id) (gathering made w None (Some id) o tt) tt))
       (λ e. (made, o))
 
@@ -355,7 +355,7 @@ module _ (s : RingSettings) (differ : AddressesDiffer s) (n inc : ℕ) (before :
       by None h = (made, o)
       by (Some g) h =
           let f : Gathering = record g { gather = gather_acked g.gather from } in
-          either Well (same_ring g.gather.id id) (ring_gathers_on w f) w
+          either Well (same_ring g.gather.id id) (ring_gather_on w f) w
           (λ e. gathers_on made w f o (acked_ok made w.ring.me w.ring.inc w.ring.last g.gather from h))
           (λ e. (made, o))
 
@@ -384,8 +384,8 @@ EventOk made Tick = Unit {0}
 EventOk made (Packet from inc p) = PacketOk made p
 
 -- a step of a ring in the network
-pub stepped_ok : (s : RingSettings) (differ : AddressesDiffer s) (made : List Made) (r : Ring) (e : RingEvent) → Books s made → RingOk s made r → EventOk made e → (more : List Made) × WorkOk s r.me r.inc made more (ring_stepped r e)
-unfolding ring_stepped at_work ring_row
+pub stepped_ok : (s : RingSettings) (differ : AddressesDiffer s) (made : List Made) (r : Ring) (e : RingEvent) → Books s made → RingOk s made r → EventOk made e → (more : List Made) × WorkOk s r.me r.inc made more (ring_step r e)
+unfolding ring_step at_work ring_row
 stepped_ok s differ made r e books k ok = by e ok
   where
     begun : WorkOk s r.me r.inc made made (at_work r)

@@ -1,8 +1,8 @@
 -- The rings of one network, and what happens to them.
 use Rattle.std.specs.Prelude.{ℕ, Bool, true, false, not, ◌==◌, ◌&&◌, ◌||◌, ◌++◌, List, [], ◌∷◌, map, filter, find, Option, Some, None, nat_lt, is_none, slice_get}
 use Rattle.std.specs.List.{fold, list_all}
-use Rattle.rsct_packet.specs.declared.ids.RingId.{RingId}
-use Rattle.rsct_packet.specs.declared.mask.Mask.{Mask}
+use Rattle.ring_commit.specs.rsct_packet.declared.ids.RingId.{RingId}
+use Rattle.ring_commit.specs.rsct_packet.declared.mask.Mask.{Mask}
 use Rattle.adapter_ring.specs.declared.packet.RingPacket.{RingPacket}
 use Rattle.adapter_ring.specs.declared.packet.RingSend.{RingSend}
 use Rattle.adapter_ring.specs.declared.packet.RingEvent.{RingEvent}
@@ -12,7 +12,7 @@ use Rattle.adapter_ring.specs.declared.ring.RingSet.{RingSet}
 use Rattle.adapter_ring.specs.declared.ring.RingSettings.{RingSettings}
 use Rattle.adapter_ring.specs.declared.work.RingWork.{RingWork}
 use Rattle.adapter_ring.specs.Addresses.{has_addr}
-use Rattle.adapter_ring.specs.Rings.{neighbour, ring_new, ring_stepped}
+use Rattle.adapter_ring.specs.Rings.{neighbour, ring_new, ring_step}
 
 -- what happens to a ring of the network: its node starts in an incarnation, stops, has a tick, or is given the packet
 -- that was sent to it as the k-th of all
@@ -90,7 +90,7 @@ step_taken w x =
 -- a node that is down takes nothing
 unfoldable pub stepped_in : Network → RingEvent → Option Ring → Network
 stepped_in w e None = w
-stepped_in w e (Some r) = step_taken w (ring_stepped r e)
+stepped_in w e (Some r) = step_taken w (ring_step r e)
 
 unfoldable pub given_in : Network → Option Sent → Network
 given_in w None = w

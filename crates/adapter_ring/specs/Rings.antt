@@ -1,10 +1,10 @@
 -- The machine of one adapter's ring.
 use Rattle.std.specs.Prelude.{ℕ, Bool, true, false, not, ◌==◌, ◌&&◌, ◌||◌, ◌+◌, ◌*◌, ◌++◌, List, [], ◌∷◌, map, count_by, Option, Some, None, nat_le, is_none}
 use Rattle.std.specs.List.{list_all}
-use Rattle.rsct_packet.specs.declared.ids.RingId.{RingId}
-use Rattle.rsct_packet.specs.declared.mask.Mask.{Mask}
-use Rattle.rsct_packet.specs.Ids.{same_ring, last_u32, risen}
-use Rattle.rsct_packet.specs.Mask.{no_nodes, has_node, with_node, without_node, union_of, nodes_of, node_numbers}
+use Rattle.ring_commit.specs.rsct_packet.declared.ids.RingId.{RingId}
+use Rattle.ring_commit.specs.rsct_packet.declared.mask.Mask.{Mask}
+use Rattle.ring_commit.specs.rsct_packet.Ids.{same_ring, last_u32, risen}
+use Rattle.ring_commit.specs.rsct_packet.Mask.{no_nodes, has_node, with_node, without_node, union_of, nodes_of, node_numbers}
 use Rattle.ring_commit.specs.declared.gather.Gather.{Gather}
 use Rattle.ring_commit.specs.Gather.{gather_opened, gather_acked, all_acked}
 use Rattle.adapter_ring.specs.declared.packet.RingPacket.{RingPacket}
@@ -37,11 +37,11 @@ is_shared r = nat_le 2 (count_by (has_node r.members) node_numbers)
 unfoldable pub patience : RingSettings → ℕ
 patience s = s.every * s.misses
 
-unfoldable pub ring_sent : RingWork → ℕ → RingPacket → RingWork
-ring_sent w to packet = record w { sends = w.sends ++ record { network = w.ring.net; to = to; packet = packet } ∷ [] }
+unfoldable pub ring_send : RingWork → ℕ → RingPacket → RingWork
+ring_send w to packet = record w { sends = w.sends ++ record { network = w.ring.net; to = to; packet = packet } ∷ [] }
 
-unfoldable pub ring_sent_all : RingWork → List ℕ → RingPacket → RingWork
-ring_sent_all w to packet = record w { sends = w.sends ++ map (λ n. record { network = w.ring.net; to = n; packet = packet }) to }
+unfoldable pub ring_send_all : RingWork → List ℕ → RingPacket → RingWork
+ring_send_all w to packet = record w { sends = w.sends ++ map (λ n. record { network = w.ring.net; to = n; packet = packet }) to }
 
 -- set to a ring: silent is 0 and nothing is promised
 unfoldable pub ring_set : RingWork → RingId → Mask → RingWork
@@ -52,9 +52,9 @@ ring_set w id ms =
     }
 
 -- a gathering closes with those that acknowledged
-unfoldable pub ring_closed : RingWork → Gather → RingWork
-ring_closed w g =
-    ring_sent_all
+unfoldable pub ring_close : RingWork → Gather → RingWork
+ring_close w g =
+    ring_send_all
     (ring_set (record w { ring = record (w.ring) { gathering = None } }) g.id g.acked)
     (nodes_of (without_node g.acked w.ring.me))
     (Commit g.id g.acked)
@@ -70,17 +70,17 @@ unfoldable pub ring_numbered : RingWork → RingWork
 ring_numbered w = record w { ring = record (w.ring) { last = w.ring.last + 1 } }
 
 -- it goes on with the gathering, or closes it where all have acknowledged
-unfoldable pub ring_gathers_on : RingWork → Gathering → RingWork
-ring_gathers_on w g = elim (all_acked g.gather) [ true ↦ ring_closed w g.gather | false ↦ ring_gathering w g ]
+unfoldable pub ring_gather_on : RingWork → Gathering → RingWork
+ring_gather_on w g = elim (all_acked g.gather) [ true ↦ ring_close w g.gather | false ↦ ring_gathering w g ]
 
 -- a gathering of these; past the last number there is none
-unfoldable pub ring_gathers : RingWork → Mask → RingWork
-ring_gathers w asked =
+unfoldable pub ring_gather : RingWork → Mask → RingWork
+ring_gather w asked =
     elim (w.ring.last == last_u32) [
       | true ↦ w
       | false ↦
-          ring_gathers_on
-          (ring_sent_all (ring_numbered w) (nodes_of (without_node asked w.ring.me)) (Ptc (next_ring w.ring) asked))
+          ring_gather_on
+          (ring_send_all (ring_numbered w) (nodes_of (without_node asked w.ring.me)) (Ptc (next_ring w.ring) asked))
           (record { gather = gather_opened (next_ring w.ring) asked w.ring.me; age = 0 })
     ]
 
@@ -97,17 +97,17 @@ ring_alone w =
     ]
 
 -- part 1 of a tick
-unfoldable pub heartbeat_sent : RingWork → RingWork
-heartbeat_sent w = elim (is_shared w.ring) [ true ↦ ring_sent w (neighbour w.ring) (Heartbeat w.ring.id) | false ↦ w ]
+unfoldable pub send_heartbeat : RingWork → RingWork
+send_heartbeat w = elim (is_shared w.ring) [ true ↦ ring_send w (neighbour w.ring) (Heartbeat w.ring.id) | false ↦ w ]
 
-unfoldable pub ring_proclaimed : RingWork → RingWork
-ring_proclaimed w =
-    elim (ring_leads w.ring && is_none w.ring.gathering) [ true ↦ ring_sent_all w (outside w.ring.settings w.ring.members) (Proclaim w.ring.id) | false ↦ w ]
+unfoldable pub ring_proclaim : RingWork → RingWork
+ring_proclaim w =
+    elim (ring_leads w.ring && is_none w.ring.gathering) [ true ↦ ring_send_all w (outside w.ring.settings w.ring.members) (Proclaim w.ring.id) | false ↦ w ]
 
-unfoldable pub ring_beats : RingWork → RingWork
-ring_beats w =
+unfoldable pub ring_beat : RingWork → RingWork
+ring_beat w =
     elim (risen w.ring.beat == w.ring.settings.every) [
-      | true ↦ ring_proclaimed (heartbeat_sent (record w { ring = record (w.ring) { beat = 0 } }))
+      | true ↦ ring_proclaim (send_heartbeat (record w { ring = record (w.ring) { beat = 0 } }))
       | false ↦ record w { ring = record (w.ring) { beat = risen w.ring.beat } }
     ]
 
@@ -119,45 +119,45 @@ unfoldable pub death_counts : Ring → RingId → ℕ → Bool
 death_counts r id d = same_ring id r.id && not (d == r.me) && has_node r.members d && is_none r.gathering && buries r d
 
 unfoldable pub death_row : RingWork → RingId → ℕ → RingWork
-death_row w id d = elim (death_counts w.ring id d) [ true ↦ ring_gathers w (without_node w.ring.members d) | false ↦ w ]
+death_row w id d = elim (death_counts w.ring id d) [ true ↦ ring_gather w (without_node w.ring.members d) | false ↦ w ]
 
 -- who is to hear of the death
 unfoldable pub death_told_to : Ring → ℕ → ℕ
 death_told_to r d = elim (d == r.id.leader) [ true ↦ crown_prince r | false ↦ r.id.leader ]
 
-unfoldable pub death_told : RingWork → ℕ → ℕ → RingWork
-death_told w d to = elim (to == w.ring.me) [ true ↦ death_row w w.ring.id d | false ↦ ring_sent w to (Death w.ring.id d) ]
+unfoldable pub tell_death : RingWork → ℕ → ℕ → RingWork
+tell_death w d to = elim (to == w.ring.me) [ true ↦ death_row w w.ring.id d | false ↦ ring_send w to (Death w.ring.id d) ]
 
 -- part 2 of a tick
-unfoldable pub ring_waited : RingWork → RingWork
-ring_waited w =
+unfoldable pub ring_wait_on : RingWork → RingWork
+ring_wait_on w =
     elim (w.ring.silent == 3 * patience w.ring.settings) [
       | true ↦ ring_alone w
       | false ↦
           elim (nat_le (patience w.ring.settings) w.ring.silent) [
-            | true ↦ death_told w (upstream w.ring) (death_told_to w.ring (upstream w.ring))
+            | true ↦ tell_death w (upstream w.ring) (death_told_to w.ring (upstream w.ring))
             | false ↦ w
           ]
     ]
 
-unfoldable pub ring_waits : RingWork → RingWork
-ring_waits w =
-    elim (is_shared w.ring) [ true ↦ ring_waited (record w { ring = record (w.ring) { silent = risen w.ring.silent } }) | false ↦ w ]
+unfoldable pub ring_wait : RingWork → RingWork
+ring_wait w =
+    elim (is_shared w.ring) [ true ↦ ring_wait_on (record w { ring = record (w.ring) { silent = risen w.ring.silent } }) | false ↦ w ]
 
 -- part 3 of a tick
 unfoldable pub ring_ages_of : RingWork → Option Gathering → RingWork
 ring_ages_of w None = w
 ring_ages_of w (Some g) =
     elim (risen g.age == 2) [
-      | true ↦ ring_closed w g.gather
+      | true ↦ ring_close w g.gather
       | false ↦ ring_gathering w (record g { age = risen g.age })
     ]
 
-unfoldable pub ring_ages : RingWork → RingWork
-ring_ages w = ring_ages_of w w.ring.gathering
+unfoldable pub ring_age : RingWork → RingWork
+ring_age w = ring_ages_of w w.ring.gathering
 
 unfoldable pub ring_tick : RingWork → RingWork
-ring_tick w = ring_ages (ring_waits (ring_beats w))
+ring_tick w = ring_age (ring_wait (ring_beat w))
 
 unfoldable pub heartbeat_row : RingWork → ℕ → RingId → RingWork
 heartbeat_row w from id =
@@ -168,7 +168,7 @@ answers_proclaim r from =
     ring_leads r && is_none r.gathering && not (has_node r.members from) && has_addr r.settings from && is_higher r.settings from r.me
 
 unfoldable pub proclaim_row : RingWork → ℕ → RingWork
-proclaim_row w from = elim (answers_proclaim w.ring from) [ true ↦ ring_sent w from (Join w.ring.members) | false ↦ w ]
+proclaim_row w from = elim (answers_proclaim w.ring from) [ true ↦ ring_send w from (Join w.ring.members) | false ↦ w ]
 
 unfoldable pub is_lower : Ring → ℕ → Bool
 is_lower r n = has_addr r.settings n && is_higher r.settings r.me n
@@ -180,7 +180,7 @@ unfoldable pub takes_join : Ring → ℕ → Mask → Bool
 takes_join r from ms = ring_leads r && is_none r.gathering && has_node ms from && all_lower r ms
 
 unfoldable pub join_row : RingWork → ℕ → Mask → RingWork
-join_row w from ms = elim (takes_join w.ring from ms) [ true ↦ ring_gathers w (union_of w.ring.members ms) | false ↦ w ]
+join_row w from ms = elim (takes_join w.ring from ms) [ true ↦ ring_gather w (union_of w.ring.members ms) | false ↦ w ]
 
 -- from the leader of that ring to a node asked for it, who has the highest address of the asked
 unfoldable pub may_promise : Ring → ℕ → ℕ → RingId → Mask → Bool
@@ -190,14 +190,14 @@ may_promise r from inc id ms =
 unfoldable pub ptc_row : RingWork → ℕ → ℕ → RingId → Mask → RingWork
 ptc_row w from inc id ms =
     elim (may_promise w.ring from inc id ms) [
-      | true ↦ ring_sent (record w { ring = record (w.ring) { gathering = None; promised = Some id } }) from (PtcAck id)
+      | true ↦ ring_send (record w { ring = record (w.ring) { gathering = None; promised = Some id } }) from (PtcAck id)
       | false ↦ w
     ]
 
 unfoldable pub ack_row_of : RingWork → ℕ → RingId → Option Gathering → RingWork
 ack_row_of w from id None = w
 ack_row_of w from id (Some g) =
-    elim (same_ring g.gather.id id) [ true ↦ ring_gathers_on w (record g { gather = gather_acked g.gather from }) | false ↦ w ]
+    elim (same_ring g.gather.id id) [ true ↦ ring_gather_on w (record g { gather = gather_acked g.gather from }) | false ↦ w ]
 
 unfoldable pub ack_row : RingWork → ℕ → RingId → RingWork
 ack_row w from id = ack_row_of w from id w.ring.gathering
@@ -228,8 +228,8 @@ unfoldable pub at_work : Ring → RingWork
 at_work r = record { ring = r; sends = []; set = None }
 
 -- a step: the ring after it, what it sent, and the ring that it was set to
-unfoldable pub ring_stepped : Ring → RingEvent → RingWork
-ring_stepped r e = ring_row (at_work r) e
+unfoldable pub ring_step : Ring → RingEvent → RingWork
+ring_step r e = ring_row (at_work r) e
 
 -- an adapter that starts is alone, in a ring of number 1
 unfoldable pub ring_new : ℕ → ℕ → ℕ → RingSettings → Ring
@@ -250,5 +250,5 @@ ring_new net me inc settings =
 
 -- opens each word of this file, for a computation
 unfoldable pub rings_opens : Unit {0}
-unfolding neighbour upstream crown_prince ring_leads is_shared patience ring_sent ring_sent_all ring_set ring_closed ring_gathering next_ring ring_numbered ring_gathers_on ring_gathers ring_alone heartbeat_sent ring_proclaimed ring_beats buries death_counts death_row death_told_to death_told ring_waited ring_waits ring_ages_of ring_ages ring_tick heartbeat_row answers_proclaim proclaim_row is_lower all_lower takes_join join_row may_promise ptc_row ack_row_of ack_row is_promised commit_row packet_row ring_row at_work ring_stepped ring_new
+unfolding neighbour upstream crown_prince ring_leads is_shared patience ring_send ring_send_all ring_set ring_close ring_gathering next_ring ring_numbered ring_gather_on ring_gather ring_alone send_heartbeat ring_proclaim ring_beat buries death_counts death_row death_told_to tell_death ring_wait_on ring_wait ring_ages_of ring_age ring_tick heartbeat_row answers_proclaim proclaim_row is_lower all_lower takes_join join_row may_promise ptc_row ack_row_of ack_row is_promised commit_row packet_row ring_row at_work ring_step ring_new
 rings_opens = tt

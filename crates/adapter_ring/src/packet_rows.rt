@@ -5,7 +5,7 @@ ghost use Rattle.adapter_ring.specs.Rings.{heartbeat_row, answers_proclaim, proc
 use crate::packet::RingPacket;
 use crate::ring::{Gathering, Ring};
 use crate::work::RingWork;
-use rsct_packet::{Mask, NODES, NoMemory, RingId};
+use ring_commit::rsct_packet::{Mask, NODES, NoMemory, RingId};
 use std::alloc::Global;
 
 impl Ring {
@@ -28,36 +28,36 @@ impl Ring {
         self.settings.has_addr(node) && self.settings.is_higher(self.me, node)
     }
 
-    #[tactic(auto, unfolding(crate::specs::Rings::all_lower, rsct_packet::specs::Mask::nodes_of))]
-    fn all_lower(&self, ms: Mask) -> bool
-        ensures { result ≡ all_lower self.now ms }
+    #[tactic(auto, unfolding(crate::specs::Rings::all_lower, crate::proofs::Below::nodes_of))]
+    fn all_lower(&self, members: Mask) -> bool
+        ensures { result ≡ all_lower self.now members }
     {
         NODES
             .iter()
             .copied()
-            .filter(|n| ms.has(*n))
+            .filter(|n| members.has(*n))
             .all(|n| self.is_lower(n))
     }
 
     /// Does it lead, without a gathering, and are the sender and all that want to join lower nodes?
     #[tactic(auto, unfolding(crate::specs::Rings::takes_join))]
-    fn takes_join(&self, from: u8, ms: Mask) -> bool
-        ensures { result ≡ takes_join self.now from ms }
+    fn takes_join(&self, from: u8, members: Mask) -> bool
+        ensures { result ≡ takes_join self.now from members }
     {
-        self.leads() && self.gathering.is_none() && ms.has(from) && self.all_lower(ms)
+        self.leads() && self.gathering.is_none() && members.has(from) && self.all_lower(members)
     }
 
     /// Is this node asked, by the ring's leader, which has the highest address of the asked?
     #[tactic(auto, unfolding(crate::specs::Rings::may_promise))]
-    fn may_promise(&self, from: u8, inc: u32, id: RingId, ms: Mask) -> bool
-        ensures { result ≡ may_promise self.now from inc id ms }
+    fn may_promise(&self, from: u8, inc: u32, id: RingId, members: Mask) -> bool
+        ensures { result ≡ may_promise self.now from inc id members }
     {
         id.leader == from
             && id.inc == inc
-            && ms.has(self.me)
-            && ms.has(from)
-            && self.settings.all_have_addr(ms)
-            && self.settings.is_highest(from, ms)
+            && members.has(self.me)
+            && members.has(from)
+            && self.settings.all_have_addr(members)
+            && self.settings.is_highest(from, members)
     }
 }
 
@@ -98,21 +98,21 @@ impl RingWork {
     }
 
     #[tactic(auto, unfolding(crate::specs::Rings::join_row))]
-    fn join_row(&mut self, alloc: Global, from: u8, ms: Mask) -> Result<(), NoMemory>
-        ensures { OnOk result (self.new ≡ join_row self.old from ms) }
+    fn join_row(&mut self, alloc: Global, from: u8, members: Mask) -> Result<(), NoMemory>
+        ensures { OnOk result (self.new ≡ join_row self.old from members) }
     {
-        if !self.ring.takes_join(from, ms) {
+        if !self.ring.takes_join(from, members) {
             return Ok(());
         }
-        self.gather(alloc, self.ring.members.union(ms))
+        self.gather(alloc, self.ring.members.union(members))
     }
 
     /// A promise ends a gathering of one's own.
     #[tactic(auto, unfolding(crate::specs::Rings::ptc_row))]
-    fn ptc_row(&mut self, from: u8, inc: u32, id: RingId, ms: Mask) -> Result<(), NoMemory>
-        ensures { OnOk result (self.new ≡ ptc_row self.old from inc id ms) }
+    fn ptc_row(&mut self, from: u8, inc: u32, id: RingId, members: Mask) -> Result<(), NoMemory>
+        ensures { OnOk result (self.new ≡ ptc_row self.old from inc id members) }
     {
-        if !self.ring.may_promise(from, inc, id, ms) {
+        if !self.ring.may_promise(from, inc, id, members) {
             return Ok(());
         }
         self.ring.gathering = None;
@@ -142,11 +142,11 @@ impl RingWork {
     }
 
     #[tactic(auto, unfolding(crate::specs::Rings::commit_row))]
-    fn commit_row(&mut self, from: u8, id: RingId, ms: Mask)
-        ensures { self.new ≡ commit_row self.old from id ms }
+    fn commit_row(&mut self, from: u8, id: RingId, members: Mask)
+        ensures { self.new ≡ commit_row self.old from id members }
     {
-        if is_promised(self.ring.promised, id) && ms.has(self.ring.me) && from == id.leader {
-            self.set_ring(id, ms);
+        if is_promised(self.ring.promised, id) && members.has(self.ring.me) && from == id.leader {
+            self.set_ring(id, members);
         }
     }
 

@@ -1,11 +1,11 @@
 //! The ring of one adapter, as its callers see it.
 ghost use Rattle.std.specs.Prelude.{◌≡◌, ◌++◌, ◌<◌, ◌==◌, [], None, OnOk, OnErr};
-ghost use Rattle.adapter_ring.specs.Rings.{ring_new, neighbour, upstream, crown_prince, ring_leads, is_shared, next_ring, ring_stepped};
+ghost use Rattle.adapter_ring.specs.Rings.{ring_new, neighbour, upstream, crown_prince, ring_leads, is_shared, next_ring, ring_step};
 
 use crate::packet::{RingEvent, RingSend};
 use crate::work::RingWork;
 use ring_commit::Gather;
-use rsct_packet::{List, Mask, NoMemory, RingId};
+use ring_commit::rsct_packet::{List, Mask, NoMemory, RingId};
 use std::alloc::Global;
 
 /// What the rings of one network share: the address of each node's adapter (node `n` at `n - 1`, and 0 where
@@ -122,11 +122,17 @@ impl Ring {
     }
 
     /// One event. Where memory has run out the ring is as before.
-    #[tactic(auto, unfolding(crate::specs::Rings::ring_stepped, crate::specs::Rings::at_work))]
-    pub fn step(&mut self, alloc: Global, e: RingEvent, out: &mut RingOut) -> Result<(), NoMemory>
-        ensures ring { OnOk result (self.new ≡ (ring_stepped self.old e).ring) }
-        ensures sends { OnOk result (out.new.sends ≡ out.old.sends ++ (ring_stepped self.old e).sends) }
-        ensures set { OnOk result (out.new.set ≡ (ring_stepped self.old e).set) }
+    #[tactic(auto, unfolding(crate::specs::Rings::ring_step, crate::specs::Rings::at_work))]
+    pub fn step(
+        &mut self,
+        alloc: Global,
+        event: RingEvent,
+        out: &mut RingOut,
+    ) -> Result<(), NoMemory>
+        ensures ring { OnOk result (self.new ≡ (ring_step self.old event).ring) }
+        ensures sends { OnOk result (out.new.sends
+            ≡ out.old.sends ++ (ring_step self.old event).sends) }
+        ensures set { OnOk result (out.new.set ≡ (ring_step self.old event).set) }
         ensures err { OnErr result (self.new ≡ self.old) }
     {
         let mut work = RingWork {
@@ -134,7 +140,7 @@ impl Ring {
             sends: List::new(alloc),
             set: None,
         };
-        work.row(alloc, e)?;
+        work.row(alloc, event)?;
         out.sends.append(&mut work.sends)?;
         out.set = work.set;
         *self = work.ring;

@@ -1,11 +1,11 @@
 //! A ring's tick.
 ghost use Rattle.std.specs.Prelude.{◌≡◌, ◌<◌, ◌^◌, OnOk};
-ghost use Rattle.adapter_ring.specs.Rings.{patience, heartbeat_sent, ring_proclaimed, ring_beats, buries, death_counts, death_row, death_told_to, death_told, ring_waited, ring_waits, ring_ages, ring_tick};
+ghost use Rattle.adapter_ring.specs.Rings.{patience, send_heartbeat, ring_proclaim, ring_beat, buries, death_counts, death_row, death_told_to, tell_death, ring_wait_on, ring_wait, ring_age, ring_tick};
 
 use crate::packet::RingPacket;
 use crate::ring::{Gathering, Ring, RingSettings};
 use crate::work::RingWork;
-use rsct_packet::{NoMemory, RingId, risen};
+use ring_commit::rsct_packet::{NoMemory, RingId, risen};
 use std::alloc::Global;
 
 impl RingSettings {
@@ -54,9 +54,9 @@ impl Ring {
 }
 
 impl RingWork {
-    #[tactic(auto, unfolding(crate::specs::Rings::heartbeat_sent))]
+    #[tactic(auto, unfolding(crate::specs::Rings::send_heartbeat))]
     fn send_heartbeat(&mut self) -> Result<(), NoMemory>
-        ensures { OnOk result (self.new ≡ heartbeat_sent self.old) }
+        ensures { OnOk result (self.new ≡ send_heartbeat self.old) }
     {
         if !self.ring.is_shared() {
             return Ok(());
@@ -65,9 +65,9 @@ impl RingWork {
         self.send(neighbour, RingPacket::Heartbeat { ring: self.ring.id })
     }
 
-    #[tactic(auto, unfolding(crate::specs::Rings::ring_proclaimed))]
+    #[tactic(auto, unfolding(crate::specs::Rings::ring_proclaim))]
     fn proclaim(&mut self, alloc: Global) -> Result<(), NoMemory>
-        ensures { OnOk result (self.new ≡ ring_proclaimed self.old) }
+        ensures { OnOk result (self.new ≡ ring_proclaim self.old) }
     {
         if !(self.ring.leads() && self.ring.gathering.is_none()) {
             return Ok(());
@@ -81,9 +81,9 @@ impl RingWork {
     }
 
     /// Part 1 of a tick: heartbeat and proclamation, when it is time.
-    #[tactic(auto, unfolding(crate::specs::Rings::ring_beats))]
+    #[tactic(auto, unfolding(crate::specs::Rings::ring_beat))]
     fn beat(&mut self, alloc: Global) -> Result<(), NoMemory>
-        ensures { OnOk result (self.new ≡ ring_beats self.old) }
+        ensures { OnOk result (self.new ≡ ring_beat self.old) }
     {
         let beat = risen(self.ring.beat);
         if beat != self.ring.settings.every as u32 {
@@ -106,9 +106,9 @@ impl RingWork {
         self.gather(alloc, self.ring.members.without(dead))
     }
 
-    #[tactic(auto, unfolding(crate::specs::Rings::death_told))]
+    #[tactic(auto, unfolding(crate::specs::Rings::tell_death))]
     fn tell_death(&mut self, alloc: Global, dead: u8, to: u8) -> Result<(), NoMemory>
-        ensures { OnOk result (self.new ≡ death_told self.old dead to) }
+        ensures { OnOk result (self.new ≡ tell_death self.old dead to) }
     {
         if to == self.ring.me {
             return self.death_row(alloc, self.ring.id, dead);
@@ -122,9 +122,9 @@ impl RingWork {
         )
     }
 
-    #[tactic(auto, unfolding(crate::specs::Rings::ring_waited))]
+    #[tactic(auto, unfolding(crate::specs::Rings::ring_wait_on))]
     fn wait_on(&mut self, alloc: Global) -> Result<(), NoMemory>
-        ensures { OnOk result (self.new ≡ ring_waited self.old) }
+        ensures { OnOk result (self.new ≡ ring_wait_on self.old) }
     {
         let patience = self.ring.settings.patience();
         if self.ring.silent as u64 == 3 * patience {
@@ -140,9 +140,9 @@ impl RingWork {
     }
 
     /// Part 2 of a tick: the upstream neighbour is silent for one tick more.
-    #[tactic(auto, unfolding(crate::specs::Rings::ring_waits))]
+    #[tactic(auto, unfolding(crate::specs::Rings::ring_wait))]
     fn wait(&mut self, alloc: Global) -> Result<(), NoMemory>
-        ensures { OnOk result (self.new ≡ ring_waits self.old) }
+        ensures { OnOk result (self.new ≡ ring_wait self.old) }
     {
         if !self.ring.is_shared() {
             return Ok(());
@@ -152,9 +152,9 @@ impl RingWork {
     }
 
     /// Part 3 of a tick: a gathering ages, and closes at 2.
-    #[tactic(auto, unfolding(crate::specs::Rings::ring_ages, crate::specs::Rings::ring_ages_of, crate::specs::Rings::ring_gathering))]
+    #[tactic(auto, unfolding(crate::specs::Rings::ring_age, crate::specs::Rings::ring_ages_of, crate::specs::Rings::ring_gathering))]
     fn age(&mut self, alloc: Global) -> Result<(), NoMemory>
-        ensures { OnOk result (self.new ≡ ring_ages self.old) }
+        ensures { OnOk result (self.new ≡ ring_age self.old) }
     {
         let Some(gathering) = self.ring.gathering else {
             return Ok(());

@@ -1,11 +1,11 @@
 //! A ring at work: what it sends, and how it is gathered and set.
 ghost use Rattle.std.specs.Prelude.{◌≡◌, map, IfOk, OnOk};
-ghost use Rattle.adapter_ring.specs.Rings.{ring_sent, ring_sent_all, ring_set, ring_closed, ring_gathers_on, ring_gathers, ring_alone, ring_row};
+ghost use Rattle.adapter_ring.specs.Rings.{ring_send, ring_send_all, ring_set, ring_close, ring_gather_on, ring_gather, ring_alone, ring_row};
 
 use crate::packet::{RingEvent, RingPacket, RingSend};
 use crate::ring::{Gathering, Ring, RingSet};
 use ring_commit::Gather;
-use rsct_packet::{List, Mask, NoMemory, RingId};
+use ring_commit::rsct_packet::{List, Mask, NoMemory, RingId};
 use std::alloc::Global;
 
 /// A ring in the middle of a step, with what it has sent in this step, and the ring that it was set to.
@@ -23,7 +23,8 @@ fn sends_to(
     to: &[u8],
     packet: RingPacket,
 ) -> Result<Vec<RingSend>, NoMemory>
-    ensures { IfOk result (λ v. v.items ≡ map (λ n. record { network = network; to = n; packet = packet }) to.now) }
+    ensures { IfOk result (λ v. v.items ≡ map (λ n.
+        record { network = network; to = n; packet = packet }) to.now) }
 {
     let sends = to.iter().map(|n| RingSend {
         network,
@@ -34,9 +35,9 @@ fn sends_to(
 }
 
 impl RingWork {
-    #[tactic(auto, unfolding(crate::specs::Rings::ring_sent))]
+    #[tactic(auto, unfolding(crate::specs::Rings::ring_send))]
     pub(crate) fn send(&mut self, to: u8, packet: RingPacket) -> Result<(), NoMemory>
-        ensures { OnOk result (self.new ≡ ring_sent self.old to packet) }
+        ensures { OnOk result (self.new ≡ ring_send self.old to packet) }
     {
         self.sends.push(RingSend {
             network: self.ring.net,
@@ -45,14 +46,14 @@ impl RingWork {
         })
     }
 
-    #[tactic(auto, unfolding(crate::specs::Rings::ring_sent_all))]
+    #[tactic(auto, unfolding(crate::specs::Rings::ring_send_all))]
     pub(crate) fn send_all(
         &mut self,
         alloc: Global,
         to: &[u8],
         packet: RingPacket,
     ) -> Result<(), NoMemory>
-        ensures { OnOk result (self.new ≡ ring_sent_all self.old to.now packet) }
+        ensures { OnOk result (self.new ≡ ring_send_all self.old to.now packet) }
     {
         let sends = sends_to(alloc, self.ring.net, to, packet)?;
         self.sends.extend(sends.as_slice())
@@ -76,9 +77,9 @@ impl RingWork {
     }
 
     /// Closes a gathering: the ring is set with those that acknowledged, and the others hear of it.
-    #[tactic(auto, unfolding(crate::specs::Rings::ring_closed))]
+    #[tactic(auto, unfolding(crate::specs::Rings::ring_close))]
     pub(crate) fn close(&mut self, alloc: Global, gather: Gather) -> Result<(), NoMemory>
-        ensures { OnOk result (self.new ≡ ring_closed self.old gather) }
+        ensures { OnOk result (self.new ≡ ring_close self.old gather) }
     {
         let members = gather.close();
         let others = members.without(self.ring.me).nodes(alloc)?;
@@ -95,9 +96,9 @@ impl RingWork {
     }
 
     /// Goes on with the gathering, or closes it where all have acknowledged.
-    #[tactic(auto, unfolding(crate::specs::Rings::ring_gathers_on, crate::specs::Rings::ring_gathering))]
+    #[tactic(auto, unfolding(crate::specs::Rings::ring_gather_on, crate::specs::Rings::ring_gathering))]
     pub(crate) fn gather_on(&mut self, alloc: Global, gathering: Gathering) -> Result<(), NoMemory>
-        ensures { OnOk result (self.new ≡ ring_gathers_on self.old gathering) }
+        ensures { OnOk result (self.new ≡ ring_gather_on self.old gathering) }
     {
         if gathering.gather.all() {
             return self.close(alloc, gathering.gather);
@@ -107,9 +108,9 @@ impl RingWork {
     }
 
     /// Gathers these for a ring of the next number. Past the last number nothing happens.
-    #[tactic(auto, unfolding(crate::specs::Rings::ring_gathers, crate::specs::Rings::ring_numbered))]
+    #[tactic(auto, unfolding(crate::specs::Rings::ring_gather, crate::specs::Rings::ring_numbered))]
     pub(crate) fn gather(&mut self, alloc: Global, asked: Mask) -> Result<(), NoMemory>
-        ensures { OnOk result (self.new ≡ ring_gathers self.old asked) }
+        ensures { OnOk result (self.new ≡ ring_gather self.old asked) }
     {
         if self.ring.last == u32::MAX {
             return Ok(());
@@ -144,10 +145,10 @@ impl RingWork {
     }
 
     #[tactic(auto, unfolding(crate::specs::Rings::ring_row))]
-    pub(crate) fn row(&mut self, alloc: Global, e: RingEvent) -> Result<(), NoMemory>
-        ensures { OnOk result (self.new ≡ ring_row self.old e) }
+    pub(crate) fn row(&mut self, alloc: Global, event: RingEvent) -> Result<(), NoMemory>
+        ensures { OnOk result (self.new ≡ ring_row self.old event) }
     {
-        match e {
+        match event {
             RingEvent::Tick => self.tick(alloc),
             RingEvent::Packet { from, inc, packet } => self.packet_row(alloc, from, inc, packet),
         }

@@ -1,7 +1,7 @@
 -- What becomes of a join, and what begins next: failures before joins.
 use Rattle.std.specs.Prelude.{Bool, ◌==◌, ◌||◌, List, [], ◌∷◌, length, Option, Some, None, if◌then◌else◌}
-use Rattle.rsct_packet.specs.declared.ids.ProviderId.{ProviderId}
-use Rattle.group_attr.specs.declared.attrs.Batch.{Batch}
+use Rattle.proposal_core.specs.rsct_packet.declared.ids.ProviderId.{ProviderId}
+use Rattle.proposal_core.specs.group_attr.declared.attrs.Batch.{Batch}
 use Rattle.proposal_core.specs.declared.proposal.Failure.{Failure}
 use Rattle.batch_rules.specs.declared.waiting.Added.{Added}
 use Rattle.batch_rules.specs.declared.waiting.Added.TheVariants.{Queued, Full, DuplicateInstance}
@@ -21,8 +21,8 @@ joined_as p w Queued = waits_join p w
 joined_as p w Full = w
 joined_as p w DuplicateInstance = w
 
-abbrev pub after_join : ProviderId → List ProviderId → WaitingView → WaitingView
-after_join p present w = joined_as p w (added_as p present w)
+abbrev pub add_join : ProviderId → List ProviderId → WaitingView → WaitingView
+add_join p present w = joined_as p w (added_as p present w)
 
 abbrev pub next_of_joins : Batch → WaitingView → List ProviderId → Option Chosen
 next_of_joins b w [] = None

@@ -1,10 +1,10 @@
 -- What waits to begin.
 use Rattle.std.specs.Prelude.{ℕ, Bool, true, false, not, ◌==◌, ◌&&◌, ◌++◌, List, [], ◌∷◌, take, drop, length, nat_lt, if◌then◌else◌}
 use Rattle.std.specs.List.{list_any}
-use Rattle.rsct_packet.specs.declared.ids.ProviderId.{ProviderId}
-use Rattle.rsct_packet.specs.Providers.{same_provider, without}
-use Rattle.group_attr.specs.declared.attrs.Batch.{Batch}
-use Rattle.group_attr.specs.declared.attrs.Batch.TheVariants.{Neither, Joins, Failures, Both}
+use Rattle.proposal_core.specs.rsct_packet.declared.ids.ProviderId.{ProviderId}
+use Rattle.proposal_core.specs.rsct_packet.Providers.{same_provider, without}
+use Rattle.proposal_core.specs.group_attr.declared.attrs.Batch.{Batch}
+use Rattle.proposal_core.specs.group_attr.declared.attrs.Batch.TheVariants.{Neither, Joins, Failures, Both}
 use Rattle.proposal_core.specs.declared.proposal.Cause.{Cause}
 use Rattle.proposal_core.specs.declared.proposal.Failure.{Failure}
 
@@ -42,11 +42,11 @@ abbrev pub takes_failure : ProviderId → WaitingView → Bool
 takes_failure p w = not (is_failing p w) && nat_lt (length w.failures) max_waiting
 
 -- a provider that waits as a failure keeps its first cause
-abbrev pub waits_failure : ProviderId → Cause → WaitingView → WaitingView
-waits_failure p c w = if takes_failure p w then record w { failures = w.failures ++ record { p = p; cause = c } ∷ [] } else w
+abbrev pub add_failure : ProviderId → Cause → WaitingView → WaitingView
+add_failure p c w = if takes_failure p w then record w { failures = w.failures ++ record { p = p; cause = c } ∷ [] } else w
 
-abbrev pub join_dropped : ProviderId → WaitingView → WaitingView
-join_dropped p w = record w { joins = without w.joins p }
+abbrev pub drop_join : ProviderId → WaitingView → WaitingView
+drop_join p w = record w { joins = without w.joins p }
 
 abbrev pub batches_joins : Batch → Bool
 batches_joins Neither = false

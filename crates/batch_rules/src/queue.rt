@@ -1,40 +1,40 @@
 //! Parts of the queue.
 ghost use Rattle.std.specs.Prelude.{◌≡◌};
 ghost use Rattle.std.specs.List.{list_any};
-ghost use Rattle.rsct_packet.specs.Providers.{without};
+ghost use Rattle.proposal_core.specs.rsct_packet.Providers.{without};
 ghost use Rattle.batch_rules.specs.Waiting.{has_instance, same_instance, is_failure_of, batches_joins, batches_failures, chosen_of, left_of};
 
 use arrayvec::ArrayVec;
-use group_attr::Batch;
 use proposal_core::Failure;
-use rsct_packet::ProviderId;
+use proposal_core::group_attr::Batch;
+use proposal_core::rsct_packet::ProviderId;
 
 /// Do they have the same node and instance number?
-fn are_same_instance(a: &ProviderId, b: ProviderId) -> bool
-    ensures { result ≡ same_instance a.now b }
+fn are_same_instance(first: &ProviderId, second: ProviderId) -> bool
+    ensures { result ≡ same_instance first.now second }
 {
-    a.node == b.node && a.instance == b.instance
+    first.node == second.node && first.instance == second.instance
 }
 
 /// Has one of them the node and the instance number?
-pub(crate) fn is_instance_among(ps: &[ProviderId], p: ProviderId) -> bool
-    ensures { result ≡ has_instance ps.now p }
+pub(crate) fn is_instance_among(providers: &[ProviderId], provider: ProviderId) -> bool
+    ensures { result ≡ has_instance providers.now provider }
 {
-    ps.iter().any(|q| are_same_instance(q, p))
+    providers.iter().any(|q| are_same_instance(q, provider))
 }
 
 /// Does the provider wait as a failure?
-pub(crate) fn is_failing(failures: &[Failure], p: ProviderId) -> bool
-    ensures { result ≡ list_any (is_failure_of p) failures.now }
+pub(crate) fn is_failing(failures: &[Failure], provider: ProviderId) -> bool
+    ensures { result ≡ list_any (is_failure_of provider) failures.now }
 {
-    failures.iter().any(|f| f.p == p)
+    failures.iter().any(|f| f.p == provider)
 }
 
 /// Takes the provider out.
-pub(crate) fn remove_join(joins: &mut ArrayVec<ProviderId, 64>, p: ProviderId)
-    ensures { joins.new.items ≡ without joins.old.items p }
+pub(crate) fn remove_join(joins: &mut ArrayVec<ProviderId, 64>, provider: ProviderId)
+    ensures { joins.new.items ≡ without joins.old.items provider }
 {
-    joins.retain(|q| *q != p);
+    joins.retain(|q| *q != provider);
 }
 
 pub(crate) fn batches_joins(batch: Batch) -> bool

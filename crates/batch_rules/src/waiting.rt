@@ -1,16 +1,16 @@
 //! The queue of a group.
 ghost use Rattle.std.specs.Prelude.{◌≡◌, ◌≤◌, length};
-ghost use Rattle.rsct_packet.specs.Providers.{among, AreProviders};
-ghost use Rattle.batch_rules.specs.Waiting.{nothing_waits, takes_failure, waits_failure, join_dropped, next_failures, failures_left, next_joins, joins_left};
-ghost use Rattle.batch_rules.specs.Next.{is_duplicate, added_as, after_join, next_chosen, next_left};
+ghost use Rattle.proposal_core.specs.rsct_packet.Providers.{among, AreProviders};
+ghost use Rattle.batch_rules.specs.Waiting.{nothing_waits, takes_failure, add_failure, drop_join, next_failures, failures_left, next_joins, joins_left};
+ghost use Rattle.batch_rules.specs.Next.{is_duplicate, added_as, add_join, next_chosen, next_left};
 
 use crate::queue::{
     batches_failures, batches_joins, is_failing, is_instance_among, remove_join, take_next,
 };
 use arrayvec::ArrayVec;
-use group_attr::Batch;
+use proposal_core::group_attr::Batch;
+use proposal_core::rsct_packet::{ProviderId, is_among};
 use proposal_core::{Cause, Failure};
-use rsct_packet::{ProviderId, is_among};
 use std::marker::Model;
 
 /// How many joins and how many failures wait at most.
@@ -41,7 +41,7 @@ pub struct Waiting {
 }
 
 impl Model for Waiting {
-    ghost use Rattle.rsct_packet.specs.Providers.{AreProviders};
+    ghost use Rattle.proposal_core.specs.rsct_packet.Providers.{AreProviders};
     ghost use Rattle.batch_rules.specs.Waiting.{WaitingView};
 
     ghost Value = { WaitingView };
@@ -79,48 +79,48 @@ impl Waiting {
     }
 
     /// Is a provider with the node and instance number of this one present, or does one wait?
-    pub fn is_duplicate(&self, p: ProviderId, present: &[ProviderId]) -> bool
-        ensures { result ≡ is_duplicate p present.now self.now }
+    pub fn is_duplicate(&self, provider: ProviderId, present: &[ProviderId]) -> bool
+        ensures { result ≡ is_duplicate provider present.now self.now }
     {
-        is_instance_among(present, p) || is_instance_among(self.joins.as_slice(), p)
+        is_instance_among(present, provider) || is_instance_among(self.joins.as_slice(), provider)
     }
 
     /// Puts a join at the end, unless a provider with its node and instance number is present or waits, or 64
     /// joins wait.
-    pub fn add_join(&mut self, p: ProviderId, present: &[ProviderId]) -> Added
-        ensures answer { result ≡ added_as p present.now self.old }
-        ensures queue { self.new ≡ after_join p present.now self.old }
+    pub fn add_join(&mut self, provider: ProviderId, present: &[ProviderId]) -> Added
+        ensures answer { result ≡ added_as provider present.now self.old }
+        ensures queue { self.new ≡ add_join provider present.now self.old }
     {
-        if self.is_duplicate(p, present) {
+        if self.is_duplicate(provider, present) {
             return Added::DuplicateInstance;
         }
         if self.joins.is_full() {
             return Added::Full;
         }
-        self.joins.push(p);
+        self.joins.push(provider);
         Added::Queued
     }
 
     /// Puts a failure at the end, and answers `false`, changing nothing, exactly where its provider waits as a
     /// failure already or 64 failures wait. A group has at most 64 providers, so its leader meets the first alone.
-    pub fn add_failure(&mut self, p: ProviderId, cause: Cause) -> bool
-        ensures answer { result ≡ takes_failure p self.old }
-        ensures queue { self.new ≡ waits_failure p cause self.old }
+    pub fn add_failure(&mut self, provider: ProviderId, cause: Cause) -> bool
+        ensures answer { result ≡ takes_failure provider self.old }
+        ensures queue { self.new ≡ add_failure provider cause self.old }
     {
-        if is_failing(self.failures.as_slice(), p) || self.failures.is_full() {
+        if is_failing(self.failures.as_slice(), provider) || self.failures.is_full() {
             return false;
         }
-        self.failures.push(Failure { p, cause });
+        self.failures.push(Failure { p: provider, cause });
         true
     }
 
     /// Takes a join out; `false` exactly where the provider's join does not wait.
-    pub fn drop_join(&mut self, p: ProviderId) -> bool
-        ensures answer { result ≡ among self.old.joins p }
-        ensures queue { self.new ≡ join_dropped p self.old }
+    pub fn drop_join(&mut self, provider: ProviderId) -> bool
+        ensures answer { result ≡ among self.old.joins provider }
+        ensures queue { self.new ≡ drop_join provider self.old }
     {
-        let waits = is_among(self.joins.as_slice(), p);
-        remove_join(&mut self.joins, p);
+        let waits = is_among(self.joins.as_slice(), provider);
+        remove_join(&mut self.joins, provider);
         waits
     }
 

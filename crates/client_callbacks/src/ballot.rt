@@ -4,7 +4,7 @@ ghost use Rattle.std.specs.Option.{option_map};
 ghost use Rattle.client_callbacks.specs.Ballots.{is_ballot, new_ballot, value_limit, is_within, filling, can_fill, filled_with, message_limit};
 
 use proposal_core::Vote;
-use rsct_packet::{NoMemory, Text};
+use proposal_core::rsct_packet::{NoMemory, Text};
 use std::alloc::Global;
 use std::marker::Model;
 
@@ -107,8 +107,9 @@ impl Ballot {
 
     /// Can it be filled with these?
     #[tactic(auto, unfolding(crate::specs::Ballots::can_fill))]
-    fn takes(&self, v: Vote, value: Option<&[u8]>, message: Option<&[u8]>) -> bool
-        ensures { result ≡ can_fill self.now (filling v (option_copied value.entry) (option_copied message.entry)) }
+    fn takes(&self, vote: Vote, value: Option<&[u8]>, message: Option<&[u8]>) -> bool
+        ensures { result ≡ can_fill self.now (filling vote (option_copied value.entry)
+            (option_copied message.entry)) }
     {
         self.votes
             && self.filled.is_none()
@@ -122,20 +123,22 @@ impl Ballot {
     pub fn set(
         &mut self,
         alloc: Global,
-        v: Vote,
+        vote: Vote,
         value: Option<&[u8]>,
         message: Option<&[u8]>,
     ) -> Result<bool, NoMemory>
-        ensures answer { IfOk result (λ b. b ≡ can_fill self.old (filling v (option_copied value.entry) (option_copied message.entry))) }
-        ensures ok { OnOk result (self.new ≡ filled_with self.old (filling v (option_copied value.entry) (option_copied message.entry))) }
+        ensures answer { IfOk result (λ b. b ≡ can_fill self.old
+            (filling vote (option_copied value.entry) (option_copied message.entry))) }
+        ensures ok { OnOk result (self.new ≡ filled_with self.old
+            (filling vote (option_copied value.entry) (option_copied message.entry))) }
         ensures err { OnErr result (self.new ≡ self.old) }
         ensures same { (self.new.votes ≡ self.old.votes) × (self.new.level ≡ self.old.level) }
     {
-        if !self.takes(v, value, message) {
+        if !self.takes(vote, value, message) {
             return Ok(false);
         }
         self.filled = Some(Filled {
-            vote: v,
+            vote,
             value: text_within(alloc, value_limit(self.level), value)?,
             message: text_within(alloc, MAX_MESSAGE, message)?,
         });
@@ -159,7 +162,8 @@ impl Ballot {
 
     /// The vote, the value and the message that it is filled with; none where it is not filled.
     pub fn get(&self) -> Option<(Vote, Option<&[u8]>, Option<&[u8]>)>
-        ensures { option_map (λ x. filling x.0 (option_copied x.1) (option_copied x.2)) result ≡ self.now.filled }
+        ensures { option_map (λ x. filling x.0 (option_copied x.1) (option_copied x.2)) result
+            ≡ self.now.filled }
     {
         let f = self.filled.as_ref()?;
         Some((

@@ -11,8 +11,8 @@ use crate::ballot::Ballot;
 use crate::notice::{Callbacks, Made, Notice};
 use crate::told::Told;
 use crate::votes::{VoteItem, item_at, votes_word};
+use proposal_core::rsct_packet::{List, NoMemory};
 use proposal_core::{GroupState, Vote};
-use rsct_packet::{List, NoMemory};
 use std::alloc::Global;
 
 /// The phase that runs, 0 where nothing does.
@@ -50,10 +50,10 @@ impl Callbacks for ScriptClient {
     ghost script = { λ c. Some c.items };
 
     #[tactic(auto, unfolding(crate::specs::Handed::voted_by, crate::specs::Handed::filled_by))]
-    fn notice(&mut self, n: &Notice<'_>, b: &mut Ballot) -> Result<(), NoMemory> {
-        if let Some(i) = item_at(self.items.as_slice(), phase_of(n.after)) {
+    fn notice(&mut self, notice: &Notice<'_>, ballot: &mut Ballot) -> Result<(), NoMemory> {
+        if let Some(i) = item_at(self.items.as_slice(), phase_of(notice.after)) {
             let value = i.value.as_ref().map(|v| v.as_slice());
-            b.set(self.alloc, i.vote, value, None)?;
+            ballot.set(self.alloc, i.vote, value, None)?;
         }
         Ok(())
     }
@@ -83,8 +83,8 @@ impl Callbacks for SteadyClient {
     ghost script = { λ c. Some steady_items };
 
     #[tactic(auto, unfolding(crate::specs::Handed::voted_by, crate::specs::Handed::filled_by, crate::specs::Handed::item_at))]
-    fn notice(&mut self, _n: &Notice<'_>, b: &mut Ballot) -> Result<(), NoMemory> {
-        b.set(self.alloc, Vote::Approve, None, None)?;
+    fn notice(&mut self, _n: &Notice<'_>, ballot: &mut Ballot) -> Result<(), NoMemory> {
+        ballot.set(self.alloc, Vote::Approve, None, None)?;
         Ok(())
     }
 
@@ -104,12 +104,12 @@ impl Callbacks for BoxedClient {
 
     ghost script = { λ b. (Callbacks-box b.inner).script b.inner.value };
 
-    fn notice(&mut self, n: &Notice<'_>, b: &mut Ballot) -> Result<(), NoMemory> {
-        self.inner.notice(n, b)
+    fn notice(&mut self, notice: &Notice<'_>, ballot: &mut Ballot) -> Result<(), NoMemory> {
+        self.inner.notice(notice, ballot)
     }
 
-    fn told(&mut self, t: &Told) -> Result<(), NoMemory> {
-        self.inner.told(t)
+    fn told(&mut self, told: &Told) -> Result<(), NoMemory> {
+        self.inner.told(told)
     }
 }
 
@@ -125,17 +125,17 @@ impl Callbacks for DaemonClient {
 
     ghost script = { λ d. script_in (λ (c : _). Some c.items) (λ (b : _). (Callbacks-box b.inner).script b.inner.value) d };
 
-    fn notice(&mut self, n: &Notice<'_>, b: &mut Ballot) -> Result<(), NoMemory> {
+    fn notice(&mut self, notice: &Notice<'_>, ballot: &mut Ballot) -> Result<(), NoMemory> {
         match self {
-            DaemonClient::Script(c) => c.notice(n, b),
-            DaemonClient::Boxed(x) => x.notice(n, b),
+            DaemonClient::Script(c) => c.notice(notice, ballot),
+            DaemonClient::Boxed(x) => x.notice(notice, ballot),
         }
     }
 
-    fn told(&mut self, t: &Told) -> Result<(), NoMemory> {
+    fn told(&mut self, told: &Told) -> Result<(), NoMemory> {
         match self {
-            DaemonClient::Script(c) => c.told(t),
-            DaemonClient::Boxed(x) => x.told(t),
+            DaemonClient::Script(c) => c.told(told),
+            DaemonClient::Boxed(x) => x.told(told),
         }
     }
 }

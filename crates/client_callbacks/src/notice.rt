@@ -7,8 +7,8 @@ ghost use Rattle.client_callbacks.specs.Votes.{votes_word};
 
 use crate::ballot::Ballot;
 use crate::told::Told;
+use proposal_core::rsct_packet::{NoMemory, ProviderId, ViewId};
 use proposal_core::{Entry, GroupState};
-use rsct_packet::{NoMemory, ProviderId, ViewId};
 use std::alloc::Global;
 
 /// What a client is handed for its provider `p`: an entry of the group's list at this place of this view, the
@@ -34,15 +34,19 @@ pub trait Callbacks: Drop {
     ghost script: { Self → Option (List (Option VoteItem)) };
 
     /// Hands it a notice, with a ballot to fill.
-    fn notice(&mut self, n: &Notice<'_>, b: &mut Ballot) -> Result<(), NoMemory>
-        ensures stands { (h : List Handed) → stands_for self.old h → OnOk result (stands_for self.new (h ++ Notified (notice_of n.now) ∷ [])) }
+    fn notice(&mut self, notice: &Notice<'_>, ballot: &mut Ballot) -> Result<(), NoMemory>
+        ensures stands { (h : List Handed) → stands_for self.old h
+            → OnOk result (stands_for self.new (h ++ Notified (notice_of notice.now) ∷ [])) }
         ensures script { OnOk result (script self.new ≡ script self.old) }
-        ensures fills { OnOk result (Fills (script self.old) n.now.after.now b.old b.new) }
-        ensures ballot { (b.new.votes ≡ b.old.votes) × (b.new.level ≡ b.old.level) };
+        ensures fills { OnOk result (Fills (script self.old) notice.now.after.now ballot.old
+            ballot.new) }
+        ensures ballot { (ballot.new.votes ≡ ballot.old.votes)
+            × (ballot.new.level ≡ ballot.old.level) };
 
     /// Tells it something.
-    fn told(&mut self, t: &Told) -> Result<(), NoMemory>
-        ensures stands { (h : List Handed) → stands_for self.old h → OnOk result (stands_for self.new (h ++ Informed t.now ∷ [])) }
+    fn told(&mut self, told: &Told) -> Result<(), NoMemory>
+        ensures stands { (h : List Handed) → stands_for self.old h
+            → OnOk result (stands_for self.new (h ++ Informed told.now ∷ [])) }
         ensures script { OnOk result (script self.new ≡ script self.old) };
 }
 
@@ -54,5 +58,7 @@ pub trait Made: Callbacks + Sized {
     /// A client of this votes word, which was handed nothing; `Ok(None)` exactly where it is `boxed` or no votes
     /// word.
     fn made(alloc: Global, votes: &[u8]) -> Result<Option<Self>, NoMemory>
-        ensures { IfOk result (λ o. MatchOption o (votes_word votes.now ≡ None) (λ c. Self.stands_for c [] × ForSome (votes_word votes.now) (λ items. Self.script c ≡ script_of items))) };
+        ensures { IfOk result (λ o. MatchOption o (votes_word votes.now ≡ None)
+            (λ c. Self.stands_for c [] × ForSome (votes_word votes.now)
+            (λ items. Self.script c ≡ script_of items))) };
 }

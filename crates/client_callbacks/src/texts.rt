@@ -2,7 +2,7 @@
 ghost use Rattle.std.specs.Prelude.{◌≡◌, ◌<◌, OnOk, IfOk, IfSome};
 ghost use Rattle.client_callbacks.specs.Votes.{hex_value, hex_pair, with_byte, text_byte, text_end, text_of, text_word};
 
-use rsct_packet::{List, NoMemory};
+use proposal_core::rsct_packet::{List, NoMemory};
 use std::alloc::Global;
 
 /// How far the `%XX` of a byte has been read.
@@ -22,35 +22,35 @@ struct TextRead {
 
 /// The value of a hex digit of either case; `None` for any other byte.
 #[tactic(auto, unfolding(crate::specs::Votes::hex_value))]
-pub fn hex_value(b: u8) -> Option<u8>
-    ensures value { result ≡ hex_value b }
+pub fn hex_value(byte: u8) -> Option<u8>
+    ensures value { result ≡ hex_value byte }
     ensures small { IfSome result (λ x. x < 16) }
 {
-    match b {
-        b'0'..=b'9' => Some(b - b'0'),
-        b'A'..=b'F' => Some(b - b'A' + 10),
-        b'a'..=b'f' => Some(b - b'a' + 10),
+    match byte {
+        b'0'..=b'9' => Some(byte - b'0'),
+        b'A'..=b'F' => Some(byte - b'A' + 10),
+        b'a'..=b'f' => Some(byte - b'a' + 10),
         _ => None,
     }
 }
 
-fn hex_pair(a: u8, b: u8) -> Option<u8>
-    ensures { result ≡ hex_pair (hex_value a) (hex_value b) }
+fn hex_pair(first: u8, second: u8) -> Option<u8>
+    ensures { result ≡ hex_pair (hex_value first) (hex_value second) }
 {
-    let high = hex_value(a)?;
-    let low = hex_value(b)?;
+    let high = hex_value(first)?;
+    let low = hex_value(second)?;
     Some(16 * high + low)
 }
 
 /// Adds a byte where there is one; else there are no bytes any more.
-fn put_byte(bytes: &mut Option<List<u8>>, b: Option<u8>) -> Result<(), NoMemory>
-    ensures { OnOk result (bytes.new ≡ with_byte bytes.old b) }
+fn put_byte(bytes: &mut Option<List<u8>>, byte: Option<u8>) -> Result<(), NoMemory>
+    ensures { OnOk result (bytes.new ≡ with_byte bytes.old byte) }
 {
-    match b {
+    match byte {
         None => *bytes = None,
-        Some(b) => {
+        Some(byte) => {
             if let Some(list) = bytes {
-                list.push(b)?;
+                list.push(byte)?;
             }
         }
     }
@@ -59,25 +59,25 @@ fn put_byte(bytes: &mut Option<List<u8>>, b: Option<u8>) -> Result<(), NoMemory>
 
 impl TextRead {
     #[tactic(auto, unfolding(crate::specs::Votes::text_byte))]
-    fn byte(&mut self, b: u8) -> Result<(), NoMemory>
-        ensures { OnOk result (self.new ≡ text_byte self.old b) }
+    fn byte(&mut self, byte: u8) -> Result<(), NoMemory>
+        ensures { OnOk result (self.new ≡ text_byte self.old byte) }
     {
         match self.escape {
             Escape::Plain => {
-                if b == b'%' {
+                if byte == b'%' {
                     self.escape = Escape::Percent;
                     Ok(())
                 } else {
-                    put_byte(&mut self.bytes, Some(b))
+                    put_byte(&mut self.bytes, Some(byte))
                 }
             }
             Escape::Percent => {
-                self.escape = Escape::Digit(b);
+                self.escape = Escape::Digit(byte);
                 Ok(())
             }
             Escape::Digit(a) => {
                 self.escape = Escape::Plain;
-                put_byte(&mut self.bytes, hex_pair(a, b))
+                put_byte(&mut self.bytes, hex_pair(a, byte))
             }
         }
     }
@@ -95,14 +95,14 @@ impl TextRead {
 }
 
 #[tactic(auto, unfolding(crate::specs::Votes::text_of), using(std::proofs::lemmas::List::Sums::fold_more))]
-fn text_of(alloc: Global, w: &[u8]) -> Result<Option<List<u8>>, NoMemory>
-    ensures { IfOk result (λ t. t ≡ text_of w.now) }
+fn text_of(alloc: Global, word: &[u8]) -> Result<Option<List<u8>>, NoMemory>
+    ensures { IfOk result (λ t. t ≡ text_of word.now) }
 {
     let mut read = TextRead {
         bytes: Some(List::new(alloc)),
         escape: Escape::Plain,
     };
-    for b in w {
+    for b in word {
         read.byte(*b)?;
     }
     Ok(read.end())
@@ -110,14 +110,14 @@ fn text_of(alloc: Global, w: &[u8]) -> Result<Option<List<u8>>, NoMemory>
 
 /// The bytes of a text's word; none where it is none.
 #[tactic(auto, unfolding(crate::specs::Votes::text_word))]
-pub fn text_word(alloc: Global, w: &[u8]) -> Result<Option<List<u8>>, NoMemory>
-    ensures { IfOk result (λ t. t ≡ text_word w.now) }
+pub fn text_word(alloc: Global, word: &[u8]) -> Result<Option<List<u8>>, NoMemory>
+    ensures { IfOk result (λ t. t ≡ text_word word.now) }
 {
-    if w.len() == 0 {
+    if word.len() == 0 {
         return Ok(None);
     }
-    if w == b"~".as_slice() {
+    if word == b"~".as_slice() {
         return Ok(Some(List::new(alloc)));
     }
-    text_of(alloc, w)
+    text_of(alloc, word)
 }

@@ -6,7 +6,7 @@ ghost use Rattle.client_callbacks.specs.Handed.{item_at};
 
 use crate::texts::text_word;
 use proposal_core::Vote;
-use rsct_packet::{List, NoMemory};
+use proposal_core::rsct_packet::{List, NoMemory};
 use std::alloc::Global;
 
 /// How a client votes in one phase: its vote, and the state value that it proposes, of any length.
@@ -25,10 +25,10 @@ struct VotesRead {
 }
 
 #[tactic(auto, unfolding(crate::specs::Votes::vote_letter))]
-fn vote_letter(b: u8) -> Option<Vote>
-    ensures { result ≡ vote_letter b }
+fn vote_letter(byte: u8) -> Option<Vote>
+    ensures { result ≡ vote_letter byte }
 {
-    match b {
+    match byte {
         b'A' => Some(Vote::Approve),
         b'C' => Some(Vote::Continue),
         b'R' => Some(Vote::Reject),
@@ -39,22 +39,22 @@ fn vote_letter(b: u8) -> Option<Vote>
 /// The vote and the value of the word `A`, `C` or `R`, with `=` and a text's word after it or not; none where
 /// it is none.
 #[tactic(auto, unfolding(crate::specs::Votes::vote_word))]
-pub fn vote_word(alloc: Global, w: &[u8]) -> Result<Option<VoteItem>, NoMemory>
-    ensures { IfOk result (λ i. i ≡ vote_word w.now) }
+pub fn vote_word(alloc: Global, word: &[u8]) -> Result<Option<VoteItem>, NoMemory>
+    ensures { IfOk result (λ i. i ≡ vote_word word.now) }
 {
-    if w.len() == 0 {
+    if word.len() == 0 {
         return Ok(None);
     }
-    let Some(vote) = vote_letter(w[0]) else {
+    let Some(vote) = vote_letter(word[0]) else {
         return Ok(None);
     };
-    if w.len() == 1 {
+    if word.len() == 1 {
         return Ok(Some(VoteItem { vote, value: None }));
     }
-    if w[1] != b'=' {
+    if word[1] != b'=' {
         return Ok(None);
     }
-    match text_word(alloc, &w[2..])? {
+    match text_word(alloc, &word[2..])? {
         None => Ok(None),
         Some(value) => Ok(Some(VoteItem {
             vote,
@@ -65,13 +65,13 @@ pub fn vote_word(alloc: Global, w: &[u8]) -> Result<Option<VoteItem>, NoMemory>
 
 /// An item of a votes word; none where it is none.
 #[tactic(auto, unfolding(crate::specs::Votes::vote_item))]
-fn vote_item(alloc: Global, w: &[u8]) -> Result<Option<Option<VoteItem>>, NoMemory>
-    ensures { IfOk result (λ i. i ≡ vote_item w.now) }
+fn vote_item(alloc: Global, word: &[u8]) -> Result<Option<Option<VoteItem>>, NoMemory>
+    ensures { IfOk result (λ i. i ≡ vote_item word.now) }
 {
-    if w == b"-".as_slice() {
+    if word == b"-".as_slice() {
         return Ok(Some(None));
     }
-    match vote_word(alloc, w)? {
+    match vote_word(alloc, word)? {
         None => Ok(None),
         Some(i) => Ok(Some(Some(i))),
     }
@@ -80,15 +80,15 @@ fn vote_item(alloc: Global, w: &[u8]) -> Result<Option<Option<VoteItem>>, NoMemo
 /// Adds an item where there is one; else there are no items any more.
 fn put_item(
     items: &mut Option<List<Option<VoteItem>>>,
-    i: Option<Option<VoteItem>>,
+    item: Option<Option<VoteItem>>,
 ) -> Result<(), NoMemory>
-    ensures { OnOk result (items.new ≡ with_item items.old i) }
+    ensures { OnOk result (items.new ≡ with_item items.old item) }
 {
-    match i {
+    match item {
         None => *items = None,
-        Some(i) => {
+        Some(item) => {
             if let Some(list) = items {
-                list.push(i)?;
+                list.push(item)?;
             }
         }
     }
@@ -105,39 +105,39 @@ impl VotesRead {
     }
 
     #[tactic(auto, unfolding(crate::specs::Votes::votes_byte))]
-    fn byte(&mut self, alloc: Global, b: u8) -> Result<(), NoMemory>
-        ensures { OnOk result (self.new ≡ votes_byte self.old b) }
+    fn byte(&mut self, alloc: Global, byte: u8) -> Result<(), NoMemory>
+        ensures { OnOk result (self.new ≡ votes_byte self.old byte) }
     {
-        if b == b',' {
+        if byte == b',' {
             self.end_piece(alloc)?;
             self.piece = List::new(alloc);
             return Ok(());
         }
-        self.piece.push(b)
+        self.piece.push(byte)
     }
 }
 
 /// Are these printable, with no space?
-fn is_word(w: &[u8]) -> bool
-    ensures { result ≡ is_word w.now }
+fn is_word(word: &[u8]) -> bool
+    ensures { result ≡ is_word word.now }
 {
-    w.iter().all(|b| *b >= 33 && *b <= 126)
+    word.iter().all(|b| *b >= 33 && *b <= 126)
 }
 
 /// The items of a votes word, joined by commas: `-`, which is silent, or a vote's word. None where it is
 /// `boxed` or no votes word.
 #[tactic(auto, unfolding(crate::specs::Votes::votes_word), using(std::proofs::lemmas::List::Sums::fold_more))]
-pub fn votes_word(alloc: Global, w: &[u8]) -> Result<Option<List<Option<VoteItem>>>, NoMemory>
-    ensures { IfOk result (λ items. items ≡ votes_word w.now) }
+pub fn votes_word(alloc: Global, word: &[u8]) -> Result<Option<List<Option<VoteItem>>>, NoMemory>
+    ensures { IfOk result (λ items. items ≡ votes_word word.now) }
 {
-    if !is_word(w) {
+    if !is_word(word) {
         return Ok(None);
     }
     let mut read = VotesRead {
         items: Some(List::new(alloc)),
         piece: List::new(alloc),
     };
-    for b in w {
+    for b in word {
         read.byte(alloc, *b)?;
     }
     read.end_piece(alloc)?;

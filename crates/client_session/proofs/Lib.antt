@@ -1,3 +1,1 @@
-pub mod Standing
-mod Keeping
-mod Scripts
+pub mod Below

@@ -1,8 +1,10 @@
-//! The clients of a node: what they are handed and told, and what they answer.
+//! The sessions of a node with their clients as one value: the calls of clients, each with its checks, what is delivered to
+//! them, and what is read of them.
 #![tactic(auto)]
 
-mod clients;
-mod laws;
+mod reads;
+mod sessions;
 
-pub use clients::{hand_entry_on, tell_at};
-pub use laws::scripted_clients_fill_their_scripts;
+pub use session_calls;
+pub use session_calls::{client_callbacks, session_state, subscribe_core};
+pub use sessions::Sessions;

@@ -1,3 +1,4 @@
 pub mod Agree
 pub mod Attrs
 pub mod Codec
+pub use Rattle.rsct_packet.specs as rsct_packet

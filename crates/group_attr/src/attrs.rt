@@ -105,17 +105,17 @@ impl Attrs {
 
     /// Are all fields equal?
     #[tactic(auto, unfolding(crate::specs::Agree::agree))]
-    pub fn agrees(&self, o: &Attrs) -> bool
-        ensures value { result ≡ agree self.now o.now }
-        ensures equal { IsTrue result ↔ (self.now ≡ o.now) }
+    pub fn agrees(&self, other: &Attrs) -> bool
+        ensures value { result ≡ agree self.now other.now }
+        ensures equal { IsTrue result ↔ (self.now ≡ other.now) }
     {
-        self.phases == o.phases
-            && self.batch == o.batch
-            && self.default_vote == o.default_vote
-            && self.limit == o.limit
-            && is_same_source(&self.source, &o.source)
-            && self.source_phases == o.source_phases
-            && self.source_limit == o.source_limit
+        self.phases == other.phases
+            && self.batch == other.batch
+            && self.default_vote == other.default_vote
+            && self.limit == other.limit
+            && is_same_source(&self.source, &other.source)
+            && self.source_phases == other.source_phases
+            && self.source_limit == other.source_limit
     }
 }
 
@@ -131,13 +131,13 @@ fn is_bad_source(source: &Option<Name>, group: &[u8]) -> bool
 }
 
 /// Are both the same source, or none?
-fn is_same_source(a: &Option<Name>, b: &Option<Name>) -> bool
-    ensures value { result ≡ same_source a.now b.now }
-    ensures equal { IsTrue result ↔ (a.now ≡ b.now) }
+fn is_same_source(first: &Option<Name>, second: &Option<Name>) -> bool
+    ensures value { result ≡ same_source first.now second.now }
+    ensures equal { IsTrue result ↔ (first.now ≡ second.now) }
 {
-    match (a, b) {
+    match (first, second) {
         (None, None) => true,
-        (Some(a), Some(b)) => a.bytes() == b.bytes(),
+        (Some(first), Some(second)) => first.bytes() == second.bytes(),
         _ => false,
     }
 }

@@ -4,3 +4,4 @@
 mod attrs;
 
 pub use attrs::{AttrFault, Attrs, Batch, DefaultVote, HOST_MEMBERSHIP, MAX_LIMIT, Phases};
+pub use rsct_packet;

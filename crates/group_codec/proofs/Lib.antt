@@ -1,3 +1,4 @@
+pub mod Below
 pub mod AttrFormat
 pub mod ProposalFormat
 pub mod EntryFormat

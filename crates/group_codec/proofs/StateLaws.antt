@@ -4,17 +4,17 @@ use Rattle.std.specs.Prelude.{IsTrue, not, ◌||◌, ◌&&◌, ◌==◌, filter,
 use Rattle.std.specs.List.{list_all}
 use Rattle.std.proofs.lemmas.Bool.{leb-true, ltb-true}
 use Rattle.std.proofs.lemmas.List.{append-nil}
-use Rattle.rsct_packet.specs.declared.ids.ProviderId.{ProviderId}
-use Rattle.rsct_packet.specs.declared.ids.ViewId.{ViewId}
-use Rattle.rsct_packet.specs.declared.ids.ProtoId.{ProtoId}
-use Rattle.rsct_packet.specs.Ids.{same_proto}
-use Rattle.rsct_packet.specs.Providers.{same_provider, among, none_among, without_all}
-use Rattle.rsct_packet.specs.Format.{EachFits, OptionFits}
-use Rattle.rsct_packet.specs.Fields.{AreShort, IsU32, IsView, IsProto, IsProvider, IsProviders}
-use Rattle.rsct_packet.proofs.FieldLaws.{and_true, both_true}
-use Rattle.rsct_packet.proofs.ProviderLaws.{AreProviders-without_all, AreProviders-append}
-use Rattle.group_attr.specs.declared.attrs.Attrs.{Attrs}
-use Rattle.group_attr.specs.Codec.{IsAttrs}
+use Rattle.proposal_core.specs.rsct_packet.declared.ids.ProviderId.{ProviderId}
+use Rattle.proposal_core.specs.rsct_packet.declared.ids.ViewId.{ViewId}
+use Rattle.proposal_core.specs.rsct_packet.declared.ids.ProtoId.{ProtoId}
+use Rattle.proposal_core.specs.rsct_packet.Ids.{same_proto}
+use Rattle.proposal_core.specs.rsct_packet.Providers.{same_provider, among, none_among, without_all}
+use Rattle.proposal_core.specs.rsct_packet.Format.{EachFits, OptionFits}
+use Rattle.proposal_core.specs.rsct_packet.Fields.{AreShort, IsU32, IsView, IsProto, IsProvider, IsProviders}
+use Rattle.proposal_core.proofs.rsct_packet_laws.FieldLaws.{and_true, both_true}
+use Rattle.proposal_core.proofs.rsct_packet_laws.ProviderLaws.{AreProviders-without_all, AreProviders-append}
+use Rattle.proposal_core.specs.group_attr.declared.attrs.Attrs.{Attrs}
+use Rattle.proposal_core.specs.group_attr.Codec.{IsAttrs}
 use Rattle.proposal_core.specs.declared.proposal.Proposal.{Proposal}
 use Rattle.proposal_core.specs.declared.proposal.Proposal.TheVariants.{Join, Leave, Fail, Expel, State, Message, Attributes, Reflect}
 use Rattle.proposal_core.specs.declared.entry.Entry.{Entry}
@@ -23,7 +23,7 @@ use Rattle.proposal_core.specs.ProposalCodec.{IsProposal}
 use Rattle.proposal_core.specs.EntryCodec.{IsEntry, IsClosed}
 use Rattle.proposal_core.specs.declared.group_state.GroupState.{GroupState}
 use Rattle.proposal_core.specs.declared.group_state.Running.{Running}
-use Rattle.proposal_core.specs.Fold.{joins_of, joiners_in, fallen_of, without, can_begin, fits, runs, effect, first_value, first_attrs, with_attrs, begun, newer, valued, approved, once, applied, rejected, rejected_of, next_phase, advanced, joiners_fit}
+use Rattle.proposal_core.specs.Fold.{joins_of, joiners_in, fallen_of, without, can_begin, fits, runs, effect, first_value, first_attrs, take_attrs, begun, replace_proposed, take_value, approve, apply_once, apply, reject, take_rejection, next_phase, advance, joiners_fit}
 use Rattle.proposal_core.specs.StateCodec.{IsState, IsRunning, failed_are_present}
 use Rattle.proposal_core.proofs.FoldLaws.{once_is_applied, joiners_fit_after, attrs_keep_beginning, joiners_where_idle, joiners_that_run, idle_approved, idle_rejected}
 use Rattle.proposal_core.proofs.FoldLaws.{among_both}
@@ -223,8 +223,8 @@ kept_effect s (Attributes q r attrs) b p g =
     }
 kept_effect s (Reflect view place value) b p h = kept_reflected s view place p.0 p.1.0 h
 
-kept_rejection : (s : GroupState) (x : Proposal) → IsProposal x → IsKept s (s.members ++ joins_of x) → IsKept (rejected_of s x) (rejected_of s x).members
-unfolding rejected_of
+kept_rejection : (s : GroupState) (x : Proposal) → IsProposal x → IsKept s (s.members ++ joins_of x) → IsKept (take_rejection s x) (take_rejection s x).members
+unfolding take_rejection
 kept_rejection s (Join ps attrs n) p h = record {
   members = h.members;
   value = h.value;
@@ -244,8 +244,8 @@ kept_rejection s (Reflect view place value) p h = kept_reflected s view place p.
 
 -- What an entry brings.
 
-newer_short : (value old : Option (List ℕ)) → OptionFits AreShort value → OptionFits AreShort old → OptionFits AreShort (newer value old)
-unfolding newer
+newer_short : (value old : Option (List ℕ)) → OptionFits AreShort value → OptionFits AreShort old → OptionFits AreShort (replace_proposed value old)
+unfolding replace_proposed
 newer_short None old g h = h
 newer_short (Some value) old g h = g
 
@@ -271,8 +271,8 @@ first_attrs_fit s (Message q r bytes) p = tt
 first_attrs_fit s (Attributes q r attrs) p = tt
 first_attrs_fit s (Reflect view place value) p = tt
 
-kept_valued : (s : GroupState) (v : ViewId) (i : ℕ) (value : Option (List ℕ)) → IsView v → IsU32 i → OptionFits AreShort value → IsKept s s.members → IsKept (valued s v i value) (valued s v i value).members
-unfolding valued
+kept_valued : (s : GroupState) (v : ViewId) (i : ℕ) (value : Option (List ℕ)) → IsView v → IsU32 i → OptionFits AreShort value → IsKept s s.members → IsKept (take_value s v i value) (take_value s v i value).members
+unfolding take_value
 kept_valued s v i None view place short h = h
 kept_valued s v i (Some value) view place short h = record {
   members = h.members;
@@ -284,8 +284,8 @@ kept_valued s v i (Some value) view place short h = record {
   present = h.present;
 }
 
-kept_with_attrs : (s : GroupState) (attrs : Option Attrs) → OptionFits IsAttrs attrs → IsKept s s.members → IsKept (with_attrs s attrs) (with_attrs s attrs).members
-unfolding with_attrs
+kept_with_attrs : (s : GroupState) (attrs : Option Attrs) → OptionFits IsAttrs attrs → IsKept s s.members → IsKept (take_attrs s attrs) (take_attrs s attrs).members
+unfolding take_attrs
 kept_with_attrs s None a h = h
 kept_with_attrs s (Some attrs) a h = record {
   members = h.members;
@@ -311,25 +311,25 @@ kept_idle s there h = record {
 }
 
 begins_idle : (s : GroupState) (x : Proposal) → IsTrue (can_begin s x) → IsTrue (can_begin (record s { running = None }) x)
-unfolding with_attrs
+unfolding take_attrs
 begins_idle s x h = subst IsTrue (attrs_keep_beginning s None None x) h
 
 idle_where_none : (run : Option Running) → IsTrue (is_none run) → run ≡ None
 idle_where_none None h = refl
 idle_where_none (Some run) h = absurd cc
 
-once_is_state : (s : GroupState) (v : ViewId) (i : ℕ) (x : Proposal) → s.running ≡ None → IsTrue (can_begin s x) → IsProposal x → IsView v → IsU32 i → IsState s → IsState (applied s v i (Once x))
-unfolding once applied
+once_is_state : (s : GroupState) (v : ViewId) (i : ℕ) (x : Proposal) → s.running ≡ None → IsTrue (can_begin s x) → IsProposal x → IsView v → IsU32 i → IsState s → IsState (apply s v i (Once x))
+unfolding apply_once apply
 once_is_state s v i x e b p view place h =
     let same = once_is_applied s v i x e in
-    let idle : (once s v i x).running ≡ None = ap (λ (t : GroupState). t.running) (sym same) ∙ idle_approved _ v i None _ refl in
+    let idle : (apply_once s v i x).running ≡ None = ap (λ (t : GroupState). t.running) (sym same) ∙ idle_approved _ v i None _ refl in
     let g = kept_effect s x b p (joined s (joins_of x) (kept_of s None e h)) in
     subst IsState (sym same)
-    (kept_is_state (once s v i x) idle
+    (kept_is_state (apply_once s v i x) idle
     (kept_valued _ v i (first_value x) view place (first_value_short x p) (kept_with_attrs (effect s x) (first_attrs s x) (first_attrs_fit s x p) g)))
 
-begun_is_state : (s : GroupState) (attrs : Option Attrs) (run : Running) → s.running ≡ None → OptionFits IsAttrs attrs → IsRunning run → IsTrue (joiners_fit (record (with_attrs s attrs) { running = Some run })) → IsState s → IsState (record (with_attrs s attrs) { running = Some run })
-unfolding with_attrs failed_are_present
+begun_is_state : (s : GroupState) (attrs : Option Attrs) (run : Running) → s.running ≡ None → OptionFits IsAttrs attrs → IsRunning run → IsTrue (joiners_fit (record (take_attrs s attrs) { running = Some run })) → IsState s → IsState (record (take_attrs s attrs) { running = Some run })
+unfolding take_attrs failed_are_present
 begun_is_state s None run e a r j h = record {
   members = h.members;
   value = h.value;
@@ -354,7 +354,7 @@ begun_is_state s (Some attrs) run e a r j h = record {
 }
 
 phase_is_state : (s : GroupState) (proto : ProtoId) (phase : ℕ) (value : Option (List ℕ)) (run : Option Running) → s.running ≡ run → IsTrue (runs proto phase run && nat_lt phase 200) → OptionFits AreShort value → IsTrue (joiners_fit (next_phase s value run)) → IsState s → IsState (next_phase s value run)
-unfolding runs next_phase advanced failed_are_present
+unfolding runs next_phase advance failed_are_present
 phase_is_state s proto phase value None e f short j h = absurd cc
 phase_is_state s proto phase value (Some run) e f short j h =
     let parts = and_true (phase == run.phase && same_proto proto run.proto) (nat_lt phase 200) f in
@@ -373,25 +373,25 @@ phase_is_state s proto phase value (Some run) e f short j h =
       present = rw e at h.present;
     }
 
-approved_is_state : (s : GroupState) (v : ViewId) (i : ℕ) (value : Option (List ℕ)) (run : Option Running) → s.running ≡ run → IsView v → IsU32 i → OptionFits AreShort value → IsState s → IsState (approved s v i value run)
-unfolding approved joiners_fit
+approved_is_state : (s : GroupState) (v : ViewId) (i : ℕ) (value : Option (List ℕ)) (run : Option Running) → s.running ≡ run → IsView v → IsU32 i → OptionFits AreShort value → IsState s → IsState (approve s v i value run)
+unfolding approve joiners_fit
 approved_is_state s v i value None e view place short h = h
 approved_is_state s v i value (Some run) e view place short h =
     let r : IsRunning run = rw e at h.running in
     let t : GroupState = record s { running = None } in
     let b = begins_idle s run.proposal (joiners_that_run s s.running run e h.joiners) in
     let g = kept_effect t run.proposal b r.proposal (kept_idle s _ (kept_of s (Some run) e h)) in
-    kept_is_state _ (idle_approved s v i value (Some run) e) (kept_valued (effect t run.proposal) v i (newer value run.proposed) view place (newer_short value run.proposed short r.proposed) g)
+    kept_is_state _ (idle_approved s v i value (Some run) e) (kept_valued (effect t run.proposal) v i (replace_proposed value run.proposed) view place (newer_short value run.proposed short r.proposed) g)
 
-rejected_is_state : (s : GroupState) (run : Option Running) → s.running ≡ run → IsState s → IsState (rejected s run)
-unfolding rejected
+rejected_is_state : (s : GroupState) (run : Option Running) → s.running ≡ run → IsState s → IsState (reject s run)
+unfolding reject
 rejected_is_state s None e h = h
 rejected_is_state s (Some run) e h =
     let r : IsRunning run = rw e at h.running in
     kept_is_state _ (idle_rejected s (Some run) e) (kept_rejection (record s { running = None }) run.proposal r.proposal (kept_idle s _ (kept_of s (Some run) e h)))
 
-pub states_stay_states : (s : GroupState) (v : ViewId) (i : ℕ) (e : Entry) → IsTrue (fits s e) → IsState s → IsEntry e → IsView v → IsU32 i → IsState (applied s v i e)
-unfolding applied fits begun
+pub states_stay_states : (s : GroupState) (v : ViewId) (i : ℕ) (e : Entry) → IsTrue (fits s e) → IsState s → IsEntry e → IsView v → IsU32 i → IsState (apply s v i e)
+unfolding apply fits begun
 states_stay_states s v i (Once x) f h p view place =
     let parts = and_true (is_none s.running) (can_begin s x) f in
     once_is_state s v i x (idle_where_none s.running parts.0) parts.1 p view place h

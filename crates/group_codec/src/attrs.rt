@@ -2,15 +2,17 @@
 //! source phases, source limit, the byte 0 for a merge that dissolves, and the source's name or the byte 0.
 ghost use Rattle.std.specs.Prelude.{◌≡◌, ◌++◌, IfOk, OnOk, OnErr, option_copied};
 ghost use Rattle.std.specs.Option.{option_map};
-ghost use Rattle.rsct_packet.specs.Reading.{Gives};
-ghost use Rattle.rsct_packet.specs.Format.{IsFoundAt, IsOnlyAt, OptionFits};
-ghost use Rattle.rsct_packet.specs.Text.{IsName};
-ghost use Rattle.group_attr.specs.Agree.{batch_number};
-ghost use Rattle.group_attr.specs.Codec.{phases_number, default_number, source_text, phases_at, batch_at, default_at, dissolve_at, source_at, attrs_at, attrs_text, IsAttrs};
+ghost use Rattle.proposal_core.specs.rsct_packet.Reading.{Gives};
+ghost use Rattle.proposal_core.specs.rsct_packet.Format.{IsFoundAt, IsOnlyAt, OptionFits};
+ghost use Rattle.proposal_core.specs.rsct_packet.Text.{IsName};
+ghost use Rattle.proposal_core.specs.group_attr.Agree.{batch_number};
+ghost use Rattle.proposal_core.specs.group_attr.Codec.{phases_number, default_number, source_text, phases_at, batch_at, default_at, dissolve_at, source_at, attrs_at, attrs_text, IsAttrs};
 ghost use Rattle.group_codec.specs.InPlace.{attrs_in, attrs_of};
 
-use group_attr::{Attrs, Batch, DefaultVote, Phases};
-use rsct_packet::{Name, NoMemory, is_name, known, put_name, put_u8, read_part, read_u8, read_u16};
+use proposal_core::group_attr::{Attrs, Batch, DefaultVote, Phases};
+use proposal_core::rsct_packet::{
+    Name, NoMemory, is_name, known, put_name, put_u8, read_part, read_u8, read_u16,
+};
 use std::alloc::Global;
 
 /// Attributes as they stand in a datagram.
@@ -26,84 +28,84 @@ pub struct AttrsRef<'a> {
 }
 
 /// One byte: 1 for one phase, 2 for several; `None` where the front is neither.
-#[tactic(auto, unfolding(group_attr::specs::Codec::phases_at))]
-pub fn read_phases(b: &[u8]) -> Option<(Phases, &[u8])>
-    ensures { Gives result (phases_at b.now) }
+#[tactic(auto, unfolding(crate::proofs::Below::phases_at))]
+pub fn read_phases(bytes: &[u8]) -> Option<(Phases, &[u8])>
+    ensures { Gives result (phases_at bytes.now) }
 {
-    let (n, b) = read_u8(b)?;
+    let (n, bytes) = read_u8(bytes)?;
     match n {
-        1 => Some((Phases::One, b)),
-        2 => Some((Phases::Many, b)),
+        1 => Some((Phases::One, bytes)),
+        2 => Some((Phases::Many, bytes)),
         _ => None,
     }
 }
 
-#[tactic(auto, unfolding(group_attr::specs::Codec::batch_at))]
-fn read_batch(b: &[u8]) -> Option<(Batch, &[u8])>
-    ensures { Gives result (batch_at b.now) }
+#[tactic(auto, unfolding(crate::proofs::Below::batch_at))]
+fn read_batch(bytes: &[u8]) -> Option<(Batch, &[u8])>
+    ensures { Gives result (batch_at bytes.now) }
 {
-    let (n, b) = read_u8(b)?;
+    let (n, bytes) = read_u8(bytes)?;
     match n {
-        0 => Some((Batch::Neither, b)),
-        1 => Some((Batch::Joins, b)),
-        2 => Some((Batch::Failures, b)),
-        3 => Some((Batch::Both, b)),
+        0 => Some((Batch::Neither, bytes)),
+        1 => Some((Batch::Joins, bytes)),
+        2 => Some((Batch::Failures, bytes)),
+        3 => Some((Batch::Both, bytes)),
         _ => None,
     }
 }
 
-#[tactic(auto, unfolding(group_attr::specs::Codec::default_at))]
-fn read_default(b: &[u8]) -> Option<(DefaultVote, &[u8])>
-    ensures { Gives result (default_at b.now) }
+#[tactic(auto, unfolding(crate::proofs::Below::default_at))]
+fn read_default(bytes: &[u8]) -> Option<(DefaultVote, &[u8])>
+    ensures { Gives result (default_at bytes.now) }
 {
-    let (n, b) = read_u8(b)?;
+    let (n, bytes) = read_u8(bytes)?;
     match n {
-        1 => Some((DefaultVote::Approve, b)),
-        3 => Some((DefaultVote::Reject, b)),
+        1 => Some((DefaultVote::Approve, bytes)),
+        3 => Some((DefaultVote::Reject, bytes)),
         _ => None,
     }
 }
 
 /// The byte for a merge that dissolves.
-#[tactic(auto, unfolding(group_attr::specs::Codec::dissolve_at))]
-fn read_dissolve(b: &[u8]) -> Option<((), &[u8])>
-    ensures { Gives result (dissolve_at b.now) }
+#[tactic(auto, unfolding(crate::proofs::Below::dissolve_at))]
+fn read_dissolve(bytes: &[u8]) -> Option<((), &[u8])>
+    ensures { Gives result (dissolve_at bytes.now) }
 {
-    let (n, b) = read_u8(b)?;
+    let (n, bytes) = read_u8(bytes)?;
     if n != 0 {
         return None;
     }
-    Some(((), b))
+    Some(((), bytes))
 }
 
 /// The byte 0 for no source, or its name.
-#[tactic(auto, unfolding(group_attr::specs::Codec::source_at))]
-fn read_source(b: &[u8]) -> Option<(Option<&[u8]>, &[u8])>
-    ensures { option_map (λ x. (option_copied x.0, x.1.now)) result ≡ source_at b.now }
+#[tactic(auto, unfolding(crate::proofs::Below::source_at))]
+fn read_source(bytes: &[u8]) -> Option<(Option<&[u8]>, &[u8])>
+    ensures { option_map (λ x. (option_copied x.0, x.1.now)) result ≡ source_at bytes.now }
 {
-    let (n, b) = read_u8(b)?;
+    let (n, bytes) = read_u8(bytes)?;
     if n == 0 {
-        return Some((None, b));
+        return Some((None, bytes));
     }
-    let (name, b) = read_part(n as usize, b)?;
+    let (name, bytes) = read_part(n as usize, bytes)?;
     if !is_name(name) {
         return None;
     }
-    Some((Some(name), b))
+    Some((Some(name), bytes))
 }
 
-#[tactic(auto, unfolding(group_attr::specs::Codec::attrs_at))]
-fn attrs_front(b: &[u8]) -> Option<(AttrsRef<'_>, &[u8])>
-    ensures { option_map (λ x. (attrs_in x.0, x.1.now)) result ≡ attrs_at b.now }
+#[tactic(auto, unfolding(crate::proofs::Below::attrs_at))]
+fn attrs_front(bytes: &[u8]) -> Option<(AttrsRef<'_>, &[u8])>
+    ensures { option_map (λ x. (attrs_in x.0, x.1.now)) result ≡ attrs_at bytes.now }
 {
-    let (phases, b) = read_phases(b)?;
-    let (batch, b) = read_batch(b)?;
-    let (default_vote, b) = read_default(b)?;
-    let (limit, b) = read_u16(b)?;
-    let (source_phases, b) = read_phases(b)?;
-    let (source_limit, b) = read_u16(b)?;
-    let ((), b) = read_dissolve(b)?;
-    let (source, b) = read_source(b)?;
+    let (phases, bytes) = read_phases(bytes)?;
+    let (batch, bytes) = read_batch(bytes)?;
+    let (default_vote, bytes) = read_default(bytes)?;
+    let (limit, bytes) = read_u16(bytes)?;
+    let (source_phases, bytes) = read_phases(bytes)?;
+    let (source_limit, bytes) = read_u16(bytes)?;
+    let ((), bytes) = read_dissolve(bytes)?;
+    let (source, bytes) = read_source(bytes)?;
     let attrs = AttrsRef {
         phases,
         batch,
@@ -113,18 +115,18 @@ fn attrs_front(b: &[u8]) -> Option<(AttrsRef<'_>, &[u8])>
         source_phases,
         source_limit,
     };
-    Some((attrs, b))
+    Some((attrs, bytes))
 }
 
 /// Attributes off the front of bytes, with the bytes after them. None exactly where the front is no spelling of
 /// attributes.
-#[tactic(auto, using(rsct_packet::proofs::FormatLaws::gives_found, rsct_packet::proofs::FormatLaws::gives_only, crate::proofs::AttrFormat::attrs_gives, crate::proofs::AttrFormat::attrs_format))]
-pub fn read_attrs(b: &[u8]) -> Option<(AttrsRef<'_>, &[u8])>
-    ensures value { option_map (λ x. (attrs_in x.0, x.1.now)) result ≡ attrs_at b.now }
-    ensures found { IsFoundAt attrs_text IsAttrs (attrs_of result) b.now }
-    ensures only { IsOnlyAt attrs_text IsAttrs (attrs_of result) b.now }
+#[tactic(auto, using(crate::proofs::Below::format_reads, crate::proofs::AttrFormat::attrs_gives, crate::proofs::AttrFormat::attrs_format))]
+pub fn read_attrs(bytes: &[u8]) -> Option<(AttrsRef<'_>, &[u8])>
+    ensures value { option_map (λ x. (attrs_in x.0, x.1.now)) result ≡ attrs_at bytes.now }
+    ensures found { IsFoundAt attrs_text IsAttrs (attrs_of result) bytes.now }
+    ensures only { IsOnlyAt attrs_text IsAttrs (attrs_of result) bytes.now }
 {
-    attrs_front(known(b))
+    attrs_front(known(bytes))
 }
 
 /// The byte of a number of phases: 1 for one, 2 for several.
@@ -157,7 +159,7 @@ fn default_number(vote: DefaultVote) -> u8
     }
 }
 
-#[tactic(auto, unfolding(group_attr::specs::Codec::source_text, rsct_packet::specs::Fields::name_text))]
+#[tactic(auto, unfolding(crate::proofs::Below::source_text, crate::proofs::Below::name_text))]
 fn put_source(out: &mut Vec<u8>, source: &Option<Name>) -> Result<(), NoMemory>
     ensures ok { OnOk result (out.new.items ≡ out.old.items ++ source_text source.now) }
     ensures err { OnErr result (out.new.items ≡ out.old.items) }
@@ -169,7 +171,7 @@ fn put_source(out: &mut Vec<u8>, source: &Option<Name>) -> Result<(), NoMemory>
 }
 
 /// Takes the spelling of attributes to the end of `out`, and leaves `out` as before where memory has run out.
-#[tactic(auto, unfolding(group_attr::specs::Codec::attrs_text, rsct_packet::specs::Fields::u16_text))]
+#[tactic(auto, unfolding(crate::proofs::Below::attrs_text, crate::proofs::Below::u16_text))]
 pub fn put_attrs(out: &mut Vec<u8>, attrs: &Attrs) -> Result<(), NoMemory>
     ensures ok { OnOk result (out.new.items ≡ out.old.items ++ attrs_text attrs.now) }
     ensures err { OnErr result (out.new.items ≡ out.old.items) }

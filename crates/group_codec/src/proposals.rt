@@ -1,20 +1,20 @@
 //! How proposals are spelled: a byte for the kind, and what the kind has.
 ghost use Rattle.std.specs.Prelude.{◌≡◌, ◌++◌, IfOk, OnOk, OnErr};
 ghost use Rattle.std.specs.Option.{option_map};
-ghost use Rattle.rsct_packet.specs.Reading.{Gives};
+ghost use Rattle.proposal_core.specs.rsct_packet.Reading.{Gives};
 ghost use Rattle.std.specs.List.{list_any};
-ghost use Rattle.rsct_packet.specs.Format.{IsFoundAt, IsOnlyAt};
-ghost use Rattle.rsct_packet.specs.Fields.{u8_text, u32_text, provider_text, IsNode};
+ghost use Rattle.proposal_core.specs.rsct_packet.Format.{IsFoundAt, IsOnlyAt};
+ghost use Rattle.proposal_core.specs.rsct_packet.Fields.{u8_text, u32_text, provider_text, IsNode};
 ghost use Rattle.proposal_core.specs.ProposalCodec.{same_failure, failures_differ, are_failures, fallen_at, join_at, leave_at, fail_at, expel_at, state_change_at, message_at, attributes_at, reflect_at, proposal_at, proposal_text, IsProposal};
 ghost use Rattle.group_codec.specs.InPlace.{proposal_in, proposal_of};
 
 use crate::attrs::{AttrsRef, put_attrs, read_attrs};
-use proposal_core::{Failure, Proposal, is_same_failure, text_of};
-use rsct_packet::{
+use proposal_core::rsct_packet::{
     Listed, NoMemory, ProviderId, Providers, ViewId, known, put_bytes, put_list, put_optional_u32,
     put_provider, put_providers, put_u8, put_u32, put_view, read_bytes, read_list,
     read_optional_u32, read_provider, read_some_providers, read_u8, read_u32, read_view,
 };
+use proposal_core::{Failure, Proposal, is_same_failure, text_of};
 use std::alloc::Global;
 
 /// A proposal as it stands in a datagram.
@@ -60,12 +60,12 @@ pub enum ProposalRef<'a> {
 }
 
 /// Is it one of them?
-fn is_listed(fs: &Listed<Failure>, f: &Failure) -> bool
-    ensures { result ≡ list_any (λ g. same_failure g f.now) fs.now }
+fn is_listed(failures: &Listed<Failure>, failure: &Failure) -> bool
+    ensures { result ≡ list_any (λ g. same_failure g failure.now) failures.now }
 {
-    let mut left = fs.copy();
+    let mut left = failures.copy();
     while let Some(g) = left.take_first() {
-        if is_same_failure(&g, f) {
+        if is_same_failure(&g, failure) {
             return true;
         }
     }
@@ -73,10 +73,10 @@ fn is_listed(fs: &Listed<Failure>, f: &Failure) -> bool
 }
 
 /// Does each differ from those after it?
-fn are_apart(fs: &Listed<Failure>) -> bool
-    ensures { result ≡ failures_differ fs.now }
+fn are_apart(failures: &Listed<Failure>) -> bool
+    ensures { result ≡ failures_differ failures.now }
 {
-    let mut left = fs.copy();
+    let mut left = failures.copy();
     while let Some(f) = left.take_first() {
         if is_listed(&left, &f) {
             return false;
@@ -85,154 +85,160 @@ fn are_apart(fs: &Listed<Failure>) -> bool
     true
 }
 
-fn are_failures(fs: &Listed<Failure>) -> bool
-    ensures { result ≡ are_failures fs.now }
+fn are_failures(failures: &Listed<Failure>) -> bool
+    ensures { result ≡ are_failures failures.now }
 {
-    fs.len() >= 1 && fs.len() <= 64 && are_apart(fs)
+    failures.len() >= 1 && failures.len() <= 64 && are_apart(failures)
 }
 
 /// 1 to 64 pairs of a provider and a cause that differ.
 #[tactic(auto, unfolding(proposal_core::specs::ProposalCodec::fallen_at))]
-fn read_fallen(b: &[u8]) -> Option<(Listed<Failure>, &[u8])>
-    ensures { Gives result (fallen_at b.now) }
+fn read_fallen(bytes: &[u8]) -> Option<(Listed<Failure>, &[u8])>
+    ensures { Gives result (fallen_at bytes.now) }
 {
-    let (out, b) = read_list::<Failure>(b)?;
+    let (out, bytes) = read_list::<Failure>(bytes)?;
     if !are_failures(&out) {
         return None;
     }
-    Some((out, b))
+    Some((out, bytes))
 }
 
 #[tactic(auto, unfolding(proposal_core::specs::ProposalCodec::join_at))]
-fn read_join(b: &[u8]) -> Option<(ProposalRef<'_>, &[u8])>
-    ensures { option_map (λ x. (proposal_in x.0, x.1.now)) result ≡ join_at b.now }
+fn read_join(bytes: &[u8]) -> Option<(ProposalRef<'_>, &[u8])>
+    ensures { option_map (λ x. (proposal_in x.0, x.1.now)) result ≡ join_at bytes.now }
 {
-    let (ps, b) = read_some_providers(b)?;
-    let (attrs, b) = read_attrs(b)?;
-    let (source_len, b) = read_optional_u32(b)?;
+    let (ps, bytes) = read_some_providers(bytes)?;
+    let (attrs, bytes) = read_attrs(bytes)?;
+    let (source_len, bytes) = read_optional_u32(bytes)?;
     Some((
         ProposalRef::Join {
             ps,
             attrs,
             source_len,
         },
-        b,
+        bytes,
     ))
 }
 
 #[tactic(auto, unfolding(proposal_core::specs::ProposalCodec::leave_at))]
-fn read_leave(b: &[u8]) -> Option<(ProposalRef<'_>, &[u8])>
-    ensures { option_map (λ x. (proposal_in x.0, x.1.now)) result ≡ leave_at b.now }
+fn read_leave(bytes: &[u8]) -> Option<(ProposalRef<'_>, &[u8])>
+    ensures { option_map (λ x. (proposal_in x.0, x.1.now)) result ≡ leave_at bytes.now }
 {
-    let (p, b) = read_provider(b)?;
-    let (r, b) = read_u32(b)?;
-    Some((ProposalRef::Leave { p, r }, b))
+    let (p, bytes) = read_provider(bytes)?;
+    let (r, bytes) = read_u32(bytes)?;
+    Some((ProposalRef::Leave { p, r }, bytes))
 }
 
 #[tactic(auto, unfolding(proposal_core::specs::ProposalCodec::fail_at))]
-fn read_fail(b: &[u8]) -> Option<(ProposalRef<'_>, &[u8])>
-    ensures { option_map (λ x. (proposal_in x.0, x.1.now)) result ≡ fail_at b.now }
+fn read_fail(bytes: &[u8]) -> Option<(ProposalRef<'_>, &[u8])>
+    ensures { option_map (λ x. (proposal_in x.0, x.1.now)) result ≡ fail_at bytes.now }
 {
-    let (out, b) = read_fallen(b)?;
-    Some((ProposalRef::Fail { out }, b))
+    let (out, bytes) = read_fallen(bytes)?;
+    Some((ProposalRef::Fail { out }, bytes))
 }
 
 #[tactic(auto, unfolding(proposal_core::specs::ProposalCodec::expel_at))]
-fn read_expel(b: &[u8]) -> Option<(ProposalRef<'_>, &[u8])>
-    ensures { option_map (λ x. (proposal_in x.0, x.1.now)) result ≡ expel_at b.now }
+fn read_expel(bytes: &[u8]) -> Option<(ProposalRef<'_>, &[u8])>
+    ensures { option_map (λ x. (proposal_in x.0, x.1.now)) result ≡ expel_at bytes.now }
 {
-    let (p, b) = read_provider(b)?;
-    let (r, b) = read_u32(b)?;
-    let (out, b) = read_some_providers(b)?;
-    Some((ProposalRef::Expel { p, r, out }, b))
+    let (p, bytes) = read_provider(bytes)?;
+    let (r, bytes) = read_u32(bytes)?;
+    let (out, bytes) = read_some_providers(bytes)?;
+    Some((ProposalRef::Expel { p, r, out }, bytes))
 }
 
 #[tactic(auto, unfolding(proposal_core::specs::ProposalCodec::state_change_at))]
-fn read_state_change(b: &[u8]) -> Option<(ProposalRef<'_>, &[u8])>
-    ensures { option_map (λ x. (proposal_in x.0, x.1.now)) result ≡ state_change_at b.now }
+fn read_state_change(bytes: &[u8]) -> Option<(ProposalRef<'_>, &[u8])>
+    ensures { option_map (λ x. (proposal_in x.0, x.1.now)) result ≡ state_change_at bytes.now }
 {
-    let (p, b) = read_provider(b)?;
-    let (r, b) = read_u32(b)?;
-    let (value, b) = read_bytes(b)?;
-    Some((ProposalRef::State { p, r, value }, b))
+    let (p, bytes) = read_provider(bytes)?;
+    let (r, bytes) = read_u32(bytes)?;
+    let (value, bytes) = read_bytes(bytes)?;
+    Some((ProposalRef::State { p, r, value }, bytes))
 }
 
 #[tactic(auto, unfolding(proposal_core::specs::ProposalCodec::message_at))]
-fn read_message(b: &[u8]) -> Option<(ProposalRef<'_>, &[u8])>
-    ensures { option_map (λ x. (proposal_in x.0, x.1.now)) result ≡ message_at b.now }
+fn read_message(spelling: &[u8]) -> Option<(ProposalRef<'_>, &[u8])>
+    ensures { option_map (λ x. (proposal_in x.0, x.1.now)) result ≡ message_at spelling.now }
 {
-    let (p, b) = read_provider(b)?;
-    let (r, b) = read_u32(b)?;
-    let (bytes, b) = read_bytes(b)?;
-    Some((ProposalRef::Message { p, r, bytes }, b))
+    let (p, spelling) = read_provider(spelling)?;
+    let (r, spelling) = read_u32(spelling)?;
+    let (bytes, spelling) = read_bytes(spelling)?;
+    Some((ProposalRef::Message { p, r, bytes }, spelling))
 }
 
 #[tactic(auto, unfolding(proposal_core::specs::ProposalCodec::attributes_at))]
-fn read_attributes(b: &[u8]) -> Option<(ProposalRef<'_>, &[u8])>
-    ensures { option_map (λ x. (proposal_in x.0, x.1.now)) result ≡ attributes_at b.now }
+fn read_attributes(bytes: &[u8]) -> Option<(ProposalRef<'_>, &[u8])>
+    ensures { option_map (λ x. (proposal_in x.0, x.1.now)) result ≡ attributes_at bytes.now }
 {
-    let (p, b) = read_provider(b)?;
-    let (r, b) = read_u32(b)?;
-    let (attrs, b) = read_attrs(b)?;
-    Some((ProposalRef::Attributes { p, r, attrs }, b))
+    let (p, bytes) = read_provider(bytes)?;
+    let (r, bytes) = read_u32(bytes)?;
+    let (attrs, bytes) = read_attrs(bytes)?;
+    Some((ProposalRef::Attributes { p, r, attrs }, bytes))
 }
 
 #[tactic(auto, unfolding(proposal_core::specs::ProposalCodec::reflect_at))]
-fn read_reflect(b: &[u8]) -> Option<(ProposalRef<'_>, &[u8])>
-    ensures { option_map (λ x. (proposal_in x.0, x.1.now)) result ≡ reflect_at b.now }
+fn read_reflect(bytes: &[u8]) -> Option<(ProposalRef<'_>, &[u8])>
+    ensures { option_map (λ x. (proposal_in x.0, x.1.now)) result ≡ reflect_at bytes.now }
 {
-    let (view, b) = read_view(b)?;
-    let (place, b) = read_u32(b)?;
-    let (value, b) = read_bytes(b)?;
-    Some((ProposalRef::Reflect { view, place, value }, b))
+    let (view, bytes) = read_view(bytes)?;
+    let (place, bytes) = read_u32(bytes)?;
+    let (value, bytes) = read_bytes(bytes)?;
+    Some((ProposalRef::Reflect { view, place, value }, bytes))
 }
 
 #[tactic(auto, unfolding(proposal_core::specs::ProposalCodec::proposal_at))]
-fn proposal_front(b: &[u8]) -> Option<(ProposalRef<'_>, &[u8])>
-    ensures { option_map (λ x. (proposal_in x.0, x.1.now)) result ≡ proposal_at b.now }
+fn proposal_front(bytes: &[u8]) -> Option<(ProposalRef<'_>, &[u8])>
+    ensures { option_map (λ x. (proposal_in x.0, x.1.now)) result ≡ proposal_at bytes.now }
 {
-    let (kind, b) = read_u8(b)?;
+    let (kind, bytes) = read_u8(bytes)?;
     match kind {
-        1 => read_join(b),
-        2 => read_leave(b),
-        3 => read_fail(b),
-        4 => read_expel(b),
-        5 => read_state_change(b),
-        6 => read_message(b),
-        7 => read_attributes(b),
-        8 => read_reflect(b),
+        1 => read_join(bytes),
+        2 => read_leave(bytes),
+        3 => read_fail(bytes),
+        4 => read_expel(bytes),
+        5 => read_state_change(bytes),
+        6 => read_message(bytes),
+        7 => read_attributes(bytes),
+        8 => read_reflect(bytes),
         _ => None,
     }
 }
 
 /// A proposal off the front of bytes, with the bytes after it. None exactly where the front is no spelling of a
 /// proposal.
-#[tactic(auto, using(rsct_packet::proofs::FormatLaws::gives_found, rsct_packet::proofs::FormatLaws::gives_only, crate::proofs::ProposalFormat::proposal_gives, crate::proofs::ProposalFormat::proposal_format))]
-pub fn read_proposal(b: &[u8]) -> Option<(ProposalRef<'_>, &[u8])>
-    ensures value { option_map (λ x. (proposal_in x.0, x.1.now)) result ≡ proposal_at b.now }
-    ensures found { IsFoundAt proposal_text IsProposal (proposal_of result) b.now }
-    ensures only { IsOnlyAt proposal_text IsProposal (proposal_of result) b.now }
+#[tactic(auto, using(crate::proofs::Below::format_reads, crate::proofs::ProposalFormat::proposal_gives, crate::proofs::ProposalFormat::proposal_format))]
+pub fn read_proposal(bytes: &[u8]) -> Option<(ProposalRef<'_>, &[u8])>
+    ensures value { option_map (λ x. (proposal_in x.0, x.1.now)) result ≡ proposal_at bytes.now }
+    ensures found { IsFoundAt proposal_text IsProposal (proposal_of result) bytes.now }
+    ensures only { IsOnlyAt proposal_text IsProposal (proposal_of result) bytes.now }
 {
-    proposal_front(known(b))
+    proposal_front(known(bytes))
 }
 
 /// The kind, the provider and the number of its request. Where memory has run out, `out` may keep a part of them.
-fn put_request(out: &mut Vec<u8>, kind: u8, p: ProviderId, r: u32) -> Result<(), NoMemory>
-    requires { IsNode p.node }
-    ensures { OnOk result (out.new.items ≡ out.old.items ++ (u8_text kind ++ (provider_text p ++ u32_text r))) }
+fn put_request(
+    out: &mut Vec<u8>,
+    kind: u8,
+    provider: ProviderId,
+    request: u32,
+) -> Result<(), NoMemory>
+    requires { IsNode provider.node }
+    ensures { OnOk result (out.new.items ≡ out.old.items
+        ++ (u8_text kind ++ (provider_text provider ++ u32_text request))) }
 {
     put_u8(out, kind)?;
-    put_provider(out, p)?;
-    put_u32(out, r)
+    put_provider(out, provider)?;
+    put_u32(out, request)
 }
 
 /// Takes the spelling to the end of `out`, which may keep a part of it where memory has run out.
 #[tactic(auto, unfolding(proposal_core::specs::ProposalCodec::proposal_text, proposal_core::specs::ProposalCodec::fallen_text), using(crate::proofs::ProposalFormat::some_nodes, crate::proofs::ProposalFormat::fallen_nodes, std::proofs::lemmas::Grind::common_steps))]
-fn put_parts(out: &mut Vec<u8>, x: &Proposal) -> Result<(), NoMemory>
-    requires { IsProposal x.now }
-    ensures { OnOk result (out.new.items ≡ out.old.items ++ proposal_text x.now) }
+fn put_parts(out: &mut Vec<u8>, proposal: &Proposal) -> Result<(), NoMemory>
+    requires { IsProposal proposal.now }
+    ensures { OnOk result (out.new.items ≡ out.old.items ++ proposal_text proposal.now) }
 {
-    match x {
+    match proposal {
         Proposal::Join {
             ps,
             attrs,
@@ -278,22 +284,22 @@ fn put_parts(out: &mut Vec<u8>, x: &Proposal) -> Result<(), NoMemory>
 }
 
 /// The spelling, in memory of its own.
-fn spelled(alloc: Global, x: &Proposal) -> Result<Vec<u8>, NoMemory>
-    requires { IsProposal x.now }
-    ensures { IfOk result (λ v. v.items ≡ proposal_text x.now) }
+fn spelled(alloc: Global, proposal: &Proposal) -> Result<Vec<u8>, NoMemory>
+    requires { IsProposal proposal.now }
+    ensures { IfOk result (λ v. v.items ≡ proposal_text proposal.now) }
 {
     let mut out = Vec::new(alloc);
-    put_parts(&mut out, x)?;
+    put_parts(&mut out, proposal)?;
     Ok(out)
 }
 
 /// Takes the spelling of a proposal to the end of `out`, and leaves `out` as before where memory has run out.
-pub fn put_proposal(alloc: Global, out: &mut Vec<u8>, x: &Proposal) -> Result<(), NoMemory>
-    requires { IsProposal x.now }
-    ensures ok { OnOk result (out.new.items ≡ out.old.items ++ proposal_text x.now) }
+pub fn put_proposal(alloc: Global, out: &mut Vec<u8>, proposal: &Proposal) -> Result<(), NoMemory>
+    requires { IsProposal proposal.now }
+    ensures ok { OnOk result (out.new.items ≡ out.old.items ++ proposal_text proposal.now) }
     ensures err { OnErr result (out.new.items ≡ out.old.items) }
 {
-    let text = spelled(alloc, x)?;
+    let text = spelled(alloc, proposal)?;
     out.extend_from_slice(text.as_slice())?;
     Ok(())
 }

@@ -3,21 +3,21 @@ ghost use Rattle.std.specs.Prelude.{◌≡◌, ◌++◌, ◌-◌, IfOk, OnOk, On
 ghost use Rattle.std.specs.Option.{option_map};
 ghost use Rattle.std.specs.List.{list_all};
 ghost use Rattle.std.specs.Int.{w16};
-ghost use Rattle.rsct_packet.specs.Reading.{Gives, number_at, guarded_at, optional_at};
-ghost use Rattle.rsct_packet.specs.Format.{IsFoundAt, IsOnlyAt, OptionFits, optional_text};
-ghost use Rattle.rsct_packet.specs.Providers.{among, none_among};
+ghost use Rattle.proposal_core.specs.rsct_packet.Reading.{Gives, number_at, guarded_at, optional_at};
+ghost use Rattle.proposal_core.specs.rsct_packet.Format.{IsFoundAt, IsOnlyAt, OptionFits, optional_text};
+ghost use Rattle.proposal_core.specs.rsct_packet.Providers.{among, none_among};
 ghost use Rattle.proposal_core.specs.Fold.{joiners_fit, joiners_in, present};
 ghost use Rattle.proposal_core.specs.StateCodec.{is_phase, running_at, running_text, IsRunning, is_sound, parts_at, state_at, state_text, IsState};
 ghost use Rattle.group_codec.specs.InPlace.{running_in, optional_running_in, parts_in};
 
 use crate::attrs::{AttrsRef, put_attrs, read_attrs};
 use crate::proposals::{ProposalRef, put_proposal, read_proposal};
-use proposal_core::{GroupState, Running, optional_bytes, optional_text_of, text_of};
-use rsct_packet::{
+use proposal_core::rsct_packet::{
     Listed, MAX_PROVIDERS, NoMemory, ProtoId, ProviderId, Providers, is_listed, known, put_bytes,
     put_optional_bytes, put_optional_proto, put_proto, put_providers, put_u8, put_u16, read_bytes,
     read_optional_bytes, read_optional_proto, read_proto, read_providers, read_u8, read_u16,
 };
+use proposal_core::{GroupState, Running, optional_bytes, optional_text_of, text_of};
 use std::alloc::Global;
 use std::marker::Model;
 
@@ -43,24 +43,24 @@ pub struct StateParts<'a> {
 }
 
 /// The number of a phase, from 1 to 200.
-fn read_phase(b: &[u8]) -> Option<(u16, &[u8])>
-    ensures { Gives result (guarded_at is_phase (number_at w16) b.now) }
+fn read_phase(bytes: &[u8]) -> Option<(u16, &[u8])>
+    ensures { Gives result (guarded_at is_phase (number_at w16) bytes.now) }
 {
-    let (phase, b) = read_u16(b)?;
+    let (phase, bytes) = read_u16(bytes)?;
     if phase < 1 || phase > 200 {
         return None;
     }
-    Some((phase, b))
+    Some((phase, bytes))
 }
 
 #[tactic(auto, unfolding(proposal_core::specs::StateCodec::running_at))]
-fn read_running(b: &[u8]) -> Option<(RunningRef<'_>, &[u8])>
-    ensures { option_map (λ x. (running_in x.0, x.1.now)) result ≡ running_at b.now }
+fn read_running(bytes: &[u8]) -> Option<(RunningRef<'_>, &[u8])>
+    ensures { option_map (λ x. (running_in x.0, x.1.now)) result ≡ running_at bytes.now }
 {
-    let (proto, b) = read_proto(b)?;
-    let (phase, b) = read_phase(b)?;
-    let (proposal, b) = read_proposal(b)?;
-    let (proposed, b) = read_optional_bytes(b)?;
+    let (proto, bytes) = read_proto(bytes)?;
+    let (phase, bytes) = read_phase(bytes)?;
+    let (proposal, bytes) = read_proposal(bytes)?;
+    let (proposed, bytes) = read_optional_bytes(bytes)?;
     Some((
         RunningRef {
             proto,
@@ -68,35 +68,36 @@ fn read_running(b: &[u8]) -> Option<(RunningRef<'_>, &[u8])>
             phase,
             proposed,
         },
-        b,
+        bytes,
     ))
 }
 
-fn read_optional_running(b: &[u8]) -> Option<(Option<RunningRef<'_>>, &[u8])>
-    ensures { option_map (λ x. (optional_running_in x.0, x.1.now)) result ≡ optional_at running_at b.now }
+fn read_optional_running(bytes: &[u8]) -> Option<(Option<RunningRef<'_>>, &[u8])>
+    ensures { option_map (λ x. (optional_running_in x.0, x.1.now)) result
+        ≡ optional_at running_at bytes.now }
 {
-    let (k, b) = read_u8(b)?;
+    let (k, bytes) = read_u8(bytes)?;
     match k {
-        0 => Some((None, b)),
+        0 => Some((None, bytes)),
         1 => {
-            let (run, b) = read_running(b)?;
-            Some((Some(run), b))
+            let (run, bytes) = read_running(bytes)?;
+            Some((Some(run), bytes))
         }
         _ => None,
     }
 }
 
 #[tactic(auto, unfolding(proposal_core::specs::StateCodec::parts_at))]
-fn read_parts(b: &[u8]) -> Option<(StateParts<'_>, &[u8])>
-    ensures { option_map (λ x. (parts_in x.0, x.1.now)) result ≡ parts_at b.now }
+fn read_parts(bytes: &[u8]) -> Option<(StateParts<'_>, &[u8])>
+    ensures { option_map (λ x. (parts_in x.0, x.1.now)) result ≡ parts_at bytes.now }
 {
-    let (members, b) = read_providers(b)?;
-    let (value, b) = read_bytes(b)?;
-    let (attrs, b) = read_attrs(b)?;
-    let (failed, b) = read_providers(b)?;
-    let (value_at, b) = read_optional_proto(b)?;
-    let (reflected_at, b) = read_optional_proto(b)?;
-    let (running, b) = read_optional_running(b)?;
+    let (members, bytes) = read_providers(bytes)?;
+    let (value, bytes) = read_bytes(bytes)?;
+    let (attrs, bytes) = read_attrs(bytes)?;
+    let (failed, bytes) = read_providers(bytes)?;
+    let (value_at, bytes) = read_optional_proto(bytes)?;
+    let (reflected_at, bytes) = read_optional_proto(bytes)?;
+    let (running, bytes) = read_optional_running(bytes)?;
     Some((
         StateParts {
             members,
@@ -107,30 +108,30 @@ fn read_parts(b: &[u8]) -> Option<(StateParts<'_>, &[u8])>
             reflected_at,
             running,
         },
-        b,
+        bytes,
     ))
 }
 
 /// Is none of them among the others?
-fn are_none_listed(xs: &Listed<ProviderId>, ps: &Listed<ProviderId>) -> bool
-    ensures { result ≡ none_among xs.now ps.now }
+fn are_none_listed(providers: &Listed<ProviderId>, others: &Listed<ProviderId>) -> bool
+    ensures { result ≡ none_among providers.now others.now }
 {
-    let mut left = ps.copy();
+    let mut left = others.copy();
     while let Some(p) = left.take_first() {
-        if is_listed(xs, p) {
+        if is_listed(providers, p) {
             return false;
         }
     }
     true
 }
 
-fn is_joiner(run: &Option<RunningRef>, p: ProviderId) -> bool
-    ensures { result ≡ among (joiners_in (optional_running_in run.now)) p }
+fn is_joiner(run: &Option<RunningRef>, provider: ProviderId) -> bool
+    ensures { result ≡ among (joiners_in (optional_running_in run.now)) provider }
 {
     match run {
         None => false,
         Some(run) => match &run.proposal {
-            ProposalRef::Join { ps, .. } => is_listed(ps, p),
+            ProposalRef::Join { ps, .. } => is_listed(ps, provider),
             _ => false,
         },
     }
@@ -138,17 +139,17 @@ fn is_joiner(run: &Option<RunningRef>, p: ProviderId) -> bool
 
 /// Is it a member or a running joiner?
 #[tactic(auto, using(proposal_core::proofs::FoldLaws::among_both, std::proofs::lemmas::Grind::common_steps))]
-fn is_present(parts: &StateParts, p: ProviderId) -> bool
-    ensures { result ≡ among (present (parts_in parts.now)) p }
+fn is_present(parts: &StateParts, provider: ProviderId) -> bool
+    ensures { result ≡ among (present (parts_in parts.now)) provider }
 {
-    is_listed(&parts.members, p) || is_joiner(&parts.running, p)
+    is_listed(&parts.members, provider) || is_joiner(&parts.running, provider)
 }
 
 /// Is each of them a member or a running joiner?
-fn are_present(parts: &StateParts, ps: &Listed<ProviderId>) -> bool
-    ensures { result ≡ list_all (among (present (parts_in parts.now))) ps.now }
+fn are_present(parts: &StateParts, providers: &Listed<ProviderId>) -> bool
+    ensures { result ≡ list_all (among (present (parts_in parts.now))) providers.now }
 {
-    let mut left = ps.copy();
+    let mut left = providers.copy();
     while let Some(p) = left.take_first() {
         if !is_present(parts, p) {
             return false;
@@ -267,25 +268,25 @@ impl<'a> StateRef<'a> {
 }
 
 /// The bytes in front of the rest.
-fn front<'a>(b: &'a [u8], rest: &[u8]) -> &'a [u8]
-    ensures { result.now ≡ take (length b.now - length rest.now) b.now }
+fn front<'a>(bytes: &'a [u8], rest: &[u8]) -> &'a [u8]
+    ensures { result.now ≡ take (length bytes.now - length rest.now) bytes.now }
 {
-    let n = b.len().saturating_sub(rest.len());
-    &b[..n]
+    let n = bytes.len().saturating_sub(rest.len());
+    &bytes[..n]
 }
 
 #[tactic(auto, unfolding(proposal_core::specs::StateCodec::state_at))]
-fn state_front(b: &[u8]) -> Option<(StateRef<'_>, &[u8])>
-    ensures { Gives result (state_at b.now) }
+fn state_front(bytes: &[u8]) -> Option<(StateRef<'_>, &[u8])>
+    ensures { Gives result (state_at bytes.now) }
 {
-    let (parts, rest) = read_parts(b)?;
+    let (parts, rest) = read_parts(bytes)?;
     if !is_sound(&parts) {
         return None;
     }
     Some((
         StateRef {
             parts,
-            bytes: front(known(b), rest),
+            bytes: front(known(bytes), rest),
         },
         rest,
     ))
@@ -293,13 +294,13 @@ fn state_front(b: &[u8]) -> Option<(StateRef<'_>, &[u8])>
 
 /// A group state off the front of bytes, with the bytes after it. None exactly where the front is no spelling of a
 /// state.
-#[tactic(auto, using(rsct_packet::proofs::FormatLaws::gives_found, rsct_packet::proofs::FormatLaws::gives_only, crate::proofs::StateFormat::state_format))]
-pub fn read_state(b: &[u8]) -> Option<(StateRef<'_>, &[u8])>
-    ensures value { Gives result (state_at b.now) }
-    ensures found { IsFoundAt state_text IsState result b.now }
-    ensures only { IsOnlyAt state_text IsState result b.now }
+#[tactic(auto, using(crate::proofs::Below::format_reads, crate::proofs::StateFormat::state_format))]
+pub fn read_state(bytes: &[u8]) -> Option<(StateRef<'_>, &[u8])>
+    ensures value { Gives result (state_at bytes.now) }
+    ensures found { IsFoundAt state_text IsState result bytes.now }
+    ensures only { IsOnlyAt state_text IsState result bytes.now }
 {
-    state_front(known(b))
+    state_front(known(bytes))
 }
 
 #[tactic(auto, unfolding(proposal_core::specs::StateCodec::running_text))]
@@ -333,28 +334,28 @@ fn put_optional_running(
 
 /// The spelling, in memory of its own.
 #[tactic(auto, unfolding(proposal_core::specs::StateCodec::state_text), using(crate::proofs::ProposalFormat::members_nodes, std::proofs::lemmas::Grind::common_steps))]
-fn spelled(alloc: Global, s: &GroupState) -> Result<Vec<u8>, NoMemory>
-    requires { IsState s.now }
-    ensures { IfOk result (λ v. v.items ≡ state_text s.now) }
+fn spelled(alloc: Global, state: &GroupState) -> Result<Vec<u8>, NoMemory>
+    requires { IsState state.now }
+    ensures { IfOk result (λ v. v.items ≡ state_text state.now) }
 {
     let mut out = Vec::new(alloc);
-    put_providers(&mut out, s.members.as_slice())?;
-    put_bytes(&mut out, s.value.bytes())?;
-    put_attrs(&mut out, &s.attrs)?;
-    put_providers(&mut out, s.failed.as_slice())?;
-    put_optional_proto(&mut out, s.value_at)?;
-    put_optional_proto(&mut out, s.reflected_at)?;
-    put_optional_running(alloc, &mut out, &s.running)?;
+    put_providers(&mut out, state.members.as_slice())?;
+    put_bytes(&mut out, state.value.bytes())?;
+    put_attrs(&mut out, &state.attrs)?;
+    put_providers(&mut out, state.failed.as_slice())?;
+    put_optional_proto(&mut out, state.value_at)?;
+    put_optional_proto(&mut out, state.reflected_at)?;
+    put_optional_running(alloc, &mut out, &state.running)?;
     Ok(out)
 }
 
 /// Takes the spelling of a group state to the end of `out`, and leaves `out` as before where memory has run out.
-pub fn put_state(alloc: Global, out: &mut Vec<u8>, s: &GroupState) -> Result<(), NoMemory>
-    requires { IsState s.now }
-    ensures ok { OnOk result (out.new.items ≡ out.old.items ++ state_text s.now) }
+pub fn put_state(alloc: Global, out: &mut Vec<u8>, state: &GroupState) -> Result<(), NoMemory>
+    requires { IsState state.now }
+    ensures ok { OnOk result (out.new.items ≡ out.old.items ++ state_text state.now) }
     ensures err { OnErr result (out.new.items ≡ out.old.items) }
 {
-    let text = spelled(alloc, s)?;
+    let text = spelled(alloc, state)?;
     out.extend_from_slice(text.as_slice())?;
     Ok(())
 }

@@ -1,31 +1,31 @@
 -- What begins, by cases.
 use Rattle.std.proofs.Common.{◌≡◌, ℕ, zero, suc, ◌-◌, ◌<◌, ◌≤◌, Bool, true, false, List, [], ◌∷◌, length, get_or, drop, Option, Some, None, refl, sym, ap, ◌∙◌, arith}
 use Rattle.std.specs.Prelude.{fold, IsTrue, ◌↔◌}
-use Rattle.rsct_packet.specs.declared.ids.ProviderId.{ProviderId}
-use Rattle.rsct_packet.specs.declared.ids.ViewId.{ViewId}
-use Rattle.rsct_packet.specs.Lists.{is_empty}
-use Rattle.group_attr.specs.declared.attrs.Attrs.{Attrs}
-use Rattle.proposal_core.specs.declared.proposal.Failure.{Failure}
-use Rattle.proposal_core.specs.declared.proposal.Proposal.TheVariants.{Join, Fail, Reflect}
-use Rattle.proposal_core.specs.declared.group_state.GroupState.{GroupState}
-use Rattle.batch_rules.specs.Waiting.{batches_failures, chosen_of}
-use Rattle.source_target.specs.declared.owed.Due.TheVariants as due
-use Rattle.source_target.specs.Due as target
-use Rattle.client_callbacks.specs.declared.votes.VoteItem.{VoteItem}
-use Rattle.node_state.specs.declared.state.Core.{Core}
-use Rattle.node_state.specs.State.{row_of, led_of, list_of, state_of, frozen}
-use Rattle.node_state.specs.HandOn.{Answering}
-use Rattle.node_state.specs.Leading.{begins}
-use Rattle.node_state.specs.Deciding.{known_state}
-use Rattle.node_state.specs.Ending.{Pass, quiet, begun_now, failures_begin, due_begins, source_begins, carried_len, joins_begin, or_due, or_joins, may_begin, first_begins, group_begins, one_pass, passes, most_begun, step_ended}
-use Rattle.node_groups.specs.Keeps.{Keeps}
-use Rattle.entry_handing.specs.Received.{Handing}
-use Rattle.entry_handing.specs.Doing.{Joins, IsNothing, Does}
-use Rattle.entry_handing.proofs.DoingLaws.{joins_nothing, does_nothing, does_as}
+use Rattle.group_leading.specs.rsct_packet.declared.ids.ProviderId.{ProviderId}
+use Rattle.group_leading.specs.rsct_packet.declared.ids.ViewId.{ViewId}
+use Rattle.group_leading.specs.rsct_packet.Lists.{is_empty}
+use Rattle.group_leading.specs.group_attr.declared.attrs.Attrs.{Attrs}
+use Rattle.group_leading.specs.proposal_core.declared.proposal.Failure.{Failure}
+use Rattle.group_leading.specs.proposal_core.declared.proposal.Proposal.TheVariants.{Join, Fail, Reflect}
+use Rattle.group_leading.specs.proposal_core.declared.group_state.GroupState.{GroupState}
+use Rattle.group_leading.specs.batch_rules.Waiting.{batches_failures, chosen_of}
+use Rattle.group_leading.specs.source_target.declared.owed.Due.TheVariants as due
+use Rattle.group_leading.specs.source_target.Due as target
+use Rattle.group_leading.specs.client_callbacks.declared.votes.VoteItem.{VoteItem}
+use Rattle.group_leading.specs.node_state.declared.state.Core.{Core}
+use Rattle.group_leading.specs.node_state.State.{row_of, led_of, list_of, state_of, frozen}
+use Rattle.group_leading.specs.node_state.HandOn.{Answering}
+use Rattle.group_leading.specs.node_state.Leading.{begins}
+use Rattle.group_leading.specs.node_state.Deciding.{known_state}
+use Rattle.group_leading.specs.node_state.Ending.{Pass, quiet, begun_now, failures_begin, due_begins, source_begins, carried_len, joins_begin, or_due, or_joins, may_begin, first_begins, group_begins, one_pass, passes, most_begun, end_step}
+use Rattle.group_leading.specs.node_groups.Keeps.{Keeps}
+use Rattle.group_leading.specs.entry_delivery.Received.{Handing}
+use Rattle.group_leading.specs.entry_delivery.Doing.{Joins, IsNothing, Does}
+use Rattle.group_leading.proofs.entry_delivery_laws.DoingLaws.{joins_nothing, does_nothing, does_as}
 use Rattle.group_leading.proofs.WorkLaws.{keeps_follows}
 use Rattle.group_deciding.specs.Passing.{passed, DoesPass}
-use Rattle.group_deciding.specs.BeginningFailures.{of_members, failures_chosen, failures_taken}
-use Rattle.group_deciding.specs.BeginningJoins.{chosen_joins, chosen_attrs, sourced, unsourced, joins_chosen}
+use Rattle.group_deciding.specs.BeginFailures.{of_members, failures_chosen, failures_taken}
+use Rattle.group_deciding.specs.BeginJoins.{chosen_joins, chosen_attrs, sourced, unsourced, joins_chosen}
 use Rattle.group_deciding.proofs.PassLaws.{pass_next, pass_then, pass_begins, pass_nothing, pass_after, pass_as}
 
 empty_where : {A : Type 0} (xs : List A) → length xs ≡ 0 → is_empty xs ≡ true
@@ -265,19 +265,19 @@ frozen_ends s t true e = refl
 frozen_ends s t false e = absurd cc
 
 -- a frozen node does nothing
-pub ended_frozen : (scripts : List (Option (List (Option VoteItem)))) (P : List Handing → Type 0) → P [] → (s : Core) → frozen s ≡ true → Does scripts P s s (λ f. step_ended f s)
-unfolding step_ended
-ended_frozen scripts P p s e = does_as scripts P s s (λ f. s) (λ f. step_ended f s) (λ f. frozen_ends s (passes (most_begun s) (most_begun s) f s) (frozen s) e) (does_nothing scripts P s p)
+pub ended_frozen : (scripts : List (Option (List (Option VoteItem)))) (P : List Handing → Type 0) → P [] → (s : Core) → frozen s ≡ true → Does scripts P s s (λ f. end_step f s)
+unfolding end_step
+ended_frozen scripts P p s e = does_as scripts P s s (λ f. s) (λ f. end_step f s) (λ f. frozen_ends s (passes (most_begun s) (most_begun s) f s) (frozen s) e) (does_nothing scripts P s p)
 
 ended_is : (s t : Core) (b : Bool) → b ≡ false → t ≡ elim b [ true ↦ s | false ↦ t ]
 ended_is s t true e = absurd cc
 ended_is s t false e = refl
 
 -- a node that is not frozen goes on
-pub ended_thawed : (scripts : List (Option (List (Option VoteItem)))) (P : List Handing → Type 0) (s t : Core) (most : ℕ) → frozen s ≡ false → most ≡ most_begun s → Does scripts P s t (λ f. passes most most f s) → Does scripts P s t (λ f. step_ended f s)
-unfolding step_ended
+pub ended_thawed : (scripts : List (Option (List (Option VoteItem)))) (P : List Handing → Type 0) (s t : Core) (most : ℕ) → frozen s ≡ false → most ≡ most_begun s → Does scripts P s t (λ f. passes most most f s) → Does scripts P s t (λ f. end_step f s)
+unfolding end_step
 ended_thawed scripts P s t most e counted done =
-    does_as scripts P s t (λ f. passes most most f s) (λ f. step_ended f s)
+    does_as scripts P s t (λ f. passes most most f s) (λ f. end_step f s)
     (λ f. ap (λ n. passes n n f s) counted ∙ ended_is s (passes (most_begun s) (most_begun s) f s) (frozen s) e) done
 
 -- nothing is owed

@@ -1,11 +1,12 @@
 -- What a pass does where clients answer.
-use Rattle.std.specs.Prelude.{◌≡◌, ◌++◌, Bool, List, Option}
-use Rattle.client_callbacks.specs.declared.votes.VoteItem.{VoteItem}
-use Rattle.node_state.specs.declared.state.Core.{Core}
-use Rattle.node_state.specs.HandOn.{Answering}
-use Rattle.node_state.specs.Ending.{Pass}
-use Rattle.entry_handing.specs.Received.{Handing}
-use Rattle.entry_handing.specs.Doing.{Does}
+use Rattle.std.specs.Prelude.{◌≡◌, ◌++◌, Bool, List, Option, map}
+use Rattle.group_leading.specs.client_callbacks.declared.votes.VoteItem.{VoteItem}
+use Rattle.group_leading.specs.client_callbacks.Handed.{Handed}
+use Rattle.group_leading.specs.node_state.declared.state.Core.{Core}
+use Rattle.group_leading.specs.node_state.HandOn.{Answering}
+use Rattle.group_leading.specs.node_state.Ending.{Pass}
+use Rattle.group_leading.specs.entry_delivery.Received.{Handing, Receive}
+use Rattle.group_leading.specs.entry_delivery.Doing.{Does}
 
 abbrev pub passed : Core → Bool → Pass
 passed s began = record { core = s; began = began }
@@ -21,3 +22,7 @@ Before P hs xs = (ys : List Handing) × P ys × (xs ≡ ys ++ hs)
 -- done next with these two is done with what the row makes of s
 pub record DoesPass (scripts : List (Option (List (Option VoteItem)))) (P : List Handing → Type 0) (s t : Core) (began : Bool) (row : Answering → Pass) : Type 0 where
   pub next : (u : Core) (rest : Answering → Pass → Core) (hs : List Handing) → Does scripts (AreThese hs) t u (λ f. rest f (passed t began)) → Does scripts (Before P hs) s u (λ f. rest f (row f))
+
+-- what a pass does where these clients answer, which stand for what they were handed
+abbrev pub PassDoes : {C : Type 0} → (C → Option (List (Option VoteItem))) → (C → List Handed → Type 0) → List C → List C → Core → Core → Bool → (Answering → Pass) → Type 0
+PassDoes script stands_for old new s t began row = DoesPass (map script old) (Receive stands_for old new) s t began row

@@ -1,23 +1,31 @@
-//! What the leader of a group decides: its requests, each refusal with its reason, and what of all that waits begins
-//! when a step ends.
+//! What the leader of a group decides: requests, each refusal with its reason, what its tick closes and sends again, and
+//! what of all that waits begins when a step ends.
 #![tactic(auto)]
 
-mod beginning_failures;
-mod beginning_joins;
-mod changing;
-mod deciding;
-mod ending;
-mod joining;
+mod changes;
+mod failures;
+mod join_requests;
+mod joins;
+mod late_votes;
+mod leader_tick;
 mod limits;
-mod owing;
-mod passing;
+mod passes;
 mod queue;
-mod refusing;
+mod refusals;
+mod requests;
+mod resends;
+mod source_dues;
 mod sources;
-mod taking;
+mod step_end;
+mod waiting;
 
-pub use deciding::decide;
-pub use ending::end_step;
+pub use group_leading;
+pub use group_leading::{
+    group_attr, node_groups, node_state, phase_closing, proposal_core, rsct_packet,
+};
+pub use leader_tick::tick_led;
 pub use limits::{full_refusal, is_at_limit};
-pub use refusing::{refuse, tell};
+pub use refusals::{refuse, tell};
+pub use requests::decide;
 pub use sources::{known_state, lacks_source, source_len};
+pub use step_end::end_step;

@@ -1,39 +1,45 @@
 //! The joins that wait in a group.
 ghost use Rattle.std.specs.Prelude.{◌≡◌, ◌++◌, [], OnOk};
-ghost use Rattle.rsct_packet.specs.Lists.{drop_where};
-ghost use Rattle.rsct_packet.specs.Search.{place_where};
-ghost use Rattle.batch_rules.specs.Waiting.{has_instance, waits_join};
-ghost use Rattle.batch_rules.specs.Next.{added_as};
-ghost use Rattle.batch_rules.specs.declared.waiting.Added.TheVariants.{Queued};
-ghost use Rattle.node_state.specs.State.{led_of};
-ghost use Rattle.node_state.specs.Deciding.{attrs_kept};
-ghost use Rattle.node_groups.specs.Places.{are_attrs_of};
+ghost use Rattle.group_leading.specs.rsct_packet.Lists.{drop_where};
+ghost use Rattle.group_leading.specs.rsct_packet.Search.{place_where};
+ghost use Rattle.group_leading.specs.batch_rules.Waiting.{has_instance, waits_join};
+ghost use Rattle.group_leading.specs.batch_rules.Next.{added_as};
+ghost use Rattle.group_leading.specs.batch_rules.declared.waiting.Added.TheVariants.{Queued};
+ghost use Rattle.group_leading.specs.node_state.State.{led_of};
+ghost use Rattle.group_leading.specs.node_state.Deciding.{keep_attrs};
+ghost use Rattle.group_leading.specs.node_groups.Places.{are_attrs_of};
 
-use batch_rules::Waiting;
-use group_attr::Attrs;
-use node_groups::led_of;
-use node_state::{Core, GroupRow, JoinAttrs};
-use rsct_packet::{List, NoMemory, ProviderId};
+use group_leading::batch_rules::Waiting;
+use group_leading::group_attr::Attrs;
+use group_leading::node_groups::led_of;
+use group_leading::node_state::{Core, GroupRow, JoinAttrs};
+use group_leading::rsct_packet::{List, NoMemory, ProviderId};
 use std::alloc::Global;
 
 /// Has one that is present, or one whose join waits in the group, the node and the instance number of the provider?
 #[tactic(auto, using(crate::proofs::QueueLaws::here_or_waits))]
-pub(crate) fn is_duplicate(core: &Core, g: &[u8], p: ProviderId, present: &[ProviderId]) -> bool
-    ensures { result ≡ has_instance (present.now ++ (led_of core.now g.now).waiting.joins) p }
+pub(crate) fn is_duplicate(
+    core: &Core,
+    group: &[u8],
+    provider: ProviderId,
+    present: &[ProviderId],
+) -> bool
+    ensures { result ≡ has_instance (present.now ++ (led_of core.now group.now).waiting.joins)
+        provider }
 {
-    match led_of(core, g) {
-        None => Waiting::new().is_duplicate(p, present),
-        Some(led) => led.waiting.is_duplicate(p, present),
+    match led_of(core, group) {
+        None => Waiting::new().is_duplicate(provider, present),
+        Some(led) => led.waiting.is_duplicate(provider, present),
     }
 }
 
 /// Where the attributes of the provider's join are kept.
-#[tactic(auto, using(rsct_packet::proofs::SearchLaws::place_begins, rsct_packet::proofs::SearchLaws::place_goes_on, rsct_packet::proofs::SearchLaws::place_found, rsct_packet::proofs::SearchLaws::place_missing))]
-fn attrs_place(kept: &[JoinAttrs], p: ProviderId) -> Option<usize>
-    ensures { result ≡ place_where (are_attrs_of p) kept.now }
+#[tactic(auto, using(crate::proofs::Below::place_search))]
+fn attrs_place(kept: &[JoinAttrs], provider: ProviderId) -> Option<usize>
+    ensures { result ≡ place_where (are_attrs_of provider) kept.now }
 {
     for (i, j) in kept.iter().enumerate() {
-        if j.p == p {
+        if j.p == provider {
             return Some(i);
         }
     }
@@ -41,31 +47,34 @@ fn attrs_place(kept: &[JoinAttrs], p: ProviderId) -> Option<usize>
 }
 
 /// The attributes of the provider's join are no longer kept.
-#[tactic(auto, using(rsct_packet::proofs::SearchLaws::place_is_in, crate::proofs::QueueLaws::removed_where, crate::proofs::QueueLaws::removed_nowhere, std::proofs::lemmas::Grind::common_steps))]
-fn forget_attrs(kept: &mut List<JoinAttrs>, p: ProviderId)
-    ensures { kept.new ≡ drop_where (are_attrs_of p) kept.old }
+#[tactic(auto, using(crate::proofs::Below::place_is_in, crate::proofs::QueueLaws::removed_where, crate::proofs::QueueLaws::removed_nowhere, std::proofs::lemmas::Grind::common_steps))]
+fn forget_attrs(kept: &mut List<JoinAttrs>, provider: ProviderId)
+    ensures { kept.new ≡ drop_where (are_attrs_of provider) kept.old }
 {
-    if let Some(i) = attrs_place(kept.as_slice(), p) {
+    if let Some(i) = attrs_place(kept.as_slice(), provider) {
         kept.remove(i);
     }
 }
 
 /// The attributes of a join are kept, in place of those of the provider's last one, where it is decided in an
 /// empty idle group.
-#[tactic(auto, unfolding(node_state::specs::Deciding::attrs_kept))]
+#[tactic(auto, unfolding(crate::proofs::Below::keep_attrs))]
 fn keep_attrs(
     kept: &mut List<JoinAttrs>,
     alloc: Global,
-    p: ProviderId,
-    a: &Attrs,
+    provider: ProviderId,
+    attrs: &Attrs,
     idle: bool,
 ) -> Result<(), NoMemory>
-    ensures { OnOk result (kept.new ≡ attrs_kept kept.old p a.now idle) }
+    ensures { OnOk result (kept.new ≡ keep_attrs kept.old provider attrs.now idle) }
 {
-    forget_attrs(kept, p);
+    forget_attrs(kept, provider);
     if idle {
-        let attrs = a.copy(alloc)?;
-        kept.push(JoinAttrs { p, attrs })?;
+        let own = attrs.copy(alloc)?;
+        kept.push(JoinAttrs {
+            p: provider,
+            attrs: own,
+        })?;
     }
     Ok(())
 }
@@ -75,14 +84,16 @@ fn keep_attrs(
 pub(crate) fn queue_join(
     row: &mut GroupRow,
     alloc: Global,
-    p: ProviderId,
-    a: &Attrs,
+    provider: ProviderId,
+    attrs: &Attrs,
     idle: bool,
 ) -> Result<(), NoMemory>
-    requires free { added_as p [] row.old.led.waiting ≡ Queued }
-    ensures { OnOk result (row.new ≡ record (row.old) { led = record (row.old.led) { waiting = waits_join p row.old.led.waiting; join_attrs = attrs_kept row.old.led.join_attrs p a.now idle } }) }
+    requires free { added_as provider [] row.old.led.waiting ≡ Queued }
+    ensures { OnOk result (row.new ≡ record (row.old) { led = record
+        (row.old.led) { waiting = waits_join provider row.old.led.waiting; join_attrs = keep_attrs
+        row.old.led.join_attrs provider attrs.now idle } }) }
 {
-    keep_attrs(&mut row.led.join_attrs, alloc, p, a, idle)?;
-    row.led.waiting.add_join(p, &[]);
+    keep_attrs(&mut row.led.join_attrs, alloc, provider, attrs, idle)?;
+    row.led.waiting.add_join(provider, &[]);
     Ok(())
 }

@@ -1,20 +1,20 @@
 -- What opening, closing and beginning do.
 use Rattle.std.proofs.Common.{◌≡◌, ℕ, zero, suc, ◌-◌, ◌<◌, Bool, true, false, ◌&&◌, List, [], Option, Some, None, refl, sym, ap, ◌∙◌, arith}
-use Rattle.proposal_core.specs.declared.proposal.Proposal.{Proposal}
-use Rattle.proposal_core.specs.declared.entry.Entry.{Entry}
-use Rattle.proposal_core.specs.declared.entry.Entry.TheVariants.{Begin}
-use Rattle.proposal_core.specs.declared.group_state.Running.{Running}
-use Rattle.vote_phases.specs.Tally.{TallyView}
-use Rattle.client_callbacks.specs.declared.votes.VoteItem.{VoteItem}
-use Rattle.node_state.specs.declared.group.Led.{Led}
-use Rattle.node_state.specs.declared.state.Core.{Core}
-use Rattle.node_state.specs.State.{nothing_led, fits_at_end}
-use Rattle.node_state.specs.HandOn.{Answering}
-use Rattle.node_state.specs.Leading.{appended, tally_set, tally_opened, closing_entry, is_phase, closes_from, closes, begun_many}
+use Rattle.node_groups.specs.proposal_core.declared.proposal.Proposal.{Proposal}
+use Rattle.node_groups.specs.proposal_core.declared.entry.Entry.{Entry}
+use Rattle.node_groups.specs.proposal_core.declared.entry.Entry.TheVariants.{Begin}
+use Rattle.node_groups.specs.proposal_core.declared.group_state.Running.{Running}
+use Rattle.node_groups.specs.vote_phases.Tally.{TallyView}
+use Rattle.node_groups.specs.client_callbacks.declared.votes.VoteItem.{VoteItem}
+use Rattle.node_groups.specs.node_state.declared.group.Led.{Led}
+use Rattle.node_groups.specs.node_state.declared.state.Core.{Core}
+use Rattle.node_groups.specs.node_state.State.{nothing_led, fits_at_end}
+use Rattle.node_groups.specs.node_state.HandOn.{Answering}
+use Rattle.node_groups.specs.node_state.Leading.{appended, tally_set, tally_opened, closing_entry, is_phase, closes_from, closes, begin_many}
 use Rattle.node_groups.specs.Keeps.{Keeps}
-use Rattle.entry_handing.specs.Received.{Handing}
-use Rattle.entry_handing.specs.Doing.{Joins, Does}
-use Rattle.entry_handing.proofs.DoingLaws.{does_nothing, does_then, does_after, does_before, does_as}
+use Rattle.entry_delivery.specs.Received.{Handing}
+use Rattle.entry_delivery.specs.Doing.{Joins, Does}
+use Rattle.entry_delivery.proofs.DoingLaws.{does_nothing, does_then, does_after, does_before, does_as}
 use Rattle.group_leading.specs.Closing.{next_closing, goes_on, closed_with, closed_if, closed_where}
 use Rattle.group_leading.proofs.WorkLaws.{keeps_follows}
 
@@ -119,10 +119,10 @@ opened_does scripts P Q W join s t u w g e appending opening keeps closing =
     does_as scripts Q t w (λ f. closes f u g) (λ f. closes f (tally_opened t g) g) (λ f. ap (λ (x : Core). closes f x g) opening) (does_after scripts Q t u w (λ f. closes f u g) (keeps_follows t u keeps) closing) in
     does_then scripts P Q W join s t w (λ f. appended f s g e) (λ f x. closes f (tally_opened x g) g) appending next
 
-pub begun_where : (scripts : List (Option (List (Option VoteItem)))) (P : List Handing → Type 0) (s t : Core) (g : List ℕ) (x : Proposal) (fits : Bool) → fits ≡ true → Does scripts P s t (λ f. closes f (tally_opened (appended f s g (Begin x)) g) g) → Does scripts P s t (λ f. begun_many f s g x fits)
-unfolding begun_many
+pub begun_where : (scripts : List (Option (List (Option VoteItem)))) (P : List Handing → Type 0) (s t : Core) (g : List ℕ) (x : Proposal) (fits : Bool) → fits ≡ true → Does scripts P s t (λ f. closes f (tally_opened (appended f s g (Begin x)) g) g) → Does scripts P s t (λ f. begin_many f s g x fits)
+unfolding begin_many
 begun_where scripts P s t g x fits h d = rw h d
 
-pub begun_nowhere : (scripts : List (Option (List (Option VoteItem)))) (P : List Handing → Type 0) → P [] → (s : Core) (g : List ℕ) (x : Proposal) (fits : Bool) → fits ≡ false → Does scripts P s s (λ f. begun_many f s g x fits)
-unfolding begun_many
+pub begun_nowhere : (scripts : List (Option (List (Option VoteItem)))) (P : List Handing → Type 0) → P [] → (s : Core) (g : List ℕ) (x : Proposal) (fits : Bool) → fits ≡ false → Does scripts P s s (λ f. begin_many f s g x fits)
+unfolding begin_many
 begun_nowhere scripts P p s g x fits h = rw h (does_nothing scripts P s p)

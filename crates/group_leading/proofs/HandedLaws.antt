@@ -1,30 +1,30 @@
 -- Handing an entry on leaves the groups as they are.
 use Rattle.std.proofs.Common.{◌≡◌, ℕ, Bool, true, false, List, [], ◌∷◌, Option, Some, None, refl, sym, ap, ◌∙◌, subst}
 use Rattle.std.specs.List.{fold}
-use Rattle.rsct_packet.specs.declared.ids.ProviderId.{ProviderId}
-use Rattle.rsct_packet.specs.declared.ids.ProtoId.{ProtoId}
-use Rattle.proposal_core.specs.declared.entry.Entry.{Entry}
-use Rattle.proposal_core.specs.declared.group_state.GroupState.{GroupState}
-use Rattle.subscribe_core.specs.Subs.{differs}
-use Rattle.client_callbacks.specs.declared.ballot.Filled.{Filled}
-use Rattle.client_callbacks.specs.declared.votes.VoteItem.{VoteItem}
-use Rattle.client_callbacks.specs.Ballots.{BallotView}
-use Rattle.session_state.specs.declared.casts.Cast.{Cast}
-use Rattle.node_state.specs.declared.group.GroupRow.{GroupRow}
-use Rattle.node_state.specs.declared.packet.Body.{Body}
-use Rattle.node_state.specs.declared.state.Core.{Core}
-use Rattle.node_state.specs.State.{InNameOrder, frozen, recorded_all, with_sessions}
-use Rattle.node_state.specs.Sending.{sent_on, sent, sent_if_known}
-use Rattle.node_state.specs.HandOn.{Answering, notes, noted, ballot_sent, cast_sent_of, casts_sent, handed_on}
-use Rattle.entry_handing.specs.Received.{Handing}
-use Rattle.entry_handing.specs.Doing.{Does}
+use Rattle.node_groups.specs.rsct_packet.declared.ids.ProviderId.{ProviderId}
+use Rattle.node_groups.specs.rsct_packet.declared.ids.ProtoId.{ProtoId}
+use Rattle.node_groups.specs.proposal_core.declared.entry.Entry.{Entry}
+use Rattle.node_groups.specs.proposal_core.declared.group_state.GroupState.{GroupState}
+use Rattle.node_groups.specs.subscribe_core.Subs.{differs}
+use Rattle.node_groups.specs.client_callbacks.declared.ballot.Filled.{Filled}
+use Rattle.node_groups.specs.client_callbacks.declared.votes.VoteItem.{VoteItem}
+use Rattle.node_groups.specs.client_callbacks.Ballots.{BallotView}
+use Rattle.node_groups.specs.session_state.declared.casts.Cast.{Cast}
+use Rattle.node_groups.specs.node_state.declared.group.GroupRow.{GroupRow}
+use Rattle.node_groups.specs.node_state.declared.packet.Body.{Body}
+use Rattle.node_groups.specs.node_state.declared.state.Core.{Core}
+use Rattle.node_groups.specs.node_state.State.{InNameOrder, frozen, recorded_all, with_sessions}
+use Rattle.node_groups.specs.node_state.Sending.{send_on, sent, send_if_known}
+use Rattle.node_groups.specs.node_state.HandOn.{Answering, notes, noted, ballot_sent, cast_sent_of, casts_sent, hand_on}
+use Rattle.entry_delivery.specs.Received.{Handing}
+use Rattle.entry_delivery.specs.Doing.{Does}
 use Rattle.group_leading.proofs.AnswerLaws.{does_some}
 
 abbrev SameGroups : Core → Core → Type 0
 SameGroups s t = t.groups ≡ s.groups
 
-known_groups : (s : Core) (to : Option ℕ) (b : Body) → SameGroups s (sent_if_known s to b)
-unfolding sent_if_known sent sent_on
+known_groups : (s : Core) (to : Option ℕ) (b : Body) → SameGroups s (send_if_known s to b)
+unfolding send_if_known sent send_on
 known_groups s None b = refl
 known_groups s (Some n) b = refl
 
@@ -59,12 +59,12 @@ noted_groups : (s : Core) (g : List ℕ) (i : ℕ) (before after : GroupState) �
 unfolding noted
 noted_groups s g i before after = noted_if (differs before after) s g (Some i) after
 
-handed_groups : (f : Answering) (s : Core) (to : Option ℕ) (g : List ℕ) (i : ℕ) (before after : GroupState) (e : Entry) → SameGroups s (handed_on f s to g i before after e)
-unfolding handed_on with_sessions recorded_all
+handed_groups : (f : Answering) (s : Core) (to : Option ℕ) (g : List ℕ) (i : ℕ) (before after : GroupState) (e : Entry) → SameGroups s (hand_on f s to g i before after e)
+unfolding hand_on with_sessions recorded_all
 handed_groups f s to g i before after e = casts_groups _ g to _ ∙ noted_groups (record s { records = _ }) g i before after
 
 pub handed_order : (scripts : List (Option (List (Option VoteItem)))) (P : List Handing → Type 0) (s t : Core) (to : Option ℕ) (g : List ℕ) (i : ℕ) (before after : GroupState) (e : Entry)
-    → Does scripts P s t (λ f. handed_on f s to g i before after e) → InNameOrder s.groups → InNameOrder t.groups
+    → Does scripts P s t (λ f. hand_on f s to g i before after e) → InNameOrder s.groups → InNameOrder t.groups
 handed_order scripts P s t to g i before after e d o =
-    let some = does_some scripts P s t (λ f. handed_on f s to g i before after e) d in
+    let some = does_some scripts P s t (λ f. hand_on f s to g i before after e) d in
     subst (λ (rows : List GroupRow). InNameOrder rows) (sym (ap (λ (x : Core). x.groups) some.1 ∙ handed_groups some.0 s to g i before after e)) o

@@ -3,27 +3,27 @@ use Rattle.std.proofs.Common.{◌≡◌, ℕ, List, [], ◌∷◌, length, Bool,
 use Rattle.std.specs.List.{fold}
 use Rattle.std.specs.Option.{option_copied}
 use Rattle.std.specs.Result.{OnOk}
-use Rattle.client_callbacks.specs.declared.votes.VoteItem.{VoteItem}
-use Rattle.node_state.specs.declared.state.Core.{Core}
-use Rattle.node_state.specs.State.{led_by, list_forgotten, forgets_below}
-use Rattle.node_state.specs.HandOn.{Answering}
+use Rattle.node_groups.specs.client_callbacks.declared.votes.VoteItem.{VoteItem}
+use Rattle.node_groups.specs.node_state.declared.state.Core.{Core}
+use Rattle.node_groups.specs.node_state.State.{set_leader, list_forgotten, forget_below}
+use Rattle.node_groups.specs.node_state.HandOn.{Answering}
 use Rattle.node_groups.specs.Keeps.{Stays, Keeps}
 use Rattle.node_groups.proofs.KeepLaws.{stays_itself, stays_then, stays_as, keeps_as, row_keeps, forgotten_state}
-use Rattle.entry_handing.specs.Received.{Handing}
-use Rattle.entry_handing.specs.Doing.{Does}
-use Rattle.entry_handing.proofs.DoingLaws.{does_after, does_as}
+use Rattle.entry_delivery.specs.Received.{Handing}
+use Rattle.entry_delivery.specs.Doing.{Does}
+use Rattle.entry_delivery.proofs.DoingLaws.{does_after, does_as}
 use Rattle.group_leading.specs.Working.{AtWork}
 use Rattle.group_leading.proofs.AnswerLaws.{does_some}
 use Rattle.group_leading.proofs.WorkLaws.{keeps_follows, work_kept, kept_does}
 
 -- ---- changes
 
-pub leader_keeps : (s : Core) (g : List ℕ) (n : ℕ) → Keeps s (led_by s g n)
-unfolding led_by
+pub leader_keeps : (s : Core) (g : List ℕ) (n : ℕ) → Keeps s (set_leader s g n)
+unfolding set_leader
 leader_keeps s g n = row_keeps s g (λ row. record row { leader = Some n }) (λ x. refl) (λ x. refl)
 
-pub forgets_keep : (s : Core) (g : List ℕ) (n : ℕ) → Keeps s (forgets_below s g n)
-unfolding forgets_below
+pub forgets_keep : (s : Core) (g : List ℕ) (n : ℕ) → Keeps s (forget_below s g n)
+unfolding forget_below
 forgets_keep s g n = row_keeps s g (λ row. record row { list = list_forgotten n row.list }) (λ x. refl) (λ x. forgotten_state n x.list)
 
 pub fold_stays : {A : Type 0} (f : Core → A → Core) → ((s : Core) (a : A) → Stays s (f s a)) → (s : Core) (xs : List A) → Stays s (fold f s xs)

@@ -1,7 +1,7 @@
 -- What a node at work keeps through its rows.
-use Rattle.node_state.specs.declared.state.Core.{Core}
-use Rattle.node_state.specs.State.{InNameOrder}
-use Rattle.entry_handing.specs.Doing.{Ready}
+use Rattle.node_groups.specs.node_state.declared.state.Core.{Core}
+use Rattle.node_groups.specs.node_state.State.{InNameOrder}
+use Rattle.entry_delivery.specs.Doing.{Ready}
 use Rattle.std.specs.Prelude.{List}
 
 -- it is ready to hand to its clients, and the rows of groups stand in the order of their names

@@ -1,12 +1,12 @@
 //! The whole of an input.
 ghost use Rattle.std.specs.Prelude.{◌≡◌, ◌≤◌, length, IfOk, IfSome};
 ghost use Rattle.std.specs.Io.KnownBytes.{IsAtEnd};
-ghost use Rattle.hags_io.specs.Edges.{Rose};
+ghost use Rattle.net_script.specs.hags_io.Edges.{Rose};
 ghost use Rattle.hags_cli.specs.Run.{ReadsAs};
 ghost use Rattle.hags_cli.specs.declared.input.InputFault.TheVariants as input_fault;
 
-use hags_io::{Source, Taken};
-use script_lines::INPUT_LIMIT;
+use net_script::hags_io::{Source, Taken};
+use script_reader::INPUT_LIMIT;
 use std::alloc::{AllocError, Global};
 
 /// Why an input was not read: the source failed, or memory has run out.
@@ -29,9 +29,11 @@ impl From<AllocError> for InputFault {
 #[tactic(auto, using(crate::proofs::InputLaws::all_taken, crate::proofs::InputLaws::more_taken))]
 pub fn read_input<S: Source>(alloc: Global, input: &mut S) -> Result<Vec<u8>, InputFault>
     ensures front { IfOk result (λ front. IfSome (S.left input.old) (ReadsAs front.items)) }
-    ensures end { IfOk result (λ front. length front.items ≤ INPUT_LIMIT → IsAtEnd (S.left input.new)) }
+    ensures end { IfOk result (λ front. length front.items ≤ INPUT_LIMIT
+        → IsAtEnd (S.left input.new)) }
     ensures later { S.faults input.old ≤ S.faults input.new }
-    ensures fault { result ≡ Err InputFault.ReadFault → Rose (S.faults input.old) (S.faults input.new) }
+    ensures fault { result ≡ Err InputFault.ReadFault
+        → Rose (S.faults input.old) (S.faults input.new) }
 {
     let mut front = Vec::new(alloc);
     let mut buf = [0u8; 4096];

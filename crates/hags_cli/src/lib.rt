@@ -2,8 +2,12 @@
 #![tactic(auto)]
 
 mod input;
-mod running;
+mod run;
 mod status;
 
-pub use running::{Ending, MOST_KEPT, run};
+pub use net_script;
+pub use net_script::{hags_io, play_state, transcript};
+pub use run::{Ending, MOST_KEPT, run};
+pub use script_reader;
+pub use script_reader::{client_callbacks, proposal_core, rsct_packet};
 pub use status::hags;

@@ -1,13 +1,13 @@
 //! The call at the top, and its status.
 ghost use Rattle.std.specs.Prelude.{◌≡◌, ◌≢◌, ◌⊎◌, ◌≤◌, ◌==◌, map, IfSome, false, true, ◌↔◌, string_bytes};
 ghost use Rattle.std.specs.Io.KnownBytes.{IsAtEnd, Keeps};
-ghost use Rattle.hags_io.specs.Edges.{Rose, GrowsByFront};
+ghost use Rattle.net_script.specs.hags_io.Edges.{Rose, GrowsByFront};
 ghost use Rattle.hags_cli.specs.Run.{PlaysAll, PlaysPast, PlaysFront, IsOutside, SaysLine, SpellsScript, MayHavePlayed, status_of, said_of, ending_text, is_run};
 
-use crate::running::{Ending, run};
-use hags_io::{Put, Sink, Source};
+use crate::run::{Ending, run};
+use net_script::hags_io::{Put, Sink, Source};
+use net_script::transcript::fault_line;
 use std::alloc::Global;
-use transcript::fault_line;
 
 const USAGE: &[u8] =
     b"hags: usage: hags run [--kinds LIST] / load N / daemon --node N [--inc I] [--turns T] / status WHAT --node N [--turns T]\n";
@@ -81,12 +81,18 @@ fn carry_out<S: Source, K: Sink, E: Sink>(
     err: &mut E,
 ) -> u8
     ensures usage { result ≡ 1 ↔ is_run (map string_bytes words.now) ≡ false }
-    ensures done { result ≡ 0 → IfSome (S.left input.old) (PlaysAll (K.held out.old) (K.held out.new)) × IsAtEnd (S.left input.new) }
-    ensures outside { result ≡ 2 → IfSome (S.left input.old) IsOutside × Keeps (K.held out.old) (K.held out.new) }
-    ensures memory { result ≡ 3 → IfSome (S.left input.old) (MayHavePlayed (K.held out.old) (K.held out.new)) }
-    ensures read { result ≡ 4 → Rose (S.faults input.old) (S.faults input.new) × Keeps (K.held out.old) (K.held out.new) }
-    ensures write { result ≡ 5 → Rose (K.faults out.old) (K.faults out.new) × IfSome (S.left input.old) (PlaysFront (K.held out.old) (K.held out.new)) }
-    ensures past { result ≡ 7 → IfSome (S.left input.old) (PlaysPast (K.held out.old) (K.held out.new)) }
+    ensures done { result ≡ 0 → IfSome (S.left input.old)
+        (PlaysAll (K.held out.old) (K.held out.new)) × IsAtEnd (S.left input.new) }
+    ensures outside { result ≡ 2 → IfSome (S.left input.old) IsOutside
+        × Keeps (K.held out.old) (K.held out.new) }
+    ensures memory { result ≡ 3 → IfSome (S.left input.old)
+        (MayHavePlayed (K.held out.old) (K.held out.new)) }
+    ensures read { result ≡ 4 → Rose (S.faults input.old) (S.faults input.new)
+        × Keeps (K.held out.old) (K.held out.new) }
+    ensures write { result ≡ 5 → Rose (K.faults out.old) (K.faults out.new)
+        × IfSome (S.left input.old) (PlaysFront (K.held out.old) (K.held out.new)) }
+    ensures past { result ≡ 7 → IfSome (S.left input.old)
+        (PlaysPast (K.held out.old) (K.held out.new)) }
     ensures no_other { (result ≤ 5) ⊎ (result ≡ 7) }
     ensures said { result ≢ 2 → GrowsByFront (E.held err.old) (E.held err.new) (said_of result) }
     ensures said_line { result ≡ 2 → SaysLine (S.left input.old) (E.held err.old) (E.held err.new) }
@@ -120,16 +126,25 @@ pub fn hags<S: Source, K: Sink, E: Sink>(
     err: &mut E,
 ) -> u8
     ensures usage { result ≡ 1 ↔ is_run (map string_bytes words.now) ≡ false }
-    ensures done { result ≡ 0 → IfSome (S.left input.old) (PlaysAll (K.held out.old) (K.held out.new)) × IsAtEnd (S.left input.new) }
-    ensures outside { result ≡ 2 → IfSome (S.left input.old) IsOutside × Keeps (K.held out.old) (K.held out.new) }
-    ensures memory { result ≡ 3 → IfSome (S.left input.old) (MayHavePlayed (K.held out.old) (K.held out.new)) }
-    ensures read { result ≡ 4 → Rose (S.faults input.old) (S.faults input.new) × Keeps (K.held out.old) (K.held out.new) }
-    ensures write { result ≡ 5 → Rose (K.faults out.old) (K.faults out.new) × IfSome (S.left input.old) (PlaysFront (K.held out.old) (K.held out.new)) }
-    ensures past { result ≡ 7 → IfSome (S.left input.old) (PlaysPast (K.held out.old) (K.held out.new)) }
+    ensures done { result ≡ 0 → IfSome (S.left input.old)
+        (PlaysAll (K.held out.old) (K.held out.new)) × IsAtEnd (S.left input.new) }
+    ensures outside { result ≡ 2 → IfSome (S.left input.old) IsOutside
+        × Keeps (K.held out.old) (K.held out.new) }
+    ensures memory { result ≡ 3 → IfSome (S.left input.old)
+        (MayHavePlayed (K.held out.old) (K.held out.new)) }
+    ensures read { result ≡ 4 → Rose (S.faults input.old) (S.faults input.new)
+        × Keeps (K.held out.old) (K.held out.new) }
+    ensures write { result ≡ 5 → Rose (K.faults out.old) (K.faults out.new)
+        × IfSome (S.left input.old) (PlaysFront (K.held out.old) (K.held out.new)) }
+    ensures past { result ≡ 7 → IfSome (S.left input.old)
+        (PlaysPast (K.held out.old) (K.held out.new)) }
     ensures no_other { (result ≤ 5) ⊎ (result ≡ 7) }
     ensures said { result ≢ 2 → GrowsByFront (E.held err.old) (E.held err.new) (said_of result) }
     ensures said_line { result ≡ 2 → SaysLine (S.left input.old) (E.held err.old) (E.held err.new) }
-    ensures complete { is_run (map string_bytes words.now) ≡ true → SpellsScript (S.left input.old) → (Rose (S.faults input.old) (S.faults input.new) → ⊥) → (Rose (K.faults out.old) (K.faults out.new) → ⊥) → (result ≡ 0) ⊎ (result ≡ 3) ⊎ (result ≡ 7) }
+    ensures complete { is_run (map string_bytes words.now) ≡ true → SpellsScript (S.left input.old)
+        → (Rose (S.faults input.old) (S.faults input.new) → ⊥)
+        → (Rose (K.faults out.old) (K.faults out.new) → ⊥) → (result ≡ 0) ⊎ (result ≡ 3)
+        ⊎ (result ≡ 7) }
 {
     carry_out(alloc, words, input, out, err)
 }

@@ -4,7 +4,7 @@ use Rattle.std.specs.Str.{bytes_eq}
 use Rattle.std.proofs.lemmas.Bool.{lt-leb}
 use Rattle.std.proofs.lemmas.Cmp.{nat_list_eq_equiv}
 use Rattle.name_server.specs.declared.names.Leader.{Leader}
-use Rattle.name_server.specs.Names.{max_names, node_of, named, answer_at, looked_up, table_at, names_after}
+use Rattle.name_server.specs.Names.{max_names, node_of, named, answer_at, looked_up, table_at, lookup}
 use Rattle.name_server.specs.Asked.{LookUp, all_asked}
 
 kept_head : (t : Bool) (m n : ℕ) (r s : Option ℕ) → (r ≡ Some n → s ≡ Some n) → (if t then Some m else r) ≡ Some n → (if t then Some m else s) ≡ Some n
@@ -24,7 +24,7 @@ kept_at g h n a table false None e = kept_named g h n a table e
 kept_all : (asked : List LookUp) (g : List ℕ) (n : ℕ) (table : List Leader) → node_of g table ≡ Some n → node_of g (all_asked asked table) ≡ Some n
 kept_all [] g n table e = e
 kept_all (a ∷ rest) g n table e =
-    kept_all rest g n (names_after a.group a.asker table) (kept_at g a.group n a.asker table (nat_le max_names (length table)) (node_of a.group table) e)
+    kept_all rest g n (lookup a.group a.asker table) (kept_at g a.group n a.asker table (nat_le max_names (length table)) (node_of a.group table) e)
 
 -- a new name is kept with the node that asked
 new_named : (g : List ℕ) (a : ℕ) (table : List Leader) → node_of g table ≡ None → node_of g (named g a table) ≡ Some a
@@ -41,10 +41,10 @@ answered_at g a n table true None is e = absurd cc
 answered_at g a n table false None is e = new_named g a table is ∙ e
 
 -- whatever a look-up of a group answers, every later one answers
-pub stays : (g : List ℕ) (a b n : ℕ) (asked : List LookUp) (table : List Leader) → looked_up g a table ≡ Some n → looked_up g b (all_asked asked (names_after g a table)) ≡ Some n
+pub stays : (g : List ℕ) (a b n : ℕ) (asked : List LookUp) (table : List Leader) → looked_up g a table ≡ Some n → looked_up g b (all_asked asked (lookup g a table)) ≡ Some n
 stays g a b n asked table e =
-    let later = all_asked asked (names_after g a table) in
-    let at : node_of g later ≡ Some n = kept_all asked g n (names_after g a table) (answered_at g a n table (nat_le max_names (length table)) (node_of g table) refl e) in
+    let later = all_asked asked (lookup g a table) in
+    let at : node_of g later ≡ Some n = kept_all asked g n (lookup g a table) (answered_at g a n table (nat_le max_names (length table)) (node_of g table) refl e) in
     ap (answer_at b (nat_le max_names (length later))) at
 
 -- a new name where there is room gets its asker

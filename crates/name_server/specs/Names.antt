@@ -43,5 +43,5 @@ table_at g asker table true None = table
 table_at g asker table false None = named g asker table
 
 -- the table after a look-up: a new name is kept with its asker
-abbrev pub names_after : List ℕ → ℕ → List Leader → List Leader
-names_after g asker table = table_at g asker table (nat_le max_names (length table)) (node_of g table)
+abbrev pub lookup : List ℕ → ℕ → List Leader → List Leader
+lookup g asker table = table_at g asker table (nat_le max_names (length table)) (node_of g table)

@@ -1,6 +1,6 @@
 //! The name table of a view, which its coordinator keeps.
 ghost use Rattle.std.specs.Prelude.{◌≡◌, ◌↔◌, ℕ, length, IsTrue, IfOk, OnOk, OnErr, IsErrOf};
-ghost use Rattle.name_server.specs.Names.{node_of, table_of, named, names_differ, looked_up, names_after};
+ghost use Rattle.name_server.specs.Names.{node_of, table_of, named, names_differ, looked_up, lookup};
 ghost use Rattle.name_server.specs.declared.names.NameFault.TheVariants as fault;
 
 use indexmap::IndexMap;
@@ -52,7 +52,8 @@ fn keep(
     node: u8,
 ) -> Result<(), NoMemory>
     requires { node_of group.now (table_of nodes.old.entries) ≡ None }
-    ensures ok { OnOk result (table_of nodes.new.entries ≡ named group.now node (table_of nodes.old.entries)) }
+    ensures ok { OnOk result (table_of nodes.new.entries
+        ≡ named group.now node (table_of nodes.old.entries)) }
     ensures err { OnErr result (table_of nodes.new.entries ≡ table_of nodes.old.entries) }
 {
     let group = Vec::from_slice(alloc, group)?;
@@ -109,8 +110,9 @@ impl Names {
     /// The node of a group: a new name is kept with the node that asks, unless 64 or more are kept.
     pub fn lookup(&mut self, alloc: Global, group: &[u8], asker: u8) -> Result<u8, NameFault>
         ensures node { IfOk result (λ n. looked_up group.now asker self.old ≡ Some n) }
-        ensures kept { OnOk result (self.new ≡ names_after group.now asker self.old) }
-        ensures full { IsErrOf result (NameFault.Full 64) ↔ (looked_up group.now asker self.old ≡ None) }
+        ensures kept { OnOk result (self.new ≡ lookup group.now asker self.old) }
+        ensures full { IsErrOf result (NameFault.Full 64)
+            ↔ (looked_up group.now asker self.old ≡ None) }
         ensures carries { (n : ℕ) → IsErrOf result (NameFault.Full n) → n ≡ 64 }
         ensures err { OnErr result (self.new ≡ self.old) }
     {

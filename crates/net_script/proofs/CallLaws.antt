@@ -5,38 +5,38 @@ use Rattle.std.specs.List.{list_any}
 use Rattle.std.specs.Option.{ForSome, unwrap_or}
 use Rattle.std.proofs.lemmas.Bool.{or_parts, eqb-false, eq-eqb}
 use Rattle.std.proofs.lemmas.List.{map-append}
-use Rattle.client_callbacks.specs.declared.votes.VoteItem.{VoteItem}
-use Rattle.client_callbacks.specs.Votes.{votes_word, votes_end, votes_byte, vote_item, with_item, is_word}
-use Rattle.client_session.specs.Notices.{FillTheirScripts}
-use Rattle.rsct_packet.specs.Search.{place_where}
-use Rattle.session_state.specs.declared.fault.GsFault.{GsFault}
-use Rattle.session_state.specs.declared.fault.GsFault.TheVariants.{NoInit}
-use Rattle.session_state.specs.declared.state.Provider.{Provider}
-use Rattle.session_state.specs.declared.state.Session.{Session}
-use Rattle.session_state.specs.declared.state.SessionState.{SessionState}
-use Rattle.session_state.specs.State.{is_session, client_token, client_place}
-use Rattle.session_state.specs.Calls.{unless_fault, client_fault, init_fault, session_added, inited, removed_at, session_ended, goodbye_taken}
-use Rattle.session_calls.specs.Calling.{clients_with, is_within_session}
-use Rattle.session_calls.proofs.CallLaws.{gone_keeps, refused_place}
-use Rattle.node_state.specs.declared.call.CallLine.{CallLine}
-use Rattle.node_state.specs.declared.call.CallLine.TheVariants as call
-use Rattle.node_state.specs.declared.happened.Happened.{Happened}
-use Rattle.node_state.specs.declared.happened.Happened.TheVariants as happened
-use Rattle.node_state.specs.declared.state.Core.{Core}
-use Rattle.node_state.specs.State.{frozen, recorded, with_sessions}
-use Rattle.node_state.specs.HandOn.{Answering}
-use Rattle.node_state.specs.Calls.{caller_of, call_refused, changed, gone_sent, all_gone_sent, goodbye_said, call_row}
-use Rattle.node_state.specs.Step.{Calls, at_work, stepped}
-use Rattle.entry_handing.specs.Received.{Handing}
-use Rattle.entry_handing.specs.Doing.{Does}
-use Rattle.group_leading.proofs.AnswerLaws.{does_some}
-use Rattle.node_step.specs.Node.{NodeView}
-use Rattle.world_model.specs.World.{Script, by_scripts, is_node, node_at, traced, after_step, steps, script_of, scripts_after, calls_if}
-use Rattle.world_model.specs.World as world
-use Rattle.net_script.specs.declared.stepping.Left.{Left}
+use Rattle.node_core.specs.client_callbacks.declared.votes.VoteItem.{VoteItem}
+use Rattle.node_core.specs.client_callbacks.Votes.{votes_word, votes_end, votes_byte, vote_item, with_item, is_word}
+use Rattle.node_core.specs.session_clients.Notices.{FillTheirScripts}
+use Rattle.node_core.specs.rsct_packet.Search.{place_where}
+use Rattle.node_core.specs.session_state.declared.fault.GsFault.{GsFault}
+use Rattle.node_core.specs.session_state.declared.fault.GsFault.TheVariants.{NoInit}
+use Rattle.node_core.specs.session_state.declared.state.Provider.{Provider}
+use Rattle.node_core.specs.session_state.declared.state.Session.{Session}
+use Rattle.node_core.specs.session_state.declared.state.SessionState.{SessionState}
+use Rattle.node_core.specs.session_state.State.{is_session, client_token, client_place}
+use Rattle.node_core.specs.session_state.Calls.{unless_fault, client_fault, init_fault, add_session, inited, removed_at, end_session, goodbye_taken}
+use Rattle.node_core.specs.node_calls.Calling.{clients_with, is_within_session}
+use Rattle.node_core.proofs.node_calls_laws.CallLaws.{gone_keeps, refused_place}
+use Rattle.node_core.specs.node_state.declared.call.CallLine.{CallLine}
+use Rattle.node_core.specs.node_state.declared.call.CallLine.TheVariants as call
+use Rattle.node_core.specs.node_state.declared.happened.Happened.{Happened}
+use Rattle.node_core.specs.node_state.declared.happened.Happened.TheVariants as happened
+use Rattle.node_core.specs.node_state.declared.state.Core.{Core}
+use Rattle.node_core.specs.node_state.State.{frozen, recorded, with_sessions}
+use Rattle.node_core.specs.node_state.HandOn.{Answering}
+use Rattle.node_core.specs.node_state.Calls.{caller_of, refuse_call, changed, send_gone, send_all_gone, goodbye_said, take_call}
+use Rattle.node_core.specs.node_state.Step.{Calls, at_work, stepped}
+use Rattle.node_core.specs.entry_delivery.Received.{Handing}
+use Rattle.node_core.specs.entry_delivery.Doing.{Does}
+use Rattle.node_core.proofs.group_leading_laws.AnswerLaws.{does_some}
+use Rattle.node_core.specs.Node.{NodeView}
+use Rattle.play_state.specs.world_model.World.{Script, by_scripts, is_node, node_at, traced, after_step, steps, script_of, scripts_after, calls_if}
+use Rattle.play_state.specs.world_model.World as world
+use Rattle.net_script.specs.declared.steps.Left.{Left}
 use Rattle.net_script.specs.declared.world.World.{World}
-use Rattle.world_laws.specs.world_answers.Answers.{step_by, calls_by_if}
-use Rattle.world_laws.specs.world_answers.Answers.{Items, AllWorded}
+use Rattle.world_safety.specs.world_laws.world_answers.Answers.{step_by, calls_by_if}
+use Rattle.world_safety.specs.world_laws.world_answers.Answers.{Items, AllWorded}
 use Rattle.net_script.specs.Standing.{is_me, silent_or, votes_by, votes_in, NodesStand, Leaves, StepDone, StepsAs, StepsNode, StepsSome, StepsIn, with_scripts, CallDone, Goes, Passes, Comes, Settled}
 use Rattle.play_state.specs.Posting.{bytes_after}
 use Rattle.net_script.proofs.NodeLaws.{steps_by}
@@ -84,9 +84,9 @@ map_left : {A B : Type 0} (f : A → B) (o : Option ℕ) (xs : List A) → map f
 map_left f None xs = refl
 map_left f (Some i) xs = map_removed f xs i
 
-each_gone : (s : Core) (xs : List Provider) → (fold gone_sent s xs).sessions.sessions ≡ s.sessions.sessions
+each_gone : (s : Core) (xs : List Provider) → (fold send_gone s xs).sessions.sessions ≡ s.sessions.sessions
 each_gone s [] = refl
-each_gone s (x ∷ xs) = each_gone (gone_sent s x) xs ∙ (gone_keeps s (gone_sent s x) x refl).sessions.0
+each_gone s (x ∷ xs) = each_gone (send_gone s x) xs ∙ (gone_keeps s (send_gone s x) x refl).sessions.0
 
 gone_if : (t : Bool) (s g : Core) → g.sessions.sessions ≡ s.sessions.sessions → (elim t as (λ b. Core) [ true ↦ s | false ↦ g ]).sessions.sessions ≡ s.sessions.sessions
 gone_if true s g e = refl
@@ -98,9 +98,9 @@ ended_if (Some f) t u e = absurd cc
 
 said_sessions : (s : Core) (client : List ℕ) (ended : List Provider) (r : Result SessionState GsFault) → goodbye_taken s.sessions (client_token s.sessions client) ≡ r
     → (goodbye_said s client ended r).sessions.sessions ≡ removed_at (client_place s.sessions (client_token s.sessions client)) s.sessions.sessions
-unfolding goodbye_said goodbye_taken all_gone_sent call_refused recorded with_sessions session_ended
+unfolding goodbye_said goodbye_taken send_all_gone refuse_call recorded with_sessions end_session
 said_sessions s client ended (Ok u) e =
-    gone_if (frozen (record s { sessions = u })) (record s { sessions = u }) _ (each_gone (record s { sessions = u }) ended) ∙ ap (λ (z : SessionState). z.sessions) (ended_if (client_fault s.sessions (client_token s.sessions client)) (session_ended s.sessions (client_token s.sessions client)) u e)
+    gone_if (frozen (record s { sessions = u })) (record s { sessions = u }) _ (each_gone (record s { sessions = u }) ended) ∙ ap (λ (z : SessionState). z.sessions) (ended_if (client_fault s.sessions (client_token s.sessions client)) (end_session s.sessions (client_token s.sessions client)) u e)
 said_sessions s client ended (Err f) e = sym (ap (λ o. removed_at o s.sessions.sessions) (refused_place s.sessions (client_token s.sessions client) f e))
 
 within_scripts : (c : CallLine) (x : Core) (ss : List Script) → IsTrue (is_within_session c) → scripts_after c x ss ≡ ss
@@ -154,8 +154,8 @@ own_votes said s ss x e = rw e refl
 -- the clients vote by the scripts, with that of the new one
 begun_votes : {C : Type 0} (script : C → Option Items) (said : Items → Option Items) (o : Option GsFault) (s : Script) (ss : List Script) (core : Core) (name : List ℕ) (c : C) (cs : List C)
     → s.token.n ≡ core.sessions.last_client + 1 → list_any (is_session s.token) core.sessions.sessions ≡ false → script c ≡ said (silent_or s.items) → map script cs ≡ votes_in said ss core.sessions.sessions
-    → map script (clients_with c cs (unless_fault o (session_added core.sessions name))) ≡ votes_in said (s ∷ ss) (changed core name (unless_fault o (session_added core.sessions name))).sessions.sessions
-unfolding session_added changed call_refused recorded with_sessions
+    → map script (clients_with c cs (unless_fault o (add_session core.sessions name))) ≡ votes_in said (s ∷ ss) (changed core name (unless_fault o (add_session core.sessions name))).sessions.sessions
+unfolding add_session changed refuse_call recorded with_sessions
 begun_votes script said None s ss core name c cs token fresh items votes =
     let new : Session = record { token = record { n = core.sessions.last_client + 1 }; name = name } in
     let own : script c ≡ votes_by said (s ∷ ss) new = items ∙ sym (own_votes said s ss new (eq-eqb s.token.n new.token.n token)) in
@@ -170,15 +170,15 @@ module _ {C : Type 0} {script : C → Option Items} {said : Items → Option Ite
 
   pub init_done : FillTheirScripts → (n m o : NodeView C) (l : Left) (c : C) (P : List Handing → Type 0) (name votes : List ℕ) (k : ℕ) → false ≡ list_any (is_session (record { n = n.core.sessions.last_client + 1 })) n.core.sessions.sessions
       → script c ≡ said (silent_or (unwrap_or (votes_word votes) [])) → map script m.clients ≡ map script (clients_with c n.clients (inited n.core.sessions name))
-      → Does (map script m.clients) P (call_row (at_work n.core) (call.Init k name votes)) m.core (λ f. stepped f n.core (Calls (call.Init k name votes))) → Leaves m o l n.core.views.me → CallDone script said n o l (call.Init k name votes)
-  unfolding scripts_after script_of inited call_row
+      → Does (map script m.clients) P (take_call (at_work n.core) (call.Init k name votes)) m.core (λ f. stepped f n.core (Calls (call.Init k name votes))) → Leaves m o l n.core.views.me → CallDone script said n o l (call.Init k name votes)
+  unfolding scripts_after script_of inited take_call
   init_done fill n m o l c P name votes k fresh items after d left =
-      let some : (f : Answering) × (m.core ≡ stepped f n.core (Calls (call.Init k name votes))) = does_some (map script m.clients) P (call_row (at_work n.core) (call.Init k name votes)) m.core (λ f. stepped f n.core (Calls (call.Init k name votes))) d in (
+      let some : (f : Answering) × (m.core ≡ stepped f n.core (Calls (call.Init k name votes))) = does_some (map script m.clients) P (take_call (at_work n.core) (call.Init k name votes)) m.core (λ f. stepped f n.core (Calls (call.Init k name votes))) d in (
         some.0,
         λ x h.
             let last : x.core.sessions.last_client ≡ n.core.sessions.last_client = ap (λ (s : Core). s.sessions.last_client) (sym h.core) in
             let s : Script = record { token = record { n = x.core.sessions.last_client + 1 }; items = unwrap_or (votes_word votes) [] } in
-            row_done fill n m o l x (s ∷ x.scripts) P (call_row (at_work n.core) (call.Init k name votes)) (Calls (call.Init k name votes)) some.0 h
+            row_done fill n m o l x (s ∷ x.scripts) P (take_call (at_work n.core) (call.Init k name votes)) (Calls (call.Init k name votes)) some.0 h
             (after ∙ begun_votes script said (init_fault n.core.sessions name) s x.scripts (at_work n.core) name c n.clients (ap (λ z. z + 1) last)
             (ap (λ z. list_any (is_session (record { n = z + 1 })) n.core.sessions.sessions) last ∙ sym fresh) items (h.votes ∙ ap (votes_in said x.scripts) (sym (same_lives n x h))))
             d some.1 left,
@@ -187,15 +187,15 @@ module _ {C : Type 0} {script : C → Option Items} {said : Items → Option Ite
   -- ---- a session that ends
 
   pub goodbye_done : FillTheirScripts → (n m o : NodeView C) (l : Left) (P : List Handing → Type 0) (client : List ℕ) → map script m.clients ≡ map script (removed_at (client_place n.core.sessions (client_token n.core.sessions client)) n.clients)
-      → Does (map script m.clients) P (call_row (at_work n.core) (call.Goodbye client)) m.core (λ f. stepped f n.core (Calls (call.Goodbye client))) → Leaves m o l n.core.views.me → CallDone script said n o l (call.Goodbye client)
-  unfolding scripts_after call_row
+      → Does (map script m.clients) P (take_call (at_work n.core) (call.Goodbye client)) m.core (λ f. stepped f n.core (Calls (call.Goodbye client))) → Leaves m o l n.core.views.me → CallDone script said n o l (call.Goodbye client)
+  unfolding scripts_after take_call
   goodbye_done fill n m o l P client after d left =
       let place : Option ℕ = client_place n.core.sessions (client_token n.core.sessions client) in
-      let some : (f : Answering) × (m.core ≡ stepped f n.core (Calls (call.Goodbye client))) = does_some (map script m.clients) P (call_row (at_work n.core) (call.Goodbye client)) m.core (λ f. stepped f n.core (Calls (call.Goodbye client))) d in (
+      let some : (f : Answering) × (m.core ≡ stepped f n.core (Calls (call.Goodbye client))) = does_some (map script m.clients) P (take_call (at_work n.core) (call.Goodbye client)) m.core (λ f. stepped f n.core (Calls (call.Goodbye client))) d in (
         some.0,
         λ x h.
             let votes : map script n.clients ≡ votes_in said x.scripts n.core.sessions.sessions = h.votes ∙ ap (votes_in said x.scripts) (sym (same_lives n x h)) in
-            row_done fill n m o l x x.scripts P (call_row (at_work n.core) (call.Goodbye client)) (Calls (call.Goodbye client)) some.0 h
+            row_done fill n m o l x x.scripts P (take_call (at_work n.core) (call.Goodbye client)) (Calls (call.Goodbye client)) some.0 h
             (after ∙ (map_left script place n.clients ∙ (ap (removed_at place) votes ∙ (sym (map_left (votes_by said x.scripts) place n.core.sessions.sessions) ∙ ap (votes_in said x.scripts) (sym (said_sessions (at_work n.core) client _ _ refl))))))
             d some.1 left,
       )

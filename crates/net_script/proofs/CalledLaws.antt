@@ -2,39 +2,39 @@
 use Rattle.std.proofs.Common.{◌≡◌, ℕ, Bool, true, false, List, [], ◌∷◌, Option, Some, None, Result, Ok, Err, IsTrue, refl, sym, ap, ◌∙◌}
 use Rattle.std.specs.Prelude.{find, fold, if◌then◌else◌}
 use Rattle.std.specs.List.{last_or}
-use Rattle.group_attr.specs.declared.attrs.Attrs.{Attrs}
-use Rattle.group_attr.specs.declared.attrs.Phases.{Phases}
-use Rattle.proposal_core.specs.declared.entry.Vote.{Vote}
-use Rattle.proposal_core.specs.declared.proposal.Proposal.{Proposal}
-use Rattle.proposal_core.specs.declared.proposal.Proposal.TheVariants.{Attributes}
-use Rattle.client_callbacks.specs.declared.ballot.Filled.{Filled}
-use Rattle.session_state.specs.declared.fault.Field.TheVariants as field
-use Rattle.session_state.specs.declared.fault.GsFault.{GsFault}
-use Rattle.session_state.specs.declared.fault.GsFault.TheVariants as fault
-use Rattle.session_state.specs.declared.state.KeptBallot.{KeptBallot}
-use Rattle.session_state.specs.declared.state.MemberToken.{MemberToken}
-use Rattle.session_state.specs.declared.state.OpenPhase.{OpenPhase}
-use Rattle.session_state.specs.declared.state.Provider.{Provider}
-use Rattle.session_state.specs.declared.state.Request.{Request}
-use Rattle.session_state.specs.declared.state.SessionState.{SessionState}
-use Rattle.session_state.specs.State.{is_member_of, client_token}
-use Rattle.session_state.specs.Calls.{is_empty, unless_fault, ask_fault, asked, member_asks, if_session, request_made, member_changes, attributes_changed, vote_in, member_votes, voted, joined, join_fault, join_asked, left, expelled, state_changed, message_sent, subscribe_taken, unsubscribe_taken}
-use Rattle.node_state.specs.declared.call.CallLine.{CallLine}
-use Rattle.node_state.specs.declared.call.CallLine.TheVariants as call
-use Rattle.node_state.specs.declared.happened.Happened.TheVariants as happened
-use Rattle.node_state.specs.declared.packet.Body.{Body}
-use Rattle.node_state.specs.declared.state.Core.{Core}
-use Rattle.node_state.specs.State.{frozen, leader_of, with_sessions, recorded}
-use Rattle.node_state.specs.Sending.{sent_if_known, request_to, request_sent, kept_sent_to, kept_sent}
-use Rattle.node_state.specs.Calls.{caller, call_refused, changed, last_asked, proposed, ballot_recorded, ballot_sent_if, last_cast, ballot_given, gone_sent, all_gone_sent, goodbye_said, call_row}
-use Rattle.node_state.specs.Step.{NodeEvent, Ticks, Asks, Given, Calls, at_work}
-use Rattle.node_state.specs.Step as step
-use Rattle.node_state.specs.Handed.{handed_in, Along}
-use Rattle.node_state.proofs.AlongLaws.{along_same, along_itself, along_then}
-use Rattle.node_groups.specs.Keeps.{Keeps}
-use Rattle.node_groups.proofs.KeepLaws.{keeps_itself, record_keeps, sent_keeps}
-use Rattle.session_calls.specs.Calling.{is_within_session}
-use Rattle.node_step.specs.Event.{called}
+use Rattle.node_core.specs.group_attr.declared.attrs.Attrs.{Attrs}
+use Rattle.node_core.specs.group_attr.declared.attrs.Phases.{Phases}
+use Rattle.node_core.specs.proposal_core.declared.entry.Vote.{Vote}
+use Rattle.node_core.specs.proposal_core.declared.proposal.Proposal.{Proposal}
+use Rattle.node_core.specs.proposal_core.declared.proposal.Proposal.TheVariants.{Attributes}
+use Rattle.node_core.specs.client_callbacks.declared.ballot.Filled.{Filled}
+use Rattle.node_core.specs.session_state.declared.fault.Field.TheVariants as field
+use Rattle.node_core.specs.session_state.declared.fault.GsFault.{GsFault}
+use Rattle.node_core.specs.session_state.declared.fault.GsFault.TheVariants as fault
+use Rattle.node_core.specs.session_state.declared.state.KeptBallot.{KeptBallot}
+use Rattle.node_core.specs.session_state.declared.state.MemberToken.{MemberToken}
+use Rattle.node_core.specs.session_state.declared.state.OpenPhase.{OpenPhase}
+use Rattle.node_core.specs.session_state.declared.state.Provider.{Provider}
+use Rattle.node_core.specs.session_state.declared.state.Request.{Request}
+use Rattle.node_core.specs.session_state.declared.state.SessionState.{SessionState}
+use Rattle.node_core.specs.session_state.State.{is_member_of, client_token}
+use Rattle.node_core.specs.session_state.Calls.{is_empty, unless_fault, ask_fault, asked, member_asks, if_session, request_made, member_changes, attributes_changed, vote_in, member_votes, voted, joined, join_fault, join_asked, left, expelled, state_changed, message_sent, subscribe_taken, unsubscribe_taken}
+use Rattle.node_core.specs.node_state.declared.call.CallLine.{CallLine}
+use Rattle.node_core.specs.node_state.declared.call.CallLine.TheVariants as call
+use Rattle.node_core.specs.node_state.declared.happened.Happened.TheVariants as happened
+use Rattle.node_core.specs.node_state.declared.packet.Body.{Body}
+use Rattle.node_core.specs.node_state.declared.state.Core.{Core}
+use Rattle.node_core.specs.node_state.State.{frozen, leader_of, with_sessions, recorded}
+use Rattle.node_core.specs.node_state.Sending.{send_if_known, send_request_to, send_request, send_kept_to, send_kept}
+use Rattle.node_core.specs.node_state.Calls.{caller, refuse_call, changed, ask_last, proposed, record_ballot, ballot_sent_if, cast_last, give_ballot, send_gone, send_all_gone, goodbye_said, take_call}
+use Rattle.node_core.specs.node_state.Step.{NodeEvent, Ticks, Asks, Given, Calls, at_work}
+use Rattle.node_core.specs.node_state.Step as step
+use Rattle.node_core.specs.node_state.Handed.{handed_in, Along}
+use Rattle.node_core.proofs.node_state_laws.AlongLaws.{along_same, along_itself, along_then}
+use Rattle.node_core.specs.node_groups.Keeps.{Keeps}
+use Rattle.node_core.proofs.node_groups_laws.KeepLaws.{keeps_itself, record_keeps, sent_keeps}
+use Rattle.node_core.specs.node_calls.Calling.{is_within_session}
+use Rattle.node_core.specs.Event.{called}
 
 -- the same sessions, nothing more is handed, and the states of groups are as the records tell
 pub record Quiet (s t : Core) : Type 0 where
@@ -52,75 +52,75 @@ quiet_with : (s : Core) (u : SessionState) → u.sessions ≡ s.sessions.session
 unfolding with_sessions
 quiet_with s u e = record { lives = e; unhanded = refl; along = along_same s (with_sessions s u) refl refl }
 
-quiet_refused : (s : Core) (client : List ℕ) (f : GsFault) → Quiet s (call_refused s client f)
-unfolding call_refused
-quiet_refused s client f = quiet s (call_refused s client f) (record_keeps s (happened.Refused s.views.me client f) refl (λ g st. refl))
+quiet_refused : (s : Core) (client : List ℕ) (f : GsFault) → Quiet s (refuse_call s client f)
+unfolding refuse_call
+quiet_refused s client f = quiet s (refuse_call s client f) (record_keeps s (happened.Refused s.views.me client f) refl (λ g st. refl))
 
 -- ---- what is sent
 
-known_quiet : (s : Core) (to : Option ℕ) (b : Body) → Quiet s (sent_if_known s to b)
-unfolding sent_if_known
+known_quiet : (s : Core) (to : Option ℕ) (b : Body) → Quiet s (send_if_known s to b)
+unfolding send_if_known
 known_quiet s None b = quiet s s (keeps_itself s)
-known_quiet s (Some n) b = quiet s (sent_if_known s (Some n) b) (sent_keeps s n b)
+known_quiet s (Some n) b = quiet s (send_if_known s (Some n) b) (sent_keeps s n b)
 
-to_quiet : (s : Core) (q : Request) (to : Option ℕ) → Quiet s (request_to s q to)
-unfolding request_to
-to_quiet s q None = quiet s (request_to s q None) (sent_keeps s s.views.view.coord _)
-to_quiet s q (Some n) = quiet s (request_to s q (Some n)) (sent_keeps s n _)
+to_quiet : (s : Core) (q : Request) (to : Option ℕ) → Quiet s (send_request_to s q to)
+unfolding send_request_to
+to_quiet s q None = quiet s (send_request_to s q None) (sent_keeps s s.views.view.coord _)
+to_quiet s q (Some n) = quiet s (send_request_to s q (Some n)) (sent_keeps s n _)
 
-request_quiet : (s : Core) (q : Request) → Quiet s (request_sent s q)
-unfolding request_sent
+request_quiet : (s : Core) (q : Request) → Quiet s (send_request s q)
+unfolding send_request
 request_quiet s q = by (frozen s)
   where
-    by : (b : Bool) → Quiet s (elim b as (λ x. Core) [ true ↦ s | false ↦ request_to s q (leader_of s q.group) ])
+    by : (b : Bool) → Quiet s (elim b as (λ x. Core) [ true ↦ s | false ↦ send_request_to s q (leader_of s q.group) ])
     by true = quiet s s (keeps_itself s)
     by false = to_quiet s q (leader_of s q.group)
 
-kept_to_quiet : (s : Core) (k : KeptBallot) (to : Option ℕ) (b : Option Filled) → Quiet s (kept_sent_to s k to b)
-unfolding kept_sent_to
+kept_to_quiet : (s : Core) (k : KeptBallot) (to : Option ℕ) (b : Option Filled) → Quiet s (send_kept_to s k to b)
+unfolding send_kept_to
 kept_to_quiet s k to None = quiet s s (keeps_itself s)
 kept_to_quiet s k to (Some b) = known_quiet s to _
 
-kept_quiet : (s : Core) (k : KeptBallot) → Quiet s (kept_sent s k)
-unfolding kept_sent
+kept_quiet : (s : Core) (k : KeptBallot) → Quiet s (send_kept s k)
+unfolding send_kept
 kept_quiet s k = kept_to_quiet s k (leader_of s k.group) k.ballot.filled
 
-each_gone_quiet : (s : Core) (xs : List Provider) → Quiet s (fold gone_sent s xs)
-unfolding gone_sent
+each_gone_quiet : (s : Core) (xs : List Provider) → Quiet s (fold send_gone s xs)
+unfolding send_gone
 each_gone_quiet s [] = quiet s s (keeps_itself s)
-each_gone_quiet s (x ∷ xs) = quiet_then s (gone_sent s x) (fold gone_sent s (x ∷ xs)) (known_quiet s (leader_of s x.group) _) (each_gone_quiet (gone_sent s x) xs)
+each_gone_quiet s (x ∷ xs) = quiet_then s (send_gone s x) (fold send_gone s (x ∷ xs)) (known_quiet s (leader_of s x.group) _) (each_gone_quiet (send_gone s x) xs)
 
-all_gone_quiet : (s : Core) (xs : List Provider) → Quiet s (all_gone_sent s xs)
-unfolding all_gone_sent
+all_gone_quiet : (s : Core) (xs : List Provider) → Quiet s (send_all_gone s xs)
+unfolding send_all_gone
 all_gone_quiet s xs = by (frozen s)
   where
-    by : (b : Bool) → Quiet s (elim b as (λ x. Core) [ true ↦ s | false ↦ fold gone_sent s xs ])
+    by : (b : Bool) → Quiet s (elim b as (λ x. Core) [ true ↦ s | false ↦ fold send_gone s xs ])
     by true = quiet s s (keeps_itself s)
     by false = each_gone_quiet s xs
 
 -- ---- what is recorded
 
-asked_quiet : (s : Core) (o : Option Request) → Quiet s (last_asked s o)
-unfolding last_asked
+asked_quiet : (s : Core) (o : Option Request) → Quiet s (ask_last s o)
+unfolding ask_last
 asked_quiet s None = quiet s s (keeps_itself s)
 asked_quiet s (Some q) =
     let t : Core = recorded s (happened.Asked q.p q.r q.group q.proposal) in
-    quiet_then s t (last_asked s (Some q)) (quiet s t (record_keeps s (happened.Asked q.p q.r q.group q.proposal) refl (λ g st. refl))) (request_quiet t q)
+    quiet_then s t (ask_last s (Some q)) (quiet s t (record_keeps s (happened.Asked q.p q.r q.group q.proposal) refl (λ g st. refl))) (request_quiet t q)
 
-cast_quiet : (s : Core) (k : KeptBallot) (b : Option Filled) → Quiet s (ballot_recorded s k b)
-unfolding ballot_recorded
+cast_quiet : (s : Core) (k : KeptBallot) (b : Option Filled) → Quiet s (record_ballot s k b)
+unfolding record_ballot
 cast_quiet s k None = quiet s s (keeps_itself s)
-cast_quiet s k (Some b) = quiet s (ballot_recorded s k (Some b)) (record_keeps s (happened.Cast k.p k.proto k.phase b.vote b.value b.message) refl (λ g st. refl))
+cast_quiet s k (Some b) = quiet s (record_ballot s k (Some b)) (record_keeps s (happened.Cast k.p k.proto k.phase b.vote b.value b.message) refl (λ g st. refl))
 
 ballot_quiet : (s : Core) (k : KeptBallot) (b : Bool) → Quiet s (ballot_sent_if s k b)
 unfolding ballot_sent_if
 ballot_quiet s k true = quiet s s (keeps_itself s)
 ballot_quiet s k false = kept_quiet s k
 
-last_cast_quiet : (s : Core) (o : Option KeptBallot) → Quiet s (last_cast s o)
-unfolding last_cast
+last_cast_quiet : (s : Core) (o : Option KeptBallot) → Quiet s (cast_last s o)
+unfolding cast_last
 last_cast_quiet s None = quiet s s (keeps_itself s)
-last_cast_quiet s (Some k) = quiet_then s (ballot_recorded s k k.ballot.filled) (last_cast s (Some k)) (cast_quiet s k k.ballot.filled) (ballot_quiet (ballot_recorded s k k.ballot.filled) k (frozen s))
+last_cast_quiet s (Some k) = quiet_then s (record_ballot s k k.ballot.filled) (cast_last s (Some k)) (cast_quiet s k k.ballot.filled) (ballot_quiet (record_ballot s k k.ballot.filled) k (frozen s))
 
 -- ---- calls whose sessions stay
 
@@ -138,10 +138,10 @@ proposed_quiet s client (Ok u) same =
     quiet_then s (with_sessions s u) (proposed s client (Ok u)) (quiet_with s u (same u refl)) (asked_quiet (with_sessions s u) (last_or None u.requests))
 proposed_quiet s client (Err f) same = quiet_refused s client f
 
-given_quiet : (s : Core) (client : List ℕ) (r : Result SessionState GsFault) → Same s.sessions r → Quiet s (ballot_given s client r)
-unfolding ballot_given
+given_quiet : (s : Core) (client : List ℕ) (r : Result SessionState GsFault) → Same s.sessions r → Quiet s (give_ballot s client r)
+unfolding give_ballot
 given_quiet s client (Ok u) same =
-    quiet_then s (with_sessions s u) (ballot_given s client (Ok u)) (quiet_with s u (same u refl)) (last_cast_quiet (with_sessions s u) (last_or None u.kept))
+    quiet_then s (with_sessions s u) (give_ballot s client (Ok u)) (quiet_with s u (same u refl)) (last_cast_quiet (with_sessions s u) (last_or None u.kept))
 given_quiet s client (Err f) same = quiet_refused s client f
 
 module _ (s : SessionState) where
@@ -187,8 +187,8 @@ module _ (s : SessionState) where
 
 -- ---- the calls
 
-within_quiet : (s : Core) (c : CallLine) → IsTrue (is_within_session c) → Quiet s (call_row s c)
-unfolding call_row joined left expelled state_changed message_sent subscribe_taken unsubscribe_taken join_asked
+within_quiet : (s : Core) (c : CallLine) → IsTrue (is_within_session c) → Quiet s (take_call s c)
+unfolding take_call joined left expelled state_changed message_sent subscribe_taken unsubscribe_taken join_asked
 within_quiet s (call.Init node name votes) h = absurd cc
 within_quiet s (call.Join client g instance attrs) h = proposed_quiet s client _ (unless_same s.sessions (join_fault s.sessions (client_token s.sessions client) g attrs) (join_asked s.sessions (client_token s.sessions client) g instance attrs) refl)
 within_quiet s (call.Leave client g phases) h = proposed_quiet s client _ (made_same s.sessions (caller s.sessions client g) phases _ _)
@@ -218,11 +218,11 @@ goodbye_unheard : (s : Core) (client : List ℕ) (ended : List Provider) (r : Re
 unfolding goodbye_said with_sessions
 goodbye_unheard s client ended (Ok u) =
     let t : Core = with_sessions s u in
-    let q : Quiet t (all_gone_sent t ended) = all_gone_quiet t ended in record { unhanded = q.unhanded; along = along_then s t _ (along_same s t refl refl) q.along }
+    let q : Quiet t (send_all_gone t ended) = all_gone_quiet t ended in record { unhanded = q.unhanded; along = along_then s t _ (along_same s t refl refl) q.along }
 goodbye_unheard s client ended (Err f) = unheard s _ (quiet_refused s client f)
 
-call_unheard : (s : Core) (c : CallLine) → Unheard s (call_row s c)
-unfolding call_row
+call_unheard : (s : Core) (c : CallLine) → Unheard s (take_call s c)
+unfolding take_call
 call_unheard s (call.Init node name votes) = init_unheard s name _
 call_unheard s (call.Goodbye client) = goodbye_unheard s client _ _
 call_unheard s (call.Join client g instance attrs) = unheard s _ (within_quiet s (call.Join client g instance attrs) refl)

@@ -1,3 +1,4 @@
+pub mod Below
 pub mod VoteLaws
 pub mod NodeLaws
 pub mod CalledLaws
@@ -24,3 +25,4 @@ pub mod PlaySafeLaws
 pub mod SafePlays
 pub mod PlayLaws
 pub mod WordedLaws
+pub use Rattle.transcript.proofs as transcript_laws

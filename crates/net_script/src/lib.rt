@@ -2,24 +2,27 @@
 //! written as they come.
 #![tactic(auto)]
 
-mod beginning;
-mod calling;
-mod coming;
-mod events;
-mod flowing;
-mod giving;
-mod happening;
+mod calls;
+mod deliver;
+mod event;
+mod flow;
+mod lifecycle;
 mod lines;
 mod nodes;
-mod playing;
+mod plain_events;
+mod records;
 mod rounds;
+mod script;
 mod stage;
-mod stepping;
+mod start;
+mod steps;
 mod world;
-mod writing;
 
-pub use flowing::FLOW_LIMIT;
+pub use flow::FLOW_LIMIT;
+pub use hags_io;
 pub use nodes::Nodes;
-pub use playing::{play, play_as};
+pub use play_state;
+pub use script::{play, play_as};
 pub use stage::Stage;
+pub use transcript;
 pub use world::World;

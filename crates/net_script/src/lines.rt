@@ -1,20 +1,20 @@
 //! The lines of a script.
 ghost use Rattle.std.specs.Prelude.{◌≡◌, ◌≤◌};
 ghost use Rattle.hags_io.specs.Edges.{Rose};
-ghost use Rattle.world_model.specs.World as world;
-ghost use Rattle.world_laws.specs.world_answers.Plays.{AnsweredPlay, PlaysLine, PlaysLines};
+ghost use Rattle.play_state.specs.world_model.World as world;
+ghost use Rattle.world_safety.specs.world_laws.world_answers.Plays.{AnsweredPlay, PlaysLine, PlaysLines};
 ghost use Rattle.net_script.specs.Stage.{At, LeadsTo};
 
-use crate::events::play_event;
-use crate::flowing::flow;
+use crate::flow::flow;
+use crate::plain_events::play_event;
 use crate::rounds::run;
 use crate::stage::Stage;
-use client_callbacks::Made;
 use hags_io::Sink;
+use node_core::client_callbacks::Made;
 use play_state::PlayFault;
+use play_state::world_model::Line;
 use std::alloc::Global;
 use transcript::Kinds;
-use world_model::Line;
 
 /// A line is played.
 fn play_line<C: Made, K: Sink>(
@@ -24,7 +24,9 @@ fn play_line<C: Made, K: Sink>(
     line: &Line,
     out: &mut K,
 ) -> Result<(), PlayFault>
-    ensures outcome { (p : AnsweredPlay) → (v : world.World) → At C.script C.script_of stage.old p v → LeadsTo C.script C.script_of C.stands_for result kinds (K.held out.old) (K.held out.new) stage.old stage.new p (PlaysLine C.script_of p line.now) v }
+    ensures outcome { (p : AnsweredPlay) → (v : world.World) → At C.script C.script_of stage.old p v
+        → LeadsTo C.script C.script_of C.stands_for result kinds (K.held out.old)
+        (K.held out.new) stage.old stage.new p (PlaysLine C.script_of p line.now) v }
     ensures later { K.faults out.old ≤ K.faults out.new }
     ensures fault { result ≡ Err PlayFault.WriteFault → Rose (K.faults out.old) (K.faults out.new) }
 {
@@ -55,7 +57,9 @@ pub fn play_lines<C: Made, K: Sink>(
     lines: &[Line],
     out: &mut K,
 ) -> Result<(), PlayFault>
-    ensures outcome { (p : AnsweredPlay) → (v : world.World) → At C.script C.script_of stage.old p v → LeadsTo C.script C.script_of C.stands_for result kinds (K.held out.old) (K.held out.new) stage.old stage.new p (PlaysLines C.script_of p lines.now) v }
+    ensures outcome { (p : AnsweredPlay) → (v : world.World) → At C.script C.script_of stage.old p v
+        → LeadsTo C.script C.script_of C.stands_for result kinds (K.held out.old)
+        (K.held out.new) stage.old stage.new p (PlaysLines C.script_of p lines.now) v }
     ensures later { K.faults out.old ≤ K.faults out.new }
     ensures fault { result ≡ Err PlayFault.WriteFault → Rose (K.faults out.old) (K.faults out.new) }
 {

@@ -1,18 +1,18 @@
 //! The nodes of a world that are up, ascending.
 ghost use Rattle.std.specs.Prelude.{◌≡◌, ◌<◌, ◌≤◌, [], length, IfSome, IfOk, OnOk, IsTrue, find, is_some, option_copied, map};
-ghost use Rattle.rsct_packet.specs.Search.{place_where, front_len, insert_before};
-ghost use Rattle.rsct_packet.specs.Lists.{drop_where};
-ghost use Rattle.node_state.specs.Step.{Calls};
-ghost use Rattle.node_step.specs.Event.{event_in, is_taken};
+ghost use Rattle.node_core.specs.rsct_packet.Search.{place_where, front_len, insert_before};
+ghost use Rattle.node_core.specs.rsct_packet.Lists.{drop_where};
+ghost use Rattle.node_core.specs.node_state.Step.{Calls};
+ghost use Rattle.node_core.specs.Event.{event_in, is_taken};
 ghost use Rattle.net_script.specs.Standing.{is_me, comes_before, number_in, StepsIn, with_scripts};
 ghost use Rattle.net_script.specs.Hands.{NodesHear};
 
-use crate::calling::call_node;
-use crate::stepping::{Left, step_node};
-use client_callbacks::{Callbacks, Made};
-use node_state::CallLine;
-use node_step::{Node, NodeEvent};
-use rsct_packet::NoMemory;
+use crate::calls::call_node;
+use crate::steps::{Left, step_node};
+use node_core::client_callbacks::{Callbacks, Made};
+use node_core::node_state::CallLine;
+use node_core::rsct_packet::NoMemory;
+use node_core::{Node, NodeEvent};
 use std::alloc::Global;
 use std::marker::Model;
 
@@ -24,7 +24,7 @@ pub struct Nodes<C: Callbacks> {
 
 impl<C: Callbacks> Model for Nodes<C> {
     ghost use Rattle.std.specs.Prelude.{List};
-    ghost use Rattle.node_step.specs.Node.{NodeView};
+    ghost use Rattle.node_core.specs.Node.{NodeView};
 
     ghost Value = { List (NodeView C) };
 
@@ -32,41 +32,41 @@ impl<C: Callbacks> Model for Nodes<C> {
 }
 
 /// Where a node stands among those that are up.
-#[tactic(auto, using(rsct_packet::proofs::SearchLaws::place_begins, rsct_packet::proofs::SearchLaws::place_goes_on, rsct_packet::proofs::SearchLaws::place_found, rsct_packet::proofs::SearchLaws::place_missing))]
-fn place_alone<C: Callbacks>(nodes: &[Node<C>], n: u8) -> Option<usize>
-    ensures { result ≡ place_where (is_me n) nodes.now }
+#[tactic(auto, using(crate::proofs::Below::place_search))]
+fn place_alone<C: Callbacks>(nodes: &[Node<C>], node: u8) -> Option<usize>
+    ensures { result ≡ place_where (is_me node) nodes.now }
 {
     for (i, x) in nodes.iter().enumerate() {
-        if x.core().views.me == n {
+        if x.core().views.me == node {
             return Some(i);
         }
     }
     None
 }
 
-#[tactic(auto, using(rsct_packet::proofs::SearchLaws::place_is_in))]
-fn place_of<C: Callbacks>(nodes: &[Node<C>], n: u8) -> Option<usize>
-    ensures value { result ≡ place_where (is_me n) nodes.now }
+#[tactic(auto, using(crate::proofs::Below::place_is_in))]
+fn place_of<C: Callbacks>(nodes: &[Node<C>], node: u8) -> Option<usize>
+    ensures value { result ≡ place_where (is_me node) nodes.now }
     ensures within { IfSome result (λ i. i < length nodes.now) }
 {
-    place_alone(nodes, n)
+    place_alone(nodes, node)
 }
 
 /// Does the node stand after this number?
-fn comes_before<C: Callbacks>(n: u8, x: &Node<C>) -> bool
-    ensures { result ≡ comes_before n x.now }
+fn comes_before<C: Callbacks>(number: u8, node: &Node<C>) -> bool
+    ensures { result ≡ comes_before number node.now }
 {
-    n < x.core().views.me
+    number < node.core().views.me
 }
 
 /// How many nodes stand before a number.
-#[tactic(auto, using(rsct_packet::proofs::SearchLaws::front_begins, rsct_packet::proofs::SearchLaws::front_goes_on, rsct_packet::proofs::SearchLaws::front_found, rsct_packet::proofs::SearchLaws::front_missing, rsct_packet::proofs::SearchLaws::front_is_in))]
-fn front<C: Callbacks>(nodes: &[Node<C>], n: u8) -> usize
-    ensures value { result ≡ front_len (comes_before n) nodes.now }
+#[tactic(auto, using(crate::proofs::Below::front_search, crate::proofs::Below::front_is_in))]
+fn front<C: Callbacks>(nodes: &[Node<C>], node: u8) -> usize
+    ensures value { result ≡ front_len (comes_before node) nodes.now }
     ensures within { result ≤ length nodes.now }
 {
     for (i, x) in nodes.iter().enumerate() {
-        if comes_before(n, x) {
+        if comes_before(node, x) {
             return i;
         }
     }
@@ -84,17 +84,17 @@ impl<C: Callbacks> Nodes<C> {
     }
 
     /// The node of this number, if it is up.
-    pub fn get(&self, n: u8) -> Option<&Node<C>>
-        ensures { option_copied result ≡ find (is_me n) self.now }
+    pub fn get(&self, node: u8) -> Option<&Node<C>>
+        ensures { option_copied result ≡ find (is_me node) self.now }
     {
-        self.rows.iter().find(|x| x.core().views.me == n)
+        self.rows.iter().find(|x| x.core().views.me == node)
     }
 
     /// Is the node of this number up?
-    pub fn is_up(&self, n: u8) -> bool
-        ensures { result ≡ is_some (find (is_me n) self.now) }
+    pub fn is_up(&self, node: u8) -> bool
+        ensures { result ≡ is_some (find (is_me node) self.now) }
     {
-        self.get(n).is_some()
+        self.get(node).is_some()
     }
 
     /// The numbers of the nodes that are up, ascending.
@@ -110,23 +110,23 @@ impl<C: Callbacks> Nodes<C> {
     }
 
     /// A node that starts stands before those of greater numbers.
-    #[tactic(auto, using(rsct_packet::proofs::SearchLaws::insert_at_front))]
-    pub fn insert(&mut self, n: u8, node: Node<C>) -> Result<(), NoMemory>
-        ensures { OnOk result (self.new ≡ insert_before (comes_before n) node self.old) }
+    #[tactic(auto, using(crate::proofs::Below::insert_at_front))]
+    pub fn insert(&mut self, number: u8, node: Node<C>) -> Result<(), NoMemory>
+        ensures { OnOk result (self.new ≡ insert_before (comes_before number) node self.old) }
     {
-        let i = front(self.rows.as_slice(), n);
+        let i = front(self.rows.as_slice(), number);
         self.rows.insert(i, node)?;
         Ok(())
     }
 
     /// A node stops; answers whether it was up.
-    #[tactic(auto, using(world_packets::proofs::WaitLaws::removed_at_place, world_packets::proofs::WaitLaws::none_removed))]
-    pub fn remove(&mut self, n: u8) -> bool
-        ensures up { result ≡ is_some (find (is_me n) self.old) }
-        ensures left { self.new ≡ drop_where (is_me n) self.old }
+    #[tactic(auto, using(crate::proofs::Below::removed_at_place, crate::proofs::Below::none_removed))]
+    pub fn remove(&mut self, node: u8) -> bool
+        ensures up { result ≡ is_some (find (is_me node) self.old) }
+        ensures left { self.new ≡ drop_where (is_me node) self.old }
     {
-        let is_up = self.is_up(n);
-        if let Some(i) = place_of(self.rows.as_slice(), n) {
+        let is_up = self.is_up(node);
+        if let Some(i) = place_of(self.rows.as_slice(), node) {
             let _ = self.rows.remove(i);
         }
         is_up
@@ -136,26 +136,40 @@ impl<C: Callbacks> Nodes<C> {
 impl<C: Made> Nodes<C> {
     /// An event happens to a node; answers what that left, or none where it is not up.
     #[tactic(auto, using(crate::proofs::NodeLaws::steps_at, crate::proofs::NodeLaws::stands_nowhere))]
-    pub fn step(&mut self, alloc: Global, n: u8, e: NodeEvent<'_>) -> Result<Option<Left>, NoMemory>
-        requires taken { IsTrue (is_taken e) }
-        ensures steps { IfOk result (λ left. StepsIn C.script C.script_of self.old self.new n left (λ x. x) (event_in e.entry)) }
-        ensures hears { IfOk result (λ left. NodesHear C.stands_for C.script C.script_of self.old self.new n left (event_in e.entry)) }
+    pub fn step(
+        &mut self,
+        alloc: Global,
+        node: u8,
+        event: NodeEvent<'_>,
+    ) -> Result<Option<Left>, NoMemory>
+        requires taken { IsTrue (is_taken event) }
+        ensures steps { IfOk result (λ left. StepsIn C.script C.script_of self.old self.new node
+            left (λ x. x) (event_in event.entry)) }
+        ensures hears { IfOk result (λ left. NodesHear C.stands_for C.script C.script_of self.old
+            self.new node left (event_in event.entry)) }
     {
-        match place_of(self.rows.as_slice(), n) {
+        match place_of(self.rows.as_slice(), node) {
             None => Ok(None),
-            Some(i) => Ok(Some(step_node(&mut self.rows[i], alloc, e)?)),
+            Some(i) => Ok(Some(step_node(&mut self.rows[i], alloc, event)?)),
         }
     }
 
     /// A client of a node calls; answers what that left, or none where the node is not up.
     #[tactic(auto, using(crate::proofs::CallLaws::call_at, crate::proofs::NodeLaws::stands_nowhere))]
-    pub fn call(&mut self, alloc: Global, n: u8, c: &CallLine) -> Result<Option<Left>, NoMemory>
-        ensures steps { IfOk result (λ left. StepsIn C.script C.script_of self.old self.new n left (with_scripts c.now) (Calls c.now)) }
-        ensures hears { IfOk result (λ left. NodesHear C.stands_for C.script C.script_of self.old self.new n left (Calls c.now)) }
+    pub fn call(
+        &mut self,
+        alloc: Global,
+        node: u8,
+        call: &CallLine,
+    ) -> Result<Option<Left>, NoMemory>
+        ensures steps { IfOk result (λ left. StepsIn C.script C.script_of self.old self.new node
+            left (with_scripts call.now) (Calls call.now)) }
+        ensures hears { IfOk result (λ left. NodesHear C.stands_for C.script C.script_of self.old
+            self.new node left (Calls call.now)) }
     {
-        match place_of(self.rows.as_slice(), n) {
+        match place_of(self.rows.as_slice(), node) {
             None => Ok(None),
-            Some(i) => Ok(Some(call_node(&mut self.rows[i], alloc, c)?)),
+            Some(i) => Ok(Some(call_node(&mut self.rows[i], alloc, call)?)),
         }
     }
 }

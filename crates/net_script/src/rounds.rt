@@ -1,33 +1,35 @@
 //! Rounds: every node ticks, and then all flows.
 ghost use Rattle.std.specs.Prelude.{◌≡◌, ◌≤◌};
 ghost use Rattle.hags_io.specs.Edges.{Rose};
-ghost use Rattle.world_model.specs.World as world;
-ghost use Rattle.world_laws.specs.world_answers.Plays.{AnsweredPlay, PlaysEach, PlaysTick, PlaysTicks, PlaysRounds};
+ghost use Rattle.play_state.specs.world_model.World as world;
+ghost use Rattle.world_safety.specs.world_laws.world_answers.Plays.{AnsweredPlay, PlaysEach, PlaysTick, PlaysTicks, PlaysRounds};
 ghost use Rattle.net_script.specs.Stage.{At, LeadsTo};
 
-use crate::events::play_event;
-use crate::flowing::flow;
+use crate::flow::flow;
+use crate::plain_events::play_event;
 use crate::stage::Stage;
-use client_callbacks::Made;
 use hags_io::Sink;
+use node_core::client_callbacks::Made;
 use play_state::PlayFault;
+use play_state::world_model::Event;
 use std::alloc::Global;
 use transcript::Kinds;
-use world_model::Event;
 
 /// These nodes tick, in this order.
 fn tick_each<C: Made, K: Sink>(
     alloc: Global,
     stage: &mut Stage<C>,
     kinds: Kinds,
-    ns: &[u8],
+    nodes: &[u8],
     out: &mut K,
 ) -> Result<(), PlayFault>
-    ensures outcome { (p : AnsweredPlay) → (v : world.World) → At C.script C.script_of stage.old p v → LeadsTo C.script C.script_of C.stands_for result kinds (K.held out.old) (K.held out.new) stage.old stage.new p (PlaysEach (PlaysTick C.script_of) p ns.now) v }
+    ensures outcome { (p : AnsweredPlay) → (v : world.World) → At C.script C.script_of stage.old p v
+        → LeadsTo C.script C.script_of C.stands_for result kinds (K.held out.old)
+        (K.held out.new) stage.old stage.new p (PlaysEach (PlaysTick C.script_of) p nodes.now) v }
     ensures later { K.faults out.old ≤ K.faults out.new }
     ensures fault { result ≡ Err PlayFault.WriteFault → Rose (K.faults out.old) (K.faults out.new) }
 {
-    for n in ns {
+    for n in nodes {
         play_event(alloc, stage, kinds, &Event::Tick(*n), out)?;
     }
     Ok(())
@@ -40,7 +42,9 @@ fn tick_all<C: Made, K: Sink>(
     kinds: Kinds,
     out: &mut K,
 ) -> Result<(), PlayFault>
-    ensures outcome { (p : AnsweredPlay) → (v : world.World) → At C.script C.script_of stage.old p v → LeadsTo C.script C.script_of C.stands_for result kinds (K.held out.old) (K.held out.new) stage.old stage.new p (PlaysTicks C.script_of p) v }
+    ensures outcome { (p : AnsweredPlay) → (v : world.World) → At C.script C.script_of stage.old p v
+        → LeadsTo C.script C.script_of C.stands_for result kinds (K.held out.old)
+        (K.held out.new) stage.old stage.new p (PlaysTicks C.script_of p) v }
     ensures later { K.faults out.old ≤ K.faults out.new }
     ensures fault { result ≡ Err PlayFault.WriteFault → Rose (K.faults out.old) (K.faults out.new) }
 {
@@ -56,7 +60,9 @@ pub fn run<C: Made, K: Sink>(
     count: u16,
     out: &mut K,
 ) -> Result<(), PlayFault>
-    ensures outcome { (p : AnsweredPlay) → (v : world.World) → At C.script C.script_of stage.old p v → LeadsTo C.script C.script_of C.stands_for result kinds (K.held out.old) (K.held out.new) stage.old stage.new p (PlaysRounds C.script_of count p) v }
+    ensures outcome { (p : AnsweredPlay) → (v : world.World) → At C.script C.script_of stage.old p v
+        → LeadsTo C.script C.script_of C.stands_for result kinds (K.held out.old)
+        (K.held out.new) stage.old stage.new p (PlaysRounds C.script_of count p) v }
     ensures later { K.faults out.old ≤ K.faults out.new }
     ensures fault { result ≡ Err PlayFault.WriteFault → Rose (K.faults out.old) (K.faults out.new) }
 {

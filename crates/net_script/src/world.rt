@@ -1,20 +1,20 @@
 //! What happens in a world.
 ghost use Rattle.std.specs.Prelude.{◌≡◌, ℕ, OnOk, IsErrOf, IsTrue, Some};
-ghost use Rattle.node_step.specs.Event.{event_in, is_taken};
-ghost use Rattle.world_model.specs.World.{node_at, node_steps};
-ghost use Rattle.world_laws.specs.world_answers.Answers.{step_by_if};
+ghost use Rattle.node_core.specs.Event.{event_in, is_taken};
+ghost use Rattle.play_state.specs.world_model.World.{node_at, node_steps};
+ghost use Rattle.world_safety.specs.world_laws.world_answers.Answers.{step_by_if};
 ghost use Rattle.net_script.specs.Standing.{Goes, Passes, Comes, Settled};
 ghost use Rattle.play_state.specs.Posting.{bytes_after};
 ghost use Rattle.net_script.specs.Hands.{NodeHands, HearsAs};
 
 use crate::nodes::Nodes;
-use crate::stepping::Left;
-use client_callbacks::{Callbacks, Made, ScriptClient};
-use node_state::{Config, Records};
-use node_step::NodeEvent;
+use crate::steps::Left;
+use node_core::NodeEvent;
+use node_core::client_callbacks::{Callbacks, Made, ScriptClient};
+use node_core::node_state::{Config, Records};
+use play_state::world_packets::WorldPackets;
 use play_state::{Starts, WorldFault, post_all};
 use std::alloc::Global;
-use world_packets::WorldPackets;
 
 /// A world: the nodes that are up, all packets that they ever sent, and how many bytes those have, which may be as
 /// many as the limit says. Its clients are of any kind that is made of votes words.
@@ -37,7 +37,9 @@ impl<C: Made> World<C> {
         out: &mut Records,
     ) -> Result<(), WorldFault>
         ensures settled { OnOk result (Settled self.old self.new left out.old out.new) }
-        ensures passes { (n : ℕ) → IsErrOf result (WorldFault.TooMuchKept n) → ((bytes_after self.old.limit self.old.kept left.sends).passed ≡ Some n) × (out.new ≡ out.old) }
+        ensures passes { (n : ℕ) → IsErrOf result (WorldFault.TooMuchKept n)
+            → ((bytes_after self.old.limit self.old.kept left.sends).passed ≡ Some n)
+            × (out.new ≡ out.old) }
     {
         let mut left = left;
         post_all(
@@ -55,17 +57,25 @@ impl<C: Made> World<C> {
     pub(crate) fn step(
         &mut self,
         alloc: Global,
-        n: u8,
-        e: NodeEvent<'_>,
+        node: u8,
+        event: NodeEvent<'_>,
         out: &mut Records,
     ) -> Result<(), WorldFault>
-        requires taken { IsTrue (is_taken e) }
-        ensures goes { OnOk result (Comes C.script C.script_of self.old (Goes C.script C.script_of self.old self.new out.old out.new) (λ f w. step_by_if f w (event_in e.entry) (node_at w n)) (λ w. node_steps w n (event_in e.entry))) }
-        ensures hears { OnOk result (HearsAs C.stands_for C.script C.script_of self.old self.new.nodes out.old out.new (λ w rs old new. NodeHands (node_at w n) n (event_in e.entry) rs old new)) }
-        ensures passes { (k : ℕ) → IsErrOf result (WorldFault.TooMuchKept k) → Comes C.script C.script_of self.old (Passes k self.old) (λ f w. step_by_if f w (event_in e.entry) (node_at w n)) (λ w. node_steps w n (event_in e.entry)) }
+        requires taken { IsTrue (is_taken event) }
+        ensures goes { OnOk result (Comes C.script C.script_of self.old
+            (Goes C.script C.script_of self.old self.new out.old out.new)
+            (λ f w. step_by_if f w (event_in event.entry) (node_at w node))
+            (λ w. node_steps w node (event_in event.entry))) }
+        ensures hears { OnOk result (HearsAs C.stands_for C.script C.script_of self.old
+            self.new.nodes out.old out.new (λ w rs old new. NodeHands (node_at w node) node
+            (event_in event.entry) rs old new)) }
+        ensures passes { (k : ℕ) → IsErrOf result (WorldFault.TooMuchKept k)
+            → Comes C.script C.script_of self.old (Passes k self.old)
+            (λ f w. step_by_if f w (event_in event.entry) (node_at w node))
+            (λ w. node_steps w node (event_in event.entry)) }
         ensures kept { (k : ℕ) → IsErrOf result (WorldFault.TooMuchKept k) → out.new ≡ out.old }
     {
-        let done = self.nodes.step(alloc, n, e)?;
+        let done = self.nodes.step(alloc, node, event)?;
         match done {
             None => Ok(()),
             Some(left) => self.settle(alloc, left, out),

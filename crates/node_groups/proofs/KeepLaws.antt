@@ -3,11 +3,11 @@ use Rattle.std.proofs.Common.{◌≡◌, ◌⊎◌, inl, inr, ℕ, ◌-◌, Bool
 use Rattle.std.specs.Prelude.{drop, nat_le, if◌then◌else◌}
 use Rattle.std.specs.Str.{bytes_eq}
 use Rattle.std.proofs.lemmas.List.Elements.{filter-append}
-use Rattle.proposal_core.specs.declared.entry.Entry.{Entry}
-use Rattle.proposal_core.specs.Fold.{after}
-use Rattle.proposal_core.specs.GroupView.{GroupView}
-use Rattle.proposal_core.specs.Lists.{list_or_new, state_in, with_entry, forgotten}
-use Rattle.session_state.proofs.OwnerLaws.{owners_themselves, owners_then}
+use Rattle.node_state.specs.proposal_core.declared.entry.Entry.{Entry}
+use Rattle.node_state.specs.proposal_core.Fold.{after}
+use Rattle.node_state.specs.proposal_core.GroupView.{GroupView}
+use Rattle.node_state.specs.proposal_core.Lists.{list_or_new, state_in, with_entry, forgotten}
+use Rattle.node_state.proofs.session_state_laws.OwnerLaws.{owners_themselves, owners_then}
 use Rattle.node_state.specs.declared.group.GroupRow.{GroupRow}
 use Rattle.node_state.specs.declared.group.Led.{Led}
 use Rattle.node_state.specs.declared.happened.Happened.{Happened}
@@ -15,7 +15,7 @@ use Rattle.node_state.specs.declared.happened.Happened.TheVariants as happened
 use Rattle.node_state.specs.declared.packet.Body.{Body}
 use Rattle.node_state.specs.declared.state.Core.{Core}
 use Rattle.node_state.specs.State.{InNameOrder, row_of, rows_with, with_row, with_led, list_of, state_of, len_of, list_forgotten, recorded, recorded_all}
-use Rattle.node_state.specs.Sending.{sent_on, sent}
+use Rattle.node_state.specs.Sending.{send_on, sent}
 use Rattle.node_state.specs.Leading.{put}
 use Rattle.node_state.specs.Handed.{is_handed, handed_in, state_along}
 use Rattle.node_state.proofs.AlongLaws.{LeavesStates, state_as, along_records, along_same, along_itself, along_then}
@@ -153,7 +153,7 @@ unfolding recorded
 record_stays s r = record { records = omega (arith, length-append s.records (r ∷ [])); sessions = (refl, refl); order = λ o. o }
 
 pub sent_keeps : (s : Core) (to : ℕ) (b : Body) → Keeps s (sent s to b)
-unfolding sent sent_on
+unfolding sent send_on
 sent_keeps s to b =
     record { records = omega arith; sessions = (refl, refl); order = λ o. o; handed = refl; owners = owners_themselves s.sessions; along = along_same s (sent s to b) refl refl }
 

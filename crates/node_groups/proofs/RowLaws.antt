@@ -2,8 +2,8 @@
 use Rattle.std.proofs.Common.{◌≡◌, ℕ, suc, ◌<◌, Bool, true, false, cond, ◌||◌, List, [], ◌∷◌, length, get_or, set, refl, sym, ap, ◌∙◌, arith, Some}
 use Rattle.std.specs.Prelude.{slice_get, insert, find}
 use Rattle.std.specs.Str.{bytes_eq}
-use Rattle.rsct_packet.specs.Text.{name_lt}
-use Rattle.rsct_packet.specs.Search.{front_len}
+use Rattle.node_state.specs.rsct_packet.Text.{name_lt}
+use Rattle.node_state.specs.rsct_packet.Search.{front_len}
 use Rattle.node_state.specs.declared.group.GroupRow.{GroupRow}
 use Rattle.node_state.specs.State.{AllAfter, InNameOrder, new_row, row_found, rows_with, has_name}
 use Rattle.node_groups.specs.Places.{stops_at, is_row_of, row_opened}
@@ -88,3 +88,6 @@ missing_row g (row ∷ rows) h = missing_head (bytes_eq row.name g) (name_lt g r
 pub opens_missing : (g : List ℕ) (xs : List GroupRow) (i : ℕ) (new : GroupRow) → i ≡ front_len (stops_at g) xs → is_row_of g (slice_get xs i) ≡ false → new ≡ new_row g → insert xs i new ≡ row_opened g xs
 opens_missing g xs i new at h made =
     ap (insert xs i) made ∙ (ap (λ k. insert xs k (new_row g)) at ∙ missing_row g xs (ap (λ k. is_row_of g (slice_get xs k)) (sym at) ∙ h))
+
+-- what an edit of a row takes
+pub ruleset row_edits = (set_is_row, opened_within)

@@ -1,48 +1,52 @@
 //! Changes of one row in the table of groups.
 ghost use Rattle.std.specs.Prelude.{◌≡◌, [], OnOk, IsTrue, Some, find};
-ghost use Rattle.proposal_core.specs.Lists.{list_or_new, entry_fits, with_entry};
-ghost use Rattle.batch_rules.specs.Waiting.{waits_failure, join_dropped};
+ghost use Rattle.node_state.specs.proposal_core.Lists.{list_or_new, entry_fits, with_entry};
+ghost use Rattle.node_state.specs.batch_rules.Waiting.{add_failure, drop_join};
 ghost use Rattle.node_state.specs.State.{InNameOrder, row_found, rows_with, list_forgotten, acked_raised, decisions_with};
 ghost use Rattle.node_state.specs.Following.{marked, vote_cast};
 ghost use Rattle.node_state.specs.Ticks.{ticked_in};
 ghost use Rattle.std.specs.Option.{option_map};
-ghost use Rattle.vote_phases.specs.Tally.{tally_fail};
+ghost use Rattle.node_state.specs.vote_phases.Tally.{tally_fail};
 ghost use Rattle.node_state.specs.State.{has_name};
 
 use crate::places::open;
 use crate::row;
+use node_state::proposal_core::{Cause, Entry, Vote};
+use node_state::rsct_packet::{Name, NoMemory, ProviderId, Text, ViewId};
+use node_state::vote_phases::Tally;
 use node_state::{Decision, Groups};
-use proposal_core::{Cause, Entry, Vote};
-use rsct_packet::{Name, NoMemory, ProviderId, Text, ViewId};
 use std::alloc::Global;
-use vote_phases::Tally;
 
 /// Puts an entry that fits at the end of the group's list.
-#[tactic(auto, using(crate::proofs::RowLaws::set_is_row, crate::proofs::RowLaws::opened_within, crate::proofs::RowLaws::opened_row, std::proofs::lemmas::Grind::common_steps))]
+#[tactic(auto, using(crate::proofs::RowLaws::row_edits, crate::proofs::RowLaws::opened_row, std::proofs::lemmas::Grind::common_steps))]
 pub(crate) fn put(
     groups: &mut Groups,
     alloc: Global,
     name: &Name,
-    v: ViewId,
-    e: &Entry,
+    view: ViewId,
+    entry: &Entry,
 ) -> Result<(), NoMemory>
     requires order { InNameOrder groups.old }
-    requires fits { IsTrue (entry_fits (list_or_new (row_found name.now (find (has_name name.now) groups.old)).list) e.now) }
-    ensures { OnOk result (groups.new ≡ rows_with name.now (λ row. record row { list = Some (with_entry (list_or_new row.list) v e.now) }) groups.old) }
+    requires fits { IsTrue (entry_fits (list_or_new
+        (row_found name.now (find (has_name name.now) groups.old)).list) entry.now) }
+    ensures { OnOk result (groups.new ≡ rows_with name.now
+        (λ row. record row { list = Some (with_entry (list_or_new row.list) view entry.now) })
+        groups.old) }
 {
     let i = open(groups, alloc, name)?;
-    row::put(&mut groups.rows[i], alloc, v, e.copy(alloc)?)
+    row::put(&mut groups.rows[i], alloc, view, entry.copy(alloc)?)
 }
 
 /// Lets the entries below a place go, where the group's list has that place.
-#[tactic(auto, using(crate::proofs::RowLaws::set_is_row, crate::proofs::RowLaws::opened_within, std::proofs::lemmas::Grind::common_steps))]
+#[tactic(auto, using(crate::proofs::RowLaws::row_edits, std::proofs::lemmas::Grind::common_steps))]
 pub(crate) fn forget_below(
     groups: &mut Groups,
     alloc: Global,
     name: &Name,
     place: u32,
 ) -> Result<(), NoMemory>
-    ensures { OnOk result (groups.new ≡ rows_with name.now (λ row. record row { list = list_forgotten place row.list }) groups.old) }
+    ensures { OnOk result (groups.new ≡ rows_with name.now
+        (λ row. record row { list = list_forgotten place row.list }) groups.old) }
 {
     let i = open(groups, alloc, name)?;
     row::forget_below(&mut groups.rows[i], place);
@@ -50,14 +54,15 @@ pub(crate) fn forget_below(
 }
 
 /// The group has this leader.
-#[tactic(auto, using(crate::proofs::RowLaws::set_is_row, crate::proofs::RowLaws::opened_within, std::proofs::lemmas::Grind::common_steps))]
+#[tactic(auto, using(crate::proofs::RowLaws::row_edits, std::proofs::lemmas::Grind::common_steps))]
 pub(crate) fn set_leader(
     groups: &mut Groups,
     alloc: Global,
     name: &Name,
     node: u8,
 ) -> Result<(), NoMemory>
-    ensures { OnOk result (groups.new ≡ rows_with name.now (λ row. record row { leader = Some node }) groups.old) }
+    ensures { OnOk result (groups.new ≡ rows_with name.now
+        (λ row. record row { leader = Some node }) groups.old) }
 {
     let i = open(groups, alloc, name)?;
     row::set_leader(&mut groups.rows[i], node);
@@ -65,45 +70,50 @@ pub(crate) fn set_leader(
 }
 
 /// The provider waits as a failure of this cause, unless it waits as one already.
-#[tactic(auto, using(crate::proofs::RowLaws::set_is_row, crate::proofs::RowLaws::opened_within, std::proofs::lemmas::Grind::common_steps))]
+#[tactic(auto, using(crate::proofs::RowLaws::row_edits, std::proofs::lemmas::Grind::common_steps))]
 pub(crate) fn wait_failure(
     groups: &mut Groups,
     alloc: Global,
     name: &Name,
-    p: ProviderId,
+    provider: ProviderId,
     cause: Cause,
 ) -> Result<(), NoMemory>
-    ensures { OnOk result (groups.new ≡ rows_with name.now (λ row. record row { led = record (row.led) { waiting = waits_failure p cause row.led.waiting } }) groups.old) }
+    ensures { OnOk result (groups.new ≡ rows_with name.now
+        (λ row. record row { led = record (row.led) { waiting = add_failure provider cause
+        row.led.waiting } }) groups.old) }
 {
     let i = open(groups, alloc, name)?;
-    row::wait_failure(&mut groups.rows[i], p, cause);
+    row::wait_failure(&mut groups.rows[i], provider, cause);
     Ok(())
 }
 
 /// The provider's join waits no more.
-#[tactic(auto, using(crate::proofs::RowLaws::set_is_row, crate::proofs::RowLaws::opened_within, std::proofs::lemmas::Grind::common_steps))]
+#[tactic(auto, using(crate::proofs::RowLaws::row_edits, std::proofs::lemmas::Grind::common_steps))]
 pub(crate) fn drop_join(
     groups: &mut Groups,
     alloc: Global,
     name: &Name,
-    p: ProviderId,
+    provider: ProviderId,
 ) -> Result<(), NoMemory>
-    ensures { OnOk result (groups.new ≡ rows_with name.now (λ row. record row { led = record (row.led) { waiting = join_dropped p row.led.waiting } }) groups.old) }
+    ensures { OnOk result (groups.new ≡ rows_with name.now
+        (λ row. record row { led = record (row.led) { waiting = drop_join provider
+        row.led.waiting } }) groups.old) }
 {
     let i = open(groups, alloc, name)?;
-    row::drop_join(&mut groups.rows[i], p);
+    row::drop_join(&mut groups.rows[i], provider);
     Ok(())
 }
 
 /// The tally of the phase that runs is this one.
-#[tactic(auto, using(crate::proofs::RowLaws::set_is_row, crate::proofs::RowLaws::opened_within, std::proofs::lemmas::Grind::common_steps))]
+#[tactic(auto, using(crate::proofs::RowLaws::row_edits, std::proofs::lemmas::Grind::common_steps))]
 pub(crate) fn set_tally(
     groups: &mut Groups,
     alloc: Global,
     name: &Name,
     tally: Option<Tally>,
 ) -> Result<(), NoMemory>
-    ensures { OnOk result (groups.new ≡ rows_with name.now (λ row. record row { led = record (row.led) { tally = tally } }) groups.old) }
+    ensures { OnOk result (groups.new ≡ rows_with name.now
+        (λ row. record row { led = record (row.led) { tally = tally } }) groups.old) }
 {
     let i = open(groups, alloc, name)?;
     row::set_tally(&mut groups.rows[i], tally);
@@ -111,14 +121,15 @@ pub(crate) fn set_tally(
 }
 
 /// The tally of the phase that runs is this one, and no ballot has been recorded.
-#[tactic(auto, using(crate::proofs::RowLaws::set_is_row, crate::proofs::RowLaws::opened_within, std::proofs::lemmas::Grind::common_steps))]
+#[tactic(auto, using(crate::proofs::RowLaws::row_edits, std::proofs::lemmas::Grind::common_steps))]
 pub(crate) fn open_tally(
     groups: &mut Groups,
     alloc: Global,
     name: &Name,
     tally: Option<Tally>,
 ) -> Result<(), NoMemory>
-    ensures { OnOk result (groups.new ≡ rows_with name.now (λ row. record row { led = record (row.led) { tally = tally; given = [] } }) groups.old) }
+    ensures { OnOk result (groups.new ≡ rows_with name.now
+        (λ row. record row { led = record (row.led) { tally = tally; given = [] } }) groups.old) }
 {
     let i = open(groups, alloc, name)?;
     row::open_tally(&mut groups.rows[i], alloc, tally);
@@ -126,41 +137,47 @@ pub(crate) fn open_tally(
 }
 
 /// A vote on the tally of the phase that runs.
-#[tactic(auto, using(crate::proofs::RowLaws::set_is_row, crate::proofs::RowLaws::opened_within, std::proofs::lemmas::Grind::common_steps))]
+#[tactic(auto, using(crate::proofs::RowLaws::row_edits, std::proofs::lemmas::Grind::common_steps))]
 pub(crate) fn cast_vote(
     groups: &mut Groups,
     alloc: Global,
     name: &Name,
-    p: ProviderId,
+    provider: ProviderId,
     vote: Vote,
     value: Option<Text>,
     message: Option<Text>,
 ) -> Result<(), NoMemory>
-    ensures { OnOk result (groups.new ≡ rows_with name.now (λ row. record row { led = vote_cast row.led p vote value message row.led.tally }) groups.old) }
+    ensures { OnOk result (groups.new ≡ rows_with name.now
+        (λ row. record row { led = vote_cast row.led provider vote value message row.led.tally })
+        groups.old) }
 {
     let i = open(groups, alloc, name)?;
-    row::cast_vote(&mut groups.rows[i], p, vote, value, message)
+    row::cast_vote(&mut groups.rows[i], provider, vote, value, message)
 }
 
 /// A voter of the phase that runs has failed.
-#[tactic(auto, using(crate::proofs::RowLaws::set_is_row, crate::proofs::RowLaws::opened_within, std::proofs::lemmas::Grind::common_steps))]
+#[tactic(auto, using(crate::proofs::RowLaws::row_edits, std::proofs::lemmas::Grind::common_steps))]
 pub(crate) fn fail_voter(
     groups: &mut Groups,
     alloc: Global,
     name: &Name,
-    p: ProviderId,
+    provider: ProviderId,
 ) -> Result<(), NoMemory>
-    ensures { OnOk result (groups.new ≡ rows_with name.now (λ row. record row { led = record (row.led) { tally = option_map (tally_fail p) row.led.tally } }) groups.old) }
+    ensures { OnOk result (groups.new ≡ rows_with name.now
+        (λ row. record row { led = record (row.led) { tally = option_map
+        (tally_fail provider) row.led.tally } }) groups.old) }
 {
     let i = open(groups, alloc, name)?;
-    row::fail_voter(&mut groups.rows[i], p);
+    row::fail_voter(&mut groups.rows[i], provider);
     Ok(())
 }
 
 /// The tally of the phase that runs ticks.
-#[tactic(auto, using(crate::proofs::RowLaws::set_is_row, crate::proofs::RowLaws::opened_within, std::proofs::lemmas::Grind::common_steps))]
+#[tactic(auto, using(crate::proofs::RowLaws::row_edits, std::proofs::lemmas::Grind::common_steps))]
 pub(crate) fn tick_tally(groups: &mut Groups, alloc: Global, name: &Name) -> Result<(), NoMemory>
-    ensures { OnOk result (groups.new ≡ rows_with name.now (λ row. record row { led = record (row.led) { tally = ticked_in row.led.tally } }) groups.old) }
+    ensures { OnOk result (groups.new ≡ rows_with name.now
+        (λ row. record row { led = record (row.led) { tally = ticked_in row.led.tally } })
+        groups.old) }
 {
     let i = open(groups, alloc, name)?;
     row::tick_tally(&mut groups.rows[i]);
@@ -168,7 +185,7 @@ pub(crate) fn tick_tally(groups: &mut Groups, alloc: Global, name: &Name) -> Res
 }
 
 /// The node has acknowledged this length, or a greater one.
-#[tactic(auto, using(crate::proofs::RowLaws::set_is_row, crate::proofs::RowLaws::opened_within, std::proofs::lemmas::Grind::common_steps))]
+#[tactic(auto, using(crate::proofs::RowLaws::row_edits, std::proofs::lemmas::Grind::common_steps))]
 pub(crate) fn note_acked(
     groups: &mut Groups,
     alloc: Global,
@@ -176,36 +193,42 @@ pub(crate) fn note_acked(
     node: u8,
     len: u32,
 ) -> Result<(), NoMemory>
-    ensures { OnOk result (groups.new ≡ rows_with name.now (λ row. record row { led = record (row.led) { acked = acked_raised node len row.led.acked } }) groups.old) }
+    ensures { OnOk result (groups.new ≡ rows_with name.now
+        (λ row. record row { led = record (row.led) { acked = acked_raised node len
+        row.led.acked } }) groups.old) }
 {
     let i = open(groups, alloc, name)?;
     row::note_acked(&mut groups.rows[i], node, len)
 }
 
 /// The provider is gone.
-#[tactic(auto, using(crate::proofs::RowLaws::set_is_row, crate::proofs::RowLaws::opened_within, std::proofs::lemmas::Grind::common_steps))]
+#[tactic(auto, using(crate::proofs::RowLaws::row_edits, std::proofs::lemmas::Grind::common_steps))]
 pub(crate) fn mark_gone(
     groups: &mut Groups,
     alloc: Global,
     name: &Name,
-    p: ProviderId,
+    provider: ProviderId,
 ) -> Result<(), NoMemory>
-    ensures { OnOk result (groups.new ≡ rows_with name.now (λ row. record row { led = record (row.led) { gone = marked row.led.gone p } }) groups.old) }
+    ensures { OnOk result (groups.new ≡ rows_with name.now
+        (λ row. record row { led = record (row.led) { gone = marked row.led.gone provider } })
+        groups.old) }
 {
     let i = open(groups, alloc, name)?;
-    row::mark_gone(&mut groups.rows[i], p)
+    row::mark_gone(&mut groups.rows[i], provider)
 }
 
 /// The last decision on the requester is this one.
-#[tactic(auto, using(crate::proofs::RowLaws::set_is_row, crate::proofs::RowLaws::opened_within, std::proofs::lemmas::Grind::common_steps))]
+#[tactic(auto, using(crate::proofs::RowLaws::row_edits, std::proofs::lemmas::Grind::common_steps))]
 pub(crate) fn keep_decision(
     groups: &mut Groups,
     alloc: Global,
     name: &Name,
-    d: Decision,
+    decision: Decision,
 ) -> Result<(), NoMemory>
-    ensures { OnOk result (groups.new ≡ rows_with name.now (λ row. record row { led = record (row.led) { decided = decisions_with d row.led.decided } }) groups.old) }
+    ensures { OnOk result (groups.new ≡ rows_with name.now
+        (λ row. record row { led = record (row.led) { decided = decisions_with decision
+        row.led.decided } }) groups.old) }
 {
     let i = open(groups, alloc, name)?;
-    row::keep_decision(&mut groups.rows[i], d)
+    row::keep_decision(&mut groups.rows[i], decision)
 }

@@ -1,19 +1,19 @@
 //! What is read of a node's groups.
 ghost use Rattle.std.specs.Prelude.{◌≡◌, IfOk, IsTrue, is_some, length, min, option_copied};
 ghost use Rattle.std.specs.List.{count_by, fold};
-ghost use Rattle.rsct_packet.specs.declared.ids.Member.{Member};
+ghost use Rattle.node_state.specs.rsct_packet.declared.ids.Member.{Member};
 ghost use Rattle.node_state.specs.declared.group.GroupRow.{GroupRow};
-ghost use Rattle.proposal_core.specs.Fold.{joiners_fit};
-ghost use Rattle.proposal_core.specs.Lists.{len_in};
+ghost use Rattle.node_state.specs.proposal_core.Fold.{joiners_fit};
+ghost use Rattle.node_state.specs.proposal_core.Lists.{len_in};
 ghost use Rattle.node_state.specs.State.{leader_by, leader_in, leader_of, row_of, leads_in, leads, led_groups, acked_by, least_acked, state_of, holds, held_rows, len_of, fits_at_end};
 ghost use Rattle.node_groups.specs.Places.{names_led};
 
 use crate::places::row_of;
 use crate::row;
 use crate::tables::acked_len;
+use node_state::proposal_core::{Entry, GroupList, GroupState};
+use node_state::rsct_packet::{Name, NoMemory};
 use node_state::{Core, GroupRow, Mode};
-use proposal_core::{Entry, GroupList, GroupState};
-use rsct_packet::{Name, NoMemory};
 use std::alloc::Global;
 
 /// In mode fixed the coordinator leads, else whoever is known.
@@ -37,10 +37,10 @@ pub fn leader_in(core: &Core, row: &GroupRow) -> Option<u8>
 
 /// The leader of a group, where it is known.
 #[tactic(auto, unfolding(node_state::specs::State::leader_of, node_state::specs::State::leader_in, node_state::specs::State::row_of))]
-pub fn leader_of(core: &Core, g: &[u8]) -> Option<u8>
-    ensures { result ≡ leader_of core.now g.now }
+pub fn leader_of(core: &Core, group: &[u8]) -> Option<u8>
+    ensures { result ≡ leader_of core.now group.now }
 {
-    match row_of(&core.groups, g) {
+    match row_of(&core.groups, group) {
         None => leader_by(core.config.mode, core.views.view.coord, None),
         Some(row) => leader_in(core, row),
     }
@@ -59,10 +59,10 @@ pub fn leads_in(core: &Core, row: &GroupRow) -> bool
 
 /// Does the node lead the group?
 #[tactic(auto, unfolding(node_state::specs::State::leads, node_state::specs::State::leads_in, node_state::specs::State::leader_of))]
-pub fn leads(core: &Core, g: &[u8]) -> bool
-    ensures { result ≡ leads core.now g.now }
+pub fn leads(core: &Core, group: &[u8]) -> bool
+    ensures { result ≡ leads core.now group.now }
 {
-    match leader_of(core, g) {
+    match leader_of(core, group) {
         None => false,
         Some(n) => n == core.views.me,
     }
@@ -70,10 +70,10 @@ pub fn leads(core: &Core, g: &[u8]) -> bool
 
 /// Does the node hold a list of the group?
 #[tactic(auto, unfolding(node_state::specs::State::holds, node_state::specs::State::row_of))]
-pub fn holds(core: &Core, g: &[u8]) -> bool
-    ensures { result ≡ holds core.now g.now }
+pub fn holds(core: &Core, group: &[u8]) -> bool
+    ensures { result ≡ holds core.now group.now }
 {
-    match row_of(&core.groups, g) {
+    match row_of(&core.groups, group) {
         None => false,
         Some(row) => row.list.is_some(),
     }
@@ -81,10 +81,10 @@ pub fn holds(core: &Core, g: &[u8]) -> bool
 
 /// How many entries the group's list has.
 #[tactic(auto, unfolding(node_state::specs::State::len_of, node_state::specs::State::list_of, node_state::specs::State::row_of))]
-pub fn len_of(core: &Core, g: &[u8]) -> u32
-    ensures { result ≡ len_of core.now g.now }
+pub fn len_of(core: &Core, group: &[u8]) -> u32
+    ensures { result ≡ len_of core.now group.now }
 {
-    match row_of(&core.groups, g) {
+    match row_of(&core.groups, group) {
         None => 0,
         Some(row) => row::len(row),
     }
@@ -92,12 +92,12 @@ pub fn len_of(core: &Core, g: &[u8]) -> u32
 
 /// Does the entry fit at the end of the group's list?
 #[tactic(auto, unfolding(node_state::specs::State::fits_at_end, node_state::specs::State::list_of, node_state::specs::State::row_of))]
-pub fn fits_at_end(core: &Core, alloc: Global, g: &[u8], e: &Entry) -> bool
-    ensures { result ≡ fits_at_end core.now g.now e.now }
+pub fn fits_at_end(core: &Core, alloc: Global, group: &[u8], entry: &Entry) -> bool
+    ensures { result ≡ fits_at_end core.now group.now entry.now }
 {
-    match row_of(&core.groups, g) {
-        None => row::fits_in_new(alloc, e),
-        Some(row) => row::fits_at_end(row, alloc, e),
+    match row_of(&core.groups, group) {
+        None => row::fits_in_new(alloc, entry),
+        Some(row) => row::fits_at_end(row, alloc, entry),
     }
 }
 
@@ -116,7 +116,8 @@ pub fn acked_by(core: &Core, row: &GroupRow, node: u8) -> u32
 /// The least length of a row's list that all members acknowledged.
 #[tactic(auto, using(std::proofs::lemmas::List::Sums::fold_more))]
 fn least_in(core: &Core, row: &GroupRow) -> u32
-    ensures { result ≡ fold (λ least (m : Member). min least (acked_by core.now row.now m.node)) (len_in row.now.list) core.now.views.members }
+    ensures { result ≡ fold (λ least (m : Member). min least (acked_by core.now row.now m.node))
+        (len_in row.now.list) core.now.views.members }
 {
     let mut least = row::len(row);
     for m in core.views.members.as_slice() {
@@ -127,22 +128,22 @@ fn least_in(core: &Core, row: &GroupRow) -> u32
 
 /// The least length of the group's list that all members acknowledged.
 #[tactic(auto, unfolding(node_state::specs::State::least_acked, node_state::specs::State::row_of))]
-pub fn least_acked(core: &Core, g: &[u8]) -> u32
-    ensures { result ≡ least_acked core.now g.now }
+pub fn least_acked(core: &Core, group: &[u8]) -> u32
+    ensures { result ≡ least_acked core.now group.now }
 {
-    match row_of(&core.groups, g) {
+    match row_of(&core.groups, group) {
         None => 0,
         Some(row) => least_in(core, row),
     }
 }
 
 /// The state of the group.
-#[tactic(auto, unfolding(node_state::specs::State::state_of, node_state::specs::State::list_of, node_state::specs::State::row_of, proposal_core::specs::Fold::joiners_fit, proposal_core::specs::Fold::joiners_fit_at))]
-pub fn state_of(core: &Core, alloc: Global, g: &[u8]) -> Result<GroupState, NoMemory>
-    ensures value { IfOk result (λ st. st ≡ state_of core.now g.now) }
+#[tactic(auto, unfolding(node_state::specs::State::state_of, node_state::specs::State::list_of, node_state::specs::State::row_of, crate::proofs::Below::joiners_fit, crate::proofs::Below::joiners_fit_at))]
+pub fn state_of(core: &Core, alloc: Global, group: &[u8]) -> Result<GroupState, NoMemory>
+    ensures value { IfOk result (λ st. st ≡ state_of core.now group.now) }
     ensures joiners { IfOk result (λ st. IsTrue (joiners_fit st)) }
 {
-    match row_of(&core.groups, g) {
+    match row_of(&core.groups, group) {
         None => Ok(GroupState::empty(alloc)),
         Some(row) => row::state(row, alloc),
     }
@@ -150,10 +151,10 @@ pub fn state_of(core: &Core, alloc: Global, g: &[u8]) -> Result<GroupState, NoMe
 
 /// The list of a group, where the node holds one.
 #[tactic(auto, unfolding(node_state::specs::State::row_of))]
-pub fn list_of<'a>(core: &'a Core, g: &[u8]) -> Option<&'a GroupList>
-    ensures { option_copied result ≡ (row_of core.now g.now).list }
+pub fn list_of<'a>(core: &'a Core, group: &[u8]) -> Option<&'a GroupList>
+    ensures { option_copied result ≡ (row_of core.now group.now).list }
 {
-    match row_of(&core.groups, g) {
+    match row_of(&core.groups, group) {
         None => None,
         Some(row) => row.list.as_ref(),
     }

@@ -1,35 +1,35 @@
 //! The row of a group.
 ghost use Rattle.std.specs.Prelude.{◌≡◌, [], IfOk, OnOk, IsTrue, Some, None};
-ghost use Rattle.batch_rules.specs.Waiting.{waits_failure, join_dropped};
-ghost use Rattle.proposal_core.specs.Fold.{joiners_fit};
-ghost use Rattle.proposal_core.specs.Lists.{list_or_new, state_in, len_in, entry_fits, with_entry};
+ghost use Rattle.node_state.specs.batch_rules.Waiting.{add_failure, drop_join};
+ghost use Rattle.node_state.specs.proposal_core.Fold.{joiners_fit};
+ghost use Rattle.node_state.specs.proposal_core.Lists.{list_or_new, state_in, len_in, entry_fits, with_entry};
 ghost use Rattle.node_state.specs.State.{nothing_led, new_row, list_forgotten, acked_raised, decisions_with};
 ghost use Rattle.node_state.specs.Following.{marked, given_with, vote_cast};
 ghost use Rattle.node_state.specs.Ticks.{ticked_in};
 ghost use Rattle.std.specs.Option.{option_map};
-ghost use Rattle.vote_phases.specs.Tally.{tally_fail};
+ghost use Rattle.node_state.specs.vote_phases.Tally.{tally_fail};
 
 use crate::tables::{self, raise_acked};
-use batch_rules::Waiting;
+use node_state::batch_rules::Waiting;
+use node_state::proposal_core::{Cause, Entry, GroupList, GroupState, Vote};
+use node_state::rsct_packet::{List, Name, NoMemory, ProviderId, Text, ViewId, is_among};
+use node_state::vote_phases::{Cast, Tally};
 use node_state::{Decision, Given, GroupRow, Led, Table};
-use proposal_core::{Cause, Entry, GroupList, GroupState, Vote};
-use rsct_packet::{List, Name, NoMemory, ProviderId, Text, ViewId, is_among};
 use std::alloc::Global;
-use vote_phases::{Cast, Tally};
 
 /// The provider is marked, once.
 #[tactic(auto, unfolding(node_state::specs::Following::marked))]
-fn mark(list: &mut List<ProviderId>, p: ProviderId) -> Result<(), NoMemory>
-    ensures { OnOk result (list.new ≡ marked list.old p) }
+fn mark(list: &mut List<ProviderId>, provider: ProviderId) -> Result<(), NoMemory>
+    ensures { OnOk result (list.new ≡ marked list.old provider) }
 {
-    if is_among(list.as_slice(), p) {
+    if is_among(list.as_slice(), provider) {
         return Ok(());
     }
-    list.push(p)
+    list.push(provider)
 }
 
 /// The list of a group that has none yet.
-#[tactic(auto, unfolding(proposal_core::specs::Fold::joiners_fit, proposal_core::specs::Fold::joiners_fit_at))]
+#[tactic(auto, unfolding(crate::proofs::Below::joiners_fit, crate::proofs::Below::joiners_fit_at))]
 pub fn new_list(alloc: Global) -> GroupList
     ensures { result ≡ list_or_new None }
 {
@@ -37,12 +37,12 @@ pub fn new_list(alloc: Global) -> GroupList
 }
 
 /// Does the entry fit at the end of a new list?
-#[tactic(auto, unfolding(proposal_core::specs::Lists::entry_fits))]
-pub fn fits_in_new(alloc: Global, e: &Entry) -> bool
-    ensures { result ≡ entry_fits (list_or_new None) e.now }
+#[tactic(auto, unfolding(crate::proofs::Below::entry_fits))]
+pub fn fits_in_new(alloc: Global, entry: &Entry) -> bool
+    ensures { result ≡ entry_fits (list_or_new None) entry.now }
 {
     let list = new_list(alloc);
-    list.state().fits(e) && list.has_room(e)
+    list.state().fits(entry) && list.has_room(entry)
 }
 
 /// Nothing is led.
@@ -87,7 +87,7 @@ pub fn len(row: &GroupRow) -> u32
 }
 
 /// The state at the end of the list.
-#[tactic(auto, unfolding(proposal_core::specs::Fold::joiners_fit, proposal_core::specs::Fold::joiners_fit_at))]
+#[tactic(auto, unfolding(crate::proofs::Below::joiners_fit, crate::proofs::Below::joiners_fit_at))]
 pub fn state(row: &GroupRow, alloc: Global) -> Result<GroupState, NoMemory>
     ensures value { IfOk result (λ st. st ≡ state_in row.now.list) }
     ensures joiners { IfOk result (λ st. IsTrue (joiners_fit st)) }
@@ -99,44 +99,45 @@ pub fn state(row: &GroupRow, alloc: Global) -> Result<GroupState, NoMemory>
 }
 
 /// Does the entry fit at the end of the list?
-#[tactic(auto, unfolding(proposal_core::specs::Lists::entry_fits))]
-pub fn fits_at_end(row: &GroupRow, alloc: Global, e: &Entry) -> bool
-    ensures { result ≡ entry_fits (list_or_new row.now.list) e.now }
+#[tactic(auto, unfolding(crate::proofs::Below::entry_fits))]
+pub fn fits_at_end(row: &GroupRow, alloc: Global, entry: &Entry) -> bool
+    ensures { result ≡ entry_fits (list_or_new row.now.list) entry.now }
 {
     match &row.list {
-        None => fits_in_new(alloc, e),
-        Some(list) => list.state().fits(e) && list.has_room(e),
+        None => fits_in_new(alloc, entry),
+        Some(list) => list.state().fits(entry) && list.has_room(entry),
     }
 }
 
 /// A new list of this entry alone, which fits there.
-#[tactic(auto, unfolding(proposal_core::specs::Lists::entry_fits))]
-fn list_of_one(alloc: Global, v: ViewId, e: Entry) -> Result<GroupList, NoMemory>
-    requires { IsTrue (entry_fits (list_or_new None) e) }
-    ensures { IfOk result (λ list. list ≡ with_entry (list_or_new None) v e) }
+#[tactic(auto, unfolding(crate::proofs::Below::entry_fits))]
+fn list_of_one(alloc: Global, view: ViewId, entry: Entry) -> Result<GroupList, NoMemory>
+    requires { IsTrue (entry_fits (list_or_new None) entry) }
+    ensures { IfOk result (λ list. list ≡ with_entry (list_or_new None) view entry) }
 {
     let mut list = new_list(alloc);
-    list.put(alloc, v, e)?;
+    list.put(alloc, view, entry)?;
     Ok(list)
 }
 
 /// Puts an entry that fits at the end of the list.
-#[tactic(auto, unfolding(proposal_core::specs::Lists::entry_fits))]
-pub fn put(row: &mut GroupRow, alloc: Global, v: ViewId, e: Entry) -> Result<(), NoMemory>
-    requires { IsTrue (entry_fits (list_or_new row.old.list) e) }
-    ensures { OnOk result (row.new ≡ record (row.old) { list = Some (with_entry (list_or_new row.old.list) v e) }) }
+#[tactic(auto, unfolding(crate::proofs::Below::entry_fits))]
+pub fn put(row: &mut GroupRow, alloc: Global, view: ViewId, entry: Entry) -> Result<(), NoMemory>
+    requires { IsTrue (entry_fits (list_or_new row.old.list) entry) }
+    ensures { OnOk result (row.new ≡ record (row.old) { list = Some
+        (with_entry (list_or_new row.old.list) view entry) }) }
 {
     match &mut row.list {
-        None => row.list = Some(list_of_one(alloc, v, e)?),
+        None => row.list = Some(list_of_one(alloc, view, entry)?),
         Some(list) => {
-            list.put(alloc, v, e)?;
+            list.put(alloc, view, entry)?;
         }
     }
     Ok(())
 }
 
 /// Lets the entries below a place go, where the list has that place.
-#[tactic(auto, unfolding(proposal_core::specs::Lists::forgotten))]
+#[tactic(auto, unfolding(crate::proofs::Below::forgotten))]
 pub fn forget_below(row: &mut GroupRow, place: u32)
     ensures { row.new ≡ record (row.old) { list = list_forgotten place row.old.list } }
 {
@@ -155,17 +156,19 @@ pub fn set_leader(row: &mut GroupRow, node: u8)
 }
 
 /// The provider waits as a failure of this cause, unless it waits as one already.
-pub fn wait_failure(row: &mut GroupRow, p: ProviderId, cause: Cause)
-    ensures { row.new ≡ record (row.old) { led = record (row.old.led) { waiting = waits_failure p cause row.old.led.waiting } } }
+pub fn wait_failure(row: &mut GroupRow, provider: ProviderId, cause: Cause)
+    ensures { row.new ≡ record (row.old) { led = record
+        (row.old.led) { waiting = add_failure provider cause row.old.led.waiting } } }
 {
-    row.led.waiting.add_failure(p, cause);
+    row.led.waiting.add_failure(provider, cause);
 }
 
 /// The provider's join waits no more.
-pub fn drop_join(row: &mut GroupRow, p: ProviderId)
-    ensures { row.new ≡ record (row.old) { led = record (row.old.led) { waiting = join_dropped p row.old.led.waiting } } }
+pub fn drop_join(row: &mut GroupRow, provider: ProviderId)
+    ensures { row.new ≡ record (row.old) { led = record
+        (row.old.led) { waiting = drop_join provider row.old.led.waiting } } }
 {
-    row.led.waiting.drop_join(p);
+    row.led.waiting.drop_join(provider);
 }
 
 /// The tally is this one.
@@ -177,7 +180,8 @@ pub fn set_tally(row: &mut GroupRow, tally: Option<Tally>)
 
 /// The tally is this one, and no ballot has been recorded.
 pub fn open_tally(row: &mut GroupRow, alloc: Global, tally: Option<Tally>)
-    ensures { row.new ≡ record (row.old) { led = record (row.old.led) { tally = tally; given = [] } } }
+    ensures { row.new ≡ record (row.old) { led = record
+        (row.old.led) { tally = tally; given = [] } } }
 {
     row.led.tally = tally;
     row.led.given = List::new(alloc);
@@ -187,15 +191,19 @@ pub fn open_tally(row: &mut GroupRow, alloc: Global, tally: Option<Tally>)
 #[tactic(auto, unfolding(node_state::specs::Following::given_with))]
 fn keep_given(
     given: &mut List<Given>,
-    p: ProviderId,
+    provider: ProviderId,
     value: Option<Text>,
     message: Option<Text>,
     cast: Cast,
 ) -> Result<(), NoMemory>
-    ensures { OnOk result (given.new ≡ given_with given.old p value message cast) }
+    ensures { OnOk result (given.new ≡ given_with given.old provider value message cast) }
 {
     match cast {
-        Cast::Recorded => given.push(Given { p, value, message }),
+        Cast::Recorded => given.push(Given {
+            p: provider,
+            value,
+            message,
+        }),
         _ => Ok(()),
     }
 }
@@ -204,34 +212,37 @@ fn keep_given(
 #[tactic(auto, unfolding(node_state::specs::Following::vote_cast))]
 pub fn cast_vote(
     row: &mut GroupRow,
-    p: ProviderId,
+    provider: ProviderId,
     vote: Vote,
     value: Option<Text>,
     message: Option<Text>,
 ) -> Result<(), NoMemory>
-    ensures { OnOk result (row.new ≡ record (row.old) { led = vote_cast row.old.led p vote value message row.old.led.tally }) }
+    ensures { OnOk result (row.new ≡ record (row.old) { led = vote_cast row.old.led provider vote
+        value message row.old.led.tally }) }
 {
     match &mut row.led.tally {
         None => Ok(()),
         Some(tally) => {
-            let cast = tally.cast(p, vote);
-            keep_given(&mut row.led.given, p, value, message, cast)
+            let cast = tally.cast(provider, vote);
+            keep_given(&mut row.led.given, provider, value, message, cast)
         }
     }
 }
 
 /// The voter has failed, where there is a tally.
-pub fn fail_voter(row: &mut GroupRow, p: ProviderId)
-    ensures { row.new ≡ record (row.old) { led = record (row.old.led) { tally = option_map (tally_fail p) row.old.led.tally } } }
+pub fn fail_voter(row: &mut GroupRow, provider: ProviderId)
+    ensures { row.new ≡ record (row.old) { led = record
+        (row.old.led) { tally = option_map (tally_fail provider) row.old.led.tally } } }
 {
     if let Some(tally) = &mut row.led.tally {
-        tally.fail(p);
+        tally.fail(provider);
     }
 }
 
 /// The tally ticks, where there is one.
 pub fn tick_tally(row: &mut GroupRow)
-    ensures { row.new ≡ record (row.old) { led = record (row.old.led) { tally = ticked_in row.old.led.tally } } }
+    ensures { row.new ≡ record (row.old) { led = record
+        (row.old.led) { tally = ticked_in row.old.led.tally } } }
 {
     if let Some(tally) = &mut row.led.tally {
         tally.tick();
@@ -240,21 +251,24 @@ pub fn tick_tally(row: &mut GroupRow)
 
 /// The node has acknowledged this length, or a greater one.
 pub fn note_acked(row: &mut GroupRow, node: u8, len: u32) -> Result<(), NoMemory>
-    ensures { OnOk result (row.new ≡ record (row.old) { led = record (row.old.led) { acked = acked_raised node len row.old.led.acked } }) }
+    ensures { OnOk result (row.new ≡ record (row.old) { led = record
+        (row.old.led) { acked = acked_raised node len row.old.led.acked } }) }
 {
     raise_acked(&mut row.led.acked, node, len)
 }
 
 /// The provider is gone.
-pub fn mark_gone(row: &mut GroupRow, p: ProviderId) -> Result<(), NoMemory>
-    ensures { OnOk result (row.new ≡ record (row.old) { led = record (row.old.led) { gone = marked row.old.led.gone p } }) }
+pub fn mark_gone(row: &mut GroupRow, provider: ProviderId) -> Result<(), NoMemory>
+    ensures { OnOk result (row.new ≡ record (row.old) { led = record
+        (row.old.led) { gone = marked row.old.led.gone provider } }) }
 {
-    mark(&mut row.led.gone, p)
+    mark(&mut row.led.gone, provider)
 }
 
 /// The last decision on the requester is this one.
-pub fn keep_decision(row: &mut GroupRow, d: Decision) -> Result<(), NoMemory>
-    ensures { OnOk result (row.new ≡ record (row.old) { led = record (row.old.led) { decided = decisions_with d row.old.led.decided } }) }
+pub fn keep_decision(row: &mut GroupRow, decision: Decision) -> Result<(), NoMemory>
+    ensures { OnOk result (row.new ≡ record (row.old) { led = record
+        (row.old.led) { decided = decisions_with decision row.old.led.decided } }) }
 {
-    tables::keep_decision(&mut row.led.decided, d)
+    tables::keep_decision(&mut row.led.decided, decision)
 }

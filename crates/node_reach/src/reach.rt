@@ -2,7 +2,7 @@
 ghost use Rattle.std.specs.Prelude.{◌≡◌, ℕ, ◌↔◌, IsTrue};
 ghost use Rattle.rsct_packet.specs.Mask.{is_node, has_node};
 ghost use Rattle.node_reach.specs.Walks.{Reached};
-ghost use Rattle.node_reach.specs.Reach.{reach_new, row_of, with_row, own_set, is_newer, is_news, reported, names, leads_on, newly_seen, walk_on, walked, reach_of};
+ghost use Rattle.node_reach.specs.Reach.{reach_new, row_of, with_row, set_own, is_newer, is_news, reported, names, leads_on, newly_seen, walk_on, walked, reach_of};
 
 use rsct_packet::{Mask, NODES, is_node_number, risen};
 
@@ -78,9 +78,9 @@ impl Reach {
     }
 
     /// The own row becomes these nodes, with the next number; the last number stands still.
-    #[tactic(auto, unfolding(crate::specs::Reach::own_set))]
+    #[tactic(auto, unfolding(crate::specs::Reach::set_own))]
     pub fn set_own(&mut self, mask: Mask)
-        ensures { self.new ≡ own_set self.old mask }
+        ensures { self.new ≡ set_own self.old mask }
     {
         self.seq = risen(self.seq);
         let row = ReachRow {
@@ -103,7 +103,8 @@ impl Reach {
     #[tactic(auto, unfolding(crate::specs::Reach::reported))]
     pub fn report(&mut self, node: u8, inc: u32, seq: u32, mask: Mask) -> bool
         ensures news { result ≡ is_news self.old node inc seq }
-        ensures reach { self.new ≡ reported self.old node (record { inc = inc; seq = seq; mask = mask }) }
+        ensures reach { self.new ≡ reported self.old node
+            (record { inc = inc; seq = seq; mask = mask }) }
     {
         let is_news = self.is_news(node, inc, seq);
         if is_news {
@@ -112,44 +113,44 @@ impl Reach {
         is_news
     }
 
-    /// Does the kept row of `a` name `b`?
+    /// Does the kept row of `from` name `to`?
     #[tactic(auto, unfolding(crate::specs::Reach::names, crate::specs::Reach::mask_of))]
-    fn names(&self, a: u8, b: u8) -> bool
-        ensures { result ≡ names self.now a b }
+    fn names(&self, from: u8, to: u8) -> bool
+        ensures { result ≡ names self.now from to }
     {
-        match self.row(a) {
-            None => Mask::empty().has(b),
-            Some(row) => row.mask.has(b),
+        match self.row(from) {
+            None => Mask::empty().has(to),
+            Some(row) => row.mask.has(to),
         }
     }
 
-    /// Does a step of a walk lead from `a` to `b`, which was not seen before?
+    /// Does a step of a walk lead from `from` to `to`, which was not seen before?
     #[tactic(auto, unfolding(crate::specs::Reach::leads_on))]
-    fn leads_on(&self, seen: Mask, a: u8, b: u8) -> bool
-        ensures { result ≡ leads_on self.now seen a b }
+    fn leads_on(&self, seen: Mask, from: u8, to: u8) -> bool
+        ensures { result ≡ leads_on self.now seen from to }
     {
-        !seen.has(b) && self.names(a, b) && self.names(b, a)
+        !seen.has(to) && self.names(from, to) && self.names(to, from)
     }
 
     #[tactic(auto, unfolding(crate::specs::Reach::newly_seen))]
-    fn newly_seen(&self, seen: Mask, a: u8) -> Mask
-        ensures { result ≡ newly_seen self.now seen a }
+    fn newly_seen(&self, seen: Mask, node: u8) -> Mask
+        ensures { result ≡ newly_seen self.now seen node }
     {
         NODES
             .iter()
             .copied()
-            .filter(|b| self.leads_on(seen, a, *b))
+            .filter(|b| self.leads_on(seen, node, *b))
             .fold(Mask::empty(), |new, b| new.with(b))
     }
 
     #[tactic(auto, unfolding(crate::specs::Reach::walk_on))]
-    fn walk_on(&self, walk: Walk, a: u8) -> Walk
-        ensures { result ≡ walk_on self.now walk a }
+    fn walk_on(&self, walk: Walk, node: u8) -> Walk
+        ensures { result ≡ walk_on self.now walk node }
     {
-        let new = self.newly_seen(walk.seen, a);
+        let new = self.newly_seen(walk.seen, node);
         Walk {
             seen: walk.seen.union(new),
-            todo: walk.todo.without(a).union(new),
+            todo: walk.todo.without(node).union(new),
         }
     }
 
@@ -172,7 +173,8 @@ impl Reach {
     #[tactic(auto, unfolding(crate::specs::Reach::reach_of), using(crate::proofs::WalkLaws::reach_exact))]
     pub fn reach(&self) -> Mask
         ensures value { result ≡ reach_of self.now }
-        ensures walks { IsTrue (is_node self.now.me) → (n : ℕ) → IsTrue (has_node result n) ↔ Reached self.now n }
+        ensures walks { IsTrue (is_node self.now.me) → (n : ℕ) → IsTrue (has_node result n)
+            ↔ Reached self.now n }
     {
         let me = Mask::empty().with(self.me);
         self.walk_all(Walk { seen: me, todo: me }).seen

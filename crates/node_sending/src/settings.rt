@@ -4,8 +4,8 @@ ghost use Rattle.std.specs.List.{list_all};
 ghost use Rattle.std.specs.Option.{unwrap_or};
 ghost use Rattle.node_state.specs.Settings.{is_fixed, is_rings, networks, address_at, has_adapter, shared_network, speaks_two, view_level};
 
+use node_state::rsct_packet::Member;
 use node_state::{Config, Mode};
-use rsct_packet::Member;
 
 /// The networks.
 const NETWORKS: [u8; 4] = [1, 2, 3, 4];
@@ -62,24 +62,29 @@ pub fn has_adapter(config: &Config, node: u8, network: u8) -> bool
 }
 
 /// Have both nodes an adapter on the network?
-fn joins(config: &Config, a: u8, b: u8, network: u8) -> bool
-    ensures { result ≡ (has_adapter config.now a network && has_adapter config.now b network) }
+fn joins(config: &Config, first: u8, second: u8, network: u8) -> bool
+    ensures { result ≡ (has_adapter config.now first network
+        && has_adapter config.now second network) }
 {
-    has_adapter(config, a, network) && has_adapter(config, b, network)
+    has_adapter(config, first, network) && has_adapter(config, second, network)
 }
 
 /// The first network on which both nodes have an adapter.
-fn first_shared(config: &Config, a: u8, b: u8) -> Option<u8>
-    ensures { result ≡ find (λ k. has_adapter config.now a k && has_adapter config.now b k) networks }
+fn first_shared(config: &Config, first: u8, second: u8) -> Option<u8>
+    ensures { result ≡ find (λ k. has_adapter config.now first k && has_adapter config.now second k)
+        networks }
 {
-    NETWORKS.iter().copied().find(|k| joins(config, a, b, *k))
+    NETWORKS
+        .iter()
+        .copied()
+        .find(|k| joins(config, first, second, *k))
 }
 
 /// The least network on which both nodes have an adapter; 0 where there is none.
-pub fn shared_network(config: &Config, a: u8, b: u8) -> u8
-    ensures { result ≡ shared_network config.now a b }
+pub fn shared_network(config: &Config, first: u8, second: u8) -> u8
+    ensures { result ≡ shared_network config.now first second }
 {
-    match first_shared(config, a, b) {
+    match first_shared(config, first, second) {
         None => 0,
         Some(k) => k,
     }
@@ -87,11 +92,11 @@ pub fn shared_network(config: &Config, a: u8, b: u8) -> u8
 
 /// Does the node speak level 2 in its incarnation?
 #[tactic(auto, unfolding(node_state::specs::Settings::speaks_two))]
-pub fn speaks_two(config: &Config, m: Member) -> bool
-    ensures { result ≡ speaks_two config.now m }
+pub fn speaks_two(config: &Config, member: Member) -> bool
+    ensures { result ≡ speaks_two config.now member }
 {
-    let from = number_at(&config.level_from, m.node);
-    from > 0 && from <= m.inc
+    let from = number_at(&config.level_from, member.node);
+    from > 0 && from <= member.inc
 }
 
 fn all_speak_two(config: &Config, members: &[Member]) -> bool

@@ -1,28 +1,28 @@
 -- Entering a view.
 use Rattle.std.specs.Prelude.{ℕ, Bool, true, false, not, ◌==◌, ◌&&◌, List, [], ◌∷◌, map, filter, fold, flat_map, Option, Some, None, is_some}
 use Rattle.std.specs.Str.{bytes_eq}
-use Rattle.rsct_packet.specs.declared.ids.ProviderId.{ProviderId}
-use Rattle.rsct_packet.specs.declared.ids.ViewId.{ViewId}
-use Rattle.rsct_packet.specs.declared.ids.Member.{Member}
-use Rattle.rsct_packet.specs.Ids.{same_view}
-use Rattle.rsct_packet.specs.Providers.{among}
-use Rattle.group_attr.specs.Attrs.{host_membership}
-use Rattle.proposal_core.specs.declared.proposal.Cause.TheVariants.{Died}
-use Rattle.proposal_core.specs.declared.entry.Entry.{Entry}
-use Rattle.proposal_core.specs.declared.group_state.GroupState.{GroupState}
-use Rattle.proposal_core.specs.Fold.{present}
-use Rattle.proposal_core.specs.GroupView.{GroupView, new_list}
-use Rattle.proposal_core.specs.Lists.{list_or_new, state_in}
-use Rattle.batch_rules.specs.Waiting.{waits_failure}
+use Rattle.session_state.specs.rsct_packet.declared.ids.ProviderId.{ProviderId}
+use Rattle.session_state.specs.rsct_packet.declared.ids.ViewId.{ViewId}
+use Rattle.session_state.specs.rsct_packet.declared.ids.Member.{Member}
+use Rattle.session_state.specs.rsct_packet.Ids.{same_view}
+use Rattle.session_state.specs.rsct_packet.Providers.{among}
+use Rattle.session_state.specs.group_attr.Attrs.{host_membership}
+use Rattle.session_state.specs.proposal_core.declared.proposal.Cause.TheVariants.{Died}
+use Rattle.session_state.specs.proposal_core.declared.entry.Entry.{Entry}
+use Rattle.session_state.specs.proposal_core.declared.group_state.GroupState.{GroupState}
+use Rattle.session_state.specs.proposal_core.Fold.{present}
+use Rattle.session_state.specs.proposal_core.GroupView.{GroupView, new_list}
+use Rattle.session_state.specs.proposal_core.Lists.{list_or_new, state_in}
+use Rattle.batch_rules.specs.Waiting.{add_failure}
 use Rattle.name_server.specs.declared.names.Leader.{Leader}
-use Rattle.subscribe_core.specs.declared.subs.Subscription.{Subscription}
-use Rattle.client_callbacks.specs.declared.told.Told.TheVariants as told
-use Rattle.client_callbacks.specs.declared.told.Why.TheVariants.{Dissolved}
+use Rattle.session_state.specs.subscribe_core.declared.subs.Subscription.{Subscription}
+use Rattle.session_state.specs.client_callbacks.declared.told.Told.TheVariants as told
+use Rattle.session_state.specs.client_callbacks.declared.told.Why.TheVariants.{Dissolved}
 use Rattle.session_state.specs.declared.state.Provider.{Provider}
 use Rattle.session_state.specs.declared.state.Request.{Request}
 use Rattle.session_state.specs.declared.state.SessionState.{SessionState}
 use Rattle.session_state.specs.State.{provider_of, outstanding}
-use Rattle.session_state.specs.HandOn.{telling_taken}
+use Rattle.session_state.specs.HandOn.{take_telling}
 use Rattle.view_state.specs.declared.install.Part.{Part}
 use Rattle.view_state.specs.declared.install.Install.{Install}
 use Rattle.view_state.specs.declared.install.Base.{Base}
@@ -39,9 +39,9 @@ use Rattle.node_state.specs.declared.packet.Body.TheVariants as body
 use Rattle.node_state.specs.declared.state.Core.{Core}
 use Rattle.node_state.specs.Settings.{view_level}
 use Rattle.node_state.specs.State.{nothing_led, list_of, state_of, held_rows, led_groups, recorded, recorded_all, with_sessions}
-use Rattle.node_state.specs.Sending.{sent, requests_sent, votes_sent_again}
+use Rattle.node_state.specs.Sending.{sent, send_requests, send_votes_again}
 use Rattle.node_state.specs.HandOn.{Answering, subscriber_name, note_of}
-use Rattle.node_state.specs.Leading.{put_and_handed, with_waiting, tally_opened, closes}
+use Rattle.node_state.specs.Leading.{put_and_hand, with_waiting, tally_opened, closes}
 
 unfoldable pub part_of_list : GroupRow → GroupView → Part
 part_of_list row l = record { name = row.name; start = l.start; state = l.state; entries = l.entries }
@@ -71,8 +71,8 @@ lacking s i = lacking_in s (parts_from i s.views.view)
 -- ---- the parts of entering a view
 
 -- (1) they are put and handed on
-unfoldable pub lists_filled : Answering → Core → List Lacking → Core
-lists_filled f s xs = fold (λ t (x : Lacking). fold (λ u e. put_and_handed f u None x.name e) t x.entries) s xs
+unfoldable pub fill_lists : Answering → Core → List Lacking → Core
+fill_lists f s xs = fold (λ t (x : Lacking). fold (λ u e. put_and_hand f u None x.name e) t x.entries) s xs
 
 -- values are limited by the level of the view
 unfoldable pub level_set : Core → List Member → SessionState
@@ -103,7 +103,7 @@ number_of None = 0
 number_of (Some q) = q.r
 
 unfoldable pub dissolved : Core → ProviderId → ℕ → Core
-dissolved s p r = recorded (with_sessions s (telling_taken s.sessions p r Dissolved)) (happened.Told p r Dissolved)
+dissolved s p r = recorded (with_sessions s (take_telling s.sessions p r Dissolved)) (happened.Told p r Dissolved)
 
 -- one that took part in the group, and does not live in its base
 unfoldable pub dissolved_if : Core → List ℕ → ViewId → Option Base → Option Provider → Core
@@ -143,45 +143,45 @@ taken_sent s = elim (s.views.view.coord == s.views.me) [ true ↦ s | false ↦ 
 
 -- (6) what is outstanding is sent
 unfoldable pub owed_sent : Core → Core
-owed_sent s = votes_sent_again (requests_sent s)
+owed_sent s = send_votes_again (send_requests s)
 
-unfoldable pub failed_wait : Core → List ℕ → List ProviderId → Core
-failed_wait s g ps = fold (λ t p. with_waiting t g (waits_failure p Died)) s ps
+unfoldable pub wait_failed : Core → List ℕ → List ProviderId → Core
+wait_failed s g ps = fold (λ t p. with_waiting t g (add_failure p Died)) s ps
 
 unfoldable pub phase_reopened : Answering → Core → List ℕ → Bool → Core
 phase_reopened f s g false = s
 phase_reopened f s g true = closes f (tally_opened s g) g
 
-unfoldable pub group_led : Answering → Core → List ℕ → Core
-group_led f s g =
+unfoldable pub lead : Answering → Core → List ℕ → Core
+lead f s g =
     let st : GroupState = state_of s g in
-    phase_reopened f (failed_wait s g (filter (among st.members) st.failed)) g (is_some st.running)
+    phase_reopened f (wait_failed s g (filter (among st.members) st.failed)) g (is_some st.running)
 
 -- (7) the led groups, in name order: failed members wait, and the phase that runs is opened anew
-unfoldable pub groups_led : Answering → Core → Core
-groups_led f s = fold (group_led f) s (led_groups s)
+unfoldable pub lead_groups : Answering → Core → Core
+lead_groups f s = fold (lead f) s (led_groups s)
 
 unfoldable pub entered : Answering → Core → Install → List Lacking → Core
 entered f s i xs =
-    let t : Core = lists_filled f s xs in
+    let t : Core = fill_lists f s xs in
     let bs : List Base = bases_of i in
-    groups_led f (owed_sent (taken_sent (entering_noted (sides_dissolved (view_entered t i bs) (held_rows t) t.views.view bs) bs)))
+    lead_groups f (owed_sent (taken_sent (entering_noted (sides_dissolved (view_entered t i bs) (held_rows t) t.views.view bs) bs)))
 
 unfoldable pub entered_if : Answering → Core → Install → Option (List Lacking) → Core
 entered_if f s i None = s
 entered_if f s i (Some xs) = entered f s i xs
 
 -- an install is applied where the lists go on to it
-unfoldable pub install_applied : Answering → Core → Option Install → Core
-install_applied f s None = s
-install_applied f s (Some i) = entered_if f s i (lacking s i)
+unfoldable pub apply_install : Answering → Core → Option Install → Core
+apply_install f s None = s
+apply_install f s (Some i) = entered_if f s i (lacking s i)
 
 -- what a row of views leaves: its state, what it sends, and the install that is to be applied
 unfoldable pub views_taken : Answering → Core → ViewWork → Core
 views_taken f s w =
-    install_applied f (fold (λ t (x : ViewSend). sent t x.to (body.View x.packet)) (record s { views = w.views }) w.sends) w.install
+    apply_install f (fold (λ t (x : ViewSend). sent t x.to (body.View x.packet)) (record s { views = w.views }) w.sends) w.install
 
 -- opens each word of this file, for a computation
 unfoldable pub applying_opens : Unit {0}
-unfolding part_of_list own_parts lacking_in lacking lists_filled level_set base_row base_leader base_record view_entered is_in_base dissolved dissolved_if group_dissolved sides_dissolved base_note entering_note entering_noted taken_sent owed_sent failed_wait phase_reopened group_led groups_led entered entered_if install_applied views_taken
+unfolding part_of_list own_parts lacking_in lacking fill_lists level_set base_row base_leader base_record view_entered is_in_base dissolved dissolved_if group_dissolved sides_dissolved base_note entering_note entering_noted taken_sent owed_sent wait_failed phase_reopened lead lead_groups entered entered_if apply_install views_taken
 applying_opens = tt

@@ -2,22 +2,22 @@
 use Rattle.std.specs.Prelude.{ℕ, Bool, true, false, not, ◌&&◌, ◌||◌, ◌++◌, List, [], ◌∷◌, length, Option, Some, None, nat_le, is_none}
 use Rattle.std.specs.Option.{option_map}
 use Rattle.std.specs.List.{list_any}
-use Rattle.rsct_packet.specs.declared.ids.ProviderId.{ProviderId}
-use Rattle.rsct_packet.specs.Lists.{is_empty, drop_where}
-use Rattle.rsct_packet.specs.Providers.{same_provider, among}
-use Rattle.group_attr.specs.declared.attrs.Attrs.{Attrs}
-use Rattle.group_attr.specs.declared.attrs.Phases.{Phases}
-use Rattle.group_attr.specs.Agree.{agree, same_source}
-use Rattle.proposal_core.specs.declared.proposal.Proposal.{Proposal}
-use Rattle.proposal_core.specs.declared.proposal.Proposal.TheVariants.{Join, Expel, Attributes}
-use Rattle.proposal_core.specs.declared.group_state.GroupState.{GroupState}
-use Rattle.proposal_core.specs.declared.group_state.Running.{Running}
-use Rattle.proposal_core.specs.Fold.{max_providers, present}
-use Rattle.proposal_core.specs.Lists.{is_at_limit}
+use Rattle.session_state.specs.rsct_packet.declared.ids.ProviderId.{ProviderId}
+use Rattle.session_state.specs.rsct_packet.Lists.{is_empty, drop_where}
+use Rattle.session_state.specs.rsct_packet.Providers.{same_provider, among}
+use Rattle.session_state.specs.group_attr.declared.attrs.Attrs.{Attrs}
+use Rattle.session_state.specs.group_attr.declared.attrs.Phases.{Phases}
+use Rattle.session_state.specs.group_attr.Agree.{agree, same_source}
+use Rattle.session_state.specs.proposal_core.declared.proposal.Proposal.{Proposal}
+use Rattle.session_state.specs.proposal_core.declared.proposal.Proposal.TheVariants.{Join, Expel, Attributes}
+use Rattle.session_state.specs.proposal_core.declared.group_state.GroupState.{GroupState}
+use Rattle.session_state.specs.proposal_core.declared.group_state.Running.{Running}
+use Rattle.session_state.specs.proposal_core.Fold.{max_providers, present}
+use Rattle.session_state.specs.proposal_core.Lists.{is_at_limit}
 use Rattle.batch_rules.specs.Waiting.{has_instance, waits_join}
 use Rattle.source_target.specs.Due.{allowed}
-use Rattle.client_callbacks.specs.declared.told.Why.{Why}
-use Rattle.client_callbacks.specs.declared.told.Why.TheVariants as why
+use Rattle.session_state.specs.client_callbacks.declared.told.Why.{Why}
+use Rattle.session_state.specs.client_callbacks.declared.told.Why.TheVariants as why
 use Rattle.node_state.specs.declared.group.JoinAttrs.{JoinAttrs}
 use Rattle.node_state.specs.declared.packet.Body.TheVariants as body
 use Rattle.node_state.specs.declared.state.Core.{Core}
@@ -26,12 +26,12 @@ use Rattle.node_state.specs.Sending.{sent}
 use Rattle.node_state.specs.HandOn.{Answering}
 use Rattle.node_state.specs.Leading.{begins}
 
-unfoldable pub decision_kept : Core → List ℕ → ProviderId → ℕ → Option Why → Core
-decision_kept s g p r y = with_led s g (λ l. record l { decided = decisions_with (record { p = p; r = r; why = y }) l.decided })
+unfoldable pub keep_decision : Core → List ℕ → ProviderId → ℕ → Option Why → Core
+keep_decision s g p r y = with_led s g (λ l. record l { decided = decisions_with (record { p = p; r = r; why = y }) l.decided })
 
 -- a refusal is kept and sent to the requester's node
 unfoldable pub refused : Core → List ℕ → ProviderId → ℕ → Why → Core
-refused s g p r y = sent (decision_kept s g p r (Some y)) p.node (body.Tell s.views.view g p r y)
+refused s g p r y = sent (keep_decision s g p r (Some y)) p.node (body.Tell s.views.view g p r y)
 
 -- the state of a group at this node, if it holds a list of it
 unfoldable pub known_state : Core → List ℕ → Option GroupState
@@ -82,17 +82,17 @@ join_refusal s g p a =
     ]
 
 -- the attributes of a request that is decided in an empty idle group are kept
-unfoldable pub attrs_kept : List JoinAttrs → ProviderId → Attrs → Bool → List JoinAttrs
-attrs_kept js p a false = drop_where (λ (j : JoinAttrs). same_provider j.p p) js
-attrs_kept js p a true = drop_where (λ (j : JoinAttrs). same_provider j.p p) js ++ record { p = p; attrs = a } ∷ []
+unfoldable pub keep_attrs : List JoinAttrs → ProviderId → Attrs → Bool → List JoinAttrs
+keep_attrs js p a false = drop_where (λ (j : JoinAttrs). same_provider j.p p) js
+keep_attrs js p a true = drop_where (λ (j : JoinAttrs). same_provider j.p p) js ++ record { p = p; attrs = a } ∷ []
 
-unfoldable pub join_waits : Core → List ℕ → ProviderId → ℕ → Attrs → Bool → Core
-join_waits s g p r a idle =
-    with_led (decision_kept s g p r None) g (λ l. record l { waiting = waits_join p l.waiting; join_attrs = attrs_kept l.join_attrs p a idle })
+unfoldable pub wait_join : Core → List ℕ → ProviderId → ℕ → Attrs → Bool → Core
+wait_join s g p r a idle =
+    with_led (keep_decision s g p r None) g (λ l. record l { waiting = waits_join p l.waiting; join_attrs = keep_attrs l.join_attrs p a idle })
 
-unfoldable pub decided_join : Core → List ℕ → ProviderId → ℕ → Attrs → Option Why → Core
-decided_join s g p r a None = join_waits s g p r a (is_idle_empty (state_of s g))
-decided_join s g p r a (Some y) = refused s g p r y
+unfoldable pub decide_join : Core → List ℕ → ProviderId → ℕ → Attrs → Option Why → Core
+decide_join s g p r a None = wait_join s g p r a (is_idle_empty (state_of s g))
+decide_join s g p r a (Some y) = refused s g p r y
 
 -- ---- another request
 
@@ -125,16 +125,16 @@ other_refusal s g p x =
       | false ↦ elim (has_other_source st.attrs x) [ true ↦ Some why.BadAttributes | false ↦ collide_refusal s g st.running ]
     ]
 
-unfoldable pub decided_other : Answering → Core → List ℕ → ProviderId → ℕ → Phases → Proposal → Option Why → Core
-decided_other f s g p r phases x None = begins f (decision_kept s g p r None) g x phases
-decided_other f s g p r phases x (Some y) = refused s g p r y
+unfoldable pub decide_change : Answering → Core → List ℕ → ProviderId → ℕ → Phases → Proposal → Option Why → Core
+decide_change f s g p r phases x None = begins f (keep_decision s g p r None) g x phases
+decide_change f s g p r phases x (Some y) = refused s g p r y
 
 -- the leader decides a request
 unfoldable pub decided : Answering → Core → List ℕ → ProviderId → ℕ → Phases → Proposal → Core
-decided f s g p r phases (Join ps a n) = decided_join s g p r a (join_refusal s g p a)
-decided f s g p r phases x = decided_other f s g p r phases x (other_refusal s g p x)
+decided f s g p r phases (Join ps a n) = decide_join s g p r a (join_refusal s g p a)
+decided f s g p r phases x = decide_change f s g p r phases x (other_refusal s g p x)
 
 -- opens each word of this file, for a computation
 unfoldable pub deciding_opens : Unit {0}
-unfolding decision_kept refused known_state lacks_source source_len is_idle_empty meant_attrs join_refusal attrs_kept join_waits decided_join expelled_by has_other_source is_no_member full_refusal collide_refusal other_refusal decided_other decided
+unfolding keep_decision refused known_state lacks_source source_len is_idle_empty meant_attrs join_refusal keep_attrs wait_join decide_join expelled_by has_other_source is_no_member full_refusal collide_refusal other_refusal decide_change decided
 deciding_opens = tt

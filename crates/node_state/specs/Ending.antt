@@ -1,20 +1,20 @@
 -- The end of every step: what waits begins.
 use Rattle.std.specs.Prelude.{ℕ, zero, suc, Bool, true, false, not, ◌&&◌, ◌*◌, List, [], ◌∷◌, filter, find, fold, length, Option, Some, None, is_none}
 use Rattle.std.specs.Option.{option_map}
-use Rattle.rsct_packet.specs.declared.ids.ProviderId.{ProviderId}
-use Rattle.rsct_packet.specs.Lists.{is_empty}
-use Rattle.rsct_packet.specs.Providers.{same_provider, among}
-use Rattle.group_attr.specs.declared.attrs.Attrs.{Attrs}
-use Rattle.proposal_core.specs.declared.proposal.Failure.{Failure}
-use Rattle.proposal_core.specs.declared.proposal.Proposal.TheVariants.{Join, Fail, Reflect}
-use Rattle.proposal_core.specs.declared.group_state.GroupState.{GroupState}
-use Rattle.proposal_core.specs.Lists.{max_places, list_or_new, is_at_limit}
-use Rattle.proposal_core.specs.GroupView.{GroupView}
+use Rattle.session_state.specs.rsct_packet.declared.ids.ProviderId.{ProviderId}
+use Rattle.session_state.specs.rsct_packet.Lists.{is_empty}
+use Rattle.session_state.specs.rsct_packet.Providers.{same_provider, among}
+use Rattle.session_state.specs.group_attr.declared.attrs.Attrs.{Attrs}
+use Rattle.session_state.specs.proposal_core.declared.proposal.Failure.{Failure}
+use Rattle.session_state.specs.proposal_core.declared.proposal.Proposal.TheVariants.{Join, Fail, Reflect}
+use Rattle.session_state.specs.proposal_core.declared.group_state.GroupState.{GroupState}
+use Rattle.session_state.specs.proposal_core.Lists.{max_places, list_or_new, is_at_limit}
+use Rattle.session_state.specs.proposal_core.GroupView.{GroupView}
 use Rattle.batch_rules.specs.Waiting.{batches_failures, chosen_of, next_failures, failures_left, next_joins, joins_left}
 use Rattle.source_target.specs.declared.Due.{Due}
 use Rattle.source_target.specs.declared.Due.TheVariants as due
 use Rattle.source_target.specs.Due as target
-use Rattle.client_callbacks.specs.declared.told.Why.TheVariants.{NoSource}
+use Rattle.session_state.specs.client_callbacks.declared.told.Why.TheVariants.{NoSource}
 use Rattle.node_state.specs.declared.group.GroupRow.{GroupRow}
 use Rattle.node_state.specs.declared.group.JoinAttrs.{JoinAttrs}
 use Rattle.node_state.specs.declared.state.Core.{Core}
@@ -126,10 +126,10 @@ unfoldable pub most_begun : Core → ℕ
 most_begun s = suc (length s.groups * max_places)
 
 -- the pass is repeated until it begins nothing
-unfoldable pub step_ended : Answering → Core → Core
-step_ended f s = elim (frozen s) [ true ↦ s | false ↦ passes (most_begun s) (most_begun s) f s ]
+unfoldable pub end_step : Answering → Core → Core
+end_step f s = elim (frozen s) [ true ↦ s | false ↦ passes (most_begun s) (most_begun s) f s ]
 
 -- opens each word of this file, for a computation
 unfoldable pub ending_opens : Unit {0}
-unfolding failures_begin due_begins source_begins attrs_for carried_len source_refused joins_begin or_due or_joins may_begin first_begins group_begins one_pass passes most_begun step_ended
+unfolding failures_begin due_begins source_begins attrs_for carried_len source_refused joins_begin or_due or_joins may_begin first_begins group_begins one_pass passes most_begun end_step
 ending_opens = tt

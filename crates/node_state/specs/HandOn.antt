@@ -1,15 +1,15 @@
 -- Handing an entry on to the clients of a node.
 use Rattle.std.specs.Prelude.{ℕ, Bool, true, false, ◌+◌, List, [], ◌∷◌, map, filter, fold, length, Option, Some, None, flat_map}
 use Rattle.std.specs.Option.{unwrap_or}
-use Rattle.rsct_packet.specs.declared.ids.ProviderId.{ProviderId}
-use Rattle.rsct_packet.specs.declared.ids.ProtoId.{ProtoId}
-use Rattle.proposal_core.specs.declared.entry.Entry.{Entry}
-use Rattle.proposal_core.specs.declared.group_state.GroupState.{GroupState}
-use Rattle.subscribe_core.specs.declared.subs.Subscription.{Subscription}
-use Rattle.subscribe_core.specs.Subs.{is_of_group, differs}
-use Rattle.client_callbacks.specs.declared.ballot.Filled.{Filled}
-use Rattle.client_callbacks.specs.declared.told.Told.TheVariants as told
-use Rattle.client_callbacks.specs.Ballots.{BallotView}
+use Rattle.session_state.specs.rsct_packet.declared.ids.ProviderId.{ProviderId}
+use Rattle.session_state.specs.rsct_packet.declared.ids.ProtoId.{ProtoId}
+use Rattle.session_state.specs.proposal_core.declared.entry.Entry.{Entry}
+use Rattle.session_state.specs.proposal_core.declared.group_state.GroupState.{GroupState}
+use Rattle.session_state.specs.subscribe_core.declared.subs.Subscription.{Subscription}
+use Rattle.session_state.specs.subscribe_core.Subs.{is_of_group, differs}
+use Rattle.session_state.specs.client_callbacks.declared.ballot.Filled.{Filled}
+use Rattle.session_state.specs.client_callbacks.declared.told.Told.TheVariants as told
+use Rattle.session_state.specs.client_callbacks.Ballots.{BallotView}
 use Rattle.session_state.specs.declared.casts.Cast.{Cast}
 use Rattle.session_state.specs.declared.state.SessionState.{SessionState}
 use Rattle.session_state.specs.State.{client_name}
@@ -19,7 +19,7 @@ use Rattle.node_state.specs.declared.happened.Happened.{Happened}
 use Rattle.node_state.specs.declared.happened.Happened.TheVariants as happened
 use Rattle.node_state.specs.declared.state.Core.{Core}
 use Rattle.node_state.specs.State.{frozen, recorded_all, with_sessions}
-use Rattle.node_state.specs.Sending.{sent_if_known, vote_of}
+use Rattle.node_state.specs.Sending.{send_if_known, vote_of}
 
 -- What clients answer is an input of a step: what the client of a provider fills into the ballot that is handed with
 -- a notice of this entry and the state after it, where so many records of the step stand before the notice.
@@ -69,7 +69,7 @@ noted s g i before after = elim (differs before after) [ true ↦ notes s g (Som
 
 unfoldable pub ballot_sent : Core → List ℕ → Option ℕ → ProviderId → ProtoId → ℕ → Option Filled → Core
 ballot_sent s g to p proto phase None = s
-ballot_sent s g to p proto phase (Some b) = sent_if_known s to (vote_of s g proto phase p b)
+ballot_sent s g to p proto phase (Some b) = send_if_known s to (vote_of s g proto phase p b)
 
 unfoldable pub cast_sent_of : Core → List ℕ → Option ℕ → ProviderId → Option (ProtoId × ℕ × BallotView) → Core
 cast_sent_of s g to p None = s
@@ -80,8 +80,8 @@ unfoldable pub casts_sent : Core → List ℕ → Option ℕ → List Cast → C
 casts_sent s g to cs = elim (frozen s) [ true ↦ s | false ↦ fold (λ t c. cast_sent_of t g to c.p c.cast) s cs ]
 
 -- The entry at place i is handed on; `to` leads, and is sent the ballots.
-unfoldable pub handed_on : Answering → Core → Option ℕ → List ℕ → ℕ → GroupState → GroupState → Entry → Core
-handed_on f s to g i before after e =
+unfoldable pub hand_on : Answering → Core → Option ℕ → List ℕ → ℕ → GroupState → GroupState → Entry → Core
+hand_on f s to g i before after e =
     let bs : List (Option Filled) = fills f (length s.records) s.sessions e after (hearers s.sessions g before e) in
     let cs : List Cast = casts_out s.sessions g before after e bs in
     let t : Core = noted (recorded_all s (flat_map (heard s g i e after) cs)) g i before after in
@@ -89,5 +89,5 @@ handed_on f s to g i before after e =
 
 -- opens each word of this file, for a computation
 unfoldable pub handing_opens : Unit {0}
-unfolding answer_if records_of_notice fills cast_record cast_records heard subscriber_name note_of notes noted ballot_sent cast_sent_of casts_sent handed_on
+unfolding answer_if records_of_notice fills cast_record cast_records heard subscriber_name note_of notes noted ballot_sent cast_sent_of casts_sent hand_on
 handing_opens = tt

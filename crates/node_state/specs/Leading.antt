@@ -1,34 +1,34 @@
 -- What the leader of a group does: it appends, opens phases and closes them, and begins protocols.
 use Rattle.std.specs.Prelude.{ℕ, zero, suc, Bool, true, false, not, ◌||◌, List, [], ◌∷◌, filter, fold, find, Option, Some, None, nat_le}
 use Rattle.std.specs.Option.{option_or}
-use Rattle.rsct_packet.specs.declared.ids.ProviderId.{ProviderId}
-use Rattle.rsct_packet.specs.Providers.{same_provider, among}
-use Rattle.group_attr.specs.declared.attrs.Attrs.{Attrs}
-use Rattle.group_attr.specs.declared.attrs.Phases.{Phases}
-use Rattle.group_attr.specs.declared.attrs.Phases.TheVariants.{One, Many}
-use Rattle.proposal_core.specs.declared.proposal.Cause.TheVariants.{Died, Gone}
-use Rattle.proposal_core.specs.declared.proposal.Proposal.{Proposal}
-use Rattle.proposal_core.specs.declared.proposal.Proposal.TheVariants as proposal
-use Rattle.proposal_core.specs.declared.entry.Vote.{Vote}
-use Rattle.proposal_core.specs.declared.entry.Vote.TheVariants as vote
-use Rattle.proposal_core.specs.declared.entry.Closed.{Closed}
-use Rattle.proposal_core.specs.declared.entry.Entry.{Entry}
-use Rattle.proposal_core.specs.declared.entry.Entry.TheVariants.{Once, Begin, Phase, Approve, Reject}
-use Rattle.proposal_core.specs.declared.group_state.GroupState.{GroupState}
-use Rattle.proposal_core.specs.declared.group_state.Running.{Running}
-use Rattle.proposal_core.specs.Fold.{max_phases, voters}
-use Rattle.proposal_core.specs.Lists.{list_or_new, with_entry}
+use Rattle.session_state.specs.rsct_packet.declared.ids.ProviderId.{ProviderId}
+use Rattle.session_state.specs.rsct_packet.Providers.{same_provider, among}
+use Rattle.session_state.specs.group_attr.declared.attrs.Attrs.{Attrs}
+use Rattle.session_state.specs.group_attr.declared.attrs.Phases.{Phases}
+use Rattle.session_state.specs.group_attr.declared.attrs.Phases.TheVariants.{One, Many}
+use Rattle.session_state.specs.proposal_core.declared.proposal.Cause.TheVariants.{Died, Gone}
+use Rattle.session_state.specs.proposal_core.declared.proposal.Proposal.{Proposal}
+use Rattle.session_state.specs.proposal_core.declared.proposal.Proposal.TheVariants as proposal
+use Rattle.session_state.specs.proposal_core.declared.entry.Vote.{Vote}
+use Rattle.session_state.specs.proposal_core.declared.entry.Vote.TheVariants as vote
+use Rattle.session_state.specs.proposal_core.declared.entry.Closed.{Closed}
+use Rattle.session_state.specs.proposal_core.declared.entry.Entry.{Entry}
+use Rattle.session_state.specs.proposal_core.declared.entry.Entry.TheVariants.{Once, Begin, Phase, Approve, Reject}
+use Rattle.session_state.specs.proposal_core.declared.group_state.GroupState.{GroupState}
+use Rattle.session_state.specs.proposal_core.declared.group_state.Running.{Running}
+use Rattle.session_state.specs.proposal_core.Fold.{max_phases, voters}
+use Rattle.session_state.specs.proposal_core.Lists.{list_or_new, with_entry}
 use Rattle.vote_phases.specs.declared.voter.Voter.{Voter}
 use Rattle.vote_phases.specs.Tally.{TallyView, tally_new, tally_fail, rows_of, outcome}
-use Rattle.batch_rules.specs.Waiting.{WaitingView, waits_failure}
+use Rattle.batch_rules.specs.Waiting.{WaitingView, add_failure}
 use Rattle.node_state.specs.declared.group.Given.{Given}
 use Rattle.node_state.specs.declared.group.Led.{Led}
 use Rattle.node_state.specs.declared.happened.Happened.TheVariants as happened
 use Rattle.node_state.specs.declared.packet.Body.TheVariants as body
 use Rattle.node_state.specs.declared.state.Core.{Core}
-use Rattle.node_state.specs.State.{with_row, with_led, led_of, state_of, len_of, fits_at_end, forgets_below, leader_of, others, least_acked, recorded}
-use Rattle.node_state.specs.Sending.{sent_all}
-use Rattle.node_state.specs.HandOn.{Answering, handed_on}
+use Rattle.node_state.specs.State.{with_row, with_led, led_of, state_of, len_of, fits_at_end, forget_below, leader_of, others, least_acked, recorded}
+use Rattle.node_state.specs.Sending.{send_all}
+use Rattle.node_state.specs.HandOn.{Answering, hand_on}
 
 -- ---- appending
 
@@ -40,40 +40,40 @@ put s g e =
     (happened.Put s.views.me s.views.view g (len_of s g) e)
 
 -- put and handed on; ballots go to the node that is given
-unfoldable pub put_and_handed : Answering → Core → Option ℕ → List ℕ → Entry → Core
-put_and_handed f s to g e =
-    let t : Core = put s g e in handed_on f t to g (len_of s g) (state_of s g) (state_of t g) e
+unfoldable pub put_and_hand : Answering → Core → Option ℕ → List ℕ → Entry → Core
+put_and_hand f s to g e =
+    let t : Core = put s g e in hand_on f t to g (len_of s g) (state_of s g) (state_of t g) e
 
 -- the leader forgets what all members acknowledged
-unfoldable pub forgets_least : Core → List ℕ → Core
-forgets_least s g = forgets_below s g (least_acked s g)
+unfoldable pub forget_least : Core → List ℕ → Core
+forget_least s g = forget_below s g (least_acked s g)
 
 unfoldable pub with_waiting : Core → List ℕ → (WaitingView → WaitingView) → Core
 with_waiting s g change = with_led s g (λ l. record l { waiting = change l.waiting })
 
 -- one who failed waits with that cause, also where it is gone
-unfoldable pub waits_if : Core → List ℕ → ProviderId → Bool → Bool → Core
-waits_if s g p true gone = with_waiting s g (waits_failure p Died)
-waits_if s g p false true = with_waiting s g (waits_failure p Gone)
-waits_if s g p false false = s
+unfoldable pub wait_if : Core → List ℕ → ProviderId → Bool → Bool → Core
+wait_if s g p true gone = with_waiting s g (add_failure p Died)
+wait_if s g p false true = with_waiting s g (add_failure p Gone)
+wait_if s g p false false = s
 
 -- a failed or gone joiner waits as a failure once it is a member
 unfoldable pub new_members_wait : Core → List ℕ → GroupState → GroupState → Core
 new_members_wait s g before after =
-    fold (λ t p. waits_if t g p (among after.failed p) (among (led_of s g).gone p)) s (filter (λ p. not (among before.members p)) after.members)
+    fold (λ t p. wait_if t g p (among after.failed p) (among (led_of s g).gone p)) s (filter (λ p. not (among before.members p)) after.members)
 
 -- an entry that fits: put, sent to each other member, handed on; then what all have is forgotten
 unfoldable pub appended : Answering → Core → List ℕ → Entry → Core
 appended f s g e =
     let t : Core = put s g e in
-    let u : Core = sent_all t (others t) (body.Entry t.views.view g (len_of s g) (least_acked t g) e) in
-    let w : Core = handed_on f u (leader_of u g) g (len_of s g) (state_of s g) (state_of t g) e in
-    new_members_wait (forgets_least w g) g (state_of s g) (state_of t g)
+    let u : Core = send_all t (others t) (body.Entry t.views.view g (len_of s g) (least_acked t g) e) in
+    let w : Core = hand_on f u (leader_of u g) g (len_of s g) (state_of s g) (state_of t g) e in
+    new_members_wait (forget_least w g) g (state_of s g) (state_of t g)
 
 -- the leader appends no entry that does not fit
-unfoldable pub appended_if : Answering → Core → List ℕ → Entry → Bool → Core
-appended_if f s g e false = s
-appended_if f s g e true = appended f s g e
+unfoldable pub append_if_fits : Answering → Core → List ℕ → Entry → Bool → Core
+append_if_fits f s g e false = s
+append_if_fits f s g e true = appended f s g e
 
 -- ---- the tally of a phase
 
@@ -162,16 +162,16 @@ closes f s g = closes_from max_phases f s g
 
 -- ---- beginning
 
-unfoldable pub begun_many : Answering → Core → List ℕ → Proposal → Bool → Core
-begun_many f s g x false = s
-begun_many f s g x true = closes f (tally_opened (appended f s g (Begin x)) g) g
+unfoldable pub begin_many : Answering → Core → List ℕ → Proposal → Bool → Core
+begin_many f s g x false = s
+begin_many f s g x true = closes f (tally_opened (appended f s g (Begin x)) g) g
 
 -- Begin: at once, or with a tally
 unfoldable pub begins : Answering → Core → List ℕ → Proposal → Phases → Core
-begins f s g x One = appended_if f s g (Once x) (fits_at_end s g (Once x))
-begins f s g x Many = begun_many f s g x (fits_at_end s g (Begin x))
+begins f s g x One = append_if_fits f s g (Once x) (fits_at_end s g (Once x))
+begins f s g x Many = begin_many f s g x (fits_at_end s g (Begin x))
 
 -- opens each word of this file, for a computation
 unfoldable pub leading_opens : Unit {0}
-unfolding put put_and_handed forgets_least with_waiting waits_if new_members_wait appended appended_if limit_for limit_of fails_if tally_for with_tally tally_set tally_opened first_carried value_of closed_by closing closing_of closing_entry is_phase closes_from closes begun_many begins
+unfolding put put_and_hand forget_least with_waiting wait_if new_members_wait appended append_if_fits limit_for limit_of fails_if tally_for with_tally tally_set tally_opened first_carried value_of closed_by closing closing_of closing_entry is_phase closes_from closes begin_many begins
 leading_opens = tt

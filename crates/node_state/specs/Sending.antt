@@ -1,13 +1,13 @@
 -- What a node sends.
 use Rattle.std.specs.Prelude.{ℕ, Bool, true, false, ◌==◌, ◌&&◌, ◌++◌, List, [], ◌∷◌, fold, find, Option, Some, None}
 use Rattle.std.specs.Option.{unwrap_or, option_map}
-use Rattle.rsct_packet.specs.declared.ids.ProtoId.{ProtoId}
-use Rattle.rsct_packet.specs.declared.ids.ProviderId.{ProviderId}
-use Rattle.rsct_packet.specs.Mask.{has_node}
-use Rattle.proposal_core.specs.declared.entry.Vote.{Vote}
-use Rattle.proposal_core.specs.Fold.{runs}
+use Rattle.session_state.specs.rsct_packet.declared.ids.ProtoId.{ProtoId}
+use Rattle.session_state.specs.rsct_packet.declared.ids.ProviderId.{ProviderId}
+use Rattle.session_state.specs.rsct_packet.Mask.{has_node}
+use Rattle.session_state.specs.proposal_core.declared.entry.Vote.{Vote}
+use Rattle.session_state.specs.proposal_core.Fold.{runs}
 use Rattle.adapter_ring.specs.declared.ring.Ring.{Ring}
-use Rattle.client_callbacks.specs.declared.ballot.Filled.{Filled}
+use Rattle.session_state.specs.client_callbacks.declared.ballot.Filled.{Filled}
 use Rattle.session_state.specs.declared.state.Request.{Request}
 use Rattle.session_state.specs.declared.state.KeptBallot.{KeptBallot}
 use Rattle.node_state.specs.declared.packet.Body.{Body}
@@ -57,54 +57,54 @@ packet_on s network to b =
     let level : ℕ = level_for s b in
     record { network = network; from = s.views.me; to = to; inc = s.views.inc; level = level; domain = domain_at s level; body = b }
 
-unfoldable pub sent_on : Core → ℕ → ℕ → Body → Core
-sent_on s network to b = record s { sends = s.sends ++ packet_on s network to b ∷ [] }
+unfoldable pub send_on : Core → ℕ → ℕ → Body → Core
+send_on s network to b = record s { sends = s.sends ++ packet_on s network to b ∷ [] }
 
 unfoldable pub sent : Core → ℕ → Body → Core
-sent s to b = sent_on s (network_to s to) to b
+sent s to b = send_on s (network_to s to) to b
 
-unfoldable pub sent_all : Core → List ℕ → Body → Core
-sent_all s ns b = fold (λ t n. sent t n b) s ns
+unfoldable pub send_all : Core → List ℕ → Body → Core
+send_all s ns b = fold (λ t n. sent t n b) s ns
 
-unfoldable pub sent_if_known : Core → Option ℕ → Body → Core
-sent_if_known s None b = s
-sent_if_known s (Some n) b = sent s n b
+unfoldable pub send_if_known : Core → Option ℕ → Body → Core
+send_if_known s None b = s
+send_if_known s (Some n) b = sent s n b
 
-unfoldable pub request_to : Core → Request → Option ℕ → Core
-request_to s q None = sent s s.views.view.coord (body.Lookup s.views.view q.group)
-request_to s q (Some n) = sent s n (body.Request s.views.view q.group q.p q.r q.phases q.proposal)
+unfoldable pub send_request_to : Core → Request → Option ℕ → Core
+send_request_to s q None = sent s s.views.view.coord (body.Lookup s.views.view q.group)
+send_request_to s q (Some n) = sent s n (body.Request s.views.view q.group q.p q.r q.phases q.proposal)
 
 -- an outstanding request goes to the leader, where that is known, or its name is looked up
-unfoldable pub request_sent : Core → Request → Core
-request_sent s q = elim (frozen s) [ true ↦ s | false ↦ request_to s q (leader_of s q.group) ]
+unfoldable pub send_request : Core → Request → Core
+send_request s q = elim (frozen s) [ true ↦ s | false ↦ send_request_to s q (leader_of s q.group) ]
 
 -- in order of number
-unfoldable pub requests_sent : Core → Core
-requests_sent s = fold request_sent s s.sessions.requests
+unfoldable pub send_requests : Core → Core
+send_requests s = fold send_request s s.sessions.requests
 
 unfoldable pub vote_of : Core → List ℕ → ProtoId → ℕ → ProviderId → Filled → Body
 vote_of s g proto phase p b = body.Vote s.views.view g proto phase p b.vote b.value b.message
 
 -- a ballot that is kept is filled
-unfoldable pub kept_sent_to : Core → KeptBallot → Option ℕ → Option Filled → Core
-kept_sent_to s k to None = s
-kept_sent_to s k to (Some b) = sent_if_known s to (vote_of s k.group k.proto k.phase k.p b)
+unfoldable pub send_kept_to : Core → KeptBallot → Option ℕ → Option Filled → Core
+send_kept_to s k to None = s
+send_kept_to s k to (Some b) = send_if_known s to (vote_of s k.group k.proto k.phase k.p b)
 
-unfoldable pub kept_sent : Core → KeptBallot → Core
-kept_sent s k = kept_sent_to s k (leader_of s k.group) k.ballot.filled
+unfoldable pub send_kept : Core → KeptBallot → Core
+send_kept s k = send_kept_to s k (leader_of s k.group) k.ballot.filled
 
 unfoldable pub kept_sent_if : Core → KeptBallot → Bool → Core
 kept_sent_if s k false = s
-kept_sent_if s k true = kept_sent s k
+kept_sent_if s k true = send_kept s k
 
 unfoldable pub kept_sent_again : Core → KeptBallot → Core
 kept_sent_again s k = kept_sent_if s k (runs k.proto k.phase (state_of s k.group).running)
 
 -- each kept ballot of a running phase
-unfoldable pub votes_sent_again : Core → Core
-votes_sent_again s = fold kept_sent_again s s.sessions.kept
+unfoldable pub send_votes_again : Core → Core
+send_votes_again s = fold kept_sent_again s s.sessions.kept
 
 -- opens each word of this file, for a computation
 unfoldable pub sending_opens : Unit {0}
-unfolding joins_nodes ring_network network_to is_in_view level_for domain_at packet_on sent_on sent sent_all sent_if_known request_to request_sent requests_sent vote_of kept_sent_to kept_sent kept_sent_if kept_sent_again votes_sent_again
+unfolding joins_nodes ring_network network_to is_in_view level_for domain_at packet_on send_on sent send_all send_if_known send_request_to send_request send_requests vote_of send_kept_to send_kept kept_sent_if kept_sent_again send_votes_again
 sending_opens = tt

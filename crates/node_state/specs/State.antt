@@ -2,14 +2,14 @@
 use Rattle.std.specs.Prelude.{◌≡◌, ℕ, Bool, true, false, ◌==◌, List, [], ◌∷◌, ◌++◌, map, filter, find, max, min, Option, Some, None, is_some}
 use Rattle.std.specs.List.{fold}
 use Rattle.std.specs.Str.{bytes_eq}
-use Rattle.rsct_packet.specs.declared.ids.ProviderId.{ProviderId}
-use Rattle.rsct_packet.specs.declared.ids.Member.{Member}
-use Rattle.rsct_packet.specs.Providers.{same_provider}
-use Rattle.rsct_packet.specs.Text.{name_lt}
-use Rattle.proposal_core.specs.declared.entry.Entry.{Entry}
-use Rattle.proposal_core.specs.declared.group_state.GroupState.{GroupState}
-use Rattle.proposal_core.specs.GroupView.{GroupView}
-use Rattle.proposal_core.specs.Lists.{list_or_new, len_in, entry_fits, forgotten}
+use Rattle.session_state.specs.rsct_packet.declared.ids.ProviderId.{ProviderId}
+use Rattle.session_state.specs.rsct_packet.declared.ids.Member.{Member}
+use Rattle.session_state.specs.rsct_packet.Providers.{same_provider}
+use Rattle.session_state.specs.rsct_packet.Text.{name_lt}
+use Rattle.session_state.specs.proposal_core.declared.entry.Entry.{Entry}
+use Rattle.session_state.specs.proposal_core.declared.group_state.GroupState.{GroupState}
+use Rattle.session_state.specs.proposal_core.GroupView.{GroupView}
+use Rattle.session_state.specs.proposal_core.Lists.{list_or_new, len_in, entry_fits, forgotten}
 use Rattle.batch_rules.specs.Waiting.{nothing_waits}
 use Rattle.session_state.specs.declared.state.SessionState.{SessionState}
 use Rattle.view_state.specs.Views.{is_frozen, is_coordinator, others_of}
@@ -90,8 +90,8 @@ list_forgotten n None = None
 list_forgotten n (Some l) = Some (forgotten l n)
 
 -- forgets below a place that is at most the length
-unfoldable pub forgets_below : Core → List ℕ → ℕ → Core
-forgets_below s g n = with_row s g (λ row. record row { list = list_forgotten n row.list })
+unfoldable pub forget_below : Core → List ℕ → ℕ → Core
+forget_below s g n = with_row s g (λ row. record row { list = list_forgotten n row.list })
 
 unfoldable pub frozen : Core → Bool
 frozen s = is_frozen s.views
@@ -167,10 +167,10 @@ unfoldable pub with_sessions : Core → SessionState → Core
 with_sessions s t = record s { sessions = t }
 
 -- the leader of the group is known
-unfoldable pub led_by : Core → List ℕ → ℕ → Core
-led_by s g n = with_row s g (λ row. record row { leader = Some n })
+unfoldable pub set_leader : Core → List ℕ → ℕ → Core
+set_leader s g n = with_row s g (λ row. record row { leader = Some n })
 
 -- opens each word of this file, for a computation
 unfoldable pub state_opens : Unit {0}
-unfolding row_of rows_with with_row with_led led_of list_of state_of len_of holds held_rows fits_at_end forgets_below frozen coordinates leader_in leader_of leads_in leads led_groups others acked_from acked_by least_acked acked_raised decision_of decisions_with recorded recorded_all with_sessions led_by
+unfolding row_of rows_with with_row with_led led_of list_of state_of len_of holds held_rows fits_at_end forget_below frozen coordinates leader_in leader_of leads_in leads led_groups others acked_from acked_by least_acked acked_raised decision_of decisions_with recorded recorded_all with_sessions set_leader
 state_opens = tt

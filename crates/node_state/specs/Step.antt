@@ -1,11 +1,11 @@
 -- The step of a node.
 use Rattle.std.specs.Prelude.{ℕ, Bool, true, false, not, ◌==◌, ◌&&◌, ◌||◌, ◌++◌, List, [], ◌∷◌, map}
 use Rattle.std.specs.Option.{unwrap_or}
-use Rattle.rsct_packet.specs.declared.mask.Mask.{Mask}
-use Rattle.rsct_packet.specs.declared.ids.ViewId.{ViewId}
-use Rattle.rsct_packet.specs.declared.ids.Member.{Member}
-use Rattle.rsct_packet.specs.Ids.{same_view, is_member}
-use Rattle.rsct_packet.specs.Mask.{nodes_of}
+use Rattle.session_state.specs.rsct_packet.declared.mask.Mask.{Mask}
+use Rattle.session_state.specs.rsct_packet.declared.ids.ViewId.{ViewId}
+use Rattle.session_state.specs.rsct_packet.declared.ids.Member.{Member}
+use Rattle.session_state.specs.rsct_packet.Ids.{same_view, is_member}
+use Rattle.session_state.specs.rsct_packet.Mask.{nodes_of}
 use Rattle.adapter_ring.specs.declared.ring.Ring.{Ring}
 use Rattle.adapter_ring.specs.Rings.{ring_new, neighbour}
 use Rattle.node_reach.specs.Reach.{reach_new}
@@ -25,14 +25,14 @@ use Rattle.node_state.specs.declared.packet.Packet.{Packet}
 use Rattle.node_state.specs.declared.state.Core.{Core}
 use Rattle.node_state.specs.Settings.{is_fixed, least_node, networks_of, addresses_on}
 use Rattle.node_state.specs.State.{frozen, with_sessions}
-use Rattle.node_state.specs.Sending.{sent_on}
+use Rattle.node_state.specs.Sending.{send_on}
 use Rattle.node_state.specs.HandOn.{Answering}
-use Rattle.node_state.specs.Following.{lookup_row, name_row, request_row, tell_row, entry_row, ack_row, vote_row, gone_row}
+use Rattle.node_state.specs.Following.{take_lookup, take_name, take_request, take_tell, take_entry, take_ack, take_vote, take_gone}
 use Rattle.node_state.specs.Applying.{own_parts, level_set, views_taken}
-use Rattle.node_state.specs.Ticks.{ring_row, report_row, tick_row}
-use Rattle.node_state.specs.Ending.{step_ended}
+use Rattle.node_state.specs.Ticks.{ring_row, take_report, tick_row}
+use Rattle.node_state.specs.Ending.{end_step}
 use Rattle.node_state.specs.Status.{status_text}
-use Rattle.node_state.specs.Calls.{call_row}
+use Rattle.node_state.specs.Calls.{take_call}
 
 -- what happens to a node: bytes that are no packet make the end of a step alone
 pub data NodeEvent : Type 0 where
@@ -56,8 +56,8 @@ used_if s t true = t
 used_if s t false = s
 
 -- an order to ask for a view does nothing in mode fixed
-unfoldable pub order_row : Answering → Core → Mask → Core
-order_row f s mask =
+unfoldable pub take_order : Answering → Core → Mask → Core
+take_order f s mask =
     elim (is_fixed s.config.mode) [ true ↦ s | false ↦ views_taken f s (ask_row (views_at_work s.views) mask (own_parts s)) ]
 
 -- the packets of views
@@ -69,33 +69,33 @@ view_row f s from inc (packet.Install i) = views_taken f s (install_row (views_a
 view_row f s from inc (packet.Taken v) = views_taken f s (taken_row (views_at_work s.views) from v)
 
 -- the table of packets
-unfoldable pub body_row : Answering → Core → Packet → Body → Core
-body_row f s p (body.Ring x) = ring_row s p.network p.from p.inc x
-body_row f s p (body.Report rows) = report_row s rows
-body_row f s p (body.View x) = view_row f s p.from p.inc x
-body_row f s p (body.Lookup v g) = used_if s (lookup_row s p.from g) (is_used s p v)
-body_row f s p (body.Name v g n) = used_if s (name_row s g n) (is_used s p v)
-body_row f s p (body.Request v g q r phases x) = used_if s (request_row f s p.from g q r phases x) (is_used s p v)
-body_row f s p (body.Tell v g q r y) = used_if s (tell_row s q r y) (is_used s p v)
-body_row f s p (body.Entry v g place stable e) = used_if s (entry_row f s p.from g place stable e) (is_used s p v)
-body_row f s p (body.Ack v g n) = used_if s (ack_row s p.from g n) (is_used s p v)
-body_row f s p (body.Vote v g proto phase q vote value message) = used_if s (vote_row f s g proto phase q vote value message) (is_used s p v)
-body_row f s p (body.Gone v g q) = used_if s (gone_row f s g q) (is_used s p v)
-body_row f s p (body.Query question what) = sent_on s p.network p.from (body.Reply question (status_text s what))
-body_row f s p (body.Reply question text) = s
+unfoldable pub take_body : Answering → Core → Packet → Body → Core
+take_body f s p (body.Ring x) = ring_row s p.network p.from p.inc x
+take_body f s p (body.Report rows) = take_report s rows
+take_body f s p (body.View x) = view_row f s p.from p.inc x
+take_body f s p (body.Lookup v g) = used_if s (take_lookup s p.from g) (is_used s p v)
+take_body f s p (body.Name v g n) = used_if s (take_name s g n) (is_used s p v)
+take_body f s p (body.Request v g q r phases x) = used_if s (take_request f s p.from g q r phases x) (is_used s p v)
+take_body f s p (body.Tell v g q r y) = used_if s (take_tell s q r y) (is_used s p v)
+take_body f s p (body.Entry v g place stable e) = used_if s (take_entry f s p.from g place stable e) (is_used s p v)
+take_body f s p (body.Ack v g n) = used_if s (take_ack s p.from g n) (is_used s p v)
+take_body f s p (body.Vote v g proto phase q vote value message) = used_if s (take_vote f s g proto phase q vote value message) (is_used s p v)
+take_body f s p (body.Gone v g q) = used_if s (take_gone f s g q) (is_used s p v)
+take_body f s p (body.Query question what) = send_on s p.network p.from (body.Reply question (status_text s what))
+take_body f s p (body.Reply question text) = s
 
 -- a packet for another node is dropped
 unfoldable pub packet_row : Answering → Core → Packet → Core
-packet_row f s p = elim (p.to == s.views.me) [ true ↦ body_row f s p p.body | false ↦ s ]
+packet_row f s p = elim (p.to == s.views.me) [ true ↦ take_body f s p p.body | false ↦ s ]
 
 -- ---- the step
 
 unfoldable pub event_row : Answering → Core → NodeEvent → Core
 event_row f s Ticks = tick_row f s
-event_row f s (Asks mask) = step_ended f (order_row f s mask)
-event_row f s (Given p) = step_ended f (packet_row f s p)
-event_row f s (Calls c) = step_ended f (call_row s c)
-event_row f s Garbage = step_ended f s
+event_row f s (Asks mask) = end_step f (take_order f s mask)
+event_row f s (Given p) = end_step f (packet_row f s p)
+event_row f s (Calls c) = end_step f (take_call s c)
+event_row f s Garbage = end_step f s
 
 -- at work, with nothing sent or recorded yet
 abbrev pub at_work : Core → Core
@@ -153,5 +153,5 @@ started c me inc =
 
 -- opens each word of this file, for a computation
 unfoldable pub step_opens : Unit {0}
-unfolding is_used used_if order_row view_row body_row packet_row event_row stepped own_ring own_rings first_view first_members ring_record started
+unfolding is_used used_if take_order view_row take_body packet_row event_row stepped own_ring own_rings first_view first_members ring_record started
 step_opens = tt

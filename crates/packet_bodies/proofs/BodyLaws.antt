@@ -135,3 +135,6 @@ reply_found bytes result h e = reply_by bytes result (reply_at bytes) h refl e
 pub reply_only : (bytes : List ℕ) (result : Option ReplyIn) → result ≡ reply_at bytes → IsOnlyWhole reply_text IsReply result bytes
 unfolding reply_at reply_text
 reply_only bytes result e = record { only = λ x h is. e ∙ (ap reply_at is ∙ rw (u32_format.again x.question x.text h) refl) }
+
+-- what a reader of a whole body takes
+pub ruleset body_reads = (whole_found, whole_only)

@@ -1,2 +1,3 @@
 pub mod Group
 pub mod Body
+pub use Rattle.rsct_packet.specs as rsct_packet

@@ -98,119 +98,119 @@ fn whole<X: Drop>(read: Option<(X, &[u8])>) -> Option<X>
 }
 
 /// The ring of a HEARTBEAT, a PROCLAIM or a PTC_ACK.
-#[tactic(auto, using(crate::proofs::BodyLaws::whole_found, crate::proofs::BodyLaws::whole_only, rsct_packet::proofs::FieldLaws::ring_format))]
-pub fn read_ring_body(b: &[u8]) -> Option<RingId>
-    ensures value { result ≡ whole_at ring_at b.now }
-    ensures found { IsWhole ring_text IsRing result b.now }
-    ensures only { IsOnlyWhole ring_text IsRing result b.now }
+#[tactic(auto, using(crate::proofs::BodyLaws::body_reads, rsct_packet::proofs::FieldLaws::ring_format))]
+pub fn read_ring_body(bytes: &[u8]) -> Option<RingId>
+    ensures value { result ≡ whole_at ring_at bytes.now }
+    ensures found { IsWhole ring_text IsRing result bytes.now }
+    ensures only { IsOnlyWhole ring_text IsRing result bytes.now }
 {
-    whole(read_ring(known(b)))
+    whole(read_ring(known(bytes)))
 }
 
 /// The nodes of a JOIN.
-#[tactic(auto, using(crate::proofs::BodyLaws::whole_found, crate::proofs::BodyLaws::whole_only, rsct_packet::proofs::FieldLaws::mask_format))]
-pub fn read_mask_body(b: &[u8]) -> Option<Mask>
-    ensures value { result ≡ whole_at mask_at b.now }
-    ensures found { IsWhole mask_text IsMask result b.now }
-    ensures only { IsOnlyWhole mask_text IsMask result b.now }
+#[tactic(auto, using(crate::proofs::BodyLaws::body_reads, rsct_packet::proofs::FieldLaws::mask_format))]
+pub fn read_mask_body(bytes: &[u8]) -> Option<Mask>
+    ensures value { result ≡ whole_at mask_at bytes.now }
+    ensures found { IsWhole mask_text IsMask result bytes.now }
+    ensures only { IsOnlyWhole mask_text IsMask result bytes.now }
 {
-    whole(read_mask(known(b)))
+    whole(read_mask(known(bytes)))
 }
 
 /// The view of a TAKEN.
-#[tactic(auto, using(crate::proofs::BodyLaws::whole_found, crate::proofs::BodyLaws::whole_only, rsct_packet::proofs::FieldLaws::view_format))]
-pub fn read_view_body(b: &[u8]) -> Option<ViewId>
-    ensures value { result ≡ whole_at view_at b.now }
-    ensures found { IsWhole view_text IsView result b.now }
-    ensures only { IsOnlyWhole view_text IsView result b.now }
+#[tactic(auto, using(crate::proofs::BodyLaws::body_reads, rsct_packet::proofs::FieldLaws::view_format))]
+pub fn read_view_body(bytes: &[u8]) -> Option<ViewId>
+    ensures value { result ≡ whole_at view_at bytes.now }
+    ensures found { IsWhole view_text IsView result bytes.now }
+    ensures only { IsOnlyWhole view_text IsView result bytes.now }
 {
-    whole(read_view(known(b)))
+    whole(read_view(known(bytes)))
 }
 
 #[tactic(auto, unfolding(crate::specs::Body::ring_mask_at))]
-fn read_ring_mask_parts(b: &[u8]) -> Option<(RingMask, &[u8])>
-    ensures { Gives result (ring_mask_at b.now) }
+fn read_ring_mask_parts(bytes: &[u8]) -> Option<(RingMask, &[u8])>
+    ensures { Gives result (ring_mask_at bytes.now) }
 {
-    let (ring, b) = read_ring(b)?;
-    let (mask, b) = read_mask(b)?;
-    Some((RingMask { ring, mask }, b))
+    let (ring, bytes) = read_ring(bytes)?;
+    let (mask, bytes) = read_mask(bytes)?;
+    Some((RingMask { ring, mask }, bytes))
 }
 
 /// The ring and the nodes of a PTC or a COMMIT.
-#[tactic(auto, using(crate::proofs::BodyLaws::whole_found, crate::proofs::BodyLaws::whole_only, crate::proofs::BodyLaws::ring_mask_format))]
-pub fn read_ring_mask(b: &[u8]) -> Option<RingMask>
-    ensures value { result ≡ whole_at ring_mask_at b.now }
-    ensures found { IsWhole ring_mask_text IsRingMask result b.now }
-    ensures only { IsOnlyWhole ring_mask_text IsRingMask result b.now }
+#[tactic(auto, using(crate::proofs::BodyLaws::body_reads, crate::proofs::BodyLaws::ring_mask_format))]
+pub fn read_ring_mask(bytes: &[u8]) -> Option<RingMask>
+    ensures value { result ≡ whole_at ring_mask_at bytes.now }
+    ensures found { IsWhole ring_mask_text IsRingMask result bytes.now }
+    ensures only { IsOnlyWhole ring_mask_text IsRingMask result bytes.now }
 {
-    whole(read_ring_mask_parts(known(b)))
+    whole(read_ring_mask_parts(known(bytes)))
 }
 
 #[tactic(auto, unfolding(crate::specs::Body::death_at))]
-fn read_death_parts(b: &[u8]) -> Option<(Death, &[u8])>
-    ensures { Gives result (death_at b.now) }
+fn read_death_parts(bytes: &[u8]) -> Option<(Death, &[u8])>
+    ensures { Gives result (death_at bytes.now) }
 {
-    let (ring, b) = read_ring(b)?;
-    let (node, b) = read_node(b)?;
-    Some((Death { ring, node }, b))
+    let (ring, bytes) = read_ring(bytes)?;
+    let (node, bytes) = read_node(bytes)?;
+    Some((Death { ring, node }, bytes))
 }
 
 /// A DEATH.
-#[tactic(auto, using(crate::proofs::BodyLaws::whole_found, crate::proofs::BodyLaws::whole_only, crate::proofs::BodyLaws::death_format))]
-pub fn read_death(b: &[u8]) -> Option<Death>
-    ensures value { result ≡ whole_at death_at b.now }
-    ensures found { IsWhole death_text IsDeath result b.now }
-    ensures only { IsOnlyWhole death_text IsDeath result b.now }
+#[tactic(auto, using(crate::proofs::BodyLaws::body_reads, crate::proofs::BodyLaws::death_format))]
+pub fn read_death(bytes: &[u8]) -> Option<Death>
+    ensures value { result ≡ whole_at death_at bytes.now }
+    ensures found { IsWhole death_text IsDeath result bytes.now }
+    ensures only { IsOnlyWhole death_text IsDeath result bytes.now }
 {
-    whole(read_death_parts(known(b)))
+    whole(read_death_parts(known(bytes)))
 }
 
 #[tactic(auto, unfolding(crate::specs::Body::prepare_at))]
-fn read_prepare_parts(b: &[u8]) -> Option<(Prepare, &[u8])>
-    ensures { Gives result (prepare_at b.now) }
+fn read_prepare_parts(bytes: &[u8]) -> Option<(Prepare, &[u8])>
+    ensures { Gives result (prepare_at bytes.now) }
 {
-    let (view, b) = read_view(b)?;
-    let (mask, b) = read_mask(b)?;
-    Some((Prepare { view, mask }, b))
+    let (view, bytes) = read_view(bytes)?;
+    let (mask, bytes) = read_mask(bytes)?;
+    Some((Prepare { view, mask }, bytes))
 }
 
 /// A PREPARE.
-#[tactic(auto, using(crate::proofs::BodyLaws::whole_found, crate::proofs::BodyLaws::whole_only, crate::proofs::BodyLaws::prepare_format))]
-pub fn read_prepare(b: &[u8]) -> Option<Prepare>
-    ensures value { result ≡ whole_at prepare_at b.now }
-    ensures found { IsWhole prepare_text IsPrepare result b.now }
-    ensures only { IsOnlyWhole prepare_text IsPrepare result b.now }
+#[tactic(auto, using(crate::proofs::BodyLaws::body_reads, crate::proofs::BodyLaws::prepare_format))]
+pub fn read_prepare(bytes: &[u8]) -> Option<Prepare>
+    ensures value { result ≡ whole_at prepare_at bytes.now }
+    ensures found { IsWhole prepare_text IsPrepare result bytes.now }
+    ensures only { IsOnlyWhole prepare_text IsPrepare result bytes.now }
 {
-    whole(read_prepare_parts(known(b)))
+    whole(read_prepare_parts(known(bytes)))
 }
 
 #[tactic(auto, unfolding(crate::specs::Body::refuse_at))]
-fn read_refuse_parts(b: &[u8]) -> Option<(Refuse, &[u8])>
-    ensures { Gives result (refuse_at b.now) }
+fn read_refuse_parts(bytes: &[u8]) -> Option<(Refuse, &[u8])>
+    ensures { Gives result (refuse_at bytes.now) }
 {
-    let (view, b) = read_view(b)?;
-    let (number, b) = read_u32(b)?;
-    Some((Refuse { view, number }, b))
+    let (view, bytes) = read_view(bytes)?;
+    let (number, bytes) = read_u32(bytes)?;
+    Some((Refuse { view, number }, bytes))
 }
 
 /// A REFUSE.
-#[tactic(auto, using(crate::proofs::BodyLaws::whole_found, crate::proofs::BodyLaws::whole_only, crate::proofs::BodyLaws::refuse_format))]
-pub fn read_refuse(b: &[u8]) -> Option<Refuse>
-    ensures value { result ≡ whole_at refuse_at b.now }
-    ensures found { IsWhole refuse_text IsRefuse result b.now }
-    ensures only { IsOnlyWhole refuse_text IsRefuse result b.now }
+#[tactic(auto, using(crate::proofs::BodyLaws::body_reads, crate::proofs::BodyLaws::refuse_format))]
+pub fn read_refuse(bytes: &[u8]) -> Option<Refuse>
+    ensures value { result ≡ whole_at refuse_at bytes.now }
+    ensures found { IsWhole refuse_text IsRefuse result bytes.now }
+    ensures only { IsOnlyWhole refuse_text IsRefuse result bytes.now }
 {
-    whole(read_refuse_parts(known(b)))
+    whole(read_refuse_parts(known(bytes)))
 }
 
 #[tactic(auto, unfolding(crate::specs::Body::report_row_at))]
-fn read_report_row_parts(b: &[u8]) -> Option<(ReportRow, &[u8])>
-    ensures { Gives result (report_row_at b.now) }
+fn read_report_row_parts(bytes: &[u8]) -> Option<(ReportRow, &[u8])>
+    ensures { Gives result (report_row_at bytes.now) }
 {
-    let (node, b) = read_node(b)?;
-    let (inc, b) = read_u32(b)?;
-    let (seq, b) = read_u32(b)?;
-    let (mask, b) = read_mask(b)?;
+    let (node, bytes) = read_node(bytes)?;
+    let (inc, bytes) = read_u32(bytes)?;
+    let (seq, bytes) = read_u32(bytes)?;
+    let (mask, bytes) = read_mask(bytes)?;
     Some((
         ReportRow {
             node,
@@ -218,7 +218,7 @@ fn read_report_row_parts(b: &[u8]) -> Option<(ReportRow, &[u8])>
             seq,
             mask,
         },
-        b,
+        bytes,
     ))
 }
 
@@ -231,9 +231,9 @@ impl Item for ReportRow {
 
     ghost can_put = { λ r. IsNode r.node };
 
-    #[tactic(auto, using(rsct_packet::proofs::FormatLaws::gives_found, rsct_packet::proofs::FormatLaws::gives_only, crate::proofs::BodyLaws::report_row_format))]
-    fn read(b: &[u8]) -> Option<(ReportRow, &[u8])> {
-        read_report_row_parts(known(b))
+    #[tactic(auto, using(rsct_packet::proofs::FormatLaws::format_reads, crate::proofs::BodyLaws::report_row_format))]
+    fn read(bytes: &[u8]) -> Option<(ReportRow, &[u8])> {
+        read_report_row_parts(known(bytes))
     }
 
     #[tactic(auto, unfolding(crate::specs::Body::report_row_text, rsct_packet::specs::Fields::u32_text, rsct_packet::specs::Fields::mask_text))]
@@ -266,98 +266,98 @@ fn are_report_rows(rows: &Listed<ReportRow>) -> bool
 }
 
 #[tactic(auto, unfolding(crate::specs::Body::report_at))]
-fn read_report_parts(b: &[u8]) -> Option<(Listed<ReportRow>, &[u8])>
-    ensures { Gives result (report_at b.now) }
+fn read_report_parts(bytes: &[u8]) -> Option<(Listed<ReportRow>, &[u8])>
+    ensures { Gives result (report_at bytes.now) }
 {
-    let (rows, b) = read_list::<ReportRow>(b)?;
+    let (rows, bytes) = read_list::<ReportRow>(bytes)?;
     if !are_report_rows(&rows) {
         return None;
     }
-    Some((rows, b))
+    Some((rows, bytes))
 }
 
 /// The rows of a REPORT, nodes ascending, left where they stand.
-#[tactic(auto, using(crate::proofs::BodyLaws::whole_found, crate::proofs::BodyLaws::whole_only, crate::proofs::BodyLaws::report_format))]
-pub fn read_report(b: &[u8]) -> Option<Listed<ReportRow>>
-    ensures value { result ≡ whole_at report_at b.now }
-    ensures found { IsWhole report_text IsReport result b.now }
-    ensures only { IsOnlyWhole report_text IsReport result b.now }
+#[tactic(auto, using(crate::proofs::BodyLaws::body_reads, crate::proofs::BodyLaws::report_format))]
+pub fn read_report(bytes: &[u8]) -> Option<Listed<ReportRow>>
+    ensures value { result ≡ whole_at report_at bytes.now }
+    ensures found { IsWhole report_text IsReport result bytes.now }
+    ensures only { IsOnlyWhole report_text IsReport result bytes.now }
 {
-    whole(read_report_parts(known(b)))
+    whole(read_report_parts(known(bytes)))
 }
 
 /// The group of a LOOKUP.
-#[tactic(auto, using(crate::proofs::BodyLaws::whole_found, crate::proofs::BodyLaws::whole_only, crate::proofs::BodyLaws::group_format))]
-pub fn read_lookup(b: &[u8]) -> Option<GroupRef>
-    ensures value { result ≡ whole_at group_at b.now }
-    ensures found { IsWhole group_text IsGroup result b.now }
-    ensures only { IsOnlyWhole group_text IsGroup result b.now }
+#[tactic(auto, using(crate::proofs::BodyLaws::body_reads, crate::proofs::BodyLaws::group_format))]
+pub fn read_lookup(bytes: &[u8]) -> Option<GroupRef>
+    ensures value { result ≡ whole_at group_at bytes.now }
+    ensures found { IsWhole group_text IsGroup result bytes.now }
+    ensures only { IsOnlyWhole group_text IsGroup result bytes.now }
 {
-    whole(read_group(known(b)))
+    whole(read_group(known(bytes)))
 }
 
 #[tactic(auto, unfolding(crate::specs::Body::leader_at))]
-fn read_leader_parts(b: &[u8]) -> Option<(Leader, &[u8])>
-    ensures { Gives result (leader_at b.now) }
+fn read_leader_parts(bytes: &[u8]) -> Option<(Leader, &[u8])>
+    ensures { Gives result (leader_at bytes.now) }
 {
-    let (group, b) = read_group(b)?;
-    let (leader, b) = read_node_or_none(b)?;
-    Some((Leader { group, leader }, b))
+    let (group, bytes) = read_group(bytes)?;
+    let (leader, bytes) = read_node_or_none(bytes)?;
+    Some((Leader { group, leader }, bytes))
 }
 
 /// A NAME.
-#[tactic(auto, using(crate::proofs::BodyLaws::whole_found, crate::proofs::BodyLaws::whole_only, crate::proofs::BodyLaws::leader_format))]
-pub fn read_leader(b: &[u8]) -> Option<Leader>
-    ensures value { result ≡ whole_at leader_at b.now }
-    ensures found { IsWhole leader_text IsLeader result b.now }
-    ensures only { IsOnlyWhole leader_text IsLeader result b.now }
+#[tactic(auto, using(crate::proofs::BodyLaws::body_reads, crate::proofs::BodyLaws::leader_format))]
+pub fn read_leader(bytes: &[u8]) -> Option<Leader>
+    ensures value { result ≡ whole_at leader_at bytes.now }
+    ensures found { IsWhole leader_text IsLeader result bytes.now }
+    ensures only { IsOnlyWhole leader_text IsLeader result bytes.now }
 {
-    whole(read_leader_parts(known(b)))
+    whole(read_leader_parts(known(bytes)))
 }
 
 #[tactic(auto, unfolding(crate::specs::Body::ack_at))]
-fn read_ack_parts(b: &[u8]) -> Option<(Ack, &[u8])>
-    ensures { Gives result (ack_at b.now) }
+fn read_ack_parts(bytes: &[u8]) -> Option<(Ack, &[u8])>
+    ensures { Gives result (ack_at bytes.now) }
 {
-    let (group, b) = read_group(b)?;
-    let (len, b) = read_u32(b)?;
-    Some((Ack { group, len }, b))
+    let (group, bytes) = read_group(bytes)?;
+    let (len, bytes) = read_u32(bytes)?;
+    Some((Ack { group, len }, bytes))
 }
 
 /// An ACK.
-#[tactic(auto, using(crate::proofs::BodyLaws::whole_found, crate::proofs::BodyLaws::whole_only, crate::proofs::BodyLaws::ack_format))]
-pub fn read_ack(b: &[u8]) -> Option<Ack>
-    ensures value { result ≡ whole_at ack_at b.now }
-    ensures found { IsWhole ack_text IsAck result b.now }
-    ensures only { IsOnlyWhole ack_text IsAck result b.now }
+#[tactic(auto, using(crate::proofs::BodyLaws::body_reads, crate::proofs::BodyLaws::ack_format))]
+pub fn read_ack(bytes: &[u8]) -> Option<Ack>
+    ensures value { result ≡ whole_at ack_at bytes.now }
+    ensures found { IsWhole ack_text IsAck result bytes.now }
+    ensures only { IsOnlyWhole ack_text IsAck result bytes.now }
 {
-    whole(read_ack_parts(known(b)))
+    whole(read_ack_parts(known(bytes)))
 }
 
 #[tactic(auto, unfolding(crate::specs::Body::gone_at))]
-fn read_gone_parts(b: &[u8]) -> Option<(Gone, &[u8])>
-    ensures { Gives result (gone_at b.now) }
+fn read_gone_parts(bytes: &[u8]) -> Option<(Gone, &[u8])>
+    ensures { Gives result (gone_at bytes.now) }
 {
-    let (group, b) = read_group(b)?;
-    let (p, b) = read_provider(b)?;
-    Some((Gone { group, p }, b))
+    let (group, bytes) = read_group(bytes)?;
+    let (p, bytes) = read_provider(bytes)?;
+    Some((Gone { group, p }, bytes))
 }
 
 /// A GONE.
-#[tactic(auto, using(crate::proofs::BodyLaws::whole_found, crate::proofs::BodyLaws::whole_only, crate::proofs::BodyLaws::gone_format))]
-pub fn read_gone(b: &[u8]) -> Option<Gone>
-    ensures value { result ≡ whole_at gone_at b.now }
-    ensures found { IsWhole gone_text IsGone result b.now }
-    ensures only { IsOnlyWhole gone_text IsGone result b.now }
+#[tactic(auto, using(crate::proofs::BodyLaws::body_reads, crate::proofs::BodyLaws::gone_format))]
+pub fn read_gone(bytes: &[u8]) -> Option<Gone>
+    ensures value { result ≡ whole_at gone_at bytes.now }
+    ensures found { IsWhole gone_text IsGone result bytes.now }
+    ensures only { IsOnlyWhole gone_text IsGone result bytes.now }
 {
-    whole(read_gone_parts(known(b)))
+    whole(read_gone_parts(known(bytes)))
 }
 
 #[tactic(auto, unfolding(crate::specs::Body::what_at))]
-fn read_what(b: &[u8]) -> Option<(What, &[u8])>
-    ensures { Gives result (what_at b.now) }
+fn read_what(bytes: &[u8]) -> Option<(What, &[u8])>
+    ensures { Gives result (what_at bytes.now) }
 {
-    let (code, b) = read_u8(b)?;
+    let (code, bytes) = read_u8(bytes)?;
     let what = match code {
         1 => What::Hats,
         2 => What::Hagsns,
@@ -365,24 +365,24 @@ fn read_what(b: &[u8]) -> Option<(What, &[u8])>
         4 => What::Hagsvote,
         _ => return None,
     };
-    Some((what, b))
+    Some((what, bytes))
 }
 
 #[tactic(auto, unfolding(crate::specs::Body::query_at))]
-fn read_query_parts(b: &[u8]) -> Option<(Query, &[u8])>
-    ensures { Gives result (query_at b.now) }
+fn read_query_parts(bytes: &[u8]) -> Option<(Query, &[u8])>
+    ensures { Gives result (query_at bytes.now) }
 {
-    let (question, b) = read_u32(b)?;
-    let (what, b) = read_what(b)?;
-    Some((Query { question, what }, b))
+    let (question, bytes) = read_u32(bytes)?;
+    let (what, bytes) = read_what(bytes)?;
+    Some((Query { question, what }, bytes))
 }
 
 /// A QUERY.
-#[tactic(auto, using(crate::proofs::BodyLaws::whole_found, crate::proofs::BodyLaws::whole_only, crate::proofs::BodyLaws::query_format))]
-pub fn read_query(b: &[u8]) -> Option<Query>
-    ensures value { result ≡ whole_at query_at b.now }
-    ensures found { IsWhole query_text IsQuery result b.now }
-    ensures only { IsOnlyWhole query_text IsQuery result b.now }
+#[tactic(auto, using(crate::proofs::BodyLaws::body_reads, crate::proofs::BodyLaws::query_format))]
+pub fn read_query(bytes: &[u8]) -> Option<Query>
+    ensures value { result ≡ whole_at query_at bytes.now }
+    ensures found { IsWhole query_text IsQuery result bytes.now }
+    ensures only { IsOnlyWhole query_text IsQuery result bytes.now }
 {
-    whole(read_query_parts(known(b)))
+    whole(read_query_parts(known(bytes)))
 }

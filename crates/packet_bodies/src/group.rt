@@ -45,35 +45,35 @@ impl<'a> GroupRef<'a> {
 }
 
 #[tactic(auto, unfolding(crate::specs::Group::group_at))]
-fn read_group_parts(b: &[u8]) -> Option<(GroupRef, &[u8])>
-    ensures { Gives result (group_at b.now) }
+fn read_group_parts(bytes: &[u8]) -> Option<(GroupRef, &[u8])>
+    ensures { Gives result (group_at bytes.now) }
 {
-    let (view, b) = read_view(b)?;
-    let (name, b) = read_name(b)?;
-    Some((GroupRef::new(view, name), b))
+    let (view, bytes) = read_view(bytes)?;
+    let (name, bytes) = read_name(bytes)?;
+    Some((GroupRef::new(view, name), bytes))
 }
 
 /// A view and a name.
-#[tactic(auto, using(rsct_packet::proofs::FormatLaws::gives_found, rsct_packet::proofs::FormatLaws::gives_only, crate::proofs::BodyLaws::group_format))]
-pub fn read_group(b: &[u8]) -> Option<(GroupRef, &[u8])>
-    ensures value { Gives result (group_at b.now) }
-    ensures found { IsFoundAt group_text IsGroup result b.now }
-    ensures only { IsOnlyAt group_text IsGroup result b.now }
+#[tactic(auto, using(rsct_packet::proofs::FormatLaws::format_reads, crate::proofs::BodyLaws::group_format))]
+pub fn read_group(bytes: &[u8]) -> Option<(GroupRef, &[u8])>
+    ensures value { Gives result (group_at bytes.now) }
+    ensures found { IsFoundAt group_text IsGroup result bytes.now }
+    ensures only { IsOnlyAt group_text IsGroup result bytes.now }
 {
-    read_group_parts(known(b))
+    read_group_parts(known(bytes))
 }
 
 /// A view and a name.
 #[tactic(auto, unfolding(crate::specs::Group::group_text))]
-pub fn put_group(out: &mut Vec<u8>, g: &GroupRef) -> Result<(), NoMemory>
-    requires coord { IsNode g.now.view.coord }
-    requires name { IsName g.now.name }
-    ensures ok { OnOk result (out.new.items ≡ out.old.items ++ group_text g.now) }
+pub fn put_group(out: &mut Vec<u8>, group: &GroupRef) -> Result<(), NoMemory>
+    requires coord { IsNode group.now.view.coord }
+    requires name { IsName group.now.name }
+    ensures ok { OnOk result (out.new.items ≡ out.old.items ++ group_text group.now) }
     ensures err { OnErr result (out.new.items ≡ out.old.items) }
 {
     let before = out.len();
-    put_view(out, g.view)?;
-    if let Err(e) = put_name(out, g.name) {
+    put_view(out, group.view)?;
+    if let Err(e) = put_name(out, group.name) {
         out.truncate(before);
         return Err(e);
     }

@@ -36,27 +36,28 @@ impl<'a> Reply<'a> {
 }
 
 #[tactic(auto, unfolding(crate::specs::Group::reply_at))]
-fn read_reply_alone(b: &[u8]) -> Option<Reply>
-    ensures { result ≡ reply_at b.now }
+fn read_reply_alone(bytes: &[u8]) -> Option<Reply>
+    ensures { result ≡ reply_at bytes.now }
 {
-    let (question, text) = read_u32(b)?;
+    let (question, text) = read_u32(bytes)?;
     Some(Reply { question, text })
 }
 
 /// A REPLY.
 #[tactic(auto, using(crate::proofs::BodyLaws::reply_found, crate::proofs::BodyLaws::reply_only))]
-pub fn read_reply(b: &[u8]) -> Option<Reply>
-    ensures value { result ≡ reply_at b.now }
-    ensures found { IsWhole reply_text IsReply result b.now }
-    ensures only { IsOnlyWhole reply_text IsReply result b.now }
+pub fn read_reply(bytes: &[u8]) -> Option<Reply>
+    ensures value { result ≡ reply_at bytes.now }
+    ensures found { IsWhole reply_text IsReply result bytes.now }
+    ensures only { IsOnlyWhole reply_text IsReply result bytes.now }
 {
-    read_reply_alone(known(b))
+    read_reply_alone(known(bytes))
 }
 
 /// A REPLY.
 #[tactic(auto, unfolding(crate::specs::Group::reply_text))]
 pub fn put_reply(out: &mut Vec<u8>, question: u32, text: &[u8]) -> Result<(), NoMemory>
-    ensures ok { OnOk result (out.new.items ≡ out.old.items ++ reply_text (record { question = question; text = text.now })) }
+    ensures ok { OnOk result (out.new.items ≡ out.old.items
+        ++ reply_text (record { question = question; text = text.now })) }
     ensures err { OnErr result (out.new.items ≡ out.old.items) }
 {
     let before = out.len();

@@ -26,88 +26,88 @@ fn settled(out: &mut Vec<u8>, before: usize, done: Result<(), NoMemory>) -> Resu
 }
 
 #[tactic(auto, unfolding(crate::specs::Body::ring_mask_text))]
-fn put_ring_mask_parts(out: &mut Vec<u8>, b: RingMask) -> Result<(), NoMemory>
-    requires { IsNode b.ring.leader }
-    ensures ok { OnOk result (out.new.items ≡ out.old.items ++ ring_mask_text b) }
+fn put_ring_mask_parts(out: &mut Vec<u8>, body: RingMask) -> Result<(), NoMemory>
+    requires { IsNode body.ring.leader }
+    ensures ok { OnOk result (out.new.items ≡ out.old.items ++ ring_mask_text body) }
     ensures err { OnErr result (take (length out.old.items) out.new.items ≡ out.old.items) }
 {
-    put_ring(out, b.ring)?;
-    put_mask(out, b.mask)
+    put_ring(out, body.ring)?;
+    put_mask(out, body.mask)
 }
 
 /// A PTC or a COMMIT.
-pub fn put_ring_mask(out: &mut Vec<u8>, b: RingMask) -> Result<(), NoMemory>
-    requires { IsNode b.ring.leader }
-    ensures ok { OnOk result (out.new.items ≡ out.old.items ++ ring_mask_text b) }
+pub fn put_ring_mask(out: &mut Vec<u8>, body: RingMask) -> Result<(), NoMemory>
+    requires { IsNode body.ring.leader }
+    ensures ok { OnOk result (out.new.items ≡ out.old.items ++ ring_mask_text body) }
     ensures err { OnErr result (out.new.items ≡ out.old.items) }
 {
     let before = out.len();
-    let done = put_ring_mask_parts(out, b);
+    let done = put_ring_mask_parts(out, body);
     settled(out, before, done)
 }
 
 #[tactic(auto, unfolding(crate::specs::Body::death_text))]
-fn put_death_parts(out: &mut Vec<u8>, b: Death) -> Result<(), NoMemory>
-    requires leader { IsNode b.ring.leader }
-    requires node { IsNode b.node }
-    ensures ok { OnOk result (out.new.items ≡ out.old.items ++ death_text b) }
+fn put_death_parts(out: &mut Vec<u8>, body: Death) -> Result<(), NoMemory>
+    requires leader { IsNode body.ring.leader }
+    requires node { IsNode body.node }
+    ensures ok { OnOk result (out.new.items ≡ out.old.items ++ death_text body) }
     ensures err { OnErr result (take (length out.old.items) out.new.items ≡ out.old.items) }
 {
-    put_ring(out, b.ring)?;
-    put_u8(out, b.node)
+    put_ring(out, body.ring)?;
+    put_u8(out, body.node)
 }
 
 /// A DEATH.
-pub fn put_death(out: &mut Vec<u8>, b: Death) -> Result<(), NoMemory>
-    requires leader { IsNode b.ring.leader }
-    requires node { IsNode b.node }
-    ensures ok { OnOk result (out.new.items ≡ out.old.items ++ death_text b) }
+pub fn put_death(out: &mut Vec<u8>, body: Death) -> Result<(), NoMemory>
+    requires leader { IsNode body.ring.leader }
+    requires node { IsNode body.node }
+    ensures ok { OnOk result (out.new.items ≡ out.old.items ++ death_text body) }
     ensures err { OnErr result (out.new.items ≡ out.old.items) }
 {
     let before = out.len();
-    let done = put_death_parts(out, b);
+    let done = put_death_parts(out, body);
     settled(out, before, done)
 }
 
 #[tactic(auto, unfolding(crate::specs::Body::prepare_text))]
-fn put_prepare_parts(out: &mut Vec<u8>, b: Prepare) -> Result<(), NoMemory>
-    requires { IsNode b.view.coord }
-    ensures ok { OnOk result (out.new.items ≡ out.old.items ++ prepare_text b) }
+fn put_prepare_parts(out: &mut Vec<u8>, body: Prepare) -> Result<(), NoMemory>
+    requires { IsNode body.view.coord }
+    ensures ok { OnOk result (out.new.items ≡ out.old.items ++ prepare_text body) }
     ensures err { OnErr result (take (length out.old.items) out.new.items ≡ out.old.items) }
 {
-    put_view(out, b.view)?;
-    put_mask(out, b.mask)
+    put_view(out, body.view)?;
+    put_mask(out, body.mask)
 }
 
 /// A PREPARE.
-pub fn put_prepare(out: &mut Vec<u8>, b: Prepare) -> Result<(), NoMemory>
-    requires { IsNode b.view.coord }
-    ensures ok { OnOk result (out.new.items ≡ out.old.items ++ prepare_text b) }
+pub fn put_prepare(out: &mut Vec<u8>, body: Prepare) -> Result<(), NoMemory>
+    requires { IsNode body.view.coord }
+    ensures ok { OnOk result (out.new.items ≡ out.old.items ++ prepare_text body) }
     ensures err { OnErr result (out.new.items ≡ out.old.items) }
 {
     let before = out.len();
-    let done = put_prepare_parts(out, b);
+    let done = put_prepare_parts(out, body);
     settled(out, before, done)
 }
 
 #[tactic(auto, unfolding(crate::specs::Body::refuse_text))]
-fn put_refuse_parts(out: &mut Vec<u8>, b: Refuse) -> Result<(), NoMemory>
-    requires { IsNode b.view.coord }
-    ensures ok { OnOk result (out.new.items ≡ out.old.items ++ refuse_text b) }
+fn put_refuse_parts(out: &mut Vec<u8>, body: Refuse) -> Result<(), NoMemory>
+    requires { IsNode body.view.coord }
+    ensures ok { OnOk result (out.new.items ≡ out.old.items ++ refuse_text body) }
     ensures err { OnErr result (take (length out.old.items) out.new.items ≡ out.old.items) }
 {
-    put_view(out, b.view)?;
-    put_u32(out, b.number)
+    put_view(out, body.view)?;
+    put_u32(out, body.number)
 }
 
 /// A REFUSE.
-pub fn put_refuse(out: &mut Vec<u8>, b: Refuse) -> Result<(), NoMemory>
-    requires { IsNode b.view.coord }
-    ensures ok { OnOk result (out.new.items ≡ out.old.items ++ refuse_text b) }
+pub fn put_refuse(out: &mut Vec<u8>, body: Refuse) -> Result<(), NoMemory>
+    requires { IsNode body.view.coord }
+    ensures ok { OnOk result (out.new.items ≡ out.old.items ++ refuse_text body) }
     ensures err { OnErr result (out.new.items ≡ out.old.items) }
 {
     let before = out.len();
-    let done = put_refuse_parts(out, b);
+    let done = put_refuse_parts(out, body);
     settled(out, before, done)
 }
 
@@ -124,75 +124,75 @@ pub fn put_report(out: &mut Vec<u8>, rows: &[ReportRow]) -> Result<(), NoMemory>
 }
 
 #[tactic(auto, unfolding(crate::specs::Body::leader_text))]
-fn put_leader_parts(out: &mut Vec<u8>, b: &Leader) -> Result<(), NoMemory>
-    requires coord { IsNode b.now.group.view.coord }
-    requires name { IsName b.now.group.name }
-    requires leader { IsNodeOrNone b.now.leader }
-    ensures ok { OnOk result (out.new.items ≡ out.old.items ++ leader_text b.now) }
+fn put_leader_parts(out: &mut Vec<u8>, body: &Leader) -> Result<(), NoMemory>
+    requires coord { IsNode body.now.group.view.coord }
+    requires name { IsName body.now.group.name }
+    requires leader { IsNodeOrNone body.now.leader }
+    ensures ok { OnOk result (out.new.items ≡ out.old.items ++ leader_text body.now) }
     ensures err { OnErr result (take (length out.old.items) out.new.items ≡ out.old.items) }
 {
-    put_group(out, &b.group)?;
-    put_u8(out, b.leader)
+    put_group(out, &body.group)?;
+    put_u8(out, body.leader)
 }
 
 /// A NAME.
-pub fn put_leader(out: &mut Vec<u8>, b: &Leader) -> Result<(), NoMemory>
-    requires coord { IsNode b.now.group.view.coord }
-    requires name { IsName b.now.group.name }
-    requires leader { IsNodeOrNone b.now.leader }
-    ensures ok { OnOk result (out.new.items ≡ out.old.items ++ leader_text b.now) }
+pub fn put_leader(out: &mut Vec<u8>, body: &Leader) -> Result<(), NoMemory>
+    requires coord { IsNode body.now.group.view.coord }
+    requires name { IsName body.now.group.name }
+    requires leader { IsNodeOrNone body.now.leader }
+    ensures ok { OnOk result (out.new.items ≡ out.old.items ++ leader_text body.now) }
     ensures err { OnErr result (out.new.items ≡ out.old.items) }
 {
     let before = out.len();
-    let done = put_leader_parts(out, b);
+    let done = put_leader_parts(out, body);
     settled(out, before, done)
 }
 
 #[tactic(auto, unfolding(crate::specs::Body::ack_text))]
-fn put_ack_parts(out: &mut Vec<u8>, b: &Ack) -> Result<(), NoMemory>
-    requires coord { IsNode b.now.group.view.coord }
-    requires name { IsName b.now.group.name }
-    ensures ok { OnOk result (out.new.items ≡ out.old.items ++ ack_text b.now) }
+fn put_ack_parts(out: &mut Vec<u8>, body: &Ack) -> Result<(), NoMemory>
+    requires coord { IsNode body.now.group.view.coord }
+    requires name { IsName body.now.group.name }
+    ensures ok { OnOk result (out.new.items ≡ out.old.items ++ ack_text body.now) }
     ensures err { OnErr result (take (length out.old.items) out.new.items ≡ out.old.items) }
 {
-    put_group(out, &b.group)?;
-    put_u32(out, b.len)
+    put_group(out, &body.group)?;
+    put_u32(out, body.len)
 }
 
 /// An ACK.
-pub fn put_ack(out: &mut Vec<u8>, b: &Ack) -> Result<(), NoMemory>
-    requires coord { IsNode b.now.group.view.coord }
-    requires name { IsName b.now.group.name }
-    ensures ok { OnOk result (out.new.items ≡ out.old.items ++ ack_text b.now) }
+pub fn put_ack(out: &mut Vec<u8>, body: &Ack) -> Result<(), NoMemory>
+    requires coord { IsNode body.now.group.view.coord }
+    requires name { IsName body.now.group.name }
+    ensures ok { OnOk result (out.new.items ≡ out.old.items ++ ack_text body.now) }
     ensures err { OnErr result (out.new.items ≡ out.old.items) }
 {
     let before = out.len();
-    let done = put_ack_parts(out, b);
+    let done = put_ack_parts(out, body);
     settled(out, before, done)
 }
 
 #[tactic(auto, unfolding(crate::specs::Body::gone_text))]
-fn put_gone_parts(out: &mut Vec<u8>, b: &Gone) -> Result<(), NoMemory>
-    requires coord { IsNode b.now.group.view.coord }
-    requires name { IsName b.now.group.name }
-    requires node { IsNode b.now.p.node }
-    ensures ok { OnOk result (out.new.items ≡ out.old.items ++ gone_text b.now) }
+fn put_gone_parts(out: &mut Vec<u8>, body: &Gone) -> Result<(), NoMemory>
+    requires coord { IsNode body.now.group.view.coord }
+    requires name { IsName body.now.group.name }
+    requires node { IsNode body.now.p.node }
+    ensures ok { OnOk result (out.new.items ≡ out.old.items ++ gone_text body.now) }
     ensures err { OnErr result (take (length out.old.items) out.new.items ≡ out.old.items) }
 {
-    put_group(out, &b.group)?;
-    put_provider(out, b.p)
+    put_group(out, &body.group)?;
+    put_provider(out, body.p)
 }
 
 /// A GONE.
-pub fn put_gone(out: &mut Vec<u8>, b: &Gone) -> Result<(), NoMemory>
-    requires coord { IsNode b.now.group.view.coord }
-    requires name { IsName b.now.group.name }
-    requires node { IsNode b.now.p.node }
-    ensures ok { OnOk result (out.new.items ≡ out.old.items ++ gone_text b.now) }
+pub fn put_gone(out: &mut Vec<u8>, body: &Gone) -> Result<(), NoMemory>
+    requires coord { IsNode body.now.group.view.coord }
+    requires name { IsName body.now.group.name }
+    requires node { IsNode body.now.p.node }
+    ensures ok { OnOk result (out.new.items ≡ out.old.items ++ gone_text body.now) }
     ensures err { OnErr result (out.new.items ≡ out.old.items) }
 {
     let before = out.len();
-    let done = put_gone_parts(out, b);
+    let done = put_gone_parts(out, body);
     settled(out, before, done)
 }
 
@@ -208,20 +208,20 @@ fn what_code(what: What) -> u8
 }
 
 #[tactic(auto, unfolding(crate::specs::Body::query_text))]
-fn put_query_parts(out: &mut Vec<u8>, b: Query) -> Result<(), NoMemory>
-    ensures ok { OnOk result (out.new.items ≡ out.old.items ++ query_text b) }
+fn put_query_parts(out: &mut Vec<u8>, body: Query) -> Result<(), NoMemory>
+    ensures ok { OnOk result (out.new.items ≡ out.old.items ++ query_text body) }
     ensures err { OnErr result (take (length out.old.items) out.new.items ≡ out.old.items) }
 {
-    put_u32(out, b.question)?;
-    put_u8(out, what_code(b.what))
+    put_u32(out, body.question)?;
+    put_u8(out, what_code(body.what))
 }
 
 /// A QUERY.
-pub fn put_query(out: &mut Vec<u8>, b: Query) -> Result<(), NoMemory>
-    ensures ok { OnOk result (out.new.items ≡ out.old.items ++ query_text b) }
+pub fn put_query(out: &mut Vec<u8>, body: Query) -> Result<(), NoMemory>
+    ensures ok { OnOk result (out.new.items ≡ out.old.items ++ query_text body) }
     ensures err { OnErr result (out.new.items ≡ out.old.items) }
 {
     let before = out.len();
-    let done = put_query_parts(out, b);
+    let done = put_query_parts(out, body);
     settled(out, before, done)
 }

@@ -12,13 +12,13 @@ use crate::rings::{
     query_body, reply_body, report_body,
 };
 use crate::views::{answer_body, install_body, prepare_body, refuse_body, taken_body};
-use adapter_ring::RingPacket;
-use client_callbacks::Why;
-use group_attr::Phases;
-use group_codec::{EntryRef, ProposalRef};
-use packet_bodies::{Ack, Gone, GroupRef, Leader, Query, Reply, ReportRow};
-use proposal_core::Vote;
-use rsct_packet::{Listed, Mask, Packet, ProtoId, ProviderId, ViewId};
+use node_state::adapter_ring::RingPacket;
+use node_state::client_callbacks::Why;
+use node_state::group_attr::Phases;
+use node_state::packet_bodies::{Ack, Gone, GroupRef, Leader, Query, Reply, ReportRow};
+use node_state::proposal_core::Vote;
+use node_state::rsct_packet::{Listed, Mask, Packet, ProtoId, ProviderId, ViewId};
+use view_exchange::group_codec::{EntryRef, ProposalRef};
 use view_exchange::{AnswerRef, InstallRef};
 
 /// What a packet says, where it stands: lists, texts and entries are parts of the datagram.
@@ -90,35 +90,35 @@ pub struct PacketRef<'a> {
 }
 
 /// The body of a packet of this kind, which is one of 1 to 23.
-fn read_body(kind: u8, b: &[u8]) -> Option<BodyRef<'_>>
+fn read_body(kind: u8, bytes: &[u8]) -> Option<BodyRef<'_>>
     requires low { 1 ≤ kind }
     requires high { kind ≤ 23 }
-    ensures { option_map body_in result ≡ body_at kind b.now }
+    ensures { option_map body_in result ≡ body_at kind bytes.now }
 {
     match kind {
-        1 => heartbeat_body(b),
-        2 => proclaim_body(b),
-        3 => join_body(b),
-        4 => ptc_body(b),
-        5 => ptc_ack_body(b),
-        6 => commit_body(b),
-        7 => death_body(b),
-        8 => report_body(b),
-        9 => prepare_body(b),
-        10 => answer_body(b),
-        11 => refuse_body(b),
-        12 => install_body(b),
-        13 => taken_body(b),
-        14 => lookup_body(b),
-        15 => leader_body(b),
-        16 => request_body(b),
-        17 => tell_body(b),
-        18 => entry_body(b),
-        19 => ack_body(b),
-        20 => vote_body(b),
-        21 => gone_body(b),
-        22 => query_body(b),
-        23 => reply_body(b),
+        1 => heartbeat_body(bytes),
+        2 => proclaim_body(bytes),
+        3 => join_body(bytes),
+        4 => ptc_body(bytes),
+        5 => ptc_ack_body(bytes),
+        6 => commit_body(bytes),
+        7 => death_body(bytes),
+        8 => report_body(bytes),
+        9 => prepare_body(bytes),
+        10 => answer_body(bytes),
+        11 => refuse_body(bytes),
+        12 => install_body(bytes),
+        13 => taken_body(bytes),
+        14 => lookup_body(bytes),
+        15 => leader_body(bytes),
+        16 => request_body(bytes),
+        17 => tell_body(bytes),
+        18 => entry_body(bytes),
+        19 => ack_body(bytes),
+        20 => vote_body(bytes),
+        21 => gone_body(bytes),
+        22 => query_body(bytes),
+        23 => reply_body(bytes),
         _ => unreachable!(),
     }
 }
@@ -127,10 +127,10 @@ impl<'a> PacketRef<'a> {
     /// The packet of a datagram, which copies nothing. None exactly where the bytes are no packet: a head, and a
     /// body of its kind's grammar that takes all that the head names.
     #[tactic(auto, unfolding(node_state::specs::Bytes::packet_of))]
-    pub fn read(b: &'a [u8]) -> Option<PacketRef<'a>>
-        ensures { option_map packet_in result ≡ packet_of b.now }
+    pub fn read(bytes: &'a [u8]) -> Option<PacketRef<'a>>
+        ensures { option_map packet_in result ≡ packet_of bytes.now }
     {
-        let packet = Packet::read(b)?;
+        let packet = Packet::read(bytes)?;
         let body = read_body(packet.head.kind, packet.body)?;
         Some(PacketRef {
             network: packet.head.network,

@@ -4,40 +4,40 @@ ghost use Rattle.node_state.specs.Bodies.{body_at};
 ghost use Rattle.packet_codec.specs.InPlace.{body_in};
 
 use crate::packet::BodyRef;
-use adapter_ring::RingPacket;
-use packet_bodies::{
+use node_state::adapter_ring::RingPacket;
+use node_state::packet_bodies::{
     read_death, read_mask_body, read_query, read_reply, read_report, read_ring_body, read_ring_mask,
 };
 
 #[tactic(auto, unfolding(node_state::specs::Bodies::body_at), using(crate::proofs::WholeLaws::whole_made))]
-pub fn heartbeat_body(b: &[u8]) -> Option<BodyRef<'_>>
-    ensures { option_map body_in result ≡ body_at 1 b.now }
+pub fn heartbeat_body(bytes: &[u8]) -> Option<BodyRef<'_>>
+    ensures { option_map body_in result ≡ body_at 1 bytes.now }
 {
-    let ring = read_ring_body(b)?;
+    let ring = read_ring_body(bytes)?;
     Some(BodyRef::Ring(RingPacket::Heartbeat { ring }))
 }
 
 #[tactic(auto, unfolding(node_state::specs::Bodies::body_at), using(crate::proofs::WholeLaws::whole_made))]
-pub fn proclaim_body(b: &[u8]) -> Option<BodyRef<'_>>
-    ensures { option_map body_in result ≡ body_at 2 b.now }
+pub fn proclaim_body(bytes: &[u8]) -> Option<BodyRef<'_>>
+    ensures { option_map body_in result ≡ body_at 2 bytes.now }
 {
-    let ring = read_ring_body(b)?;
+    let ring = read_ring_body(bytes)?;
     Some(BodyRef::Ring(RingPacket::Proclaim { ring }))
 }
 
 #[tactic(auto, unfolding(node_state::specs::Bodies::body_at), using(crate::proofs::WholeLaws::whole_made))]
-pub fn join_body(b: &[u8]) -> Option<BodyRef<'_>>
-    ensures { option_map body_in result ≡ body_at 3 b.now }
+pub fn join_body(bytes: &[u8]) -> Option<BodyRef<'_>>
+    ensures { option_map body_in result ≡ body_at 3 bytes.now }
 {
-    let mask = read_mask_body(b)?;
+    let mask = read_mask_body(bytes)?;
     Some(BodyRef::Ring(RingPacket::Join { mask }))
 }
 
 #[tactic(auto, unfolding(node_state::specs::Bodies::body_at), using(crate::proofs::WholeLaws::whole_made))]
-pub fn ptc_body(b: &[u8]) -> Option<BodyRef<'_>>
-    ensures { option_map body_in result ≡ body_at 4 b.now }
+pub fn ptc_body(bytes: &[u8]) -> Option<BodyRef<'_>>
+    ensures { option_map body_in result ≡ body_at 4 bytes.now }
 {
-    let x = read_ring_mask(b)?;
+    let x = read_ring_mask(bytes)?;
     Some(BodyRef::Ring(RingPacket::Ptc {
         ring: x.ring,
         mask: x.mask,
@@ -45,18 +45,18 @@ pub fn ptc_body(b: &[u8]) -> Option<BodyRef<'_>>
 }
 
 #[tactic(auto, unfolding(node_state::specs::Bodies::body_at), using(crate::proofs::WholeLaws::whole_made))]
-pub fn ptc_ack_body(b: &[u8]) -> Option<BodyRef<'_>>
-    ensures { option_map body_in result ≡ body_at 5 b.now }
+pub fn ptc_ack_body(bytes: &[u8]) -> Option<BodyRef<'_>>
+    ensures { option_map body_in result ≡ body_at 5 bytes.now }
 {
-    let ring = read_ring_body(b)?;
+    let ring = read_ring_body(bytes)?;
     Some(BodyRef::Ring(RingPacket::PtcAck { ring }))
 }
 
 #[tactic(auto, unfolding(node_state::specs::Bodies::body_at), using(crate::proofs::WholeLaws::whole_made))]
-pub fn commit_body(b: &[u8]) -> Option<BodyRef<'_>>
-    ensures { option_map body_in result ≡ body_at 6 b.now }
+pub fn commit_body(bytes: &[u8]) -> Option<BodyRef<'_>>
+    ensures { option_map body_in result ≡ body_at 6 bytes.now }
 {
-    let x = read_ring_mask(b)?;
+    let x = read_ring_mask(bytes)?;
     Some(BodyRef::Ring(RingPacket::Commit {
         ring: x.ring,
         mask: x.mask,
@@ -64,10 +64,10 @@ pub fn commit_body(b: &[u8]) -> Option<BodyRef<'_>>
 }
 
 #[tactic(auto, unfolding(node_state::specs::Bodies::body_at), using(crate::proofs::WholeLaws::whole_made))]
-pub fn death_body(b: &[u8]) -> Option<BodyRef<'_>>
-    ensures { option_map body_in result ≡ body_at 7 b.now }
+pub fn death_body(bytes: &[u8]) -> Option<BodyRef<'_>>
+    ensures { option_map body_in result ≡ body_at 7 bytes.now }
 {
-    let x = read_death(b)?;
+    let x = read_death(bytes)?;
     Some(BodyRef::Ring(RingPacket::Death {
         ring: x.ring,
         node: x.node,
@@ -75,22 +75,22 @@ pub fn death_body(b: &[u8]) -> Option<BodyRef<'_>>
 }
 
 #[tactic(auto, unfolding(node_state::specs::Bodies::body_at), using(crate::proofs::WholeLaws::whole_made))]
-pub fn report_body(b: &[u8]) -> Option<BodyRef<'_>>
-    ensures { option_map body_in result ≡ body_at 8 b.now }
+pub fn report_body(bytes: &[u8]) -> Option<BodyRef<'_>>
+    ensures { option_map body_in result ≡ body_at 8 bytes.now }
 {
-    Some(BodyRef::Report(read_report(b)?))
+    Some(BodyRef::Report(read_report(bytes)?))
 }
 
 #[tactic(auto, unfolding(node_state::specs::Bodies::body_at), using(crate::proofs::WholeLaws::whole_made))]
-pub fn query_body(b: &[u8]) -> Option<BodyRef<'_>>
-    ensures { option_map body_in result ≡ body_at 22 b.now }
+pub fn query_body(bytes: &[u8]) -> Option<BodyRef<'_>>
+    ensures { option_map body_in result ≡ body_at 22 bytes.now }
 {
-    Some(BodyRef::Query(read_query(b)?))
+    Some(BodyRef::Query(read_query(bytes)?))
 }
 
 #[tactic(auto, unfolding(node_state::specs::Bodies::body_at))]
-pub fn reply_body(b: &[u8]) -> Option<BodyRef<'_>>
-    ensures { option_map body_in result ≡ body_at 23 b.now }
+pub fn reply_body(bytes: &[u8]) -> Option<BodyRef<'_>>
+    ensures { option_map body_in result ≡ body_at 23 bytes.now }
 {
-    Some(BodyRef::Reply(read_reply(b)?))
+    Some(BodyRef::Reply(read_reply(bytes)?))
 }

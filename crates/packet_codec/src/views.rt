@@ -4,15 +4,15 @@ ghost use Rattle.node_state.specs.Bodies.{body_at};
 ghost use Rattle.packet_codec.specs.InPlace.{body_in};
 
 use crate::packet::BodyRef;
-use packet_bodies::{read_prepare, read_refuse, read_view_body};
-use rsct_packet::read_view;
+use node_state::packet_bodies::{read_prepare, read_refuse, read_view_body};
+use node_state::rsct_packet::read_view;
 use view_exchange::{AnswerRef, InstallRef};
 
 #[tactic(auto, unfolding(node_state::specs::Bodies::body_at), using(crate::proofs::WholeLaws::whole_made))]
-pub fn prepare_body(b: &[u8]) -> Option<BodyRef<'_>>
-    ensures { option_map body_in result ≡ body_at 9 b.now }
+pub fn prepare_body(bytes: &[u8]) -> Option<BodyRef<'_>>
+    ensures { option_map body_in result ≡ body_at 9 bytes.now }
 {
-    let x = read_prepare(b)?;
+    let x = read_prepare(bytes)?;
     Some(BodyRef::Prepare {
         view: x.view,
         mask: x.mask,
@@ -20,19 +20,19 @@ pub fn prepare_body(b: &[u8]) -> Option<BodyRef<'_>>
 }
 
 #[tactic(auto, unfolding(node_state::specs::Bodies::body_at), using(crate::proofs::WholeLaws::whole_made))]
-pub fn answer_body(b: &[u8]) -> Option<BodyRef<'_>>
-    ensures { option_map body_in result ≡ body_at 10 b.now }
+pub fn answer_body(bytes: &[u8]) -> Option<BodyRef<'_>>
+    ensures { option_map body_in result ≡ body_at 10 bytes.now }
 {
-    let (view, b) = read_view(b)?;
-    let answer = AnswerRef::read(b)?;
+    let (view, bytes) = read_view(bytes)?;
+    let answer = AnswerRef::read(bytes)?;
     Some(BodyRef::Answer { view, answer })
 }
 
 #[tactic(auto, unfolding(node_state::specs::Bodies::body_at), using(crate::proofs::WholeLaws::whole_made))]
-pub fn refuse_body(b: &[u8]) -> Option<BodyRef<'_>>
-    ensures { option_map body_in result ≡ body_at 11 b.now }
+pub fn refuse_body(bytes: &[u8]) -> Option<BodyRef<'_>>
+    ensures { option_map body_in result ≡ body_at 11 bytes.now }
 {
-    let x = read_refuse(b)?;
+    let x = read_refuse(bytes)?;
     Some(BodyRef::Refuse {
         view: x.view,
         number: x.number,
@@ -40,15 +40,15 @@ pub fn refuse_body(b: &[u8]) -> Option<BodyRef<'_>>
 }
 
 #[tactic(auto, unfolding(node_state::specs::Bodies::body_at), using(crate::proofs::WholeLaws::whole_made, crate::proofs::WholeLaws::whole_same))]
-pub fn install_body(b: &[u8]) -> Option<BodyRef<'_>>
-    ensures { option_map body_in result ≡ body_at 12 b.now }
+pub fn install_body(bytes: &[u8]) -> Option<BodyRef<'_>>
+    ensures { option_map body_in result ≡ body_at 12 bytes.now }
 {
-    Some(BodyRef::Install(InstallRef::read(b)?))
+    Some(BodyRef::Install(InstallRef::read(bytes)?))
 }
 
 #[tactic(auto, unfolding(node_state::specs::Bodies::body_at), using(crate::proofs::WholeLaws::whole_made))]
-pub fn taken_body(b: &[u8]) -> Option<BodyRef<'_>>
-    ensures { option_map body_in result ≡ body_at 13 b.now }
+pub fn taken_body(bytes: &[u8]) -> Option<BodyRef<'_>>
+    ensures { option_map body_in result ≡ body_at 13 bytes.now }
 {
-    Some(BodyRef::Taken(read_view_body(b)?))
+    Some(BodyRef::Taken(read_view_body(bytes)?))
 }

@@ -1,39 +1,39 @@
 //! Writing packets: each is taken to the end of `out` by its one spelling.
 ghost use Rattle.std.specs.Prelude.{◌≡◌, ◌++◌, OnOk, OnErr, IfOk};
-ghost use Rattle.rsct_packet.specs.Fields.{u8_text, u16_text, u32_text, provider_text, proto_text, bytes_text, AreShort, IsNode};
-ghost use Rattle.group_attr.specs.Codec.{phases_number};
-ghost use Rattle.proposal_core.specs.ProposalCodec.{proposal_text, IsProposal};
-ghost use Rattle.proposal_core.specs.EntryCodec.{entry_text, IsEntry};
-ghost use Rattle.rsct_packet.specs.Format.{OptionFits, optional_text};
+ghost use Rattle.node_state.specs.rsct_packet.Fields.{u8_text, u16_text, u32_text, provider_text, proto_text, bytes_text, AreShort, IsNode};
+ghost use Rattle.node_state.specs.group_attr.Codec.{phases_number};
+ghost use Rattle.node_state.specs.proposal_core.ProposalCodec.{proposal_text, IsProposal};
+ghost use Rattle.node_state.specs.proposal_core.EntryCodec.{entry_text, IsEntry};
+ghost use Rattle.node_state.specs.rsct_packet.Format.{OptionFits, optional_text};
 ghost use Rattle.node_state.specs.Bodies.{why_code, why_data_text, vote_number, kind_of, ring_kind, view_kind, ring_body_text, view_body_text, named_text, body_text};
 ghost use Rattle.node_state.specs.Bytes.{head_of, bytes_of};
 ghost use Rattle.packet_codec.specs.Spelled.{IsRingBody, IsViewBody, IsWhy, IsBody, IsWritable, IsSpelled};
 
-use adapter_ring::RingPacket;
-use client_callbacks::Why;
-use group_attr::Phases;
-use group_codec::{phases_number, put_entry, put_proposal};
-use node_state::{Body, Packet};
-use packet_bodies::{
+use node_state::adapter_ring::RingPacket;
+use node_state::client_callbacks::Why;
+use node_state::group_attr::Phases;
+use node_state::packet_bodies::{
     Ack, Death, Gone, GroupRef, Leader, Prepare, Query, Refuse, RingMask, put_ack, put_death,
     put_gone, put_group, put_leader, put_prepare, put_query, put_refuse, put_reply, put_report,
     put_ring_mask,
 };
-use proposal_core::{Entry, Proposal, Vote, optional_bytes};
-use rsct_packet::{
+use node_state::proposal_core::{Entry, Proposal, Vote, optional_bytes};
+use node_state::rsct_packet::{
     Head, Name, NoMemory, ProtoId, ProviderId, Text, ViewId, put_mask, put_optional_bytes,
     put_proto, put_provider, put_ring, put_u8, put_u16, put_u32, put_view, write_head, write_head2,
 };
+use node_state::view_state::ViewPacket;
+use node_state::{Body, Packet};
 use std::alloc::Global;
+use view_exchange::group_codec::{phases_number, put_entry, put_proposal};
 use view_exchange::{put_answer, put_install};
-use view_state::ViewPacket;
 
-#[tactic(auto, unfolding(packet_bodies::specs::Body::ring_mask_text, packet_bodies::specs::Body::death_text))]
-fn put_ring_packet(out: &mut Vec<u8>, x: RingPacket) -> Result<(), NoMemory>
-    requires { IsRingBody x }
-    ensures { OnOk result (out.new.items ≡ out.old.items ++ ring_body_text x) }
+#[tactic(auto, unfolding(crate::proofs::Below::ring_mask_text, crate::proofs::Below::death_text))]
+fn put_ring_packet(out: &mut Vec<u8>, packet: RingPacket) -> Result<(), NoMemory>
+    requires { IsRingBody packet }
+    ensures { OnOk result (out.new.items ≡ out.old.items ++ ring_body_text packet) }
 {
-    match x {
+    match packet {
         RingPacket::Heartbeat { ring } => put_ring(out, ring),
         RingPacket::Proclaim { ring } => put_ring(out, ring),
         RingPacket::Join { mask } => put_mask(out, mask),
@@ -44,12 +44,12 @@ fn put_ring_packet(out: &mut Vec<u8>, x: RingPacket) -> Result<(), NoMemory>
     }
 }
 
-#[tactic(auto, unfolding(packet_bodies::specs::Body::prepare_text, packet_bodies::specs::Body::refuse_text))]
-fn put_view_packet(alloc: Global, out: &mut Vec<u8>, x: &ViewPacket) -> Result<(), NoMemory>
-    requires { IsViewBody x.now }
-    ensures { OnOk result (out.new.items ≡ out.old.items ++ view_body_text x.now) }
+#[tactic(auto, unfolding(crate::proofs::Below::prepare_text, crate::proofs::Below::refuse_text))]
+fn put_view_packet(alloc: Global, out: &mut Vec<u8>, packet: &ViewPacket) -> Result<(), NoMemory>
+    requires { IsViewBody packet.now }
+    ensures { OnOk result (out.new.items ≡ out.old.items ++ view_body_text packet.now) }
 {
-    match x {
+    match packet {
         ViewPacket::Prepare { view, mask } => put_prepare(
             out,
             Prepare {
@@ -124,7 +124,9 @@ fn put_filled(
 ) -> Result<(), NoMemory>
     requires value { OptionFits AreShort value.now }
     requires message { OptionFits AreShort message.now }
-    ensures { OnOk result (out.new.items ≡ out.old.items ++ (u8_text (vote_number vote) ++ (optional_text bytes_text value.now ++ optional_text bytes_text message.now))) }
+    ensures { OnOk result (out.new.items ≡ out.old.items
+        ++ (u8_text (vote_number vote) ++ (optional_text bytes_text value.now
+        ++ optional_text bytes_text message.now))) }
 {
     put_u8(out, vote_number(vote))?;
     put_optional_bytes(out, optional_bytes(value))?;
@@ -143,29 +145,38 @@ fn put_named(out: &mut Vec<u8>, view: ViewId, name: &Name) -> Result<(), NoMemor
 fn put_asked(
     alloc: Global,
     out: &mut Vec<u8>,
-    p: ProviderId,
-    r: u32,
+    provider: ProviderId,
+    request: u32,
     phases: Phases,
     proposal: &Proposal,
 ) -> Result<(), NoMemory>
-    requires node { IsNode p.node }
+    requires node { IsNode provider.node }
     requires proposal { IsProposal proposal.now }
-    ensures { OnOk result (out.new.items ≡ out.old.items ++ (provider_text p ++ (u32_text r ++ (u8_text (phases_number phases) ++ proposal_text proposal.now)))) }
+    ensures { OnOk result (out.new.items ≡ out.old.items
+        ++ (provider_text provider ++ (u32_text request
+        ++ (u8_text (phases_number phases) ++ proposal_text proposal.now)))) }
 {
-    put_provider(out, p)?;
-    put_u32(out, r)?;
+    put_provider(out, provider)?;
+    put_u32(out, request)?;
     put_u8(out, phases_number(phases))?;
     put_proposal(alloc, out, proposal)
 }
 
 /// What a refusal has behind its group.
-fn put_told(out: &mut Vec<u8>, p: ProviderId, r: u32, why: &Why) -> Result<(), NoMemory>
-    requires node { IsNode p.node }
+fn put_told(
+    out: &mut Vec<u8>,
+    provider: ProviderId,
+    request: u32,
+    why: &Why,
+) -> Result<(), NoMemory>
+    requires node { IsNode provider.node }
     requires why { IsWhy why.now }
-    ensures { OnOk result (out.new.items ≡ out.old.items ++ (provider_text p ++ (u32_text r ++ (u8_text (why_code why.now) ++ why_data_text why.now)))) }
+    ensures { OnOk result (out.new.items ≡ out.old.items
+        ++ (provider_text provider ++ (u32_text request
+        ++ (u8_text (why_code why.now) ++ why_data_text why.now)))) }
 {
-    put_provider(out, p)?;
-    put_u32(out, r)?;
+    put_provider(out, provider)?;
+    put_u32(out, request)?;
     put_u8(out, why_code(why))?;
     put_why_data(out, why)
 }
@@ -179,7 +190,8 @@ fn put_placed(
     entry: &Entry,
 ) -> Result<(), NoMemory>
     requires { IsEntry entry.now }
-    ensures { OnOk result (out.new.items ≡ out.old.items ++ (u32_text place ++ (u32_text stable ++ entry_text entry.now))) }
+    ensures { OnOk result (out.new.items ≡ out.old.items
+        ++ (u32_text place ++ (u32_text stable ++ entry_text entry.now))) }
 {
     put_u32(out, place)?;
     put_u32(out, stable)?;
@@ -187,18 +199,24 @@ fn put_placed(
 }
 
 /// The phase of a protocol that a voter votes in.
-fn put_voter(out: &mut Vec<u8>, proto: ProtoId, phase: u16, p: ProviderId) -> Result<(), NoMemory>
+fn put_voter(
+    out: &mut Vec<u8>,
+    proto: ProtoId,
+    phase: u16,
+    provider: ProviderId,
+) -> Result<(), NoMemory>
     requires coord { IsNode proto.view.coord }
-    requires node { IsNode p.node }
-    ensures { OnOk result (out.new.items ≡ out.old.items ++ (proto_text proto ++ (u16_text phase ++ provider_text p))) }
+    requires node { IsNode provider.node }
+    ensures { OnOk result (out.new.items ≡ out.old.items
+        ++ (proto_text proto ++ (u16_text phase ++ provider_text provider))) }
 {
     put_proto(out, proto)?;
     put_u16(out, phase)?;
-    put_provider(out, p)
+    put_provider(out, provider)
 }
 
 /// The body of a packet.
-#[tactic(auto, unfolding(node_state::specs::Bodies::body_text, packet_bodies::specs::Body::leader_text, packet_bodies::specs::Body::ack_text, packet_bodies::specs::Body::gone_text, packet_bodies::specs::Body::query_text, packet_bodies::specs::Group::reply_text))]
+#[tactic(auto, unfolding(node_state::specs::Bodies::body_text, crate::proofs::Below::leader_text, crate::proofs::Below::ack_text, crate::proofs::Below::gone_text, crate::proofs::Below::query_text, crate::proofs::Below::reply_text))]
 fn put_body(alloc: Global, out: &mut Vec<u8>, body: &Body) -> Result<(), NoMemory>
     requires { IsBody body.now }
     ensures { OnOk result (out.new.items ≡ out.old.items ++ body_text body.now) }
@@ -285,10 +303,10 @@ fn put_body(alloc: Global, out: &mut Vec<u8>, body: &Body) -> Result<(), NoMemor
     }
 }
 
-fn ring_kind(x: &RingPacket) -> u8
-    ensures { result ≡ ring_kind x.now }
+fn ring_kind(packet: &RingPacket) -> u8
+    ensures { result ≡ ring_kind packet.now }
 {
-    match x {
+    match packet {
         RingPacket::Heartbeat { .. } => 1,
         RingPacket::Proclaim { .. } => 2,
         RingPacket::Join { .. } => 3,
@@ -299,10 +317,10 @@ fn ring_kind(x: &RingPacket) -> u8
     }
 }
 
-fn view_kind(x: &ViewPacket) -> u8
-    ensures { result ≡ view_kind x.now }
+fn view_kind(packet: &ViewPacket) -> u8
+    ensures { result ≡ view_kind packet.now }
 {
-    match x {
+    match packet {
         ViewPacket::Prepare { .. } => 9,
         ViewPacket::Answer { .. } => 10,
         ViewPacket::Refuse { .. } => 11,
@@ -332,36 +350,36 @@ fn kind_of(body: &Body) -> u8
 }
 
 /// The head of a packet.
-pub fn head_of(p: &Packet) -> Head
-    ensures { result ≡ head_of p.now }
+pub fn head_of(packet: &Packet) -> Head
+    ensures { result ≡ head_of packet.now }
 {
     Head {
-        kind: kind_of(&p.body),
-        network: p.network,
-        from: p.from,
-        to: p.to,
-        inc: p.inc,
+        kind: kind_of(&packet.body),
+        network: packet.network,
+        from: packet.from,
+        to: packet.to,
+        inc: packet.inc,
     }
 }
 
 /// The spelling, in memory of its own.
 #[tactic(auto, unfolding(node_state::specs::Bytes::bytes_of))]
-fn spelled(alloc: Global, p: &Packet) -> Result<Vec<u8>, NoMemory>
-    requires { IsWritable p.now }
-    ensures bytes { IfOk result (λ v. v.items ≡ bytes_of p.now) }
-    ensures spelled { IfOk result (λ _. IsSpelled p.now) }
+fn spelled(alloc: Global, packet: &Packet) -> Result<Vec<u8>, NoMemory>
+    requires { IsWritable packet.now }
+    ensures bytes { IfOk result (λ v. v.items ≡ bytes_of packet.now) }
+    ensures spelled { IfOk result (λ _. IsSpelled packet.now) }
 {
     let mut body = Vec::new(alloc);
-    put_body(alloc, &mut body, &p.body)?;
+    put_body(alloc, &mut body, &packet.body)?;
     if body.len() > u32::MAX as usize {
         return Err(NoMemory);
     }
-    let head = head_of(p);
+    let head = head_of(packet);
     let mut out = Vec::new(alloc);
-    if p.level == 1 {
+    if packet.level == 1 {
         write_head(&mut out, &head, body.len() as u32)?;
     } else {
-        write_head2(&mut out, &head, p.domain, body.len() as u32)?;
+        write_head2(&mut out, &head, packet.domain, body.len() as u32)?;
     }
     out.extend_from_slice(body.as_slice())?;
     Ok(out)
@@ -370,13 +388,13 @@ fn spelled(alloc: Global, p: &Packet) -> Result<Vec<u8>, NoMemory>
 /// Takes a packet's one spelling to the end of `out`, and leaves `out` as before where memory has run out. The packet
 /// must have a head within its limits, and a body by the grammar of its kind; one whose body 32 bits cannot count
 /// counts as want of memory.
-pub fn write_packet(alloc: Global, out: &mut Vec<u8>, p: &Packet) -> Result<(), NoMemory>
-    requires { IsWritable p.now }
-    ensures ok { OnOk result (out.new.items ≡ out.old.items ++ bytes_of p.now) }
-    ensures spelled { OnOk result (IsSpelled p.now) }
+pub fn write_packet(alloc: Global, out: &mut Vec<u8>, packet: &Packet) -> Result<(), NoMemory>
+    requires { IsWritable packet.now }
+    ensures ok { OnOk result (out.new.items ≡ out.old.items ++ bytes_of packet.now) }
+    ensures spelled { OnOk result (IsSpelled packet.now) }
     ensures err { OnErr result (out.new.items ≡ out.old.items) }
 {
-    let text = spelled(alloc, p)?;
+    let text = spelled(alloc, packet)?;
     out.extend_from_slice(text.as_slice())?;
     Ok(())
 }

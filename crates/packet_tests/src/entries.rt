@@ -1,13 +1,13 @@
 //! The spelling of a proposal and of an entry of each kind, and the calls that take memory.
-ghost use Rattle.rsct_packet.specs.Fields.{AreShort};
-ghost use Rattle.proposal_core.specs.ProposalCodec.{IsProposal};
-ghost use Rattle.proposal_core.specs.EntryCodec.{IsEntry};
+ghost use Rattle.packet_codec.specs.rsct_packet.Fields.{AreShort};
+ghost use Rattle.view_bases.specs.proposal_core.ProposalCodec.{IsProposal};
+ghost use Rattle.view_bases.specs.proposal_core.EntryCodec.{IsEntry};
 
-use group_codec::{put_entry, put_proposal, read_entry, read_proposal};
-use proposal_core::{Entry, Proposal, copy_text, optional_bytes, optional_text_of};
-use rsct_packet::Text;
+use packet_codec::group_codec::{put_entry, put_proposal, read_entry, read_proposal};
+use packet_codec::rsct_packet::Text;
 use std::alloc::Global;
 use std::process::Abort;
+use view_bases::proposal_core::{Entry, Proposal, copy_text, optional_bytes, optional_text_of};
 
 // 1.1.1.1 joins with empty attributes, at length 7 of the source's list
 const JOIN: [u8; 28] = [
@@ -82,10 +82,10 @@ fn proposal_of(rt: &impl Abort, alloc: Global, spelled: &[u8]) -> Proposal
 }
 
 /// The spelling of an equal proposal.
-fn proposal_bytes(rt: &impl Abort, alloc: Global, x: &Proposal) -> Vec<u8>
-    requires { IsProposal x.now }
+fn proposal_bytes(rt: &impl Abort, alloc: Global, proposal: &Proposal) -> Vec<u8>
+    requires { IsProposal proposal.now }
 {
-    let copy = x.copy(alloc).expect(rt, "memory");
+    let copy = proposal.copy(alloc).expect(rt, "memory");
     let mut out = Vec::new(alloc);
     put_proposal(alloc, &mut out, &copy).expect(rt, "memory");
     out
@@ -120,10 +120,10 @@ pub fn entry_of(rt: &impl Abort, alloc: Global, spelled: &[u8]) -> Entry
 }
 
 /// The spelling of an equal entry.
-fn entry_bytes(rt: &impl Abort, alloc: Global, e: &Entry) -> Vec<u8>
-    requires { IsEntry e.now }
+fn entry_bytes(rt: &impl Abort, alloc: Global, entry: &Entry) -> Vec<u8>
+    requires { IsEntry entry.now }
 {
-    let copy = e.copy(alloc).expect(rt, "memory");
+    let copy = entry.copy(alloc).expect(rt, "memory");
     let mut out = Vec::new(alloc);
     put_entry(alloc, &mut out, &copy).expect(rt, "memory");
     out

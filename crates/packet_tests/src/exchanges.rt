@@ -1,10 +1,10 @@
 //! Answers, installs and bases.
 use crate::samples::{FIRST, INSTALL, SECOND};
-use rsct_packet::{List, Mask, NoMemory};
+use packet_codec::rsct_packet::{List, Mask, NoMemory};
+use packet_codec::view_exchange::{AnswerRef, add_answer, put_install, read_install};
 use std::alloc::Global;
 use std::process::Abort;
-use view_exchange::{AnswerRef, add_answer, put_install, read_install};
-use view_state::{Answer, Base, Exchange, Install};
+use view_bases::view_state::{Answer, Base, Exchange, Install};
 
 /// From 1.1.1; one part, `db`, from its start on. Its state has the member 1.1.7.1, the empty value and one-phase
 /// attributes, and its one entry is a leave of that, decided at once, behind its length.
@@ -30,18 +30,18 @@ fn asking(alloc: Global) -> Exchange {
 fn takes(
     rt: &impl Abort,
     alloc: Global,
-    x: &mut Exchange,
+    exchange: &mut Exchange,
     node: u8,
     inc: u32,
     bytes: &[u8],
 ) -> bool {
     let answer = AnswerRef::read(bytes).expect(rt, "an answer");
-    add_answer(x, alloc, node, inc, &answer).expect(rt, "memory")
+    add_answer(exchange, alloc, node, inc, &answer).expect(rt, "memory")
 }
 
 /// Are these the nodes that have not answered?
-fn are_unanswered(alloc: Global, x: &Exchange, nodes: &[u8]) -> Result<bool, NoMemory> {
-    Ok(x.unanswered(alloc)?.as_slice() == nodes)
+fn are_unanswered(alloc: Global, exchange: &Exchange, nodes: &[u8]) -> Result<bool, NoMemory> {
+    Ok(exchange.unanswered(alloc)?.as_slice() == nodes)
 }
 
 #[test]
@@ -64,20 +64,20 @@ fn of_two_answers(rt: &impl Abort, alloc: Global) -> Install {
 }
 
 /// Is the list of `db` in 1.1.1 carried, with two entries, and none of 2.1.1?
-fn carries_two_entries(i: &Install) -> bool {
-    i.len(FIRST, b"db") == Some(2)
-        && i.len(SECOND, b"db").is_none()
-        && i.entry(FIRST, b"db", 1).is_some()
-        && i.entry(FIRST, b"db", 2).is_none()
+fn carries_two_entries(install: &Install) -> bool {
+    install.len(FIRST, b"db") == Some(2)
+        && install.len(SECOND, b"db").is_none()
+        && install.entry(FIRST, b"db", 1).is_some()
+        && install.entry(FIRST, b"db", 2).is_none()
 }
 
 /// Are nodes 1 and 2, which come from 1.1.1, the members of 2.1.1?
-fn has_two_members(i: &Install) -> bool {
-    i.view() == SECOND
-        && i.members().len() == 2
-        && i.has_member(2, 4)
-        && i.came_from(2) == Some(FIRST)
-        && i.came_from(3).is_none()
+fn has_two_members(install: &Install) -> bool {
+    install.view() == SECOND
+        && install.members().len() == 2
+        && install.has_member(2, 4)
+        && install.came_from(2) == Some(FIRST)
+        && install.came_from(3).is_none()
 }
 
 #[test]
@@ -86,8 +86,8 @@ fn the_longest_list_is_installed(rt: HostRuntime) {
 }
 
 /// An equal install.
-fn copied(rt: &impl Abort, alloc: Global, i: &Install) -> Install {
-    i.copy(alloc).expect(rt, "memory")
+fn copied(rt: &impl Abort, alloc: Global, install: &Install) -> Install {
+    install.copy(alloc).expect(rt, "memory")
 }
 
 #[test]
@@ -129,8 +129,8 @@ fn asking_itself(rt: &impl Abort, alloc: Global) -> Exchange {
 }
 
 /// How many members the install of an exchange has.
-fn count_members(rt: &impl Abort, alloc: Global, x: Exchange) -> usize {
-    x.install(alloc).expect(rt, "memory").members().len()
+fn count_members(rt: &impl Abort, alloc: Global, exchange: Exchange) -> usize {
+    exchange.install(alloc).expect(rt, "memory").members().len()
 }
 
 #[test]

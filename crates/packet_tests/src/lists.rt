@@ -1,12 +1,12 @@
 //! The spellings of states, and the calls that take memory.
-ghost use Rattle.proposal_core.specs.StateCodec.{IsState};
+ghost use Rattle.view_bases.specs.proposal_core.StateCodec.{IsState};
 
 use crate::entries::entry_of;
-use group_codec::{put_state, read_state};
-use proposal_core::{Entry, GroupList, GroupState};
-use rsct_packet::{ProviderId, ViewId};
+use packet_codec::group_codec::{put_state, read_state};
+use packet_codec::rsct_packet::{ProviderId, ViewId};
 use std::alloc::Global;
 use std::process::Abort;
+use view_bases::proposal_core::{Entry, GroupList, GroupState};
 
 const VIEW: ViewId = ViewId {
     number: 1,
@@ -58,7 +58,7 @@ const APPROVE: [u8; 31] = [
 ];
 
 /// The list of a group that nobody has joined.
-#[tactic(auto, unfolding(proposal_core::specs::Fold::joiners_fit, proposal_core::specs::Fold::joiners_fit_at))]
+#[tactic(auto, unfolding(crate::proofs::Below::joiners_fit, crate::proofs::Below::joiners_fit_at))]
 fn new_list(alloc: Global) -> GroupList {
     GroupList::new(alloc, GroupState::empty(alloc))
 }
@@ -80,10 +80,10 @@ fn is_whole(spelled: &[u8]) -> bool {
 }
 
 /// The spelling of an equal state.
-fn state_bytes(rt: &impl Abort, alloc: Global, s: &GroupState) -> Vec<u8>
-    requires { IsState s.now }
+fn state_bytes(rt: &impl Abort, alloc: Global, state: &GroupState) -> Vec<u8>
+    requires { IsState state.now }
 {
-    let copy = s.copy(alloc).expect(rt, "memory");
+    let copy = state.copy(alloc).expect(rt, "memory");
     let mut out = Vec::new(alloc);
     put_state(alloc, &mut out, &copy).expect(rt, "memory");
     out
@@ -103,11 +103,11 @@ fn states_are_spelled_and_read(rt: HostRuntime) {
 }
 
 /// The state of a group after its first entry.
-#[tactic(auto, unfolding(proposal_core::specs::Fold::joiners_fit, proposal_core::specs::Fold::joiners_fit_at))]
-fn first_state(rt: &impl Abort, alloc: Global, e: &Entry) -> GroupState {
+#[tactic(auto, unfolding(crate::proofs::Below::joiners_fit, crate::proofs::Below::joiners_fit_at))]
+fn first_state(rt: &impl Abort, alloc: Global, entry: &Entry) -> GroupState {
     let mut s = GroupState::empty(alloc);
-    assert!(rt; s.fits(e));
-    s.apply(alloc, VIEW, 0, e).expect(rt, "memory");
+    assert!(rt; s.fits(entry));
+    s.apply(alloc, VIEW, 0, entry).expect(rt, "memory");
     s
 }
 
@@ -127,9 +127,9 @@ fn put(rt: &impl Abort, alloc: Global, list: &mut GroupList, spelled: &[u8]) -> 
 }
 
 /// Are these the voters of what runs at the end of the list?
-fn are_voters(rt: &impl Abort, alloc: Global, list: &GroupList, ps: &[ProviderId]) -> bool {
+fn are_voters(rt: &impl Abort, alloc: Global, list: &GroupList, providers: &[ProviderId]) -> bool {
     let voters = list.state().voters(alloc).expect(rt, "memory");
-    voters.as_slice() == ps
+    voters.as_slice() == providers
 }
 
 /// The value at the end of the list.

@@ -2,14 +2,14 @@
 ghost use Rattle.std.specs.Prelude.{[]};
 
 use crate::samples::{FIRST, INSTALL, SECOND};
-use proposal_core::{GroupList, GroupState};
-use rsct_packet::{List, Mask, Member, NoMemory, ViewId};
+use packet_codec::rsct_packet::{List, Mask, Member, NoMemory, ViewId};
+use packet_codec::view_exchange::{AnswerRef, read_install};
 use std::alloc::Global;
 use std::process::Abort;
+use view_bases::proposal_core::{GroupList, GroupState};
+use view_bases::view_state::{Install, Parts, ViewPacket, Views};
 use view_bases::{group_at, lacking_of};
 use view_core::{OwnLists, ViewEvent, ViewOut, take_event};
-use view_exchange::{AnswerRef, read_install};
-use view_state::{Install, Parts, ViewPacket, Views};
 
 /// A node without lists.
 struct Nothing;
@@ -49,20 +49,22 @@ fn alone(rt: &impl Abort, alloc: Global, node: u8) -> Views {
 }
 
 /// What an event gives out.
-fn step(rt: &impl Abort, alloc: Global, views: &mut Views, e: ViewEvent) -> ViewOut {
+fn step(rt: &impl Abort, alloc: Global, views: &mut Views, event: ViewEvent) -> ViewOut {
     let mut out = ViewOut::new(alloc);
-    take_event(views, alloc, e, &Nothing, &mut out).expect(rt, "memory");
+    take_event(views, alloc, event, &Nothing, &mut out).expect(rt, "memory");
     out
 }
 
 /// How many packets an event gives out.
-fn sends(rt: &impl Abort, alloc: Global, views: &mut Views, e: ViewEvent) -> usize {
-    step(rt, alloc, views, e).sends.len()
+fn sends(rt: &impl Abort, alloc: Global, views: &mut Views, event: ViewEvent) -> usize {
+    step(rt, alloc, views, event).sends.len()
 }
 
 /// The install that an event gives out.
-fn installs(rt: &impl Abort, alloc: Global, views: &mut Views, e: ViewEvent) -> Install {
-    step(rt, alloc, views, e).install.expect(rt, "an install")
+fn installs(rt: &impl Abort, alloc: Global, views: &mut Views, event: ViewEvent) -> Install {
+    step(rt, alloc, views, event)
+        .install
+        .expect(rt, "an install")
 }
 
 /// Nodes 1 and 2 are asked for a view.
@@ -194,14 +196,14 @@ fn an_install_goes_out_until_it_is_taken(rt: HostRuntime) {
 }
 
 /// The list of a group that nobody has joined.
-#[tactic(auto, unfolding(proposal_core::specs::Fold::joiners_fit, proposal_core::specs::Fold::joiners_fit_at))]
+#[tactic(auto, unfolding(crate::proofs::Below::joiners_fit, crate::proofs::Below::joiners_fit_at))]
 fn new_list(alloc: Global) -> GroupList {
     GroupList::new(alloc, GroupState::empty(alloc))
 }
 
 /// How many entries a list lacks of the one of `db` that comes from 1.1.1.
-fn lacking(alloc: Global, i: &Install, list: &GroupList) -> Result<Option<usize>, NoMemory> {
-    let Some(part) = i.part(FIRST, b"db") else {
+fn lacking(alloc: Global, install: &Install, list: &GroupList) -> Result<Option<usize>, NoMemory> {
+    let Some(part) = install.part(FIRST, b"db") else {
         return Ok(None);
     };
     match lacking_of(part, alloc, FIRST, list)? {
@@ -211,8 +213,8 @@ fn lacking(alloc: Global, i: &Install, list: &GroupList) -> Result<Option<usize>
 }
 
 /// Is `db` its only group?
-fn has_one_group(i: &Install) -> bool {
-    group_at(i, 0) == Some(b"db".as_slice()) && group_at(i, 1).is_none()
+fn has_one_group(install: &Install) -> bool {
+    group_at(install, 0) == Some(b"db".as_slice()) && group_at(install, 1).is_none()
 }
 
 /// The install of the sample's bytes.

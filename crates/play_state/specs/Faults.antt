@@ -1,10 +1,10 @@
 -- Why a play ends early.
-use Rattle.play_state.specs.declared.fault.WorldFault.{WorldFault}
-use Rattle.play_state.specs.declared.fault.WorldFault.TheVariants as world_fault
-use Rattle.play_state.specs.declared.faults.PlayFault.{PlayFault}
-use Rattle.play_state.specs.declared.faults.PlayFault.TheVariants as play_fault
-use Rattle.play_state.specs.declared.faults.PutFault.{PutFault}
-use Rattle.play_state.specs.declared.faults.PutFault.TheVariants as put_fault
+use Rattle.play_state.specs.declared.world_fault.WorldFault.{WorldFault}
+use Rattle.play_state.specs.declared.world_fault.WorldFault.TheVariants as world_fault
+use Rattle.play_state.specs.declared.play_fault.PlayFault.{PlayFault}
+use Rattle.play_state.specs.declared.play_fault.PlayFault.TheVariants as play_fault
+use Rattle.play_state.specs.declared.play_fault.PutFault.{PutFault}
+use Rattle.play_state.specs.declared.play_fault.PutFault.TheVariants as put_fault
 
 abbrev pub fault_of_world : WorldFault → PlayFault
 fault_of_world world_fault.NoMemory = play_fault.NoMemory

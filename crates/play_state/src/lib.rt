@@ -3,13 +3,15 @@
 #![tactic(auto)]
 
 mod cuts;
-mod fault;
-mod faults;
-mod posting;
+mod play_fault;
+mod sent_bytes;
 mod starts;
+mod world_fault;
 
 pub use cuts::Cuts;
-pub use fault::WorldFault;
-pub use faults::{PlayFault, PutFault};
-pub use posting::post_all;
+pub use play_fault::{PlayFault, PutFault};
+pub use sent_bytes::post_all;
 pub use starts::{Started, Starts};
+pub use world_fault::WorldFault;
+pub use world_packets;
+pub use world_packets::world_model;

@@ -1,12 +1,12 @@
 //! In which incarnations nodes started last.
 ghost use Rattle.std.specs.Prelude.{◌≡◌, [], map, find, OnOk, option_copied};
-ghost use Rattle.rsct_packet.specs.Search.{place_where};
-ghost use Rattle.world_model.specs.World.{inc_in, starts_with};
+ghost use Rattle.world_packets.specs.rsct_packet.Search.{place_where};
+ghost use Rattle.world_packets.specs.world_model.World.{inc_in, starts_with};
 ghost use Rattle.play_state.specs.Starts.{started_in, is_start_of, is_start};
 
-use rsct_packet::NoMemory;
 use std::alloc::Global;
 use std::marker::Model;
+use world_packets::rsct_packet::NoMemory;
 
 /// The incarnation in which a node started last.
 #[derive(Clone, Copy, Debug, PartialEq, Eq)]
@@ -30,18 +30,18 @@ impl Model for Starts {
     ghost view = { λ s. s.rows.items };
 }
 
-fn start_of(starts: &[Started], n: u8) -> Option<&Started>
-    ensures { option_copied result ≡ find (is_start_of n) starts.now }
+fn start_of(starts: &[Started], node: u8) -> Option<&Started>
+    ensures { option_copied result ≡ find (is_start_of node) starts.now }
 {
-    starts.iter().find(|x| x.node == n)
+    starts.iter().find(|x| x.node == node)
 }
 
-#[tactic(auto, using(rsct_packet::proofs::SearchLaws::place_begins, rsct_packet::proofs::SearchLaws::place_goes_on, rsct_packet::proofs::SearchLaws::place_found, rsct_packet::proofs::SearchLaws::place_missing))]
-fn place_of(starts: &[Started], n: u8) -> Option<usize>
-    ensures { result ≡ place_where (is_start_of n) starts.now }
+#[tactic(auto, using(crate::proofs::Below::place_search))]
+fn place_of(starts: &[Started], node: u8) -> Option<usize>
+    ensures { result ≡ place_where (is_start_of node) starts.now }
 {
     for (i, x) in starts.iter().enumerate() {
-        if x.node == n {
+        if x.node == node {
             return Some(i);
         }
     }
@@ -60,23 +60,24 @@ impl Starts {
 
     /// The incarnation in which a node started last; 0 where it never did.
     #[tactic(auto, using(crate::proofs::StartLaws::started_last, crate::proofs::StartLaws::never_started))]
-    pub fn last(&self, n: u8) -> u32
-        ensures { result ≡ inc_in (find (is_start n) (map started_in self.now)) }
+    pub fn last(&self, node: u8) -> u32
+        ensures { result ≡ inc_in (find (is_start node) (map started_in self.now)) }
     {
-        match start_of(self.rows.as_slice(), n) {
+        match start_of(self.rows.as_slice(), node) {
             None => 0,
             Some(x) => x.inc,
         }
     }
 
     /// Notes that a node started in an incarnation.
-    #[tactic(auto, using(crate::proofs::StartLaws::noted_again, crate::proofs::StartLaws::noted_first, rsct_packet::proofs::SearchLaws::place_is_in, std::proofs::lemmas::Grind::common_steps))]
-    pub fn note(&mut self, n: u8, inc: u32) -> Result<(), NoMemory>
-        ensures { OnOk result (map started_in self.new ≡ starts_with (map started_in self.old) n inc) }
+    #[tactic(auto, using(crate::proofs::StartLaws::noted_again, crate::proofs::StartLaws::noted_first, crate::proofs::Below::place_is_in, std::proofs::lemmas::Grind::common_steps))]
+    pub fn note(&mut self, node: u8, inc: u32) -> Result<(), NoMemory>
+        ensures { OnOk result (map started_in self.new
+            ≡ starts_with (map started_in self.old) node inc) }
     {
-        match place_of(self.rows.as_slice(), n) {
-            None => self.rows.push(Started { node: n, inc })?,
-            Some(i) => self.rows[i] = Started { node: n, inc },
+        match place_of(self.rows.as_slice(), node) {
+            None => self.rows.push(Started { node, inc })?,
+            Some(i) => self.rows[i] = Started { node, inc },
         }
         Ok(())
     }

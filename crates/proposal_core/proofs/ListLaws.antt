@@ -5,16 +5,16 @@ use Rattle.std.proofs.lemmas.Bool.{cases_lt, lt-ltb, le-ltb, le-leb}
 use Rattle.std.proofs.lemmas.List.{map-append, length-map, append-nil, drop-drop, drop-append-le}
 use Rattle.std.proofs.lemmas.List.Sums.{sum_by_push}
 use Rattle.std.proofs.lemmas.Option.{slice_get_past}
-use Rattle.rsct_packet.specs.declared.ids.ViewId.{ViewId}
+use Rattle.group_attr.specs.rsct_packet.declared.ids.ViewId.{ViewId}
 use Rattle.proposal_core.specs.declared.entry.Entry.{Entry}
 use Rattle.proposal_core.specs.declared.group_state.GroupState.{GroupState}
-use Rattle.proposal_core.specs.Fold.{fits, applied, after, after_if}
+use Rattle.proposal_core.specs.Fold.{fits, apply, after, after_if}
 use Rattle.proposal_core.specs.Sizes.{entry_len}
 use Rattle.proposal_core.specs.GroupView.{GroupView, new_list}
 use Rattle.proposal_core.specs.Lists.{with_entry, forgotten, entry_at}
 use Rattle.proposal_core.specs.ListLaw.{ListCall, Put, Forget, all_called, AllTaken, puts_of, fold_from, IsListOf}
 
-pub after_fits : (s : GroupState) (v : ViewId) (i : ℕ) (e : Entry) → IsTrue (fits s e) → after s v i e ≡ applied s v i e
+pub after_fits : (s : GroupState) (v : ViewId) (i : ℕ) (e : Entry) → IsTrue (fits s e) → after s v i e ≡ apply s v i e
 unfolding after after_if
 after_fits s v i e h = rw h refl
 

@@ -1,10 +1,10 @@
 -- What entries make of a group's state.
 use Rattle.std.specs.Prelude.{ℕ, Bool, true, false, ◌==◌, ◌&&◌, ◌+◌, ◌++◌, List, [], ◌∷◌, length, map, Option, Some, None, nat_lt, nat_le, is_none, if◌then◌else◌}
-use Rattle.rsct_packet.specs.declared.ids.ProviderId.{ProviderId}
-use Rattle.rsct_packet.specs.declared.ids.ViewId.{ViewId}
-use Rattle.rsct_packet.specs.declared.ids.ProtoId.{ProtoId}
-use Rattle.rsct_packet.specs.Ids.{same_proto}
-use Rattle.rsct_packet.specs.Providers.{none_among, without_all}
+use Rattle.group_attr.specs.rsct_packet.declared.ids.ProviderId.{ProviderId}
+use Rattle.group_attr.specs.rsct_packet.declared.ids.ViewId.{ViewId}
+use Rattle.group_attr.specs.rsct_packet.declared.ids.ProtoId.{ProtoId}
+use Rattle.group_attr.specs.rsct_packet.Ids.{same_proto}
+use Rattle.group_attr.specs.rsct_packet.Providers.{none_among, without_all}
 use Rattle.group_attr.specs.declared.attrs.Attrs.{Attrs}
 use Rattle.group_attr.specs.Attrs.{empty_attrs}
 use Rattle.proposal_core.specs.declared.proposal.Failure.{Failure}
@@ -81,61 +81,61 @@ unfoldable pub first_attrs : GroupState → Proposal → Option Attrs
 first_attrs s (Join ps attrs n) = if length s.members == 0 then Some attrs else None
 first_attrs s _ = None
 
-unfoldable pub with_attrs : GroupState → Option Attrs → GroupState
-with_attrs s None = s
-with_attrs s (Some attrs) = record s { attrs = attrs }
+unfoldable pub take_attrs : GroupState → Option Attrs → GroupState
+take_attrs s None = s
+take_attrs s (Some attrs) = record s { attrs = attrs }
 
 unfoldable pub begun : GroupState → ViewId → ℕ → Proposal → GroupState
 begun s v i x =
-    record (with_attrs s (first_attrs s x)) {
+    record (take_attrs s (first_attrs s x)) {
       running = Some (record { proto = record { view = v; place = i }; proposal = x; phase = 1; proposed = first_value x });
     }
 
 -- a value of an entry replaces the proposed one
-unfoldable pub newer : Option (List ℕ) → Option (List ℕ) → Option (List ℕ)
-newer None old = old
-newer (Some value) old = Some value
+unfoldable pub replace_proposed : Option (List ℕ) → Option (List ℕ) → Option (List ℕ)
+replace_proposed None old = old
+replace_proposed (Some value) old = Some value
 
-unfoldable pub valued : GroupState → ViewId → ℕ → Option (List ℕ) → GroupState
-valued s v i None = s
-valued s v i (Some value) = record s { value = value; value_at = Some (record { view = v; place = i }) }
+unfoldable pub take_value : GroupState → ViewId → ℕ → Option (List ℕ) → GroupState
+take_value s v i None = s
+take_value s v i (Some value) = record s { value = value; value_at = Some (record { view = v; place = i }) }
 
-unfoldable pub approved : GroupState → ViewId → ℕ → Option (List ℕ) → Option Running → GroupState
-approved s v i value None = s
-approved s v i value (Some run) = valued (effect (record s { running = None }) run.proposal) v i (newer value run.proposed)
+unfoldable pub approve : GroupState → ViewId → ℕ → Option (List ℕ) → Option Running → GroupState
+approve s v i value None = s
+approve s v i value (Some run) = take_value (effect (record s { running = None }) run.proposal) v i (replace_proposed value run.proposed)
 
-unfoldable pub rejected_of : GroupState → Proposal → GroupState
-rejected_of s (Join ps attrs n) = record s { failed = without_all s.failed ps }
-rejected_of s (Fail out) = without s (fallen_of out)
-rejected_of s (Reflect view place value) = record s { reflected_at = Some (record { view = view; place = place }) }
-rejected_of s _ = s
+unfoldable pub take_rejection : GroupState → Proposal → GroupState
+take_rejection s (Join ps attrs n) = record s { failed = without_all s.failed ps }
+take_rejection s (Fail out) = without s (fallen_of out)
+take_rejection s (Reflect view place value) = record s { reflected_at = Some (record { view = view; place = place }) }
+take_rejection s _ = s
 
-unfoldable pub rejected : GroupState → Option Running → GroupState
-rejected s None = s
-rejected s (Some run) = rejected_of (record s { running = None }) run.proposal
+unfoldable pub reject : GroupState → Option Running → GroupState
+reject s None = s
+reject s (Some run) = take_rejection (record s { running = None }) run.proposal
 
-unfoldable pub advanced : Option (List ℕ) → Running → Running
-advanced value run = record run { phase = run.phase + 1; proposed = newer value run.proposed }
+unfoldable pub advance : Option (List ℕ) → Running → Running
+advance value run = record run { phase = run.phase + 1; proposed = replace_proposed value run.proposed }
 
 unfoldable pub next_phase : GroupState → Option (List ℕ) → Option Running → GroupState
 next_phase s value None = s
-next_phase s value (Some run) = record s { running = Some (advanced value run) }
+next_phase s value (Some run) = record s { running = Some (advance value run) }
 
 -- what a one-phase protocol does, which never runs
-unfoldable pub once : GroupState → ViewId → ℕ → Proposal → GroupState
-once s v i x = valued (with_attrs (effect s x) (first_attrs s x)) v i (first_value x)
+unfoldable pub apply_once : GroupState → ViewId → ℕ → Proposal → GroupState
+apply_once s v i x = take_value (take_attrs (effect s x) (first_attrs s x)) v i (first_value x)
 
--- the state after an entry that fits: a one-phase protocol begins and is approved at once
-unfoldable pub applied : GroupState → ViewId → ℕ → Entry → GroupState
-applied s v i (Once x) = let t : GroupState = begun s v i x in approved t v i None t.running
-applied s v i (Begin x) = begun s v i x
-applied s v i (Phase c) = next_phase s c.value s.running
-applied s v i (Approve c) = approved s v i c.value s.running
-applied s v i (Reject c) = rejected s s.running
-applied s v i (Late proto phase ps) = s
+-- the state after an entry that fits: a one-phase protocol begins and is approve at apply_once
+unfoldable pub apply : GroupState → ViewId → ℕ → Entry → GroupState
+apply s v i (Once x) = let t : GroupState = begun s v i x in approve t v i None t.running
+apply s v i (Begin x) = begun s v i x
+apply s v i (Phase c) = next_phase s c.value s.running
+apply s v i (Approve c) = approve s v i c.value s.running
+apply s v i (Reject c) = reject s s.running
+apply s v i (Late proto phase ps) = s
 
 unfoldable pub after_if : GroupState → ViewId → ℕ → Entry → Bool → GroupState
-after_if s v i e true = applied s v i e
+after_if s v i e true = apply s v i e
 after_if s v i e false = s
 
 -- the state after any entry; one that does not fit leaves it
@@ -168,5 +168,5 @@ voters s = voters_at s s.running
 
 -- opens each word of this file, for a computation
 unfoldable pub fold_opens : Unit {0}
-unfolding can_begin runs fits without effect first_value first_attrs with_attrs begun newer valued approved rejected_of rejected advanced next_phase once applied after_if after joiners_fit_at joiners_fit voters_on voters_at voters
+unfolding can_begin runs fits without effect first_value first_attrs take_attrs begun replace_proposed take_value approve take_rejection reject advance next_phase apply_once apply after_if after joiners_fit_at joiners_fit voters_on voters_at voters
 fold_opens = tt

@@ -1,10 +1,12 @@
 //! How a failure is spelled: the provider, and a byte for the cause.
 ghost use Rattle.std.specs.Prelude.{◌≡◌};
-ghost use Rattle.rsct_packet.specs.Reading.{Gives};
+ghost use Rattle.group_attr.specs.rsct_packet.Reading.{Gives};
 ghost use Rattle.proposal_core.specs.ProposalCodec.{cause_number, cause_at, failure_at, same_failure};
 
 use crate::proposal::{Cause, Failure};
-use rsct_packet::{Item, NoMemory, known, put_provider, put_u8, read_provider, read_u8};
+use group_attr::rsct_packet::{
+    Item, NoMemory, known, put_provider, put_u8, read_provider, read_u8,
+};
 
 fn cause_number(cause: Cause) -> u8
     ensures { result ≡ cause_number cause }
@@ -17,28 +19,28 @@ fn cause_number(cause: Cause) -> u8
 }
 
 #[tactic(auto, unfolding(crate::specs::ProposalCodec::cause_at))]
-fn read_cause(b: &[u8]) -> Option<(Cause, &[u8])>
-    ensures { Gives result (cause_at b.now) }
+fn read_cause(bytes: &[u8]) -> Option<(Cause, &[u8])>
+    ensures { Gives result (cause_at bytes.now) }
 {
-    let (n, b) = read_u8(b)?;
+    let (n, bytes) = read_u8(bytes)?;
     match n {
-        1 => Some((Cause::Died, b)),
-        2 => Some((Cause::Gone, b)),
-        3 => Some((Cause::Cast, b)),
+        1 => Some((Cause::Died, bytes)),
+        2 => Some((Cause::Gone, bytes)),
+        3 => Some((Cause::Cast, bytes)),
         _ => None,
     }
 }
 
-fn read_failure(b: &[u8]) -> Option<(Failure, &[u8])>
-    ensures { Gives result (failure_at b.now) }
+fn read_failure(bytes: &[u8]) -> Option<(Failure, &[u8])>
+    ensures { Gives result (failure_at bytes.now) }
 {
-    let (p, b) = read_provider(b)?;
-    let (cause, b) = read_cause(b)?;
-    Some((Failure { p, cause }, b))
+    let (p, bytes) = read_provider(bytes)?;
+    let (cause, bytes) = read_cause(bytes)?;
+    Some((Failure { p, cause }, bytes))
 }
 
 impl Item for Failure {
-    ghost use Rattle.rsct_packet.specs.Fields.{IsNode};
+    ghost use Rattle.group_attr.specs.rsct_packet.Fields.{IsNode};
     ghost use Rattle.proposal_core.specs.ProposalCodec.{failure_at, failure_text, IsFailure};
 
     ghost read_at = { failure_at };
@@ -49,9 +51,9 @@ impl Item for Failure {
 
     ghost can_put = { λ x. IsNode x.p.node };
 
-    #[tactic(auto, using(rsct_packet::proofs::FormatLaws::gives_found, rsct_packet::proofs::FormatLaws::gives_only, crate::proofs::FailureFormat::failure_format))]
-    fn read(b: &[u8]) -> Option<(Failure, &[u8])> {
-        read_failure(known(b))
+    #[tactic(auto, using(crate::proofs::Below::format_reads, crate::proofs::FailureFormat::failure_format))]
+    fn read(bytes: &[u8]) -> Option<(Failure, &[u8])> {
+        read_failure(known(bytes))
     }
 
     fn put(&self, out: &mut Vec<u8>) -> Result<(), NoMemory> {
@@ -69,8 +71,8 @@ impl Item for Failure {
 }
 
 /// Is it the same provider with the same cause?
-pub fn is_same_failure(a: &Failure, b: &Failure) -> bool
-    ensures { result ≡ same_failure a.now b.now }
+pub fn is_same_failure(first: &Failure, second: &Failure) -> bool
+    ensures { result ≡ same_failure first.now second.now }
 {
-    a.p == b.p && cause_number(a.cause) == cause_number(b.cause)
+    first.p == second.p && cause_number(first.cause) == cause_number(second.cause)
 }

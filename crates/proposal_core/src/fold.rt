@@ -1,15 +1,15 @@
 //! What entries make of a group's state. What an entry brings is copied and room is taken before the state
 //! changes, so that want of memory leaves it as it was.
 ghost use Rattle.std.specs.Prelude.{◌≡◌, ◌∷◌, [], ◌<◌, length, IfOk, IfSome, OnOk, OnErr, IsTrue, take};
-ghost use Rattle.rsct_packet.specs.Providers.{without_all};
-ghost use Rattle.proposal_core.specs.Fold.{fallen_of, without, can_begin, runs, fits, joiners_fit, effect, first_value, begun, valued, approved, rejected_of, rejected, next_phase, applied, newer, first_attrs, with_attrs, advanced, once};
+ghost use Rattle.group_attr.specs.rsct_packet.Providers.{without_all};
+ghost use Rattle.proposal_core.specs.Fold.{fallen_of, without, can_begin, runs, fits, joiners_fit, effect, first_value, begun, take_value, approve, take_rejection, reject, next_phase, apply, replace_proposed, first_attrs, take_attrs, advance, apply_once};
 
 use crate::entry::{Closed, Entry};
 use crate::group_state::{GroupState, Running};
 use crate::proposal::{Failure, Proposal};
 use crate::texts::copy_text;
 use group_attr::Attrs;
-use rsct_packet::{
+use group_attr::rsct_packet::{
     MAX_PROVIDERS, NoMemory, ProtoId, ProviderId, Providers, Text, ViewId, is_none_among,
 };
 use std::alloc::Global;
@@ -29,29 +29,29 @@ fn is_running(proto: ProtoId, phase: u16, running: &Option<Running>) -> bool
 }
 
 /// Takes those who failed off a list.
-pub fn take_off_fallen(ps: &mut Providers, out: &[Failure])
-    ensures { ps.new ≡ without_all ps.old (fallen_of out.now) }
+pub fn take_off_fallen(providers: &mut Providers, out: &[Failure])
+    ensures { providers.new ≡ without_all providers.old (fallen_of out.now) }
 {
     for f in out {
-        ps.retain_not(&[f.p]);
+        providers.retain_not(&[f.p]);
     }
 }
 
 /// The value that a protocol proposes from its beginning.
 #[tactic(auto, unfolding(crate::specs::Fold::first_value))]
-fn first_value(alloc: Global, x: &Proposal) -> Result<Option<Text>, NoMemory>
-    ensures { IfOk result (λ t. t ≡ first_value x.now) }
+fn first_value(alloc: Global, proposal: &Proposal) -> Result<Option<Text>, NoMemory>
+    ensures { IfOk result (λ t. t ≡ first_value proposal.now) }
 {
-    match x {
+    match proposal {
         Proposal::State { value, .. } => Ok(Some(value.copy(alloc)?)),
         _ => Ok(None),
     }
 }
 
 /// The value that an entry brings, or else the proposed one.
-#[tactic(auto, unfolding(crate::specs::Fold::newer))]
+#[tactic(auto, unfolding(crate::specs::Fold::replace_proposed))]
 fn newer(value: Option<Text>, old: Option<Text>) -> Option<Text>
-    ensures { result ≡ newer value old }
+    ensures { result ≡ replace_proposed value old }
 {
     match value {
         None => old,
@@ -60,9 +60,9 @@ fn newer(value: Option<Text>, old: Option<Text>) -> Option<Text>
 }
 
 /// A value that an entry brings replaces the proposed one.
-#[tactic(auto, unfolding(crate::specs::Fold::newer))]
+#[tactic(auto, unfolding(crate::specs::Fold::replace_proposed))]
 fn replace_proposed(proposed: &mut Option<Text>, value: Option<Text>)
-    ensures { proposed.new ≡ newer value proposed.old }
+    ensures { proposed.new ≡ replace_proposed value proposed.old }
 {
     if let Some(value) = value {
         *proposed = Some(value);
@@ -72,10 +72,10 @@ fn replace_proposed(proposed: &mut Option<Text>, value: Option<Text>)
 impl GroupState {
     /// Can this begin where nothing runs? A join can where its providers are no members and leave at most 64.
     #[tactic(auto, unfolding(crate::specs::Fold::can_begin))]
-    fn can_begin(&self, x: &Proposal) -> bool
-        ensures { result ≡ can_begin self.now x.now }
+    fn can_begin(&self, proposal: &Proposal) -> bool
+        ensures { result ≡ can_begin self.now proposal.now }
     {
-        match x {
+        match proposal {
             Proposal::Join { ps, .. } => {
                 is_none_among(self.members.as_slice(), ps.as_slice())
                     && self.members.len() + ps.len() <= MAX_PROVIDERS
@@ -86,10 +86,10 @@ impl GroupState {
 
     /// Can this entry come next?
     #[tactic(auto, unfolding(crate::specs::Fold::fits))]
-    pub fn fits(&self, e: &Entry) -> bool
-        ensures { result ≡ fits self.now e.now }
+    pub fn fits(&self, entry: &Entry) -> bool
+        ensures { result ≡ fits self.now entry.now }
     {
-        match e {
+        match entry {
             Entry::Once(x) => self.running.is_none() && self.can_begin(x),
             Entry::Begin(x) => self.running.is_none() && self.can_begin(x),
             Entry::Phase(c) => {
@@ -103,11 +103,11 @@ impl GroupState {
 
     /// Takes these off the members and the failed.
     #[tactic(auto, unfolding(crate::specs::Fold::without))]
-    fn take_off(&mut self, ps: &[ProviderId])
-        ensures { self.new ≡ without self.old ps.now }
+    fn take_off(&mut self, providers: &[ProviderId])
+        ensures { self.new ≡ without self.old providers.now }
     {
-        self.members.retain_not(ps);
-        self.failed.retain_not(ps);
+        self.members.retain_not(providers);
+        self.failed.retain_not(providers);
     }
 
     /// Takes those who failed off the members and the failed.
@@ -121,12 +121,12 @@ impl GroupState {
 
     /// What an approved protocol does.
     #[tactic(auto, unfolding(crate::specs::Fold::effect, crate::specs::Fold::can_begin))]
-    fn take_effect(&mut self, alloc: Global, x: &Proposal) -> Result<(), NoMemory>
-        requires { IsTrue (can_begin self.old x.now) }
-        ensures ok { OnOk result (self.new ≡ effect self.old x.now) }
+    fn take_effect(&mut self, alloc: Global, proposal: &Proposal) -> Result<(), NoMemory>
+        requires { IsTrue (can_begin self.old proposal.now) }
+        ensures ok { OnOk result (self.new ≡ effect self.old proposal.now) }
         ensures err { OnErr result (self.new ≡ self.old) }
     {
-        match x {
+        match proposal {
             Proposal::Join { ps, .. } => self.members.extend(ps)?,
             Proposal::Leave { p, .. } => self.take_off(&[*p]),
             Proposal::Fail { out } => self.take_off_failures(out.as_slice()),
@@ -146,10 +146,10 @@ impl GroupState {
 
     /// The attributes that the first join brings.
     #[tactic(auto, unfolding(crate::specs::Fold::first_attrs))]
-    fn first_attrs(&self, alloc: Global, x: &Proposal) -> Result<Option<Attrs>, NoMemory>
-        ensures { IfOk result (λ a. a ≡ first_attrs self.now x.now) }
+    fn first_attrs(&self, alloc: Global, proposal: &Proposal) -> Result<Option<Attrs>, NoMemory>
+        ensures { IfOk result (λ a. a ≡ first_attrs self.now proposal.now) }
     {
-        match x {
+        match proposal {
             Proposal::Join { attrs, .. } => {
                 if self.members.len() == 0 {
                     Ok(Some(attrs.copy(alloc)?))
@@ -161,9 +161,9 @@ impl GroupState {
         }
     }
 
-    #[tactic(auto, unfolding(crate::specs::Fold::with_attrs))]
+    #[tactic(auto, unfolding(crate::specs::Fold::take_attrs))]
     fn take_attrs(&mut self, attrs: Option<Attrs>)
-        ensures { self.new ≡ with_attrs self.old attrs }
+        ensures { self.new ≡ take_attrs self.old attrs }
     {
         if let Some(attrs) = attrs {
             self.attrs = attrs;
@@ -171,28 +171,34 @@ impl GroupState {
     }
 
     /// An approved value becomes the group's.
-    #[tactic(auto, unfolding(crate::specs::Fold::valued))]
-    fn take_value(&mut self, v: ViewId, place: u32, value: Option<Text>)
-        ensures { self.new ≡ valued self.old v place value }
+    #[tactic(auto, unfolding(crate::specs::Fold::take_value))]
+    fn take_value(&mut self, view: ViewId, place: u32, value: Option<Text>)
+        ensures { self.new ≡ take_value self.old view place value }
     {
         if let Some(value) = value {
             self.value = value;
-            self.value_at = Some(ProtoId { view: v, place });
+            self.value_at = Some(ProtoId { view, place });
         }
     }
 
     #[tactic(auto, unfolding(crate::specs::Fold::begun))]
-    fn begin(&mut self, alloc: Global, v: ViewId, place: u32, x: &Proposal) -> Result<(), NoMemory>
-        ensures ok { OnOk result (self.new ≡ begun self.old v place x.now) }
+    fn begin(
+        &mut self,
+        alloc: Global,
+        view: ViewId,
+        place: u32,
+        proposal: &Proposal,
+    ) -> Result<(), NoMemory>
+        ensures ok { OnOk result (self.new ≡ begun self.old view place proposal.now) }
         ensures err { OnErr result (self.new ≡ self.old) }
     {
-        let proposed = first_value(alloc, x)?;
-        let proposal = x.copy(alloc)?;
-        let attrs = self.first_attrs(alloc, x)?;
+        let proposed = first_value(alloc, proposal)?;
+        let own = proposal.copy(alloc)?;
+        let attrs = self.first_attrs(alloc, proposal)?;
         self.take_attrs(attrs);
         self.running = Some(Running {
-            proto: ProtoId { view: v, place },
-            proposal,
+            proto: ProtoId { view, place },
+            proposal: own,
             phase: 1,
             proposed,
         });
@@ -200,23 +206,23 @@ impl GroupState {
     }
 
     /// Begins and approves at once.
-    #[tactic(auto, unfolding(crate::specs::Fold::once))]
+    #[tactic(auto, unfolding(crate::specs::Fold::apply_once))]
     fn apply_once(
         &mut self,
         alloc: Global,
-        v: ViewId,
+        view: ViewId,
         place: u32,
-        x: &Proposal,
+        proposal: &Proposal,
     ) -> Result<(), NoMemory>
-        requires { IsTrue (can_begin self.old x.now) }
-        ensures ok { OnOk result (self.new ≡ once self.old v place x.now) }
+        requires { IsTrue (can_begin self.old proposal.now) }
+        ensures ok { OnOk result (self.new ≡ apply_once self.old view place proposal.now) }
         ensures err { OnErr result (self.new ≡ self.old) }
     {
-        let value = first_value(alloc, x)?;
-        let attrs = self.first_attrs(alloc, x)?;
-        self.take_effect(alloc, x)?;
+        let value = first_value(alloc, proposal)?;
+        let attrs = self.first_attrs(alloc, proposal)?;
+        self.take_effect(alloc, proposal)?;
         self.take_attrs(attrs);
-        self.take_value(v, place, value);
+        self.take_value(view, place, value);
         Ok(())
     }
 
@@ -233,16 +239,17 @@ impl GroupState {
         Ok(())
     }
 
-    #[tactic(auto, unfolding(crate::specs::Fold::approved, crate::specs::Fold::joiners_fit, crate::specs::Fold::joiners_fit_at, crate::specs::Fold::can_begin))]
+    #[tactic(auto, unfolding(crate::specs::Fold::approve, crate::specs::Fold::joiners_fit, crate::specs::Fold::joiners_fit_at, crate::specs::Fold::can_begin))]
     fn approve(
         &mut self,
         alloc: Global,
-        v: ViewId,
+        view: ViewId,
         place: u32,
         value: &Option<Text>,
     ) -> Result<(), NoMemory>
         requires { IsTrue (joiners_fit self.old) }
-        ensures ok { OnOk result (self.new ≡ approved self.old v place value.now self.old.running) }
+        ensures ok { OnOk result (self.new ≡ approve self.old view place value.now
+            self.old.running) }
         ensures err { OnErr result (self.new ≡ self.old) }
     {
         let value = copy_text(alloc, value)?;
@@ -253,16 +260,16 @@ impl GroupState {
             self.running = Some(run);
             return Err(e);
         }
-        self.take_value(v, place, newer(value, run.into_proposed()));
+        self.take_value(view, place, newer(value, run.into_proposed()));
         Ok(())
     }
 
     /// What a rejected protocol does.
-    #[tactic(auto, unfolding(crate::specs::Fold::rejected_of))]
-    fn take_rejection(&mut self, x: &Proposal)
-        ensures { self.new ≡ rejected_of self.old x.now }
+    #[tactic(auto, unfolding(crate::specs::Fold::take_rejection))]
+    fn take_rejection(&mut self, proposal: &Proposal)
+        ensures { self.new ≡ take_rejection self.old proposal.now }
     {
-        match x {
+        match proposal {
             Proposal::Join { ps, .. } => self.failed.retain_not(ps.as_slice()),
             Proposal::Fail { out } => {
                 self.take_off_failures(out.as_slice());
@@ -277,33 +284,33 @@ impl GroupState {
         }
     }
 
-    #[tactic(auto, unfolding(crate::specs::Fold::rejected))]
+    #[tactic(auto, unfolding(crate::specs::Fold::reject))]
     fn reject(&mut self)
-        ensures { self.new ≡ rejected self.old self.old.running }
+        ensures { self.new ≡ reject self.old self.old.running }
     {
         if let Some(run) = self.running.take() {
             self.take_rejection(&run.proposal);
         }
     }
 
-    #[tactic(auto, unfolding(crate::specs::Fold::applied, crate::specs::Fold::fits, crate::specs::Fold::runs), using(crate::proofs::FoldLaws::once_is_applied, std::proofs::lemmas::Grind::common_steps))]
+    #[tactic(auto, unfolding(crate::specs::Fold::apply, crate::specs::Fold::fits, crate::specs::Fold::runs), using(crate::proofs::FoldLaws::once_is_applied, std::proofs::lemmas::Grind::common_steps))]
     fn take_entry(
         &mut self,
         alloc: Global,
-        v: ViewId,
+        view: ViewId,
         place: u32,
-        e: &Entry,
+        entry: &Entry,
     ) -> Result<(), NoMemory>
-        requires fits { IsTrue (fits self.old e.now) }
+        requires fits { IsTrue (fits self.old entry.now) }
         requires joiners { IsTrue (joiners_fit self.old) }
-        ensures ok { OnOk result (self.new ≡ applied self.old v place e.now) }
+        ensures ok { OnOk result (self.new ≡ apply self.old view place entry.now) }
         ensures err { OnErr result (self.new ≡ self.old) }
     {
-        match e {
-            Entry::Once(x) => self.apply_once(alloc, v, place, x),
-            Entry::Begin(x) => self.begin(alloc, v, place, x),
+        match entry {
+            Entry::Once(x) => self.apply_once(alloc, view, place, x),
+            Entry::Begin(x) => self.begin(alloc, view, place, x),
             Entry::Phase(c) => self.next_phase(alloc, &c.value),
-            Entry::Approve(c) => self.approve(alloc, v, place, &c.value),
+            Entry::Approve(c) => self.approve(alloc, view, place, &c.value),
             Entry::Reject(_) => {
                 self.reject();
                 Ok(())
@@ -315,23 +322,29 @@ impl GroupState {
     /// Takes an entry that fits. Of the state it copies nothing; it copies the text, the attributes or the
     /// proposal that the entry brings. Want of memory leaves the state as it was.
     #[tactic(auto, using(crate::proofs::FoldLaws::joiners_fit_after, std::proofs::lemmas::Grind::common_steps))]
-    pub fn apply(&mut self, alloc: Global, v: ViewId, place: u32, e: &Entry) -> Result<(), NoMemory>
-        requires fits { IsTrue (fits self.old e.now) }
+    pub fn apply(
+        &mut self,
+        alloc: Global,
+        view: ViewId,
+        place: u32,
+        entry: &Entry,
+    ) -> Result<(), NoMemory>
+        requires fits { IsTrue (fits self.old entry.now) }
         requires joiners { IsTrue (joiners_fit self.old) }
-        ensures ok { OnOk result (self.new ≡ applied self.old v place e.now) }
+        ensures ok { OnOk result (self.new ≡ apply self.old view place entry.now) }
         ensures joiners { OnOk result (IsTrue (joiners_fit self.new)) }
         ensures err { OnErr result (self.new ≡ self.old) }
     {
-        self.take_entry(alloc, v, place, e)
+        self.take_entry(alloc, view, place, entry)
     }
 }
 
 impl Running {
     /// The next phase opens; a value replaces the proposed one.
-    #[tactic(auto, unfolding(crate::specs::Fold::advanced))]
+    #[tactic(auto, unfolding(crate::specs::Fold::advance))]
     fn advance(&mut self, value: Option<Text>)
         requires { self.old.phase < 200 }
-        ensures { self.new ≡ advanced value self.old }
+        ensures { self.new ≡ advance value self.old }
     {
         self.phase += 1;
         replace_proposed(&mut self.proposed, value);

@@ -6,7 +6,7 @@ ghost use Rattle.proposal_core.specs.Lists.{has_room, with_entry, forgotten, ent
 
 use crate::entry::Entry;
 use crate::group_state::GroupState;
-use rsct_packet::{NoMemory, ViewId};
+use group_attr::rsct_packet::{NoMemory, ViewId};
 use std::alloc::Global;
 use std::collections::VecDeque;
 use std::marker::Model;
@@ -45,10 +45,10 @@ impl Drop for GroupList {
 }
 
 /// Lets the first entries go.
-fn drop_front(entries: &mut VecDeque<Entry>, n: u32)
-    ensures { entries.new.items ≡ drop n entries.old.items }
+fn drop_front(entries: &mut VecDeque<Entry>, count: u32)
+    ensures { entries.new.items ≡ drop count entries.old.items }
 {
-    for i in 0..n {
+    for i in 0..count {
         let _ = entries.pop_front();
     }
 }
@@ -111,10 +111,10 @@ impl GroupList {
 
     /// Do the counts stay within their types with this entry?
     #[tactic(auto, unfolding(crate::specs::Lists::has_room))]
-    pub fn has_room(&self, e: &Entry) -> bool
-        ensures { result ≡ has_room self.now e.now }
+    pub fn has_room(&self, entry: &Entry) -> bool
+        ensures { result ≡ has_room self.now entry.now }
     {
-        match e.len() {
+        match entry.len() {
             None => false,
             Some(n) => self.len() < u32::MAX && n <= u32::MAX - self.bytes,
         }
@@ -123,18 +123,18 @@ impl GroupList {
     /// Puts an entry at the end and answers its place. Of the list and of its state nothing is copied. Want
     /// of memory leaves all as it was.
     #[tactic(auto, unfolding(crate::specs::Lists::has_room, crate::specs::Lists::with_entry), using(crate::proofs::ListLaws::after_fits, std::proofs::lemmas::Grind::common_steps))]
-    pub fn put(&mut self, alloc: Global, v: ViewId, e: Entry) -> Result<u32, NoMemory>
-        requires fits { IsTrue (fits self.old.state e) }
-        requires room { IsTrue (has_room self.old e) }
+    pub fn put(&mut self, alloc: Global, view: ViewId, entry: Entry) -> Result<u32, NoMemory>
+        requires fits { IsTrue (fits self.old.state entry) }
+        requires room { IsTrue (has_room self.old entry) }
         ensures place { IfOk result (λ i. i ≡ self.old.len) }
-        ensures ok { IfOk result (λ _. self.new ≡ with_entry self.old v e) }
+        ensures ok { IfOk result (λ _. self.new ≡ with_entry self.old view entry) }
         ensures err { OnErr result (self.new ≡ self.old) }
     {
         let place = self.start + self.entries.len() as u32;
-        let bytes = self.bytes + e.len().unwrap();
+        let bytes = self.bytes + entry.len().unwrap();
         self.entries.reserve(1)?;
-        self.state.apply(alloc, v, place, &e)?;
-        self.entries.push_back_reserved(e);
+        self.state.apply(alloc, view, place, &entry)?;
+        self.entries.push_back_reserved(entry);
         self.bytes = bytes;
         Ok(place)
     }

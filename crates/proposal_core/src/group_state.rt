@@ -6,7 +6,7 @@ use crate::fold::take_off_fallen;
 use crate::proposal::Proposal;
 use crate::texts::copy_text;
 use group_attr::Attrs;
-use rsct_packet::{NoMemory, ProtoId, Providers, Text};
+use group_attr::rsct_packet::{NoMemory, ProtoId, Providers, Text};
 use std::alloc::Global;
 
 /// A protocol that runs: its phase is from 1 to 200, and `proposed` is the value that its approval sets.
@@ -125,11 +125,11 @@ impl GroupState {
 
     /// Who votes on a proposal.
     #[tactic(auto, unfolding(crate::specs::Fold::voters_on, crate::specs::Fold::can_begin))]
-    fn voters_on(&self, alloc: Global, x: &Proposal) -> Result<Providers, NoMemory>
-        requires { IsTrue (can_begin self.now x.now) }
-        ensures { IfOk result (λ ps. ps ≡ voters_on self.now x.now) }
+    fn voters_on(&self, alloc: Global, proposal: &Proposal) -> Result<Providers, NoMemory>
+        requires { IsTrue (can_begin self.now proposal.now) }
+        ensures { IfOk result (λ ps. ps ≡ voters_on self.now proposal.now) }
     {
-        match x {
+        match proposal {
             Proposal::Join { ps, .. } => self.members.with(alloc, ps),
             Proposal::Leave { p, .. } => self.members.without_all(alloc, &[*p]),
             Proposal::Fail { out } => {

@@ -9,5 +9,6 @@ ghost use Rattle.proposal_core.specs.ListLaw.{ListCall, all_called, AllTaken, pu
 /// put at that place.
 #[tactic(auto, using(crate::proofs::ListLaws::lists_are_folds))]
 pub fn lists_are_folds()
-    ensures { (base : GroupState) (cs : List ListCall) → AllTaken (new_list base) cs → IsListOf base (puts_of cs) (all_called (new_list base) cs) }
+    ensures { (base : GroupState) (cs : List ListCall) → AllTaken (new_list base) cs
+        → IsListOf base (puts_of cs) (all_called (new_list base) cs) }
 {}

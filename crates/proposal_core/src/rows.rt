@@ -1,11 +1,13 @@
 //! How a row is spelled: the voter, and a byte for what stands for it.
 ghost use Rattle.std.specs.Prelude.{◌≡◌};
-ghost use Rattle.rsct_packet.specs.Reading.{Gives};
+ghost use Rattle.group_attr.specs.rsct_packet.Reading.{Gives};
 ghost use Rattle.proposal_core.specs.EntryCodec.{row_vote_number, row_vote_at, row_at};
 
 use crate::entry::{Row, RowVote, Vote};
 use group_attr::DefaultVote;
-use rsct_packet::{Item, NoMemory, known, put_provider, put_u8, read_provider, read_u8};
+use group_attr::rsct_packet::{
+    Item, NoMemory, known, put_provider, put_u8, read_provider, read_u8,
+};
 
 fn row_vote_number(vote: RowVote) -> u8
     ensures { result ≡ row_vote_number vote }
@@ -22,32 +24,32 @@ fn row_vote_number(vote: RowVote) -> u8
 }
 
 #[tactic(auto, unfolding(crate::specs::EntryCodec::row_vote_at))]
-fn read_row_vote(b: &[u8]) -> Option<(RowVote, &[u8])>
-    ensures { Gives result (row_vote_at b.now) }
+fn read_row_vote(bytes: &[u8]) -> Option<(RowVote, &[u8])>
+    ensures { Gives result (row_vote_at bytes.now) }
 {
-    let (n, b) = read_u8(b)?;
+    let (n, bytes) = read_u8(bytes)?;
     match n {
-        1 => Some((RowVote::Cast(Vote::Approve), b)),
-        2 => Some((RowVote::Cast(Vote::Continue), b)),
-        3 => Some((RowVote::Cast(Vote::Reject), b)),
-        4 => Some((RowVote::Late(DefaultVote::Approve), b)),
-        5 => Some((RowVote::Late(DefaultVote::Reject), b)),
-        6 => Some((RowVote::Failed(DefaultVote::Approve), b)),
-        7 => Some((RowVote::Failed(DefaultVote::Reject), b)),
+        1 => Some((RowVote::Cast(Vote::Approve), bytes)),
+        2 => Some((RowVote::Cast(Vote::Continue), bytes)),
+        3 => Some((RowVote::Cast(Vote::Reject), bytes)),
+        4 => Some((RowVote::Late(DefaultVote::Approve), bytes)),
+        5 => Some((RowVote::Late(DefaultVote::Reject), bytes)),
+        6 => Some((RowVote::Failed(DefaultVote::Approve), bytes)),
+        7 => Some((RowVote::Failed(DefaultVote::Reject), bytes)),
         _ => None,
     }
 }
 
-fn read_row(b: &[u8]) -> Option<(Row, &[u8])>
-    ensures { Gives result (row_at b.now) }
+fn read_row(bytes: &[u8]) -> Option<(Row, &[u8])>
+    ensures { Gives result (row_at bytes.now) }
 {
-    let (p, b) = read_provider(b)?;
-    let (vote, b) = read_row_vote(b)?;
-    Some((Row { p, vote }, b))
+    let (p, bytes) = read_provider(bytes)?;
+    let (vote, bytes) = read_row_vote(bytes)?;
+    Some((Row { p, vote }, bytes))
 }
 
 impl Item for Row {
-    ghost use Rattle.rsct_packet.specs.Fields.{IsNode};
+    ghost use Rattle.group_attr.specs.rsct_packet.Fields.{IsNode};
     ghost use Rattle.proposal_core.specs.EntryCodec.{row_at, row_text, IsRow};
 
     ghost read_at = { row_at };
@@ -58,9 +60,9 @@ impl Item for Row {
 
     ghost can_put = { λ x. IsNode x.p.node };
 
-    #[tactic(auto, using(rsct_packet::proofs::FormatLaws::gives_found, rsct_packet::proofs::FormatLaws::gives_only, crate::proofs::RowFormat::row_format))]
-    fn read(b: &[u8]) -> Option<(Row, &[u8])> {
-        read_row(known(b))
+    #[tactic(auto, using(crate::proofs::Below::format_reads, crate::proofs::RowFormat::row_format))]
+    fn read(bytes: &[u8]) -> Option<(Row, &[u8])> {
+        read_row(known(bytes))
     }
 
     fn put(&self, out: &mut Vec<u8>) -> Result<(), NoMemory> {

@@ -1,9 +1,9 @@
 //! Texts that may be absent, and those of bytes.
 ghost use Rattle.std.specs.Prelude.{◌≡◌, IfOk, option_copied};
-ghost use Rattle.rsct_packet.specs.Fields.{AreShort};
-ghost use Rattle.rsct_packet.specs.Format.{OptionFits};
+ghost use Rattle.group_attr.specs.rsct_packet.Fields.{AreShort};
+ghost use Rattle.group_attr.specs.rsct_packet.Format.{OptionFits};
 
-use rsct_packet::{NoMemory, Text};
+use group_attr::rsct_packet::{NoMemory, Text};
 use std::alloc::Global;
 
 /// An equal text, or none.
@@ -17,21 +17,21 @@ pub fn copy_text(alloc: Global, text: &Option<Text>) -> Result<Option<Text>, NoM
 }
 
 /// The text of bytes that are short enough.
-pub fn text_of(alloc: Global, b: &[u8]) -> Result<Text, NoMemory>
-    requires { AreShort b.now }
-    ensures { IfOk result (λ t. t ≡ b.now) }
+pub fn text_of(alloc: Global, bytes: &[u8]) -> Result<Text, NoMemory>
+    requires { AreShort bytes.now }
+    ensures { IfOk result (λ t. t ≡ bytes.now) }
 {
-    Ok(Text::of(alloc, b)?.unwrap())
+    Ok(Text::of(alloc, bytes)?.unwrap())
 }
 
 /// The text of optional bytes that are short enough.
-pub fn optional_text_of(alloc: Global, b: Option<&[u8]>) -> Result<Option<Text>, NoMemory>
-    requires { OptionFits AreShort (option_copied b) }
-    ensures { IfOk result (λ t. t ≡ option_copied b.entry) }
+pub fn optional_text_of(alloc: Global, bytes: Option<&[u8]>) -> Result<Option<Text>, NoMemory>
+    requires { OptionFits AreShort (option_copied bytes) }
+    ensures { IfOk result (λ t. t ≡ option_copied bytes.entry) }
 {
-    match b {
+    match bytes {
         None => Ok(None),
-        Some(b) => Ok(Some(text_of(alloc, b)?)),
+        Some(bytes) => Ok(Some(text_of(alloc, bytes)?)),
     }
 }
 

@@ -43,7 +43,8 @@ impl Gather {
     #[tactic(auto, unfolding(crate::specs::Gather::all_acked))]
     pub fn all(&self) -> bool
         ensures value { result ≡ all_acked self.now }
-        ensures each { IsTrue result → (n : ℕ) → IsTrue (has_node self.now.asked n) → IsTrue (has_node self.now.acked n) }
+        ensures each { IsTrue result → (n : ℕ) → IsTrue (has_node self.now.asked n)
+            → IsTrue (has_node self.now.acked n) }
     {
         self.asked.common(self.acked) == self.asked
     }

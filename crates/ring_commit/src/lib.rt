@@ -6,3 +6,4 @@ mod laws;
 
 pub use gather::Gather;
 pub use laws::closes_with_the_acknowledged;
+pub use rsct_packet;

@@ -307,3 +307,6 @@ part_gives (Some x) read e = e
 pub optional_part_gives : (result : Option (Option (Bor (List ℕ)) × Bor (List ℕ))) (read : Option (Option (List ℕ) × List ℕ)) → GivesOptionalPart result read → Gives (optional_part_of result) read
 optional_part_gives None read e = e
 optional_part_gives (Some x) read e = e
+
+-- what a reader of a format takes
+pub ruleset format_reads = (gives_found, gives_only)

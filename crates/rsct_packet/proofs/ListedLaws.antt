@@ -135,3 +135,6 @@ listed_first {A = A} f (suc n) bytes after x z h e =
 pub listed_stop : {A : Type 0} (f : List ℕ → Option (A × List ℕ)) (n : ℕ) (bytes : List ℕ) → n ≢ 0 → IsSome (many_at f n bytes) → None ≡ f bytes → ⊥
 listed_stop f zero bytes z h e = z refl
 listed_stop f (suc n) bytes z h e = let v = value_of (many_at f (suc n) bytes) h in let w = many_none f n bytes (sym e) in cc
+
+-- what a loop that skips takes
+pub ruleset skip_search = (skips_none, skips_more, skips_stop, skips_all, skips_some)

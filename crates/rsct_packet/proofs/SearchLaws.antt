@@ -123,3 +123,9 @@ read_at_head false (Some k) x xs rest d ih i e = let s : suc k ≡ i = cc in rw 
 pub read_at_place : {A : Type 0} (test : A → Bool) (xs : List A) (i : ℕ) (d : A) → place_where test xs ≡ Some i → find test xs ≡ Some (get_or xs i d)
 read_at_place test [] i d e = absurd cc
 read_at_place test (x ∷ xs) i d e = read_at_head (test x) (place_where test xs) x xs (find test xs) d (λ k h. read_at_place test xs k d h) i e
+
+-- what a loop that looks for a place takes
+pub ruleset place_search = (place_begins, place_goes_on, place_found, place_missing)
+
+-- what a loop that counts a front takes
+pub ruleset front_search = (front_begins, front_goes_on, front_found, front_missing)

@@ -9,46 +9,46 @@ use crate::ids::{Member, ProtoId, ProviderId, RingId, ViewId};
 use crate::mask::{Mask, is_node_number};
 use crate::text::is_name;
 
-pub(crate) fn u8_at(b: &[u8]) -> Option<(u8, &[u8])>
-    ensures { Gives result (number_at w8 b.now) }
+pub(crate) fn u8_at(bytes: &[u8]) -> Option<(u8, &[u8])>
+    ensures { Gives result (number_at w8 bytes.now) }
 {
-    if b.len() < 1 {
+    if bytes.len() < 1 {
         return None;
     }
-    let (front, back) = b.split_at(1);
+    let (front, back) = bytes.split_at(1);
     Some((front[0], back))
 }
 
-pub(crate) fn u16_at(b: &[u8]) -> Option<(u16, &[u8])>
-    ensures { Gives result (number_at w16 b.now) }
+pub(crate) fn u16_at(bytes: &[u8]) -> Option<(u16, &[u8])>
+    ensures { Gives result (number_at w16 bytes.now) }
 {
-    if b.len() < 2 {
+    if bytes.len() < 2 {
         return None;
     }
-    let (front, back) = b.split_at(2);
+    let (front, back) = bytes.split_at(2);
     Some((u16::from_be_bytes([front[0], front[1]]), back))
 }
 
-pub(crate) fn u32_at(b: &[u8]) -> Option<(u32, &[u8])>
-    ensures { Gives result (number_at w32 b.now) }
+pub(crate) fn u32_at(bytes: &[u8]) -> Option<(u32, &[u8])>
+    ensures { Gives result (number_at w32 bytes.now) }
 {
-    if b.len() < 4 {
+    if bytes.len() < 4 {
         return None;
     }
-    let (front, back) = b.split_at(4);
+    let (front, back) = bytes.split_at(4);
     Some((
         u32::from_be_bytes([front[0], front[1], front[2], front[3]]),
         back,
     ))
 }
 
-pub(crate) fn u64_at(b: &[u8]) -> Option<(u64, &[u8])>
-    ensures { Gives result (number_at w64 b.now) }
+pub(crate) fn u64_at(bytes: &[u8]) -> Option<(u64, &[u8])>
+    ensures { Gives result (number_at w64 bytes.now) }
 {
-    if b.len() < 8 {
+    if bytes.len() < 8 {
         return None;
     }
-    let (front, back) = b.split_at(8);
+    let (front, back) = bytes.split_at(8);
     Some((
         u64::from_be_bytes([
             front[0], front[1], front[2], front[3], front[4], front[5], front[6], front[7],
@@ -57,29 +57,29 @@ pub(crate) fn u64_at(b: &[u8]) -> Option<(u64, &[u8])>
     ))
 }
 
-pub(crate) fn part_at(n: usize, b: &[u8]) -> Option<(&[u8], &[u8])>
-    ensures { GivesPart result (part_at n b.now) }
+pub(crate) fn part_at(len: usize, bytes: &[u8]) -> Option<(&[u8], &[u8])>
+    ensures { GivesPart result (part_at len bytes.now) }
 {
-    if b.len() < n {
+    if bytes.len() < len {
         return None;
     }
-    Some(b.split_at(n))
+    Some(bytes.split_at(len))
 }
 
-pub(crate) fn node_at(b: &[u8]) -> Option<(u8, &[u8])>
-    ensures { Gives result (node_at b.now) }
+pub(crate) fn node_at(bytes: &[u8]) -> Option<(u8, &[u8])>
+    ensures { Gives result (node_at bytes.now) }
 {
-    let (n, rest) = u8_at(b)?;
+    let (n, rest) = u8_at(bytes)?;
     if !is_node_number(n) {
         return None;
     }
     Some((n, rest))
 }
 
-pub(crate) fn node_or_none_at(b: &[u8]) -> Option<(u8, &[u8])>
-    ensures { Gives result (node_or_none_at b.now) }
+pub(crate) fn node_or_none_at(bytes: &[u8]) -> Option<(u8, &[u8])>
+    ensures { Gives result (node_or_none_at bytes.now) }
 {
-    let (n, rest) = u8_at(b)?;
+    let (n, rest) = u8_at(bytes)?;
     if n > 32 {
         return None;
     }
@@ -87,68 +87,68 @@ pub(crate) fn node_or_none_at(b: &[u8]) -> Option<(u8, &[u8])>
 }
 
 #[tactic(auto, unfolding(crate::specs::Fields::bytes_at))]
-pub(crate) fn bytes_at(b: &[u8]) -> Option<(&[u8], &[u8])>
-    ensures { GivesPart result (bytes_at b.now) }
+pub(crate) fn bytes_at(bytes: &[u8]) -> Option<(&[u8], &[u8])>
+    ensures { GivesPart result (bytes_at bytes.now) }
 {
-    let (n, b) = u16_at(b)?;
-    part_at(n as usize, b)
+    let (n, bytes) = u16_at(bytes)?;
+    part_at(n as usize, bytes)
 }
 
 #[tactic(auto, unfolding(crate::specs::Fields::name_at))]
-pub(crate) fn name_at(b: &[u8]) -> Option<(&[u8], &[u8])>
-    ensures { GivesPart result (name_at b.now) }
+pub(crate) fn name_at(bytes: &[u8]) -> Option<(&[u8], &[u8])>
+    ensures { GivesPart result (name_at bytes.now) }
 {
-    let (n, b) = u8_at(b)?;
-    let (name, b) = part_at(n as usize, b)?;
+    let (n, bytes) = u8_at(bytes)?;
+    let (name, bytes) = part_at(n as usize, bytes)?;
     if !is_name(name) {
         return None;
     }
-    Some((name, b))
+    Some((name, bytes))
 }
 
 #[tactic(auto, unfolding(crate::specs::Fields::mask_at))]
-pub(crate) fn mask_at(b: &[u8]) -> Option<(Mask, &[u8])>
-    ensures { Gives result (mask_at b.now) }
+pub(crate) fn mask_at(bytes: &[u8]) -> Option<(Mask, &[u8])>
+    ensures { Gives result (mask_at bytes.now) }
 {
-    let (bits, b) = u32_at(b)?;
-    Some((Mask { bits }, b))
+    let (bits, bytes) = u32_at(bytes)?;
+    Some((Mask { bits }, bytes))
 }
 
 #[tactic(auto, unfolding(crate::specs::Fields::view_at))]
-pub(crate) fn view_at(b: &[u8]) -> Option<(ViewId, &[u8])>
-    ensures { Gives result (view_at b.now) }
+pub(crate) fn view_at(bytes: &[u8]) -> Option<(ViewId, &[u8])>
+    ensures { Gives result (view_at bytes.now) }
 {
-    let (number, b) = u32_at(b)?;
-    let (coord, b) = node_at(b)?;
-    let (inc, b) = u32_at(b)?;
-    Some((ViewId { number, coord, inc }, b))
+    let (number, bytes) = u32_at(bytes)?;
+    let (coord, bytes) = node_at(bytes)?;
+    let (inc, bytes) = u32_at(bytes)?;
+    Some((ViewId { number, coord, inc }, bytes))
 }
 
 #[tactic(auto, unfolding(crate::specs::Fields::ring_at))]
-pub(crate) fn ring_at(b: &[u8]) -> Option<(RingId, &[u8])>
-    ensures { Gives result (ring_at b.now) }
+pub(crate) fn ring_at(bytes: &[u8]) -> Option<(RingId, &[u8])>
+    ensures { Gives result (ring_at bytes.now) }
 {
-    let (number, b) = u32_at(b)?;
-    let (leader, b) = node_at(b)?;
-    let (inc, b) = u32_at(b)?;
+    let (number, bytes) = u32_at(bytes)?;
+    let (leader, bytes) = node_at(bytes)?;
+    let (inc, bytes) = u32_at(bytes)?;
     Some((
         RingId {
             leader,
             inc,
             number,
         },
-        b,
+        bytes,
     ))
 }
 
 #[tactic(auto, unfolding(crate::specs::Fields::provider_at))]
-pub(crate) fn provider_at(b: &[u8]) -> Option<(ProviderId, &[u8])>
-    ensures { Gives result (provider_at b.now) }
+pub(crate) fn provider_at(bytes: &[u8]) -> Option<(ProviderId, &[u8])>
+    ensures { Gives result (provider_at bytes.now) }
 {
-    let (node, b) = node_at(b)?;
-    let (inc, b) = u32_at(b)?;
-    let (instance, b) = u16_at(b)?;
-    let (join, b) = u32_at(b)?;
+    let (node, bytes) = node_at(bytes)?;
+    let (inc, bytes) = u32_at(bytes)?;
+    let (instance, bytes) = u16_at(bytes)?;
+    let (join, bytes) = u32_at(bytes)?;
     Some((
         ProviderId {
             node,
@@ -156,24 +156,24 @@ pub(crate) fn provider_at(b: &[u8]) -> Option<(ProviderId, &[u8])>
             instance,
             join,
         },
-        b,
+        bytes,
     ))
 }
 
 #[tactic(auto, unfolding(crate::specs::Fields::proto_at))]
-pub(crate) fn proto_at(b: &[u8]) -> Option<(ProtoId, &[u8])>
-    ensures { Gives result (proto_at b.now) }
+pub(crate) fn proto_at(bytes: &[u8]) -> Option<(ProtoId, &[u8])>
+    ensures { Gives result (proto_at bytes.now) }
 {
-    let (view, b) = view_at(b)?;
-    let (place, b) = u32_at(b)?;
-    Some((ProtoId { view, place }, b))
+    let (view, bytes) = view_at(bytes)?;
+    let (place, bytes) = u32_at(bytes)?;
+    Some((ProtoId { view, place }, bytes))
 }
 
 #[tactic(auto, unfolding(crate::specs::Fields::member_at))]
-pub(crate) fn member_at(b: &[u8]) -> Option<(Member, &[u8])>
-    ensures { Gives result (member_at b.now) }
+pub(crate) fn member_at(bytes: &[u8]) -> Option<(Member, &[u8])>
+    ensures { Gives result (member_at bytes.now) }
 {
-    let (node, b) = node_at(b)?;
-    let (inc, b) = u32_at(b)?;
-    Some((Member { node, inc }, b))
+    let (node, bytes) = node_at(bytes)?;
+    let (inc, bytes) = u32_at(bytes)?;
+    Some((Member { node, inc }, bytes))
 }

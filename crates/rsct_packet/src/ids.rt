@@ -65,8 +65,8 @@ pub struct Member {
 
 /// A count that has risen by one, or stands still at its last value.
 #[tactic(auto, unfolding(crate::specs::Ids::risen))]
-pub fn risen(n: u32) -> u32
-    ensures { result ≡ risen n }
+pub fn risen(count: u32) -> u32
+    ensures { result ≡ risen count }
 {
-    if n == u32::MAX { n } else { n + 1 }
+    if count == u32::MAX { count } else { count + 1 }
 }

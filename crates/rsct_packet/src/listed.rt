@@ -25,10 +25,10 @@ pub trait Item: Sized + Drop {
 
     ghost can_put: { Self → Type 0 };
 
-    fn read(b: &[u8]) -> Option<(Self, &[u8])>
-        ensures value { Gives result (read_at b.now) }
-        ensures found { IsFoundAt text fits result b.now }
-        ensures only { IsOnlyAt text fits result b.now };
+    fn read(bytes: &[u8]) -> Option<(Self, &[u8])>
+        ensures value { Gives result (read_at bytes.now) }
+        ensures found { IsFoundAt text fits result bytes.now }
+        ensures only { IsOnlyAt text fits result bytes.now };
 
     fn put(&self, out: &mut Vec<u8>) -> Result<(), NoMemory>
         requires { can_put self.now }
@@ -49,8 +49,8 @@ impl Item for ProviderId {
 
     ghost can_put = { λ x. IsNode x.node };
 
-    fn read(b: &[u8]) -> Option<(ProviderId, &[u8])> {
-        read_provider(b)
+    fn read(bytes: &[u8]) -> Option<(ProviderId, &[u8])> {
+        read_provider(bytes)
     }
 
     fn put(&self, out: &mut Vec<u8>) -> Result<(), NoMemory> {
@@ -70,8 +70,8 @@ impl Item for Member {
 
     ghost can_put = { λ x. IsNode x.node };
 
-    fn read(b: &[u8]) -> Option<(Member, &[u8])> {
-        read_member(b)
+    fn read(bytes: &[u8]) -> Option<(Member, &[u8])> {
+        read_member(bytes)
     }
 
     fn put(&self, out: &mut Vec<u8>) -> Result<(), NoMemory> {
@@ -102,11 +102,11 @@ impl<'a, T: Item> Model for Listed<'a, T> {
     ghost invariant = { λ s. IsSome (many_at T.read_at s.count s.bytes.now) };
 }
 
-#[tactic(auto, using(crate::proofs::ListedLaws::skips_none, crate::proofs::ListedLaws::skips_more, crate::proofs::ListedLaws::skips_stop, crate::proofs::ListedLaws::skips_all, crate::proofs::ListedLaws::skips_some))]
-fn many_at<'a, T: Item>(count: usize, b: &'a [u8]) -> Option<(Listed<'a, T>, &'a [u8])>
-    ensures { Gives result (many_at T.read_at count b.now) }
+#[tactic(auto, using(crate::proofs::ListedLaws::skip_search))]
+fn many_at<'a, T: Item>(count: usize, bytes: &'a [u8]) -> Option<(Listed<'a, T>, &'a [u8])>
+    ensures { Gives result (many_at T.read_at count bytes.now) }
 {
-    let mut rest = b;
+    let mut rest = bytes;
     for _i in 0..count {
         match T::read(rest) {
             None => return None,
@@ -116,7 +116,7 @@ fn many_at<'a, T: Item>(count: usize, b: &'a [u8]) -> Option<(Listed<'a, T>, &'a
     Some((
         Listed {
             count,
-            bytes: b,
+            bytes,
             kind: PhantomData,
         },
         rest,
@@ -124,14 +124,14 @@ fn many_at<'a, T: Item>(count: usize, b: &'a [u8]) -> Option<(Listed<'a, T>, &'a
 }
 
 /// So many items, left where they stand.
-#[tactic(auto, using(crate::proofs::FormatLaws::gives_found, crate::proofs::FormatLaws::gives_only, crate::proofs::FormatLaws::many_format))]
-pub fn read_listed<'a, T: Item>(count: usize, b: &'a [u8]) -> Option<(Listed<'a, T>, &'a [u8])>
-    ensures value { Gives result (many_at T.read_at count b.now) }
-    ensures found { IsFoundAt (flat_map T.text) (AreMany count T.fits) result b.now }
-    ensures only { IsOnlyAt (flat_map T.text) (AreMany count T.fits) result b.now }
+#[tactic(auto, using(crate::proofs::FormatLaws::format_reads, crate::proofs::FormatLaws::many_format))]
+pub fn read_listed<'a, T: Item>(count: usize, bytes: &'a [u8]) -> Option<(Listed<'a, T>, &'a [u8])>
+    ensures value { Gives result (many_at T.read_at count bytes.now) }
+    ensures found { IsFoundAt (flat_map T.text) (AreMany count T.fits) result bytes.now }
+    ensures only { IsOnlyAt (flat_map T.text) (AreMany count T.fits) result bytes.now }
 {
     T::format_law();
-    many_at(count, known(b))
+    many_at(count, known(bytes))
 }
 
 impl<'a, T: Item> Listed<'a, T> {
@@ -180,45 +180,45 @@ impl<'a, T: Item> Listed<'a, T> {
 }
 
 /// All of them, one after another. Where memory has run out, what was there before still stands in front.
-fn put_each<T: Item>(out: &mut Vec<u8>, xs: &[T]) -> Result<(), NoMemory>
-    requires { EachFits T.can_put xs.now }
-    ensures ok { OnOk result (out.new.items ≡ out.old.items ++ flat_map T.text xs.now) }
+fn put_each<T: Item>(out: &mut Vec<u8>, items: &[T]) -> Result<(), NoMemory>
+    requires { EachFits T.can_put items.now }
+    ensures ok { OnOk result (out.new.items ≡ out.old.items ++ flat_map T.text items.now) }
     ensures err { OnErr result (take (length out.old.items) out.new.items ≡ out.old.items) }
 {
-    for x in xs {
+    for x in items {
         x.put(out)?;
     }
     Ok(())
 }
 
-fn counted_at<'a, T: Item>(b: &'a [u8]) -> Option<(Listed<'a, T>, &'a [u8])>
-    ensures { Gives result (counted_at w8 T.read_at b.now) }
+fn counted_at<'a, T: Item>(bytes: &'a [u8]) -> Option<(Listed<'a, T>, &'a [u8])>
+    ensures { Gives result (counted_at w8 T.read_at bytes.now) }
 {
-    let (n, b) = u8_at(b)?;
-    many_at(n as usize, b)
+    let (n, bytes) = u8_at(bytes)?;
+    many_at(n as usize, bytes)
 }
 
 /// A count of one byte and so many items, left where they stand.
-#[tactic(auto, using(crate::proofs::FormatLaws::gives_found, crate::proofs::FormatLaws::gives_only, crate::proofs::FormatLaws::few_format))]
-pub fn read_list<'a, T: Item>(b: &'a [u8]) -> Option<(Listed<'a, T>, &'a [u8])>
-    ensures value { Gives result (counted_at w8 T.read_at b.now) }
-    ensures found { IsFoundAt (counted_text w8 T.text) (AreFew T.fits) result b.now }
-    ensures only { IsOnlyAt (counted_text w8 T.text) (AreFew T.fits) result b.now }
+#[tactic(auto, using(crate::proofs::FormatLaws::format_reads, crate::proofs::FormatLaws::few_format))]
+pub fn read_list<'a, T: Item>(bytes: &'a [u8]) -> Option<(Listed<'a, T>, &'a [u8])>
+    ensures value { Gives result (counted_at w8 T.read_at bytes.now) }
+    ensures found { IsFoundAt (counted_text w8 T.text) (AreFew T.fits) result bytes.now }
+    ensures only { IsOnlyAt (counted_text w8 T.text) (AreFew T.fits) result bytes.now }
 {
     T::format_law();
-    counted_at(known(b))
+    counted_at(known(bytes))
 }
 
 /// A count of one byte and the items.
-pub fn put_list<T: Item>(out: &mut Vec<u8>, xs: &[T]) -> Result<(), NoMemory>
-    requires few { length xs.now < 256 }
-    requires each { EachFits T.can_put xs.now }
-    ensures ok { OnOk result (out.new.items ≡ out.old.items ++ counted_text w8 T.text xs.now) }
+pub fn put_list<T: Item>(out: &mut Vec<u8>, items: &[T]) -> Result<(), NoMemory>
+    requires few { length items.now < 256 }
+    requires each { EachFits T.can_put items.now }
+    ensures ok { OnOk result (out.new.items ≡ out.old.items ++ counted_text w8 T.text items.now) }
     ensures err { OnErr result (out.new.items ≡ out.old.items) }
 {
     let before = out.len();
-    put_u8(out, xs.len() as u8)?;
-    if put_each(out, xs).is_err() {
+    put_u8(out, items.len() as u8)?;
+    if put_each(out, items).is_err() {
         out.truncate(before);
         return Err(NoMemory);
     }
@@ -226,10 +226,10 @@ pub fn put_list<T: Item>(out: &mut Vec<u8>, xs: &[T]) -> Result<(), NoMemory>
 }
 
 /// Does each differ from those after it?
-fn are_apart(ps: &Listed<ProviderId>) -> bool
-    ensures { result ≡ differ ps.now }
+fn are_apart(providers: &Listed<ProviderId>) -> bool
+    ensures { result ≡ differ providers.now }
 {
-    let mut left = ps.copy();
+    let mut left = providers.copy();
     while let Some(p) = left.take_first() {
         if is_listed(&left, p) {
             return false;
@@ -239,73 +239,73 @@ fn are_apart(ps: &Listed<ProviderId>) -> bool
 }
 
 /// Is it one of them?
-pub fn is_listed(ps: &Listed<ProviderId>, p: ProviderId) -> bool
-    ensures { result ≡ among ps.now p }
+pub fn is_listed(providers: &Listed<ProviderId>, provider: ProviderId) -> bool
+    ensures { result ≡ among providers.now provider }
 {
-    let mut left = ps.copy();
+    let mut left = providers.copy();
     while let Some(q) = left.take_first() {
-        if q == p {
+        if q == provider {
             return true;
         }
     }
     false
 }
 
-fn are_providers(ps: &Listed<ProviderId>) -> bool
-    ensures { result ≡ are_providers ps.now }
+fn are_providers(providers: &Listed<ProviderId>) -> bool
+    ensures { result ≡ are_providers providers.now }
 {
-    ps.len() <= 64 && are_apart(ps)
+    providers.len() <= 64 && are_apart(providers)
 }
 
 #[tactic(auto, unfolding(crate::specs::Fields::providers_at))]
-fn providers_alone(b: &[u8]) -> Option<(Listed<ProviderId>, &[u8])>
-    ensures { Gives result (providers_at b.now) }
+fn providers_alone(bytes: &[u8]) -> Option<(Listed<ProviderId>, &[u8])>
+    ensures { Gives result (providers_at bytes.now) }
 {
-    let (ps, b) = counted_at::<ProviderId>(b)?;
+    let (ps, bytes) = counted_at::<ProviderId>(bytes)?;
     if !are_providers(&ps) {
         return None;
     }
-    Some((ps, b))
+    Some((ps, bytes))
 }
 
 /// At most 64 providers that differ, left where they stand.
-#[tactic(auto, using(crate::proofs::FormatLaws::gives_found, crate::proofs::FormatLaws::gives_only, crate::proofs::FieldLaws::providers_format))]
-pub fn read_providers(b: &[u8]) -> Option<(Listed<ProviderId>, &[u8])>
-    ensures value { Gives result (providers_at b.now) }
-    ensures found { IsFoundAt providers_text IsProviders result b.now }
-    ensures only { IsOnlyAt providers_text IsProviders result b.now }
+#[tactic(auto, using(crate::proofs::FormatLaws::format_reads, crate::proofs::FieldLaws::providers_format))]
+pub fn read_providers(bytes: &[u8]) -> Option<(Listed<ProviderId>, &[u8])>
+    ensures value { Gives result (providers_at bytes.now) }
+    ensures found { IsFoundAt providers_text IsProviders result bytes.now }
+    ensures only { IsOnlyAt providers_text IsProviders result bytes.now }
 {
-    providers_alone(known(b))
+    providers_alone(known(bytes))
 }
 
 #[tactic(auto, unfolding(crate::specs::Fields::some_providers_at))]
-fn some_providers_alone(b: &[u8]) -> Option<(Listed<ProviderId>, &[u8])>
-    ensures { Gives result (some_providers_at b.now) }
+fn some_providers_alone(bytes: &[u8]) -> Option<(Listed<ProviderId>, &[u8])>
+    ensures { Gives result (some_providers_at bytes.now) }
 {
-    let (ps, b) = providers_alone(b)?;
+    let (ps, bytes) = providers_alone(bytes)?;
     if ps.len() < 1 {
         return None;
     }
-    Some((ps, b))
+    Some((ps, bytes))
 }
 
 /// 1 to 64 providers that differ, left where they stand.
-#[tactic(auto, using(crate::proofs::FormatLaws::gives_found, crate::proofs::FormatLaws::gives_only, crate::proofs::FieldLaws::some_providers_format))]
-pub fn read_some_providers(b: &[u8]) -> Option<(Listed<ProviderId>, &[u8])>
-    ensures value { Gives result (some_providers_at b.now) }
-    ensures found { IsFoundAt providers_text IsSomeProviders result b.now }
-    ensures only { IsOnlyAt providers_text IsSomeProviders result b.now }
+#[tactic(auto, using(crate::proofs::FormatLaws::format_reads, crate::proofs::FieldLaws::some_providers_format))]
+pub fn read_some_providers(bytes: &[u8]) -> Option<(Listed<ProviderId>, &[u8])>
+    ensures value { Gives result (some_providers_at bytes.now) }
+    ensures found { IsFoundAt providers_text IsSomeProviders result bytes.now }
+    ensures only { IsOnlyAt providers_text IsSomeProviders result bytes.now }
 {
-    some_providers_alone(known(b))
+    some_providers_alone(known(bytes))
 }
 
 /// A count of one byte and the providers.
 #[tactic(auto, unfolding(crate::specs::Fields::providers_text))]
-pub fn put_providers(out: &mut Vec<u8>, ps: &[ProviderId]) -> Result<(), NoMemory>
-    requires few { length ps.now < 256 }
-    requires each { EachFits (λ p. IsNode p.node) ps.now }
-    ensures ok { OnOk result (out.new.items ≡ out.old.items ++ providers_text ps.now) }
+pub fn put_providers(out: &mut Vec<u8>, providers: &[ProviderId]) -> Result<(), NoMemory>
+    requires few { length providers.now < 256 }
+    requires each { EachFits (λ p. IsNode p.node) providers.now }
+    ensures ok { OnOk result (out.new.items ≡ out.old.items ++ providers_text providers.now) }
     ensures err { OnErr result (out.new.items ≡ out.old.items) }
 {
-    put_list(out, ps)
+    put_list(out, providers)
 }

@@ -10,84 +10,86 @@ use crate::ids::{NoMemory, ProtoId};
 use crate::reading::known;
 use crate::writing::{put_bytes, put_proto, put_u8, put_u32};
 
-fn optional_u32_at(b: &[u8]) -> Option<(Option<u32>, &[u8])>
-    ensures { Gives result (optional_at (number_at w32) b.now) }
+fn optional_u32_at(bytes: &[u8]) -> Option<(Option<u32>, &[u8])>
+    ensures { Gives result (optional_at (number_at w32) bytes.now) }
 {
-    let (k, b) = u8_at(b)?;
+    let (k, bytes) = u8_at(bytes)?;
     match k {
-        0 => Some((None, b)),
+        0 => Some((None, bytes)),
         1 => {
-            let (n, b) = u32_at(b)?;
-            Some((Some(n), b))
+            let (n, bytes) = u32_at(bytes)?;
+            Some((Some(n), bytes))
         }
         _ => None,
     }
 }
 
-fn optional_bytes_at(b: &[u8]) -> Option<(Option<&[u8]>, &[u8])>
-    ensures { GivesOptionalPart result (optional_at bytes_at b.now) }
+fn optional_bytes_at(spelling: &[u8]) -> Option<(Option<&[u8]>, &[u8])>
+    ensures { GivesOptionalPart result (optional_at bytes_at spelling.now) }
 {
-    let (k, b) = u8_at(b)?;
+    let (k, spelling) = u8_at(spelling)?;
     match k {
-        0 => Some((None, b)),
+        0 => Some((None, spelling)),
         1 => {
-            let (bytes, b) = bytes_at(b)?;
-            Some((Some(bytes), b))
+            let (bytes, spelling) = bytes_at(spelling)?;
+            Some((Some(bytes), spelling))
         }
         _ => None,
     }
 }
 
-fn optional_proto_at(b: &[u8]) -> Option<(Option<ProtoId>, &[u8])>
-    ensures { Gives result (optional_at proto_at b.now) }
+fn optional_proto_at(bytes: &[u8]) -> Option<(Option<ProtoId>, &[u8])>
+    ensures { Gives result (optional_at proto_at bytes.now) }
 {
-    let (k, b) = u8_at(b)?;
+    let (k, bytes) = u8_at(bytes)?;
     match k {
-        0 => Some((None, b)),
+        0 => Some((None, bytes)),
         1 => {
-            let (proto, b) = proto_at(b)?;
-            Some((Some(proto), b))
+            let (proto, bytes) = proto_at(bytes)?;
+            Some((Some(proto), bytes))
         }
         _ => None,
     }
 }
 
 /// A number of 4 bytes, or none.
-#[tactic(auto, using(crate::proofs::FormatLaws::gives_found, crate::proofs::FormatLaws::gives_only, crate::proofs::FormatLaws::optional_format, crate::proofs::FormatLaws::u32_format))]
-pub fn read_optional_u32(b: &[u8]) -> Option<(Option<u32>, &[u8])>
-    ensures value { Gives result (optional_at (number_at w32) b.now) }
-    ensures found { IsFoundAt (optional_text u32_text) (OptionFits IsU32) result b.now }
-    ensures only { IsOnlyAt (optional_text u32_text) (OptionFits IsU32) result b.now }
+#[tactic(auto, using(crate::proofs::FormatLaws::format_reads, crate::proofs::FormatLaws::optional_format, crate::proofs::FormatLaws::u32_format))]
+pub fn read_optional_u32(bytes: &[u8]) -> Option<(Option<u32>, &[u8])>
+    ensures value { Gives result (optional_at (number_at w32) bytes.now) }
+    ensures found { IsFoundAt (optional_text u32_text) (OptionFits IsU32) result bytes.now }
+    ensures only { IsOnlyAt (optional_text u32_text) (OptionFits IsU32) result bytes.now }
 {
-    optional_u32_at(known(b))
+    optional_u32_at(known(bytes))
 }
 
 /// Bytes behind their length, or none.
-#[tactic(auto, using(crate::proofs::FormatLaws::gives_found, crate::proofs::FormatLaws::gives_only, crate::proofs::FormatLaws::optional_part_gives, crate::proofs::FormatLaws::optional_format, crate::proofs::FieldLaws::bytes_format))]
-pub fn read_optional_bytes(b: &[u8]) -> Option<(Option<&[u8]>, &[u8])>
-    ensures value { GivesOptionalPart result (optional_at bytes_at b.now) }
-    ensures found { IsFoundAt (optional_text bytes_text) (OptionFits AreShort) (optional_part_of result) b.now }
-    ensures only { IsOnlyAt (optional_text bytes_text) (OptionFits AreShort) (optional_part_of result) b.now }
+#[tactic(auto, using(crate::proofs::FormatLaws::format_reads, crate::proofs::FormatLaws::optional_part_gives, crate::proofs::FormatLaws::optional_format, crate::proofs::FieldLaws::bytes_format))]
+pub fn read_optional_bytes(bytes: &[u8]) -> Option<(Option<&[u8]>, &[u8])>
+    ensures value { GivesOptionalPart result (optional_at bytes_at bytes.now) }
+    ensures found { IsFoundAt (optional_text bytes_text) (OptionFits AreShort)
+        (optional_part_of result) bytes.now }
+    ensures only { IsOnlyAt (optional_text bytes_text) (OptionFits AreShort)
+        (optional_part_of result) bytes.now }
 {
-    optional_bytes_at(known(b))
+    optional_bytes_at(known(bytes))
 }
 
 /// A protocol, or none.
-#[tactic(auto, using(crate::proofs::FormatLaws::gives_found, crate::proofs::FormatLaws::gives_only, crate::proofs::FormatLaws::optional_format, crate::proofs::FieldLaws::proto_format))]
-pub fn read_optional_proto(b: &[u8]) -> Option<(Option<ProtoId>, &[u8])>
-    ensures value { Gives result (optional_at proto_at b.now) }
-    ensures found { IsFoundAt (optional_text proto_text) (OptionFits IsProto) result b.now }
-    ensures only { IsOnlyAt (optional_text proto_text) (OptionFits IsProto) result b.now }
+#[tactic(auto, using(crate::proofs::FormatLaws::format_reads, crate::proofs::FormatLaws::optional_format, crate::proofs::FieldLaws::proto_format))]
+pub fn read_optional_proto(bytes: &[u8]) -> Option<(Option<ProtoId>, &[u8])>
+    ensures value { Gives result (optional_at proto_at bytes.now) }
+    ensures found { IsFoundAt (optional_text proto_text) (OptionFits IsProto) result bytes.now }
+    ensures only { IsOnlyAt (optional_text proto_text) (OptionFits IsProto) result bytes.now }
 {
-    optional_proto_at(known(b))
+    optional_proto_at(known(bytes))
 }
 
-pub fn put_optional_u32(out: &mut Vec<u8>, x: Option<u32>) -> Result<(), NoMemory>
-    ensures ok { OnOk result (out.new.items ≡ out.old.items ++ optional_text u32_text x) }
+pub fn put_optional_u32(out: &mut Vec<u8>, number: Option<u32>) -> Result<(), NoMemory>
+    ensures ok { OnOk result (out.new.items ≡ out.old.items ++ optional_text u32_text number) }
     ensures err { OnErr result (out.new.items ≡ out.old.items) }
 {
     let before = out.len();
-    match x {
+    match number {
         None => put_u8(out, 0),
         Some(n) => {
             put_u8(out, 1)?;
@@ -100,13 +102,14 @@ pub fn put_optional_u32(out: &mut Vec<u8>, x: Option<u32>) -> Result<(), NoMemor
     }
 }
 
-pub fn put_optional_bytes(out: &mut Vec<u8>, x: Option<&[u8]>) -> Result<(), NoMemory>
-    requires { OptionFits AreShort (option_copied x) }
-    ensures ok { OnOk result (out.new.items ≡ out.old.items ++ optional_text bytes_text (option_copied x.entry)) }
+pub fn put_optional_bytes(out: &mut Vec<u8>, bytes: Option<&[u8]>) -> Result<(), NoMemory>
+    requires { OptionFits AreShort (option_copied bytes) }
+    ensures ok { OnOk result (out.new.items ≡ out.old.items
+        ++ optional_text bytes_text (option_copied bytes.entry)) }
     ensures err { OnErr result (out.new.items ≡ out.old.items) }
 {
     let before = out.len();
-    match x {
+    match bytes {
         None => put_u8(out, 0),
         Some(b) => {
             put_u8(out, 1)?;
@@ -119,13 +122,13 @@ pub fn put_optional_bytes(out: &mut Vec<u8>, x: Option<&[u8]>) -> Result<(), NoM
     }
 }
 
-pub fn put_optional_proto(out: &mut Vec<u8>, x: Option<ProtoId>) -> Result<(), NoMemory>
-    requires { OptionFits (λ p. IsNode p.view.coord) x }
-    ensures ok { OnOk result (out.new.items ≡ out.old.items ++ optional_text proto_text x) }
+pub fn put_optional_proto(out: &mut Vec<u8>, proto: Option<ProtoId>) -> Result<(), NoMemory>
+    requires { OptionFits (λ p. IsNode p.view.coord) proto }
+    ensures ok { OnOk result (out.new.items ≡ out.old.items ++ optional_text proto_text proto) }
     ensures err { OnErr result (out.new.items ≡ out.old.items) }
 {
     let before = out.len();
-    match x {
+    match proto {
         None => put_u8(out, 0),
         Some(p) => {
             put_u8(out, 1)?;

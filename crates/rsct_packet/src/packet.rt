@@ -63,37 +63,37 @@ fn is_sender(from: u8, inc: u32) -> bool
 
 /// Has this head a spelling?
 #[tactic(auto, unfolding(crate::specs::Packet::is_head))]
-pub fn is_head(h: Head) -> bool
-    ensures { result ≡ is_head h }
+pub fn is_head(head: Head) -> bool
+    ensures { result ≡ is_head head }
 {
-    h.kind >= 1
-        && h.kind <= 23
-        && h.network >= 1
-        && h.network <= 4
-        && is_sender(h.from, h.inc)
-        && h.to <= 32
+    head.kind >= 1
+        && head.kind <= 23
+        && head.network >= 1
+        && head.network <= 4
+        && is_sender(head.from, head.inc)
+        && head.to <= 32
 }
 
 #[tactic(auto, unfolding(crate::specs::Packet::is_front))]
-fn is_front(f: Front) -> bool
-    ensures { result ≡ is_front f }
+fn is_front(front: Front) -> bool
+    ensures { result ≡ is_front front }
 {
-    is_head(f.head) && is_level(f.level, f.head.kind)
+    is_head(front.head) && is_level(front.level, front.head.kind)
 }
 
 #[tactic(auto, unfolding(crate::specs::Packet::front_at))]
-fn read_front(b: &[u8]) -> Option<(Front, &[u8])>
-    ensures { Gives result (front_at b.now) }
+fn read_front(bytes: &[u8]) -> Option<(Front, &[u8])>
+    ensures { Gives result (front_at bytes.now) }
 {
-    let (mark, b) = u16_at(b)?;
-    let (level, b) = u8_at(b)?;
-    let (kind, b) = u8_at(b)?;
-    let (network, b) = u8_at(b)?;
-    let (from, b) = u8_at(b)?;
-    let (to, b) = u8_at(b)?;
-    let (zero, b) = u8_at(b)?;
-    let (inc, b) = u32_at(b)?;
-    let (body_len, b) = u32_at(b)?;
+    let (mark, bytes) = u16_at(bytes)?;
+    let (level, bytes) = u8_at(bytes)?;
+    let (kind, bytes) = u8_at(bytes)?;
+    let (network, bytes) = u8_at(bytes)?;
+    let (from, bytes) = u8_at(bytes)?;
+    let (to, bytes) = u8_at(bytes)?;
+    let (zero, bytes) = u8_at(bytes)?;
+    let (inc, bytes) = u32_at(bytes)?;
+    let (body_len, bytes) = u32_at(bytes)?;
     if mark != 0x5247 || zero != 0 {
         return None;
     }
@@ -111,28 +111,28 @@ fn read_front(b: &[u8]) -> Option<(Front, &[u8])>
     if !is_front(front) {
         return None;
     }
-    Some((front, b))
+    Some((front, bytes))
 }
 
-fn read_domain(level: u8, b: &[u8]) -> Option<(u32, &[u8])>
-    ensures { Gives result (domain_at level b.now) }
+fn read_domain(level: u8, bytes: &[u8]) -> Option<(u32, &[u8])>
+    ensures { Gives result (domain_at level bytes.now) }
 {
     if level == 1 {
-        return Some((0, b));
+        return Some((0, bytes));
     }
-    let (domain, b) = u32_at(b)?;
+    let (domain, bytes) = u32_at(bytes)?;
     if domain < 1 {
         return None;
     }
-    Some((domain, b))
+    Some((domain, bytes))
 }
 
 #[tactic(auto, unfolding(crate::specs::Packet::packet_at))]
-fn read_alone(b: &[u8]) -> Option<Packet>
-    ensures { option_map packet_view result ≡ packet_at b.now }
+fn read_alone(bytes: &[u8]) -> Option<Packet>
+    ensures { option_map packet_view result ≡ packet_at bytes.now }
 {
-    let (front, b) = read_front(b)?;
-    let (domain, body) = read_domain(front.level, b)?;
+    let (front, bytes) = read_front(bytes)?;
+    let (domain, body) = read_domain(front.level, bytes)?;
     if front.body_len as usize != body.len() {
         return None;
     }
@@ -148,30 +148,32 @@ impl<'a> Packet<'a> {
     /// The packet of a datagram; `None` exactly where the bytes are not a head followed by just as many bytes
     /// as it names for the body.
     #[tactic(auto, using(crate::proofs::PacketLaws::read_found, crate::proofs::PacketLaws::read_only))]
-    pub fn read(b: &'a [u8]) -> Option<Packet<'a>>
-        ensures value { option_map packet_view result ≡ packet_at b.now }
-        ensures found { IfSome result (λ p. IsPacket (packet_view p) × (b.now ≡ packet_text (packet_view p))) }
-        ensures only { (p : PacketView) → IsPacket p → b.now ≡ packet_text p → option_map packet_view result ≡ Some p }
+    pub fn read(bytes: &'a [u8]) -> Option<Packet<'a>>
+        ensures value { option_map packet_view result ≡ packet_at bytes.now }
+        ensures found { IfSome result (λ p. IsPacket (packet_view p)
+            × (bytes.now ≡ packet_text (packet_view p))) }
+        ensures only { (p : PacketView) → IsPacket p → bytes.now ≡ packet_text p
+            → option_map packet_view result ≡ Some p }
     {
-        read_alone(known(b))
+        read_alone(known(bytes))
     }
 }
 
 /// What both levels have at the front, as bytes.
 #[tactic(auto, unfolding(crate::specs::Packet::front_text, crate::specs::Fields::u32_text, crate::specs::Fields::u16_text))]
-fn front_bytes(f: Front) -> [u8; 16]
-    ensures { result ≡ front_text f }
+fn front_bytes(front: Front) -> [u8; 16]
+    ensures { result ≡ front_text front }
 {
-    let [a, b, c, d] = f.head.inc.to_be_bytes();
-    let [i, j, k, l] = f.body_len.to_be_bytes();
+    let [a, b, c, d] = front.head.inc.to_be_bytes();
+    let [i, j, k, l] = front.body_len.to_be_bytes();
     [
         0x52,
         0x47,
-        f.level,
-        f.head.kind,
-        f.head.network,
-        f.head.from,
-        f.head.to,
+        front.level,
+        front.head.kind,
+        front.head.network,
+        front.head.from,
+        front.head.to,
         0,
         a,
         b,
@@ -211,7 +213,8 @@ pub fn write_head2(
     requires passes { IsTrue (is_head head.now) }
     requires kind { IsTrue (is_group_kind head.now.kind) }
     requires domain { 1 ≤ domain }
-    ensures ok { OnOk result (out.new.items ≡ out.old.items ++ head_text head.now 2 domain body_len) }
+    ensures ok { OnOk result (out.new.items ≡ out.old.items
+        ++ head_text head.now 2 domain body_len) }
     ensures err { OnErr result (out.new.items ≡ out.old.items) }
 {
     let before = out.len();

@@ -29,52 +29,67 @@ impl Model for Providers {
 }
 
 /// Is it among them?
-pub fn is_among(xs: &[ProviderId], p: ProviderId) -> bool
-    ensures { result ≡ among xs.now p }
+pub fn is_among(providers: &[ProviderId], provider: ProviderId) -> bool
+    ensures { result ≡ among providers.now provider }
 {
-    xs.iter().any(|q| *q == p)
+    providers.iter().any(|q| *q == provider)
 }
 
 /// Is none of them among the others?
-pub fn is_none_among(xs: &[ProviderId], ps: &[ProviderId]) -> bool
-    ensures { result ≡ none_among xs.now ps.now }
+pub fn is_none_among(providers: &[ProviderId], others: &[ProviderId]) -> bool
+    ensures { result ≡ none_among providers.now others.now }
 {
-    ps.iter().all(|p| !is_among(xs, *p))
+    others.iter().all(|p| !is_among(providers, *p))
 }
 
-fn all_but(alloc: Global, xs: &[ProviderId], p: ProviderId) -> Result<Vec<ProviderId>, NoMemory>
-    ensures { IfOk result (λ v. v.items ≡ without xs.now p) }
-{
-    Ok(xs.iter().copied().filter(|q| *q != p).collect(alloc)?)
-}
-
-fn all_but_some(
+fn all_but(
     alloc: Global,
-    xs: &[ProviderId],
-    ps: &[ProviderId],
+    providers: &[ProviderId],
+    provider: ProviderId,
 ) -> Result<Vec<ProviderId>, NoMemory>
-    ensures { IfOk result (λ v. v.items ≡ without_all xs.now ps.now) }
+    ensures { IfOk result (λ v. v.items ≡ without providers.now provider) }
 {
     Ok(
-        xs.iter()
+        providers
+            .iter()
             .copied()
-            .filter(|q| !is_among(ps, *q))
+            .filter(|q| *q != provider)
             .collect(alloc)?,
     )
 }
 
-fn joined(alloc: Global, xs: &[ProviderId], ps: &[ProviderId]) -> Result<Vec<ProviderId>, NoMemory>
-    ensures { IfOk result (λ v. v.items ≡ xs.now ++ ps.now) }
+fn all_but_some(
+    alloc: Global,
+    providers: &[ProviderId],
+    others: &[ProviderId],
+) -> Result<Vec<ProviderId>, NoMemory>
+    ensures { IfOk result (λ v. v.items ≡ without_all providers.now others.now) }
 {
-    let mut v = Vec::from_slice(alloc, xs)?;
-    v.extend_from_slice(ps)?;
+    Ok(
+        providers
+            .iter()
+            .copied()
+            .filter(|q| !is_among(others, *q))
+            .collect(alloc)?,
+    )
+}
+
+fn joined(
+    alloc: Global,
+    providers: &[ProviderId],
+    others: &[ProviderId],
+) -> Result<Vec<ProviderId>, NoMemory>
+    ensures { IfOk result (λ v. v.items ≡ providers.now ++ others.now) }
+{
+    let mut v = Vec::from_slice(alloc, providers)?;
+    v.extend_from_slice(others)?;
     Ok(v)
 }
 
-fn keep_all_but(items: &mut Vec<ProviderId>, ps: &[ProviderId])
-    ensures { items.new.items ≡ without_all items.old.items ps.now }
+fn keep_all_but(items: &mut Vec<ProviderId>, providers: &[ProviderId])
+    ensures { items.new.items ≡ without_all items.old.items providers.now }
 {
-    items.retain(|q| !is_among(ps, *q));
+    items.retain(|q| !is_among(providers, *q));
 }
 
 impl Providers {
@@ -86,32 +101,32 @@ impl Providers {
         }
     }
 
-    pub fn one(alloc: Global, p: ProviderId) -> Result<Providers, NoMemory>
-        ensures { IfOk result (λ v. v ≡ p ∷ []) }
+    pub fn one(alloc: Global, provider: ProviderId) -> Result<Providers, NoMemory>
+        ensures { IfOk result (λ v. v ≡ provider ∷ []) }
     {
         let mut items = Vec::new(alloc);
-        items.push(p)?;
+        items.push(provider)?;
         Ok(Providers { items })
     }
 
     /// Those that a datagram lists.
-    pub fn of_listed(alloc: Global, ps: &Listed<ProviderId>) -> Result<Providers, NoMemory>
-        requires { AreProviders ps.now }
-        ensures { IfOk result (λ v. v ≡ ps.now) }
+    pub fn of_listed(alloc: Global, providers: &Listed<ProviderId>) -> Result<Providers, NoMemory>
+        requires { AreProviders providers.now }
+        ensures { IfOk result (λ v. v ≡ providers.now) }
     {
-        let list = ps.own(alloc)?;
+        let list = providers.own(alloc)?;
         Ok(Providers {
             items: list.into_items(),
         })
     }
 
     /// The list of these.
-    pub fn of(alloc: Global, ps: &[ProviderId]) -> Result<Providers, NoMemory>
-        requires { AreProviders ps.now }
-        ensures { IfOk result (λ v. v ≡ ps.now) }
+    pub fn of(alloc: Global, providers: &[ProviderId]) -> Result<Providers, NoMemory>
+        requires { AreProviders providers.now }
+        ensures { IfOk result (λ v. v ≡ providers.now) }
     {
         Ok(Providers {
-            items: Vec::from_slice(alloc, ps)?,
+            items: Vec::from_slice(alloc, providers)?,
         })
     }
 
@@ -122,10 +137,10 @@ impl Providers {
         self.items.len()
     }
 
-    pub fn get(&self, i: usize) -> Option<&ProviderId>
-        ensures { option_copied result ≡ slice_get self.now i }
+    pub fn get(&self, place: usize) -> Option<&ProviderId>
+        ensures { option_copied result ≡ slice_get self.now place }
     {
-        self.items.get(i)
+        self.items.get(place)
     }
 
     pub fn as_slice(&self) -> &[ProviderId]
@@ -144,60 +159,64 @@ impl Providers {
     }
 
     /// All but one.
-    pub fn without(&self, alloc: Global, p: ProviderId) -> Result<Providers, NoMemory>
-        ensures { IfOk result (λ v. v ≡ without self.now p) }
+    pub fn without(&self, alloc: Global, provider: ProviderId) -> Result<Providers, NoMemory>
+        ensures { IfOk result (λ v. v ≡ without self.now provider) }
     {
         Ok(Providers {
-            items: all_but(alloc, self.items.as_slice(), p)?,
+            items: all_but(alloc, self.items.as_slice(), provider)?,
         })
     }
 
     /// With others at the end.
-    pub fn with(&self, alloc: Global, ps: &Providers) -> Result<Providers, NoMemory>
-        requires room { length self.now + length ps.now ≤ 64 }
-        requires apart { IsTrue (none_among self.now ps.now) }
-        ensures { IfOk result (λ v. v ≡ self.now ++ ps.now) }
+    pub fn with(&self, alloc: Global, providers: &Providers) -> Result<Providers, NoMemory>
+        requires room { length self.now + length providers.now ≤ 64 }
+        requires apart { IsTrue (none_among self.now providers.now) }
+        ensures { IfOk result (λ v. v ≡ self.now ++ providers.now) }
     {
         Ok(Providers {
-            items: joined(alloc, self.items.as_slice(), ps.items.as_slice())?,
+            items: joined(alloc, self.items.as_slice(), providers.items.as_slice())?,
         })
     }
 
     /// All but some.
-    pub fn without_all(&self, alloc: Global, ps: &[ProviderId]) -> Result<Providers, NoMemory>
-        ensures { IfOk result (λ v. v ≡ without_all self.now ps.now) }
+    pub fn without_all(
+        &self,
+        alloc: Global,
+        providers: &[ProviderId],
+    ) -> Result<Providers, NoMemory>
+        ensures { IfOk result (λ v. v ≡ without_all self.now providers.now) }
     {
         Ok(Providers {
-            items: all_but_some(alloc, self.items.as_slice(), ps)?,
+            items: all_but_some(alloc, self.items.as_slice(), providers)?,
         })
     }
 
     /// Takes one to the end, in place.
-    pub fn push(&mut self, p: ProviderId) -> Result<(), NoMemory>
+    pub fn push(&mut self, provider: ProviderId) -> Result<(), NoMemory>
         requires room { length self.old < 64 }
-        requires apart { IsTrue (not (among self.old p)) }
-        ensures ok { OnOk result (self.new ≡ self.old ++ p ∷ []) }
+        requires apart { IsTrue (not (among self.old provider)) }
+        ensures ok { OnOk result (self.new ≡ self.old ++ provider ∷ []) }
         ensures err { OnErr result (self.new ≡ self.old) }
     {
-        self.items.push(p)?;
+        self.items.push(provider)?;
         Ok(())
     }
 
     /// Takes others to the end, in place.
-    pub fn extend(&mut self, ps: &Providers) -> Result<(), NoMemory>
-        requires room { length self.old + length ps.now ≤ 64 }
-        requires apart { IsTrue (none_among self.old ps.now) }
-        ensures ok { OnOk result (self.new ≡ self.old ++ ps.now) }
+    pub fn extend(&mut self, providers: &Providers) -> Result<(), NoMemory>
+        requires room { length self.old + length providers.now ≤ 64 }
+        requires apart { IsTrue (none_among self.old providers.now) }
+        ensures ok { OnOk result (self.new ≡ self.old ++ providers.now) }
         ensures err { OnErr result (self.new ≡ self.old) }
     {
-        self.items.extend_from_slice(ps.items.as_slice())?;
+        self.items.extend_from_slice(providers.items.as_slice())?;
         Ok(())
     }
 
     /// Takes these off, in place.
-    pub fn retain_not(&mut self, ps: &[ProviderId])
-        ensures { self.new ≡ without_all self.old ps.now }
+    pub fn retain_not(&mut self, providers: &[ProviderId])
+        ensures { self.new ≡ without_all self.old providers.now }
     {
-        keep_all_but(&mut self.items, ps);
+        keep_all_but(&mut self.items, providers);
     }
 }

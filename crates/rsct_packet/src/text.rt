@@ -40,14 +40,15 @@ impl Text {
     }
 
     /// The text of these bytes; `Ok(None)` exactly where they are more than 65,535.
-    pub fn of(alloc: Global, b: &[u8]) -> Result<Option<Text>, NoMemory>
-        ensures { IfOk result (λ o. MatchOption o (2 ^ 16 ≤ length b.now) (λ t. (length b.now < 2 ^ 16) × (t ≡ b.now))) }
+    pub fn of(alloc: Global, bytes: &[u8]) -> Result<Option<Text>, NoMemory>
+        ensures { IfOk result (λ o. MatchOption o (2 ^ 16 ≤ length bytes.now)
+            (λ t. (length bytes.now < 2 ^ 16) × (t ≡ bytes.now))) }
     {
-        if b.len() > MAX_TEXT {
+        if bytes.len() > MAX_TEXT {
             return Ok(None);
         }
         Ok(Some(Text {
-            bytes: Vec::from_slice(alloc, b)?,
+            bytes: Vec::from_slice(alloc, bytes)?,
         }))
     }
 
@@ -85,36 +86,37 @@ impl Model for Name {
 }
 
 /// Is this a byte of a name?
-fn is_name_byte(b: u8) -> bool
-    ensures { result ≡ name_byte b }
+fn is_name_byte(byte: u8) -> bool
+    ensures { result ≡ name_byte byte }
 {
-    b.is_ascii_alphanumeric() || b == b'_' || b == b'-' || b == b'.'
+    byte.is_ascii_alphanumeric() || byte == b'_' || byte == b'-' || byte == b'.'
 }
 
 /// Is each of these a byte of a name: a letter, a digit, `_`, `-` or `.`?
-pub fn are_name_bytes(b: &[u8]) -> bool
-    ensures { result ≡ list_all name_byte b.now }
+pub fn are_name_bytes(bytes: &[u8]) -> bool
+    ensures { result ≡ list_all name_byte bytes.now }
 {
-    b.iter().all(|x| is_name_byte(*x))
+    bytes.iter().all(|x| is_name_byte(*x))
 }
 
 /// Is this a group name?
-pub fn is_name(b: &[u8]) -> bool
-    ensures { result ≡ is_name_of b.now }
+pub fn is_name(bytes: &[u8]) -> bool
+    ensures { result ≡ is_name_of bytes.now }
 {
-    b.len() >= 1 && b.len() <= MAX_NAME && are_name_bytes(b)
+    bytes.len() >= 1 && bytes.len() <= MAX_NAME && are_name_bytes(bytes)
 }
 
 impl Name {
     /// The name of these bytes; `Ok(None)` exactly where they are no group name.
-    pub fn of(alloc: Global, b: &[u8]) -> Result<Option<Name>, NoMemory>
-        ensures { IfOk result (λ o. MatchOption o (¬ IsName b.now) (λ t. IsName b.now × (t ≡ b.now))) }
+    pub fn of(alloc: Global, bytes: &[u8]) -> Result<Option<Name>, NoMemory>
+        ensures { IfOk result (λ o. MatchOption o (¬ IsName bytes.now) (λ t. IsName bytes.now
+            × (t ≡ bytes.now))) }
     {
-        if !is_name(b) {
+        if !is_name(bytes) {
             return Ok(None);
         }
         Ok(Some(Name {
-            bytes: Vec::from_slice(alloc, b)?,
+            bytes: Vec::from_slice(alloc, bytes)?,
         }))
     }
 

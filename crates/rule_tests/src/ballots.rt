@@ -1,7 +1,7 @@
 //! Votes, defaults and the outcome of a phase.
-use group_attr::DefaultVote;
-use proposal_core::{RowVote, Vote};
-use rsct_packet::{NoMemory, ProviderId};
+use batch_rules::group_attr::DefaultVote;
+use batch_rules::proposal_core::{RowVote, Vote};
+use name_server::rsct_packet::{NoMemory, ProviderId};
 use std::alloc::Global;
 use vote_phases::{Cast, Tally};
 
@@ -39,8 +39,8 @@ fn first_votes_are_recorded(tally: &mut Tally) -> bool {
 }
 
 /// Are these the voters whose votes are missing?
-fn are_open(alloc: Global, tally: &Tally, ps: &[ProviderId]) -> Result<bool, NoMemory> {
-    Ok(tally.open_voters(alloc)?.as_slice() == ps)
+fn are_open(alloc: Global, tally: &Tally, providers: &[ProviderId]) -> Result<bool, NoMemory> {
+    Ok(tally.open_voters(alloc)?.as_slice() == providers)
 }
 
 /// Is the first voter late, with the default vote for it?

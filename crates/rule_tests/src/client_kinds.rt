@@ -1,12 +1,12 @@
 //! What no clause says: that the calls succeed where there is memory, and what each kind of client does.
 ghost use Rattle.std.specs.Prelude.{None};
 
-use client_callbacks::{
+use batch_rules::proposal_core::{Entry, GroupState, Vote};
+use client_session::client_callbacks::{
     Ballot, BoxedClient, Callbacks, DaemonClient, Made, Notice, ScriptClient, SteadyClient, Told,
     VoteItem, text_word, vote_word, votes_word,
 };
-use proposal_core::{Entry, GroupState, Vote};
-use rsct_packet::{List, NoMemory, ProtoId, ProviderId, Providers, ViewId};
+use name_server::rsct_packet::{List, NoMemory, ProtoId, ProviderId, Providers, ViewId};
 use std::alloc::Global;
 use std::process::Abort;
 
@@ -21,8 +21,8 @@ impl Callbacks for Rejecting {
 
     ghost script = { λ c. None };
 
-    fn notice(&mut self, _n: &Notice<'_>, b: &mut Ballot) -> Result<(), NoMemory> {
-        b.set(self.alloc, Vote::Reject, None, None)?;
+    fn notice(&mut self, _n: &Notice<'_>, ballot: &mut Ballot) -> Result<(), NoMemory> {
+        ballot.set(self.alloc, Vote::Reject, None, None)?;
         Ok(())
     }
 
@@ -45,7 +45,7 @@ const PROVIDER: ProviderId = ProviderId {
 };
 
 /// The ballot that a client leaves at a notice of an empty state.
-fn ballot_of<C: Callbacks>(rt: &impl Abort, alloc: Global, c: &mut C) -> Ballot {
+fn ballot_of<C: Callbacks>(rt: &impl Abort, alloc: Global, client: &mut C) -> Ballot {
     let entry = Entry::Late {
         proto: ProtoId {
             view: VIEW,
@@ -65,7 +65,7 @@ fn ballot_of<C: Callbacks>(rt: &impl Abort, alloc: Global, c: &mut C) -> Ballot 
         votes: true,
     };
     let mut b = Ballot::new(true, 1);
-    c.notice(&n, &mut b).expect(rt, "memory");
+    client.notice(&n, &mut b).expect(rt, "memory");
     b
 }
 
@@ -78,8 +78,8 @@ fn scripted(rt: &impl Abort, alloc: Global, votes: &[u8]) -> Option<DaemonClient
 }
 
 /// Is it filled with this vote and value, and no message?
-fn is_cast(b: &Ballot, vote: Vote, value: &[u8]) -> bool {
-    match b.get() {
+fn is_cast(ballot: &Ballot, vote: Vote, value: &[u8]) -> bool {
+    match ballot.get() {
         Some((v, Some(bytes), None)) => v == vote && bytes == value,
         _ => false,
     }
@@ -99,8 +99,8 @@ fn scripts_vote(rt: HostRuntime) {
 }
 
 /// Is it filled with this vote?
-fn has_vote(b: &Ballot, vote: Vote) -> bool {
-    match b.filled() {
+fn has_vote(ballot: &Ballot, vote: Vote) -> bool {
+    match ballot.filled() {
         None => false,
         Some(f) => f.vote == vote,
     }
@@ -121,22 +121,23 @@ fn objects_vote(rt: HostRuntime) {
 }
 
 /// Fills a ballot with an approval, this value and the message `hi`, and answers whether it could.
-fn fill(rt: &impl Abort, alloc: Global, b: &mut Ballot, value: &[u8]) -> bool {
-    b.set(alloc, Vote::Approve, Some(value), Some(b"hi"))
+fn fill(rt: &impl Abort, alloc: Global, ballot: &mut Ballot, value: &[u8]) -> bool {
+    ballot
+        .set(alloc, Vote::Approve, Some(value), Some(b"hi"))
         .expect(rt, "memory")
 }
 
 /// Is it filled with an approval, this value and the message `hi`?
-fn is_filled(b: &Ballot, value: &[u8]) -> bool {
-    match b.get() {
+fn is_filled(ballot: &Ballot, value: &[u8]) -> bool {
+    match ballot.get() {
         Some((Vote::Approve, Some(v), Some(m))) => v == value && m == b"hi".as_slice(),
         _ => false,
     }
 }
 
 /// An equal ballot.
-fn copied(rt: &impl Abort, alloc: Global, b: &Ballot) -> Ballot {
-    b.copy(alloc).expect(rt, "memory")
+fn copied(rt: &impl Abort, alloc: Global, ballot: &Ballot) -> Ballot {
+    ballot.copy(alloc).expect(rt, "memory")
 }
 
 #[test]
@@ -151,8 +152,8 @@ fn limits_of_ballots(rt: HostRuntime) {
 }
 
 /// The text that a word stands for.
-fn text(rt: &impl Abort, alloc: Global, w: &[u8]) -> Option<List<u8>> {
-    text_word(alloc, w).expect(rt, "memory")
+fn text(rt: &impl Abort, alloc: Global, word: &[u8]) -> Option<List<u8>> {
+    text_word(alloc, word).expect(rt, "memory")
 }
 
 /// Is it there, with these bytes?
@@ -164,22 +165,22 @@ fn is_text(text: &Option<List<u8>>, bytes: &[u8]) -> bool {
 }
 
 /// Is it a rejection with an empty value?
-fn is_bare_rejection(i: &VoteItem) -> bool {
-    match &i.value {
+fn is_bare_rejection(item: &VoteItem) -> bool {
+    match &item.value {
         None => false,
-        Some(value) => i.vote == Vote::Reject && value.is_empty(),
+        Some(value) => item.vote == Vote::Reject && value.is_empty(),
     }
 }
 
 /// The vote that a word stands for.
-fn vote(rt: &impl Abort, alloc: Global, w: &[u8]) -> VoteItem {
-    let item = vote_word(alloc, w).expect(rt, "memory");
+fn vote(rt: &impl Abort, alloc: Global, word: &[u8]) -> VoteItem {
+    let item = vote_word(alloc, word).expect(rt, "memory");
     item.expect(rt, "a vote word")
 }
 
 /// How many items a votes word has.
-fn count_of(rt: &impl Abort, alloc: Global, w: &[u8]) -> usize {
-    let items = votes_word(alloc, w).expect(rt, "memory");
+fn count_of(rt: &impl Abort, alloc: Global, word: &[u8]) -> usize {
+    let items = votes_word(alloc, word).expect(rt, "memory");
     items.expect(rt, "a votes word").len()
 }
 

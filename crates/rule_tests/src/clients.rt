@@ -1,14 +1,14 @@
 //! The sessions of clients: each fault, beside the neighbour that is taken.
 use crate::calls::{Steady, answered, goodbye, init, join, letters, refused, taken};
 use crate::hand::sessions;
-use group_attr::Attrs;
-use session_state::{Field, GsFault};
+use batch_rules::group_attr::Attrs;
+use client_session::session_state::{Field, GsFault};
 use std::alloc::Global;
 
 /// A session with a name of so many bytes.
-fn init_letters(alloc: Global, s: &mut Steady, n: usize) -> Result<u32, GsFault> {
-    let name = letters(alloc, n)?;
-    init(alloc, s, name.as_slice())
+fn init_letters(alloc: Global, steady: &mut Steady, len: usize) -> Result<u32, GsFault> {
+    let name = letters(alloc, len)?;
+    init(alloc, steady, name.as_slice())
 }
 
 #[test]
@@ -23,8 +23,8 @@ fn names(rt: HostRuntime) {
 }
 
 /// A join of this client with empty attributes.
-fn join_plain(alloc: Global, s: &mut Steady, t: u32) -> Result<u32, GsFault> {
-    join(alloc, s, t, b"db", Attrs::empty())
+fn join_plain(alloc: Global, steady: &mut Steady, client: u32) -> Result<u32, GsFault> {
+    join(alloc, steady, client, b"db", Attrs::empty())
 }
 
 #[test]
@@ -38,9 +38,9 @@ fn tokens(rt: HostRuntime) {
 }
 
 /// Opens 64 sessions, with names of two letters.
-fn fill(alloc: Global, s: &mut Steady) -> Result<(), GsFault> {
+fn fill(alloc: Global, steady: &mut Steady) -> Result<(), GsFault> {
     for i in 0..64u8 {
-        init(alloc, s, &[b'A' + i / 8, b'A' + i % 8])?;
+        init(alloc, steady, &[b'A' + i / 8, b'A' + i % 8])?;
     }
     Ok(())
 }

@@ -1,14 +1,19 @@
 //! Joins: each fault, beside the neighbour that is taken.
 use crate::calls::{Steady, answered, init, join, letters, refused};
 use crate::hand::sessions;
-use group_attr::{AttrFault, Attrs, HOST_MEMBERSHIP};
-use session_state::{Field, GsFault};
+use batch_rules::group_attr::{AttrFault, Attrs, HOST_MEMBERSHIP};
+use client_session::session_state::{Field, GsFault};
 use std::alloc::Global;
 
 /// The client joins a group with a name of so many bytes.
-fn join_letters(alloc: Global, s: &mut Steady, t: u32, n: usize) -> Result<u32, GsFault> {
-    let name = letters(alloc, n)?;
-    join(alloc, s, t, name.as_slice(), Attrs::empty())
+fn join_letters(
+    alloc: Global,
+    steady: &mut Steady,
+    client: u32,
+    len: usize,
+) -> Result<u32, GsFault> {
+    let name = letters(alloc, len)?;
+    join(alloc, steady, client, name.as_slice(), Attrs::empty())
 }
 
 #[test]
@@ -30,10 +35,15 @@ fn names(rt: HostRuntime) {
 }
 
 /// The client joins `db` with attributes of this time limit.
-fn join_limited(alloc: Global, s: &mut Steady, t: u32, limit: u16) -> Result<u32, GsFault> {
+fn join_limited(
+    alloc: Global,
+    steady: &mut Steady,
+    client: u32,
+    limit: u16,
+) -> Result<u32, GsFault> {
     let mut attrs = Attrs::empty();
     attrs.limit = limit;
-    join(alloc, s, t, b"db", attrs)
+    join(alloc, steady, client, b"db", attrs)
 }
 
 #[test]

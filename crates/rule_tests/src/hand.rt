@@ -1,13 +1,13 @@
 //! Handing the entries of the group `db` on, with no clause.
-use client_callbacks::Callbacks;
-use group_attr::Attrs;
-use proposal_core::{Entry, GroupList, GroupState, Proposal};
-use rsct_packet::{List, Name, ProviderId, Providers, Text, ViewId};
-use session_checks::Sessions;
-use session_state::{Casts, MemberToken};
+use batch_rules::group_attr::Attrs;
+use batch_rules::proposal_core::{Entry, GroupList, GroupState, Proposal};
+use client_session::Sessions;
+use client_session::client_callbacks::Callbacks;
+use client_session::session_state::{Casts, MemberToken};
+use client_session::subscribe_core::ClientToken;
+use name_server::rsct_packet::{List, Name, ProviderId, Providers, Text, ViewId};
 use std::alloc::Global;
 use std::process::Abort;
-use subscribe_core::ClientToken;
 
 const VIEW: ViewId = ViewId {
     number: 1,
@@ -21,7 +21,7 @@ pub fn sessions<C: Callbacks>(alloc: Global) -> Sessions<C> {
 }
 
 /// The list of a group that nobody has joined.
-#[tactic(auto, unfolding(proposal_core::specs::Fold::joiners_fit, proposal_core::specs::Fold::joiners_fit_at))]
+#[tactic(auto, unfolding(crate::proofs::Below::joiners_fit, crate::proofs::Below::joiners_fit_at))]
 pub fn new_list(alloc: Global) -> GroupList {
     GroupList::new(alloc, GroupState::empty(alloc))
 }
@@ -39,26 +39,36 @@ pub fn value(rt: &impl Abort, alloc: Global) -> Text {
 }
 
 /// Puts an equal entry at the end of the list, and answers its place.
-fn put(rt: &impl Abort, alloc: Global, list: &mut GroupList, e: &Entry) -> u32 {
-    let e = e.copy(alloc).expect(rt, "memory");
-    assert!(rt; list.state().fits(&e));
-    assert!(rt; list.has_room(&e));
-    list.put(alloc, VIEW, e).expect(rt, "memory")
+fn put(rt: &impl Abort, alloc: Global, list: &mut GroupList, entry: &Entry) -> u32 {
+    let entry = entry.copy(alloc).expect(rt, "memory");
+    assert!(rt; list.state().fits(&entry));
+    assert!(rt; list.has_room(&entry));
+    list.put(alloc, VIEW, entry).expect(rt, "memory")
 }
 
 /// Hands an entry on that stands at a place of the list, with the state before it.
 fn hand<C: Callbacks>(
     rt: &impl Abort,
     alloc: Global,
-    s: &mut Sessions<C>,
+    sessions: &mut Sessions<C>,
     place: u32,
     before: &GroupState,
     list: &GroupList,
-    e: &Entry,
+    entry: &Entry,
 ) -> Casts {
     let g = db(rt, alloc);
     let mut out = List::new(alloc);
-    s.hand_on(alloc, VIEW, &g, place, before, list.state(), e, &mut out)
+    sessions
+        .hand_on(
+            alloc,
+            VIEW,
+            &g,
+            place,
+            before,
+            list.state(),
+            entry,
+            &mut out,
+        )
         .expect(rt, "memory");
     out
 }
@@ -72,40 +82,46 @@ fn state(rt: &impl Abort, alloc: Global, list: &GroupList) -> GroupState {
 pub fn hand_on<C: Callbacks>(
     rt: &impl Abort,
     alloc: Global,
-    s: &mut Sessions<C>,
+    sessions: &mut Sessions<C>,
     list: &mut GroupList,
-    e: &Entry,
+    entry: &Entry,
 ) -> Casts {
     let before = state(rt, alloc, list);
-    let place = put(rt, alloc, list, e);
-    hand(rt, alloc, s, place, &before, list, e)
+    let place = put(rt, alloc, list, entry);
+    hand(rt, alloc, sessions, place, &before, list, entry)
 }
 
 /// Opens the session of a client.
-fn init<C: Callbacks>(rt: &impl Abort, alloc: Global, s: &mut Sessions<C>, c: C) -> ClientToken {
-    s.init(alloc, b"a", c).expect(rt, "a session")
+fn init<C: Callbacks>(
+    rt: &impl Abort,
+    alloc: Global,
+    sessions: &mut Sessions<C>,
+    client: C,
+) -> ClientToken {
+    sessions.init(alloc, b"a", client).expect(rt, "a session")
 }
 
 /// The client joins the group.
 fn join<C: Callbacks>(
     rt: &impl Abort,
     alloc: Global,
-    s: &mut Sessions<C>,
-    t: ClientToken,
+    sessions: &mut Sessions<C>,
+    client: ClientToken,
 ) -> MemberToken {
-    s.join(alloc, t, b"db", 7, Attrs::empty())
+    sessions
+        .join(alloc, client, b"db", 7, Attrs::empty())
         .expect(rt, "a provider")
 }
 
 /// The oldest provider.
-pub fn first_provider<C: Callbacks>(rt: &impl Abort, s: &Sessions<C>) -> ProviderId {
-    s.provider(0).expect(rt, "a provider").p
+pub fn first_provider<C: Callbacks>(rt: &impl Abort, sessions: &Sessions<C>) -> ProviderId {
+    sessions.provider(0).expect(rt, "a provider").p
 }
 
 /// The entry by which a provider joins.
-fn join_of(rt: &impl Abort, alloc: Global, p: ProviderId) -> Entry {
+fn join_of(rt: &impl Abort, alloc: Global, provider: ProviderId) -> Entry {
     Entry::Once(Proposal::Join {
-        ps: Providers::one(alloc, p).expect(rt, "memory"),
+        ps: Providers::one(alloc, provider).expect(rt, "memory"),
         attrs: Attrs::empty(),
         source_len: None,
     })
@@ -115,32 +131,32 @@ fn join_of(rt: &impl Abort, alloc: Global, p: ProviderId) -> Entry {
 fn hand_join_on<C: Callbacks>(
     rt: &impl Abort,
     alloc: Global,
-    s: &mut Sessions<C>,
+    sessions: &mut Sessions<C>,
     list: &mut GroupList,
-    p: ProviderId,
+    provider: ProviderId,
 ) {
-    let e = join_of(rt, alloc, p);
-    let casts = hand_on(rt, alloc, s, list, &e);
+    let e = join_of(rt, alloc, provider);
+    let casts = hand_on(rt, alloc, sessions, list, &e);
     assert!(rt; casts.len() == 1);
 }
 
 /// Has the provider joined, and has it no request?
-fn has_joined<C: Callbacks>(s: &Sessions<C>, p: ProviderId) -> bool {
-    s.live(p) && s.request(0).is_none()
+fn has_joined<C: Callbacks>(sessions: &Sessions<C>, provider: ProviderId) -> bool {
+    sessions.live(provider) && sessions.request(0).is_none()
 }
 
 /// Opens a session whose client joins the group, and hands the join on.
 pub fn join_db<C: Callbacks>(
     rt: &impl Abort,
     alloc: Global,
-    s: &mut Sessions<C>,
+    sessions: &mut Sessions<C>,
     list: &mut GroupList,
-    c: C,
+    client: C,
 ) -> (MemberToken, ProviderId) {
-    let t = init(rt, alloc, s, c);
-    let m = join(rt, alloc, s, t);
-    let p = first_provider(rt, s);
-    hand_join_on(rt, alloc, s, list, p);
-    assert!(rt; has_joined(s, p));
+    let t = init(rt, alloc, sessions, client);
+    let m = join(rt, alloc, sessions, t);
+    let p = first_provider(rt, sessions);
+    hand_join_on(rt, alloc, sessions, list, p);
+    assert!(rt; has_joined(sessions, p));
     (m, p)
 }

@@ -1,11 +1,11 @@
 //! The last numbers, which no test reaches by the calls of sessions alone.
 use crate::calls::{answered, refused};
-use group_attr::Attrs;
-use rsct_packet::List;
-use session_checks::{add_session, check_init};
-use session_state::{GsFault, Locals, SessionState};
+use batch_rules::group_attr::Attrs;
+use client_session::session_calls::{add_session, check_init};
+use client_session::session_state::{GsFault, Locals, SessionState};
+use client_session::subscribe_core::{ClientToken, Subs};
+use name_server::rsct_packet::List;
 use std::alloc::Global;
-use subscribe_core::{ClientToken, Subs};
 
 /// The state of a node of which one client's and one request's number are left.
 fn nearly_spent(alloc: Global) -> SessionState {
@@ -24,16 +24,16 @@ fn nearly_spent(alloc: Global) -> SessionState {
 }
 
 /// Adds a session of this name, and answers its number.
-fn add(alloc: Global, s: &mut SessionState, name: &[u8]) -> Result<u32, GsFault> {
-    check_init(s, name)?;
-    let t = add_session(s, alloc, name)?;
+fn add(alloc: Global, sessions: &mut SessionState, name: &[u8]) -> Result<u32, GsFault> {
+    check_init(sessions, name)?;
+    let t = add_session(sessions, alloc, name)?;
     Ok(t.n)
 }
 
 /// The client of the last number joins a group, and the provider's number is answered.
-fn join(alloc: Global, s: &mut SessionState, group: &[u8]) -> Result<u32, GsFault> {
+fn join(alloc: Global, sessions: &mut SessionState, group: &[u8]) -> Result<u32, GsFault> {
     let t = ClientToken { n: u32::MAX };
-    let m = session_checks::join(s, alloc, t, group, 7, Attrs::empty())?;
+    let m = client_session::session_calls::join(sessions, alloc, t, group, 7, Attrs::empty())?;
     Ok(m.n)
 }
 

@@ -4,15 +4,15 @@ use crate::calls::{
     leave, member, refused, send_message, taken,
 };
 use crate::hand::sessions;
-use group_attr::{AttrFault, Attrs};
-use proposal_core::Proposal;
-use rsct_packet::{List, NoMemory, ProviderId};
-use session_state::{Field, GsFault};
+use batch_rules::group_attr::{AttrFault, Attrs};
+use batch_rules::proposal_core::Proposal;
+use client_session::session_state::{Field, GsFault};
+use name_server::rsct_packet::{List, NoMemory, ProviderId};
 use std::alloc::Global;
 
 /// How many bytes the value or the message of the oldest request has.
-fn first_len(s: &Steady) -> Option<usize> {
-    match first_request(s)? {
+fn first_len(steady: &Steady) -> Option<usize> {
+    match first_request(steady)? {
         Proposal::State { value, .. } => Some(value.bytes().len()),
         Proposal::Message { bytes, .. } => Some(bytes.bytes().len()),
         _ => None,
@@ -20,24 +20,24 @@ fn first_len(s: &Steady) -> Option<usize> {
 }
 
 /// How many providers the oldest request expels.
-fn first_targets(s: &Steady) -> Option<usize> {
-    match first_request(s)? {
+fn first_targets(steady: &Steady) -> Option<usize> {
+    match first_request(steady)? {
         Proposal::Expel { out, .. } => Some(out.len()),
         _ => None,
     }
 }
 
 /// Is the oldest request one to leave?
-fn is_leaving(s: &Steady) -> bool {
-    match first_request(s) {
+fn is_leaving(steady: &Steady) -> bool {
+    match first_request(steady) {
         Some(Proposal::Leave { .. }) => true,
         _ => false,
     }
 }
 
 /// The time limit that the oldest request asks for.
-fn first_limit(s: &Steady) -> Option<u16> {
-    match first_request(s)? {
+fn first_limit(steady: &Steady) -> Option<u16> {
+    match first_request(steady)? {
         Proposal::Attributes { attrs, .. } => Some(attrs.limit),
         _ => None,
     }
@@ -55,8 +55,8 @@ fn values(rt: HostRuntime) {
 }
 
 /// Values have the limit of level 2 from now on.
-fn at_level_2(s: &mut Steady) {
-    s.set_level(2);
+fn at_level_2(steady: &mut Steady) {
+    steady.set_level(2);
 }
 
 #[test]
@@ -97,15 +97,21 @@ fn targets(alloc: Global, first: u32, end: u32) -> Result<List<ProviderId>, NoMe
 }
 
 /// Asks that the providers of these joins are expelled.
-fn expel_joins(alloc: Global, s: &mut Steady, m: u32, first: u32, end: u32) -> Result<(), GsFault> {
-    expel(alloc, s, m, &targets(alloc, first, end)?)
+fn expel_joins(
+    alloc: Global,
+    steady: &mut Steady,
+    member: u32,
+    first: u32,
+    end: u32,
+) -> Result<(), GsFault> {
+    expel(alloc, steady, member, &targets(alloc, first, end)?)
 }
 
 /// Asks that a provider is expelled twice.
-fn expel_twice(alloc: Global, s: &mut Steady, m: u32) -> Result<(), GsFault> {
+fn expel_twice(alloc: Global, steady: &mut Steady, member: u32) -> Result<(), GsFault> {
     let mut out = targets(alloc, 1, 2)?;
     out.append(&mut targets(alloc, 1, 2)?)?;
-    expel(alloc, s, m, &out)
+    expel(alloc, steady, member, &out)
 }
 
 #[test]
@@ -122,10 +128,10 @@ fn targets_differ(rt: HostRuntime) {
 }
 
 /// Asks for attributes of this time limit.
-fn limit(alloc: Global, s: &mut Steady, m: u32, limit: u16) -> Result<(), GsFault> {
+fn limit(alloc: Global, steady: &mut Steady, member: u32, limit: u16) -> Result<(), GsFault> {
     let mut attrs = Attrs::empty();
     attrs.limit = limit;
-    change_attributes(alloc, s, m, attrs)
+    change_attributes(alloc, steady, member, attrs)
 }
 
 #[test]

@@ -1,29 +1,29 @@
 //! Subscriptions: each fault, beside the neighbour that is taken, and what is noted.
 use crate::calls::{Steady, answered, init, letters, refused, taken};
 use crate::hand::{sessions, value};
-use client_callbacks::{Told, Why};
-use proposal_core::GroupState;
-use rsct_packet::ProviderId;
-use session_state::{Field, GsFault};
+use batch_rules::proposal_core::GroupState;
+use client_session::client_callbacks::{Told, Why};
+use client_session::session_state::{Field, GsFault};
+use client_session::subscribe_core::{ClientToken, SubToken};
+use name_server::rsct_packet::ProviderId;
 use std::alloc::Global;
 use std::process::Abort;
-use subscribe_core::{ClientToken, SubToken};
 
 /// Subscribes the client to a group.
-fn ask(alloc: Global, s: &mut Steady, group: &[u8], known: bool) -> Result<SubToken, GsFault> {
-    s.subscribe(alloc, ClientToken { n: 1 }, group, known)
+fn ask(alloc: Global, steady: &mut Steady, group: &[u8], known: bool) -> Result<SubToken, GsFault> {
+    steady.subscribe(alloc, ClientToken { n: 1 }, group, known)
 }
 
 /// Subscribes the client to a group with a name of so many bytes, and answers the subscription's number.
-fn subscribe(alloc: Global, s: &mut Steady, n: usize, known: bool) -> Result<u32, GsFault> {
-    let group = letters(alloc, n)?;
-    let token = ask(alloc, s, group.as_slice(), known)?;
+fn subscribe(alloc: Global, steady: &mut Steady, len: usize, known: bool) -> Result<u32, GsFault> {
+    let group = letters(alloc, len)?;
+    let token = ask(alloc, steady, group.as_slice(), known)?;
     Ok(token.n)
 }
 
 /// Ends the subscription of this number.
-fn unsubscribe(s: &mut Steady, n: u32) -> Result<(), GsFault> {
-    s.unsubscribe(ClientToken { n: 1 }, SubToken { n })
+fn unsubscribe(steady: &mut Steady, number: u32) -> Result<(), GsFault> {
+    steady.unsubscribe(ClientToken { n: 1 }, SubToken { n: number })
 }
 
 #[test]
@@ -58,24 +58,25 @@ fn with_value(rt: &impl Abort, alloc: Global) -> GroupState {
 fn noted_between(
     rt: &impl Abort,
     alloc: Global,
-    s: &Steady,
+    steady: &Steady,
     before: &GroupState,
     after: &GroupState,
 ) -> usize {
-    s.notes(alloc, b"A", before, after)
+    steady
+        .notes(alloc, b"A", before, after)
         .expect(rt, "memory")
         .len()
 }
 
 /// How many subscriptions of the group `A` are noted where its value becomes `x`.
-fn noted(rt: &impl Abort, alloc: Global, s: &Steady) -> usize {
+fn noted(rt: &impl Abort, alloc: Global, steady: &Steady) -> usize {
     let before = GroupState::empty(alloc);
     let after = with_value(rt, alloc);
-    noted_between(rt, alloc, s, &before, &after)
+    noted_between(rt, alloc, steady, &before, &after)
 }
 
 /// Tells the client of the subscription of this number something, and answers whether it is live.
-fn note(rt: &impl Abort, s: &mut Steady, n: u32) -> bool {
+fn note(rt: &impl Abort, steady: &mut Steady, number: u32) -> bool {
     let p = ProviderId {
         node: 1,
         inc: 1,
@@ -87,7 +88,9 @@ fn note(rt: &impl Abort, s: &mut Steady, n: u32) -> bool {
         r: 1,
         why: Why::NotAMember,
     };
-    s.note(SubToken { n }, &told).expect(rt, "memory")
+    steady
+        .note(SubToken { n: number }, &told)
+        .expect(rt, "memory")
 }
 
 #[test]

@@ -3,13 +3,13 @@ ghost use Rattle.std.specs.Prelude.{None};
 
 use crate::calls::{letters, refused, taken};
 use crate::hand::{hand_on, join_db, new_list, sessions, value};
-use client_callbacks::{
+use batch_rules::proposal_core::{Entry, GroupList, Proposal, Vote};
+use client_session::Sessions;
+use client_session::client_callbacks::{
     Ballot, BoxedClient, Callbacks, DaemonClient, Made, Notice, ScriptClient, Told,
 };
-use proposal_core::{Entry, GroupList, Proposal, Vote};
-use rsct_packet::{NoMemory, ProviderId};
-use session_checks::Sessions;
-use session_state::{Casts, Field, GsFault, MemberToken};
+use client_session::session_state::{Casts, Field, GsFault, MemberToken};
+use name_server::rsct_packet::{NoMemory, ProviderId};
 use std::alloc::Global;
 use std::process::Abort;
 
@@ -24,8 +24,8 @@ impl Callbacks for Rejecting {
 
     ghost script = { λ c. None };
 
-    fn notice(&mut self, _n: &Notice<'_>, b: &mut Ballot) -> Result<(), NoMemory> {
-        b.set(self.alloc, Vote::Reject, None, None)?;
+    fn notice(&mut self, _n: &Notice<'_>, ballot: &mut Ballot) -> Result<(), NoMemory> {
+        ballot.set(self.alloc, Vote::Reject, None, None)?;
         Ok(())
     }
 
@@ -38,13 +38,17 @@ impl Callbacks for Rejecting {
 fn begin<C: Callbacks>(
     rt: &impl Abort,
     alloc: Global,
-    s: &mut Sessions<C>,
+    sessions: &mut Sessions<C>,
     list: &mut GroupList,
-    p: ProviderId,
+    provider: ProviderId,
 ) -> Casts {
     let value = value(rt, alloc);
-    let e = Entry::Begin(Proposal::State { p, r: 2, value });
-    hand_on(rt, alloc, s, list, &e)
+    let e = Entry::Begin(Proposal::State {
+        p: provider,
+        r: 2,
+        value,
+    });
+    hand_on(rt, alloc, sessions, list, &e)
 }
 
 /// The phase and the vote of the first cast, where a ballot was filled.
@@ -54,8 +58,8 @@ fn first_cast(casts: &Casts) -> Option<(u16, Vote)> {
 }
 
 /// The phase and the vote of the first kept ballot.
-fn first_kept<C: Callbacks>(s: &Sessions<C>) -> Option<(u16, Vote)> {
-    let kept = s.kept(0)?;
+fn first_kept<C: Callbacks>(sessions: &Sessions<C>) -> Option<(u16, Vote)> {
+    let kept = sessions.kept(0)?;
     Some((kept.phase, kept.ballot.filled()?.vote))
 }
 
@@ -63,19 +67,19 @@ fn first_kept<C: Callbacks>(s: &Sessions<C>) -> Option<(u16, Vote)> {
 fn cast_at_once<C: Callbacks>(
     rt: &impl Abort,
     alloc: Global,
-    s: &mut Sessions<C>,
-    c: C,
+    sessions: &mut Sessions<C>,
+    client: C,
 ) -> Option<(u16, Vote)> {
     let mut list = new_list(alloc);
-    let (_, p) = join_db(rt, alloc, s, &mut list, c);
-    let casts = begin(rt, alloc, s, &mut list, p);
+    let (_, p) = join_db(rt, alloc, sessions, &mut list, client);
+    let casts = begin(rt, alloc, sessions, &mut list, p);
     first_cast(&casts)
 }
 
 /// The ballot of a client that rejects is given out, and kept once.
-fn rejects<C: Callbacks>(rt: &impl Abort, alloc: Global, c: C) {
+fn rejects<C: Callbacks>(rt: &impl Abort, alloc: Global, client: C) {
     let mut s = sessions(alloc);
-    let cast = cast_at_once(rt, alloc, &mut s, c);
+    let cast = cast_at_once(rt, alloc, &mut s, client);
     assert!(rt; cast == Some((1, Vote::Reject)));
     assert!(rt; first_kept(&s) == Some((1, Vote::Reject)));
     assert!(rt; s.kept(1).is_none());
@@ -89,14 +93,18 @@ fn an_object_rejects(rt: HostRuntime) {
 }
 
 /// The provider approves with this value.
-fn cast(alloc: Global, s: &mut Sessions<ScriptClient>, value: &[u8]) -> Result<(), GsFault> {
-    s.vote(alloc, MemberToken { n: 1 }, Vote::Approve, Some(value))
+fn cast(alloc: Global, sessions: &mut Sessions<ScriptClient>, value: &[u8]) -> Result<(), GsFault> {
+    sessions.vote(alloc, MemberToken { n: 1 }, Vote::Approve, Some(value))
 }
 
 /// The provider approves with a value of so many bytes.
-fn approve(alloc: Global, s: &mut Sessions<ScriptClient>, n: usize) -> Result<(), GsFault> {
-    let value = letters(alloc, n)?;
-    cast(alloc, s, value.as_slice())
+fn approve(
+    alloc: Global,
+    sessions: &mut Sessions<ScriptClient>,
+    len: usize,
+) -> Result<(), GsFault> {
+    let value = letters(alloc, len)?;
+    cast(alloc, sessions, value.as_slice())
 }
 
 /// A client that fills no ballot.
@@ -106,8 +114,8 @@ fn silent(rt: &impl Abort, alloc: Global) -> ScriptClient {
 }
 
 /// Nothing is cast at once, and the provider may vote.
-fn open(rt: &impl Abort, alloc: Global, s: &mut Sessions<ScriptClient>) {
-    let cast = cast_at_once(rt, alloc, s, silent(rt, alloc));
+fn open(rt: &impl Abort, alloc: Global, sessions: &mut Sessions<ScriptClient>) {
+    let cast = cast_at_once(rt, alloc, sessions, silent(rt, alloc));
     assert!(rt; cast.is_none());
 }
 

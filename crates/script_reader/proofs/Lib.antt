@@ -1,8 +1,7 @@
-pub mod SplitLaws
-pub mod NumberLaws
-pub mod NameLaws
-pub mod HexLaws
-pub mod FourLaws
-pub mod EqualsLaws
-pub mod AttrLaws
-pub mod HeadLaws
+pub mod Below
+pub mod ClientLaws
+pub mod EachLaws
+pub mod SaidLaws
+pub mod ReadLaws
+pub mod ScriptLaws
+pub use Rattle.script_words.proofs as script_words_laws

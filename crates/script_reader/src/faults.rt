@@ -1,20 +1,46 @@
-//! Why something is not read.
+//! Why a script is not read.
 ghost use Rattle.std.specs.Prelude.{◌≡◌};
-ghost use Rattle.script_reader.specs.declared.faults.WordFault.TheVariants as word_fault;
+ghost use Rattle.script_reader.specs.declared.faults.LineFault.TheVariants as line_fault;
+ghost use Rattle.script_reader.specs.declared.faults.ScriptFault.TheVariants as script_fault;
+ghost use Rattle.script_reader.specs.Faults.{fault_at};
 
-use rsct_packet::NoMemory;
+use node_sending::rsct_packet::NoMemory;
+use script_words::world_model::LineWhy;
+use thiserror::Error;
 
-/// Why a word is not read: it is out of its form, or memory has run out.
+/// Why a line is not read: it is in no script, or memory has run out.
 #[derive(Clone, Copy, Debug, PartialEq, Eq)]
-pub enum WordFault {
-    BadWord,
+pub enum LineFault {
+    Bad(LineWhy),
     NoMemory,
 }
 
-impl From<NoMemory> for WordFault {
-    ghost from_gives = { λ _ e. e ≡ word_fault.NoMemory };
+impl From<NoMemory> for LineFault {
+    ghost from_gives = { λ _ e. e ≡ line_fault.NoMemory };
 
-    fn from(_e: NoMemory) -> WordFault {
-        WordFault::NoMemory
+    fn from(_e: NoMemory) -> LineFault {
+        LineFault::NoMemory
     }
+}
+
+impl LineFault {
+    /// The fault of a script whose line of this number has this fault.
+    pub fn at(self, number: u32) -> ScriptFault
+        ensures { result ≡ fault_at number self }
+    {
+        match self {
+            LineFault::Bad(why) => ScriptFault::Line(number, why),
+            LineFault::NoMemory => ScriptFault::NoMemory,
+        }
+    }
+}
+
+/// Why no script is read: the number of the first line that is in no script, from 1 on, with the first reason, or
+/// memory has run out.
+#[derive(Clone, Copy, Debug, PartialEq, Eq, Error)]
+pub enum ScriptFault {
+    #[error("line {0}: {1:?}")]
+    Line(u32, LineWhy),
+    #[error("no memory")]
+    NoMemory,
 }

@@ -1,22 +1,21 @@
-//! The words of scripts of several nodes, read.
+//! Scripts of several nodes, read from their bytes.
 #![tactic(auto)]
 
-mod addresses;
-mod attrs;
-mod choices;
+mod calls;
+mod clients;
+mod events;
 mod faults;
-mod heads;
-mod hex;
-mod names;
-mod numbers;
-mod words;
+mod networks;
+mod progress;
+mod reasons;
+mod said;
+mod script;
+mod settings;
 
-pub use addresses::{address_word, provider_word};
-pub use attrs::attr_words;
-pub use choices::{mode_word, phases_word, what_word};
-pub use faults::WordFault;
-pub use heads::{Form, Head, form_of};
-pub use hex::hex_word;
-pub use names::{client_word, group_word};
-pub use numbers::{network_word, node_word, number_word, short_word};
-pub use words::{Words, cut_at, is_word};
+pub use faults::ScriptFault;
+pub use node_sending::{
+    batch_rules, client_callbacks, group_attr, name_server, node_reach, node_state, proposal_core,
+    rsct_packet, session_state, subscribe_core, view_state, vote_phases,
+};
+pub use script::{INPUT_LIMIT, read_script};
+pub use script_words::world_model;

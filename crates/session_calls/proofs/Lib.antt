@@ -1,4 +1,2 @@
-pub mod EntryLaws
-pub mod TellLaws
-pub mod TickLaws
-pub mod CallLaws
+pub mod Below
+pub use Rattle.session_clients.proofs.rsct_packet_laws as rsct_packet_laws

@@ -1,284 +1,338 @@
-//! The calls of a client in its session.
-ghost use Rattle.std.specs.Prelude.{◌≡◌, OnOk, IsTrue, option_copied};
-ghost use Rattle.client_callbacks.specs.Ballots.{is_level};
-ghost use Rattle.session_state.specs.State.{client_token};
-ghost use Rattle.session_state.specs.Calls.{joined, left, expelled, state_changed, message_sent, attributes_changed, voted, subscribe_taken, unsubscribe_taken};
-ghost use Rattle.node_state.specs.State.{holds};
-ghost use Rattle.node_state.specs.Calls.{caller, subscriber, changed, proposed, ballot_given, call_row};
-ghost use Rattle.node_groups.specs.Keeps.{Stays};
-ghost use Rattle.session_calls.specs.Calling.{is_within_session};
+//! The calls of clients, as far as they change what a node has of them.
+ghost use Rattle.std.specs.Prelude.{◌≡◌, ◌++◌, ◌∷◌, [], None, IsTrue, IfOk, OnOk, OnErr, option_copied};
+ghost use Rattle.session_clients.specs.rsct_packet.Text.{IsName};
+ghost use Rattle.session_clients.specs.client_callbacks.Ballots.{is_level};
+ghost use Rattle.session_clients.specs.session_state.Calls.{Answers, SameSessions, left, expelled, state_changed, message_sent, attributes_changed, voted, joined};
 
-use crate::answers::change;
-use crate::casting::give_ballot;
-use crate::proposing::propose;
-use group_attr::{Attrs, Phases};
-use node_groups::holds;
-use node_state::{CallLine, Core};
-use proposal_core::Vote;
-use rsct_packet::{List, NoMemory, ProviderId};
-use session_checks::{client_token, member_token, sub_token};
-use session_state::{MemberToken, SessionState};
+use crate::checks::{
+    check_ask, check_attributes, check_bytes, check_join, check_message, check_session,
+    check_targets, check_value, is_kept, member,
+};
+use session_clients::client_callbacks::Ballot;
+use session_clients::group_attr::{Attrs, Phases};
+use session_clients::proposal_core::{Proposal, Vote, text_of};
+use session_clients::rsct_packet::{Name, NoMemory, ProviderId, Providers};
+use session_clients::session_state::{
+    GsFault, KeptBallot, MemberToken, Provider, Request, SessionState,
+};
+use session_clients::subscribe_core::ClientToken;
 use std::alloc::Global;
-use subscribe_core::SubToken;
 
-/// The token of the provider that calls; 0 where there is none.
-#[tactic(auto, unfolding(node_state::specs::Calls::caller))]
-fn caller(sessions: &SessionState, client: &[u8], g: &[u8]) -> MemberToken
-    ensures { result ≡ caller sessions.now client.now g.now }
+/// The name of these bytes.
+fn name_of(alloc: Global, group: &[u8]) -> Result<Name, NoMemory>
+    requires { IsName group.now }
+    ensures { IfOk result (λ n. n ≡ group.now) }
 {
-    member_token(sessions, client_token(sessions, client), g)
+    match Name::of(alloc, group)? {
+        None => Err(NoMemory),
+        Some(name) => Ok(name),
+    }
 }
 
-/// The token of the subscription that a call is about; 0 where there is none.
-#[tactic(auto, unfolding(node_state::specs::Calls::subscriber))]
-fn subscriber(sessions: &SessionState, client: &[u8], g: &[u8]) -> SubToken
-    ensures { result ≡ subscriber sessions.now client.now g.now }
+/// Puts a request with the next number at the end.
+fn put_request(sessions: &mut SessionState, request: Request) -> Result<(), NoMemory>
+    ensures ok { OnOk result (sessions.new ≡ record
+        sessions.old { last_request = request.r; requests = sessions.old.requests
+        ++ request ∷ [] }) }
+    ensures err { OnErr result (sessions.new ≡ sessions.old) }
 {
-    sub_token(sessions, client_token(sessions, client), g)
+    let r = request.r;
+    sessions.requests.push(request)?;
+    sessions.last_request = r;
+    Ok(())
 }
 
-fn join(
-    core: &mut Core,
+/// Puts a joining provider and its request at the end.
+fn put_joiner(
+    sessions: &mut SessionState,
+    provider: Provider,
+    request: Request,
+) -> Result<(), NoMemory>
+    ensures ok { OnOk result (sessions.new ≡ record
+        sessions.old { last_request = request.r; providers = sessions.old.providers
+        ++ provider ∷ []; requests = sessions.old.requests ++ request ∷ [] }) }
+    ensures err { OnErr result (sessions.new ≡ sessions.old) }
+{
+    let n = sessions.providers.len();
+    sessions.providers.push(provider)?;
+    match put_request(sessions, request) {
+        Ok(()) => Ok(()),
+        Err(e) => {
+            sessions.providers.truncate(n);
+            Err(e)
+        }
+    }
+}
+
+/// The request of a provider that joins the group.
+fn join_request(
     alloc: Global,
-    client: &[u8],
-    g: &[u8],
+    provider: ProviderId,
+    group: &[u8],
+    attrs: Attrs,
+) -> Result<Request, NoMemory>
+    requires { IsName group.now }
+    ensures { IfOk result (λ q. q ≡ record { p = provider; r = provider.join; group = group.now;
+        phases = Phases.One; proposal = Proposal.Join (provider ∷ []) attrs None }) }
+{
+    Ok(Request {
+        p: provider,
+        r: provider.join,
+        group: name_of(alloc, group)?,
+        phases: Phases::One,
+        proposal: Proposal::Join {
+            ps: Providers::one(alloc, provider)?,
+            attrs,
+            source_len: None,
+        },
+    })
+}
+
+/// Adds a joining provider of the client, with its join's request.
+#[tactic(auto, unfolding(crate::proofs::Below::joined, crate::proofs::Below::join_asked))]
+pub fn join(
+    sessions: &mut SessionState,
+    alloc: Global,
+    client: ClientToken,
+    name: &[u8],
     instance: u16,
-    attrs: &Attrs,
-) -> Result<(), NoMemory>
-    ensures row { OnOk result (core.new ≡ proposed core.old client.now (joined core.old.sessions (client_token core.old.sessions client.now) g.now instance attrs.now)) }
-    ensures keeps { OnOk result (Stays core.old core.new) }
+    attrs: Attrs,
+) -> Result<MemberToken, GsFault>
+    ensures answer { Answers result sessions.old sessions.new
+        (joined sessions.old client name.now instance attrs) }
+    ensures same { SameSessions sessions.old sessions.new }
+    ensures token { IfOk result (λ m. m.n ≡ sessions.new.last_request) }
 {
-    let attrs = attrs.copy(alloc)?;
-    let t = client_token(&core.sessions, client);
-    let answer = session_checks::join(&mut core.sessions, alloc, t, g, instance, attrs);
-    propose(core, alloc, client, answer)
+    check_join(sessions, client, name, &attrs)?;
+    let r = sessions.last_request + 1;
+    let p = ProviderId {
+        node: sessions.me,
+        inc: sessions.inc,
+        instance,
+        join: r,
+    };
+    let group = name_of(alloc, name)?;
+    let q = join_request(alloc, p, name, attrs)?;
+    let x = Provider {
+        p,
+        client,
+        group,
+        takes_part: false,
+        opened: None,
+    };
+    put_joiner(sessions, x, q)?;
+    Ok(MemberToken { n: r })
 }
 
-fn leave(
-    core: &mut Core,
+/// Asks that the provider leaves.
+#[tactic(auto, unfolding(crate::proofs::Below::left, crate::proofs::Below::request_made, crate::proofs::Below::ask_fault, crate::proofs::Below::asked, crate::proofs::Below::no_session_fault))]
+pub fn leave(
+    sessions: &mut SessionState,
     alloc: Global,
-    client: &[u8],
-    g: &[u8],
+    token: MemberToken,
     phases: Phases,
-) -> Result<(), NoMemory>
-    ensures row { OnOk result (core.new ≡ proposed core.old client.now (left core.old.sessions (caller core.old.sessions client.now g.now) phases)) }
-    ensures keeps { OnOk result (Stays core.old core.new) }
+) -> Result<(), GsFault>
+    ensures answer { Answers result sessions.old sessions.new (left sessions.old token phases) }
+    ensures same { SameSessions sessions.old sessions.new }
 {
-    let m = caller(&core.sessions, client, g);
-    let answer = session_checks::leave(&mut core.sessions, alloc, m, phases);
-    propose(core, alloc, client, answer)
+    check_session(sessions)?;
+    let Some(x) = member(sessions, token) else {
+        return Err(GsFault::BadMemberToken);
+    };
+    check_ask(sessions, x.p)?;
+    let p = x.p;
+    let group = x.group.copy(alloc)?;
+    let r = sessions.last_request + 1;
+    put_request(
+        sessions,
+        Request {
+            p,
+            r,
+            group,
+            phases,
+            proposal: Proposal::Leave { p, r },
+        },
+    )?;
+    Ok(())
 }
 
-fn expel(
-    core: &mut Core,
+/// Asks that these are expelled.
+#[tactic(auto, unfolding(crate::proofs::Below::expelled, crate::proofs::Below::request_made, crate::proofs::Below::ask_fault, crate::proofs::Below::asked, crate::proofs::Below::no_session_fault))]
+pub fn expel(
+    sessions: &mut SessionState,
     alloc: Global,
-    client: &[u8],
-    g: &[u8],
+    token: MemberToken,
     phases: Phases,
     out: &[ProviderId],
-) -> Result<(), NoMemory>
-    ensures row { OnOk result (core.new ≡ proposed core.old client.now (expelled core.old.sessions (caller core.old.sessions client.now g.now) phases out.now)) }
-    ensures keeps { OnOk result (Stays core.old core.new) }
+) -> Result<(), GsFault>
+    ensures answer { Answers result sessions.old sessions.new
+        (expelled sessions.old token phases out.now) }
+    ensures same { SameSessions sessions.old sessions.new }
 {
-    let m = caller(&core.sessions, client, g);
-    let answer = session_checks::expel(&mut core.sessions, alloc, m, phases, out);
-    propose(core, alloc, client, answer)
+    check_session(sessions)?;
+    let Some(x) = member(sessions, token) else {
+        return Err(GsFault::BadMemberToken);
+    };
+    check_targets(out)?;
+    check_ask(sessions, x.p)?;
+    let p = x.p;
+    let group = x.group.copy(alloc)?;
+    let r = sessions.last_request + 1;
+    let out = Providers::of(alloc, out)?;
+    put_request(
+        sessions,
+        Request {
+            p,
+            r,
+            group,
+            phases,
+            proposal: Proposal::Expel { p, r, out },
+        },
+    )?;
+    Ok(())
 }
 
-fn change_state(
-    core: &mut Core,
+/// Asks that the group's value becomes this one.
+#[tactic(auto, unfolding(crate::proofs::Below::state_changed, crate::proofs::Below::request_made, crate::proofs::Below::ask_fault, crate::proofs::Below::asked, crate::proofs::Below::no_session_fault))]
+pub fn change_state(
+    sessions: &mut SessionState,
     alloc: Global,
-    client: &[u8],
-    g: &[u8],
+    token: MemberToken,
     phases: Phases,
     value: &[u8],
-) -> Result<(), NoMemory>
-    ensures row { OnOk result (core.new ≡ proposed core.old client.now (state_changed core.old.sessions (caller core.old.sessions client.now g.now) phases value.now)) }
-    ensures keeps { OnOk result (Stays core.old core.new) }
+) -> Result<(), GsFault>
+    ensures answer { Answers result sessions.old sessions.new
+        (state_changed sessions.old token phases value.now) }
+    ensures same { SameSessions sessions.old sessions.new }
 {
-    let m = caller(&core.sessions, client, g);
-    let answer = session_checks::change_state(&mut core.sessions, alloc, m, phases, value);
-    propose(core, alloc, client, answer)
+    check_session(sessions)?;
+    let Some(x) = member(sessions, token) else {
+        return Err(GsFault::BadMemberToken);
+    };
+    check_bytes(sessions, value)?;
+    check_ask(sessions, x.p)?;
+    let p = x.p;
+    let group = x.group.copy(alloc)?;
+    let r = sessions.last_request + 1;
+    let value = text_of(alloc, value)?;
+    put_request(
+        sessions,
+        Request {
+            p,
+            r,
+            group,
+            phases,
+            proposal: Proposal::State { p, r, value },
+        },
+    )?;
+    Ok(())
 }
 
-fn send_message(
-    core: &mut Core,
+/// Asks that this message is sent to all.
+#[tactic(auto, unfolding(crate::proofs::Below::message_sent, crate::proofs::Below::request_made, crate::proofs::Below::ask_fault, crate::proofs::Below::asked, crate::proofs::Below::no_session_fault))]
+pub fn send_message(
+    sessions: &mut SessionState,
     alloc: Global,
-    client: &[u8],
-    g: &[u8],
+    token: MemberToken,
     phases: Phases,
-    bytes: &[u8],
-) -> Result<(), NoMemory>
-    ensures row { OnOk result (core.new ≡ proposed core.old client.now (message_sent core.old.sessions (caller core.old.sessions client.now g.now) phases bytes.now)) }
-    ensures keeps { OnOk result (Stays core.old core.new) }
+    text: &[u8],
+) -> Result<(), GsFault>
+    ensures answer { Answers result sessions.old sessions.new
+        (message_sent sessions.old token phases text.now) }
+    ensures same { SameSessions sessions.old sessions.new }
 {
-    let m = caller(&core.sessions, client, g);
-    let answer = session_checks::send_message(&mut core.sessions, alloc, m, phases, bytes);
-    propose(core, alloc, client, answer)
+    check_session(sessions)?;
+    let Some(x) = member(sessions, token) else {
+        return Err(GsFault::BadMemberToken);
+    };
+    check_message(text)?;
+    check_ask(sessions, x.p)?;
+    let p = x.p;
+    let group = x.group.copy(alloc)?;
+    let r = sessions.last_request + 1;
+    let bytes = text_of(alloc, text)?;
+    put_request(
+        sessions,
+        Request {
+            p,
+            r,
+            group,
+            phases,
+            proposal: Proposal::Message { p, r, bytes },
+        },
+    )?;
+    Ok(())
 }
 
-fn change_attributes(
-    core: &mut Core,
+/// Asks that the group's attributes become these.
+#[tactic(auto, unfolding(crate::proofs::Below::attributes_changed, crate::proofs::Below::ask_fault, crate::proofs::Below::asked, crate::proofs::Below::no_session_fault))]
+pub fn change_attributes(
+    sessions: &mut SessionState,
     alloc: Global,
-    client: &[u8],
-    g: &[u8],
+    token: MemberToken,
     phases: Phases,
-    attrs: &Attrs,
-) -> Result<(), NoMemory>
-    ensures row { OnOk result (core.new ≡ proposed core.old client.now (attributes_changed core.old.sessions (caller core.old.sessions client.now g.now) phases attrs.now)) }
-    ensures keeps { OnOk result (Stays core.old core.new) }
+    attrs: Attrs,
+) -> Result<(), GsFault>
+    ensures answer { Answers result sessions.old sessions.new
+        (attributes_changed sessions.old token phases attrs) }
+    ensures same { SameSessions sessions.old sessions.new }
 {
-    let attrs = attrs.copy(alloc)?;
-    let m = caller(&core.sessions, client, g);
-    let answer = session_checks::change_attributes(&mut core.sessions, alloc, m, phases, attrs);
-    propose(core, alloc, client, answer)
+    check_session(sessions)?;
+    let Some(x) = member(sessions, token) else {
+        return Err(GsFault::BadMemberToken);
+    };
+    check_attributes(&attrs, x.group.bytes())?;
+    check_ask(sessions, x.p)?;
+    let p = x.p;
+    let group = x.group.copy(alloc)?;
+    let r = sessions.last_request + 1;
+    put_request(
+        sessions,
+        Request {
+            p,
+            r,
+            group,
+            phases,
+            proposal: Proposal::Attributes { p, r, attrs },
+        },
+    )?;
+    Ok(())
 }
 
-/// The bytes of an optional text.
-fn bytes_of(value: &Option<List<u8>>) -> Option<&[u8]>
-    ensures { option_copied result ≡ value.now }
-{
-    match value {
-        None => None,
-        Some(value) => Some(value.as_slice()),
-    }
-}
-
-fn vote(
-    core: &mut Core,
+/// Keeps a ballot of the provider.
+#[tactic(auto, unfolding(crate::proofs::Below::voted, crate::proofs::Below::no_session_fault, crate::proofs::Below::value_fault, crate::proofs::Below::can_fill, crate::proofs::Below::filled_with))]
+pub fn vote(
+    sessions: &mut SessionState,
     alloc: Global,
-    client: &[u8],
-    g: &[u8],
+    token: MemberToken,
     vote: Vote,
-    value: &Option<List<u8>>,
-) -> Result<(), NoMemory>
-    requires level { IsTrue (is_level core.old.sessions.level) }
-    ensures row { OnOk result (core.new ≡ ballot_given core.old client.now (voted core.old.sessions (caller core.old.sessions client.now g.now) vote value.now)) }
-    ensures keeps { OnOk result (Stays core.old core.new) }
+    value: Option<&[u8]>,
+) -> Result<(), GsFault>
+    requires { IsTrue (is_level sessions.old.level) }
+    ensures answer { Answers result sessions.old sessions.new
+        (voted sessions.old token vote (option_copied value.entry)) }
+    ensures same { SameSessions sessions.old sessions.new }
 {
-    let m = caller(&core.sessions, client, g);
-    let answer = session_checks::vote(&mut core.sessions, alloc, m, vote, bytes_of(value));
-    give_ballot(core, alloc, client, answer)
-}
-
-fn subscribe(core: &mut Core, alloc: Global, client: &[u8], g: &[u8]) -> Result<(), NoMemory>
-    ensures row { OnOk result (core.new ≡ changed core.old client.now (subscribe_taken core.old.sessions (client_token core.old.sessions client.now) g.now (holds core.old g.now))) }
-    ensures keeps { OnOk result (Stays core.old core.new) }
-{
-    let known = holds(core, g);
-    let t = client_token(&core.sessions, client);
-    let answer = session_checks::subscribe(&mut core.sessions, alloc, t, g, known);
-    change(core, alloc, client, answer)
-}
-
-fn unsubscribe(core: &mut Core, alloc: Global, client: &[u8], g: &[u8]) -> Result<(), NoMemory>
-    ensures row { OnOk result (core.new ≡ changed core.old client.now (unsubscribe_taken core.old.sessions (client_token core.old.sessions client.now) (subscriber core.old.sessions client.now g.now))) }
-    ensures keeps { OnOk result (Stays core.old core.new) }
-{
-    let t = client_token(&core.sessions, client);
-    let s = subscriber(&core.sessions, client, g);
-    let answer = session_checks::unsubscribe(&mut core.sessions, t, s);
-    change(core, alloc, client, answer)
-}
-
-/// A call of a client in its session.
-#[tactic(auto, unfolding(node_state::specs::Calls::call_row))]
-pub fn take_call(core: &mut Core, alloc: Global, c: &CallLine) -> Result<(), NoMemory>
-    requires within { IsTrue (is_within_session c.now) }
-    requires level { IsTrue (is_level core.old.sessions.level) }
-    ensures row { OnOk result (core.new ≡ call_row core.old c.now) }
-    ensures keeps { OnOk result (Stays core.old core.new) }
-{
-    match c {
-        CallLine::Join {
-            client,
-            group,
-            instance,
-            attrs,
-        } => join(
-            core,
-            alloc,
-            client.as_slice(),
-            group.as_slice(),
-            *instance,
-            attrs,
-        ),
-        CallLine::Leave {
-            client,
-            group,
-            phases,
-        } => leave(core, alloc, client.as_slice(), group.as_slice(), *phases),
-        CallLine::Expel {
-            client,
-            group,
-            phases,
-            out,
-        } => expel(
-            core,
-            alloc,
-            client.as_slice(),
-            group.as_slice(),
-            *phases,
-            out.as_slice(),
-        ),
-        CallLine::ChangeState {
-            client,
-            group,
-            phases,
-            value,
-        } => change_state(
-            core,
-            alloc,
-            client.as_slice(),
-            group.as_slice(),
-            *phases,
-            value.as_slice(),
-        ),
-        CallLine::SendMessage {
-            client,
-            group,
-            phases,
-            bytes,
-        } => send_message(
-            core,
-            alloc,
-            client.as_slice(),
-            group.as_slice(),
-            *phases,
-            bytes.as_slice(),
-        ),
-        CallLine::ChangeAttributes {
-            client,
-            group,
-            phases,
-            attrs,
-        } => change_attributes(
-            core,
-            alloc,
-            client.as_slice(),
-            group.as_slice(),
-            *phases,
-            attrs,
-        ),
-        CallLine::Vote {
-            client,
-            group,
-            vote: kind,
-            value,
-        } => vote(
-            core,
-            alloc,
-            client.as_slice(),
-            group.as_slice(),
-            *kind,
-            value,
-        ),
-        CallLine::Subscribe { client, group } => {
-            subscribe(core, alloc, client.as_slice(), group.as_slice())
-        }
-        CallLine::Unsubscribe { client, group } => {
-            unsubscribe(core, alloc, client.as_slice(), group.as_slice())
-        }
-        CallLine::Init { .. } | CallLine::Goodbye { .. } => unreachable!(),
+    check_session(sessions)?;
+    let Some(x) = member(sessions, token) else {
+        return Err(GsFault::BadMemberToken);
+    };
+    check_value(sessions, value)?;
+    let Some(o) = x.opened else {
+        return Err(GsFault::VoteNotExpected);
+    };
+    if is_kept(sessions, x.p, o) {
+        return Err(GsFault::VoteNotExpected);
     }
+    let mut ballot = Ballot::new(true, sessions.level);
+    ballot.set(alloc, vote, value, None)?;
+    let kept = KeptBallot {
+        p: x.p,
+        group: x.group.copy(alloc)?,
+        proto: o.proto,
+        phase: o.phase,
+        ballot,
+    };
+    sessions.kept.push(kept)?;
+    Ok(())
 }

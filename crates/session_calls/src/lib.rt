@@ -1,17 +1,19 @@
-//! What a node does at the calls of its clients, and at its ticks: what it owes, and what it leads.
+//! The effect of clients' calls on a node's sessions, by their checks in order; sessions begin and end with their clients.
 #![tactic(auto)]
 
-mod again;
-mod announcing;
-mod answers;
 mod calls;
-mod casting;
-mod leading;
-mod owed;
-mod proposing;
+mod checks;
+mod ends;
+mod reads;
 mod sessions;
 
-pub use calls::take_call;
-pub use leading::tick_led;
-pub use owed::tick_owed;
-pub use sessions::{take_goodbye, take_init};
+pub use calls::{change_attributes, change_state, expel, join, leave, send_message, vote};
+pub use checks::{check_client, check_init};
+pub use ends::{add_session, end_session, has_subscription, subscribe, subscriber_of, unsubscribe};
+pub use reads::{client_token, member_token, sub_token};
+pub use session_clients;
+pub use session_clients::{
+    client_callbacks, group_attr, proposal_core, rsct_packet, session_delivery, session_state,
+    subscribe_core,
+};
+pub use sessions::{close_session, open_session};

@@ -1,132 +1,75 @@
-//! Calls that begin and end a session.
-ghost use Rattle.std.specs.Prelude.{◌≡◌, ◌≤◌, OnOk, IfOk, length, filter};
-ghost use Rattle.std.specs.List.{fold};
-ghost use Rattle.session_state.specs.Calls.{inited, removed_at};
-ghost use Rattle.session_state.specs.State.{client_token, client_place, is_client_of};
-ghost use Rattle.node_state.specs.declared.call.CallLine.TheVariants as call;
-ghost use Rattle.node_state.specs.Calls.{changed, gone_sent, all_gone_sent, call_row};
-ghost use Rattle.node_groups.specs.Keeps.{Stays};
-ghost use Rattle.group_leading.specs.Working.{AtWork};
-ghost use Rattle.session_calls.specs.Calling.{clients_with};
+//! The sessions of a node, with their clients.
+ghost use Rattle.std.specs.Prelude.{◌≡◌, ◌++◌, ◌∷◌, [], Option, ◌<◌, IfOk, IfSome, OnOk, OnErr, length};
+ghost use Rattle.session_clients.specs.session_state.State.{client_place};
+ghost use Rattle.session_clients.specs.session_state.Calls.{Answers, AnswersAlways, inited, goodbye_taken, removed_at};
 
-use crate::answers::refuse;
-use client_callbacks::Callbacks;
-use node_groups::leader_of;
-use node_sending::{is_frozen, send_if_known};
-use node_state::{Body, Core};
-use rsct_packet::{List, NoMemory};
-use session_checks::{client_token, close_session, open_session};
-use session_state::Provider;
+use crate::checks::{check_client, check_init};
+use crate::ends::{self, add_session, end_session};
+use session_clients::client_callbacks::Callbacks;
+use session_clients::rsct_packet::NoMemory;
+use session_clients::session_delivery::client_place;
+use session_clients::session_state::{GsFault, SessionState};
+use session_clients::subscribe_core::ClientToken;
 use std::alloc::Global;
-use subscribe_core::ClientToken;
 
-/// A client begins its session, with the object that is handed its notices; or it is refused.
-pub fn take_init<C: Callbacks>(
-    core: &mut Core,
+/// Adds a session with its client.
+#[tactic(auto, unfolding(crate::proofs::Below::inited, crate::proofs::Below::add_session))]
+pub fn open_session<C: Callbacks>(
+    state: &mut SessionState,
     clients: &mut Vec<C>,
     alloc: Global,
     name: &[u8],
-    c: C,
-) -> Result<(), NoMemory>
-    requires work { AtWork core.old clients.old.items }
-    ensures work { OnOk result (AtWork core.new clients.new.items) }
-    ensures row { OnOk result (core.new ≡ changed core.old name.now (inited core.old.sessions name.now)) }
-    ensures clients { OnOk result (clients.new.items ≡ clients_with c clients.old.items (inited core.old.sessions name.now)) }
-    ensures records { OnOk result (length core.old.records ≤ length core.new.records) }
+    client: C,
+) -> Result<ClientToken, GsFault>
+    ensures answer { Answers result state.old state.new (inited state.old name.now) }
+    ensures token { IfOk result (λ t. t.n ≡ state.new.last_client) }
+    ensures level { state.new.level ≡ state.old.level }
+    ensures client { OnOk result (clients.new.items ≡ clients.old.items ++ client ∷ []) }
+    ensures refused { OnErr result (clients.new.items ≡ clients.old.items) }
+    ensures aligned { length clients.old.items ≡ length state.old.sessions
+        → length clients.new.items ≡ length state.new.sessions }
 {
-    match open_session(&mut core.sessions, clients, alloc, name, c) {
-        Ok(_) => Ok(()),
-        Err(fault) => refuse(core, alloc, name, fault),
+    check_init(state, name)?;
+    let n = clients.len();
+    if clients.push(client).is_err() {
+        return Err(GsFault::NoMemory);
     }
-}
-
-fn copy_provider(alloc: Global, x: &Provider) -> Result<Provider, NoMemory>
-    ensures { IfOk result (λ y. y ≡ x.now) }
-{
-    Ok(Provider {
-        p: x.p,
-        client: x.client,
-        group: x.group.copy(alloc)?,
-        takes_part: x.takes_part,
-        opened: x.opened,
-    })
-}
-
-/// The providers of a client, in the order of their joins.
-#[tactic(auto, using(std::proofs::lemmas::List::Elements::filter_more, std::proofs::lemmas::Grind::common_steps))]
-fn providers_of(
-    alloc: Global,
-    rows: &[Provider],
-    t: ClientToken,
-) -> Result<List<Provider>, NoMemory>
-    ensures { IfOk result (λ l. l ≡ filter (is_client_of t) rows.now) }
-{
-    let mut out = List::new(alloc);
-    for x in rows {
-        if x.client == t {
-            out.push(copy_provider(alloc, x)?)?;
+    match add_session(state, alloc, name) {
+        Ok(t) => Ok(t),
+        Err(_) => {
+            clients.truncate(n);
+            Err(GsFault::NoMemory)
         }
     }
-    Ok(out)
 }
 
-/// Tells the leader of a provider's group that the provider is gone.
-#[tactic(auto, unfolding(node_state::specs::Calls::gone_sent), using(crate::proofs::CallLaws::gone_keeps))]
-fn send_gone(core: &mut Core, alloc: Global, x: &Provider) -> Result<(), NoMemory>
-    ensures row { OnOk result (core.new ≡ gone_sent core.old x.now) }
-    ensures keeps { OnOk result (Stays core.old core.new) }
+/// Drops the client at a place.
+fn drop_at<C: Callbacks>(clients: &mut Vec<C>, place: Option<usize>)
+    requires { IfSome place (λ i. i < length clients.old.items) }
+    ensures { clients.new.items ≡ removed_at place clients.old.items }
 {
-    let leader = leader_of(core, x.group.bytes());
-    let gone = Body::Gone {
-        view: core.views.view,
-        name: x.group.copy(alloc)?,
-        p: x.p,
-    };
-    send_if_known(core, leader, gone)
-}
-
-/// Tells it of each of these.
-#[tactic(auto, using(std::proofs::lemmas::List::Sums::fold_more, node_groups::proofs::KeepLaws::stays_itself, node_groups::proofs::KeepLaws::stays_then))]
-fn send_each_gone(core: &mut Core, alloc: Global, ended: &[Provider]) -> Result<(), NoMemory>
-    ensures row { OnOk result (core.new ≡ fold gone_sent core.old ended.now) }
-    ensures keeps { OnOk result (Stays core.old core.new) }
-{
-    for x in ended {
-        send_gone(core, alloc, x)?;
+    if let Some(i) = place {
+        clients.remove(i);
     }
-    Ok(())
 }
 
-/// Tells it of each of these, where the node is not frozen.
-#[tactic(auto, unfolding(node_state::specs::Calls::all_gone_sent), using(node_groups::proofs::KeepLaws::stays_itself))]
-fn send_all_gone(core: &mut Core, alloc: Global, ended: &[Provider]) -> Result<(), NoMemory>
-    ensures row { OnOk result (core.new ≡ all_gone_sent core.old ended.now) }
-    ensures keeps { OnOk result (Stays core.old core.new) }
-{
-    if is_frozen(core) {
-        return Ok(());
-    }
-    send_each_gone(core, alloc, ended)
-}
-
-/// A client says goodbye: its session ends with its object, and GONE is sent for each of its providers; or it is
-/// refused.
-pub fn take_goodbye<C: Callbacks>(
-    core: &mut Core,
+/// Ends a session, and drops its client.
+#[tactic(auto, unfolding(crate::proofs::Below::goodbye_taken), using(session_clients::proofs::Standing::removed_alike))]
+pub fn close_session<C: Callbacks>(
+    state: &mut SessionState,
     clients: &mut Vec<C>,
-    alloc: Global,
-    client: &[u8],
-) -> Result<(), NoMemory>
-    requires work { AtWork core.old clients.old.items }
-    ensures work { OnOk result (AtWork core.new clients.new.items) }
-    ensures row { OnOk result (core.new ≡ call_row core.old (call.Goodbye client.now)) }
-    ensures clients { OnOk result (clients.new.items ≡ removed_at (client_place core.old.sessions (client_token core.old.sessions client.now)) clients.old.items) }
-    ensures records { OnOk result (length core.old.records ≤ length core.new.records) }
+    client: ClientToken,
+) -> Result<(), GsFault>
+    requires aligned { length clients.old.items ≡ length state.old.sessions }
+    ensures answer { AnswersAlways result state.old state.new (goodbye_taken state.old client) }
+    ensures level { state.new.level ≡ state.old.level }
+    ensures clients { OnOk result (clients.new.items
+        ≡ removed_at (client_place state.old client) clients.old.items) }
+    ensures refused { OnErr result (clients.new.items ≡ clients.old.items) }
+    ensures aligned { length clients.new.items ≡ length state.new.sessions }
 {
-    let t = client_token(&core.sessions, client);
-    let ended = providers_of(alloc, core.sessions.providers.as_slice(), t)?;
-    match close_session(&mut core.sessions, clients, t) {
-        Ok(()) => send_all_gone(core, alloc, ended.as_slice()),
-        Err(fault) => refuse(core, alloc, client, fault),
-    }
+    check_client(state, client)?;
+    drop_at(clients, client_place(state, client));
+    end_session(state, client);
+    Ok(())
 }

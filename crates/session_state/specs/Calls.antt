@@ -2,23 +2,23 @@
 use Rattle.std.specs.Prelude.{◌≡◌, ℕ, Bool, true, false, not, ◌==◌, ◌&&◌, ◌||◌, ◌+◌, ◌++◌, List, [], ◌∷◌, length, filter, find, Option, Some, None, Result, Ok, Err, nat_le, nat_lt, if◌then◌else◌, remove}
 use Rattle.std.specs.List.{list_any}
 use Rattle.std.specs.Str.{bytes_eq}
-use Rattle.rsct_packet.specs.declared.ids.ProviderId.{ProviderId}
-use Rattle.rsct_packet.specs.Ids.{last_u32}
-use Rattle.rsct_packet.specs.Text.{is_name_of}
-use Rattle.rsct_packet.specs.Providers.{differ, same_provider}
-use Rattle.group_attr.specs.declared.attrs.Attrs.{Attrs}
-use Rattle.group_attr.specs.declared.attrs.AttrFault.{AttrFault}
-use Rattle.group_attr.specs.declared.attrs.Phases.{Phases}
-use Rattle.group_attr.specs.declared.attrs.Phases.TheVariants.{One}
-use Rattle.group_attr.specs.Attrs.{first_fault, host_membership}
-use Rattle.proposal_core.specs.declared.entry.Vote.{Vote}
-use Rattle.proposal_core.specs.declared.proposal.Proposal.{Proposal}
-use Rattle.proposal_core.specs.declared.proposal.Proposal.TheVariants.{Join, Leave, Expel, State, Message, Attributes}
+use Rattle.client_callbacks.specs.rsct_packet.declared.ids.ProviderId.{ProviderId}
+use Rattle.client_callbacks.specs.rsct_packet.Ids.{last_u32}
+use Rattle.client_callbacks.specs.rsct_packet.Text.{is_name_of}
+use Rattle.client_callbacks.specs.rsct_packet.Providers.{differ, same_provider}
+use Rattle.client_callbacks.specs.group_attr.declared.attrs.Attrs.{Attrs}
+use Rattle.client_callbacks.specs.group_attr.declared.attrs.AttrFault.{AttrFault}
+use Rattle.client_callbacks.specs.group_attr.declared.attrs.Phases.{Phases}
+use Rattle.client_callbacks.specs.group_attr.declared.attrs.Phases.TheVariants.{One}
+use Rattle.client_callbacks.specs.group_attr.Attrs.{first_fault, host_membership}
+use Rattle.client_callbacks.specs.proposal_core.declared.entry.Vote.{Vote}
+use Rattle.client_callbacks.specs.proposal_core.declared.proposal.Proposal.{Proposal}
+use Rattle.client_callbacks.specs.proposal_core.declared.proposal.Proposal.TheVariants.{Join, Leave, Expel, State, Message, Attributes}
 use Rattle.client_callbacks.specs.declared.ballot.Filled.{Filled}
 use Rattle.client_callbacks.specs.Ballots.{BallotView, is_within, value_limit, message_limit}
 use Rattle.subscribe_core.specs.declared.subs.ClientToken.{ClientToken}
 use Rattle.subscribe_core.specs.declared.subs.SubToken.{SubToken}
-use Rattle.subscribe_core.specs.Subs.{is_unknown, is_subscribed, subscribed, unsubscribed, client_ended, has_token, is_of_client}
+use Rattle.subscribe_core.specs.Subs.{is_unknown, is_subscribed, subs_add, subs_remove, subs_remove_client, has_token, is_of_client}
 use Rattle.session_state.specs.declared.state.MemberToken.{MemberToken}
 use Rattle.session_state.specs.declared.state.OpenPhase.{OpenPhase}
 use Rattle.session_state.specs.declared.state.Provider.{Provider}
@@ -117,12 +117,12 @@ init_fault s name =
     (or_fault (fault_if (nat_le max_sessions (length s.sessions)) (fault.SessionsFull 64))
     (spent_fault s.last_client)))
 
-unfoldable pub session_added : SessionState → List ℕ → SessionState
-session_added s name = record s { last_client = s.last_client + 1; sessions = s.sessions ++ record { token = record { n = s.last_client + 1 }; name = name } ∷ [] }
+unfoldable pub add_session : SessionState → List ℕ → SessionState
+add_session s name = record s { last_client = s.last_client + 1; sessions = s.sessions ++ record { token = record { n = s.last_client + 1 }; name = name } ∷ [] }
 
 -- a new session with this name, whose token has the next number
 unfoldable pub inited : SessionState → List ℕ → Result SessionState GsFault
-inited s name = unless_fault (init_fault s name) (session_added s name)
+inited s name = unless_fault (init_fault s name) (add_session s name)
 
 -- join
 
@@ -229,14 +229,14 @@ subscribe_fault s t g known =
 
 -- known: the node holds a list of the group
 unfoldable pub subscribe_taken : SessionState → ClientToken → List ℕ → Bool → Result SessionState GsFault
-subscribe_taken s t g known = unless_fault (subscribe_fault s t g known) (record s { subs = subscribed t g s.subs })
+subscribe_taken s t g known = unless_fault (subscribe_fault s t g known) (record s { subs = subs_add t g s.subs })
 
 unfoldable pub unsubscribe_fault : SessionState → ClientToken → SubToken → Option GsFault
 unsubscribe_fault s t sub =
     or_fault (client_fault s t) (fault_if (not (list_any (λ x. has_token sub x && is_of_client t x) s.subs.live)) (fault.BadParameter field.Subscription))
 
 unfoldable pub unsubscribe_taken : SessionState → ClientToken → SubToken → Result SessionState GsFault
-unsubscribe_taken s t sub = unless_fault (unsubscribe_fault s t sub) (record s { subs = unsubscribed sub s.subs })
+unsubscribe_taken s t sub = unless_fault (unsubscribe_fault s t sub) (record s { subs = subs_remove sub s.subs })
 
 -- goodbye
 
@@ -249,20 +249,20 @@ abbrev pub is_owned : List Provider → ClientToken → ProviderId → Bool
 is_owned xs t p = list_any (λ x. is_client_of t x && same_provider x.p p) xs
 
 -- without the session, its subscriptions, and its providers with their requests and kept ballots
-unfoldable pub session_ended : SessionState → ClientToken → SessionState
-session_ended s t =
+unfoldable pub end_session : SessionState → ClientToken → SessionState
+end_session s t =
     record s {
       sessions = removed_at (client_place s t) s.sessions;
       providers = filter (λ x. not (is_client_of t x)) s.providers;
       requests = filter (λ q. not (is_owned s.providers t q.p)) s.requests;
-      subs = client_ended t s.subs;
+      subs = subs_remove_client t s.subs;
       kept = filter (λ k. not (is_owned s.providers t k.p)) s.kept;
     }
 
 unfoldable pub goodbye_taken : SessionState → ClientToken → Result SessionState GsFault
-goodbye_taken s t = unless_fault (client_fault s t) (session_ended s t)
+goodbye_taken s t = unless_fault (client_fault s t) (end_session s t)
 
 -- opens each word of this file, for a computation
 unfoldable pub calls_opens : Unit {0}
-unfolding no_session_fault client_fault name_fault hosts_fault value_fault message_fault targets_fault collide_fault spent_fault init_fault session_added inited join_fault join_asked joined asked ask_fault request_made left expelled state_changed message_sent attributes_changed voted subscribe_fault subscribe_taken unsubscribe_fault unsubscribe_taken session_ended goodbye_taken
+unfolding no_session_fault client_fault name_fault hosts_fault value_fault message_fault targets_fault collide_fault spent_fault init_fault add_session inited join_fault join_asked joined asked ask_fault request_made left expelled state_changed message_sent attributes_changed voted subscribe_fault subscribe_taken unsubscribe_fault unsubscribe_taken end_session goodbye_taken
 calls_opens = tt

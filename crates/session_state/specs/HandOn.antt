@@ -2,16 +2,16 @@
 use Rattle.std.specs.Prelude.{ℕ, Bool, true, false, not, ◌==◌, ◌&&◌, ◌||◌, ◌++◌, List, [], ◌∷◌, filter, Option, Some, None, is_some, find, if◌then◌else◌}
 use Rattle.std.specs.List.{fold, flat_map}
 use Rattle.std.specs.Str.{bytes_eq}
-use Rattle.rsct_packet.specs.declared.ids.ProviderId.{ProviderId}
-use Rattle.rsct_packet.specs.declared.ids.ProtoId.{ProtoId}
-use Rattle.rsct_packet.specs.Providers.{among}
-use Rattle.proposal_core.specs.declared.entry.Entry.{Entry}
-use Rattle.proposal_core.specs.declared.entry.Entry.TheVariants.{Once, Begin, Phase, Approve, Reject, Late}
-use Rattle.proposal_core.specs.declared.proposal.Proposal.{Proposal}
-use Rattle.proposal_core.specs.declared.proposal.Proposal.TheVariants.{Join, Leave, Fail, Expel, State, Message, Attributes, Reflect}
-use Rattle.proposal_core.specs.declared.group_state.GroupState.{GroupState}
-use Rattle.proposal_core.specs.declared.group_state.Running.{Running}
-use Rattle.proposal_core.specs.Fold.{joiners_in, joins_of, voters}
+use Rattle.client_callbacks.specs.rsct_packet.declared.ids.ProviderId.{ProviderId}
+use Rattle.client_callbacks.specs.rsct_packet.declared.ids.ProtoId.{ProtoId}
+use Rattle.client_callbacks.specs.rsct_packet.Providers.{among}
+use Rattle.client_callbacks.specs.proposal_core.declared.entry.Entry.{Entry}
+use Rattle.client_callbacks.specs.proposal_core.declared.entry.Entry.TheVariants.{Once, Begin, Phase, Approve, Reject, Late}
+use Rattle.client_callbacks.specs.proposal_core.declared.proposal.Proposal.{Proposal}
+use Rattle.client_callbacks.specs.proposal_core.declared.proposal.Proposal.TheVariants.{Join, Leave, Fail, Expel, State, Message, Attributes, Reflect}
+use Rattle.client_callbacks.specs.proposal_core.declared.group_state.GroupState.{GroupState}
+use Rattle.client_callbacks.specs.proposal_core.declared.group_state.Running.{Running}
+use Rattle.client_callbacks.specs.proposal_core.Fold.{joiners_in, joins_of, voters}
 use Rattle.subscribe_core.specs.declared.subs.SubToken.{SubToken}
 use Rattle.subscribe_core.specs.declared.subs.Subscription.{Subscription}
 use Rattle.subscribe_core.specs.Subs.{has_token}
@@ -25,7 +25,7 @@ use Rattle.session_state.specs.declared.state.Provider.{Provider}
 use Rattle.session_state.specs.declared.state.Request.{Request}
 use Rattle.session_state.specs.declared.state.KeptBallot.{KeptBallot}
 use Rattle.session_state.specs.declared.state.SessionState.{SessionState}
-use Rattle.session_state.specs.State.{is_kept_in, client_place, provider_of, outstanding, with_provider, request_ended, without_providers}
+use Rattle.session_state.specs.State.{is_kept_in, client_place, provider_of, outstanding, with_provider, end_request, without_providers}
 
 -- an entry that closes a phase ends the kept ballots of that phase of its group
 
@@ -96,8 +96,8 @@ opened_after e after x =
     if is_late e then x
     else record x { opened = if asks e after x.p then running_phase after.running else None }
 
-unfoldable pub phases_opened : SessionState → Entry → GroupState → List ProviderId → SessionState
-phases_opened s e after ps = fold (λ t p. with_provider t p (opened_after e after)) s ps
+unfoldable pub open_phases : SessionState → Entry → GroupState → List ProviderId → SessionState
+open_phases s e after ps = fold (λ t p. with_provider t p (opened_after e after)) s ps
 
 -- the ballots that clients fill
 
@@ -123,19 +123,19 @@ abbrev pub kept_by : List ℕ → ProviderId → Option (ProtoId × ℕ × Ballo
 kept_by g p None = []
 kept_by g p (Some c) = record { p = p; group = g; proto = c.0; phase = c.1; ballot = c.2 } ∷ []
 
-unfoldable pub casts_kept : SessionState → List ℕ → List Cast → SessionState
-casts_kept s g cs = record s { kept = s.kept ++ flat_map (λ c. kept_by g c.p c.cast) cs }
+unfoldable pub keep_casts : SessionState → List ℕ → List Cast → SessionState
+keep_casts s g cs = record s { kept = s.kept ++ flat_map (λ c. kept_by g c.p c.cast) cs }
 
 -- the outstanding requests that a Begin or Once carries are ended
 
 unfoldable pub proposal_begun : SessionState → Proposal → SessionState
-proposal_begun s (Join ps attrs n) = fold (λ t p. request_ended t p p.join) s ps
-proposal_begun s (Leave p r) = request_ended s p r
+proposal_begun s (Join ps attrs n) = fold (λ t p. end_request t p p.join) s ps
+proposal_begun s (Leave p r) = end_request s p r
 proposal_begun s (Fail out) = s
-proposal_begun s (Expel p r out) = request_ended s p r
-proposal_begun s (State p r value) = request_ended s p r
-proposal_begun s (Message p r bytes) = request_ended s p r
-proposal_begun s (Attributes p r attrs) = request_ended s p r
+proposal_begun s (Expel p r out) = end_request s p r
+proposal_begun s (State p r value) = end_request s p r
+proposal_begun s (Message p r bytes) = end_request s p r
+proposal_begun s (Attributes p r attrs) = end_request s p r
 proposal_begun s (Reflect view place value) = s
 
 unfoldable pub requests_after : SessionState → Entry → SessionState
@@ -164,7 +164,7 @@ casts_out s g before after e bs = casts_of e after s.level (hearers s g before e
 unfoldable pub heard : SessionState → List ℕ → GroupState → Entry → List ProviderId → List ProviderId → List Cast → SessionState
 heard s g after e ps beginning cs =
     let t : SessionState = part_taken (kept_after s g e) beginning in
-    let u : SessionState = casts_kept (phases_opened t e after ps) g cs in
+    let u : SessionState = keep_casts (open_phases t e after ps) g cs in
     without_providers (requests_after u e) (removed_from after ps)
 
 -- the state after an entry was handed on, and the clients filled bs
@@ -199,8 +199,8 @@ told_of s p y =
     if is_join_request (outstanding s p) || is_dissolved y then without_providers s (p ∷ [])
     else record s { requests = filter (λ q. not (among (p ∷ []) q.p)) s.requests }
 
-unfoldable pub telling_taken : SessionState → ProviderId → ℕ → Why → SessionState
-telling_taken s p r y = if takes_telling s p r y then told_of s p y else s
+unfoldable pub take_telling : SessionState → ProviderId → ℕ → Why → SessionState
+take_telling s p r y = if takes_telling s p r y then told_of s p y else s
 
 abbrev pub place_subscribed : SessionState → Option Subscription → Option ℕ
 place_subscribed s None = None
@@ -212,5 +212,5 @@ subscriber_of s t = place_subscribed s (find (has_token t) s.subs.live)
 
 -- opens each word of this file, for a computation
 unfoldable pub handon_opens : Unit {0}
-unfolding kept_ended kept_after hearers_in beginners hearers part_taken asks opened_after phases_opened cast_of casts_kept proposal_begun requests_after is_present removed_from casts_out heard handed_on takes_telling told_of telling_taken subscriber_of
+unfolding kept_ended kept_after hearers_in beginners hearers part_taken asks opened_after open_phases cast_of keep_casts proposal_begun requests_after is_present removed_from casts_out heard handed_on takes_telling told_of take_telling subscriber_of
 handon_opens = tt

@@ -1,11 +1,11 @@
 -- What a node has of its clients.
 use Rattle.std.specs.Prelude.{ℕ, Bool, not, ◌==◌, ◌&&◌, List, [], Option, Some, None, filter, find}
 use Rattle.std.specs.Str.{bytes_eq}
-use Rattle.rsct_packet.specs.declared.ids.ProviderId.{ProviderId}
-use Rattle.rsct_packet.specs.declared.ids.ProtoId.{ProtoId}
-use Rattle.rsct_packet.specs.Ids.{same_proto}
-use Rattle.rsct_packet.specs.Providers.{same_provider, among}
-use Rattle.rsct_packet.specs.Search.{edit_where, place_where}
+use Rattle.client_callbacks.specs.rsct_packet.declared.ids.ProviderId.{ProviderId}
+use Rattle.client_callbacks.specs.rsct_packet.declared.ids.ProtoId.{ProtoId}
+use Rattle.client_callbacks.specs.rsct_packet.Ids.{same_proto}
+use Rattle.client_callbacks.specs.rsct_packet.Providers.{same_provider, among}
+use Rattle.client_callbacks.specs.rsct_packet.Search.{edit_where, place_where}
 use Rattle.subscribe_core.specs.declared.subs.ClientToken.{ClientToken}
 use Rattle.subscribe_core.specs.declared.subs.SubToken.{SubToken}
 use Rattle.subscribe_core.specs.declared.subs.Subscription.{Subscription}
@@ -108,8 +108,8 @@ unfoldable pub with_provider : SessionState → ProviderId → (Provider → Pro
 with_provider s p f = record s { providers = edit_where (is_provider p) f s.providers }
 
 -- without a request
-unfoldable pub request_ended : SessionState → ProviderId → ℕ → SessionState
-request_ended s p r = record s { requests = filter (λ q. not (is_request p r q)) s.requests }
+unfoldable pub end_request : SessionState → ProviderId → ℕ → SessionState
+end_request s p r = record s { requests = filter (λ q. not (is_request p r q)) s.requests }
 
 -- without these providers, their requests and their kept ballots
 unfoldable pub without_providers : SessionState → List ProviderId → SessionState
@@ -122,5 +122,5 @@ without_providers s ps =
 
 -- opens each word of this file, for a computation
 unfoldable pub state_opens : Unit {0}
-unfolding provider_of place_of outstanding client_token member_token sub_token client_name with_provider request_ended without_providers
+unfolding provider_of place_of outstanding client_token member_token sub_token client_name with_provider end_request without_providers
 state_opens = tt

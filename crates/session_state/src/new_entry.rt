@@ -1,11 +1,11 @@
 //! A new entry of a group's list, as it is handed on.
 ghost use Rattle.std.specs.Prelude.{◌≡◌, [], Option};
-ghost use Rattle.proposal_core.specs.Fold.{joiners_in, joins_of};
+ghost use Rattle.client_callbacks.specs.proposal_core.Fold.{joiners_in, joins_of};
 ghost use Rattle.session_state.specs.HandOn.{is_late, opens_phase, asks, running_phase, brought_by, is_present};
 
 use crate::state::OpenPhase;
-use proposal_core::{Entry, GroupState, Proposal, Running};
-use rsct_packet::{Name, ProviderId, ViewId, is_among};
+use client_callbacks::proposal_core::{Entry, GroupState, Proposal, Running};
+use client_callbacks::rsct_packet::{Name, ProviderId, ViewId, is_among};
 
 /// A new entry of a group's list at its place in a view, with the state after it and that state's voters.
 #[derive(Clone, Copy)]
@@ -16,23 +16,23 @@ pub struct NewEntry<'a> {
     pub entry: &'a Entry,
     pub after: &'a GroupState,
     pub voters: &'a [ProviderId],
-    ghost are_voters: { voters.now ≡ Rattle.proposal_core.specs.Fold.voters after.now },
+    ghost are_voters: { voters.now ≡ Rattle.client_callbacks.specs.proposal_core.Fold.voters after.now },
 }
 
-pub fn is_late(e: &Entry) -> bool
-    ensures { result ≡ is_late e.now }
+pub fn is_late(entry: &Entry) -> bool
+    ensures { result ≡ is_late entry.now }
 {
-    match e {
+    match entry {
         Entry::Late { .. } => true,
         _ => false,
     }
 }
 
 /// Does the entry open a phase?
-fn opens_phase(e: &Entry) -> bool
-    ensures { result ≡ opens_phase e.now }
+fn opens_phase(entry: &Entry) -> bool
+    ensures { result ≡ opens_phase entry.now }
 {
-    match e {
+    match entry {
         Entry::Begin(_) => true,
         Entry::Phase(_) => true,
         _ => false,
@@ -53,10 +53,10 @@ pub fn running_phase(running: &Option<Running>) -> Option<OpenPhase>
 }
 
 /// The providers of a join.
-fn joins_of(x: &Proposal) -> &[ProviderId]
-    ensures { result.now ≡ joins_of x.now }
+fn joins_of(proposal: &Proposal) -> &[ProviderId]
+    ensures { result.now ≡ joins_of proposal.now }
 {
-    match x {
+    match proposal {
         Proposal::Join { ps, .. } => ps.as_slice(),
         _ => &[],
     }
@@ -73,10 +73,10 @@ pub fn joiners_in(running: &Option<Running>) -> &[ProviderId]
 }
 
 /// Those whom the entry's join brings.
-pub fn brought_by(e: &Entry) -> &[ProviderId]
-    ensures { result.now ≡ brought_by e.now }
+pub fn brought_by(entry: &Entry) -> &[ProviderId]
+    ensures { result.now ≡ brought_by entry.now }
 {
-    match e {
+    match entry {
         Entry::Once(x) => joins_of(x),
         Entry::Begin(x) => joins_of(x),
         _ => &[],
@@ -85,18 +85,18 @@ pub fn brought_by(e: &Entry) -> &[ProviderId]
 
 /// Is it a member or a running joiner?
 #[tactic(auto, unfolding(crate::specs::HandOn::is_present))]
-pub fn is_present(after: &GroupState, p: ProviderId) -> bool
-    ensures { result ≡ is_present after.now p }
+pub fn is_present(after: &GroupState, provider: ProviderId) -> bool
+    ensures { result ≡ is_present after.now provider }
 {
-    is_among(after.members.as_slice(), p) || is_among(joiners_in(&after.running), p)
+    is_among(after.members.as_slice(), provider) || is_among(joiners_in(&after.running), provider)
 }
 
 impl NewEntry<'_> {
     /// Does its notice ask the provider for a vote?
     #[tactic(auto, unfolding(crate::specs::HandOn::asks))]
-    pub fn asks(&self, p: ProviderId) -> bool
-        ensures { result ≡ asks self.now.entry.now self.now.after.now p }
+    pub fn asks(&self, provider: ProviderId) -> bool
+        ensures { result ≡ asks self.now.entry.now self.now.after.now provider }
     {
-        opens_phase(self.entry) && is_among(self.voters, p)
+        opens_phase(self.entry) && is_among(self.voters, provider)
     }
 }

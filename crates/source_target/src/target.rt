@@ -4,15 +4,15 @@ ghost use Rattle.std.specs.List.{list_any};
 ghost use Rattle.source_target.specs.Due.{allowed as allowed_by, cast_outs as cast_outs_of, due as due_of, reflection_due as reflection_due_of, is_on};
 
 use crate::owed::Due;
+use proposal_core::rsct_packet::{List, NoMemory, ProviderId};
 use proposal_core::{Cause, Failure, Fallen, GroupState};
-use rsct_packet::{List, NoMemory, ProviderId};
 use std::alloc::Global;
 
 /// Is one of them on the node?
-fn is_one_on(ps: &[ProviderId], node: u8) -> bool
-    ensures { result ≡ list_any (is_on node) ps.now }
+fn is_one_on(providers: &[ProviderId], node: u8) -> bool
+    ensures { result ≡ list_any (is_on node) providers.now }
 {
-    ps.iter().any(|q| q.node == node)
+    providers.iter().any(|q| q.node == node)
 }
 
 /// Has the source a member on the node? A source that is not known has none.
@@ -50,7 +50,8 @@ fn cast_outs(
 /// The reflection of a value that was set after the reflected one, where the target has members.
 #[tactic(auto, unfolding(crate::specs::Due::reflection_due))]
 fn reflection_due(target: &GroupState, source: Option<&GroupState>) -> Option<Due>
-    ensures { result ≡ reflection_due_of target.now (option_copied source.entry) target.now.members }
+    ensures { result ≡ reflection_due_of target.now
+        (option_copied source.entry) target.now.members }
 {
     let set_at = source?.value_at?;
     if target.members.len() > 0 && target.reflected_at < Some(set_at) {

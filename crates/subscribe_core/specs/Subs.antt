@@ -3,8 +3,8 @@ use Rattle.std.specs.Prelude.{ℕ, Bool, not, ◌==◌, ◌&&◌, ◌+◌, ◌++
 use Rattle.std.specs.List.{list_any}
 use Rattle.std.specs.Str.{bytes_eq}
 use Rattle.std.specs.Cmp.Lexicographic.{pointwise}
-use Rattle.rsct_packet.specs.Providers.{same_provider}
-use Rattle.group_attr.specs.Attrs.{host_membership}
+use Rattle.proposal_core.specs.rsct_packet.Providers.{same_provider}
+use Rattle.proposal_core.specs.group_attr.Attrs.{host_membership}
 use Rattle.proposal_core.specs.declared.group_state.GroupState.{GroupState}
 use Rattle.subscribe_core.specs.declared.subs.ClientToken.{ClientToken}
 use Rattle.subscribe_core.specs.declared.subs.SubToken.{SubToken}
@@ -47,15 +47,15 @@ is_subscribed c g s = list_any (is_of c g) s.live
 abbrev pub next_token : SubsView → SubToken
 next_token s = record { n = s.last + 1 }
 
-abbrev pub subscribed : ClientToken → List ℕ → SubsView → SubsView
-subscribed c g s = record { last = s.last + 1; live = s.live ++ record { token = next_token s; client = c; group = g } ∷ [] }
+abbrev pub subs_add : ClientToken → List ℕ → SubsView → SubsView
+subs_add c g s = record { last = s.last + 1; live = s.live ++ record { token = next_token s; client = c; group = g } ∷ [] }
 
-abbrev pub unsubscribed : SubToken → SubsView → SubsView
-unsubscribed t s = record s { live = filter (λ x. not (has_token t x)) s.live }
+abbrev pub subs_remove : SubToken → SubsView → SubsView
+subs_remove t s = record s { live = filter (λ x. not (has_token t x)) s.live }
 
 -- without the subscriptions of a client that ended
-abbrev pub client_ended : ClientToken → SubsView → SubsView
-client_ended c s = record s { live = filter (λ x. not (is_of_client c x)) s.live }
+abbrev pub subs_remove_client : ClientToken → SubsView → SubsView
+subs_remove_client c s = record s { live = filter (λ x. not (is_of_client c x)) s.live }
 
 -- no group of this name is known, and it does not stand for the hosts
 abbrev pub is_unknown : List ℕ → Bool → Bool

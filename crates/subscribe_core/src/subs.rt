@@ -1,12 +1,12 @@
 //! The subscriptions of a node's clients.
 ghost use Rattle.std.specs.Prelude.{◌≡◌, ◌<◌, ◌-◌, ◌^◌, ◌↔◌, IsTrue, IfOk, OnOk, OnErr, IsErrOf, filter, not};
 ghost use Rattle.std.specs.List.{list_any};
-ghost use Rattle.subscribe_core.specs.Subs.{no_subs, has_token, is_of_client, is_of as is_of_both, is_live, is_subscribed as is_subscribed_in, next_token, subscribed, unsubscribed, client_ended, is_unknown, tokens_of, tokens_among, differs, notes_of, rise};
+ghost use Rattle.subscribe_core.specs.Subs.{no_subs, has_token, is_of_client, is_of as is_of_both, is_live, is_subscribed as is_subscribed_in, next_token, subs_add, subs_remove, subs_remove_client, is_unknown, tokens_of, tokens_among, differs, notes_of, rise};
 ghost use Rattle.subscribe_core.specs.declared.subs.SubFault.TheVariants as fault;
 
-use group_attr::HOST_MEMBERSHIP;
 use proposal_core::GroupState;
-use rsct_packet::{List, NoMemory};
+use proposal_core::group_attr::HOST_MEMBERSHIP;
+use proposal_core::rsct_packet::{List, NoMemory};
 use std::alloc::Global;
 use std::marker::Model;
 
@@ -74,10 +74,10 @@ fn is_token_among(live: &[Subscription], token: SubToken) -> bool
 }
 
 /// Is the subscription the client's to the group?
-fn is_of(x: &Subscription, client: ClientToken, group: &[u8]) -> bool
-    ensures { result ≡ is_of_both client group.now x.now }
+fn is_of(subscription: &Subscription, client: ClientToken, group: &[u8]) -> bool
+    ensures { result ≡ is_of_both client group.now subscription.now }
 {
-    x.client == client && x.group.as_slice() == group
+    subscription.client == client && subscription.group.as_slice() == group
 }
 
 /// Is one of them the client's to the group?
@@ -159,8 +159,9 @@ impl Subs {
     ) -> Result<SubToken, SubFault>
         requires { self.old.last < 2 ^ 32 - 1 }
         ensures token { IfOk result (λ token. token ≡ next_token self.old) }
-        ensures subscribed { OnOk result (self.new ≡ subscribed client group.now self.old) }
-        ensures unknown { IsErrOf result SubFault.UnknownGroup ↔ IsTrue (is_unknown group.now known) }
+        ensures subscribed { OnOk result (self.new ≡ subs_add client group.now self.old) }
+        ensures unknown { IsErrOf result SubFault.UnknownGroup
+            ↔ IsTrue (is_unknown group.now known) }
         ensures err { OnErr result (self.new ≡ self.old) }
     {
         if !known && group != HOST_MEMBERSHIP {
@@ -180,7 +181,7 @@ impl Subs {
     /// Ends a subscription; `true` exactly where it was live.
     pub fn remove(&mut self, token: SubToken) -> bool
         ensures live { result ≡ is_live token self.old }
-        ensures removed { self.new ≡ unsubscribed token self.old }
+        ensures removed { self.new ≡ subs_remove token self.old }
     {
         let was_live = is_token_among(self.live.as_slice(), token);
         retain_others(&mut self.live, token);
@@ -189,7 +190,7 @@ impl Subs {
 
     /// Ends the subscriptions of a client.
     pub fn remove_client(&mut self, client: ClientToken)
-        ensures { self.new ≡ client_ended client self.old }
+        ensures { self.new ≡ subs_remove_client client self.old }
     {
         retain_other_clients(&mut self.live, client);
     }
@@ -217,7 +218,8 @@ impl Subs {
         before: &GroupState,
         after: &GroupState,
     ) -> Result<Tokens, NoMemory>
-        ensures { IfOk result (λ tokens. tokens ≡ notes_of group.now before.now after.now self.now) }
+        ensures { IfOk result (λ tokens. tokens ≡ notes_of group.now before.now after.now
+            self.now) }
     {
         if differ(before, after) {
             self.tokens(alloc, group)

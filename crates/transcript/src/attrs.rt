@@ -1,13 +1,13 @@
 //! The attributes of a group.
 ghost use Rattle.std.specs.Prelude.{◌≡◌, ◌++◌, OnOk};
-ghost use Rattle.world_model.specs.Text.{phases_text, batch_text, default_text, limit_text, source_text, source_phases_text, source_limit_text, attrs_text};
+ghost use Rattle.script_words.specs.world_model.Text.{phases_text, batch_text, default_text, limit_text, source_text, source_phases_text, source_limit_text, attrs_text};
 
-use group_attr::{Attrs, Batch, DefaultVote, Phases};
-use rsct_packet::{Name, NoMemory};
-use status_lines::{put_number, put_text};
+use node_text::group_attr::{Attrs, Batch, DefaultVote, Phases};
+use node_text::rsct_packet::{Name, NoMemory};
+use node_text::{put_number, put_text};
 use std::alloc::Global;
 
-#[tactic(auto, unfolding(world_model::specs::Text::phases_text))]
+#[tactic(auto, unfolding(crate::proofs::Below::phases_text))]
 fn phases_text(phases: Phases) -> &'static [u8]
     ensures { result.now ≡ phases_text phases }
 {
@@ -17,7 +17,7 @@ fn phases_text(phases: Phases) -> &'static [u8]
     }
 }
 
-#[tactic(auto, unfolding(world_model::specs::Text::batch_text))]
+#[tactic(auto, unfolding(crate::proofs::Below::batch_text))]
 fn batch_text(batch: Batch) -> &'static [u8]
     ensures { result.now ≡ batch_text batch }
 {
@@ -29,7 +29,7 @@ fn batch_text(batch: Batch) -> &'static [u8]
     }
 }
 
-#[tactic(auto, unfolding(world_model::specs::Text::default_text))]
+#[tactic(auto, unfolding(crate::proofs::Below::default_text))]
 fn default_text(vote: DefaultVote) -> &'static [u8]
     ensures { result.now ≡ default_text vote }
 {
@@ -39,18 +39,18 @@ fn default_text(vote: DefaultVote) -> &'static [u8]
     }
 }
 
-#[tactic(auto, unfolding(world_model::specs::Text::limit_text))]
-fn put_limit(alloc: Global, out: &mut Vec<u8>, n: u16) -> Result<(), NoMemory>
-    ensures { OnOk result (out.new.items ≡ out.old.items ++ limit_text n) }
+#[tactic(auto, unfolding(crate::proofs::Below::limit_text))]
+fn put_limit(alloc: Global, out: &mut Vec<u8>, limit: u16) -> Result<(), NoMemory>
+    ensures { OnOk result (out.new.items ≡ out.old.items ++ limit_text limit) }
 {
-    if n == 0 {
+    if limit == 0 {
         return Ok(());
     }
     put_text(out, b" limit=")?;
-    put_number(alloc, out, u32::from(n))
+    put_number(alloc, out, u32::from(limit))
 }
 
-#[tactic(auto, unfolding(world_model::specs::Text::source_text))]
+#[tactic(auto, unfolding(crate::proofs::Below::source_text))]
 fn put_source(out: &mut Vec<u8>, source: &Option<Name>) -> Result<(), NoMemory>
     ensures { OnOk result (out.new.items ≡ out.old.items ++ source_text source.now) }
 {
@@ -63,7 +63,7 @@ fn put_source(out: &mut Vec<u8>, source: &Option<Name>) -> Result<(), NoMemory>
     }
 }
 
-#[tactic(auto, unfolding(world_model::specs::Text::source_phases_text))]
+#[tactic(auto, unfolding(crate::proofs::Below::source_phases_text))]
 fn source_phases_text(phases: Phases) -> &'static [u8]
     ensures { result.now ≡ source_phases_text phases }
 {
@@ -73,27 +73,27 @@ fn source_phases_text(phases: Phases) -> &'static [u8]
     }
 }
 
-#[tactic(auto, unfolding(world_model::specs::Text::source_limit_text))]
-fn put_source_limit(alloc: Global, out: &mut Vec<u8>, n: u16) -> Result<(), NoMemory>
-    ensures { OnOk result (out.new.items ≡ out.old.items ++ source_limit_text n) }
+#[tactic(auto, unfolding(crate::proofs::Below::source_limit_text))]
+fn put_source_limit(alloc: Global, out: &mut Vec<u8>, limit: u16) -> Result<(), NoMemory>
+    ensures { OnOk result (out.new.items ≡ out.old.items ++ source_limit_text limit) }
 {
-    if n == 0 {
+    if limit == 0 {
         return Ok(());
     }
     put_text(out, b" slimit=")?;
-    put_number(alloc, out, u32::from(n))
+    put_number(alloc, out, u32::from(limit))
 }
 
 /// The attributes that are not those of the empty state, each behind a space.
-#[tactic(auto, unfolding(world_model::specs::Text::attrs_text))]
-pub fn put_attrs(alloc: Global, out: &mut Vec<u8>, a: &Attrs) -> Result<(), NoMemory>
-    ensures { OnOk result (out.new.items ≡ out.old.items ++ attrs_text a.now) }
+#[tactic(auto, unfolding(crate::proofs::Below::attrs_text))]
+pub fn put_attrs(alloc: Global, out: &mut Vec<u8>, attrs: &Attrs) -> Result<(), NoMemory>
+    ensures { OnOk result (out.new.items ≡ out.old.items ++ attrs_text attrs.now) }
 {
-    put_text(out, phases_text(a.phases))?;
-    put_text(out, batch_text(a.batch))?;
-    put_text(out, default_text(a.default_vote))?;
-    put_limit(alloc, out, a.limit)?;
-    put_source(out, &a.source)?;
-    put_text(out, source_phases_text(a.source_phases))?;
-    put_source_limit(alloc, out, a.source_limit)
+    put_text(out, phases_text(attrs.phases))?;
+    put_text(out, batch_text(attrs.batch))?;
+    put_text(out, default_text(attrs.default_vote))?;
+    put_limit(alloc, out, attrs.limit)?;
+    put_source(out, &attrs.source)?;
+    put_text(out, source_phases_text(attrs.source_phases))?;
+    put_source_limit(alloc, out, attrs.source_limit)
 }

@@ -1,14 +1,14 @@
 //! What is said of a bad line of a script.
 ghost use Rattle.std.specs.Prelude.{◌≡◌, ◌++◌, OnOk, IfOk, codes, decimal};
-ghost use Rattle.world_model.specs.Play.{why_text};
+ghost use Rattle.script_words.specs.world_model.Play.{why_text};
 
-use rsct_packet::NoMemory;
-use status_lines::{put_number, put_text};
+use node_text::rsct_packet::NoMemory;
+use node_text::{put_number, put_text};
+use script_words::world_model::LineWhy;
 use std::alloc::Global;
-use world_model::LineWhy;
 
 /// Why the line is in no script.
-#[tactic(auto, unfolding(world_model::specs::Play::why_text))]
+#[tactic(auto, unfolding(crate::proofs::Below::why_text))]
 pub fn why_text(why: LineWhy) -> &'static [u8]
     ensures { result.now ≡ why_text why }
 {
@@ -35,7 +35,8 @@ pub fn put_fault_line(
     number: u32,
     why: LineWhy,
 ) -> Result<(), NoMemory>
-    ensures { OnOk result (out.new.items ≡ out.old.items ++ (codes "hags: line " ++ decimal number ++ codes ": " ++ why_text why ++ codes "\n")) }
+    ensures { OnOk result (out.new.items ≡ out.old.items
+        ++ (codes "hags: line " ++ decimal number ++ codes ": " ++ why_text why ++ codes "\n")) }
 {
     put_text(out, b"hags: line ")?;
     put_number(alloc, out, number)?;
@@ -46,7 +47,8 @@ pub fn put_fault_line(
 
 /// What is written in place of a transcript, of a script whose first bad line has this number.
 pub fn fault_line(alloc: Global, number: u32, why: LineWhy) -> Result<Vec<u8>, NoMemory>
-    ensures { IfOk result (λ l. l.items ≡ codes "hags: line " ++ decimal number ++ codes ": " ++ why_text why ++ codes "\n") }
+    ensures { IfOk result (λ l. l.items ≡ codes "hags: line " ++ decimal number ++ codes ": "
+        ++ why_text why ++ codes "\n") }
 {
     let mut out = Vec::new(alloc);
     put_fault_line(alloc, &mut out, number, why)?;

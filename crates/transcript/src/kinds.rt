@@ -2,8 +2,8 @@
 ghost use Rattle.std.specs.Prelude.{◌≡◌};
 ghost use Rattle.transcript.specs.Kinds.{shows, all_kinds, no_kinds, kind_word, has_kind, with_kind, with_new, kind_step, kinds_of};
 
-use node_state::Happened;
-use script_reader::{cut_at, is_word};
+use node_text::node_state::Happened;
+use script_words::{cut_at, is_word};
 
 /// A kind of records.
 #[derive(Clone, Copy)]
@@ -43,47 +43,47 @@ pub struct Kinds {
     pub shown: bool,
 }
 
-#[tactic(auto, unfolding(crate::specs::Kinds::kind_word, world_model::specs::Words::chosen))]
-fn kind_word(w: &[u8]) -> Option<Kind>
-    ensures { result ≡ kind_word w.now }
+#[tactic(auto, unfolding(crate::specs::Kinds::kind_word, crate::proofs::Below::chosen))]
+fn kind_word(word: &[u8]) -> Option<Kind>
+    ensures { result ≡ kind_word word.now }
 {
-    if is_word(b"up", w) {
+    if is_word(b"up", word) {
         return Some(Kind::Up);
     }
-    if is_word(b"down", w) {
+    if is_word(b"down", word) {
         return Some(Kind::Down);
     }
-    if is_word(b"ring", w) {
+    if is_word(b"ring", word) {
         return Some(Kind::Ring);
     }
-    if is_word(b"in", w) {
+    if is_word(b"in", word) {
         return Some(Kind::In);
     }
-    if is_word(b"base", w) {
+    if is_word(b"base", word) {
         return Some(Kind::Base);
     }
-    if is_word(b"put", w) {
+    if is_word(b"put", word) {
         return Some(Kind::Put);
     }
-    if is_word(b"heard", w) {
+    if is_word(b"heard", word) {
         return Some(Kind::Heard);
     }
-    if is_word(b"cast", w) {
+    if is_word(b"cast", word) {
         return Some(Kind::Cast);
     }
-    if is_word(b"asked", w) {
+    if is_word(b"asked", word) {
         return Some(Kind::Asked);
     }
-    if is_word(b"told", w) {
+    if is_word(b"told", word) {
         return Some(Kind::Told);
     }
-    if is_word(b"noted", w) {
+    if is_word(b"noted", word) {
         return Some(Kind::Noted);
     }
-    if is_word(b"refused", w) {
+    if is_word(b"refused", word) {
         return Some(Kind::Refused);
     }
-    if is_word(b"show", w) {
+    if is_word(b"show", word) {
         return Some(Kind::Show);
     }
     None
@@ -136,10 +136,10 @@ impl Kinds {
 
     /// Is the record of one of these kinds?
     #[tactic(auto, unfolding(crate::specs::Kinds::shows))]
-    pub fn shows(&self, r: &Happened) -> bool
-        ensures { result ≡ shows self.now r.now }
+    pub fn shows(&self, happened: &Happened) -> bool
+        ensures { result ≡ shows self.now happened.now }
     {
-        match r {
+        match happened {
             Happened::Up { .. } => self.up,
             Happened::Down { .. } => self.down,
             Happened::Ring { .. } => self.ring,
@@ -209,11 +209,11 @@ impl Kinds {
     }
 
     /// The kind of this word more, which is not among them yet.
-    #[tactic(auto, unfolding(crate::specs::Kinds::kind_step, script_reader::specs::Answers::bind_opens))]
-    fn with_word(self, w: &[u8]) -> Option<Kinds>
-        ensures { result ≡ kind_step self w.now }
+    #[tactic(auto, unfolding(crate::specs::Kinds::kind_step, script_words::specs::Answers::bind_opens))]
+    fn with_word(self, word: &[u8]) -> Option<Kinds>
+        ensures { result ≡ kind_step self word.now }
     {
-        self.with_new(kind_word(w)?)
+        self.with_new(kind_word(word)?)
     }
 
     /// The kinds that the word lists, each by the word with which its lines begin, joined by commas, each once;

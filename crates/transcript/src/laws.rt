@@ -1,7 +1,7 @@
 //! What kinds show, and what a transcript of them is.
 ghost use Rattle.std.specs.Prelude.{◌≡◌, ℕ, List, [], Some};
-ghost use Rattle.node_state.specs.declared.happened.Happened.{Happened};
-ghost use Rattle.world_model.specs.Play.{is_shown, kinds_in, lines_text};
+ghost use Rattle.node_text.specs.node_state.declared.happened.Happened.{Happened};
+ghost use Rattle.script_words.specs.world_model.Play.{is_shown, kinds_in, lines_text};
 ghost use Rattle.transcript.specs.declared.kinds.Kinds.{Kinds};
 ghost use Rattle.transcript.specs.Kinds.{shows, all_kinds, kinds_of, kinds_text};
 
@@ -16,6 +16,8 @@ pub fn all_kinds_show_all()
 /// those.
 #[tactic(auto, using(crate::proofs::KindLaws::named_show, crate::proofs::KindLaws::named_lines))]
 pub fn kinds_show_what_they_name()
-    ensures shown { (word : List ℕ) (k : Kinds) (r : Happened) → kinds_of word ≡ Some k → shows k r ≡ is_shown (kinds_in word) r }
-    ensures lines { (word : List ℕ) (k : Kinds) (rs : List Happened) → kinds_of word ≡ Some k → kinds_text k rs ≡ lines_text (kinds_in word) rs }
+    ensures shown { (word : List ℕ) (k : Kinds) (r : Happened) → kinds_of word ≡ Some k
+        → shows k r ≡ is_shown (kinds_in word) r }
+    ensures lines { (word : List ℕ) (k : Kinds) (rs : List Happened) → kinds_of word ≡ Some k
+        → kinds_text k rs ≡ lines_text (kinds_in word) rs }
 {}

@@ -1,16 +1,16 @@
 //! Proposals.
 ghost use Rattle.std.specs.Prelude.{◌≡◌, ◌++◌, OnOk, codes, decimal, flat_map};
-ghost use Rattle.world_model.specs.Text.{attrs_text, source_len_text, cause_text, failure_text, asker_text, proposal_text};
-ghost use Rattle.node_state.specs.Wording.{joined, providers_text, value_text, view_text};
+ghost use Rattle.script_words.specs.world_model.Text.{attrs_text, source_len_text, cause_text, failure_text, asker_text, proposal_text};
+ghost use Rattle.node_text.specs.node_state.Wording.{joined, providers_text, value_text, view_text};
 
 use crate::attrs::put_attrs;
-use group_attr::Attrs;
-use proposal_core::{Cause, Failure, Proposal};
-use rsct_packet::{NoMemory, ProviderId, Providers, Text, ViewId};
-use status_lines::{put_number, put_provider, put_providers, put_text, put_value, put_view};
+use node_text::group_attr::Attrs;
+use node_text::proposal_core::{Cause, Failure, Proposal};
+use node_text::rsct_packet::{NoMemory, ProviderId, Providers, Text, ViewId};
+use node_text::{put_number, put_provider, put_providers, put_text, put_value, put_view};
 use std::alloc::Global;
 
-#[tactic(auto, unfolding(world_model::specs::Text::source_len_text))]
+#[tactic(auto, unfolding(crate::proofs::Below::source_len_text))]
 fn put_source_len(alloc: Global, out: &mut Vec<u8>, len: Option<u32>) -> Result<(), NoMemory>
     ensures { OnOk result (out.new.items ≡ out.old.items ++ source_len_text len) }
 {
@@ -23,7 +23,7 @@ fn put_source_len(alloc: Global, out: &mut Vec<u8>, len: Option<u32>) -> Result<
     }
 }
 
-#[tactic(auto, unfolding(world_model::specs::Text::cause_text))]
+#[tactic(auto, unfolding(crate::proofs::Below::cause_text))]
 fn cause_text(cause: Cause) -> &'static [u8]
     ensures { result.now ≡ cause_text cause }
 {
@@ -34,19 +34,20 @@ fn cause_text(cause: Cause) -> &'static [u8]
     }
 }
 
-#[tactic(auto, unfolding(world_model::specs::Text::failure_text))]
-fn put_failure(alloc: Global, out: &mut Vec<u8>, f: Failure) -> Result<(), NoMemory>
-    ensures { OnOk result (out.new.items ≡ out.old.items ++ failure_text f) }
+#[tactic(auto, unfolding(crate::proofs::Below::failure_text))]
+fn put_failure(alloc: Global, out: &mut Vec<u8>, failure: Failure) -> Result<(), NoMemory>
+    ensures { OnOk result (out.new.items ≡ out.old.items ++ failure_text failure) }
 {
-    put_provider(alloc, out, f.p)?;
-    put_text(out, cause_text(f.cause))
+    put_provider(alloc, out, failure.p)?;
+    put_text(out, cause_text(failure.cause))
 }
 
 /// Those that failed, each behind a comma.
-fn put_more_failures(alloc: Global, out: &mut Vec<u8>, fs: &[Failure]) -> Result<(), NoMemory>
-    ensures { OnOk result (out.new.items ≡ out.old.items ++ flat_map (λ y. codes "," ++ failure_text y) fs.now) }
+fn put_more_failures(alloc: Global, out: &mut Vec<u8>, failures: &[Failure]) -> Result<(), NoMemory>
+    ensures { OnOk result (out.new.items ≡ out.old.items
+        ++ flat_map (λ y. codes "," ++ failure_text y) failures.now) }
 {
-    for f in fs {
+    for f in failures {
         put_text(out, b",")?;
         put_failure(alloc, out, *f)?;
     }
@@ -54,11 +55,11 @@ fn put_more_failures(alloc: Global, out: &mut Vec<u8>, fs: &[Failure]) -> Result
 }
 
 /// Those that failed between commas, `-` for none.
-#[tactic(auto, unfolding(node_state::specs::Wording::joined))]
-fn put_failures(alloc: Global, out: &mut Vec<u8>, fs: &[Failure]) -> Result<(), NoMemory>
-    ensures { OnOk result (out.new.items ≡ out.old.items ++ joined failure_text fs.now) }
+#[tactic(auto, unfolding(crate::proofs::Below::joined))]
+fn put_failures(alloc: Global, out: &mut Vec<u8>, failures: &[Failure]) -> Result<(), NoMemory>
+    ensures { OnOk result (out.new.items ≡ out.old.items ++ joined failure_text failures.now) }
 {
-    match fs {
+    match failures {
         [] => put_text(out, b"-"),
         [first, others @ ..] => {
             put_failure(alloc, out, *first)?;
@@ -68,13 +69,18 @@ fn put_failures(alloc: Global, out: &mut Vec<u8>, fs: &[Failure]) -> Result<(), 
 }
 
 /// Who asks, and with which number.
-#[tactic(auto, unfolding(world_model::specs::Text::asker_text))]
-fn put_asker(alloc: Global, out: &mut Vec<u8>, p: ProviderId, r: u32) -> Result<(), NoMemory>
-    ensures { OnOk result (out.new.items ≡ out.old.items ++ asker_text p r) }
+#[tactic(auto, unfolding(crate::proofs::Below::asker_text))]
+fn put_asker(
+    alloc: Global,
+    out: &mut Vec<u8>,
+    provider: ProviderId,
+    request: u32,
+) -> Result<(), NoMemory>
+    ensures { OnOk result (out.new.items ≡ out.old.items ++ asker_text provider request) }
 {
-    put_provider(alloc, out, p)?;
+    put_provider(alloc, out, provider)?;
     put_text(out, b"/")?;
-    put_number(alloc, out, r)
+    put_number(alloc, out, request)
 }
 
 /// A label, and who asks behind it.
@@ -82,13 +88,14 @@ fn put_asked(
     alloc: Global,
     out: &mut Vec<u8>,
     label: &[u8],
-    p: ProviderId,
-    r: u32,
+    provider: ProviderId,
+    request: u32,
 ) -> Result<(), NoMemory>
-    ensures { OnOk result (out.new.items ≡ out.old.items ++ (label.now ++ asker_text p r)) }
+    ensures { OnOk result (out.new.items ≡ out.old.items
+        ++ (label.now ++ asker_text provider request)) }
 {
     put_text(out, label)?;
-    put_asker(alloc, out, p, r)
+    put_asker(alloc, out, provider, request)
 }
 
 /// A label, and behind it who asks, and a value.
@@ -96,13 +103,14 @@ fn put_asked_value(
     alloc: Global,
     out: &mut Vec<u8>,
     label: &[u8],
-    p: ProviderId,
-    r: u32,
+    provider: ProviderId,
+    request: u32,
     value: &Text,
 ) -> Result<(), NoMemory>
-    ensures { OnOk result (out.new.items ≡ out.old.items ++ (label.now ++ asker_text p r ++ codes " " ++ value_text value.now)) }
+    ensures { OnOk result (out.new.items ≡ out.old.items
+        ++ (label.now ++ asker_text provider request ++ codes " " ++ value_text value.now)) }
 {
-    put_asked(alloc, out, label, p, r)?;
+    put_asked(alloc, out, label, provider, request)?;
     put_text(out, b" ")?;
     put_value(out, value.bytes())
 }
@@ -111,14 +119,16 @@ fn put_asked_value(
 fn put_join(
     alloc: Global,
     out: &mut Vec<u8>,
-    ps: &Providers,
+    providers: &Providers,
     attrs: &Attrs,
     source_len: Option<u32>,
 ) -> Result<(), NoMemory>
-    ensures { OnOk result (out.new.items ≡ out.old.items ++ (codes "join " ++ providers_text ps.now ++ attrs_text attrs.now ++ source_len_text source_len)) }
+    ensures { OnOk result (out.new.items ≡ out.old.items
+        ++ (codes "join " ++ providers_text providers.now ++ attrs_text attrs.now
+        ++ source_len_text source_len)) }
 {
     put_text(out, b"join ")?;
-    put_providers(alloc, out, ps.as_slice())?;
+    put_providers(alloc, out, providers.as_slice())?;
     put_attrs(alloc, out, attrs)?;
     put_source_len(alloc, out, source_len)
 }
@@ -131,7 +141,9 @@ fn put_reflect(
     place: u32,
     value: &Text,
 ) -> Result<(), NoMemory>
-    ensures { OnOk result (out.new.items ≡ out.old.items ++ (codes "reflect " ++ view_text view ++ codes "/" ++ decimal place ++ codes " " ++ value_text value.now)) }
+    ensures { OnOk result (out.new.items ≡ out.old.items
+        ++ (codes "reflect " ++ view_text view ++ codes "/" ++ decimal place ++ codes " "
+        ++ value_text value.now)) }
 {
     put_text(out, b"reflect ")?;
     put_view(alloc, out, view)?;
@@ -141,11 +153,11 @@ fn put_reflect(
     put_value(out, value.bytes())
 }
 
-#[tactic(auto, unfolding(world_model::specs::Text::proposal_text))]
-pub fn put_proposal(alloc: Global, out: &mut Vec<u8>, x: &Proposal) -> Result<(), NoMemory>
-    ensures { OnOk result (out.new.items ≡ out.old.items ++ proposal_text x.now) }
+#[tactic(auto, unfolding(crate::proofs::Below::proposal_text))]
+pub fn put_proposal(alloc: Global, out: &mut Vec<u8>, proposal: &Proposal) -> Result<(), NoMemory>
+    ensures { OnOk result (out.new.items ≡ out.old.items ++ proposal_text proposal.now) }
 {
-    match x {
+    match proposal {
         Proposal::Join {
             ps,
             attrs,

@@ -1,27 +1,27 @@
 //! The line of each record.
 ghost use Rattle.std.specs.Prelude.{◌≡◌, ◌++◌, OnOk, IfOk, codes, decimal};
-ghost use Rattle.node_state.specs.declared.happened.Happened.TheVariants as happened;
-ghost use Rattle.node_state.specs.Wording.{word, provider_text, providers_text};
-ghost use Rattle.world_model.specs.Text.{running_text, phase_text, vote_text, state_text, cast_value_text, place_text, client_text, record_text, line_of};
+ghost use Rattle.node_text.specs.node_state.declared.happened.Happened.TheVariants as happened;
+ghost use Rattle.node_text.specs.node_state.Wording.{word, provider_text, providers_text};
+ghost use Rattle.script_words.specs.world_model.Text.{running_text, phase_text, vote_text, state_text, cast_value_text, place_text, client_text, record_text, line_of};
 
 use crate::entries::{put_entry, put_phase, put_what_word, vote_text};
 use crate::faults::{put_fault, put_why};
 use crate::notes::{put_note, put_state};
-use client_callbacks::Told;
-use node_state::Happened;
-use proposal_core::{Entry, GroupState, Proposal, Running, Vote};
-use rsct_packet::{
+use node_text::client_callbacks::Told;
+use node_text::node_state::Happened;
+use node_text::proposal_core::{Entry, GroupState, Proposal, Running, Vote};
+use node_text::rsct_packet::{
     List, Mask, Members, Name, NoMemory, ProtoId, ProviderId, Providers, RingId, Text, ViewId,
 };
-use session_state::GsFault;
-use status_lines::{
+use node_text::session_state::GsFault;
+use node_text::{
     kind_of, put_counted, put_mask_word, put_members, put_number, put_number_word, put_proto,
     put_provider_word, put_providers_word, put_ring_word, put_text, put_value, put_view_word,
     put_word,
 };
 use std::alloc::Global;
 
-#[tactic(auto, unfolding(world_model::specs::Text::running_text))]
+#[tactic(auto, unfolding(crate::proofs::Below::running_text))]
 fn put_running(alloc: Global, out: &mut Vec<u8>, run: &Option<Running>) -> Result<(), NoMemory>
     ensures { OnOk result (out.new.items ≡ out.old.items ++ running_text run.now) }
 {
@@ -35,7 +35,7 @@ fn put_running(alloc: Global, out: &mut Vec<u8>, run: &Option<Running>) -> Resul
     }
 }
 
-#[tactic(auto, unfolding(world_model::specs::Text::cast_value_text))]
+#[tactic(auto, unfolding(crate::proofs::Below::cast_value_text))]
 fn put_cast_value(out: &mut Vec<u8>, value: &Option<Text>) -> Result<(), NoMemory>
     ensures { OnOk result (out.new.items ≡ out.old.items ++ cast_value_text value.now) }
 {
@@ -46,17 +46,23 @@ fn put_cast_value(out: &mut Vec<u8>, value: &Option<Text>) -> Result<(), NoMemor
 }
 
 /// The view, the group and the place, each with the space behind it.
-#[tactic(auto, unfolding(world_model::specs::Text::place_text))]
-fn put_place(alloc: Global, out: &mut Vec<u8>, v: ViewId, g: &[u8], i: u32) -> Result<(), NoMemory>
-    ensures { OnOk result (out.new.items ≡ out.old.items ++ place_text v g.now i) }
+#[tactic(auto, unfolding(crate::proofs::Below::place_text))]
+fn put_place(
+    alloc: Global,
+    out: &mut Vec<u8>,
+    view: ViewId,
+    group: &[u8],
+    place: u32,
+) -> Result<(), NoMemory>
+    ensures { OnOk result (out.new.items ≡ out.old.items ++ place_text view group.now place) }
 {
-    put_view_word(alloc, out, v)?;
-    put_word(out, g)?;
-    put_number_word(alloc, out, i)
+    put_view_word(alloc, out, view)?;
+    put_word(out, group)?;
+    put_number_word(alloc, out, place)
 }
 
 /// The node and the client's name.
-#[tactic(auto, unfolding(world_model::specs::Text::client_text))]
+#[tactic(auto, unfolding(crate::proofs::Below::client_text))]
 fn put_client(alloc: Global, out: &mut Vec<u8>, node: u8, client: &[u8]) -> Result<(), NoMemory>
     ensures { OnOk result (out.new.items ≡ out.old.items ++ client_text node client.now) }
 {
@@ -78,18 +84,19 @@ fn put_request(
     alloc: Global,
     out: &mut Vec<u8>,
     label: &[u8],
-    p: ProviderId,
-    r: u32,
+    provider: ProviderId,
+    request: u32,
 ) -> Result<(), NoMemory>
-    ensures { OnOk result (out.new.items ≡ out.old.items ++ (label.now ++ word (provider_text p) ++ word (decimal r))) }
+    ensures { OnOk result (out.new.items ≡ out.old.items
+        ++ (label.now ++ word (provider_text provider) ++ word (decimal request))) }
 {
     put_text(out, label)?;
-    put_provider_word(alloc, out, p)?;
-    put_number_word(alloc, out, r)
+    put_provider_word(alloc, out, provider)?;
+    put_number_word(alloc, out, request)
 }
 
 /// The record of a ring that is set; and likewise below, one function for each kind of records.
-#[tactic(auto, unfolding(world_model::specs::Text::record_text, node_state::specs::Wording::word))]
+#[tactic(auto, unfolding(crate::proofs::Below::record_text, crate::proofs::Below::word))]
 fn put_ring(
     alloc: Global,
     out: &mut Vec<u8>,
@@ -99,7 +106,8 @@ fn put_ring(
     members: Mask,
     neighbour: u8,
 ) -> Result<(), NoMemory>
-    ensures { OnOk result (out.new.items ≡ out.old.items ++ record_text (happened.Ring node network ring members neighbour)) }
+    ensures { OnOk result (out.new.items ≡ out.old.items
+        ++ record_text (happened.Ring node network ring members neighbour)) }
 {
     put_node(alloc, out, b"ring ", node)?;
     put_number_word(alloc, out, u32::from(network))?;
@@ -108,7 +116,7 @@ fn put_ring(
     put_number(alloc, out, u32::from(neighbour))
 }
 
-#[tactic(auto, unfolding(world_model::specs::Text::record_text, node_state::specs::Wording::word))]
+#[tactic(auto, unfolding(crate::proofs::Below::record_text, crate::proofs::Below::word))]
 fn put_in_view(
     alloc: Global,
     out: &mut Vec<u8>,
@@ -116,7 +124,8 @@ fn put_in_view(
     view: ViewId,
     members: &Members,
 ) -> Result<(), NoMemory>
-    ensures { OnOk result (out.new.items ≡ out.old.items ++ record_text (happened.In node view members.now)) }
+    ensures { OnOk result (out.new.items ≡ out.old.items
+        ++ record_text (happened.In node view members.now)) }
 {
     put_node(alloc, out, b"in ", node)?;
     put_view_word(alloc, out, view)?;
@@ -124,9 +133,11 @@ fn put_in_view(
 }
 
 /// The state of a group, as the record of its base ends.
-#[tactic(auto, unfolding(node_state::specs::Wording::word))]
+#[tactic(auto, unfolding(crate::proofs::Below::word))]
 fn put_base_state(alloc: Global, out: &mut Vec<u8>, state: &GroupState) -> Result<(), NoMemory>
-    ensures { OnOk result (out.new.items ≡ out.old.items ++ (word (state_text state.now.members state.now.value) ++ word (providers_text state.now.failed) ++ running_text state.now.running)) }
+    ensures { OnOk result (out.new.items ≡ out.old.items
+        ++ (word (state_text state.now.members state.now.value)
+        ++ word (providers_text state.now.failed) ++ running_text state.now.running)) }
 {
     put_state(alloc, out, state.members.as_slice(), state.value.bytes())?;
     put_text(out, b" ")?;
@@ -134,7 +145,7 @@ fn put_base_state(alloc: Global, out: &mut Vec<u8>, state: &GroupState) -> Resul
     put_running(alloc, out, &state.running)
 }
 
-#[tactic(auto, unfolding(world_model::specs::Text::record_text))]
+#[tactic(auto, unfolding(crate::proofs::Below::record_text))]
 fn put_base(
     alloc: Global,
     out: &mut Vec<u8>,
@@ -145,7 +156,8 @@ fn put_base(
     len: u32,
     state: &GroupState,
 ) -> Result<(), NoMemory>
-    ensures { OnOk result (out.new.items ≡ out.old.items ++ record_text (happened.Base node view group.now old len state.now)) }
+    ensures { OnOk result (out.new.items ≡ out.old.items
+        ++ record_text (happened.Base node view group.now old len state.now)) }
 {
     put_node(alloc, out, b"base ", node)?;
     put_view_word(alloc, out, view)?;
@@ -155,7 +167,7 @@ fn put_base(
     put_base_state(alloc, out, state)
 }
 
-#[tactic(auto, unfolding(world_model::specs::Text::record_text))]
+#[tactic(auto, unfolding(crate::proofs::Below::record_text))]
 fn put_appended(
     alloc: Global,
     out: &mut Vec<u8>,
@@ -165,18 +177,19 @@ fn put_appended(
     place: u32,
     entry: &Entry,
 ) -> Result<(), NoMemory>
-    ensures { OnOk result (out.new.items ≡ out.old.items ++ record_text (happened.Put node view group.now place entry.now)) }
+    ensures { OnOk result (out.new.items ≡ out.old.items
+        ++ record_text (happened.Put node view group.now place entry.now)) }
 {
     put_node(alloc, out, b"put ", node)?;
     put_place(alloc, out, view, group.bytes(), place)?;
     put_entry(alloc, out, entry)
 }
 
-#[tactic(auto, unfolding(world_model::specs::Text::record_text))]
+#[tactic(auto, unfolding(crate::proofs::Below::record_text))]
 fn put_heard(
     alloc: Global,
     out: &mut Vec<u8>,
-    p: ProviderId,
+    provider: ProviderId,
     view: ViewId,
     group: &Name,
     place: u32,
@@ -184,10 +197,12 @@ fn put_heard(
     members: &Providers,
     value: &Text,
 ) -> Result<(), NoMemory>
-    ensures { OnOk result (out.new.items ≡ out.old.items ++ record_text (happened.Heard p view group.now place entry.now members.now value.now)) }
+    ensures { OnOk result (out.new.items ≡ out.old.items
+        ++ record_text (happened.Heard provider view group.now place entry.now members.now
+        value.now)) }
 {
     put_text(out, b"heard ")?;
-    put_provider_word(alloc, out, p)?;
+    put_provider_word(alloc, out, provider)?;
     put_place(alloc, out, view, group.bytes(), place)?;
     put_what_word(out, entry)?;
     put_state(alloc, out, members.as_slice(), value.bytes())
@@ -197,38 +212,41 @@ fn put_heard(
 fn put_ballot(
     alloc: Global,
     out: &mut Vec<u8>,
-    p: ProviderId,
+    provider: ProviderId,
     proto: ProtoId,
     phase: u16,
     vote: Vote,
     value: &Option<Text>,
 ) -> Result<(), NoMemory>
-    ensures { OnOk result (out.new.items ≡ out.old.items ++ (codes "cast " ++ word (provider_text p) ++ phase_text proto phase ++ vote_text vote ++ cast_value_text value.now)) }
+    ensures { OnOk result (out.new.items ≡ out.old.items
+        ++ (codes "cast " ++ word (provider_text provider) ++ phase_text proto phase
+        ++ vote_text vote ++ cast_value_text value.now)) }
 {
     put_text(out, b"cast ")?;
-    put_provider_word(alloc, out, p)?;
+    put_provider_word(alloc, out, provider)?;
     put_phase(alloc, out, proto, phase)?;
     put_text(out, vote_text(vote))?;
     put_cast_value(out, value)
 }
 
-#[tactic(auto, unfolding(world_model::specs::Text::record_text))]
+#[tactic(auto, unfolding(crate::proofs::Below::record_text))]
 fn put_asked(
     alloc: Global,
     out: &mut Vec<u8>,
-    p: ProviderId,
-    r: u32,
+    provider: ProviderId,
+    request: u32,
     group: &Name,
     proposal: &Proposal,
 ) -> Result<(), NoMemory>
-    ensures { OnOk result (out.new.items ≡ out.old.items ++ record_text (happened.Asked p r group.now proposal.now)) }
+    ensures { OnOk result (out.new.items ≡ out.old.items
+        ++ record_text (happened.Asked provider request group.now proposal.now)) }
 {
-    put_request(alloc, out, b"asked ", p, r)?;
+    put_request(alloc, out, b"asked ", provider, request)?;
     put_word(out, group.bytes())?;
     put_text(out, kind_of(proposal))
 }
 
-#[tactic(auto, unfolding(world_model::specs::Text::record_text))]
+#[tactic(auto, unfolding(crate::proofs::Below::record_text))]
 fn put_noted(
     alloc: Global,
     out: &mut Vec<u8>,
@@ -238,7 +256,8 @@ fn put_noted(
     place: Option<u32>,
     told: &Told,
 ) -> Result<(), NoMemory>
-    ensures { OnOk result (out.new.items ≡ out.old.items ++ record_text (happened.Noted node client.now view place told.now)) }
+    ensures { OnOk result (out.new.items ≡ out.old.items
+        ++ record_text (happened.Noted node client.now view place told.now)) }
 {
     put_text(out, b"noted ")?;
     put_client(alloc, out, node, client.as_slice())?;
@@ -246,7 +265,7 @@ fn put_noted(
     put_note(alloc, out, place, told)
 }
 
-#[tactic(auto, unfolding(world_model::specs::Text::record_text))]
+#[tactic(auto, unfolding(crate::proofs::Below::record_text))]
 fn put_refused(
     alloc: Global,
     out: &mut Vec<u8>,
@@ -254,18 +273,19 @@ fn put_refused(
     client: &List<u8>,
     fault: GsFault,
 ) -> Result<(), NoMemory>
-    ensures { OnOk result (out.new.items ≡ out.old.items ++ record_text (happened.Refused node client.now fault)) }
+    ensures { OnOk result (out.new.items ≡ out.old.items
+        ++ record_text (happened.Refused node client.now fault)) }
 {
     put_text(out, b"refused ")?;
     put_client(alloc, out, node, client.as_slice())?;
     put_fault(alloc, out, fault)
 }
 
-#[tactic(auto, unfolding(world_model::specs::Text::record_text))]
-fn put_record(alloc: Global, out: &mut Vec<u8>, r: &Happened) -> Result<(), NoMemory>
-    ensures { OnOk result (out.new.items ≡ out.old.items ++ record_text r.now) }
+#[tactic(auto, unfolding(crate::proofs::Below::record_text))]
+fn put_record(alloc: Global, out: &mut Vec<u8>, happened: &Happened) -> Result<(), NoMemory>
+    ensures { OnOk result (out.new.items ≡ out.old.items ++ record_text happened.now) }
 {
-    match r {
+    match happened {
         Happened::Up { node, inc } => {
             put_node(alloc, out, b"up ", *node)?;
             put_number(alloc, out, *inc)
@@ -317,12 +337,16 @@ fn put_record(alloc: Global, out: &mut Vec<u8>, r: &Happened) -> Result<(), NoMe
         } => put_ballot(alloc, out, *p, *proto, *phase, *vote, value),
         Happened::Asked {
             p,
-            r,
+            r: happened,
             group,
             proposal,
-        } => put_asked(alloc, out, *p, *r, group, proposal),
-        Happened::Told { p, r, why } => {
-            put_request(alloc, out, b"told ", *p, *r)?;
+        } => put_asked(alloc, out, *p, *happened, group, proposal),
+        Happened::Told {
+            p,
+            r: happened,
+            why,
+        } => {
+            put_request(alloc, out, b"told ", *p, *happened)?;
             put_why(alloc, out, *why)
         }
         Happened::Noted {
@@ -345,12 +369,12 @@ fn put_record(alloc: Global, out: &mut Vec<u8>, r: &Happened) -> Result<(), NoMe
 }
 
 /// The line of a record.
-#[tactic(auto, unfolding(world_model::specs::Text::line_of))]
-pub fn line_of(alloc: Global, r: &Happened) -> Result<Vec<u8>, NoMemory>
-    ensures { IfOk result (λ b. b.items ≡ line_of r.now) }
+#[tactic(auto, unfolding(crate::proofs::Below::line_of))]
+pub fn line_of(alloc: Global, happened: &Happened) -> Result<Vec<u8>, NoMemory>
+    ensures { IfOk result (λ b. b.items ≡ line_of happened.now) }
 {
     let mut out = Vec::new(alloc);
-    put_record(alloc, &mut out, r)?;
+    put_record(alloc, &mut out, happened)?;
     put_text(&mut out, b"\n")?;
     Ok(out)
 }

@@ -1,3 +1,4 @@
+pub mod Below
 pub mod Winning
 pub mod Failing
 pub mod Bases

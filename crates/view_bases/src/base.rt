@@ -1,17 +1,17 @@
 //! What a group begins with in the view of an install.
 ghost use Rattle.std.specs.Prelude.{◌≡◌, ◌≤◌, not, filter, find, length, IfOk, IfSome, IsTrue};
 ghost use Rattle.std.specs.Option.{option_map};
-ghost use Rattle.rsct_packet.specs.Providers.{among, AreProviders};
-ghost use Rattle.proposal_core.specs.Fold.{joiners_fit, joiners_in, present};
+ghost use Rattle.view_state.specs.rsct_packet.Providers.{among, AreProviders};
+ghost use Rattle.view_state.specs.proposal_core.Fold.{joiners_fit, joiners_in, present};
 ghost use Rattle.view_state.specs.Tails.{IsTail, HasTails};
 ghost use Rattle.view_state.specs.Bases.{is_live_from, is_candidate, candidates, beats, live_count, leader_from, base_from, base_of, BaseIs};
-ghost use Rattle.rsct_packet.specs.Lists.{best_of};
+ghost use Rattle.view_state.specs.rsct_packet.Lists.{best_of};
 ghost use Rattle.view_state.specs.Codec.{views_ascend};
 ghost use Rattle.view_bases.specs.Best.{best_step, best_after, winner_in, found_in};
 
-use proposal_core::{GroupState, Proposal, Running};
-use rsct_packet::{NoMemory, ProviderId, Providers, is_among};
 use std::alloc::Global;
+use view_state::proposal_core::{GroupState, Proposal, Running};
+use view_state::rsct_packet::{NoMemory, ProviderId, Providers, is_among};
 use view_state::{Base, Install, Part, Source};
 
 /// An old view's list of a group, and how many of its providers are live.
@@ -50,15 +50,16 @@ fn present(alloc: Global, state: &GroupState) -> Result<Vec<ProviderId>, NoMemor
 
 /// Has it members, or a running protocol, and is it of this group?
 #[tactic(auto, unfolding(view_state::specs::Bases::is_candidate))]
-fn is_candidate(g: &[u8], part: &Part) -> bool
-    ensures { result ≡ is_candidate g.now part.now }
+fn is_candidate(group: &[u8], part: &Part) -> bool
+    ensures { result ≡ is_candidate group.now part.now }
 {
-    part.name.bytes() == g && (part.state.members.len() > 0 || part.state.running.is_some())
+    part.name.bytes() == group && (part.state.members.len() > 0 || part.state.running.is_some())
 }
 
 /// Of the best so far and a later one, which has at least as many live providers, or else less.
 fn better<'a>(best: Option<Winner<'a>>, new: Winner<'a>) -> Winner<'a>
-    ensures { Some (winner_in result) ≡ best_step (option_map winner_in best.entry) (winner_in new.entry) }
+    ensures { Some (winner_in result) ≡ best_step (option_map winner_in best.entry)
+        (winner_in new.entry) }
 {
     match best {
         Some(best) if new.live < best.live => best,
@@ -68,43 +69,47 @@ fn better<'a>(best: Option<Winner<'a>>, new: Winner<'a>) -> Winner<'a>
 
 /// Did the provider's node, which is a member with the provider's incarnation, come from that view?
 #[tactic(auto, unfolding(view_state::specs::Bases::is_live_from))]
-fn is_live_from(i: &Install, source: &Source, p: ProviderId) -> bool
-    ensures { result ≡ is_live_from i.now source.now p }
+fn is_live_from(install: &Install, source: &Source, provider: ProviderId) -> bool
+    ensures { result ≡ is_live_from install.now source.now provider }
 {
-    i.has_member(p.node, p.inc) && source.nodes.has(p.node)
+    install.has_member(provider.node, provider.inc) && source.nodes.has(provider.node)
 }
 
 #[tactic(auto, using(crate::proofs::Winning::count_is_length, crate::proofs::Failing::filter_no_more))]
-fn count_live(i: &Install, source: &Source, ps: &[ProviderId]) -> usize
-    ensures value { result ≡ length (filter (is_live_from i.now source.now) ps.now) }
-    ensures few { result ≤ length ps.now }
+fn count_live(install: &Install, source: &Source, providers: &[ProviderId]) -> usize
+    ensures value { result ≡ length (filter (is_live_from install.now source.now) providers.now) }
+    ensures few { result ≤ length providers.now }
 {
-    ps.iter().filter(|p| is_live_from(i, source, **p)).count()
+    providers
+        .iter()
+        .filter(|p| is_live_from(install, source, **p))
+        .count()
 }
 
 /// How many of those present in the part's state are live.
 #[tactic(auto, using(crate::proofs::Winning::live_both, std::proofs::lemmas::Grind::common_steps))]
-fn live(i: &Install, source: &Source, part: &Part) -> usize
-    ensures { result ≡ live_count i.now source.now part.now }
+fn live(install: &Install, source: &Source, part: &Part) -> usize
+    ensures { result ≡ live_count install.now source.now part.now }
 {
-    let members = count_live(i, source, part.state.members.as_slice());
-    members + count_live(i, source, joiners(&part.state.running))
+    let members = count_live(install, source, part.state.members.as_slice());
+    members + count_live(install, source, joiners(&part.state.running))
 }
 
 /// The best of a source's lists of the group, and of the best so far.
 #[tactic(auto, unfolding(view_state::specs::Bases::candidate_of), using(crate::proofs::Winning::found_taken, crate::proofs::Winning::found_left, std::proofs::lemmas::Grind::common_steps))]
 fn best_in<'a>(
-    i: &Install,
-    g: &[u8],
+    install: &Install,
+    group: &[u8],
     source: &'a Source,
     best: Option<Winner<'a>>,
 ) -> Option<Winner<'a>>
-    ensures { option_map winner_in result ≡ best_after (option_map winner_in best.entry) (found_in i.now g.now source.now source.now.parts) }
+    ensures { option_map winner_in result ≡ best_after (option_map winner_in best.entry)
+        (found_in install.now group.now source.now source.now.parts) }
 {
     let mut best = best;
     for part in source.parts.as_slice() {
-        if is_candidate(g, part) {
-            let live = live(i, source, part);
+        if is_candidate(group, part) {
+            let live = live(install, source, part);
             best = Some(better(best, Winner { live, source, part }));
         }
     }
@@ -112,38 +117,42 @@ fn best_in<'a>(
 }
 
 #[tactic(auto, using(crate::proofs::Winning::candidates_taken, crate::proofs::Winning::none_yet, crate::proofs::Winning::best_is, std::proofs::lemmas::Grind::common_steps))]
-fn best_alone<'a>(i: &'a Install, g: &[u8]) -> Option<Winner<'a>>
-    ensures { option_map winner_in result ≡ best_of beats (candidates i.now g.now i.now.sources) }
+fn best_alone<'a>(install: &'a Install, group: &[u8]) -> Option<Winner<'a>>
+    ensures { option_map winner_in result ≡ best_of beats
+        (candidates install.now group.now install.now.sources) }
 {
     let mut best = None;
-    for source in i.sources.as_slice() {
-        best = best_in(i, g, source, best);
+    for source in install.sources.as_slice() {
+        best = best_in(install, group, source, best);
     }
     best
 }
 
 /// The list of the group with the most live providers, of equal ones that of the greatest view.
 #[tactic(auto, using(crate::proofs::Bases::winner_is_named))]
-fn best<'a>(i: &'a Install, g: &[u8]) -> Option<Winner<'a>>
-    ensures value { option_map winner_in result ≡ best_of beats (candidates i.now g.now i.now.sources) }
-    ensures tail { HasTails i.now → IfSome result (λ w. IsTail w.part.now) }
-    ensures named { IfSome result (λ w. w.part.now.name ≡ g.now) }
+fn best<'a>(install: &'a Install, group: &[u8]) -> Option<Winner<'a>>
+    ensures value { option_map winner_in result ≡ best_of beats
+        (candidates install.now group.now install.now.sources) }
+    ensures tail { HasTails install.now → IfSome result (λ w. IsTail w.part.now) }
+    ensures named { IfSome result (λ w. w.part.now.name ≡ group.now) }
 {
-    best_alone(i, g)
+    best_alone(install, group)
 }
 
 fn lost(
-    i: &Install,
+    install: &Install,
     alloc: Global,
     source: &Source,
-    ps: &[ProviderId],
+    providers: &[ProviderId],
 ) -> Result<Vec<ProviderId>, NoMemory>
-    ensures { IfOk result (λ v. v.items ≡ filter (λ p. not (is_live_from i.now source.now p)) ps.now) }
+    ensures { IfOk result (λ v. v.items ≡ filter
+        (λ p. not (is_live_from install.now source.now p)) providers.now) }
 {
     Ok(
-        ps.iter()
+        providers
+            .iter()
             .copied()
-            .filter(|p| !is_live_from(i, source, *p))
+            .filter(|p| !is_live_from(install, source, *p))
             .collect(alloc)?,
     )
 }
@@ -151,74 +160,82 @@ fn lost(
 /// The members, then the running joiners, that are not live.
 #[tactic(auto, using(crate::proofs::Failing::filter_are_providers, std::proofs::lemmas::Grind::common_steps))]
 fn failed(
-    i: &Install,
+    install: &Install,
     alloc: Global,
     source: &Source,
     state: &GroupState,
 ) -> Result<Providers, NoMemory>
     requires { IsTrue (joiners_fit state.now) }
-    ensures { IfOk result (λ v. v ≡ filter (λ p. not (is_live_from i.now source.now p)) (present state.now)) }
+    ensures { IfOk result (λ v. v ≡ filter (λ p. not (is_live_from install.now source.now p))
+        (present state.now)) }
 {
     let present = present(alloc, state)?;
-    let lost = lost(i, alloc, source, present.as_slice())?;
+    let lost = lost(install, alloc, source, present.as_slice())?;
     Providers::of(alloc, lost.as_slice())
 }
 
 #[tactic(auto, unfolding(view_state::specs::Bases::base_from))]
-fn base_from(i: &Install, alloc: Global, w: &Winner) -> Result<Base, NoMemory>
-    requires { IsTail w.now.part.now }
-    ensures { IfOk result (λ b. b ≡ base_from i.now w.now.part.now.name (winner_in w.now)) }
+fn base_from(install: &Install, alloc: Global, winner: &Winner) -> Result<Base, NoMemory>
+    requires { IsTail winner.now.part.now }
+    ensures { IfOk result (λ b. b ≡ base_from install.now winner.now.part.now.name
+        (winner_in winner.now)) }
 {
-    let failed = failed(i, alloc, w.source, &w.part.state)?;
-    let leader = first_not_in(&failed, w.part.state.members.as_slice(), i.view.coord);
-    let name = w.part.name.copy(alloc)?;
-    let mut state = w.part.state.copy(alloc)?;
+    let failed = failed(install, alloc, winner.source, &winner.part.state)?;
+    let leader = first_not_in(
+        &failed,
+        winner.part.state.members.as_slice(),
+        install.view.coord,
+    );
+    let name = winner.part.name.copy(alloc)?;
+    let mut state = winner.part.state.copy(alloc)?;
     state.failed = failed;
     Ok(Base {
         name,
         state,
-        from: w.source.view,
-        len: w.part.len() as u32,
+        from: winner.source.view,
+        len: winner.part.len() as u32,
         leader,
     })
 }
 
 #[tactic(auto, unfolding(view_state::specs::Bases::base_of))]
-fn base_alone(i: &Install, alloc: Global, g: &[u8]) -> Result<Option<Base>, NoMemory>
-    requires { HasTails i.now }
-    ensures { IfOk result (λ o. o ≡ base_of i.now g.now) }
+fn base_alone(install: &Install, alloc: Global, group: &[u8]) -> Result<Option<Base>, NoMemory>
+    requires { HasTails install.now }
+    ensures { IfOk result (λ o. o ≡ base_of install.now group.now) }
 {
-    match best(i, g) {
+    match best(install, group) {
         None => Ok(None),
-        Some(w) => Ok(Some(base_from(i, alloc, &w)?)),
+        Some(w) => Ok(Some(base_from(install, alloc, &w)?)),
     }
 }
 
 /// What a group begins with in the view of this install, which carries parts of lists. `Ok(None)` exactly where
 /// nobody brings anything of it.
-pub fn base_of(i: &Install, alloc: Global, g: &[u8]) -> Result<Option<Base>, NoMemory>
-    requires { HasTails i.now }
-    ensures value { IfOk result (λ o. o ≡ base_of i.now g.now) }
-    ensures wins { IsTrue (views_ascend i.now.sources) → IfOk result (BaseIs i.now g.now) }
+pub fn base_of(install: &Install, alloc: Global, group: &[u8]) -> Result<Option<Base>, NoMemory>
+    requires { HasTails install.now }
+    ensures value { IfOk result (λ o. o ≡ base_of install.now group.now) }
+    ensures wins { IsTrue (views_ascend install.now.sources)
+        → IfOk result (BaseIs install.now group.now) }
 {
-    base_alone(i, alloc, g)
+    base_alone(install, alloc, group)
 }
 
 /// The first of these that is not in the list.
-fn find_not_in(failed: &Providers, ps: &[ProviderId]) -> Option<ProviderId>
-    ensures { result ≡ find (λ p. not (among failed.now p)) ps.now }
+fn find_not_in(failed: &Providers, providers: &[ProviderId]) -> Option<ProviderId>
+    ensures { result ≡ find (λ p. not (among failed.now p)) providers.now }
 {
-    ps.iter()
+    providers
+        .iter()
         .copied()
         .find(|p| !is_among(failed.as_slice(), *p))
 }
 
 /// The node of the first of these that is not in the list, or else the other node.
 #[tactic(auto, using(crate::proofs::Bases::leader_found, crate::proofs::Bases::leader_none))]
-fn first_not_in(failed: &Providers, ps: &[ProviderId], other: u8) -> u8
-    ensures { result ≡ leader_from other failed.now ps.now }
+fn first_not_in(failed: &Providers, providers: &[ProviderId], other: u8) -> u8
+    ensures { result ≡ leader_from other failed.now providers.now }
 {
-    match find_not_in(failed, ps) {
+    match find_not_in(failed, providers) {
         Some(p) => p.node,
         None => other,
     }

@@ -18,7 +18,8 @@ fn is_nearer(best: Option<&[u8]>, name: &[u8]) -> bool
 
 /// The least name after the last one: the nearest so far, or this one.
 fn nearer<'a>(last: Option<&[u8]>, best: Option<&'a [u8]>, name: &'a [u8]) -> Option<&'a [u8]>
-    ensures { option_copied result ≡ nearer (option_copied last.entry) (option_copied best.entry) name.now }
+    ensures { option_copied result ≡ nearer (option_copied last.entry)
+        (option_copied best.entry) name.now }
 {
     if is_after(last, name) && is_nearer(best, name) {
         Some(name)
@@ -34,7 +35,8 @@ fn nearest_in<'a>(
     last: Option<&[u8]>,
     best: Option<&'a [u8]>,
 ) -> Option<&'a [u8]>
-    ensures { option_copied result ≡ nearest_in (option_copied last.entry) (option_copied best.entry) source.now.parts }
+    ensures { option_copied result ≡ nearest_in (option_copied last.entry)
+        (option_copied best.entry) source.now.parts }
 {
     let mut best = best;
     for part in source.parts.as_slice() {
@@ -46,7 +48,8 @@ fn nearest_in<'a>(
 /// The least name after the last one.
 #[tactic(auto, using(crate::proofs::NameLaws::nearest_source_more, crate::proofs::NameLaws::nearest_is_found, std::proofs::lemmas::Grind::common_steps))]
 fn name_after<'a>(install: &'a Install, last: Option<&[u8]>) -> Option<&'a [u8]>
-    ensures { option_copied result ≡ find (is_after (option_copied last.entry)) (names_in install.now.sources) }
+    ensures { option_copied result ≡ find (is_after (option_copied last.entry))
+        (names_in install.now.sources) }
 {
     let mut best = None;
     for source in install.sources.as_slice() {
@@ -58,11 +61,11 @@ fn name_after<'a>(install: &'a Install, last: Option<&[u8]>) -> Option<&'a [u8]>
 /// The i-th of the different names of groups that are carried, ascending; none exactly where there are not so
 /// many.
 #[tactic(auto, unfolding(crate::specs::Names::group_at))]
-pub fn group_at(install: &Install, i: usize) -> Option<&[u8]>
-    ensures { option_copied result ≡ group_at install.now i }
+pub fn group_at(install: &Install, place: usize) -> Option<&[u8]>
+    ensures { option_copied result ≡ group_at install.now place }
 {
     let mut last: Option<&[u8]> = None;
-    for k in 0..i {
+    for k in 0..place {
         last = Some(name_after(install, last)?);
     }
     name_after(install, last)

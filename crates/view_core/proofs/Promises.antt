@@ -3,25 +3,25 @@ use Rattle.std.proofs.Common.{◌≡◌, ℕ, ◌+◌, ◌<◌, ◌≤◌, Bool,
 use Rattle.std.specs.Prelude.{not, ◌==◌, ◌&&◌, ◌||◌, filter, drop, ◌++◌, [], ◌∷◌, nat_lt, nat_le}
 use Rattle.std.proofs.lemmas.Bool.{lt-ltb, and_parts}
 use Rattle.std.proofs.lemmas.Bool.Decides.{nat_tests}
-use Rattle.rsct_packet.specs.declared.ids.ViewId.{ViewId}
-use Rattle.rsct_packet.specs.declared.mask.Mask.{Mask}
-use Rattle.rsct_packet.specs.Ids.{same_view, view_lt, is_member}
-use Rattle.rsct_packet.specs.Mask.{has_node, with_node, nodes_of}
-use Rattle.view_state.specs.declared.answer.Answer.{Answer}
-use Rattle.view_state.specs.declared.exchange.Exchange.{Exchange}
-use Rattle.view_state.specs.declared.install.Part.{Part}
-use Rattle.view_state.specs.declared.install.Install.{Install}
+use Rattle.view_exchange.specs.rsct_packet.declared.ids.ViewId.{ViewId}
+use Rattle.view_exchange.specs.rsct_packet.declared.mask.Mask.{Mask}
+use Rattle.view_exchange.specs.rsct_packet.Ids.{same_view, view_lt, is_member}
+use Rattle.view_exchange.specs.rsct_packet.Mask.{has_node, with_node, nodes_of}
+use Rattle.view_exchange.specs.view_state.declared.answer.Answer.{Answer}
+use Rattle.view_exchange.specs.view_state.declared.exchange.Exchange.{Exchange}
+use Rattle.view_exchange.specs.view_state.declared.install.Part.{Part}
+use Rattle.view_exchange.specs.view_state.declared.install.Install.{Install}
 use Rattle.view_exchange.specs.InPlace.{answer_in}
-use Rattle.view_state.specs.Answers.{opened, with_answer, has_answered, may_answer, all_answered, install_of, is_spelled}
-use Rattle.view_state.proofs.ViewOrder.{not_before_itself, same_view_is}
-use Rattle.view_state.specs.declared.packet.ViewPacket.{ViewPacket}
-use Rattle.view_state.specs.declared.packet.ViewPacket.TheVariants as packet
-use Rattle.view_state.specs.declared.views.Views.{Views}
-use Rattle.view_state.specs.declared.views.RingAsk.{RingAsk}
-use Rattle.view_state.specs.declared.views.ViewWork.{ViewWork}
+use Rattle.view_exchange.specs.view_state.Answers.{opened, with_answer, has_answered, may_answer, all_answered, install_of, is_spelled}
+use Rattle.view_exchange.proofs.view_state_laws.ViewOrder.{not_before_itself, same_view_is}
+use Rattle.view_exchange.specs.view_state.declared.packet.ViewPacket.{ViewPacket}
+use Rattle.view_exchange.specs.view_state.declared.packet.ViewPacket.TheVariants as packet
+use Rattle.view_exchange.specs.view_state.declared.views.Views.{Views}
+use Rattle.view_exchange.specs.view_state.declared.views.RingAsk.{RingAsk}
+use Rattle.view_exchange.specs.view_state.declared.views.ViewWork.{ViewWork}
 use Rattle.view_core.specs.declared.step.ViewEvent.{ViewEvent}
 use Rattle.view_core.specs.declared.step.ViewEvent.TheVariants as event
-use Rattle.view_state.specs.Views.{view_sent, view_sent_all, gathering_set, promised, installs, gathered, gathers, own_answer, asks_view, next_view, may_ask, ask_if, ask_row, answered, prepared, prepare_row, answer_to, answer_row, refused_by, refuse_to, refuse_row, installed, install_row, taken_row, aged, prepared_again, stuck_noted, tick_asks, asks_or_ages, gathering_ticks, install_again_of, install_again, is_coordinator, is_frozen, is_stuck, others_of, views_at_work, views_new, views_entered}
+use Rattle.view_exchange.specs.view_state.Views.{view_sent, view_sent_all, gathering_set, promised, begin_install, gathered, gather_on, own_answer, ask_others, next_view, may_ask, ask_if, ask_row, answered, prepare, prepare_row, answer_to, answer_row, refused_by, refuse_to, refuse_row, installed, install_row, taken_row, aged, prepare_again, note_stuck, tick_asks, asks_or_ages, gathering_ticks, install_again_of, install_again, is_coordinator, is_frozen, is_stuck, others_of, views_at_work, views_new, views_entered}
 use Rattle.view_core.specs.Steps.{view_row, view_stepped}
 use Rattle.view_core.specs.Laws.{NotBefore, IsNext, GathersNext, AppliesNext, AreViews, ViewsBegin, Goes, PromisesStand, Enters, ViewsRise}
 
@@ -111,8 +111,8 @@ kept_goes s w g h n = record {
   applies = subst (λ (i : Option Install). AppliesNext (record (w.views) { gathering = Some g }) i) (sym h.nothing) tt;
 }
 
-installs_goes : (s : Views) (w : ViewWork) (g : Exchange) (t : Bool) → Since s w → IsNext w.views g.view → Goes s (installs (gathering_set w None) (install_of g) t)
-unfolding gathering_set installs view_sent_all
+installs_goes : (s : Views) (w : ViewWork) (g : Exchange) (t : Bool) → Since s w → IsNext w.views g.view → Goes s (begin_install (gathering_set w None) (install_of g) t)
+unfolding gathering_set begin_install view_sent_all
 installs_goes s w g false h n = record {
   views = record { covers = h.covers; gathers = tt };
   view = h.view;
@@ -131,8 +131,8 @@ unfolding gathered
 gathered_goes s w g false h n = kept_goes s w g h n
 gathered_goes s w g true h n = installs_goes s w g (is_spelled (install_of g)) h n
 
-gathers_goes : (s : Views) (w : ViewWork) (g : Exchange) → Since s w → IsNext w.views g.view → Goes s (gathers w g)
-unfolding gathers
+gathers_goes : (s : Views) (w : ViewWork) (g : Exchange) → Since s w → IsNext w.views g.view → Goes s (gather_on w g)
+unfolding gather_on
 gathers_goes s w g h n = gathered_goes s w g (all_answered g) h n
 
 -- ---- a promise
@@ -164,8 +164,8 @@ answered_goes s w v parts h g = by (nat_le (length parts) 255)
 
 -- ---- the rows
 
-asks_goes : (s : Views) (w : ViewWork) (v : ViewId) (mask : Mask) (parts : List Part) (t : Bool) → Since s w → view_lt w.views.promise v ≡ true → Goes s (asks_view w v mask parts t)
-unfolding asks_view
+asks_goes : (s : Views) (w : ViewWork) (v : ViewId) (mask : Mask) (parts : List Part) (t : Bool) → Since s w → view_lt w.views.promise v ≡ true → Goes s (ask_others w v mask parts t)
+unfolding ask_others
 asks_goes s w v mask parts false h k = goes s (promised w v) (promised_since s w v h k) (promised_gathers w v)
 asks_goes s w v mask parts true h k =
     let to : List ℕ = filter (λ n. not (n == w.views.me)) (nodes_of mask) in
@@ -188,8 +188,8 @@ ask_goes : (s : Views) (w : ViewWork) (mask : Mask) (parts : List Part) → Sinc
 unfolding ask_row
 ask_goes s w mask parts h g = ask_if_goes s w mask parts (may_ask w.views mask) h g
 
-prepared_goes : (s : Views) (w : ViewWork) (v : ViewId) (parts : List Part) (a b c : Bool) → Since s w → GathersNext w.views w.views.gathering → (a ≡ true → view_lt w.views.promise v ≡ true) → Goes s (prepared w v parts a b c)
-unfolding prepared
+prepared_goes : (s : Views) (w : ViewWork) (v : ViewId) (parts : List Part) (a b c : Bool) → Since s w → GathersNext w.views w.views.gathering → (a ≡ true → view_lt w.views.promise v ≡ true) → Goes s (prepare w v parts a b c)
+unfolding prepare
 prepared_goes s w v parts true b c h g k = answered_goes s (promised w v) v parts (promised_since s w v h (k refl)) (promised_gathers w v)
 prepared_goes s w v parts false true c h g k = answered_goes s w v parts h g
 prepared_goes s w v parts false false true h g k = sent_goes s w v.coord (packet.Refuse v w.views.promise.number) h g
@@ -207,7 +207,7 @@ unfolding answer_to
 answer_to_goes s w v a None h g k = goes s w h g
 answer_to_goes s w v a (Some x) h g k = by (same_view x.view v && may_answer x a.node)
   where
-    by : (t : Bool) → Goes s (elim t [ true ↦ gathers w (with_answer x a) | false ↦ w ])
+    by : (t : Bool) → Goes s (elim t [ true ↦ gather_on w (with_answer x a) | false ↦ w ])
     by true = gathers_goes s w (with_answer x a) h (is_next_along w.views x.view (with_answer x a).view (answer_view x a) k)
     by false = goes s w h g
 
@@ -272,17 +272,17 @@ taken_goes s w from v h g = by (same_view w.views.view v)
 
 -- ---- a tick
 
-again_goes : (s : Views) (w : ViewWork) (o : Option Exchange) → Since s w → GathersNext w.views w.views.gathering → GathersNext w.views o → Goes s (prepared_again w o)
-unfolding prepared_again
+again_goes : (s : Views) (w : ViewWork) (o : Option Exchange) → Since s w → GathersNext w.views w.views.gathering → GathersNext w.views o → Goes s (prepare_again w o)
+unfolding prepare_again
 again_goes s w None h g k = goes s w h g
 again_goes s w (Some x) h g k = aged_goes s w x (filter (λ n. not (has_answered x n)) (nodes_of x.asked)) (packet.Prepare x.view x.asked) h k
 
-noted_since : (s : Views) (w : ViewWork) → Since s w → Since s (stuck_noted w)
-unfolding stuck_noted
+noted_since : (s : Views) (w : ViewWork) → Since s w → Since s (note_stuck w)
+unfolding note_stuck
 noted_since s w h = record { view = h.view; promise = h.promise; covers = h.covers; nothing = h.nothing }
 
-noted_gathers : (w : ViewWork) → GathersNext w.views w.views.gathering → GathersNext (stuck_noted w).views (stuck_noted w).views.gathering
-unfolding stuck_noted
+noted_gathers : (w : ViewWork) → GathersNext w.views w.views.gathering → GathersNext (note_stuck w).views (note_stuck w).views.gathering
+unfolding note_stuck
 noted_gathers w g = gathers_same w.views (record (w.views) { stuck = drop 1 w.views.stuck ++ is_stuck w.views ∷ [] }) w.views.gathering refl refl g
 
 asks_or_ages_goes : (s : Views) (w : ViewWork) (a : RingAsk) (parts : List Part) (t : Bool) → Since s w → GathersNext w.views w.views.gathering → Goes s (asks_or_ages w a parts t)
@@ -293,7 +293,7 @@ asks_or_ages_goes s w a parts false h g = again_goes s w w.views.gathering h g g
 tick_goes : (s : Views) (w : ViewWork) (o : Option RingAsk) (parts : List Part) → Since s w → GathersNext w.views w.views.gathering → Goes s (gathering_ticks w o parts)
 unfolding gathering_ticks
 tick_goes s w None parts h g = again_goes s w w.views.gathering h g g
-tick_goes s w (Some a) parts h g = asks_or_ages_goes s (stuck_noted w) a parts (tick_asks w.views a) (noted_since s w h) (noted_gathers w g)
+tick_goes s w (Some a) parts h g = asks_or_ages_goes s (note_stuck w) a parts (tick_asks w.views a) (noted_since s w h) (noted_gathers w g)
 
 remind_of_goes : (s : Views) (w : ViewWork) (o : Option Install) → Since s w → GathersNext w.views w.views.gathering → Goes s (install_again_of w o)
 unfolding install_again_of

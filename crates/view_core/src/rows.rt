@@ -1,18 +1,18 @@
 //! What a node does with an order to ask, and with the packets of views.
 ghost use Rattle.std.specs.Prelude.{◌≡◌, ◌==◌, ◌&&◌, true, not, OnOk};
-ghost use Rattle.rsct_packet.specs.Ids.{same_view, view_lt};
-ghost use Rattle.rsct_packet.specs.Mask.{has_node};
+ghost use Rattle.view_exchange.specs.rsct_packet.Ids.{same_view, view_lt};
+ghost use Rattle.view_exchange.specs.rsct_packet.Mask.{has_node};
 ghost use Rattle.view_exchange.specs.InPlace.{answer_in};
-ghost use Rattle.view_state.specs.Views.{asks_view, ask_row, answered, prepared, prepare_row, answer_row, refuse_row, install_row, taken_row};
+ghost use Rattle.view_exchange.specs.view_state.Views.{ask_others, ask_row, answered, prepare, prepare_row, answer_row, refuse_row, install_row, taken_row};
 
 use crate::lists::OwnLists;
 use crate::work::{
     MAX_PARTS, gather_on, may_ask, next_view, nodes_but, own_answer, promise, send, send_prepare,
 };
-use rsct_packet::{Mask, NoMemory, ViewId};
 use std::alloc::Global;
+use view_exchange::rsct_packet::{Mask, NoMemory, ViewId};
+use view_exchange::view_state::{Exchange, Install, ViewPacket, ViewWork, Views};
 use view_exchange::{AnswerRef, add_answer};
-use view_state::{Exchange, Install, ViewPacket, ViewWork, Views};
 
 /// How a node is asked for a view: above its promise; once more, while it has not entered it; or, whoever asks, below
 /// its promise.
@@ -31,8 +31,11 @@ fn is_asked(views: &Views, from: u8, inc: u32, view: ViewId, mask: Mask) -> bool
 }
 
 fn how_asked(views: &Views, from: u8, inc: u32, view: ViewId, mask: Mask) -> Asked
-    ensures higher { result.is_higher ≡ ((view.coord == from && view.inc == inc && has_node mask views.now.me) && view_lt views.now.promise view) }
-    ensures again { result.is_again ≡ ((view.coord == from && view.inc == inc && has_node mask views.now.me) && same_view view views.now.promise && not (same_view view views.now.view)) }
+    ensures higher { result.is_higher ≡ ((view.coord == from && view.inc == inc
+        && has_node mask views.now.me) && view_lt views.now.promise view) }
+    ensures again { result.is_again ≡ ((view.coord == from && view.inc == inc
+        && has_node mask views.now.me) && same_view view views.now.promise
+        && not (same_view view views.now.view)) }
     ensures lower { result.is_lower ≡ view_lt view views.now.promise }
 {
     let is_asked = is_asked(views, from, inc, view, mask);
@@ -44,7 +47,7 @@ fn how_asked(views: &Views, from: u8, inc: u32, view: ViewId, mask: Mask) -> Ask
 }
 
 /// Promises a view and asks the others of these nodes for it. The node's own answer is the first.
-#[tactic(auto, unfolding(view_state::specs::Views::asks_view))]
+#[tactic(auto, unfolding(crate::proofs::Below::ask_others))]
 fn ask_others<L: OwnLists>(
     work: &mut ViewWork,
     alloc: Global,
@@ -52,7 +55,7 @@ fn ask_others<L: OwnLists>(
     mask: Mask,
     lists: &L,
 ) -> Result<(), NoMemory>
-    ensures { OnOk result (work.new ≡ asks_view work.old view mask (L.parts_of lists.now) true) }
+    ensures { OnOk result (work.new ≡ ask_others work.old view mask (L.parts_of lists.now) true) }
 {
     let to = nodes_but(alloc, work.views.me, mask)?;
     let own = own_answer(&work.views, alloc, lists)?;
@@ -64,7 +67,7 @@ fn ask_others<L: OwnLists>(
 
 /// An order to ask these nodes for a view. The node promises it, and its own answer is the first. An own answer
 /// without a spelling leaves the promise, and nobody is asked.
-#[tactic(auto, unfolding(view_state::specs::Views::ask_row, view_state::specs::Views::ask_if, view_state::specs::Views::asks_view, view_state::specs::Views::may_ask))]
+#[tactic(auto, unfolding(crate::proofs::Below::ask_row, crate::proofs::Below::ask_if, crate::proofs::Below::ask_others, crate::proofs::Below::may_ask))]
 pub(crate) fn ask_row<L: OwnLists>(
     work: &mut ViewWork,
     alloc: Global,
@@ -85,7 +88,7 @@ pub(crate) fn ask_row<L: OwnLists>(
 }
 
 /// Answers for a view. An answer without a spelling is not sent.
-#[tactic(auto, unfolding(view_state::specs::Views::answered))]
+#[tactic(auto, unfolding(crate::proofs::Below::answered))]
 fn answer<L: OwnLists>(
     work: &mut ViewWork,
     alloc: Global,
@@ -104,7 +107,7 @@ fn answer<L: OwnLists>(
 
 /// What comes above the promise is promised, the promise that is not entered yet is answered again, and what comes
 /// below the promise is refused.
-#[tactic(auto, unfolding(view_state::specs::Views::prepared))]
+#[tactic(auto, unfolding(crate::proofs::Below::prepare))]
 fn prepare<L: OwnLists>(
     work: &mut ViewWork,
     alloc: Global,
@@ -112,7 +115,8 @@ fn prepare<L: OwnLists>(
     asked: Asked,
     lists: &L,
 ) -> Result<(), NoMemory>
-    ensures { OnOk result (work.new ≡ prepared work.old view (L.parts_of lists.now) asked.is_higher asked.is_again asked.is_lower) }
+    ensures { OnOk result (work.new ≡ prepare work.old view
+        (L.parts_of lists.now) asked.is_higher asked.is_again asked.is_lower) }
 {
     if asked.is_higher {
         promise(work, view);
@@ -130,7 +134,7 @@ fn prepare<L: OwnLists>(
 
 /// PREPARE, from a node in an incarnation: only the coordinator of the view asks for it, and only the nodes of the
 /// set.
-#[tactic(auto, unfolding(view_state::specs::Views::prepare_row))]
+#[tactic(auto, unfolding(crate::proofs::Below::prepare_row))]
 pub(crate) fn prepare_row<L: OwnLists>(
     work: &mut ViewWork,
     alloc: Global,
@@ -140,28 +144,29 @@ pub(crate) fn prepare_row<L: OwnLists>(
     mask: Mask,
     lists: &L,
 ) -> Result<(), NoMemory>
-    ensures { OnOk result (work.new ≡ prepare_row work.old from inc view mask (L.parts_of lists.now)) }
+    ensures { OnOk result (work.new ≡ prepare_row work.old from inc view mask
+        (L.parts_of lists.now)) }
 {
     let asked = how_asked(&work.views, from, inc, view, mask);
     prepare(work, alloc, view, asked, lists)
 }
 
 /// ANSWER: the first of a node that was asked for the view counts.
-#[tactic(auto, unfolding(view_state::specs::Views::answer_row, view_state::specs::Views::answer_to, view_state::specs::Views::gathers, view_state::specs::Views::gathered, view_state::specs::Views::gathering_set, view_state::specs::Answers::answer_added))]
+#[tactic(auto, unfolding(crate::proofs::Below::answer_row, crate::proofs::Below::answer_to, crate::proofs::Below::gather_on, crate::proofs::Below::gathered, crate::proofs::Below::gathering_set, crate::proofs::Below::add_answer))]
 pub(crate) fn answer_row(
     work: &mut ViewWork,
     alloc: Global,
     node: u8,
     inc: u32,
     view: ViewId,
-    a: &AnswerRef,
+    answer: &AnswerRef,
 ) -> Result<(), NoMemory>
-    ensures { OnOk result (work.new ≡ answer_row work.old view (answer_in node inc a.now)) }
+    ensures { OnOk result (work.new ≡ answer_row work.old view (answer_in node inc answer.now)) }
 {
     let Some(mut g) = work.views.gathering.take() else {
         return Ok(());
     };
-    if g.view == view && add_answer(&mut g, alloc, node, inc, a)? {
+    if g.view == view && add_answer(&mut g, alloc, node, inc, answer)? {
         return gather_on(work, alloc, g);
     }
     work.views.gathering = Some(g);
@@ -169,7 +174,7 @@ pub(crate) fn answer_row(
 }
 
 /// REFUSE of the view that is gathered for: the gathering is dropped, and a later view has a number above.
-#[tactic(auto, unfolding(view_state::specs::Views::refuse_row, view_state::specs::Views::refuse_to, view_state::specs::Views::refused_by))]
+#[tactic(auto, unfolding(crate::proofs::Below::refuse_row, crate::proofs::Below::refuse_to, crate::proofs::Below::refused_by))]
 pub(crate) fn refuse_row(work: &mut ViewWork, view: ViewId, number: u32)
     ensures { work.new ≡ refuse_row work.old view number }
 {
@@ -183,7 +188,7 @@ pub(crate) fn refuse_row(work: &mut ViewWork, view: ViewId, number: u32)
 
 /// INSTALL: of the view that the node is in it says TAKEN again; of its promise, where it is a member with its
 /// incarnation, it is to be applied.
-#[tactic(auto, unfolding(view_state::specs::Views::install_row, view_state::specs::Views::installed))]
+#[tactic(auto, unfolding(crate::proofs::Below::install_row, crate::proofs::Below::installed))]
 pub(crate) fn install_row(work: &mut ViewWork, install: Install) -> Result<(), NoMemory>
     ensures { OnOk result (work.new ≡ install_row work.old install) }
 {
@@ -198,7 +203,7 @@ pub(crate) fn install_row(work: &mut ViewWork, install: Install) -> Result<(), N
 }
 
 /// TAKEN, also while frozen.
-#[tactic(auto, unfolding(view_state::specs::Views::taken_row))]
+#[tactic(auto, unfolding(crate::proofs::Below::taken_row))]
 pub(crate) fn taken_row(work: &mut ViewWork, from: u8, view: ViewId)
     ensures { work.new ≡ taken_row work.old from view }
 {

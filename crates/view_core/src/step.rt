@@ -6,11 +6,11 @@ use crate::lists::OwnLists;
 use crate::rows::{answer_row, ask_row, install_row, prepare_row, refuse_row, taken_row};
 use crate::tick::gathering_ticks;
 use crate::work::install_again;
-use rsct_packet::{List, Mask, NoMemory, ViewId};
 use std::alloc::Global;
 use std::mem;
 use view_exchange::AnswerRef;
-use view_state::{Install, RingAsk, ViewSends, ViewWork, Views};
+use view_exchange::rsct_packet::{List, Mask, NoMemory, ViewId};
+use view_exchange::view_state::{Install, RingAsk, ViewSends, ViewWork, Views};
 
 /// What happens to a node's views: an order to ask for a view of these nodes; a tick, with what it says of the
 /// rings; the reminder of an install, later in a tick; and the packets of views, from a node in an incarnation where
@@ -72,12 +72,12 @@ impl ViewOut {
 fn row<L: OwnLists>(
     work: &mut ViewWork,
     alloc: Global,
-    e: ViewEvent,
+    event: ViewEvent,
     lists: &L,
 ) -> Result<(), NoMemory>
-    ensures { OnOk result (work.new ≡ view_row work.old e.entry (L.parts_of lists.now)) }
+    ensures { OnOk result (work.new ≡ view_row work.old event.entry (L.parts_of lists.now)) }
 {
-    match e {
+    match event {
         ViewEvent::Ask { mask } => ask_row(work, alloc, mask, lists),
         ViewEvent::Tick { ring_ask } => gathering_ticks(work, alloc, ring_ask, lists),
         ViewEvent::Remind => install_again(work, alloc),
@@ -110,17 +110,17 @@ fn row<L: OwnLists>(
 fn after_event<L: OwnLists>(
     views: Views,
     alloc: Global,
-    e: ViewEvent,
+    event: ViewEvent,
     lists: &L,
 ) -> Result<ViewWork, NoMemory>
-    ensures { IfOk result (λ w. w ≡ view_stepped views e.entry (L.parts_of lists.now)) }
+    ensures { IfOk result (λ w. w ≡ view_stepped views event.entry (L.parts_of lists.now)) }
 {
     let mut work = ViewWork {
         views,
         sends: List::new(alloc),
         install: None,
     };
-    row(&mut work, alloc, e, lists)?;
+    row(&mut work, alloc, event, lists)?;
     Ok(work)
 }
 
@@ -145,16 +145,19 @@ fn hand_out(work: ViewWork, views: &mut Views, out: &mut ViewOut) -> Result<(), 
 pub fn take_event<L: OwnLists>(
     views: &mut Views,
     alloc: Global,
-    e: ViewEvent,
+    event: ViewEvent,
     lists: &L,
     out: &mut ViewOut,
 ) -> Result<(), NoMemory>
-    ensures views { OnOk result (views.new ≡ (view_stepped views.old e.entry (L.parts_of lists.now)).views) }
-    ensures sends { OnOk result (out.new.sends ≡ out.old.sends ++ (view_stepped views.old e.entry (L.parts_of lists.now)).sends) }
-    ensures install { OnOk result (out.new.install ≡ (view_stepped views.old e.entry (L.parts_of lists.now)).install) }
+    ensures views { OnOk result (views.new ≡ (view_stepped views.old event.entry
+        (L.parts_of lists.now)).views) }
+    ensures sends { OnOk result (out.new.sends ≡ out.old.sends
+        ++ (view_stepped views.old event.entry (L.parts_of lists.now)).sends) }
+    ensures install { OnOk result (out.new.install
+        ≡ (view_stepped views.old event.entry (L.parts_of lists.now)).install) }
 {
     let view = views.view;
     let outside = Views::new(views.me, views.inc, view, List::new(alloc));
-    let work = after_event(mem::replace(views, outside), alloc, e, lists)?;
+    let work = after_event(mem::replace(views, outside), alloc, event, lists)?;
     hand_out(work, views, out)
 }

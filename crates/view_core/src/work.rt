@@ -1,14 +1,16 @@
 //! Views at work: what is sent, promised and installed.
 ghost use Rattle.std.specs.Prelude.{◌≡◌, ◌&&◌, ◌++◌, ◌==◌, ◌+◌, ◌<◌, map, filter, max, not, IfOk, OnOk};
-ghost use Rattle.rsct_packet.specs.declared.ids.Member.{Member};
-ghost use Rattle.rsct_packet.specs.Mask.{has_node, nodes_of};
-ghost use Rattle.view_state.specs.Answers.{is_spelled};
-ghost use Rattle.view_state.specs.Views.{is_frozen, is_coordinator, others_of, view_sent, view_sent_all, promised, installs, gathers, install_again_of, install_again, next_view, may_ask, own_answer};
+ghost use Rattle.view_exchange.specs.rsct_packet.declared.ids.Member.{Member};
+ghost use Rattle.view_exchange.specs.rsct_packet.Mask.{has_node, nodes_of};
+ghost use Rattle.view_exchange.specs.view_state.Answers.{is_spelled};
+ghost use Rattle.view_exchange.specs.view_state.Views.{is_frozen, is_coordinator, others_of, view_sent, view_sent_all, promised, begin_install, gather_on, install_again_of, install_again, next_view, may_ask, own_answer};
 
 use crate::lists::OwnLists;
-use rsct_packet::{Mask, Member, NODES, NoMemory, ViewId};
 use std::alloc::Global;
-use view_state::{Answer, Exchange, Install, ViewPacket, ViewSend, ViewSends, ViewWork, Views};
+use view_exchange::rsct_packet::{Mask, Member, NODES, NoMemory, ViewId};
+use view_exchange::view_state::{
+    Answer, Exchange, Install, ViewPacket, ViewSend, ViewSends, ViewWork, Views,
+};
 
 /// How many parts an answer has at most.
 pub const MAX_PARTS: usize = 255;
@@ -20,7 +22,8 @@ fn send_prepare_each(
     view: ViewId,
     mask: Mask,
 ) -> Result<(), NoMemory>
-    ensures { OnOk result (sends.new ≡ sends.old ++ map (λ n. record { to = n; packet = ViewPacket.Prepare view mask }) to.now) }
+    ensures { OnOk result (sends.new ≡ sends.old
+        ++ map (λ n. record { to = n; packet = ViewPacket.Prepare view mask }) to.now) }
 {
     for n in to {
         sends.push(ViewSend {
@@ -38,7 +41,8 @@ fn send_install_each(
     to: &[u8],
     install: &Install,
 ) -> Result<(), NoMemory>
-    ensures { OnOk result (sends.new ≡ sends.old ++ map (λ n. record { to = n; packet = ViewPacket.Install install.now }) to.now) }
+    ensures { OnOk result (sends.new ≡ sends.old
+        ++ map (λ n. record { to = n; packet = ViewPacket.Install install.now }) to.now) }
 {
     for n in to {
         let install = install.copy(alloc)?;
@@ -51,7 +55,7 @@ fn send_install_each(
 }
 
 /// The nodes of members but for one, ascending.
-#[tactic(auto, unfolding(view_state::specs::Views::others_of))]
+#[tactic(auto, unfolding(crate::proofs::Below::others_of))]
 fn others_of(alloc: Global, me: u8, members: &[Member]) -> Result<Vec<u8>, NoMemory>
     ensures { IfOk result (λ v. v.items ≡ others_of me members.now) }
 {
@@ -65,7 +69,7 @@ fn others_of(alloc: Global, me: u8, members: &[Member]) -> Result<Vec<u8>, NoMem
 }
 
 /// The nodes of a set but for one, ascending.
-#[tactic(auto, unfolding(rsct_packet::specs::Mask::nodes_of))]
+#[tactic(auto, unfolding(crate::proofs::Below::nodes_of))]
 pub(crate) fn nodes_but(alloc: Global, me: u8, mask: Mask) -> Result<Vec<u8>, NoMemory>
     ensures { IfOk result (λ v. v.items ≡ filter (λ n. not (n == me)) (nodes_of mask)) }
 {
@@ -88,14 +92,15 @@ fn may_remind(views: &Views) -> bool
 
 /// The other members, ascending, that have not taken the view.
 fn untaken(views: &Views, alloc: Global) -> Result<Vec<u8>, NoMemory>
-    ensures { IfOk result (λ v. v.items ≡ filter (λ n. not (has_node views.now.taken n)) (others_of views.now.me views.now.members)) }
+    ensures { IfOk result (λ v. v.items ≡ filter
+        (λ n. not (has_node views.now.taken n)) (others_of views.now.me views.now.members)) }
 {
     let others = others_of(alloc, views.me, views.members.as_slice())?;
     nodes_without(alloc, views.taken, others.as_slice())
 }
 
 /// Is the node one of these, and is a number left for a view of them?
-#[tactic(auto, unfolding(view_state::specs::Views::may_ask))]
+#[tactic(auto, unfolding(crate::proofs::Below::may_ask))]
 pub(crate) fn may_ask(views: &Views, mask: Mask) -> bool
     ensures { result ≡ may_ask views.now mask }
 {
@@ -103,7 +108,7 @@ pub(crate) fn may_ask(views: &Views, mask: Mask) -> bool
 }
 
 /// A view of the node's own, above what it promised and what was refused to it.
-#[tactic(auto, unfolding(view_state::specs::Views::next_view, view_state::specs::Views::may_ask))]
+#[tactic(auto, unfolding(crate::proofs::Below::next_view, crate::proofs::Below::may_ask))]
 pub(crate) fn next_view(views: &Views) -> ViewId
     requires { max views.now.promise.number views.now.floor < 4294967295 }
     ensures { result ≡ next_view views.now }
@@ -131,39 +136,41 @@ pub(crate) fn own_answer<L: OwnLists>(
     })
 }
 
-#[tactic(auto, unfolding(view_state::specs::Views::view_sent))]
+#[tactic(auto, unfolding(crate::proofs::Below::view_sent))]
 pub(crate) fn send(work: &mut ViewWork, to: u8, packet: ViewPacket) -> Result<(), NoMemory>
     ensures { OnOk result (work.new ≡ view_sent work.old to packet) }
 {
     work.sends.push(ViewSend { to, packet })
 }
 
-#[tactic(auto, unfolding(view_state::specs::Views::view_sent_all))]
+#[tactic(auto, unfolding(crate::proofs::Below::view_sent_all))]
 pub(crate) fn send_prepare(
     work: &mut ViewWork,
     to: &[u8],
     view: ViewId,
     mask: Mask,
 ) -> Result<(), NoMemory>
-    ensures { OnOk result (work.new ≡ view_sent_all work.old to.now (ViewPacket.Prepare view mask)) }
+    ensures { OnOk result (work.new ≡ view_sent_all work.old to.now
+        (ViewPacket.Prepare view mask)) }
 {
     send_prepare_each(&mut work.sends, to, view, mask)
 }
 
-#[tactic(auto, unfolding(view_state::specs::Views::view_sent_all))]
+#[tactic(auto, unfolding(crate::proofs::Below::view_sent_all))]
 fn send_install(
     work: &mut ViewWork,
     alloc: Global,
     to: &[u8],
     install: &Install,
 ) -> Result<(), NoMemory>
-    ensures { OnOk result (work.new ≡ view_sent_all work.old to.now (ViewPacket.Install install.now)) }
+    ensures { OnOk result (work.new ≡ view_sent_all work.old to.now
+        (ViewPacket.Install install.now)) }
 {
     send_install_each(alloc, &mut work.sends, to, install)
 }
 
 /// A promise drops a gathering.
-#[tactic(auto, unfolding(view_state::specs::Views::promised))]
+#[tactic(auto, unfolding(crate::proofs::Below::promised))]
 pub(crate) fn promise(work: &mut ViewWork, view: ViewId)
     ensures { work.new ≡ promised work.old view }
 {
@@ -172,9 +179,9 @@ pub(crate) fn promise(work: &mut ViewWork, view: ViewId)
 }
 
 /// Sends an install to the others, ascending, and has it applied here. One without a spelling is dropped.
-#[tactic(auto, unfolding(view_state::specs::Views::installs))]
+#[tactic(auto, unfolding(crate::proofs::Below::begin_install))]
 fn begin_install(work: &mut ViewWork, alloc: Global, install: Install) -> Result<(), NoMemory>
-    ensures { OnOk result (work.new ≡ installs work.old install (is_spelled install)) }
+    ensures { OnOk result (work.new ≡ begin_install work.old install (is_spelled install)) }
 {
     if !install.is_spelled() {
         return Ok(());
@@ -186,20 +193,24 @@ fn begin_install(work: &mut ViewWork, alloc: Global, install: Install) -> Result
 }
 
 /// Goes on with a gathering, or installs its view where all have answered.
-#[tactic(auto, unfolding(view_state::specs::Views::gathers, view_state::specs::Views::gathered, view_state::specs::Views::gathering_set))]
-pub(crate) fn gather_on(work: &mut ViewWork, alloc: Global, g: Exchange) -> Result<(), NoMemory>
-    ensures { OnOk result (work.new ≡ gathers work.old g) }
+#[tactic(auto, unfolding(crate::proofs::Below::gather_on, crate::proofs::Below::gathered, crate::proofs::Below::gathering_set))]
+pub(crate) fn gather_on(
+    work: &mut ViewWork,
+    alloc: Global,
+    exchange: Exchange,
+) -> Result<(), NoMemory>
+    ensures { OnOk result (work.new ≡ gather_on work.old exchange) }
 {
-    if !g.all() {
-        work.views.gathering = Some(g);
+    if !exchange.all() {
+        work.views.gathering = Some(exchange);
         return Ok(());
     }
     work.views.gathering = None;
-    let install = g.install(alloc)?;
+    let install = exchange.install(alloc)?;
     begin_install(work, alloc, install)
 }
 
-#[tactic(auto, unfolding(view_state::specs::Views::install_again_of, view_state::specs::Views::view_sent_all))]
+#[tactic(auto, unfolding(crate::proofs::Below::install_again_of, crate::proofs::Below::view_sent_all))]
 fn install_again_of(work: &mut ViewWork, alloc: Global) -> Result<(), NoMemory>
     ensures { OnOk result (work.new ≡ install_again_of work.old work.old.views.install) }
 {
@@ -211,7 +222,7 @@ fn install_again_of(work: &mut ViewWork, alloc: Global) -> Result<(), NoMemory>
 }
 
 /// INSTALL again to the members that have not taken it, where the node is the view's coordinator and not frozen.
-#[tactic(auto, unfolding(view_state::specs::Views::install_again))]
+#[tactic(auto, unfolding(crate::proofs::Below::install_again))]
 pub(crate) fn install_again(work: &mut ViewWork, alloc: Global) -> Result<(), NoMemory>
     ensures { OnOk result (work.new ≡ install_again work.old) }
 {

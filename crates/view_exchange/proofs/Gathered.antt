@@ -3,12 +3,12 @@ use Rattle.std.proofs.Common.{◌≡◌, ℕ, Bool, true, false, cond, List, [],
 use Rattle.std.specs.Prelude.{not, ◌==◌, ◌&&◌, ◌||◌}
 use Rattle.std.specs.List.{list_any}
 use Rattle.std.proofs.lemmas.Bool.Decides.{nat_tests}
-use Rattle.rsct_packet.specs.declared.ids.Member.{Member}
-use Rattle.rsct_packet.specs.Mask.{has_node}
-use Rattle.rsct_packet.specs.Search.{Has, insert_before}
+use Rattle.view_state.specs.rsct_packet.declared.ids.Member.{Member}
+use Rattle.view_state.specs.rsct_packet.Mask.{has_node}
+use Rattle.view_state.specs.rsct_packet.Search.{Has, insert_before}
 use Rattle.view_state.specs.declared.answer.Answer.{Answer}
 use Rattle.view_state.specs.declared.exchange.Exchange.{Exchange}
-use Rattle.view_state.specs.Answers.{has_answered, may_answer, with_answer, answer_added, member_of, is_member_above, with_member}
+use Rattle.view_state.specs.Answers.{has_answered, may_answer, with_answer, add_answer, member_of, is_member_above, with_member}
 use Rattle.view_exchange.specs.Gathered.{added, all_added, FirstsCount}
 
 or_swap : (a b c : Bool) → (a || (b || c)) ≡ (b || (a || c))
@@ -29,8 +29,8 @@ answered_with : (x : Exchange) (a : Answer) (n : ℕ) → has_answered (with_ans
 unfolding has_answered with_answer
 answered_with x a n = any_inserted n (member_of a) x.members
 
-asked_with : (x : Exchange) (a : Answer) (t : Bool) → (answer_added x a t).asked ≡ x.asked
-unfolding answer_added with_answer
+asked_with : (x : Exchange) (a : Answer) (t : Bool) → (add_answer x a t).asked ≡ x.asked
+unfolding add_answer with_answer
 asked_with x a true = refl
 asked_with x a false = refl
 
@@ -38,8 +38,8 @@ or_right : (a b : Bool) → b ≡ true → (a || b) ≡ true
 or_right true b e = refl
 or_right false b e = e
 
-stays_answered : (x : Exchange) (a : Answer) (n : ℕ) (t : Bool) → has_answered x n ≡ true → has_answered (answer_added x a t) n ≡ true
-unfolding answer_added
+stays_answered : (x : Exchange) (a : Answer) (n : ℕ) (t : Bool) → has_answered x n ≡ true → has_answered (add_answer x a t) n ≡ true
+unfolding add_answer
 stays_answered x a n true h = answered_with x a n ∙ or_right (a.node == n) (has_answered x n) h
 stays_answered x a n false h = h
 
@@ -56,8 +56,8 @@ and_not true false p q = absurd cc
 and_not false b p q = absurd cc
 
 -- after its answer came, a node that was asked has answered
-comes_itself : (x : Exchange) (a : Answer) → has_answered (answer_added x a true) a.node ≡ true
-unfolding answer_added
+comes_itself : (x : Exchange) (a : Answer) → has_answered (add_answer x a true) a.node ≡ true
+unfolding add_answer
 comes_itself x a = answered_with x a a.node ∙ rw (itself a.node) refl
 
 may_has : (x : Exchange) (n : ℕ) → has_node x.asked n ≡ true → may_answer x n ≡ false → has_answered x n ≡ true
@@ -67,7 +67,7 @@ may_has x n asked e = and_not (has_node x.asked n) (has_answered x n) asked e
 has_come : (x : Exchange) (a : Answer) → has_node x.asked a.node ≡ true → has_answered (added x a) a.node ≡ true
 has_come x a asked = by (may_answer x a.node) refl
   where
-    by : (t : Bool) → may_answer x a.node ≡ t → has_answered (answer_added x a t) a.node ≡ true
+    by : (t : Bool) → may_answer x a.node ≡ t → has_answered (add_answer x a t) a.node ≡ true
     by true e = comes_itself x a
     by false e = stays_answered x a a.node false (may_has x a.node asked e)
 
@@ -88,7 +88,7 @@ all_added-append x [] bs = refl
 all_added-append x (a ∷ given) bs = all_added-append (added x a) given bs
 
 not_added : (y : Exchange) (b : Answer) → may_answer y b.node ≡ false → added y b ≡ y
-unfolding answer_added
+unfolding add_answer
 not_added y b e = rw e refl
 
 may_not : (y : Exchange) (n : ℕ) → (has_node y.asked n ≡ true → has_answered y n ≡ true) → may_answer y n ≡ false

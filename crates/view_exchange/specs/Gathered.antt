@@ -1,13 +1,13 @@
 -- Answers one after another.
 use Rattle.std.specs.Prelude.{◌≡◌, ◌++◌, List, [], ◌∷◌}
-use Rattle.rsct_packet.specs.Search.{Has}
+use Rattle.view_state.specs.rsct_packet.Search.{Has}
 use Rattle.view_state.specs.declared.answer.Answer.{Answer}
 use Rattle.view_state.specs.declared.exchange.Exchange.{Exchange}
-use Rattle.view_state.specs.Answers.{may_answer, answer_added}
+use Rattle.view_state.specs.Answers.{may_answer, add_answer}
 
 -- an answer that comes
 abbrev pub added : Exchange → Answer → Exchange
-added x a = answer_added x a (may_answer x a.node)
+added x a = add_answer x a (may_answer x a.node)
 
 abbrev pub all_added : Exchange → List Answer → Exchange
 all_added x [] = x

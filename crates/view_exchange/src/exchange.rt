@@ -1,18 +1,18 @@
 //! Answers that are added to a gathering.
 ghost use Rattle.std.specs.Prelude.{◌≡◌, ◌≤◌, length, IfOk, OnOk};
-ghost use Rattle.rsct_packet.specs.Format.{EachFits};
-ghost use Rattle.rsct_packet.specs.Search.{front_len};
-ghost use Rattle.view_state.specs.Answers.{may_answer, is_member_above, with_member, with_answer, answer_added};
+ghost use Rattle.view_state.specs.rsct_packet.Format.{EachFits};
+ghost use Rattle.view_state.specs.rsct_packet.Search.{front_len};
+ghost use Rattle.view_state.specs.Answers.{may_answer, is_member_above, with_member, with_answer, add_answer};
 ghost use Rattle.view_state.specs.Tails.{IsTail, KeepsTails};
 ghost use Rattle.view_exchange.specs.InPlace.{answer_in};
 
 use crate::answer::AnswerRef;
 use crate::sides::take_answer;
-use rsct_packet::{List, Member, Members, NoMemory};
 use std::alloc::Global;
 use view_state::Exchange;
+use view_state::rsct_packet::{List, Member, Members, NoMemory};
 
-#[tactic(auto, using(rsct_packet::proofs::SearchLaws::front_begins, rsct_packet::proofs::SearchLaws::front_goes_on, rsct_packet::proofs::SearchLaws::front_found, rsct_packet::proofs::SearchLaws::front_missing))]
+#[tactic(auto, using(crate::proofs::Below::front_search))]
 fn member_front_alone(members: &[Member], node: u8) -> usize
     ensures { result ≡ front_len (is_member_above node) members.now }
 {
@@ -25,7 +25,7 @@ fn member_front_alone(members: &[Member], node: u8) -> usize
 }
 
 /// Where a node comes in.
-#[tactic(auto, using(rsct_packet::proofs::SearchLaws::front_is_in))]
+#[tactic(auto, using(crate::proofs::Below::front_is_in))]
 fn member_front(members: &[Member], node: u8) -> usize
     ensures value { result ≡ front_len (is_member_above node) members.now }
     ensures within { result ≤ length members.now }
@@ -33,42 +33,51 @@ fn member_front(members: &[Member], node: u8) -> usize
     member_front_alone(members, node)
 }
 
-#[tactic(auto, using(rsct_packet::proofs::SearchLaws::insert_at_front, std::proofs::lemmas::Grind::common_steps))]
-fn with_member(alloc: Global, members: &Members, m: Member) -> Result<Members, NoMemory>
-    ensures { IfOk result (λ l. l ≡ with_member members.now m) }
+#[tactic(auto, using(crate::proofs::Below::insert_at_front, std::proofs::lemmas::Grind::common_steps))]
+fn with_member(alloc: Global, members: &Members, member: Member) -> Result<Members, NoMemory>
+    ensures { IfOk result (λ l. l ≡ with_member members.now member) }
 {
-    let at = member_front(members.as_slice(), m.node);
+    let at = member_front(members.as_slice(), member.node);
     let mut items = Vec::from_slice(alloc, members.as_slice())?;
-    items.insert(at, m)?;
+    items.insert(at, member)?;
     List::of(alloc, items.as_slice())
 }
 
 #[tactic(auto, unfolding(view_state::specs::Answers::with_answer))]
-fn take(g: &mut Exchange, alloc: Global, node: u8, inc: u32, a: &AnswerRef) -> Result<(), NoMemory>
-    ensures { OnOk result (g.new ≡ with_answer g.old (answer_in node inc a.now)) }
+fn take(
+    exchange: &mut Exchange,
+    alloc: Global,
+    node: u8,
+    inc: u32,
+    answer: &AnswerRef,
+) -> Result<(), NoMemory>
+    ensures { OnOk result (exchange.new ≡ with_answer exchange.old
+        (answer_in node inc answer.now)) }
 {
-    g.members = with_member(alloc, &g.members, Member { node, inc })?;
-    take_answer(&mut g.sides, alloc, node, inc, a)
+    exchange.members = with_member(alloc, &exchange.members, Member { node, inc })?;
+    take_answer(&mut exchange.sides, alloc, node, inc, answer)
 }
 
 /// Adds the answer of a node in an incarnation to a gathering. False exactly where the node was not asked or has
 /// answered; then nothing changes. A list is copied only where it is longer than the one that is kept of its view and
 /// group, or as long and of a lesser node. Where memory has run out nothing is said of the gathering.
-#[tactic(auto, unfolding(view_state::specs::Answers::answer_added), using(view_state::proofs::TailLaws::answer_keeps))]
+#[tactic(auto, unfolding(view_state::specs::Answers::add_answer), using(view_state::proofs::TailLaws::answer_keeps))]
 pub fn add_answer(
-    g: &mut Exchange,
+    exchange: &mut Exchange,
     alloc: Global,
     node: u8,
     inc: u32,
-    a: &AnswerRef,
+    answer: &AnswerRef,
 ) -> Result<bool, NoMemory>
-    ensures counts { IfOk result (λ b. b ≡ may_answer g.old node) }
-    ensures added { IfOk result (λ b. g.new ≡ answer_added g.old (answer_in node inc a.now) b) }
-    ensures tails { KeepsTails g.old → EachFits IsTail a.now.parts → IfOk result (λ _. KeepsTails g.new) }
+    ensures counts { IfOk result (λ b. b ≡ may_answer exchange.old node) }
+    ensures added { IfOk result (λ b. exchange.new
+        ≡ add_answer exchange.old (answer_in node inc answer.now) b) }
+    ensures tails { KeepsTails exchange.old → EachFits IsTail answer.now.parts
+        → IfOk result (λ _. KeepsTails exchange.new) }
 {
-    if !g.may_answer(node) {
+    if !exchange.may_answer(node) {
         return Ok(false);
     }
-    take(g, alloc, node, inc, a)?;
+    take(exchange, alloc, node, inc, answer)?;
     Ok(true)
 }

@@ -1,19 +1,21 @@
 //! Group parts as they stand in a datagram.
 ghost use Rattle.std.specs.Prelude.{◌≡◌, ◌++◌, ◌∷◌, [], length, IfOk, IfNone, IfSome, slice_get, option_copied};
 ghost use Rattle.std.specs.Option.{option_map};
-ghost use Rattle.rsct_packet.specs.Reading.{Gives, many_at};
-ghost use Rattle.rsct_packet.specs.Text.{IsName};
-ghost use Rattle.proposal_core.specs.EntryCodec.{IsEntry};
+ghost use Rattle.view_state.specs.rsct_packet.Reading.{Gives, many_at};
+ghost use Rattle.view_state.specs.rsct_packet.Text.{IsName};
+ghost use Rattle.view_state.specs.proposal_core.EntryCodec.{IsEntry};
 ghost use Rattle.group_codec.specs.InPlace.{entry_in};
 ghost use Rattle.view_state.specs.Codec.{sized_entry_at, group_part_at, IsPart, names_ascend, parts_at};
 ghost use Rattle.view_state.specs.Parts.{part_len, entry_of};
 ghost use Rattle.view_exchange.specs.InPlace.{part_in};
 
 use group_codec::{EntryRef, StateRef, read_entry, read_state};
-use proposal_core::Entry;
-use rsct_packet::{List, Name, NoMemory, known, read_name, read_part, read_u8, read_u32};
 use std::alloc::Global;
 use std::marker::Model;
+use view_state::proposal_core::Entry;
+use view_state::rsct_packet::{
+    List, Name, NoMemory, known, read_name, read_part, read_u8, read_u32,
+};
 use view_state::{Part, Parts, is_after};
 
 /// Entries in place, each behind its length.
@@ -25,9 +27,9 @@ pub struct EntriesRef<'a> {
 
 impl<'a> Model for EntriesRef<'a> {
     ghost use Rattle.std.specs.Prelude.{List, IsSome};
-    ghost use Rattle.rsct_packet.specs.Reading.{many_at};
-    ghost use Rattle.rsct_packet.specs.Listed.{items_in};
-    ghost use Rattle.proposal_core.specs.declared.entry.Entry.{Entry};
+    ghost use Rattle.view_state.specs.rsct_packet.Reading.{many_at};
+    ghost use Rattle.view_state.specs.rsct_packet.Listed.{items_in};
+    ghost use Rattle.view_state.specs.proposal_core.declared.entry.Entry.{Entry};
     ghost use Rattle.view_state.specs.Codec.{sized_entry_at};
 
     ghost Value = { List Entry };
@@ -56,8 +58,8 @@ pub struct PartsRef<'a> {
 
 impl<'a> Model for PartsRef<'a> {
     ghost use Rattle.std.specs.Prelude.{List, IsSome};
-    ghost use Rattle.rsct_packet.specs.Reading.{many_at};
-    ghost use Rattle.rsct_packet.specs.Listed.{items_in};
+    ghost use Rattle.view_state.specs.rsct_packet.Reading.{many_at};
+    ghost use Rattle.view_state.specs.rsct_packet.Listed.{items_in};
     ghost use Rattle.view_state.specs.declared.install.Part.{Part};
     ghost use Rattle.view_state.specs.Codec.{group_part_at};
 
@@ -70,29 +72,29 @@ impl<'a> Model for PartsRef<'a> {
 
 /// An entry behind its length.
 #[tactic(auto, unfolding(view_state::specs::Codec::sized_entry_at))]
-fn read_sized_entry(b: &[u8]) -> Option<(EntryRef<'_>, &[u8])>
-    ensures value { option_map (λ x. (entry_in x.0, x.1.now)) result ≡ sized_entry_at b.now }
+fn read_sized_entry(bytes: &[u8]) -> Option<(EntryRef<'_>, &[u8])>
+    ensures value { option_map (λ x. (entry_in x.0, x.1.now)) result ≡ sized_entry_at bytes.now }
     ensures entry { IfSome result (λ x. IsEntry (entry_in x.0)) }
 {
-    let (n, b) = read_u32(b)?;
-    let (text, b) = read_part(n as usize, b)?;
+    let (n, bytes) = read_u32(bytes)?;
+    let (text, bytes) = read_part(n as usize, bytes)?;
     let entry = read_entry(text)?;
-    Some((entry, b))
+    Some((entry, bytes))
 }
 
 /// So many entries, left where they stand.
-#[tactic(auto, using(rsct_packet::proofs::ListedLaws::skips_none, rsct_packet::proofs::ListedLaws::skips_more, rsct_packet::proofs::ListedLaws::skips_stop, rsct_packet::proofs::ListedLaws::skips_all, rsct_packet::proofs::ListedLaws::skips_some))]
-fn read_entries(count: usize, b: &[u8]) -> Option<(EntriesRef<'_>, &[u8])>
-    ensures { Gives result (many_at sized_entry_at count b.now) }
+#[tactic(auto, using(crate::proofs::Below::skip_search))]
+fn read_entries(count: usize, bytes: &[u8]) -> Option<(EntriesRef<'_>, &[u8])>
+    ensures { Gives result (many_at sized_entry_at count bytes.now) }
 {
-    let mut rest = b;
+    let mut rest = bytes;
     for _i in 0..count {
         match read_sized_entry(rest) {
             None => return None,
             Some((_entry, after)) => rest = after,
         }
     }
-    Some((EntriesRef { count, bytes: b }, rest))
+    Some((EntriesRef { count, bytes }, rest))
 }
 
 impl<'a> EntriesRef<'a> {
@@ -129,11 +131,11 @@ impl<'a> EntriesRef<'a> {
 
     /// The entry at this place, of which nothing is copied.
     #[tactic(auto, using(crate::proofs::Drops::dropped_one, crate::proofs::Drops::dropped_all, crate::proofs::Drops::got_one, crate::proofs::Drops::got_none))]
-    pub fn get(&self, i: usize) -> Option<EntryRef<'a>>
-        ensures { option_map (λ e. entry_in e) result ≡ slice_get self.now i }
+    pub fn get(&self, place: usize) -> Option<EntryRef<'a>>
+        ensures { option_map (λ e. entry_in e) result ≡ slice_get self.now place }
     {
         let mut left = self.copy();
-        for _k in 0..i {
+        for _k in 0..place {
             match left.take_first() {
                 None => return None,
                 Some(_entry) => {}
@@ -156,14 +158,14 @@ impl<'a> EntriesRef<'a> {
 }
 
 #[tactic(auto, unfolding(view_state::specs::Codec::group_part_at))]
-fn group_part_alone(b: &[u8]) -> Option<(PartRef<'_>, &[u8])>
-    ensures { option_map (λ x. (part_in x.0, x.1.now)) result ≡ group_part_at b.now }
+fn group_part_alone(bytes: &[u8]) -> Option<(PartRef<'_>, &[u8])>
+    ensures { option_map (λ x. (part_in x.0, x.1.now)) result ≡ group_part_at bytes.now }
 {
-    let (name, b) = read_name(b)?;
-    let (start, b) = read_u32(b)?;
-    let (state, b) = read_state(b)?;
-    let (count, b) = read_u32(b)?;
-    let (entries, b) = read_entries(count as usize, b)?;
+    let (name, bytes) = read_name(bytes)?;
+    let (start, bytes) = read_u32(bytes)?;
+    let (state, bytes) = read_state(bytes)?;
+    let (count, bytes) = read_u32(bytes)?;
+    let (entries, bytes) = read_entries(count as usize, bytes)?;
     if entries.len() > (u32::MAX - start) as usize {
         return None;
     }
@@ -174,17 +176,17 @@ fn group_part_alone(b: &[u8]) -> Option<(PartRef<'_>, &[u8])>
             state,
             entries,
         },
-        b,
+        bytes,
     ))
 }
 
 /// A group part off the front of bytes, with the bytes after it.
 #[tactic(auto, using(crate::proofs::Formats::part_fits))]
-fn read_group_part(b: &[u8]) -> Option<(PartRef<'_>, &[u8])>
-    ensures value { option_map (λ x. (part_in x.0, x.1.now)) result ≡ group_part_at b.now }
+fn read_group_part(bytes: &[u8]) -> Option<(PartRef<'_>, &[u8])>
+    ensures value { option_map (λ x. (part_in x.0, x.1.now)) result ≡ group_part_at bytes.now }
     ensures part { IfSome result (λ x. IsPart (part_in x.0)) }
 {
-    group_part_alone(known(b))
+    group_part_alone(known(bytes))
 }
 
 impl<'a> PartRef<'a> {
@@ -222,18 +224,18 @@ impl<'a> PartRef<'a> {
 }
 
 /// So many group parts, left where they stand.
-#[tactic(auto, using(rsct_packet::proofs::ListedLaws::skips_none, rsct_packet::proofs::ListedLaws::skips_more, rsct_packet::proofs::ListedLaws::skips_stop, rsct_packet::proofs::ListedLaws::skips_all, rsct_packet::proofs::ListedLaws::skips_some))]
-fn read_group_parts(count: usize, b: &[u8]) -> Option<(PartsRef<'_>, &[u8])>
-    ensures { Gives result (many_at group_part_at count b.now) }
+#[tactic(auto, using(crate::proofs::Below::skip_search))]
+fn read_group_parts(count: usize, bytes: &[u8]) -> Option<(PartsRef<'_>, &[u8])>
+    ensures { Gives result (many_at group_part_at count bytes.now) }
 {
-    let mut rest = b;
+    let mut rest = bytes;
     for _i in 0..count {
         match read_group_part(rest) {
             None => return None,
             Some((_part, after)) => rest = after,
         }
     }
-    Some((PartsRef { count, bytes: b }, rest))
+    Some((PartsRef { count, bytes }, rest))
 }
 
 impl<'a> PartsRef<'a> {
@@ -298,13 +300,13 @@ fn do_names_ascend(parts: &PartsRef) -> bool
 
 /// Group parts in name order, off the front of bytes, with the bytes after them.
 #[tactic(auto, unfolding(view_state::specs::Codec::parts_at))]
-pub fn read_parts(b: &[u8]) -> Option<(PartsRef<'_>, &[u8])>
-    ensures { Gives result (parts_at b.now) }
+pub fn read_parts(bytes: &[u8]) -> Option<(PartsRef<'_>, &[u8])>
+    ensures { Gives result (parts_at bytes.now) }
 {
-    let (count, b) = read_u8(b)?;
-    let (parts, b) = read_group_parts(count as usize, b)?;
+    let (count, bytes) = read_u8(bytes)?;
+    let (parts, bytes) = read_group_parts(count as usize, bytes)?;
     if !do_names_ascend(&parts) {
         return None;
     }
-    Some((parts, b))
+    Some((parts, bytes))
 }

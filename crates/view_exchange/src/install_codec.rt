@@ -1,19 +1,19 @@
 //! How installs are spelled.
 ghost use Rattle.std.specs.Prelude.{◌≡◌, ◌++◌, IfOk, IfSome, OnOk, OnErr, flat_map};
 ghost use Rattle.std.specs.Option.{option_map};
-ghost use Rattle.rsct_packet.specs.Format.{IsBytes, EachFits};
-ghost use Rattle.proposal_core.specs.EntryCodec.{whole};
+ghost use Rattle.view_state.specs.rsct_packet.Format.{IsBytes, EachFits};
+ghost use Rattle.view_state.specs.proposal_core.EntryCodec.{whole};
 ghost use Rattle.view_state.specs.Codec.{source_text, IsSource, has_member, comes_once, each_comes_once, members_ascend, is_in_order, install_at, install_text, IsInstall};
 ghost use Rattle.view_state.specs.Tails.{HasTails};
 ghost use Rattle.view_exchange.specs.SourcesInPlace.{install_in};
 
 use crate::sources_in_place::{SourcesRef, read_sources};
 use crate::writing::put_parts;
-use rsct_packet::{
+use std::alloc::Global;
+use view_state::rsct_packet::{
     Listed, Member, NODES, NoMemory, ViewId, known, put_list, put_mask, put_u8, put_view,
     read_list, read_view,
 };
-use std::alloc::Global;
 use view_state::{Install, Source};
 
 /// An install in place.
@@ -65,22 +65,22 @@ fn does_each_come_once(members: &Listed<Member>, sources: &SourcesRef) -> bool
     NODES.iter().all(|n| comes_once(members, sources, *n))
 }
 
-fn is_in_order(i: &InstallRef) -> bool
-    ensures { result ≡ is_in_order (install_in i.now) }
+fn is_in_order(install: &InstallRef) -> bool
+    ensures { result ≡ is_in_order (install_in install.now) }
 {
-    do_members_ascend(&i.members)
-        && i.sources.do_views_ascend()
-        && does_each_come_once(&i.members, &i.sources)
+    do_members_ascend(&install.members)
+        && install.sources.do_views_ascend()
+        && does_each_come_once(&install.members, &install.sources)
 }
 
 #[tactic(auto, unfolding(view_state::specs::Codec::install_at))]
-fn whole_install(b: &[u8]) -> Option<InstallRef<'_>>
-    ensures value { option_map (λ i. install_in i) result ≡ whole (install_at b.now) }
-    ensures bytes { IsBytes b.now }
+fn whole_install(bytes: &[u8]) -> Option<InstallRef<'_>>
+    ensures value { option_map (λ i. install_in i) result ≡ whole (install_at bytes.now) }
+    ensures bytes { IsBytes bytes.now }
 {
-    let (view, b) = read_view(known(b))?;
-    let (members, b) = read_list::<Member>(b)?;
-    let (sources, b) = read_sources(b)?;
+    let (view, bytes) = read_view(known(bytes))?;
+    let (members, bytes) = read_list::<Member>(bytes)?;
+    let (sources, bytes) = read_sources(bytes)?;
     let install = InstallRef {
         view,
         members,
@@ -89,7 +89,7 @@ fn whole_install(b: &[u8]) -> Option<InstallRef<'_>>
     if !is_in_order(&install) {
         return None;
     }
-    if b.len() != 0 {
+    if bytes.len() != 0 {
         return None;
     }
     Some(install)
@@ -97,12 +97,14 @@ fn whole_install(b: &[u8]) -> Option<InstallRef<'_>>
 
 impl<'a> InstallRef<'a> {
     /// Takes an install that spans all of the bytes, and copies nothing. None exactly where they spell none.
-    pub fn read(b: &'a [u8]) -> Option<InstallRef<'a>>
-        ensures value { option_map (λ i. install_in i) result ≡ whole (install_at b.now) }
-        ensures found { IfSome (option_map (λ i. install_in i) result) (λ i. IsInstall i × (b.now ≡ install_text i)) }
-        ensures only { (i : Install) → IsInstall i → b.now ≡ install_text i → option_map (λ x. install_in x) result ≡ Some i }
+    pub fn read(bytes: &'a [u8]) -> Option<InstallRef<'a>>
+        ensures value { option_map (λ i. install_in i) result ≡ whole (install_at bytes.now) }
+        ensures found { IfSome (option_map (λ i. install_in i) result) (λ i. IsInstall i
+            × (bytes.now ≡ install_text i)) }
+        ensures only { (i : Install) → IsInstall i → bytes.now ≡ install_text i
+            → option_map (λ x. install_in x) result ≡ Some i }
     {
-        whole_install(b)
+        whole_install(bytes)
     }
 
     /// An install of its own.
@@ -137,47 +139,48 @@ fn put_each_source(alloc: Global, out: &mut Vec<u8>, sources: &[Source]) -> Resu
     Ok(())
 }
 
-fn read_install_alone(alloc: Global, b: &[u8]) -> Result<Option<Install>, NoMemory>
-    ensures value { IfOk result (λ o. o ≡ whole (install_at b.now)) }
-    ensures bytes { IsBytes b.now }
+fn read_install_alone(alloc: Global, bytes: &[u8]) -> Result<Option<Install>, NoMemory>
+    ensures value { IfOk result (λ o. o ≡ whole (install_at bytes.now)) }
+    ensures bytes { IsBytes bytes.now }
 {
-    match whole_install(b) {
+    match whole_install(bytes) {
         None => Ok(None),
         Some(i) => Ok(Some(i.own(alloc)?)),
     }
 }
 
 /// Takes an install that spans all of the bytes. `Ok(None)` exactly where they spell none.
-pub fn read_install(alloc: Global, b: &[u8]) -> Result<Option<Install>, NoMemory>
-    ensures value { IfOk result (λ o. o ≡ whole (install_at b.now)) }
-    ensures found { IfOk result (λ o. IfSome o (λ i. IsInstall i × (b.now ≡ install_text i))) }
-    ensures only { (i : Install) → IsInstall i → b.now ≡ install_text i → IfOk result (λ o. o ≡ Some i) }
+pub fn read_install(alloc: Global, bytes: &[u8]) -> Result<Option<Install>, NoMemory>
+    ensures value { IfOk result (λ o. o ≡ whole (install_at bytes.now)) }
+    ensures found { IfOk result (λ o. IfSome o (λ i. IsInstall i × (bytes.now ≡ install_text i))) }
+    ensures only { (i : Install) → IsInstall i → bytes.now ≡ install_text i
+        → IfOk result (λ o. o ≡ Some i) }
     ensures tails { IfOk result (λ o. IfSome o HasTails) }
 {
-    read_install_alone(alloc, b)
+    read_install_alone(alloc, bytes)
 }
 
 /// The spelling, in memory of its own.
 #[tactic(auto, unfolding(view_state::specs::Codec::install_text), using(crate::proofs::Formats::member_nodes, std::proofs::lemmas::Grind::common_steps))]
-fn spelled(alloc: Global, i: &Install) -> Result<Vec<u8>, NoMemory>
-    requires { IsInstall i.now }
-    ensures { IfOk result (λ v. v.items ≡ install_text i.now) }
+fn spelled(alloc: Global, install: &Install) -> Result<Vec<u8>, NoMemory>
+    requires { IsInstall install.now }
+    ensures { IfOk result (λ v. v.items ≡ install_text install.now) }
 {
     let mut out = Vec::new(alloc);
-    put_view(&mut out, i.view)?;
-    put_list(&mut out, i.members.as_slice())?;
-    put_u8(&mut out, i.sources.len() as u8)?;
-    put_each_source(alloc, &mut out, i.sources.as_slice())?;
+    put_view(&mut out, install.view)?;
+    put_list(&mut out, install.members.as_slice())?;
+    put_u8(&mut out, install.sources.len() as u8)?;
+    put_each_source(alloc, &mut out, install.sources.as_slice())?;
     Ok(out)
 }
 
 /// Takes the spelling of an install to the end of `out`, and leaves `out` as before where memory has run out.
-pub fn put_install(alloc: Global, out: &mut Vec<u8>, i: &Install) -> Result<(), NoMemory>
-    requires { IsInstall i.now }
-    ensures ok { OnOk result (out.new.items ≡ out.old.items ++ install_text i.now) }
+pub fn put_install(alloc: Global, out: &mut Vec<u8>, install: &Install) -> Result<(), NoMemory>
+    requires { IsInstall install.now }
+    ensures ok { OnOk result (out.new.items ≡ out.old.items ++ install_text install.now) }
     ensures err { OnErr result (out.new.items ≡ out.old.items) }
 {
-    let text = spelled(alloc, i)?;
+    let text = spelled(alloc, install)?;
     out.extend_from_slice(text.as_slice())?;
     Ok(())
 }

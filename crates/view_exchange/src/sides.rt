@@ -1,19 +1,19 @@
 //! What an answer brings to the sides of a gathering.
 ghost use Rattle.std.specs.Prelude.{◌≡◌, ◌≤◌, ◌<◌, length, map, IfOk, IfSome, OnOk};
-ghost use Rattle.rsct_packet.specs.Text.{IsName};
-ghost use Rattle.rsct_packet.specs.Search.{place_where, front_len};
+ghost use Rattle.view_state.specs.rsct_packet.Text.{IsName};
+ghost use Rattle.view_state.specs.rsct_packet.Search.{place_where, front_len};
 ghost use Rattle.view_state.specs.Answers.{kept_of, is_beaten, better_of, is_kept_of, is_kept_above, with_kept, with_parts, side_with, side_from, is_side_of, is_side_above, with_side};
 ghost use Rattle.view_exchange.specs.InPlace.{part_in, answer_in};
 
 use crate::answer::AnswerRef;
 use crate::in_place::{PartRef, PartsRef};
 use crate::sources_in_place::is_earlier;
-use rsct_packet::{Mask, NoMemory, ViewId};
 use std::alloc::Global;
 use std::mem;
+use view_state::rsct_packet::{Mask, NoMemory, ViewId};
 use view_state::{Kept, KeptParts, Side, Sides, is_less};
 
-#[tactic(auto, using(rsct_packet::proofs::SearchLaws::place_begins, rsct_packet::proofs::SearchLaws::place_goes_on, rsct_packet::proofs::SearchLaws::place_found, rsct_packet::proofs::SearchLaws::place_missing))]
+#[tactic(auto, using(crate::proofs::Below::place_search))]
 fn kept_place_alone(kept: &[Kept], name: &[u8]) -> Option<usize>
     ensures { result ≡ place_where (is_kept_of name.now) kept.now }
 {
@@ -26,7 +26,7 @@ fn kept_place_alone(kept: &[Kept], name: &[u8]) -> Option<usize>
 }
 
 /// The place of the list of this group.
-#[tactic(auto, using(rsct_packet::proofs::SearchLaws::place_is_in))]
+#[tactic(auto, using(crate::proofs::Below::place_is_in))]
 fn kept_place(kept: &[Kept], name: &[u8]) -> Option<usize>
     ensures value { result ≡ place_where (is_kept_of name.now) kept.now }
     ensures within { IfSome result (λ i. i < length kept.now) }
@@ -34,7 +34,7 @@ fn kept_place(kept: &[Kept], name: &[u8]) -> Option<usize>
     kept_place_alone(kept, name)
 }
 
-#[tactic(auto, using(rsct_packet::proofs::SearchLaws::front_begins, rsct_packet::proofs::SearchLaws::front_goes_on, rsct_packet::proofs::SearchLaws::front_found, rsct_packet::proofs::SearchLaws::front_missing))]
+#[tactic(auto, using(crate::proofs::Below::front_search))]
 fn kept_front_alone(kept: &[Kept], name: &[u8]) -> usize
     ensures { result ≡ front_len (is_kept_above name.now) kept.now }
 {
@@ -47,7 +47,7 @@ fn kept_front_alone(kept: &[Kept], name: &[u8]) -> usize
 }
 
 /// Where a group that has none yet comes in.
-#[tactic(auto, using(rsct_packet::proofs::SearchLaws::front_is_in))]
+#[tactic(auto, using(crate::proofs::Below::front_is_in))]
 fn kept_front(kept: &[Kept], name: &[u8]) -> usize
     ensures value { result ≡ front_len (is_kept_above name.now) kept.now }
     ensures within { result ≤ length kept.now }
@@ -79,10 +79,11 @@ fn improve(kept: &mut Kept, alloc: Global, node: u8, part: &PartRef) -> Result<(
 
 /// Keeps a node's list where it is the first of its group, or beats the one that is kept. Nothing else of it is
 /// copied.
-#[tactic(auto, unfolding(view_state::specs::Answers::with_kept), using(rsct_packet::proofs::SearchLaws::set_is_edit, rsct_packet::proofs::SearchLaws::insert_at_front, std::proofs::lemmas::Grind::common_steps))]
+#[tactic(auto, unfolding(view_state::specs::Answers::with_kept), using(crate::proofs::Below::set_is_edit, crate::proofs::Below::insert_at_front, std::proofs::lemmas::Grind::common_steps))]
 fn keep(kept: &mut Vec<Kept>, alloc: Global, node: u8, part: &PartRef) -> Result<(), NoMemory>
     requires { IsName part.now.name.now }
-    ensures { OnOk result (kept.new.items ≡ with_kept kept.old.items (kept_of node (part_in part.now))) }
+    ensures { OnOk result (kept.new.items ≡ with_kept kept.old.items
+        (kept_of node (part_in part.now))) }
 {
     match kept_place(kept.as_slice(), part.name) {
         Some(i) => improve(&mut kept[i], alloc, node, part),
@@ -126,13 +127,13 @@ fn take_into(
     alloc: Global,
     node: u8,
     inc: u32,
-    a: &AnswerRef,
+    answer: &AnswerRef,
 ) -> Result<(), NoMemory>
-    ensures { OnOk result (side.new ≡ side_with (answer_in node inc a.now) side.old) }
+    ensures { OnOk result (side.new ≡ side_with (answer_in node inc answer.now) side.old) }
 {
     let none = KeptParts::of_items(Vec::new(alloc));
     let mut kept = mem::replace(&mut side.parts, none).into_items();
-    keep_all(&mut kept, alloc, node, &a.parts)?;
+    keep_all(&mut kept, alloc, node, &answer.parts)?;
     side.nodes = side.nodes.with(node);
     side.parts = KeptParts::of_items(kept);
     Ok(())
@@ -140,22 +141,22 @@ fn take_into(
 
 /// The side of one answer.
 #[tactic(auto, unfolding(view_state::specs::Answers::side_from))]
-fn side_of(alloc: Global, node: u8, inc: u32, a: &AnswerRef) -> Result<Side, NoMemory>
-    ensures { IfOk result (λ s. s ≡ side_from (answer_in node inc a.now)) }
+fn side_of(alloc: Global, node: u8, inc: u32, answer: &AnswerRef) -> Result<Side, NoMemory>
+    ensures { IfOk result (λ s. s ≡ side_from (answer_in node inc answer.now)) }
 {
     Ok(Side {
-        view: a.view,
+        view: answer.view,
         nodes: Mask::empty().with(node),
-        parts: kept_of_one(alloc, node, &a.parts)?,
+        parts: kept_of_one(alloc, node, &answer.parts)?,
     })
 }
 
-#[tactic(auto, using(rsct_packet::proofs::SearchLaws::place_begins, rsct_packet::proofs::SearchLaws::place_goes_on, rsct_packet::proofs::SearchLaws::place_found, rsct_packet::proofs::SearchLaws::place_missing))]
-fn side_place_alone(sides: &[Side], v: ViewId) -> Option<usize>
-    ensures { result ≡ place_where (is_side_of v) sides.now }
+#[tactic(auto, using(crate::proofs::Below::place_search))]
+fn side_place_alone(sides: &[Side], view: ViewId) -> Option<usize>
+    ensures { result ≡ place_where (is_side_of view) sides.now }
 {
     for (i, x) in sides.iter().enumerate() {
-        if x.view == v {
+        if x.view == view {
             return Some(i);
         }
     }
@@ -163,20 +164,20 @@ fn side_place_alone(sides: &[Side], v: ViewId) -> Option<usize>
 }
 
 /// The place of the side of this view.
-#[tactic(auto, using(rsct_packet::proofs::SearchLaws::place_is_in))]
-fn side_place(sides: &[Side], v: ViewId) -> Option<usize>
-    ensures value { result ≡ place_where (is_side_of v) sides.now }
+#[tactic(auto, using(crate::proofs::Below::place_is_in))]
+fn side_place(sides: &[Side], view: ViewId) -> Option<usize>
+    ensures value { result ≡ place_where (is_side_of view) sides.now }
     ensures within { IfSome result (λ i. i < length sides.now) }
 {
-    side_place_alone(sides, v)
+    side_place_alone(sides, view)
 }
 
-#[tactic(auto, using(rsct_packet::proofs::SearchLaws::front_begins, rsct_packet::proofs::SearchLaws::front_goes_on, rsct_packet::proofs::SearchLaws::front_found, rsct_packet::proofs::SearchLaws::front_missing))]
-fn side_front_alone(sides: &[Side], v: ViewId) -> usize
-    ensures { result ≡ front_len (is_side_above v) sides.now }
+#[tactic(auto, using(crate::proofs::Below::front_search))]
+fn side_front_alone(sides: &[Side], view: ViewId) -> usize
+    ensures { result ≡ front_len (is_side_above view) sides.now }
 {
     for (i, x) in sides.iter().enumerate() {
-        if is_earlier(v, x.view) {
+        if is_earlier(view, x.view) {
             return i;
         }
     }
@@ -184,29 +185,30 @@ fn side_front_alone(sides: &[Side], v: ViewId) -> usize
 }
 
 /// Where a view that has none yet comes in.
-#[tactic(auto, using(rsct_packet::proofs::SearchLaws::front_is_in))]
-fn side_front(sides: &[Side], v: ViewId) -> usize
-    ensures value { result ≡ front_len (is_side_above v) sides.now }
+#[tactic(auto, using(crate::proofs::Below::front_is_in))]
+fn side_front(sides: &[Side], view: ViewId) -> usize
+    ensures value { result ≡ front_len (is_side_above view) sides.now }
     ensures within { result ≤ length sides.now }
 {
-    side_front_alone(sides, v)
+    side_front_alone(sides, view)
 }
 
-#[tactic(auto, unfolding(view_state::specs::Answers::with_side), using(rsct_packet::proofs::SearchLaws::set_is_edit, rsct_packet::proofs::SearchLaws::insert_at_front, std::proofs::lemmas::Grind::common_steps))]
+#[tactic(auto, unfolding(view_state::specs::Answers::with_side), using(crate::proofs::Below::set_is_edit, crate::proofs::Below::insert_at_front, std::proofs::lemmas::Grind::common_steps))]
 fn take_among(
     sides: &mut Vec<Side>,
     alloc: Global,
     node: u8,
     inc: u32,
-    a: &AnswerRef,
+    answer: &AnswerRef,
 ) -> Result<(), NoMemory>
-    ensures { OnOk result (sides.new.items ≡ with_side sides.old.items (answer_in node inc a.now)) }
+    ensures { OnOk result (sides.new.items ≡ with_side sides.old.items
+        (answer_in node inc answer.now)) }
 {
-    match side_place(sides.as_slice(), a.view) {
-        Some(i) => take_into(&mut sides[i], alloc, node, inc, a),
+    match side_place(sides.as_slice(), answer.view) {
+        Some(i) => take_into(&mut sides[i], alloc, node, inc, answer),
         None => {
-            let at = side_front(sides.as_slice(), a.view);
-            let side = side_of(alloc, node, inc, a)?;
+            let at = side_front(sides.as_slice(), answer.view);
+            let side = side_of(alloc, node, inc, answer)?;
             sides.insert(at, side)?;
             Ok(())
         }
@@ -219,13 +221,13 @@ pub fn take_answer(
     alloc: Global,
     node: u8,
     inc: u32,
-    a: &AnswerRef,
+    answer: &AnswerRef,
 ) -> Result<(), NoMemory>
-    ensures { OnOk result (sides.new ≡ with_side sides.old (answer_in node inc a.now)) }
+    ensures { OnOk result (sides.new ≡ with_side sides.old (answer_in node inc answer.now)) }
 {
     let none = Sides::new(alloc);
     let mut items = mem::replace(sides, none).into_items();
-    take_among(&mut items, alloc, node, inc, a)?;
+    take_among(&mut items, alloc, node, inc, answer)?;
     *sides = Sides::of_items(items);
     Ok(())
 }

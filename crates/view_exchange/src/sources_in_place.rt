@@ -2,15 +2,15 @@
 ghost use Rattle.std.specs.Prelude.{◌≡◌, ◌++◌, ◌∷◌, [], IfOk, IfNone, IfSome, option_copied};
 ghost use Rattle.std.specs.Option.{option_map};
 ghost use Rattle.std.specs.Int.{w8};
-ghost use Rattle.rsct_packet.specs.Reading.{Gives, many_at, counted_at};
-ghost use Rattle.rsct_packet.specs.Ids.{view_lt};
+ghost use Rattle.view_state.specs.rsct_packet.Reading.{Gives, many_at, counted_at};
+ghost use Rattle.view_state.specs.rsct_packet.Ids.{view_lt};
 ghost use Rattle.view_state.specs.Codec.{source_at_front, is_after_view, views_ascend, comes_from};
 ghost use Rattle.view_exchange.specs.SourcesInPlace.{source_in};
 
 use crate::in_place::{PartsRef, read_parts};
-use rsct_packet::{List, Mask, NoMemory, ViewId, read_mask, read_u8, read_view};
 use std::alloc::Global;
 use std::marker::Model;
+use view_state::rsct_packet::{List, Mask, NoMemory, ViewId, read_mask, read_u8, read_view};
 use view_state::{Source, Sources};
 
 /// A source in place.
@@ -30,8 +30,8 @@ pub struct SourcesRef<'a> {
 
 impl<'a> Model for SourcesRef<'a> {
     ghost use Rattle.std.specs.Prelude.{List, IsSome};
-    ghost use Rattle.rsct_packet.specs.Reading.{many_at};
-    ghost use Rattle.rsct_packet.specs.Listed.{items_in};
+    ghost use Rattle.view_state.specs.rsct_packet.Reading.{many_at};
+    ghost use Rattle.view_state.specs.rsct_packet.Listed.{items_in};
     ghost use Rattle.view_state.specs.declared.install.Source.{Source};
     ghost use Rattle.view_state.specs.Codec.{source_at_front};
 
@@ -43,36 +43,36 @@ impl<'a> Model for SourcesRef<'a> {
 }
 
 #[tactic(auto, unfolding(view_state::specs::Codec::source_at_front))]
-fn read_source(b: &[u8]) -> Option<(SourceRef<'_>, &[u8])>
-    ensures { option_map (λ x. (source_in x.0, x.1.now)) result ≡ source_at_front b.now }
+fn read_source(bytes: &[u8]) -> Option<(SourceRef<'_>, &[u8])>
+    ensures { option_map (λ x. (source_in x.0, x.1.now)) result ≡ source_at_front bytes.now }
 {
-    let (view, b) = read_view(b)?;
-    let (nodes, b) = read_mask(b)?;
-    let (parts, b) = read_parts(b)?;
-    Some((SourceRef { view, nodes, parts }, b))
+    let (view, bytes) = read_view(bytes)?;
+    let (nodes, bytes) = read_mask(bytes)?;
+    let (parts, bytes) = read_parts(bytes)?;
+    Some((SourceRef { view, nodes, parts }, bytes))
 }
 
 /// So many sources, left where they stand.
-#[tactic(auto, using(rsct_packet::proofs::ListedLaws::skips_none, rsct_packet::proofs::ListedLaws::skips_more, rsct_packet::proofs::ListedLaws::skips_stop, rsct_packet::proofs::ListedLaws::skips_all, rsct_packet::proofs::ListedLaws::skips_some))]
-fn read_so_many(count: usize, b: &[u8]) -> Option<(SourcesRef<'_>, &[u8])>
-    ensures { Gives result (many_at source_at_front count b.now) }
+#[tactic(auto, using(crate::proofs::Below::skip_search))]
+fn read_so_many(count: usize, bytes: &[u8]) -> Option<(SourcesRef<'_>, &[u8])>
+    ensures { Gives result (many_at source_at_front count bytes.now) }
 {
-    let mut rest = b;
+    let mut rest = bytes;
     for _i in 0..count {
         match read_source(rest) {
             None => return None,
             Some((_source, after)) => rest = after,
         }
     }
-    Some((SourcesRef { count, bytes: b }, rest))
+    Some((SourcesRef { count, bytes }, rest))
 }
 
 /// A count of one byte and the sources, left where they stand.
-pub fn read_sources(b: &[u8]) -> Option<(SourcesRef<'_>, &[u8])>
-    ensures { Gives result (counted_at w8 source_at_front b.now) }
+pub fn read_sources(bytes: &[u8]) -> Option<(SourcesRef<'_>, &[u8])>
+    ensures { Gives result (counted_at w8 source_at_front bytes.now) }
 {
-    let (n, b) = read_u8(b)?;
-    read_so_many(n as usize, b)
+    let (n, bytes) = read_u8(bytes)?;
+    read_so_many(n as usize, bytes)
 }
 
 impl<'a> SourceRef<'a> {
@@ -166,8 +166,8 @@ fn is_after_view(last: Option<ViewId>, view: ViewId) -> bool
 }
 
 /// Is the first view less?
-pub fn is_earlier(a: ViewId, b: ViewId) -> bool
-    ensures { result ≡ view_lt a b }
+pub fn is_earlier(first: ViewId, second: ViewId) -> bool
+    ensures { result ≡ view_lt first second }
 {
-    a < b
+    first < second
 }

@@ -2,13 +2,13 @@
 use Rattle.std.specs.Prelude.{ℕ, Bool, true, false, not, ◌&&◌, ◌||◌, ◌==◌, List, [], ◌∷◌, map, length, fold, nat_lt, nat_le, Option, Some, None}
 use Rattle.std.specs.List.{list_any, list_all}
 use Rattle.std.specs.Str.{bytes_eq}
-use Rattle.rsct_packet.specs.declared.ids.ViewId.{ViewId}
-use Rattle.rsct_packet.specs.declared.ids.Member.{Member}
-use Rattle.rsct_packet.specs.declared.mask.Mask.{Mask}
-use Rattle.rsct_packet.specs.Ids.{same_view, view_lt}
-use Rattle.rsct_packet.specs.Mask.{no_nodes, has_node, with_node, nodes_of}
-use Rattle.rsct_packet.specs.Text.{name_lt}
-use Rattle.rsct_packet.specs.Search.{place_where, edit_where, insert_before}
+use Rattle.proposal_core.specs.rsct_packet.declared.ids.ViewId.{ViewId}
+use Rattle.proposal_core.specs.rsct_packet.declared.ids.Member.{Member}
+use Rattle.proposal_core.specs.rsct_packet.declared.mask.Mask.{Mask}
+use Rattle.proposal_core.specs.rsct_packet.Ids.{same_view, view_lt}
+use Rattle.proposal_core.specs.rsct_packet.Mask.{no_nodes, has_node, with_node, nodes_of}
+use Rattle.proposal_core.specs.rsct_packet.Text.{name_lt}
+use Rattle.proposal_core.specs.rsct_packet.Search.{place_where, edit_where, insert_before}
 use Rattle.view_state.specs.declared.answer.Answer.{Answer}
 use Rattle.view_state.specs.declared.exchange.Exchange.{Exchange}
 use Rattle.view_state.specs.declared.sides.Kept.{Kept}
@@ -96,9 +96,9 @@ unfoldable pub with_answer : Exchange → Answer → Exchange
 with_answer x a = record x { members = with_member x.members (member_of a); sides = with_side x.sides a }
 
 -- an answer counts only where it is the first of a node that was asked
-unfoldable pub answer_added : Exchange → Answer → Bool → Exchange
-answer_added x a false = x
-answer_added x a true = with_answer x a
+unfoldable pub add_answer : Exchange → Answer → Bool → Exchange
+add_answer x a false = x
+add_answer x a true = with_answer x a
 
 unfoldable pub all_answered : Exchange → Bool
 all_answered x = list_all (has_answered x) (nodes_of x.asked)
@@ -119,5 +119,5 @@ is_spelled i = list_all is_source_spelled i.sources
 
 -- opens each word of this file, for a computation
 unfoldable pub answers_open : Unit {0}
-unfolding opened has_answered may_answer with_kept with_parts side_with side_from with_side with_answer answer_added all_answered install_of is_spelled
+unfolding opened has_answered may_answer with_kept with_parts side_with side_from with_side with_answer add_answer all_answered install_of is_spelled
 answers_open = tt

@@ -1,11 +1,11 @@
 -- The rows of views: asking, answering, installing.
 use Rattle.std.specs.Prelude.{ℕ, Bool, true, false, not, ◌==◌, ◌&&◌, ◌||◌, ◌+◌, ◌++◌, List, [], ◌∷◌, map, filter, drop, length, max, Option, Some, None, nat_le, nat_lt, is_none}
 use Rattle.std.specs.List.{list_all}
-use Rattle.rsct_packet.specs.declared.ids.ViewId.{ViewId}
-use Rattle.rsct_packet.specs.declared.ids.Member.{Member}
-use Rattle.rsct_packet.specs.declared.mask.Mask.{Mask}
-use Rattle.rsct_packet.specs.Ids.{last_u32, same_view, view_lt, is_member, risen}
-use Rattle.rsct_packet.specs.Mask.{no_nodes, has_node, with_node, same_mask, nodes_of}
+use Rattle.proposal_core.specs.rsct_packet.declared.ids.ViewId.{ViewId}
+use Rattle.proposal_core.specs.rsct_packet.declared.ids.Member.{Member}
+use Rattle.proposal_core.specs.rsct_packet.declared.mask.Mask.{Mask}
+use Rattle.proposal_core.specs.rsct_packet.Ids.{last_u32, same_view, view_lt, is_member, risen}
+use Rattle.proposal_core.specs.rsct_packet.Mask.{no_nodes, has_node, with_node, same_mask, nodes_of}
 use Rattle.view_state.specs.declared.answer.Answer.{Answer}
 use Rattle.view_state.specs.declared.exchange.Exchange.{Exchange}
 use Rattle.view_state.specs.declared.install.Part.{Part}
@@ -55,26 +55,26 @@ unfoldable pub promised : ViewWork → ViewId → ViewWork
 promised w v = record w { views = record (w.views) { promise = v; gathering = None } }
 
 -- sent to the others ascending, and then applied here; an install without a spelling is dropped
-unfoldable pub installs : ViewWork → Install → Bool → ViewWork
-installs w i false = w
-installs w i true = record (view_sent_all w (others_of w.views.me i.members) (packet.Install i)) { install = Some i }
+unfoldable pub begin_install : ViewWork → Install → Bool → ViewWork
+begin_install w i false = w
+begin_install w i true = record (view_sent_all w (others_of w.views.me i.members) (packet.Install i)) { install = Some i }
 
 -- the gathering goes on, or all have answered
 unfoldable pub gathered : ViewWork → Exchange → Bool → ViewWork
 gathered w g false = gathering_set w (Some g)
-gathered w g true = installs (gathering_set w None) (install_of g) (is_spelled (install_of g))
+gathered w g true = begin_install (gathering_set w None) (install_of g) (is_spelled (install_of g))
 
-unfoldable pub gathers : ViewWork → Exchange → ViewWork
-gathers w g = gathered w g (all_answered g)
+unfoldable pub gather_on : ViewWork → Exchange → ViewWork
+gather_on w g = gathered w g (all_answered g)
 
 abbrev pub own_answer : Views → List Part → Answer
 own_answer s parts = record { node = s.me; inc = s.inc; view = s.view; parts = parts }
 
 -- an own answer without a spelling: the promise stands, and nobody is asked
-unfoldable pub asks_view : ViewWork → ViewId → Mask → List Part → Bool → ViewWork
-asks_view w v mask parts false = promised w v
-asks_view w v mask parts true =
-    gathers
+unfoldable pub ask_others : ViewWork → ViewId → Mask → List Part → Bool → ViewWork
+ask_others w v mask parts false = promised w v
+ask_others w v mask parts true =
+    gather_on
     (view_sent_all (promised w v) (filter (λ n. not (n == w.views.me)) (nodes_of mask)) (packet.Prepare v mask))
     (with_answer (opened v mask) (own_answer w.views parts))
 
@@ -88,7 +88,7 @@ may_ask s mask = has_node mask s.me && nat_lt (max s.promise.number s.floor) las
 
 unfoldable pub ask_if : ViewWork → Mask → List Part → Bool → ViewWork
 ask_if w mask parts false = w
-ask_if w mask parts true = asks_view w (next_view w.views) mask parts (nat_le (length parts) max_parts)
+ask_if w mask parts true = ask_others w (next_view w.views) mask parts (nat_le (length parts) max_parts)
 
 -- an order to ask for a view of these nodes, with the node's own lists
 unfoldable pub ask_row : ViewWork → Mask → List Part → ViewWork
@@ -100,21 +100,21 @@ answered w v parts =
     elim (nat_le (length parts) max_parts) [ true ↦ view_sent w v.coord (packet.Answer v w.views.view parts) | false ↦ w ]
 
 -- above the promise, the promise that is not the view yet, or below the promise
-unfoldable pub prepared : ViewWork → ViewId → List Part → Bool → Bool → Bool → ViewWork
-prepared w v parts true again below = answered (promised w v) v parts
-prepared w v parts false true below = answered w v parts
-prepared w v parts false false true = view_sent w v.coord (packet.Refuse v w.views.promise.number)
-prepared w v parts false false false = w
+unfoldable pub prepare : ViewWork → ViewId → List Part → Bool → Bool → Bool → ViewWork
+prepare w v parts true again below = answered (promised w v) v parts
+prepare w v parts false true below = answered w v parts
+prepare w v parts false false true = view_sent w v.coord (packet.Refuse v w.views.promise.number)
+prepare w v parts false false false = w
 
 -- PREPARE, from a node in an incarnation
 unfoldable pub prepare_row : ViewWork → ℕ → ℕ → ViewId → Mask → List Part → ViewWork
 prepare_row w from inc v mask parts =
     let asked : Bool = v.coord == from && v.inc == inc && has_node mask w.views.me in
-    prepared w v parts (asked && view_lt w.views.promise v) (asked && same_view v w.views.promise && not (same_view v w.views.view)) (view_lt v w.views.promise)
+    prepare w v parts (asked && view_lt w.views.promise v) (asked && same_view v w.views.promise && not (same_view v w.views.view)) (view_lt v w.views.promise)
 
 unfoldable pub answer_to : ViewWork → ViewId → Answer → Option Exchange → ViewWork
 answer_to w v a None = w
-answer_to w v a (Some g) = elim (same_view g.view v && may_answer g a.node) [ true ↦ gathers w (with_answer g a) | false ↦ w ]
+answer_to w v a (Some g) = elim (same_view g.view v && may_answer g a.node) [ true ↦ gather_on w (with_answer g a) | false ↦ w ]
 
 -- ANSWER
 unfoldable pub answer_row : ViewWork → ViewId → Answer → ViewWork
@@ -151,9 +151,9 @@ unfoldable pub aged : Exchange → Exchange
 aged g = record g { age = risen g.age }
 
 -- PREPARE again to those that have not answered
-unfoldable pub prepared_again : ViewWork → Option Exchange → ViewWork
-prepared_again w None = w
-prepared_again w (Some g) =
+unfoldable pub prepare_again : ViewWork → Option Exchange → ViewWork
+prepare_again w None = w
+prepare_again w (Some g) =
     view_sent_all (gathering_set w (Some (aged g))) (filter (λ n. not (has_answered g n)) (nodes_of g.asked)) (packet.Prepare g.view g.asked)
 
 -- frozen without a gathering
@@ -172,17 +172,17 @@ was_stuck s = is_stuck s && list_all (λ b. b) s.stuck
 unfoldable pub tick_asks : Views → RingAsk → Bool
 tick_asks s a = a.is_least && (a.is_due || was_stuck s) && may_ask_anew a.mask s.gathering
 
-unfoldable pub stuck_noted : ViewWork → ViewWork
-stuck_noted w = record w { views = record (w.views) { stuck = drop 1 w.views.stuck ++ is_stuck w.views ∷ [] } }
+unfoldable pub note_stuck : ViewWork → ViewWork
+note_stuck w = record w { views = record (w.views) { stuck = drop 1 w.views.stuck ++ is_stuck w.views ∷ [] } }
 
 unfoldable pub asks_or_ages : ViewWork → RingAsk → List Part → Bool → ViewWork
 asks_or_ages w a parts true = ask_row w a.mask parts
-asks_or_ages w a parts false = prepared_again w w.views.gathering
+asks_or_ages w a parts false = prepare_again w w.views.gathering
 
 -- without rings, nobody is asked anew
 unfoldable pub gathering_ticks : ViewWork → Option RingAsk → List Part → ViewWork
-gathering_ticks w None parts = prepared_again w w.views.gathering
-gathering_ticks w (Some a) parts = asks_or_ages (stuck_noted w) a parts (tick_asks w.views a)
+gathering_ticks w None parts = prepare_again w w.views.gathering
+gathering_ticks w (Some a) parts = asks_or_ages (note_stuck w) a parts (tick_asks w.views a)
 
 unfoldable pub install_again_of : ViewWork → Option Install → ViewWork
 install_again_of w None = w
@@ -199,5 +199,5 @@ views_at_work s = record { views = s; sends = []; install = None }
 
 -- opens each word of this file, for a computation
 unfoldable pub views_open : Unit {0}
-unfolding is_frozen is_coordinator others_of views_new own_install views_entered view_sent view_sent_all gathering_set promised installs gathered gathers asks_view next_view may_ask ask_if ask_row answered prepared prepare_row answer_to answer_row refused_by refuse_to refuse_row installed install_row taken_row aged prepared_again is_stuck may_ask_anew was_stuck tick_asks stuck_noted asks_or_ages gathering_ticks install_again_of install_again
+unfolding is_frozen is_coordinator others_of views_new own_install views_entered view_sent view_sent_all gathering_set promised begin_install gathered gather_on ask_others next_view may_ask ask_if ask_row answered prepare prepare_row answer_to answer_row refused_by refuse_to refuse_row installed install_row taken_row aged prepare_again is_stuck may_ask_anew was_stuck tick_asks note_stuck asks_or_ages gathering_ticks install_again_of install_again
 views_open = tt

@@ -1,7 +1,7 @@
 //! What an install tells of itself.
 ghost use Rattle.std.specs.Prelude.{◌≡◌, find, option_copied};
-ghost use Rattle.rsct_packet.specs.Mask.{has_node};
-ghost use Rattle.rsct_packet.specs.Ids.{is_member};
+ghost use Rattle.proposal_core.specs.rsct_packet.Mask.{has_node};
+ghost use Rattle.proposal_core.specs.rsct_packet.Ids.{is_member};
 ghost use Rattle.view_state.specs.Answers.{is_spelled, is_source_spelled};
 ghost use Rattle.view_state.specs.Parts.{entry_of};
 ghost use Rattle.view_state.specs.Carried.{carried_at, carried_len, carried_entry, came_from};
@@ -10,7 +10,7 @@ ghost use Rattle.view_state.specs.Bases.{source_at};
 
 use crate::install::{Install, Part, Source};
 use proposal_core::Entry;
-use rsct_packet::{Members, ViewId};
+use proposal_core::rsct_packet::{Members, ViewId};
 
 /// How many parts a source has at most.
 const MAX_PARTS: usize = 255;
@@ -69,35 +69,39 @@ impl Install {
     }
 
     #[tactic(auto, unfolding(crate::specs::Bases::source_at))]
-    fn source(&self, u: ViewId) -> Option<&Source>
-        ensures { option_copied result ≡ source_at self.now.sources u }
+    fn source(&self, view: ViewId) -> Option<&Source>
+        ensures { option_copied result ≡ source_at self.now.sources view }
     {
-        self.sources.as_slice().iter().find(|s| s.view == u)
+        self.sources.as_slice().iter().find(|s| s.view == view)
     }
 
     /// The list of a group that is carried of an old view.
     #[tactic(auto, unfolding(crate::specs::Carried::carried_at, crate::specs::Bases::parts_from))]
-    pub fn part(&self, u: ViewId, g: &[u8]) -> Option<&Part>
-        ensures { option_copied result ≡ carried_at self.now u g.now }
+    pub fn part(&self, view: ViewId, group: &[u8]) -> Option<&Part>
+        ensures { option_copied result ≡ carried_at self.now view group.now }
     {
-        let source = self.source(u)?;
-        source.parts.as_slice().iter().find(|p| p.name.bytes() == g)
+        let source = self.source(view)?;
+        source
+            .parts
+            .as_slice()
+            .iter()
+            .find(|p| p.name.bytes() == group)
     }
 
     /// The length of the list of a group that is carried of an old view; none exactly where none is carried.
     #[tactic(auto, unfolding(crate::specs::Carried::carried_len))]
-    pub fn len(&self, u: ViewId, g: &[u8]) -> Option<u128>
-        ensures { result ≡ carried_len self.now u g.now }
+    pub fn len(&self, view: ViewId, group: &[u8]) -> Option<u128>
+        ensures { result ≡ carried_len self.now view group.now }
     {
-        Some(self.part(u, g)?.len())
+        Some(self.part(view, group)?.len())
     }
 
     /// The entry of that list at a place; none exactly where the install has none there.
     #[tactic(auto, unfolding(crate::specs::Carried::carried_entry))]
-    pub fn entry(&self, u: ViewId, g: &[u8], place: u32) -> Option<&Entry>
-        ensures { option_copied result ≡ carried_entry self.now u g.now place }
+    pub fn entry(&self, view: ViewId, group: &[u8], place: u32) -> Option<&Entry>
+        ensures { option_copied result ≡ carried_entry self.now view group.now place }
     {
-        self.part(u, g)?.entry(place)
+        self.part(view, group)?.entry(place)
     }
 
     fn is_node(&self, node: u8) -> bool

@@ -3,7 +3,7 @@ ghost use Rattle.std.specs.Prelude.{◌≡◌, IfOk};
 
 use crate::install::{Install, Part, Source};
 use proposal_core::Entry;
-use rsct_packet::{List, NoMemory};
+use proposal_core::rsct_packet::{List, NoMemory};
 use std::alloc::Global;
 
 /// What can be copied where there is memory.
@@ -13,11 +13,11 @@ trait Copied: Drop + Sized {
 }
 
 /// A list of copies.
-fn copy_all<T: Copied>(alloc: Global, xs: &[T]) -> Result<List<T>, NoMemory>
-    ensures { IfOk result (λ l. l ≡ xs.now) }
+fn copy_all<T: Copied>(alloc: Global, items: &[T]) -> Result<List<T>, NoMemory>
+    ensures { IfOk result (λ l. l ≡ items.now) }
 {
     let mut out = List::new(alloc);
-    for x in xs {
+    for x in items {
         out.push(x.copied(alloc)?)?;
     }
     Ok(out)

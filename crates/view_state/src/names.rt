@@ -1,13 +1,13 @@
 //! The order of names.
 ghost use Rattle.std.specs.Prelude.{◌≡◌, option_copied};
-ghost use Rattle.rsct_packet.specs.Text.{name_lt};
+ghost use Rattle.proposal_core.specs.rsct_packet.Text.{name_lt};
 ghost use Rattle.view_state.specs.Codec.{is_after};
 
 /// Is the first name less?
-pub fn is_less(a: &[u8], b: &[u8]) -> bool
-    ensures { result ≡ name_lt a.now b.now }
+pub fn is_less(first: &[u8], second: &[u8]) -> bool
+    ensures { result ≡ name_lt first.now second.now }
 {
-    a.cmp(b).is_lt()
+    first.cmp(second).is_lt()
 }
 
 /// Does the name come after the last one, if there was one?

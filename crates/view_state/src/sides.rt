@@ -4,7 +4,7 @@ ghost use Rattle.view_state.specs.Answers.{kept_of, side_from, source_of};
 
 use crate::answer::Answer;
 use crate::install::{Part, Parts, Source, Sources};
-use rsct_packet::{List, Mask, NoMemory, ViewId};
+use proposal_core::rsct_packet::{List, Mask, NoMemory, ViewId};
 use std::alloc::Global;
 use std::marker::Model;
 
@@ -94,13 +94,13 @@ impl KeptParts {
 
 impl Side {
     #[tactic(auto, unfolding(crate::specs::Answers::side_from))]
-    fn of_answer(alloc: Global, a: Answer) -> Result<Side, NoMemory>
-        ensures { IfOk result (λ s. s ≡ side_from a) }
+    fn of_answer(alloc: Global, answer: Answer) -> Result<Side, NoMemory>
+        ensures { IfOk result (λ s. s ≡ side_from answer) }
     {
         Ok(Side {
-            view: a.view,
-            nodes: Mask::empty().with(a.node),
-            parts: KeptParts::of_parts(alloc, a.node, a.parts)?,
+            view: answer.view,
+            nodes: Mask::empty().with(answer.node),
+            parts: KeptParts::of_parts(alloc, answer.node, answer.parts)?,
         })
     }
 
@@ -125,11 +125,11 @@ impl Sides {
     }
 
     /// The side of one answer.
-    pub fn one(alloc: Global, a: Answer) -> Result<Sides, NoMemory>
-        ensures { IfOk result (λ l. l ≡ side_from a ∷ []) }
+    pub fn one(alloc: Global, answer: Answer) -> Result<Sides, NoMemory>
+        ensures { IfOk result (λ l. l ≡ side_from answer ∷ []) }
     {
         let mut items = Vec::new(alloc);
-        items.push(Side::of_answer(alloc, a)?)?;
+        items.push(Side::of_answer(alloc, answer)?)?;
         Ok(Sides { items })
     }
 

@@ -5,7 +5,7 @@ ghost use Rattle.view_state.specs.Views.{is_frozen, is_coordinator, is_stuck, vi
 use crate::exchange::Exchange;
 use crate::install::Install;
 use crate::packet::ViewSends;
-use rsct_packet::{List, Mask, Members, NoMemory, ViewId};
+use proposal_core::rsct_packet::{List, Mask, Members, NoMemory, ViewId};
 use std::alloc::Global;
 
 /// What a node of this number and incarnation knows of views: the one that it is in and its members; the one that
@@ -101,7 +101,8 @@ impl Views {
 
     /// Notes for this tick whether it is stuck, and forgets it of the tick three before.
     pub fn note_stuck(&mut self)
-        ensures { self.new ≡ record self.old { stuck = drop 1 self.old.stuck ++ is_stuck self.old ∷ [] } }
+        ensures { self.new ≡ record self.old { stuck = drop 1 self.old.stuck
+            ++ is_stuck self.old ∷ [] } }
     {
         let stuck = self.is_stuck();
         let [_, second, third] = self.stuck;
@@ -117,16 +118,16 @@ impl Views {
 
     /// Enters the view of an install. Its coordinator keeps the install, and has taken it.
     #[tactic(auto, unfolding(crate::specs::Views::views_entered, crate::specs::Views::own_install))]
-    pub fn enter(&mut self, alloc: Global, i: Install) -> Result<(), NoMemory>
-        ensures { OnOk result (self.new ≡ views_entered self.old i) }
+    pub fn enter(&mut self, alloc: Global, install: Install) -> Result<(), NoMemory>
+        ensures { OnOk result (self.new ≡ views_entered self.old install) }
     {
-        self.members = List::of(alloc, i.members.as_slice())?;
-        self.view = i.view;
-        self.promise = i.view;
+        self.members = List::of(alloc, install.members.as_slice())?;
+        self.view = install.view;
+        self.promise = install.view;
         self.gathering = None;
         self.taken = Mask::empty().with(self.me);
-        self.install = if i.view.coord == self.me && i.view.inc == self.inc {
-            Some(i)
+        self.install = if install.view.coord == self.me && install.view.inc == self.inc {
+            Some(install)
         } else {
             None
         };

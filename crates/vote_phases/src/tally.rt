@@ -1,15 +1,15 @@
 //! The tally of one phase.
 ghost use Rattle.std.specs.Prelude.{◌≡◌, ◌≤◌, map, length, Some, None, IfOk};
-ghost use Rattle.rsct_packet.specs.Providers.{AreProviders};
+ghost use Rattle.proposal_core.specs.rsct_packet.Providers.{AreProviders};
 ghost use Rattle.vote_phases.specs.Tally.{no_vote, tally_new, tally_cast, tally_fail, tally_tick, passes, counted, cast_answer, row_at, expires, open_voters, outcome};
 
 use crate::voter::{
     Voter, give, give_all, is_one_open, one_continues, one_rejects, open_among, voter_of,
 };
 use arrayvec::ArrayVec;
-use group_attr::DefaultVote;
+use proposal_core::group_attr::DefaultVote;
+use proposal_core::rsct_packet::{NoMemory, ProviderId, Providers};
 use proposal_core::{Row, RowVote, Vote};
-use rsct_packet::{NoMemory, ProviderId, Providers};
 use std::alloc::Global;
 use std::marker::Model;
 
@@ -51,12 +51,12 @@ impl Model for Tally {
 
 /// Providers that have not voted, in order.
 #[tactic(auto, using(std::proofs::lemmas::List::map_more, std::proofs::lemmas::Grind::common_steps))]
-fn without_rows(ps: &[ProviderId]) -> ArrayVec<Voter, 64>
-    requires { length ps.now ≤ 64 }
-    ensures { result.items ≡ map no_vote ps.now }
+fn without_rows(providers: &[ProviderId]) -> ArrayVec<Voter, 64>
+    requires { length providers.now ≤ 64 }
+    ensures { result.items ≡ map no_vote providers.now }
 {
     let mut voters = ArrayVec::new();
-    for p in ps {
+    for p in providers {
         voters.push(Voter { p: *p, vote: None });
     }
     voters
@@ -94,25 +94,25 @@ impl Tally {
 
     /// Takes a vote, unless its provider does not vote or a row stands for it already.
     #[tactic(auto, using(crate::proofs::VoterLaws::are_given_to, std::proofs::lemmas::Grind::common_steps))]
-    pub fn cast(&mut self, p: ProviderId, vote: Vote) -> Cast
-        ensures tally { self.new ≡ tally_cast p vote self.old }
-        ensures answer { result ≡ cast_answer p self.old }
+    pub fn cast(&mut self, provider: ProviderId, vote: Vote) -> Cast
+        ensures tally { self.new ≡ tally_cast provider vote self.old }
+        ensures answer { result ≡ cast_answer provider self.old }
     {
-        let answer = match voter_of(self.voters.as_slice(), p) {
+        let answer = match voter_of(self.voters.as_slice(), provider) {
             None => Cast::NotVoter,
             Some(voter) => voter.answer(),
         };
-        give(self.voters.as_mut_slice(), p, RowVote::Cast(vote));
+        give(self.voters.as_mut_slice(), provider, RowVote::Cast(vote));
         answer
     }
 
     /// The default vote stands for a provider that failed, unless it has voted.
     #[tactic(auto, using(crate::proofs::VoterLaws::are_given_to, std::proofs::lemmas::Grind::common_steps))]
-    pub fn fail(&mut self, p: ProviderId)
-        ensures { self.new ≡ tally_fail p self.old }
+    pub fn fail(&mut self, provider: ProviderId)
+        ensures { self.new ≡ tally_fail provider self.old }
     {
         let row = RowVote::Failed(self.default);
-        give(self.voters.as_mut_slice(), p, row);
+        give(self.voters.as_mut_slice(), provider, row);
     }
 
     /// Counts a tick. The one that brings the count to the limit has the default vote stand for each voter
@@ -144,10 +144,10 @@ impl Tally {
     }
 
     /// The row of the voter at this place; none while it has none, and where no voter stands there.
-    pub fn row(&self, i: usize) -> Option<Row>
-        ensures { result ≡ row_at i self.now }
+    pub fn row(&self, place: usize) -> Option<Row>
+        ensures { result ≡ row_at place self.now }
     {
-        match self.voters.as_slice().get(i) {
+        match self.voters.as_slice().get(place) {
             None => None,
             Some(voter) => voter.row(),
         }

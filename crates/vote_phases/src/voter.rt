@@ -4,9 +4,9 @@ ghost use Rattle.std.specs.List.{list_any};
 ghost use Rattle.vote_phases.specs.Tally.{given, given_to, is_voter, is_open, vote_of_default, vote_of_row as vote_of_row_of, row_in, answer_of, voter_stands, is_reject, is_continue};
 
 use crate::tally::Cast;
-use group_attr::DefaultVote;
+use proposal_core::group_attr::DefaultVote;
+use proposal_core::rsct_packet::{NoMemory, ProviderId};
 use proposal_core::{Row, RowVote, Vote};
-use rsct_packet::{NoMemory, ProviderId};
 use std::alloc::Global;
 
 /// A voter and what stands for it: none while it may still vote.
@@ -28,10 +28,14 @@ impl Voter {
     }
 
     /// With a row, if it is this provider and has none.
-    fn given_to(self, p: ProviderId, vote: RowVote) -> Voter
-        ensures { result ≡ given_to p vote self }
+    fn given_to(self, provider: ProviderId, vote: RowVote) -> Voter
+        ensures { result ≡ given_to provider vote self }
     {
-        if self.p == p { self.given(vote) } else { self }
+        if self.p == provider {
+            self.given(vote)
+        } else {
+            self
+        }
     }
 
     fn is_open(&self) -> bool
@@ -99,11 +103,11 @@ pub fn vote_of_row(row: RowVote) -> Vote
 }
 
 /// Gives a provider a row, unless it has one.
-pub(crate) fn give(voters: &mut [Voter], p: ProviderId, vote: RowVote)
-    ensures { voters.new ≡ map (given_to p vote) voters.old }
+pub(crate) fn give(voters: &mut [Voter], provider: ProviderId, vote: RowVote)
+    ensures { voters.new ≡ map (given_to provider vote) voters.old }
 {
     for i in 0..voters.len() {
-        voters[i] = voters[i].given_to(p, vote);
+        voters[i] = voters[i].given_to(provider, vote);
     }
 }
 
@@ -117,10 +121,10 @@ pub(crate) fn give_all(voters: &mut [Voter], vote: RowVote)
 }
 
 /// The voter that is this provider.
-pub(crate) fn voter_of(voters: &[Voter], p: ProviderId) -> Option<&Voter>
-    ensures { option_copied result ≡ find (is_voter p) voters.now }
+pub(crate) fn voter_of(voters: &[Voter], provider: ProviderId) -> Option<&Voter>
+    ensures { option_copied result ≡ find (is_voter provider) voters.now }
 {
-    voters.iter().find(|x| x.p == p)
+    voters.iter().find(|x| x.p == provider)
 }
 
 /// Is there a voter without a row?

@@ -1,13 +1,12 @@
 //! The bytes of a packet.
 ghost use Rattle.std.specs.Prelude.{◌≡◌, IfOk, Some};
-ghost use Rattle.node_state.specs.Bytes.{packet_of, packet_len};
+ghost use Rattle.world_model.specs.node_state.Bytes.{packet_of, packet_len};
 
-use crate::bodies::is_writable;
-use node_state::Packet;
-use packet_codec::write_packet;
-use rsct_packet::NoMemory;
+use packet_codec::{is_writable, write_packet};
 use std::alloc::Global;
 use std::marker::Model;
+use world_model::node_state::Packet;
+use world_model::rsct_packet::NoMemory;
 
 /// A packet as the bytes that spell it.
 #[derive(Drop)]
@@ -16,7 +15,7 @@ pub struct Datagram {
 }
 
 impl Model for Datagram {
-    ghost use Rattle.node_state.specs.declared.packet.Packet.{Packet};
+    ghost use Rattle.world_model.specs.node_state.declared.packet.Packet.{Packet};
     ghost use Rattle.world_packets.specs.Reading.{packet_as, IsDatagram};
 
     ghost Value = { Packet };
@@ -30,14 +29,14 @@ impl Datagram {
     /// The bytes of a packet. One that has no spelling, since its numbers, lists or texts pass what its fields can
     /// hold, counts as want of memory: no packet of a node is so, but that is not proved.
     #[tactic(auto, using(crate::proofs::DatagramLaws::packet_again, crate::proofs::DatagramLaws::is_datagram))]
-    pub fn of(alloc: Global, p: &Packet) -> Result<Datagram, NoMemory>
-        ensures { IfOk result (λ d. d ≡ p.now) }
+    pub fn of(alloc: Global, packet: &Packet) -> Result<Datagram, NoMemory>
+        ensures { IfOk result (λ d. d ≡ packet.now) }
     {
-        if !is_writable(p) {
+        if !is_writable(packet) {
             return Err(NoMemory);
         }
         let mut bytes = Vec::new(alloc);
-        write_packet(alloc, &mut bytes, p)?;
+        write_packet(alloc, &mut bytes, packet)?;
         Ok(Datagram { bytes })
     }
 

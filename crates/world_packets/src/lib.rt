@@ -1,16 +1,14 @@
 //! The packets of a world: as the bytes of datagrams, all that were ever sent, and those that wait to be given.
 #![tactic(auto)]
 
-mod bodies;
 mod datagram;
-mod entries;
-mod ids;
-mod kept;
-mod lists;
+mod packets;
 mod pairs;
 mod waiting;
 
 pub use datagram::Datagram;
-pub use kept::WorldPackets;
+pub use packets::WorldPackets;
 pub use pairs::Pair;
 pub use waiting::Waiting;
+pub use world_model;
+pub use world_model::{node_state, rsct_packet};

@@ -1,12 +1,12 @@
 //! All packets from one node to another.
 ghost use Rattle.std.specs.Prelude.{◌≡◌, ◌+◌, find, option_copied, IfOk, OnOk};
-ghost use Rattle.rsct_packet.specs.Search.{place_where};
+ghost use Rattle.world_model.specs.rsct_packet.Search.{place_where};
 ghost use Rattle.world_model.specs.World.{kth_in, count_in, pairs_with};
 ghost use Rattle.world_packets.specs.Packets.{is_from, world_pairs, find_pair};
 
 use crate::Datagram;
-use rsct_packet::{List, NoMemory};
 use std::alloc::Global;
+use world_model::rsct_packet::{List, NoMemory};
 
 /// All packets that were ever sent from one node to another, in order.
 #[derive(Drop)]
@@ -17,19 +17,19 @@ pub struct Pair {
 }
 
 /// Is it of these two nodes?
-fn is_from(p: &Pair, a: u8, b: u8) -> bool
-    ensures { result ≡ is_from a b p.now }
+fn is_from(pair: &Pair, from: u8, to: u8) -> bool
+    ensures { result ≡ is_from from to pair.now }
 {
-    p.from == a && p.to == b
+    pair.from == from && pair.to == to
 }
 
 /// The place of the pair of two nodes.
-#[tactic(auto, using(rsct_packet::proofs::SearchLaws::place_begins, rsct_packet::proofs::SearchLaws::place_goes_on, rsct_packet::proofs::SearchLaws::place_found, rsct_packet::proofs::SearchLaws::place_missing))]
-pub fn place_of(pairs: &[Pair], a: u8, b: u8) -> Option<usize>
-    ensures { result ≡ place_where (is_from a b) pairs.now }
+#[tactic(auto, using(crate::proofs::Below::place_search))]
+pub fn place_of(pairs: &[Pair], from: u8, to: u8) -> Option<usize>
+    ensures { result ≡ place_where (is_from from to) pairs.now }
 {
     for (i, p) in pairs.iter().enumerate() {
-        if is_from(p, a, b) {
+        if is_from(p, from, to) {
             return Some(i);
         }
     }
@@ -37,51 +37,58 @@ pub fn place_of(pairs: &[Pair], a: u8, b: u8) -> Option<usize>
 }
 
 /// The pair of two nodes.
-pub fn pair_of(pairs: &[Pair], a: u8, b: u8) -> Option<&Pair>
-    ensures { option_copied result ≡ find (is_from a b) pairs.now }
+pub fn pair_of(pairs: &[Pair], from: u8, to: u8) -> Option<&Pair>
+    ensures { option_copied result ≡ find (is_from from to) pairs.now }
 {
-    pairs.iter().find(|p| is_from(p, a, b))
+    pairs.iter().find(|p| is_from(p, from, to))
 }
 
 /// The k-th packet ever sent between two nodes, from 1 on.
 #[tactic(auto, using(crate::proofs::PairLaws::kth_missing, crate::proofs::PairLaws::kth_zero, crate::proofs::PairLaws::kth_found, std::proofs::lemmas::Grind::common_steps))]
-pub fn kth(pairs: &[Pair], a: u8, b: u8, k: u32) -> Option<&Datagram>
-    ensures { option_copied result ≡ kth_in k (find_pair a b (world_pairs pairs.now)) }
+pub fn kth(pairs: &[Pair], from: u8, to: u8, number: u32) -> Option<&Datagram>
+    ensures { option_copied result ≡ kth_in number (find_pair from to (world_pairs pairs.now)) }
 {
-    if k == 0 {
+    if number == 0 {
         return None;
     }
-    match pair_of(pairs, a, b) {
+    match pair_of(pairs, from, to) {
         None => None,
-        Some(p) => p.packets.get(k as usize - 1),
+        Some(p) => p.packets.get(number as usize - 1),
     }
 }
 
 /// How many packets were ever sent between two nodes.
 #[tactic(auto, using(crate::proofs::PairLaws::count_missing, crate::proofs::PairLaws::count_found))]
-fn count(pairs: &[Pair], a: u8, b: u8) -> usize
-    ensures { result ≡ count_in (find_pair a b (world_pairs pairs.now)) }
+fn count(pairs: &[Pair], from: u8, to: u8) -> usize
+    ensures { result ≡ count_in (find_pair from to (world_pairs pairs.now)) }
 {
-    match pair_of(pairs, a, b) {
+    match pair_of(pairs, from, to) {
         None => 0,
         Some(p) => p.packets.len(),
     }
 }
 
 /// Puts a packet behind those of its pair.
-#[tactic(auto, using(crate::proofs::PairLaws::put_at, crate::proofs::PairLaws::added_new, rsct_packet::proofs::SearchLaws::place_is_in, std::proofs::lemmas::Grind::common_steps))]
-fn put(pairs: &mut Vec<Pair>, alloc: Global, from: u8, to: u8, d: Datagram) -> Result<(), NoMemory>
-    requires from { from ≡ d.from }
-    requires to { to ≡ d.to }
-    ensures { OnOk result (world_pairs pairs.new.items ≡ pairs_with d (world_pairs pairs.old.items)) }
+#[tactic(auto, using(crate::proofs::PairLaws::put_at, crate::proofs::PairLaws::added_new, crate::proofs::Below::place_is_in, std::proofs::lemmas::Grind::common_steps))]
+fn put(
+    pairs: &mut Vec<Pair>,
+    alloc: Global,
+    from: u8,
+    to: u8,
+    datagram: Datagram,
+) -> Result<(), NoMemory>
+    requires from { from ≡ datagram.from }
+    requires to { to ≡ datagram.to }
+    ensures { OnOk result (world_pairs pairs.new.items
+        ≡ pairs_with datagram (world_pairs pairs.old.items)) }
 {
     match place_of(pairs.as_slice(), from, to) {
         None => {
             let mut packets = List::new(alloc);
-            packets.push(d)?;
+            packets.push(datagram)?;
             pairs.push(Pair { from, to, packets })?;
         }
-        Some(i) => pairs[i].packets.push(d)?,
+        Some(i) => pairs[i].packets.push(datagram)?,
     }
     Ok(())
 }
@@ -92,17 +99,19 @@ pub fn add(
     alloc: Global,
     from: u8,
     to: u8,
-    d: Datagram,
+    datagram: Datagram,
 ) -> Result<u32, NoMemory>
-    requires from { from ≡ d.from }
-    requires to { to ≡ d.to }
-    ensures pairs { OnOk result (world_pairs pairs.new.items ≡ pairs_with d (world_pairs pairs.old.items)) }
-    ensures count { IfOk result (λ k. k ≡ count_in (find_pair from to (world_pairs pairs.old.items)) + 1) }
+    requires from { from ≡ datagram.from }
+    requires to { to ≡ datagram.to }
+    ensures pairs { OnOk result (world_pairs pairs.new.items
+        ≡ pairs_with datagram (world_pairs pairs.old.items)) }
+    ensures count { IfOk result (λ k. k ≡ count_in
+        (find_pair from to (world_pairs pairs.old.items)) + 1) }
 {
     let k = count(pairs.as_slice(), from, to);
     if k >= u32::MAX as usize {
         return Err(NoMemory);
     }
-    put(pairs, alloc, from, to, d)?;
+    put(pairs, alloc, from, to, datagram)?;
     Ok(k as u32 + 1)
 }

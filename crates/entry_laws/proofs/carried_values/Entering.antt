@@ -4,47 +4,47 @@ use Rattle.std.specs.Prelude.{◌==◌, ◌&&◌, not, map, filter, fold, find, 
 use Rattle.std.specs.Option.{option_map}
 use Rattle.std.specs.Str.{bytes_eq}
 use Rattle.std.proofs.lemmas.List.{reverse-append}
-use Rattle.rsct_packet.specs.declared.ids.ViewId.{ViewId}
-use Rattle.rsct_packet.specs.declared.ids.ProviderId.{ProviderId}
-use Rattle.rsct_packet.specs.Providers.{among}
-use Rattle.rsct_packet.specs.Search.{Has}
-use Rattle.rsct_packet.proofs.HasLaws.{has_append}
-use Rattle.group_attr.specs.Attrs.{host_membership}
-use Rattle.proposal_core.specs.declared.proposal.Cause.TheVariants.{Died}
-use Rattle.proposal_core.specs.Fold.{present}
-use Rattle.proposal_core.specs.Lists.{state_in}
-use Rattle.batch_rules.specs.Waiting.{waits_failure}
-use Rattle.subscribe_core.specs.declared.subs.Subscription.{Subscription}
-use Rattle.client_callbacks.specs.declared.told.Told.TheVariants as told
-use Rattle.client_callbacks.specs.declared.told.Why.TheVariants.{Dissolved}
-use Rattle.session_state.specs.declared.state.Provider.{Provider}
-use Rattle.session_state.specs.State.{provider_of, outstanding}
-use Rattle.session_state.specs.HandOn.{telling_taken}
-use Rattle.view_state.specs.declared.install.Install.{Install}
-use Rattle.view_state.specs.declared.install.Base.{Base}
-use Rattle.view_state.specs.Bases.{bases_of, base_named}
-use Rattle.view_state.specs.declared.packet.ViewPacket.TheVariants as packet
-use Rattle.view_state.specs.declared.packet.ViewSend.{ViewSend}
-use Rattle.view_state.specs.declared.views.ViewWork.{ViewWork}
-use Rattle.view_state.specs.Views.{own_install, views_entered}
-use Rattle.node_state.specs.declared.group.GroupRow.{GroupRow}
-use Rattle.node_state.specs.declared.happened.Happened.{Happened}
-use Rattle.node_state.specs.declared.happened.Happened.TheVariants as happened
-use Rattle.node_state.specs.declared.packet.Body.TheVariants as body
-use Rattle.node_state.specs.declared.state.Core.{Core}
-use Rattle.node_state.specs.State.{row_found, state_of, held_rows, recorded_all, with_sessions, has_name}
-use Rattle.node_state.specs.Sending.{sent, requests_sent}
-use Rattle.node_state.specs.HandOn.{Answering, subscriber_name, note_of}
-use Rattle.node_state.specs.Leading.{with_waiting, tally_opened}
-use Rattle.node_state.specs.Applying.{Lacking, lacking, lists_filled, level_set, base_row, base_record, view_entered, is_in_base, number_of, dissolved, dissolved_if, group_dissolved, sides_dissolved, base_note, entering_note, entering_noted, taken_sent, owed_sent, failed_wait, phase_reopened, group_led, groups_led, entered, entered_if, install_applied, views_taken}
-use Rattle.run_safety.specs.Past.{records_of}
-use Rattle.step_ties.proofs.BaseOrder.{bases_ordered, row_of_base, base_noted}
+use Rattle.row_laws.specs.rsct_packet.declared.ids.ViewId.{ViewId}
+use Rattle.row_laws.specs.rsct_packet.declared.ids.ProviderId.{ProviderId}
+use Rattle.row_laws.specs.rsct_packet.Providers.{among}
+use Rattle.row_laws.specs.rsct_packet.Search.{Has}
+use Rattle.row_laws.proofs.rsct_packet_laws.HasLaws.{has_append}
+use Rattle.row_laws.specs.group_attr.Attrs.{host_membership}
+use Rattle.row_laws.specs.proposal_core.declared.proposal.Cause.TheVariants.{Died}
+use Rattle.row_laws.specs.proposal_core.Fold.{present}
+use Rattle.row_laws.specs.proposal_core.Lists.{state_in}
+use Rattle.row_laws.specs.batch_rules.Waiting.{add_failure}
+use Rattle.row_laws.specs.subscribe_core.declared.subs.Subscription.{Subscription}
+use Rattle.row_laws.specs.client_callbacks.declared.told.Told.TheVariants as told
+use Rattle.row_laws.specs.client_callbacks.declared.told.Why.TheVariants.{Dissolved}
+use Rattle.row_laws.specs.session_state.declared.state.Provider.{Provider}
+use Rattle.row_laws.specs.session_state.State.{provider_of, outstanding}
+use Rattle.row_laws.specs.session_state.HandOn.{take_telling}
+use Rattle.row_laws.specs.view_state.declared.install.Install.{Install}
+use Rattle.row_laws.specs.view_state.declared.install.Base.{Base}
+use Rattle.row_laws.specs.view_state.Bases.{bases_of, base_named}
+use Rattle.row_laws.specs.view_state.declared.packet.ViewPacket.TheVariants as packet
+use Rattle.row_laws.specs.view_state.declared.packet.ViewSend.{ViewSend}
+use Rattle.row_laws.specs.view_state.declared.views.ViewWork.{ViewWork}
+use Rattle.row_laws.specs.view_state.Views.{own_install, views_entered}
+use Rattle.row_laws.specs.node_state.declared.group.GroupRow.{GroupRow}
+use Rattle.row_laws.specs.node_state.declared.happened.Happened.{Happened}
+use Rattle.row_laws.specs.node_state.declared.happened.Happened.TheVariants as happened
+use Rattle.row_laws.specs.node_state.declared.packet.Body.TheVariants as body
+use Rattle.row_laws.specs.node_state.declared.state.Core.{Core}
+use Rattle.row_laws.specs.node_state.State.{row_found, state_of, held_rows, recorded_all, with_sessions, has_name}
+use Rattle.row_laws.specs.node_state.Sending.{sent, send_requests}
+use Rattle.row_laws.specs.node_state.HandOn.{Answering, subscriber_name, note_of}
+use Rattle.row_laws.specs.node_state.Leading.{with_waiting, tally_opened}
+use Rattle.row_laws.specs.node_state.Applying.{Lacking, lacking, fill_lists, level_set, base_row, base_record, view_entered, is_in_base, number_of, dissolved, dissolved_if, group_dissolved, sides_dissolved, base_note, entering_note, entering_noted, taken_sent, owed_sent, wait_failed, phase_reopened, lead, lead_groups, entered, entered_if, apply_install, views_taken}
+use Rattle.row_laws.specs.run_safety.Past.{records_of}
+use Rattle.row_laws.proofs.step_refinement_laws.BaseOrder.{bases_ordered, row_of_base, base_noted}
 use Rattle.entry_laws.proofs.closing_rows.At.{Silent}
 use Rattle.entry_laws.proofs.carried_values.At.{Facts, Course, At, ballot_on, body_on, at_fold, at_sent, at_recorded, at_recorded_all, at_sessions, at_views}
 use Rattle.row_laws.proofs.honest_votes.Keeps.{told_no_more}
-use Rattle.rsct_packet.proofs.HasLaws.{append_has_left, append_has_right}
-use Rattle.node_state.specs.Leading.{put_and_handed}
-use Rattle.proposal_core.specs.declared.entry.Entry.{Entry}
+use Rattle.row_laws.proofs.rsct_packet_laws.HasLaws.{append_has_left, append_has_right}
+use Rattle.row_laws.specs.node_state.Leading.{put_and_hand}
+use Rattle.row_laws.specs.proposal_core.declared.entry.Entry.{Entry}
 use Rattle.entry_laws.proofs.carried_values.Sends.{at_requests_sent, at_votes_again}
 use Rattle.entry_laws.proofs.carried_values.Leading.{at_put_and_handed_for, at_waits, at_opened_anew, at_closes}
 use Rattle.entry_laws.proofs.carried_values.Ending.{Every, NoGroup, at_led_groups}
@@ -65,14 +65,14 @@ module _ (h : Course) where
   loosened s a = record { sends = a.sends; kept = a.kept; facts = λ c. absurd (cc); order = a.order; tallies = λ g z. absurd z; led = λ g z. absurd z }
 
   -- (1)
-  entries_filled : (f : Answering) (g : List ℕ) (es : List Entry) (s : Core) → Loose s → Loose (fold (λ u e. put_and_handed f u None g e) s es)
+  entries_filled : (f : Answering) (g : List ℕ) (es : List Entry) (s : Core) → Loose s → Loose (fold (λ u e. put_and_hand f u None g e) s es)
   entries_filled f g es s a =
-      at_fold loose NoGroup NoGroup (λ u e. put_and_handed f u None g e) es (λ u e i k. at_put_and_handed_for loose NoGroup NoGroup NoGroup f u None g e (λ c. absurd (cc)) (λ j z ne. z) (λ z. absurd z) k) s a
+      at_fold loose NoGroup NoGroup (λ u e. put_and_hand f u None g e) es (λ u e i k. at_put_and_handed_for loose NoGroup NoGroup NoGroup f u None g e (λ c. absurd (cc)) (λ j z ne. z) (λ z. absurd z) k) s a
 
-  all_filled : (f : Answering) (xs : List Lacking) (s : Core) → Loose s → Loose (lists_filled f s xs)
-  unfolding lists_filled
+  all_filled : (f : Answering) (xs : List Lacking) (s : Core) → Loose s → Loose (fill_lists f s xs)
+  unfolding fill_lists
   all_filled f xs s a =
-      at_fold loose NoGroup NoGroup (λ t (x : Lacking). fold (λ u e. put_and_handed f u None x.name e) t x.entries) xs (λ t x i k. entries_filled f x.name x.entries t k) s a
+      at_fold loose NoGroup NoGroup (λ t (x : Lacking). fold (λ u e. put_and_hand f u None x.name e) t x.entries) xs (λ t x i k. entries_filled f x.name x.entries t k) s a
 
   -- records of bases
   based_facts : (n : ℕ) (v : ViewId) (bs : List Base) (rs : List Happened) → Facts h.before (reverse rs) → Facts h.before (reverse (rs ++ map (base_noted n v) bs))
@@ -129,7 +129,7 @@ module _ (h : Course) where
   at_dissolved : (s : Core) (p : ProviderId) (r : ℕ) → Full s → Full (dissolved s p r)
   unfolding dissolved
   at_dissolved s p r a =
-      at_recorded h Every NoGroup (with_sessions s (telling_taken s.sessions p r Dissolved)) (happened.Told p r Dissolved) tt (at_sessions h Every NoGroup s (telling_taken s.sessions p r Dissolved) (λ k i. a.kept k (told_no_more s.sessions p r Dissolved k i)) a)
+      at_recorded h Every NoGroup (with_sessions s (take_telling s.sessions p r Dissolved)) (happened.Told p r Dissolved) tt (at_sessions h Every NoGroup s (take_telling s.sessions p r Dissolved) (λ k i. a.kept k (told_no_more s.sessions p r Dissolved k i)) a)
 
   at_dissolved_if : (s : Core) (g : List ℕ) (old : ViewId) (b : Option Base) (o : Option Provider) → Full s → Full (dissolved_if s g old b o)
   unfolding dissolved_if
@@ -184,40 +184,40 @@ module _ (h : Course) where
 
   at_owed_sent : (s : Core) → Full s → Full (owed_sent s)
   unfolding owed_sent
-  at_owed_sent s a = at_votes_again h Every NoGroup (requests_sent s) (at_requests_sent h Every NoGroup s a)
+  at_owed_sent s a = at_votes_again h Every NoGroup (send_requests s) (at_requests_sent h Every NoGroup s a)
 
   -- (7)
-  at_group_led : (f : Answering) (G : List ℕ → Type 0) (s : Core) (g : List ℕ) → G g → At h Every G s → At h Every G (group_led f s g)
-  unfolding group_led failed_wait phase_reopened
+  at_group_led : (f : Answering) (G : List ℕ → Type 0) (s : Core) (g : List ℕ) → G g → At h Every G s → At h Every G (lead f s g)
+  unfolding lead wait_failed phase_reopened
   at_group_led f G s g led a = by (is_some (state_of s g).running)
     where
       t : Core
-      t = failed_wait s g (filter (among (state_of s g).members) (state_of s g).failed)
+      t = wait_failed s g (filter (among (state_of s g).members) (state_of s g).failed)
 
       waits : At h Every G t
       waits =
-          at_fold h Every G (λ t p. with_waiting t g (waits_failure p Died)) (filter (among (state_of s g).members) (state_of s g).failed) (λ t p i k. at_waits h Every G t g (waits_failure p Died) k) s a
+          at_fold h Every G (λ t p. with_waiting t g (add_failure p Died)) (filter (among (state_of s g).members) (state_of s g).failed) (λ t p i k. at_waits h Every G t g (add_failure p Died) k) s a
 
       by : (b : Bool) → At h Every G (phase_reopened f t g b)
       by false = waits
       by true = at_closes h Every G f (tally_opened t g) g tt led (at_opened_anew h Every G t g led waits)
 
-  at_groups_led : (f : Answering) (s : Core) → Full s → Full (groups_led f s)
-  unfolding groups_led
-  at_groups_led f s a = at_led_groups h (group_led f) (at_group_led f) s a
+  at_groups_led : (f : Answering) (s : Core) → Full s → Full (lead_groups f s)
+  unfolding lead_groups
+  at_groups_led f s a = at_led_groups h (lead f) (at_group_led f) s a
 
   at_entered : (f : Answering) (s : Core) (i : Install) (xs : List Lacking) → Full s → Full (entered f s i xs)
   unfolding entered
   at_entered f s i xs a =
-      let t : Core = lists_filled f s xs in
+      let t : Core = fill_lists f s xs in
       let bs : List Base = bases_of i in
       let v : Core = view_entered t i bs in
       let d : Core = sides_dissolved v (held_rows t) t.views.view bs in
       let e : Full d = at_sides v (held_rows t) t.views.view bs (at_view_entered t i (all_filled f xs s (loosened s a))) in
       at_groups_led f (owed_sent (taken_sent (entering_noted d bs))) (at_owed_sent (taken_sent (entering_noted d bs)) (at_taken_sent (entering_noted d bs) (at_entering_noted d bs e)))
 
-  at_applied : (f : Answering) (s : Core) (o : Option Install) → Full s → Full (install_applied f s o)
-  unfolding install_applied entered_if
+  at_applied : (f : Answering) (s : Core) (o : Option Install) → Full s → Full (apply_install f s o)
+  unfolding apply_install entered_if
   at_applied f s None a = a
   at_applied f s (Some i) a = by (lacking s i)
     where

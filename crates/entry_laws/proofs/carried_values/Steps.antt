@@ -2,35 +2,35 @@
 use Rattle.std.proofs.Common.{◌≡◌, ℕ, List, [], ◌++◌, Bool, true, false, refl, sym, ◌∙◌, subst, inr}
 use Rattle.std.specs.Prelude.{◌==◌, reverse}
 use Rattle.std.proofs.lemmas.Bool.{eqb-true}
-use Rattle.rsct_packet.specs.declared.ids.ViewId.{ViewId}
-use Rattle.rsct_packet.specs.declared.mask.Mask.{Mask}
-use Rattle.rsct_packet.specs.Search.{Has}
-use Rattle.rsct_packet.proofs.HasLaws.{append_has_right}
-use Rattle.proposal_core.specs.declared.entry.Entry.{Entry}
-use Rattle.proposal_core.specs.Lists.{len_in}
-use Rattle.view_state.specs.declared.packet.ViewPacket.{ViewPacket}
-use Rattle.view_state.specs.declared.packet.ViewPacket.TheVariants as view
-use Rattle.view_state.specs.declared.views.ViewWork.{ViewWork}
-use Rattle.view_state.specs.Views.{views_at_work, ask_row, prepare_row, answer_row, refuse_row, install_row, taken_row}
-use Rattle.node_state.specs.declared.packet.Body.{Body}
-use Rattle.node_state.specs.declared.packet.Body.TheVariants as body
-use Rattle.node_state.specs.declared.packet.Packet.{Packet}
-use Rattle.node_state.specs.declared.state.Core.{Core}
-use Rattle.node_state.specs.Settings.{is_fixed}
-use Rattle.node_state.specs.State.{len_of}
-use Rattle.node_state.specs.HandOn.{Answering}
-use Rattle.node_state.specs.Following.{lookup_row, name_row, request_row, tell_row, entry_row, ack_row, vote_row, gone_row}
-use Rattle.node_state.specs.Applying.{own_parts, views_taken}
-use Rattle.node_state.specs.Status.{status_text}
-use Rattle.node_state.specs.Ticks.{rings_part, views_part, owed_part}
-use Rattle.node_state.specs.Step.{NodeEvent, Ticks, Asks, Given, Calls, Garbage, is_used, used_if, order_row, view_row, body_row, packet_row, stepped, at_work}
-use Rattle.step_ties.specs.Tied.{Scene, Tied}
-use Rattle.step_ties.specs.Rows.{acted, Arises}
+use Rattle.row_laws.specs.rsct_packet.declared.ids.ViewId.{ViewId}
+use Rattle.row_laws.specs.rsct_packet.declared.mask.Mask.{Mask}
+use Rattle.row_laws.specs.rsct_packet.Search.{Has}
+use Rattle.row_laws.proofs.rsct_packet_laws.HasLaws.{append_has_right}
+use Rattle.row_laws.specs.proposal_core.declared.entry.Entry.{Entry}
+use Rattle.row_laws.specs.proposal_core.Lists.{len_in}
+use Rattle.row_laws.specs.view_state.declared.packet.ViewPacket.{ViewPacket}
+use Rattle.row_laws.specs.view_state.declared.packet.ViewPacket.TheVariants as view
+use Rattle.row_laws.specs.view_state.declared.views.ViewWork.{ViewWork}
+use Rattle.row_laws.specs.view_state.Views.{views_at_work, ask_row, prepare_row, answer_row, refuse_row, install_row, taken_row}
+use Rattle.row_laws.specs.node_state.declared.packet.Body.{Body}
+use Rattle.row_laws.specs.node_state.declared.packet.Body.TheVariants as body
+use Rattle.row_laws.specs.node_state.declared.packet.Packet.{Packet}
+use Rattle.row_laws.specs.node_state.declared.state.Core.{Core}
+use Rattle.row_laws.specs.node_state.Settings.{is_fixed}
+use Rattle.row_laws.specs.node_state.State.{len_of}
+use Rattle.row_laws.specs.node_state.HandOn.{Answering}
+use Rattle.row_laws.specs.node_state.Following.{take_lookup, take_name, take_request, take_tell, take_entry, take_ack, take_vote, take_gone}
+use Rattle.row_laws.specs.node_state.Applying.{own_parts, views_taken}
+use Rattle.row_laws.specs.node_state.Status.{status_text}
+use Rattle.row_laws.specs.node_state.Ticks.{tick_rings, tick_views, tick_owed}
+use Rattle.row_laws.specs.node_state.Step.{NodeEvent, Ticks, Asks, Given, Calls, Garbage, is_used, used_if, take_order, view_row, take_body, packet_row, stepped, at_work}
+use Rattle.row_laws.specs.step_refinement.Tied.{Scene, Tied}
+use Rattle.row_laws.specs.step_refinement.Rows.{acted, Arises}
 use Rattle.entry_laws.proofs.closing_rows.At.{found}
 use Rattle.entry_laws.proofs.closing_rows.Steps.{entry_follows, entry_had_put, request_leads, stepped_is}
 use Rattle.entry_laws.specs.carried_values.Carried.{BodyTold}
 use Rattle.entry_laws.proofs.carried_values.At.{PutFact, Course, At, body_on, at_sent_on}
-use Rattle.run_safety.specs.Past.{records_of}
+use Rattle.row_laws.specs.run_safety.Past.{records_of}
 use Rattle.entry_laws.proofs.carried_values.Calling.{at_call}
 use Rattle.entry_laws.proofs.carried_values.Ending.{Every, NoGroup, at_step_ended}
 use Rattle.entry_laws.proofs.closing_rows.Works.{Stays, begun_stays, ask_stays, prepare_stays, answer_stays, refuse_stays, install_stays, taken_stays}
@@ -66,27 +66,27 @@ module _ (w : Scene) (n : ℕ) (f : Answering) (s : Core) (were : (p : Packet) �
   view_at from inc (view.Install i) = taken (install_row (views_at_work s.views) i) (install_stays s.views (views_at_work s.views) i (begun_stays s.views))
   view_at from inc (view.Taken v) = taken (taken_row (views_at_work s.views) from v) (taken_stays s.views (views_at_work s.views) from v (begun_stays s.views))
 
-  body_at : (p : Packet) (b : Body) → p.body ≡ b → p.to ≡ n → Has p w.sent → BodyTold (s.records ++ records_of w.before) b → Full (body_row f s p b)
-  unfolding body_row
+  body_at : (p : Packet) (b : Body) → p.body ≡ b → p.to ≡ n → Has p w.sent → BodyTold (s.records ++ records_of w.before) b → Full (take_body f s p b)
+  unfolding take_body
   body_at p (body.Ring x) is to sent ok = at_ring_row (course w) s p.network p.from p.inc x a
   body_at p (body.Report rows) is to sent ok = at_report (course w) s rows a
   body_at p (body.View y) is to sent ok = view_at p.from p.inc y
-  body_at p (body.Lookup v g) is to sent ok = used (lookup_row s p.from g) (is_used s p v) (λ u. at_lookup (course w) s p.from g a)
-  body_at p (body.Name v g k) is to sent ok = used (name_row s g k) (is_used s p v) (λ u. at_name (course w) s g k a)
+  body_at p (body.Lookup v g) is to sent ok = used (take_lookup s p.from g) (is_used s p v) (λ u. at_lookup (course w) s p.from g a)
+  body_at p (body.Name v g k) is to sent ok = used (take_name s g k) (is_used s p v) (λ u. at_name (course w) s g k a)
   body_at p (body.Request v g q r phases x) is to sent ok =
-      used (request_row f s p.from g q r phases x) (is_used s p v) (λ u. at_request (course w) f s g (request_leads v g q r phases x w n s p is to sent (all g) u) p.from q r phases x a)
-  body_at p (body.Tell v g q r y) is to sent ok = used (tell_row s q r y) (is_used s p v) (λ u. at_tell (course w) s q r y a)
+      used (take_request f s p.from g q r phases x) (is_used s p v) (λ u. at_request (course w) f s g (request_leads v g q r phases x w n s p is to sent (all g) u) p.from q r phases x a)
+  body_at p (body.Tell v g q r y) is to sent ok = used (take_tell s q r y) (is_used s p v) (λ u. at_tell (course w) s q r y a)
   body_at p (body.Entry v g i k e) is to sent ok =
-      used (entry_row f s p.from g i k e) (is_used s p v) (λ u. at_entry (course w) f s p.from g k e i (λ at c. entry_put v g i k e w n s p is sent (all g) u at) (λ at led. entry_follows v g i k e w n s p is sent (all g) u at led) a)
-  body_at p (body.Ack v g k) is to sent ok = used (ack_row s p.from g k) (is_used s p v) (λ u. at_ack (course w) s p.from g k a)
+      used (take_entry f s p.from g i k e) (is_used s p v) (λ u. at_entry (course w) f s p.from g k e i (λ at c. entry_put v g i k e w n s p is sent (all g) u at) (λ at led. entry_follows v g i k e w n s p is sent (all g) u at led) a)
+  body_at p (body.Ack v g k) is to sent ok = used (take_ack s p.from g k) (is_used s p v) (λ u. at_ack (course w) s p.from g k a)
   body_at p (body.Vote v g proto phase q ballot value message) is to sent ok =
-      used (vote_row f s g proto phase q ballot value message) (is_used s p v) (λ u. at_vote (course w) f s g proto phase q ballot value message ok a)
-  body_at p (body.Gone v g q) is to sent ok = used (gone_row f s g q) (is_used s p v) (λ u. at_gone (course w) f s g q a)
+      used (take_vote f s g proto phase q ballot value message) (is_used s p v) (λ u. at_vote (course w) f s g proto phase q ballot value message ok a)
+  body_at p (body.Gone v g q) is to sent ok = used (take_gone f s g q) (is_used s p v) (λ u. at_gone (course w) f s g q a)
   body_at p (body.Query question what) is to sent ok = at_sent_on (course w) Every NoGroup s p.network p.from (body.Reply question (status_text s what)) tt a
   body_at p (body.Reply question text) is to sent ok = a
 
-  order_at : (mask : Mask) → Full (order_row f s mask)
-  unfolding order_row
+  order_at : (mask : Mask) → Full (take_order f s mask)
+  unfolding take_order
   order_at mask = by (is_fixed s.config.mode)
     where
       by : (b : Bool) → Full (elim b as (λ _. Core) [ true ↦ s | false ↦ views_taken f s (ask_row (views_at_work s.views) mask (own_parts s)) ])
@@ -96,14 +96,14 @@ module _ (w : Scene) (n : ℕ) (f : Answering) (s : Core) (were : (p : Packet) �
   acted_at : (e : NodeEvent) → Arises w e → Full (acted f s e)
   unfolding packet_row
   acted_at Ticks arises =
-      let t : Core = views_part f (rings_part s) in
-      at_led_part (course w) f (owed_part t) (at_owed_part (course w) t (at_views_part (course w) f (rings_part s) (at_rings_part (course w) s a)))
+      let t : Core = tick_views f (tick_rings s) in
+      at_led_part (course w) f (tick_owed t) (at_owed_part (course w) t (at_views_part (course w) f (tick_rings s) (at_rings_part (course w) s a)))
   acted_at (Asks mask) arises = order_at mask
   acted_at (Calls c) arises = at_call (course w) s c a
   acted_at Garbage arises = a
   acted_at (Given p) arises = by (p.to == s.views.me) refl
     where
-      by : (b : Bool) → (p.to == s.views.me) ≡ b → Full (elim b as (λ _. Core) [ true ↦ body_row f s p p.body | false ↦ s ])
+      by : (b : Bool) → (p.to == s.views.me) ≡ b → Full (elim b as (λ _. Core) [ true ↦ take_body f s p p.body | false ↦ s ])
       by false e = a
       by true e = body_at p p.body refl (eqb-true p.to s.views.me e ∙ (all []).own.0.stands.me) arises (body_on (records_of w.before) (s.records ++ records_of w.before) (λ r i. append_has_right r s.records (records_of w.before) i) p.body (were p arises))
 

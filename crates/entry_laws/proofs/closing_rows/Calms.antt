@@ -2,74 +2,74 @@
 use Rattle.std.proofs.Common.{ℕ, ◌+◌, ◌-◌, List, [], ◌∷◌, length, take, drop, Option, Some, None, Bool, true, false, refl, sym, subst, inl, inr, ⊎_elim}
 use Rattle.std.specs.Prelude.{◌==◌, not, map, filter, find, fold, flat_map, Result, Ok, Err}
 use Rattle.std.specs.List.{last_or}
-use Rattle.rsct_packet.specs.declared.ids.ProviderId.{ProviderId}
-use Rattle.rsct_packet.specs.declared.ids.ProtoId.{ProtoId}
-use Rattle.rsct_packet.specs.declared.mask.Mask.{Mask}
-use Rattle.rsct_packet.specs.Mask.{nodes_of}
-use Rattle.rsct_packet.specs.Search.{Has}
-use Rattle.rsct_packet.proofs.HasLaws.{has_append, has_map}
-use Rattle.packet_bodies.specs.declared.body.ReportRow.{ReportRow}
-use Rattle.proposal_core.specs.declared.entry.Entry.{Entry}
-use Rattle.proposal_core.specs.declared.group_state.GroupState.{GroupState}
-use Rattle.proposal_core.specs.GroupView.{GroupView}
-use Rattle.proposal_core.specs.Fold.{runs, present}
-use Rattle.proposal_core.specs.Lists.{state_in}
-use Rattle.adapter_ring.specs.declared.ring.Ring.{Ring}
-use Rattle.adapter_ring.specs.declared.ring.RingSet.{RingSet}
-use Rattle.adapter_ring.specs.declared.packet.RingSend.{RingSend}
-use Rattle.adapter_ring.specs.declared.packet.RingPacket.{RingPacket}
-use Rattle.adapter_ring.specs.declared.packet.RingEvent.TheVariants as ring_event
-use Rattle.adapter_ring.specs.declared.work.RingWork.{RingWork}
-use Rattle.adapter_ring.specs.Rings.{ring_stepped}
-use Rattle.node_reach.specs.Reach as reach
-use Rattle.subscribe_core.specs.declared.subs.Subscription.{Subscription}
-use Rattle.subscribe_core.specs.Subs.{is_of_group, differs}
-use Rattle.client_callbacks.specs.declared.told.Why.{Why}
-use Rattle.client_callbacks.specs.declared.ballot.Filled.{Filled}
-use Rattle.client_callbacks.specs.Ballots.{BallotView}
-use Rattle.session_state.specs.declared.casts.Cast.{Cast}
-use Rattle.session_state.specs.declared.fault.GsFault.{GsFault}
-use Rattle.session_state.specs.declared.state.KeptBallot.{KeptBallot}
-use Rattle.session_state.specs.declared.state.Provider.{Provider}
-use Rattle.session_state.specs.declared.state.Request.{Request}
-use Rattle.session_state.specs.declared.state.SessionState.{SessionState}
-use Rattle.session_state.specs.State.{outstanding}
-use Rattle.session_state.specs.HandOn.{hearers, casts_out, is_numbered, telling_taken}
-use Rattle.session_state.specs.HandOn as session
-use Rattle.node_state.specs.declared.call.CallLine.{CallLine}
-use Rattle.node_state.specs.declared.call.CallLine.TheVariants as call
-use Rattle.node_state.specs.declared.group.GroupRow.{GroupRow}
-use Rattle.node_state.specs.declared.happened.Happened.{Happened}
-use Rattle.node_state.specs.declared.happened.Happened.TheVariants as happened
-use Rattle.node_state.specs.declared.packet.Body.{Body}
-use Rattle.node_state.specs.declared.packet.Body.TheVariants as body
-use Rattle.node_state.specs.declared.state.Core.{Core}
-use Rattle.node_state.specs.Settings.{is_rings}
-use Rattle.node_state.specs.State.{row_of, state_of, held_rows, frozen, leader_of, acked_by, least_acked, recorded, recorded_all, with_sessions}
-use Rattle.node_state.specs.Sending.{sent_on, sent, sent_all, sent_if_known, request_to, request_sent, requests_sent, kept_sent_to, kept_sent, kept_sent_if, kept_sent_again, votes_sent_again}
-use Rattle.node_state.specs.HandOn.{Answering, fills, cast_record, cast_records, heard, note_of, notes, noted, ballot_sent, cast_sent_of, casts_sent, handed_on}
-use Rattle.node_state.specs.Following.{told_if, tell_row}
-use Rattle.node_state.specs.Ticks.{ring_put, set_records, ring_taken, ring_row_of, ring_row, report_row, rings_union, report_of, report_sent, rings_tick, rings_part, is_lost, lost_told, owed_part, entries_sent, list_sent_again, sent_again}
-use Rattle.node_state.specs.Calls.{call_refused, changed, last_asked, proposed, ballot_recorded, ballot_sent_if, last_cast, ballot_given, gone_sent, all_gone_sent, goodbye_said, call_row}
-use Rattle.run_safety.specs.Past.{History}
+use Rattle.row_laws.specs.rsct_packet.declared.ids.ProviderId.{ProviderId}
+use Rattle.row_laws.specs.rsct_packet.declared.ids.ProtoId.{ProtoId}
+use Rattle.row_laws.specs.rsct_packet.declared.mask.Mask.{Mask}
+use Rattle.row_laws.specs.rsct_packet.Mask.{nodes_of}
+use Rattle.row_laws.specs.rsct_packet.Search.{Has}
+use Rattle.row_laws.proofs.rsct_packet_laws.HasLaws.{has_append, has_map}
+use Rattle.row_laws.specs.packet_bodies.declared.body.ReportRow.{ReportRow}
+use Rattle.row_laws.specs.proposal_core.declared.entry.Entry.{Entry}
+use Rattle.row_laws.specs.proposal_core.declared.group_state.GroupState.{GroupState}
+use Rattle.row_laws.specs.proposal_core.GroupView.{GroupView}
+use Rattle.row_laws.specs.proposal_core.Fold.{runs, present}
+use Rattle.row_laws.specs.proposal_core.Lists.{state_in}
+use Rattle.row_laws.specs.adapter_ring.declared.ring.Ring.{Ring}
+use Rattle.row_laws.specs.adapter_ring.declared.ring.RingSet.{RingSet}
+use Rattle.row_laws.specs.adapter_ring.declared.packet.RingSend.{RingSend}
+use Rattle.row_laws.specs.adapter_ring.declared.packet.RingPacket.{RingPacket}
+use Rattle.row_laws.specs.adapter_ring.declared.packet.RingEvent.TheVariants as ring_event
+use Rattle.row_laws.specs.adapter_ring.declared.work.RingWork.{RingWork}
+use Rattle.row_laws.specs.adapter_ring.Rings.{ring_step}
+use Rattle.row_laws.specs.node_reach.Reach as reach
+use Rattle.row_laws.specs.subscribe_core.declared.subs.Subscription.{Subscription}
+use Rattle.row_laws.specs.subscribe_core.Subs.{is_of_group, differs}
+use Rattle.row_laws.specs.client_callbacks.declared.told.Why.{Why}
+use Rattle.row_laws.specs.client_callbacks.declared.ballot.Filled.{Filled}
+use Rattle.row_laws.specs.client_callbacks.Ballots.{BallotView}
+use Rattle.row_laws.specs.session_state.declared.casts.Cast.{Cast}
+use Rattle.row_laws.specs.session_state.declared.fault.GsFault.{GsFault}
+use Rattle.row_laws.specs.session_state.declared.state.KeptBallot.{KeptBallot}
+use Rattle.row_laws.specs.session_state.declared.state.Provider.{Provider}
+use Rattle.row_laws.specs.session_state.declared.state.Request.{Request}
+use Rattle.row_laws.specs.session_state.declared.state.SessionState.{SessionState}
+use Rattle.row_laws.specs.session_state.State.{outstanding}
+use Rattle.row_laws.specs.session_state.HandOn.{hearers, casts_out, is_numbered, take_telling}
+use Rattle.row_laws.specs.session_state.HandOn as session
+use Rattle.row_laws.specs.node_state.declared.call.CallLine.{CallLine}
+use Rattle.row_laws.specs.node_state.declared.call.CallLine.TheVariants as call
+use Rattle.row_laws.specs.node_state.declared.group.GroupRow.{GroupRow}
+use Rattle.row_laws.specs.node_state.declared.happened.Happened.{Happened}
+use Rattle.row_laws.specs.node_state.declared.happened.Happened.TheVariants as happened
+use Rattle.row_laws.specs.node_state.declared.packet.Body.{Body}
+use Rattle.row_laws.specs.node_state.declared.packet.Body.TheVariants as body
+use Rattle.row_laws.specs.node_state.declared.state.Core.{Core}
+use Rattle.row_laws.specs.node_state.Settings.{is_rings}
+use Rattle.row_laws.specs.node_state.State.{row_of, state_of, held_rows, frozen, leader_of, acked_by, least_acked, recorded, recorded_all, with_sessions}
+use Rattle.row_laws.specs.node_state.Sending.{send_on, sent, send_all, send_if_known, send_request_to, send_request, send_requests, send_kept_to, send_kept, kept_sent_if, kept_sent_again, send_votes_again}
+use Rattle.row_laws.specs.node_state.HandOn.{Answering, fills, cast_record, cast_records, heard, note_of, notes, noted, ballot_sent, cast_sent_of, casts_sent, hand_on}
+use Rattle.row_laws.specs.node_state.Following.{told_if, take_tell}
+use Rattle.row_laws.specs.node_state.Ticks.{ring_put, set_records, ring_taken, ring_row_of, ring_row, take_report, rings_union, report_of, send_report, rings_tick, tick_rings, is_lost, lost_told, tick_owed, entries_sent, list_sent_again, sent_again}
+use Rattle.row_laws.specs.node_state.Calls.{refuse_call, changed, ask_last, proposed, record_ballot, ballot_sent_if, cast_last, give_ballot, send_gone, send_all_gone, goodbye_said, take_call}
+use Rattle.row_laws.specs.run_safety.Past.{History}
 use Rattle.entry_laws.proofs.closing_rows.At.{Silent, Calm, calm_self, calm_then, calm_fold, At, at_fold, at_calm, at_recorded, at_recorded_all}
 
 -- ---- what is sent
 
-pub calm_on : (c : Core) (network to : ℕ) (b : Body) → Calm c (sent_on c network to b)
-unfolding sent_on
+pub calm_on : (c : Core) (network to : ℕ) (b : Body) → Calm c (send_on c network to b)
+unfolding send_on
 calm_on c network to b = record { groups = refl; views = refl; config = refl; records = refl }
 
 pub calm_sent : (c : Core) (to : ℕ) (b : Body) → Calm c (sent c to b)
 unfolding sent
 calm_sent c to b = calm_on c _ to b
 
-pub calm_all : (c : Core) (ns : List ℕ) (b : Body) → Calm c (sent_all c ns b)
-unfolding sent_all
+pub calm_all : (c : Core) (ns : List ℕ) (b : Body) → Calm c (send_all c ns b)
+unfolding send_all
 calm_all c ns b = calm_fold (λ t n. sent t n b) (λ t n. calm_sent t n b) ns c
 
-pub calm_known : (c : Core) (to : Option ℕ) (b : Body) → Calm c (sent_if_known c to b)
-unfolding sent_if_known
+pub calm_known : (c : Core) (to : Option ℕ) (b : Body) → Calm c (send_if_known c to b)
+unfolding send_if_known
 calm_known c None b = calm_self c
 calm_known c (Some n) b = calm_sent c n b
 
@@ -99,28 +99,28 @@ calm_casts c k to cs = by (frozen c)
 
 -- ---- what is owed is sent
 
-request_to_calm : (c : Core) (q : Request) (o : Option ℕ) → Calm c (request_to c q o)
-unfolding request_to
+request_to_calm : (c : Core) (q : Request) (o : Option ℕ) → Calm c (send_request_to c q o)
+unfolding send_request_to
 request_to_calm c q None = calm_sent c _ _
 request_to_calm c q (Some n) = calm_sent c _ _
 
-pub request_calm : (c : Core) (q : Request) → Calm c (request_sent c q)
-unfolding request_sent
+pub request_calm : (c : Core) (q : Request) → Calm c (send_request c q)
+unfolding send_request
 request_calm c q = by (frozen c)
   where
-    by : (b : Bool) → Calm c (elim b as (λ _. Core) [ true ↦ c | false ↦ request_to c q (leader_of c q.group) ])
+    by : (b : Bool) → Calm c (elim b as (λ _. Core) [ true ↦ c | false ↦ send_request_to c q (leader_of c q.group) ])
     by true = calm_self c
     by false = request_to_calm c q (leader_of c q.group)
 
-requests_calm : (c : Core) → Calm c (requests_sent c)
-unfolding requests_sent
-requests_calm c = calm_fold request_sent request_calm c.sessions.requests c
+requests_calm : (c : Core) → Calm c (send_requests c)
+unfolding send_requests
+requests_calm c = calm_fold send_request request_calm c.sessions.requests c
 
-kept_calm : (c : Core) (k : KeptBallot) → Calm c (kept_sent c k)
-unfolding kept_sent kept_sent_to
+kept_calm : (c : Core) (k : KeptBallot) → Calm c (send_kept c k)
+unfolding send_kept send_kept_to
 kept_calm c k = by k.ballot.filled
   where
-    by : (o : Option Filled) → Calm c (kept_sent_to c k (leader_of c k.group) o)
+    by : (o : Option Filled) → Calm c (send_kept_to c k (leader_of c k.group) o)
     by None = calm_self c
     by (Some b) = calm_known c _ _
 
@@ -132,30 +132,30 @@ kept_again_calm c k = by (runs k.proto k.phase (state_of c k.group).running)
     by false = calm_self c
     by true = kept_calm c k
 
-votes_calm : (c : Core) → Calm c (votes_sent_again c)
-unfolding votes_sent_again
+votes_calm : (c : Core) → Calm c (send_votes_again c)
+unfolding send_votes_again
 votes_calm c = calm_fold kept_sent_again kept_again_calm c.sessions.kept c
 
-pub owed_calm : (c : Core) → Calm c (votes_sent_again (requests_sent c))
-owed_calm c = calm_then c (requests_sent c) (votes_sent_again (requests_sent c)) (requests_calm c) (votes_calm (requests_sent c))
+pub owed_calm : (c : Core) → Calm c (send_votes_again (send_requests c))
+owed_calm c = calm_then c (send_requests c) (send_votes_again (send_requests c)) (requests_calm c) (votes_calm (send_requests c))
 
 lost_calm : (c : Core) (row : GroupRow) → Calm c (lost_told c row)
 unfolding lost_told
-lost_calm c row = calm_fold (λ t p. sent_if_known t (leader_of t row.name) (body.Gone t.views.view row.name p)) (λ t p. calm_known t _ _) (filter (is_lost c) (present (state_in row.list))) c
+lost_calm c row = calm_fold (λ t p. send_if_known t (leader_of t row.name) (body.Gone t.views.view row.name p)) (λ t p. calm_known t _ _) (filter (is_lost c) (present (state_in row.list))) c
 
-pub owed_part_calm : (c : Core) → Calm c (owed_part c)
-unfolding owed_part
+pub owed_part_calm : (c : Core) → Calm c (tick_owed c)
+unfolding tick_owed
 owed_part_calm c = by (frozen c)
   where
     t : Core
-    t = requests_sent c
+    t = send_requests c
 
     u : Core
     u = fold lost_told t (held_rows t)
 
-    by : (b : Bool) → Calm c (elim b as (λ _. Core) [ true ↦ c | false ↦ votes_sent_again u ])
+    by : (b : Bool) → Calm c (elim b as (λ _. Core) [ true ↦ c | false ↦ send_votes_again u ])
     by true = calm_self c
-    by false = calm_then c t (votes_sent_again u) (requests_calm c) (calm_then t u (votes_sent_again u) (calm_fold lost_told lost_calm (held_rows t) t) (votes_calm u))
+    by false = calm_then c t (send_votes_again u) (requests_calm c) (calm_then t u (send_votes_again u) (calm_fold lost_told lost_calm (held_rows t) t) (votes_calm u))
 
 entries_calm : (to : ℕ) (h : List ℕ) (stable : ℕ) (es : List Entry) (i : ℕ) (c : Core) → Calm c (entries_sent to h i stable es c)
 unfolding entries_sent
@@ -171,11 +171,11 @@ again_calm h c n = by (row_of c h).list
     by None = calm_self c
     by (Some l) = entries_calm n h (least_acked c h) (take 16 (drop (acked_by c (row_of c h) n - l.start) l.entries)) (acked_by c (row_of c h) n) c
 
-report_calm : (c : Core) (m : Mask) → Calm c (report_sent c m)
-unfolding report_sent
+report_calm : (c : Core) (m : Mask) → Calm c (send_report c m)
+unfolding send_report
 report_calm c m =
-    let t : Core = record c { reach = reach.own_set c.reach m } in
-    calm_then c t (sent_all t (filter (λ n. not (n == c.views.me)) (nodes_of m)) (body.Report (report_of t.reach))) (record { groups = refl; views = refl; config = refl; records = refl }) (calm_all t _ _)
+    let t : Core = record c { reach = reach.set_own c.reach m } in
+    calm_then c t (send_all t (filter (λ n. not (n == c.views.me)) (nodes_of m)) (body.Report (report_of t.reach))) (record { groups = refl; views = refl; config = refl; records = refl }) (calm_all t _ _)
 
 module _ (h : History) (T G : List ℕ → Type 0) where
   -- ---- handing on
@@ -206,8 +206,8 @@ module _ (h : History) (T G : List ℕ → Type 0) where
       let live : List Subscription = filter (is_of_group g) s.sessions.subs.live in
       at_recorded_all h T G (map (note_of s g place st) live) s (λ r k. let q = has_map (note_of s g place st) r live k in subst Silent (sym q.2) tt) a
 
-  pub at_handed : (f : Answering) (s : Core) (to : Option ℕ) (g : List ℕ) (i : ℕ) (before after : GroupState) (e : Entry) → At h T G s → At h T G (handed_on f s to g i before after e)
-  unfolding handed_on noted
+  pub at_handed : (f : Answering) (s : Core) (to : Option ℕ) (g : List ℕ) (i : ℕ) (before after : GroupState) (e : Entry) → At h T G s → At h T G (hand_on f s to g i before after e)
+  unfolding hand_on noted
   at_handed f s to g i before after e a =
       at_calm h T G (with_sessions t u) (casts_sent (with_sessions t u) g to cs) (calm_casts (with_sessions t u) g to cs) (at_calm h T G t (with_sessions t u) (calm_sessions t u) (told (differs before after)))
     where
@@ -230,16 +230,16 @@ module _ (h : History) (T G : List ℕ → Type 0) where
       told true = at_notes c g (Some i) after (at_recorded_all h T G (flat_map (heard s g i e after) cs) s (λ r k. heard_silent s g i e after cs r k) a)
       told false = at_recorded_all h T G (flat_map (heard s g i e after) cs) s (λ r k. heard_silent s g i e after cs r k) a
 
-  pub at_tell : (s : Core) (p : ProviderId) (r : ℕ) (y : Why) → At h T G s → At h T G (tell_row s p r y)
-  unfolding tell_row told_if
+  pub at_tell : (s : Core) (p : ProviderId) (r : ℕ) (y : Why) → At h T G s → At h T G (take_tell s p r y)
+  unfolding take_tell told_if
   at_tell s p r y a = by (is_numbered r (outstanding s.sessions p))
     where
       t : Core
-      t = with_sessions s (telling_taken s.sessions p r y)
+      t = with_sessions s (take_telling s.sessions p r y)
 
       by : (b : Bool) → At h T G (told_if s p r y b)
       by false = a
-      by true = at_recorded h T G t (happened.Told p r y) tt (at_calm h T G s t (calm_sessions s (telling_taken s.sessions p r y)) a)
+      by true = at_recorded h T G t (happened.Told p r y) tt (at_calm h T G s t (calm_sessions s (take_telling s.sessions p r y)) a)
 
   -- ---- rings
 
@@ -253,8 +253,8 @@ module _ (h : History) (T G : List ℕ → Type 0) where
   unfolding ring_taken
   at_ring_taken s x a =
       let d : Core = record s { rings = ring_put s.rings x.ring } in
-      let e : Core = fold (λ u (y : RingSend). sent_on u y.network y.to (body.Ring y.packet)) d x.sends in
-      at_recorded_all h T G (set_records s.views.me x.ring.net x.set) e (set_silent s.views.me x.ring.net x.set) (at_calm h T G s e (calm_then s d e (record { groups = refl; views = refl; config = refl; records = refl }) (calm_fold (λ u (y : RingSend). sent_on u y.network y.to (body.Ring y.packet)) (λ u y. calm_on u _ _ _) x.sends d)) a)
+      let e : Core = fold (λ u (y : RingSend). send_on u y.network y.to (body.Ring y.packet)) d x.sends in
+      at_recorded_all h T G (set_records s.views.me x.ring.net x.set) e (set_silent s.views.me x.ring.net x.set) (at_calm h T G s e (calm_then s d e (record { groups = refl; views = refl; config = refl; records = refl }) (calm_fold (λ u (y : RingSend). send_on u y.network y.to (body.Ring y.packet)) (λ u y. calm_on u _ _ _) x.sends d)) a)
 
   pub at_ring : (s : Core) (network from inc : ℕ) (p : RingPacket) → At h T G s → At h T G (ring_row s network from inc p)
   unfolding ring_row ring_row_of
@@ -262,27 +262,27 @@ module _ (h : History) (T G : List ℕ → Type 0) where
     where
       by : (o : Option Ring) → At h T G (ring_row_of s from inc p o)
       by None = a
-      by (Some r) = at_ring_taken s (ring_stepped r (ring_event.Packet from inc p)) a
+      by (Some r) = at_ring_taken s (ring_step r (ring_event.Packet from inc p)) a
 
-  pub at_report : (s : Core) (rows : List ReportRow) → At h T G s → At h T G (report_row s rows)
-  unfolding report_row
+  pub at_report : (s : Core) (rows : List ReportRow) → At h T G s → At h T G (take_report s rows)
+  unfolding take_report
   at_report s rows a = at_calm h T G s _ (record { groups = refl; views = refl; config = refl; records = refl }) a
 
-  pub at_rings_part : (s : Core) → At h T G s → At h T G (rings_part s)
-  unfolding rings_part rings_tick
+  pub at_rings_part : (s : Core) → At h T G s → At h T G (tick_rings s)
+  unfolding tick_rings rings_tick
   at_rings_part s a = by (is_rings s.config.mode)
     where
       t : Core
-      t = fold (λ u (r : Ring). ring_taken u (ring_stepped r ring_event.Tick)) s s.rings
+      t = fold (λ u (r : Ring). ring_taken u (ring_step r ring_event.Tick)) s s.rings
 
-      by : (b : Bool) → At h T G (elim b as (λ _. Core) [ true ↦ report_sent t (rings_union t.rings) | false ↦ s ])
+      by : (b : Bool) → At h T G (elim b as (λ _. Core) [ true ↦ send_report t (rings_union t.rings) | false ↦ s ])
       by false = a
-      by true = at_calm h T G t (report_sent t (rings_union t.rings)) (report_calm t (rings_union t.rings)) (at_fold h T G (λ u (r : Ring). ring_taken u (ring_stepped r ring_event.Tick)) s.rings (λ u r i k. at_ring_taken u (ring_stepped r ring_event.Tick) k) s a)
+      by true = at_calm h T G t (send_report t (rings_union t.rings)) (report_calm t (rings_union t.rings)) (at_fold h T G (λ u (r : Ring). ring_taken u (ring_step r ring_event.Tick)) s.rings (λ u r i k. at_ring_taken u (ring_step r ring_event.Tick) k) s a)
 
   -- ---- calls
 
-  at_refused_call : (s : Core) (client : List ℕ) (fault : GsFault) → At h T G s → At h T G (call_refused s client fault)
-  unfolding call_refused
+  at_refused_call : (s : Core) (client : List ℕ) (fault : GsFault) → At h T G s → At h T G (refuse_call s client fault)
+  unfolding refuse_call
   at_refused_call s client fault a = at_recorded h T G s (happened.Refused s.views.me client fault) tt a
 
   at_changed : (s : Core) (client : List ℕ) (r : Result SessionState GsFault) → At h T G s → At h T G (changed s client r)
@@ -290,47 +290,47 @@ module _ (h : History) (T G : List ℕ → Type 0) where
   at_changed s client (Ok t) a = at_calm h T G s (with_sessions s t) (calm_sessions s t) a
   at_changed s client (Err fault) a = at_refused_call s client fault a
 
-  at_last_asked : (s : Core) (o : Option Request) → At h T G s → At h T G (last_asked s o)
-  unfolding last_asked
+  at_last_asked : (s : Core) (o : Option Request) → At h T G s → At h T G (ask_last s o)
+  unfolding ask_last
   at_last_asked s None a = a
   at_last_asked s (Some q) a =
       let t : Core = recorded s (happened.Asked q.p q.r q.group q.proposal) in
-      at_calm h T G t (request_sent t q) (request_calm t q) (at_recorded h T G s (happened.Asked q.p q.r q.group q.proposal) tt a)
+      at_calm h T G t (send_request t q) (request_calm t q) (at_recorded h T G s (happened.Asked q.p q.r q.group q.proposal) tt a)
 
   at_proposed : (s : Core) (client : List ℕ) (r : Result SessionState GsFault) → At h T G s → At h T G (proposed s client r)
   unfolding proposed
   at_proposed s client (Ok t) a = at_last_asked (with_sessions s t) (last_or None t.requests) (at_calm h T G s (with_sessions s t) (calm_sessions s t) a)
   at_proposed s client (Err fault) a = at_refused_call s client fault a
 
-  at_last_cast : (s : Core) (o : Option KeptBallot) → At h T G s → At h T G (last_cast s o)
-  unfolding last_cast ballot_recorded ballot_sent_if
+  at_last_cast : (s : Core) (o : Option KeptBallot) → At h T G s → At h T G (cast_last s o)
+  unfolding cast_last record_ballot ballot_sent_if
   at_last_cast s None a = a
-  at_last_cast s (Some k) a = sends (ballot_recorded s k k.ballot.filled) (frozen s) (by k.ballot.filled)
+  at_last_cast s (Some k) a = sends (record_ballot s k k.ballot.filled) (frozen s) (by k.ballot.filled)
     where
-      by : (o : Option Filled) → At h T G (ballot_recorded s k o)
+      by : (o : Option Filled) → At h T G (record_ballot s k o)
       by None = a
       by (Some b) = at_recorded h T G s (happened.Cast k.p k.proto k.phase b.vote b.value b.message) tt a
 
       sends : (d : Core) (b : Bool) → At h T G d → At h T G (ballot_sent_if d k b)
       sends d true x = x
-      sends d false x = at_calm h T G d (kept_sent d k) (kept_calm d k) x
+      sends d false x = at_calm h T G d (send_kept d k) (kept_calm d k) x
 
-  at_given : (s : Core) (client : List ℕ) (r : Result SessionState GsFault) → At h T G s → At h T G (ballot_given s client r)
-  unfolding ballot_given
+  at_given : (s : Core) (client : List ℕ) (r : Result SessionState GsFault) → At h T G s → At h T G (give_ballot s client r)
+  unfolding give_ballot
   at_given s client (Ok t) a = at_last_cast (with_sessions s t) (last_or None t.kept) (at_calm h T G s (with_sessions s t) (calm_sessions s t) a)
   at_given s client (Err fault) a = at_refused_call s client fault a
 
   at_said : (s : Core) (client : List ℕ) (over : List Provider) (r : Result SessionState GsFault) → At h T G s → At h T G (goodbye_said s client over r)
-  unfolding goodbye_said all_gone_sent gone_sent frozen
+  unfolding goodbye_said send_all_gone send_gone frozen
   at_said s client over (Ok t) a = by (with_sessions s t) (frozen (with_sessions s t)) (at_calm h T G s (with_sessions s t) (calm_sessions s t) a)
     where
-      by : (d : Core) (b : Bool) → At h T G d → At h T G (elim b as (λ _. Core) [ true ↦ d | false ↦ fold gone_sent d over ])
+      by : (d : Core) (b : Bool) → At h T G d → At h T G (elim b as (λ _. Core) [ true ↦ d | false ↦ fold send_gone d over ])
       by d true x = x
-      by d false x = at_calm h T G d (fold gone_sent d over) (calm_fold gone_sent (λ t x. calm_known t _ _) over d) x
+      by d false x = at_calm h T G d (fold send_gone d over) (calm_fold send_gone (λ t x. calm_known t _ _) over d) x
   at_said s client over (Err fault) a = at_refused_call s client fault a
 
-  pub at_call : (s : Core) (c : CallLine) → At h T G s → At h T G (call_row s c)
-  unfolding call_row
+  pub at_call : (s : Core) (c : CallLine) → At h T G s → At h T G (take_call s c)
+  unfolding take_call
   at_call s (call.Init node name votes) a = at_changed s name _ a
   at_call s (call.Join client g instance attrs) a = at_proposed s client _ a
   at_call s (call.Leave client g phases) a = at_proposed s client _ a

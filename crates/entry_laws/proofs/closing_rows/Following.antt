@@ -2,36 +2,36 @@
 use Rattle.std.proofs.Common.{◌≡◌, ◌⊎◌, ℕ, List, Option, Some, None, Bool, true, false, refl, sym, ap, ◌∙◌, subst, inl, inr}
 use Rattle.std.specs.Prelude.{◌==◌, ◌&&◌, ◌||◌, find, fold, reverse, nat_le, nat_lt, is_none}
 use Rattle.std.specs.Option.{unwrap_or}
-use Rattle.rsct_packet.specs.declared.ids.ProviderId.{ProviderId}
-use Rattle.rsct_packet.specs.declared.ids.ProtoId.{ProtoId}
-use Rattle.rsct_packet.specs.Providers.{among}
-use Rattle.group_attr.specs.declared.attrs.Phases.{Phases}
-use Rattle.proposal_core.specs.declared.proposal.Cause.TheVariants.{Gone}
-use Rattle.proposal_core.specs.declared.proposal.Proposal.{Proposal}
-use Rattle.proposal_core.specs.declared.entry.Entry.{Entry}
-use Rattle.proposal_core.specs.declared.entry.Vote.{Vote}
-use Rattle.proposal_core.specs.Fold.{runs, present}
-use Rattle.proposal_core.specs.Lists.{state_in, len_in}
-use Rattle.batch_rules.specs.Waiting.{waits_failure, join_dropped}
-use Rattle.vote_phases.specs.Tally.{TallyView, tally_fail}
-use Rattle.name_server.specs.Names as names
-use Rattle.client_callbacks.specs.declared.told.Why.{Why}
-use Rattle.client_callbacks.specs.declared.told.Why.TheVariants.{GroupsFull}
-use Rattle.session_state.specs.declared.state.Request.{Request}
-use Rattle.node_state.specs.declared.group.Decision.{Decision}
-use Rattle.node_state.specs.declared.group.GroupRow.{GroupRow}
-use Rattle.node_state.specs.declared.packet.Body.TheVariants as body
-use Rattle.node_state.specs.declared.state.Core.{Core}
-use Rattle.node_state.specs.Settings.{is_fixed}
-use Rattle.node_state.specs.State.{InNameOrder, row_found, row_of, with_row, with_led, led_of, state_of, len_of, holds, fits_at_end, forgets_below, coordinates, is_this, leader_in, leader_of, leads_in, leads, led_by, acked_raised, decision_of, recorded, has_name}
-use Rattle.node_state.specs.Sending.{sent, sent_on, request_sent}
-use Rattle.node_state.specs.HandOn.{Answering}
-use Rattle.node_state.specs.Leading.{put, put_and_handed, with_waiting, with_tally, closes}
-use Rattle.node_state.specs.Deciding.{decided}
-use Rattle.node_state.specs.Following.{lookup_row, tell_row, requests_of, named, is_name_used, name_row, told_again, request_new, request_after, request_at, is_group_refused, request_row, entry_next, entry_elsewhere, entry_row, acked, ack_row, vote_cast, vote_row, tally_failed, gone_waits, marked, gone_present, gone_of, gone_row}
-use Rattle.run_safety.specs.Past.{History, earlier}
-use Rattle.node_state.proofs.NameOrder.{cases_text, row_here, row_there, rows_ordered}
-use Rattle.step_ties.proofs.Appending.{handed_rows}
+use Rattle.row_laws.specs.rsct_packet.declared.ids.ProviderId.{ProviderId}
+use Rattle.row_laws.specs.rsct_packet.declared.ids.ProtoId.{ProtoId}
+use Rattle.row_laws.specs.rsct_packet.Providers.{among}
+use Rattle.row_laws.specs.group_attr.declared.attrs.Phases.{Phases}
+use Rattle.row_laws.specs.proposal_core.declared.proposal.Cause.TheVariants.{Gone}
+use Rattle.row_laws.specs.proposal_core.declared.proposal.Proposal.{Proposal}
+use Rattle.row_laws.specs.proposal_core.declared.entry.Entry.{Entry}
+use Rattle.row_laws.specs.proposal_core.declared.entry.Vote.{Vote}
+use Rattle.row_laws.specs.proposal_core.Fold.{runs, present}
+use Rattle.row_laws.specs.proposal_core.Lists.{state_in, len_in}
+use Rattle.row_laws.specs.batch_rules.Waiting.{add_failure, drop_join}
+use Rattle.row_laws.specs.vote_phases.Tally.{TallyView, tally_fail}
+use Rattle.row_laws.specs.name_server.Names as names
+use Rattle.row_laws.specs.client_callbacks.declared.told.Why.{Why}
+use Rattle.row_laws.specs.client_callbacks.declared.told.Why.TheVariants.{GroupsFull}
+use Rattle.row_laws.specs.session_state.declared.state.Request.{Request}
+use Rattle.row_laws.specs.node_state.declared.group.Decision.{Decision}
+use Rattle.row_laws.specs.node_state.declared.group.GroupRow.{GroupRow}
+use Rattle.row_laws.specs.node_state.declared.packet.Body.TheVariants as body
+use Rattle.row_laws.specs.node_state.declared.state.Core.{Core}
+use Rattle.row_laws.specs.node_state.Settings.{is_fixed}
+use Rattle.row_laws.specs.node_state.State.{InNameOrder, row_found, row_of, with_row, with_led, led_of, state_of, len_of, holds, fits_at_end, forget_below, coordinates, is_this, leader_in, leader_of, leads_in, leads, set_leader, acked_raised, decision_of, recorded, has_name}
+use Rattle.row_laws.specs.node_state.Sending.{sent, send_on, send_request}
+use Rattle.row_laws.specs.node_state.HandOn.{Answering}
+use Rattle.row_laws.specs.node_state.Leading.{put, put_and_hand, with_waiting, with_tally, closes}
+use Rattle.row_laws.specs.node_state.Deciding.{decided}
+use Rattle.row_laws.specs.node_state.Following.{take_lookup, take_tell, requests_of, named, is_name_used, take_name, tell_again, decide_new, request_after, request_at, is_group_refused, take_request, entry_next, entry_elsewhere, take_entry, acked, take_ack, vote_cast, take_vote, tally_failed, wait_gone, marked, gone_present, gone_of, take_gone}
+use Rattle.row_laws.specs.run_safety.Past.{History, earlier}
+use Rattle.row_laws.proofs.node_state_laws.NameOrder.{cases_text, row_here, row_there, rows_ordered}
+use Rattle.row_laws.proofs.step_refinement_laws.Appending.{handed_rows}
 use Rattle.entry_laws.specs.closing_rows.Rows.{TallyFits}
 use Rattle.entry_laws.proofs.closing_rows.At.{found, leads_row, leads_is, RowIs, PutFact, StateIs, calm_then, calm_fold, At, at_for, at_fold, at_calm, at_row, list_with}
 use Rattle.entry_laws.proofs.closing_rows.Calms.{calm_sent, request_calm, at_tell}
@@ -54,8 +54,8 @@ module _ (h : History) where
   Full s = At h Every NoGroup s
 
   -- a leader is known
-  at_led_by : (s : Core) (g : List ℕ) (n : ℕ) → RowIs (leads_row s (record (found s g) { leader = Some n })) (record (found s g) { leader = Some n }) → Full s → Full (led_by s g n)
-  unfolding led_by with_row row_of
+  at_led_by : (s : Core) (g : List ℕ) (n : ℕ) → RowIs (leads_row s (record (found s g) { leader = Some n })) (record (found s g) { leader = Some n }) → Full s → Full (set_leader s g n)
+  unfolding set_leader with_row row_of
   at_led_by s g n own a =
       record {
         rows = record { order = rows_ordered g f (λ x. refl) s a.rows.order; tallies = λ k u. tally k (cases_text g k); led = λ k z. absurd z };
@@ -83,19 +83,19 @@ module _ (h : History) where
 
   -- ---- LOOKUP and NAME
 
-  pub at_lookup : (s : Core) (from : ℕ) (g : List ℕ) → Full s → Full (lookup_row s from g)
-  unfolding lookup_row
+  pub at_lookup : (s : Core) (from : ℕ) (g : List ℕ) → Full s → Full (take_lookup s from g)
+  unfolding take_lookup
   at_lookup s from g a = by (coordinates s)
     where
       t : Core
-      t = record s { names = names.names_after g from s.names }
+      t = record s { names = names.lookup g from s.names }
 
       by : (b : Bool) → Full (elim b as (λ _. Core) [ false ↦ s | true ↦ sent t from (body.Name s.views.view g (unwrap_or (names.looked_up g from s.names) 0)) ])
       by false = a
       by true = at_calm h Every NoGroup s _ (calm_then s t _ (record { groups = refl; views = refl; config = refl; records = refl }) (calm_sent t from (body.Name s.views.view g (unwrap_or (names.looked_up g from s.names) 0)))) a
 
-  pub at_name : (s : Core) (g : List ℕ) (n : ℕ) → Full s → Full (name_row s g n)
-  unfolding name_row named is_name_used leader_of leader_in row_of
+  pub at_name : (s : Core) (g : List ℕ) (n : ℕ) → Full s → Full (take_name s g n)
+  unfolding take_name named is_name_used leader_of leader_in row_of
   at_name s g n a = by (n == 0) (is_none (leader_in s (found s g))) (is_fixed s.config.mode) refl
     where
       idle : is_none (leader_in s (found s g)) ≡ true → (found s g).led.tally ≡ None
@@ -109,28 +109,28 @@ module _ (h : History) where
           at (inl z) = z
           at (inr k) = absurd (unled (leader_in s (found s g)) e k.0)
 
-      told : Full (fold (λ t (q : Request). tell_row t q.p q.r (GroupsFull 64)) s (requests_of s g))
-      told = at_fold h Every NoGroup (λ t (q : Request). tell_row t q.p q.r (GroupsFull 64)) (requests_of s g) (λ t q i k. at_tell h Every NoGroup t q.p q.r (GroupsFull 64) k) s a
+      told : Full (fold (λ t (q : Request). take_tell t q.p q.r (GroupsFull 64)) s (requests_of s g))
+      told = at_fold h Every NoGroup (λ t (q : Request). take_tell t q.p q.r (GroupsFull 64)) (requests_of s g) (λ t q i k. at_tell h Every NoGroup t q.p q.r (GroupsFull 64) k) s a
 
       by : (zero none fixed : Bool) → is_none (leader_in s (found s g)) ≡ none → Full (elim (none || (fixed && zero)) as (λ _. Core) [ true ↦ named s g n zero | false ↦ s ])
       by true true fixed e = told
       by true false true e = told
       by true false false e = a
-      by false true fixed e = at_calm h Every NoGroup (led_by s g n) _ (calm_fold request_sent request_calm (requests_of s g) (led_by s g n)) (at_led_by s g n (inl (idle e)) a)
+      by false true fixed e = at_calm h Every NoGroup (set_leader s g n) _ (calm_fold send_request request_calm (requests_of s g) (set_leader s g n)) (at_led_by s g n (inl (idle e)) a)
       by false false true e = a
       by false false false e = a
 
   -- ---- REQUEST
 
-  at_told_again : (s : Core) (g : List ℕ) (p : ProviderId) (r : ℕ) (o : Option Why) → Full s → Full (told_again s g p r o)
-  unfolding told_again
+  at_told_again : (s : Core) (g : List ℕ) (p : ProviderId) (r : ℕ) (o : Option Why) → Full s → Full (tell_again s g p r o)
+  unfolding tell_again
   at_told_again s g p r None a = a
   at_told_again s g p r (Some y) a = at_calm h Every NoGroup s _ (calm_sent s p.node (body.Tell s.views.view g p r y)) a
 
   -- noting itself as leader, the node leads
-  module _ (f : Answering) (s : Core) (g : List ℕ) (leads_it : leads (led_by s g s.views.me) g ≡ true) where
-    at_noted : Full s → Full (led_by s g s.views.me)
-    unfolding led_by with_row leads leads_in leader_in row_of
+  module _ (f : Answering) (s : Core) (g : List ℕ) (leads_it : leads (set_leader s g s.views.me) g ≡ true) where
+    at_noted : Full s → Full (set_leader s g s.views.me)
+    unfolding set_leader with_row leads leads_in leader_in row_of
     at_noted a = at_led_by s g s.views.me (own (a.rows.tallies g tt)) a
       where
         now : leads_row s (record (found s g) { leader = Some s.views.me }) ≡ true
@@ -140,10 +140,10 @@ module _ (h : History) where
         own (inl e) = inl e
         own (inr k) = inr (now, k.1)
 
-    at_request_new : (p : ProviderId) (r : ℕ) (phases : Phases) (x : Proposal) → Full s → Full (request_new f s g p r phases x)
-    unfolding request_new
+    at_request_new : (p : ProviderId) (r : ℕ) (phases : Phases) (x : Proposal) → Full s → Full (decide_new f s g p r phases x)
+    unfolding decide_new
     at_request_new p r phases x a =
-        let t : Core = led_by s g s.views.me in
+        let t : Core = set_leader s g s.views.me in
         all_again (decided f t g p r phases x) g (at_decided h Every (Only g) f t g p r phases x tt refl (only_led t g leads_it (at_noted a)))
 
     at_request_after : (p : ProviderId) (r : ℕ) (phases : Phases) (x : Proposal) (d : Decision) (b c : Bool) → Full s → Full (request_after f s g p r phases x d b c)
@@ -157,8 +157,8 @@ module _ (h : History) where
     at_request_at p r phases x None a = at_request_new p r phases x a
     at_request_at p r phases x (Some d) a = at_request_after p r phases x d (nat_lt r d.r) (r == d.r) a
 
-    pub at_request : (from : ℕ) (p : ProviderId) (r : ℕ) (phases : Phases) (x : Proposal) → Full s → Full (request_row f s from g p r phases x)
-    unfolding request_row
+    pub at_request : (from : ℕ) (p : ProviderId) (r : ℕ) (phases : Phases) (x : Proposal) → Full s → Full (take_request f s from g p r phases x)
+    unfolding take_request
     at_request from p r phases x a = by (is_group_refused s g)
       where
         by : (b : Bool) → Full (elim b as (λ _. Core) [ true ↦ sent s from (body.Name s.views.view g 0) | false ↦ request_at f s g p r phases x (decision_of (led_of s g) p) ])
@@ -168,21 +168,21 @@ module _ (h : History) where
   -- ---- ENTRY and ACK
 
   -- what is counted stays where an entry is put
-  rows_after : (f : Answering) (s : Core) (from : ℕ) (g : List ℕ) (e : Entry) → InNameOrder s.groups → (found (put_and_handed f s (Some from) g e) g).led.tally ≡ (found s g).led.tally
-  unfolding put_and_handed put recorded with_row row_of
+  rows_after : (f : Answering) (s : Core) (from : ℕ) (g : List ℕ) (e : Entry) → InNameOrder s.groups → (found (put_and_hand f s (Some from) g e) g).led.tally ≡ (found s g).led.tally
+  unfolding put_and_hand put recorded with_row row_of
   rows_after f s from g e order =
       ap (λ rows. (row_found g (find (has_name g) rows)).led.tally) (handed_rows f (put s g e) (Some from) g (len_of s g) (state_of s g) (state_of (put s g e) g) e).0 ∙ ap (λ (z : GroupRow). z.led.tally) (row_here g (λ row. put_row h s row e) (λ x. refl) s order)
 
   -- what the node does not lead is not counted there; the entry was put by someone
   module _ (f : Answering) (s : Core) (from : ℕ) (g : List ℕ) (stable : ℕ) (e : Entry) where
     at_next : PutFact (reverse s.records) h s.views.me s.views.view g (len_in (found s g).list) e → (leads s g ≡ true → ⊥) → Full s → Full (entry_next f s from g stable e true)
-    unfolding entry_next sent sent_on
+    unfolding entry_next sent send_on
     at_next fact follows a =
-        let t : Core = put_and_handed f s (Some from) g e in
+        let t : Core = put_and_hand f s (Some from) g e in
         let u : Core = sent t from (body.Ack t.views.view g (len_of t g)) in
         let b : Full t = at_put_and_handed_for h Every NoGroup Every f s (Some from) g e fact (λ k u ne. u) (λ u. inl none) a in
         let c : Full u = at_calm h Every NoGroup t u (calm_sent t from (body.Ack t.views.view g (len_of t g))) b in
-        at_forgets h Every NoGroup (led_by u g from) g stable (at_led_by u g from (inl after) c)
+        at_forgets h Every NoGroup (set_leader u g from) g stable (at_led_by u g from (inl after) c)
       where
         none : (found s g).led.tally ≡ None
         none = at (a.rows.tallies g tt)
@@ -192,7 +192,7 @@ module _ (h : History) where
             at (inr k) = absurd (follows (sym (leads_is s g) ∙ k.0))
 
         t : Core
-        t = put_and_handed f s (Some from) g e
+        t = put_and_hand f s (Some from) g e
 
         after : (found (sent t from (body.Ack t.views.view g (len_of t g))) g).led.tally ≡ None
         after = rows_after f s from g e a.rows.order ∙ none
@@ -207,12 +207,12 @@ module _ (h : History) where
     at_elsewhere true a = at_forgets h Every NoGroup (sent s from (body.Ack s.views.view g (len_of s g))) g stable (at_calm h Every NoGroup s _ (calm_sent s from (body.Ack s.views.view g (len_of s g))) a)
     at_elsewhere false a = by (holds s g)
       where
-        by : (b : Bool) → Full (elim b as (λ _. Core) [ true ↦ forgets_below s g stable | false ↦ s ])
+        by : (b : Bool) → Full (elim b as (λ _. Core) [ true ↦ forget_below s g stable | false ↦ s ])
         by true = at_forgets h Every NoGroup s g stable a
         by false = a
 
-    pub at_entry : (place : ℕ) → ((place == len_of s g) ≡ true → PutFact (reverse s.records) h s.views.me s.views.view g (len_in (found s g).list) e) → ((place == len_of s g) ≡ true → leads s g ≡ true → ⊥) → Full s → Full (entry_row f s from g place stable e)
-    unfolding entry_row
+    pub at_entry : (place : ℕ) → ((place == len_of s g) ≡ true → PutFact (reverse s.records) h s.views.me s.views.view g (len_in (found s g).list) e) → ((place == len_of s g) ≡ true → leads s g ≡ true → ⊥) → Full s → Full (take_entry f s from g place stable e)
+    unfolding take_entry
     at_entry place fact follows a = by (place == len_of s g) refl
       where
         by : (b : Bool) → (place == len_of s g) ≡ b → Full (elim b as (λ _. Core) [ true ↦ entry_next f s from g stable e (fits_at_end s g e) | false ↦ entry_elsewhere s from g stable (nat_lt place (len_of s g)) ])
@@ -225,8 +225,8 @@ module _ (h : History) where
       let t : Core = with_led s g (λ l. record l { acked = acked_raised from n l.acked }) in
       at_forgets_least h Every NoGroup t g (at_led h Every NoGroup s g (λ l. record l { acked = acked_raised from n l.acked }) (λ l. refl) a)
 
-  pub at_ack : (s : Core) (from : ℕ) (g : List ℕ) (n : ℕ) → Full s → Full (ack_row s from g n)
-  unfolding ack_row
+  pub at_ack : (s : Core) (from : ℕ) (g : List ℕ) (n : ℕ) → Full s → Full (take_ack s from g n)
+  unfolding take_ack
   at_ack s from g n a = by (leads s g && nat_le n (len_of s g))
     where
       by : (b : Bool) → Full (elim b as (λ _. Core) [ true ↦ acked s from g n | false ↦ s ])
@@ -235,8 +235,8 @@ module _ (h : History) where
 
   -- ---- VOTE
 
-  pub at_vote : (f : Answering) (s : Core) (g : List ℕ) (proto : ProtoId) (phase : ℕ) (p : ProviderId) (v : Vote) (value message : Option (List ℕ)) → Full s → Full (vote_row f s g proto phase p v value message)
-  unfolding vote_row with_led
+  pub at_vote : (f : Answering) (s : Core) (g : List ℕ) (proto : ProtoId) (phase : ℕ) (p : ProviderId) (v : Vote) (value message : Option (List ℕ)) → Full s → Full (take_vote f s g proto phase p v value message)
+  unfolding take_vote with_led
   at_vote f s g proto phase p v value message a = by (leads s g) (runs proto phase (state_of s g).running) refl
     where
       t : Core
@@ -264,12 +264,12 @@ module _ (h : History) where
       own (inl none) = let z : Some t ≡ None = sym e ∙ none in absurd (cc)
       own (inr k) = inr (k.0, failed_fits p t (state_in (found s g).list) (subst (λ z. TallyFits z (state_in (found s g).list)) e k.1))
 
-  at_gone_waits : (s : Core) (g : List ℕ) (p : ProviderId) → Full s → Full (gone_waits s g p)
-  unfolding gone_waits
+  at_gone_waits : (s : Core) (g : List ℕ) (p : ProviderId) → Full s → Full (wait_gone s g p)
+  unfolding wait_gone
   at_gone_waits s g p a = by (among (state_of s g).members p)
     where
-      by : (b : Bool) → Full (elim b as (λ _. Core) [ true ↦ with_waiting s g (waits_failure p Gone) | false ↦ s ])
-      by true = at_waits h Every NoGroup s g (waits_failure p Gone) a
+      by : (b : Bool) → Full (elim b as (λ _. Core) [ true ↦ with_waiting s g (add_failure p Gone) | false ↦ s ])
+      by true = at_waits h Every NoGroup s g (add_failure p Gone) a
       by false = a
 
   at_gone_present : (f : Answering) (s : Core) (g : List ℕ) (p : ProviderId) → leads s g ≡ true → Full s → Full (gone_present f s g p)
@@ -282,11 +282,11 @@ module _ (h : History) where
   at_gone_of : (f : Answering) (s : Core) (g : List ℕ) (p : ProviderId) (b c : Bool) → leads s g ≡ true → Full s → Full (gone_of f s g p b c)
   unfolding gone_of
   at_gone_of f s g p true c led a = at_gone_present f s g p led a
-  at_gone_of f s g p false true led a = at_waits h Every NoGroup s g (join_dropped p) a
+  at_gone_of f s g p false true led a = at_waits h Every NoGroup s g (drop_join p) a
   at_gone_of f s g p false false led a = a
 
-  pub at_gone : (f : Answering) (s : Core) (g : List ℕ) (p : ProviderId) → Full s → Full (gone_row f s g p)
-  unfolding gone_row
+  pub at_gone : (f : Answering) (s : Core) (g : List ℕ) (p : ProviderId) → Full s → Full (take_gone f s g p)
+  unfolding take_gone
   at_gone f s g p a = by (leads s g) refl
     where
       by : (b : Bool) → leads s g ≡ b → Full (elim b as (λ _. Core) [ true ↦ gone_of f s g p (among (present (state_of s g)) p) (among (led_of s g).waiting.joins p) | false ↦ s ])

@@ -2,32 +2,32 @@
 use Rattle.std.proofs.Common.{◌≡◌, ℕ, zero, suc, ◌-◌, max, List, [], drop, Option, Some, None, Bool, true, false, refl, sym, ap, ◌∙◌, subst, inl, inr}
 use Rattle.std.specs.Prelude.{◌&&◌, not, filter, is_none, nat_le, reverse, if◌then◌else◌}
 use Rattle.std.proofs.lemmas.Bool.{and_parts}
-use Rattle.rsct_packet.specs.declared.ids.ViewId.{ViewId}
-use Rattle.rsct_packet.specs.declared.ids.ProviderId.{ProviderId}
-use Rattle.rsct_packet.specs.Providers.{among}
-use Rattle.group_attr.specs.declared.attrs.Phases.{Phases}
-use Rattle.group_attr.specs.declared.attrs.Phases.TheVariants.{One, Many}
-use Rattle.proposal_core.specs.declared.proposal.Cause.TheVariants.{Died, Gone}
-use Rattle.proposal_core.specs.declared.proposal.Proposal.{Proposal}
-use Rattle.proposal_core.specs.declared.entry.Entry.{Entry}
-use Rattle.proposal_core.specs.declared.entry.Entry.TheVariants.{Once, Begin}
-use Rattle.proposal_core.specs.declared.group_state.GroupState.{GroupState}
-use Rattle.proposal_core.specs.declared.group_state.Running.{Running}
-use Rattle.proposal_core.specs.Fold.{max_phases, can_begin, fits, begun, approved, applied, after_if, after, voters}
-use Rattle.proposal_core.proofs.FoldLaws.{idle_approved}
-use Rattle.proposal_core.specs.GroupView.{GroupView}
-use Rattle.proposal_core.specs.Lists.{list_or_new, state_in, len_in, has_room, entry_fits, with_entry, forgotten}
-use Rattle.batch_rules.specs.Waiting.{WaitingView, waits_failure}
-use Rattle.vote_phases.specs.Tally.{TallyView}
-use Rattle.node_state.specs.declared.group.GroupRow.{GroupRow}
-use Rattle.node_state.specs.declared.group.Led.{Led}
-use Rattle.node_state.specs.declared.packet.Body.TheVariants as body
-use Rattle.node_state.specs.declared.state.Core.{Core}
-use Rattle.node_state.specs.State.{row_of, with_led, led_of, list_of, state_of, len_of, fits_at_end, list_forgotten, forgets_below, leader_of, others, least_acked}
-use Rattle.node_state.specs.Sending.{sent_all}
-use Rattle.node_state.specs.HandOn.{Answering, handed_on}
-use Rattle.node_state.specs.Leading.{put, put_and_handed, forgets_least, with_waiting, waits_if, new_members_wait, appended, appended_if, tally_for, tally_set, tally_opened, closing_entry, is_phase, closes_from, closes, begun_many, begins}
-use Rattle.run_safety.specs.Past.{History}
+use Rattle.row_laws.specs.rsct_packet.declared.ids.ViewId.{ViewId}
+use Rattle.row_laws.specs.rsct_packet.declared.ids.ProviderId.{ProviderId}
+use Rattle.row_laws.specs.rsct_packet.Providers.{among}
+use Rattle.row_laws.specs.group_attr.declared.attrs.Phases.{Phases}
+use Rattle.row_laws.specs.group_attr.declared.attrs.Phases.TheVariants.{One, Many}
+use Rattle.row_laws.specs.proposal_core.declared.proposal.Cause.TheVariants.{Died, Gone}
+use Rattle.row_laws.specs.proposal_core.declared.proposal.Proposal.{Proposal}
+use Rattle.row_laws.specs.proposal_core.declared.entry.Entry.{Entry}
+use Rattle.row_laws.specs.proposal_core.declared.entry.Entry.TheVariants.{Once, Begin}
+use Rattle.row_laws.specs.proposal_core.declared.group_state.GroupState.{GroupState}
+use Rattle.row_laws.specs.proposal_core.declared.group_state.Running.{Running}
+use Rattle.row_laws.specs.proposal_core.Fold.{max_phases, can_begin, fits, begun, approve, apply, after_if, after, voters}
+use Rattle.row_laws.proofs.proposal_core_laws.FoldLaws.{idle_approved}
+use Rattle.row_laws.specs.proposal_core.GroupView.{GroupView}
+use Rattle.row_laws.specs.proposal_core.Lists.{list_or_new, state_in, len_in, has_room, entry_fits, with_entry, forgotten}
+use Rattle.row_laws.specs.batch_rules.Waiting.{WaitingView, add_failure}
+use Rattle.row_laws.specs.vote_phases.Tally.{TallyView}
+use Rattle.row_laws.specs.node_state.declared.group.GroupRow.{GroupRow}
+use Rattle.row_laws.specs.node_state.declared.group.Led.{Led}
+use Rattle.row_laws.specs.node_state.declared.packet.Body.TheVariants as body
+use Rattle.row_laws.specs.node_state.declared.state.Core.{Core}
+use Rattle.row_laws.specs.node_state.State.{row_of, with_led, led_of, list_of, state_of, len_of, fits_at_end, list_forgotten, forget_below, leader_of, others, least_acked}
+use Rattle.row_laws.specs.node_state.Sending.{send_all}
+use Rattle.row_laws.specs.node_state.HandOn.{Answering, hand_on}
+use Rattle.row_laws.specs.node_state.Leading.{put, put_and_hand, forget_least, with_waiting, wait_if, new_members_wait, appended, append_if_fits, tally_for, tally_set, tally_opened, closing_entry, is_phase, closes_from, closes, begin_many, begins}
+use Rattle.row_laws.specs.run_safety.Past.{History}
 use Rattle.entry_laws.specs.closing_rows.Rows.{HasRows, TallyFits}
 use Rattle.entry_laws.proofs.closing_rows.At.{found, leads_row, RowIs, PutFact, At, at_put_for, at_fold, at_calm, at_row, at_row_for, put_fact}
 use Rattle.entry_laws.proofs.closing_rows.Calms.{calm_all, at_handed}
@@ -55,7 +55,7 @@ forgotten_len (Some l) n = by (nat_le n l.len)
 
 -- an entry that begins and ends at once finds and leaves nothing running, and one of who is late leaves what runs
 pub once_idle : (st : GroupState) (v : ViewId) (i : ℕ) (x : Proposal) → fits st (Once x) ≡ true → (after st v i (Once x)).running ≡ None
-unfolding after after_if applied approved
+unfolding after after_if apply approve
 once_idle st v i x e =
     ap (λ b. (after_if st v i (Once x) b).running) e ∙ idle_approved (begun st v i x) v i None (begun st v i x).running refl
 
@@ -67,7 +67,7 @@ once_finds st x e = by st.running e
     by None q = refl
     by (Some run) q = absurd (cc)
 
-pub late_same : (st : GroupState) (v : ViewId) (i : ℕ) (e : Entry) → applied st v i e ≡ st → after st v i e ≡ st
+pub late_same : (st : GroupState) (v : ViewId) (i : ℕ) (e : Entry) → apply st v i e ≡ st → after st v i e ≡ st
 unfolding after after_if
 late_same st v i e same = by (fits st e)
   where
@@ -91,8 +91,8 @@ module _ (h : History) where
   put_row s row e = record row { list = Some (with_entry (list_or_new row.list) s.views.view e) }
 
   module _ (T G U : List ℕ → Type 0) where
-    pub at_put_and_handed_for : (f : Answering) (s : Core) (to : Option ℕ) (g : List ℕ) (e : Entry) → PutFact (reverse s.records) h s.views.me s.views.view g (len_in (found s g).list) e → ((k : List ℕ) → U k → (g ≡ k → ⊥) → T k) → (U g → RowIs (leads_row s (found s g)) (put_row s (found s g) e)) → At h T G s → At h U G (put_and_handed f s to g e)
-    unfolding put_and_handed
+    pub at_put_and_handed_for : (f : Answering) (s : Core) (to : Option ℕ) (g : List ℕ) (e : Entry) → PutFact (reverse s.records) h s.views.me s.views.view g (len_in (found s g).list) e → ((k : List ℕ) → U k → (g ≡ k → ⊥) → T k) → (U g → RowIs (leads_row s (found s g)) (put_row s (found s g) e)) → At h T G s → At h U G (put_and_hand f s to g e)
+    unfolding put_and_hand
     at_put_and_handed_for f s to g e fact rest own a =
         at_handed h U G f (put s g e) to g (len_of s g) (state_of s g) (state_of (put s g e) g) e (at_put_for h T G U s g e fact rest own a)
 
@@ -107,37 +107,37 @@ module _ (h : History) where
     unfolding with_waiting
     at_waits s g change a = at_led s g (λ l. record l { waiting = change l.waiting }) (λ l. refl) a
 
-    pub at_forgets : (s : Core) (g : List ℕ) (n : ℕ) → At h T G s → At h T G (forgets_below s g n)
-    unfolding forgets_below
+    pub at_forgets : (s : Core) (g : List ℕ) (n : ℕ) → At h T G s → At h T G (forget_below s g n)
+    unfolding forget_below
     at_forgets s g n a =
         at_row h T G s g (λ row. record row { list = list_forgotten n row.list }) (λ x. refl) (λ x. refl) (λ x. forgotten_state x.list n) (λ x. forgotten_len x.list n) (λ t. row_is_same (leads_row s (found s g)) (found s g) (record (found s g) { list = list_forgotten n (found s g).list }) refl (ap voters (forgotten_state (found s g).list n)) (a.rows.tallies g t)) a
 
-    pub at_forgets_least : (s : Core) (g : List ℕ) → At h T G s → At h T G (forgets_least s g)
-    unfolding forgets_least
+    pub at_forgets_least : (s : Core) (g : List ℕ) → At h T G s → At h T G (forget_least s g)
+    unfolding forget_least
     at_forgets_least s g a = at_forgets s g (least_acked s g) a
 
-    at_waits_if : (s : Core) (g : List ℕ) (p : ProviderId) (a b : Bool) → At h T G s → At h T G (waits_if s g p a b)
-    unfolding waits_if
-    at_waits_if s g p true b k = at_waits s g (waits_failure p Died) k
-    at_waits_if s g p false true k = at_waits s g (waits_failure p Gone) k
+    at_waits_if : (s : Core) (g : List ℕ) (p : ProviderId) (a b : Bool) → At h T G s → At h T G (wait_if s g p a b)
+    unfolding wait_if
+    at_waits_if s g p true b k = at_waits s g (add_failure p Died) k
+    at_waits_if s g p false true k = at_waits s g (add_failure p Gone) k
     at_waits_if s g p false false k = k
 
     at_new_members : (s : Core) (g : List ℕ) (before after : GroupState) → At h T G s → At h T G (new_members_wait s g before after)
     unfolding new_members_wait
     at_new_members s g before after a =
-        at_fold h T G (λ t p. waits_if t g p (among after.failed p) (among (led_of s g).gone p)) (filter (λ p. not (among before.members p)) after.members) (λ t p i k. at_waits_if t g p (among after.failed p) (among (led_of s g).gone p) k) s a
+        at_fold h T G (λ t p. wait_if t g p (among after.failed p) (among (led_of s g).gone p)) (filter (λ p. not (among before.members p)) after.members) (λ t p i k. at_waits_if t g p (among after.failed p) (among (led_of s g).gone p) k) s a
 
   module _ (T G U : List ℕ → Type 0) where
     pub at_appended_for : (f : Answering) (s : Core) (g : List ℕ) (e : Entry) → HasRows (state_in (found s g).list) e → ((k : List ℕ) → U k → (g ≡ k → ⊥) → T k) → (U g → RowIs (leads_row s (found s g)) (put_row s (found s g) e)) → At h T G s → At h U G (appended f s g e)
     unfolding appended
     at_appended_for f s g e ok rest own a =
         let t : Core = put s g e in
-        let u : Core = sent_all t (others t) (body.Entry t.views.view g (len_of s g) (least_acked t g) e) in
-        let w : Core = handed_on f u (leader_of u g) g (len_of s g) (state_of s g) (state_of t g) e in
+        let u : Core = send_all t (others t) (body.Entry t.views.view g (len_of s g) (least_acked t g) e) in
+        let w : Core = hand_on f u (leader_of u g) g (len_of s g) (state_of s g) (state_of t g) e in
         let put_at : At h U G t = at_put_for h T G U s g e (put_fact h T G s g e ok a) rest own a in
         let sent_at : At h U G u = at_calm h U G t u (calm_all t (others t) (body.Entry t.views.view g (len_of s g) (least_acked t g) e)) put_at in
         let handed_at : At h U G w = at_handed h U G f u (leader_of u g) g (len_of s g) (state_of s g) (state_of t g) e sent_at in
-        at_new_members U G (forgets_least w g) g (state_of s g) (state_of t g) (at_forgets_least U G w g handed_at)
+        at_new_members U G (forget_least w g) g (state_of s g) (state_of t g) (at_forgets_least U G w g handed_at)
 
   -- ---- the tally of a phase
 
@@ -196,14 +196,14 @@ module _ (h : History) where
     unfolding closes
     at_closes f s g t led a = at_closes_from max_phases f s g t led a
 
-    at_begun_many : (f : Answering) (s : Core) (g : List ℕ) (x : Proposal) (b : Bool) → T g → G g → At h T G s → At h T G (begun_many f s g x b)
-    unfolding begun_many
+    at_begun_many : (f : Answering) (s : Core) (g : List ℕ) (x : Proposal) (b : Bool) → T g → G g → At h T G s → At h T G (begin_many f s g x b)
+    unfolding begin_many
     at_begun_many f s g x false t led a = a
     at_begun_many f s g x true t led a =
         at_closes f (tally_opened (appended f s g (Begin x)) g) g t led (at_tally_opened (appended f s g (Begin x)) g led (at_appended_loose f s g (Begin x) tt a))
 
     pub at_begins : (f : Answering) (s : Core) (g : List ℕ) (x : Proposal) (phases : Phases) → T g → G g → At h T G s → At h T G (begins f s g x phases)
-    unfolding begins appended_if fits_at_end entry_fits list_of row_of with_entry
+    unfolding begins append_if_fits fits_at_end entry_fits list_of row_of with_entry
     at_begins f s g x Many t led a = at_begun_many f s g x (fits_at_end s g (Begin x)) t led a
     at_begins f s g x One t led a = by (fits_at_end s g (Once x)) refl
       where
@@ -212,14 +212,14 @@ module _ (h : History) where
             let fit : fits (state_in (found s g).list) (Once x) ≡ true = (and_parts (fits (state_in (found s g).list) (Once x)) (has_room (list_or_new (found s g).list) (Once x)) e).0 in
             idle_voters (state_in (put_row s (found s g) (Once x)).list) (once_idle (state_in (found s g).list) s.views.view (list_or_new (found s g).list).len x fit) ∙ sym (idle_voters (state_in (found s g).list) (once_finds (state_in (found s g).list) x fit))
 
-        by : (b : Bool) → fits_at_end s g (Once x) ≡ b → At h T G (appended_if f s g (Once x) b)
+        by : (b : Bool) → fits_at_end s g (Once x) ≡ b → At h T G (append_if_fits f s g (Once x) b)
         by false e = a
         by true e =
             at_appended_for T G T f s g (Once x) tt (λ k u ne. u) (λ u. row_is_same (leads_row s (found s g)) (found s g) (put_row s (found s g) (Once x)) refl (same e) (a.rows.tallies g u)) a
 
     -- who is late is announced
-    pub at_announces : (f : Answering) (s : Core) (g : List ℕ) (e : Entry) → ((st : GroupState) → HasRows st e) → ((st : GroupState) (v : ViewId) (i : ℕ) → applied st v i e ≡ st) → (b : Bool) → At h T G s → At h T G (appended_if f s g e b)
-    unfolding appended_if with_entry
+    pub at_announces : (f : Answering) (s : Core) (g : List ℕ) (e : Entry) → ((st : GroupState) → HasRows st e) → ((st : GroupState) (v : ViewId) (i : ℕ) → apply st v i e ≡ st) → (b : Bool) → At h T G s → At h T G (append_if_fits f s g e b)
+    unfolding append_if_fits with_entry
     at_announces f s g e ok same false a = a
     at_announces f s g e ok same true a =
         at_appended_for T G T f s g e (ok (state_in (found s g).list)) (λ k u ne. u) (λ u. row_is_same (leads_row s (found s g)) (found s g) (put_row s (found s g) e) refl (ap voters (late_same (state_in (found s g).list) s.views.view (list_or_new (found s g).list).len e (same (state_in (found s g).list) s.views.view (list_or_new (found s g).list).len))) (a.rows.tallies g u)) a

@@ -2,48 +2,48 @@
 use Rattle.std.proofs.Common.{◌≡◌, ℕ, List, [], ◌∷◌, length, Some, Bool, true, false, refl, sym, ap, ◌∙◌, subst, inr}
 use Rattle.std.specs.Prelude.{◌==◌, reverse, slice_get}
 use Rattle.std.proofs.lemmas.Bool.{eqb-true, eq-eqb}
-use Rattle.rsct_packet.specs.declared.ids.ViewId.{ViewId}
-use Rattle.rsct_packet.specs.declared.ids.ProviderId.{ProviderId}
-use Rattle.rsct_packet.specs.declared.mask.Mask.{Mask}
-use Rattle.rsct_packet.specs.Search.{Has}
-use Rattle.rsct_packet.proofs.HasLaws.{append_has_right}
-use Rattle.group_attr.specs.declared.attrs.Phases.{Phases}
-use Rattle.proposal_core.specs.declared.entry.Entry.{Entry}
-use Rattle.proposal_core.specs.declared.proposal.Proposal.{Proposal}
-use Rattle.proposal_core.specs.Lists.{len_in}
-use Rattle.view_state.specs.declared.packet.ViewPacket.{ViewPacket}
-use Rattle.view_state.specs.declared.packet.ViewPacket.TheVariants as view
-use Rattle.view_state.specs.declared.views.ViewWork.{ViewWork}
-use Rattle.view_state.specs.Views.{views_at_work, ask_row, prepare_row, answer_row, refuse_row, install_row, taken_row}
-use Rattle.node_state.specs.declared.config.Mode.{Mode}
-use Rattle.node_state.specs.declared.config.Mode.TheVariants.{Fixed, Asked, Rings}
-use Rattle.node_state.specs.declared.group.GroupRow.{GroupRow}
-use Rattle.node_state.specs.declared.happened.Happened.TheVariants as happened
-use Rattle.node_state.specs.declared.packet.Body.{Body}
-use Rattle.node_state.specs.declared.packet.Body.TheVariants as body
-use Rattle.node_state.specs.declared.packet.Packet.{Packet}
-use Rattle.node_state.specs.declared.state.Core.{Core}
-use Rattle.node_state.specs.Settings.{is_fixed}
-use Rattle.node_state.specs.State.{row_of, with_row, list_of, len_of, is_this, leader_by, leader_in, leads_in, leads, led_by}
-use Rattle.node_state.specs.HandOn.{Answering}
-use Rattle.node_state.specs.Following.{lookup_row, name_row, request_row, tell_row, entry_row, ack_row, vote_row, gone_row}
-use Rattle.node_state.specs.Applying.{own_parts, views_taken}
-use Rattle.node_state.specs.Status.{status_text}
-use Rattle.node_state.specs.Ticks.{rings_part, views_part, owed_part, tick_row}
-use Rattle.node_state.specs.Ending.{step_ended}
-use Rattle.node_state.specs.Step.{NodeEvent, Ticks, Asks, Given, Calls, Garbage, is_used, used_if, order_row, view_row, body_row, packet_row, event_row, stepped, at_work}
-use Rattle.run_safety.specs.Past.{earlier}
-use Rattle.run_safety.specs.Group.{member, Put, kept}
-use Rattle.run_safety.specs.Group as group
-use Rattle.run_safety.proofs.Whole.{Whole}
-use Rattle.run_safety.proofs.Lives.{whole}
-use Rattle.run_safety.proofs.Parts.{member_parts}
-use Rattle.node_state.proofs.NameOrder.{row_here}
-use Rattle.step_ties.specs.Tied.{ShowsBody, ShowsEntry, ShowsLeader, ShowsRequest, Scene, opening_of, Tied}
-use Rattle.step_ties.specs.Rows.{acted, Arises}
-use Rattle.step_ties.proofs.Acks.{used_is}
-use Rattle.step_ties.proofs.Leads.{leader_inc, leads_known}
-use Rattle.step_ties.proofs.RowWorks.{len_is}
+use Rattle.row_laws.specs.rsct_packet.declared.ids.ViewId.{ViewId}
+use Rattle.row_laws.specs.rsct_packet.declared.ids.ProviderId.{ProviderId}
+use Rattle.row_laws.specs.rsct_packet.declared.mask.Mask.{Mask}
+use Rattle.row_laws.specs.rsct_packet.Search.{Has}
+use Rattle.row_laws.proofs.rsct_packet_laws.HasLaws.{append_has_right}
+use Rattle.row_laws.specs.group_attr.declared.attrs.Phases.{Phases}
+use Rattle.row_laws.specs.proposal_core.declared.entry.Entry.{Entry}
+use Rattle.row_laws.specs.proposal_core.declared.proposal.Proposal.{Proposal}
+use Rattle.row_laws.specs.proposal_core.Lists.{len_in}
+use Rattle.row_laws.specs.view_state.declared.packet.ViewPacket.{ViewPacket}
+use Rattle.row_laws.specs.view_state.declared.packet.ViewPacket.TheVariants as view
+use Rattle.row_laws.specs.view_state.declared.views.ViewWork.{ViewWork}
+use Rattle.row_laws.specs.view_state.Views.{views_at_work, ask_row, prepare_row, answer_row, refuse_row, install_row, taken_row}
+use Rattle.row_laws.specs.node_state.declared.config.Mode.{Mode}
+use Rattle.row_laws.specs.node_state.declared.config.Mode.TheVariants.{Fixed, Asked, Rings}
+use Rattle.row_laws.specs.node_state.declared.group.GroupRow.{GroupRow}
+use Rattle.row_laws.specs.node_state.declared.happened.Happened.TheVariants as happened
+use Rattle.row_laws.specs.node_state.declared.packet.Body.{Body}
+use Rattle.row_laws.specs.node_state.declared.packet.Body.TheVariants as body
+use Rattle.row_laws.specs.node_state.declared.packet.Packet.{Packet}
+use Rattle.row_laws.specs.node_state.declared.state.Core.{Core}
+use Rattle.row_laws.specs.node_state.Settings.{is_fixed}
+use Rattle.row_laws.specs.node_state.State.{row_of, with_row, list_of, len_of, is_this, leader_by, leader_in, leads_in, leads, set_leader}
+use Rattle.row_laws.specs.node_state.HandOn.{Answering}
+use Rattle.row_laws.specs.node_state.Following.{take_lookup, take_name, take_request, take_tell, take_entry, take_ack, take_vote, take_gone}
+use Rattle.row_laws.specs.node_state.Applying.{own_parts, views_taken}
+use Rattle.row_laws.specs.node_state.Status.{status_text}
+use Rattle.row_laws.specs.node_state.Ticks.{tick_rings, tick_views, tick_owed, tick_row}
+use Rattle.row_laws.specs.node_state.Ending.{end_step}
+use Rattle.row_laws.specs.node_state.Step.{NodeEvent, Ticks, Asks, Given, Calls, Garbage, is_used, used_if, take_order, view_row, take_body, packet_row, event_row, stepped, at_work}
+use Rattle.row_laws.specs.run_safety.Past.{earlier}
+use Rattle.row_laws.specs.run_safety.Group.{member, Put, kept}
+use Rattle.row_laws.specs.run_safety.Group as group
+use Rattle.row_laws.proofs.run_safety_laws.Whole.{Whole}
+use Rattle.row_laws.proofs.run_safety_laws.Lives.{whole}
+use Rattle.row_laws.proofs.run_safety_laws.Parts.{member_parts}
+use Rattle.row_laws.proofs.node_state_laws.NameOrder.{row_here}
+use Rattle.row_laws.specs.step_refinement.Tied.{ShowsBody, ShowsEntry, ShowsLeader, ShowsRequest, Scene, opening_of, Tied}
+use Rattle.row_laws.specs.step_refinement.Rows.{acted, Arises}
+use Rattle.row_laws.proofs.step_refinement_laws.Acks.{used_is}
+use Rattle.row_laws.proofs.step_refinement_laws.Leads.{leader_inc, leads_known}
+use Rattle.row_laws.proofs.step_refinement_laws.RowWorks.{len_is}
 use Rattle.entry_laws.proofs.closing_rows.At.{found, PutFact, At, at_calm}
 use Rattle.entry_laws.proofs.closing_rows.Calms.{calm_on, owed_part_calm, at_tell, at_ring, at_report, at_rings_part, at_call}
 use Rattle.entry_laws.proofs.closing_rows.Ending.{Every, NoGroup, at_step_ended}
@@ -98,8 +98,8 @@ module _ (v : ViewId) (g : List ℕ) (place stable : ℕ) (e : Entry) (w : Scene
   entry_was_put = inr entry_had_put
 
 -- a node that is sent a request leads the group, once it has noted that
-pub request_leads : (v : ViewId) (g : List ℕ) (q : ProviderId) (r : ℕ) (phases : Phases) (x : Proposal) (w : Scene) (n : ℕ) (s : Core) (p : Packet) → p.body ≡ body.Request v g q r phases x → p.to ≡ n → Has p w.sent → Tied g w n s → is_used s p v ≡ true → leads (led_by s g s.views.me) g ≡ true
-unfolding leads leads_in leader_in led_by with_row
+pub request_leads : (v : ViewId) (g : List ℕ) (q : ProviderId) (r : ℕ) (phases : Phases) (x : Proposal) (w : Scene) (n : ℕ) (s : Core) (p : Packet) → p.body ≡ body.Request v g q r phases x → p.to ≡ n → Has p w.sent → Tied g w n s → is_used s p v ≡ true → leads (set_leader s g s.views.me) g ≡ true
+unfolding leads leads_in leader_in set_leader with_row
 request_leads v g q r phases x w n s p is to delivered t used = by s.config.mode t.own.0.led
   where
     shown : ShowsRequest t.ghost p.to v q r x
@@ -141,27 +141,27 @@ module _ (w : Scene) (n : ℕ) (f : Answering) (s : Core) (all : (h : List ℕ) 
   view_at from inc (view.Install i) = taken (install_row (views_at_work s.views) i) (install_stays s.views (views_at_work s.views) i (begun_stays s.views))
   view_at from inc (view.Taken v) = taken (taken_row (views_at_work s.views) from v) (taken_stays s.views (views_at_work s.views) from v (begun_stays s.views))
 
-  body_at : (p : Packet) (b : Body) → p.body ≡ b → p.to ≡ n → Has p w.sent → Full (body_row f s p b)
-  unfolding body_row
+  body_at : (p : Packet) (b : Body) → p.body ≡ b → p.to ≡ n → Has p w.sent → Full (take_body f s p b)
+  unfolding take_body
   body_at p (body.Ring x) is to sent = at_ring w.before Every NoGroup s p.network p.from p.inc x a
   body_at p (body.Report rows) is to sent = at_report w.before Every NoGroup s rows a
   body_at p (body.View y) is to sent = view_at p.from p.inc y
-  body_at p (body.Lookup v g) is to sent = used (lookup_row s p.from g) (is_used s p v) (λ u. at_lookup w.before s p.from g a)
-  body_at p (body.Name v g k) is to sent = used (name_row s g k) (is_used s p v) (λ u. at_name w.before s g k a)
+  body_at p (body.Lookup v g) is to sent = used (take_lookup s p.from g) (is_used s p v) (λ u. at_lookup w.before s p.from g a)
+  body_at p (body.Name v g k) is to sent = used (take_name s g k) (is_used s p v) (λ u. at_name w.before s g k a)
   body_at p (body.Request v g q r phases x) is to sent =
-      used (request_row f s p.from g q r phases x) (is_used s p v) (λ u. at_request w.before f s g (request_leads v g q r phases x w n s p is to sent (all g) u) p.from q r phases x a)
-  body_at p (body.Tell v g q r y) is to sent = used (tell_row s q r y) (is_used s p v) (λ u. at_tell w.before Every NoGroup s q r y a)
+      used (take_request f s p.from g q r phases x) (is_used s p v) (λ u. at_request w.before f s g (request_leads v g q r phases x w n s p is to sent (all g) u) p.from q r phases x a)
+  body_at p (body.Tell v g q r y) is to sent = used (take_tell s q r y) (is_used s p v) (λ u. at_tell w.before Every NoGroup s q r y a)
   body_at p (body.Entry v g i k e) is to sent =
-      used (entry_row f s p.from g i k e) (is_used s p v) (λ u. at_entry w.before f s p.from g k e i (λ at. entry_was_put v g i k e w n s p is sent (all g) u at) (λ at led. entry_follows v g i k e w n s p is sent (all g) u at led) a)
-  body_at p (body.Ack v g k) is to sent = used (ack_row s p.from g k) (is_used s p v) (λ u. at_ack w.before s p.from g k a)
+      used (take_entry f s p.from g i k e) (is_used s p v) (λ u. at_entry w.before f s p.from g k e i (λ at. entry_was_put v g i k e w n s p is sent (all g) u at) (λ at led. entry_follows v g i k e w n s p is sent (all g) u at led) a)
+  body_at p (body.Ack v g k) is to sent = used (take_ack s p.from g k) (is_used s p v) (λ u. at_ack w.before s p.from g k a)
   body_at p (body.Vote v g proto phase q ballot value message) is to sent =
-      used (vote_row f s g proto phase q ballot value message) (is_used s p v) (λ u. at_vote w.before f s g proto phase q ballot value message a)
-  body_at p (body.Gone v g q) is to sent = used (gone_row f s g q) (is_used s p v) (λ u. at_gone w.before f s g q a)
+      used (take_vote f s g proto phase q ballot value message) (is_used s p v) (λ u. at_vote w.before f s g proto phase q ballot value message a)
+  body_at p (body.Gone v g q) is to sent = used (take_gone f s g q) (is_used s p v) (λ u. at_gone w.before f s g q a)
   body_at p (body.Query question what) is to sent = at_calm w.before Every NoGroup s _ (calm_on s p.network p.from (body.Reply question (status_text s what))) a
   body_at p (body.Reply question text) is to sent = a
 
-  order_at : (mask : Mask) → Full (order_row f s mask)
-  unfolding order_row
+  order_at : (mask : Mask) → Full (take_order f s mask)
+  unfolding take_order
   order_at mask = by (is_fixed s.config.mode)
     where
       by : (b : Bool) → Full (elim b as (λ _. Core) [ true ↦ s | false ↦ views_taken f s (ask_row (views_at_work s.views) mask (own_parts s)) ])
@@ -171,18 +171,18 @@ module _ (w : Scene) (n : ℕ) (f : Answering) (s : Core) (all : (h : List ℕ) 
   acted_at : (e : NodeEvent) → Arises w e → Full (acted f s e)
   unfolding packet_row
   acted_at Ticks arises =
-      let t : Core = views_part f (rings_part s) in
-      at_led_part w.before f (owed_part t) (at_calm w.before Every NoGroup t (owed_part t) (owed_part_calm t) (at_views_part w.before f (rings_part s) (at_rings_part w.before Every NoGroup s a)))
+      let t : Core = tick_views f (tick_rings s) in
+      at_led_part w.before f (tick_owed t) (at_calm w.before Every NoGroup t (tick_owed t) (owed_part_calm t) (at_views_part w.before f (tick_rings s) (at_rings_part w.before Every NoGroup s a)))
   acted_at (Asks mask) arises = order_at mask
   acted_at (Calls c) arises = at_call w.before Every NoGroup s c a
   acted_at Garbage arises = a
   acted_at (Given p) arises = by (p.to == s.views.me) refl
     where
-      by : (b : Bool) → (p.to == s.views.me) ≡ b → Full (elim b as (λ _. Core) [ true ↦ body_row f s p p.body | false ↦ s ])
+      by : (b : Bool) → (p.to == s.views.me) ≡ b → Full (elim b as (λ _. Core) [ true ↦ take_body f s p p.body | false ↦ s ])
       by false e = a
       by true e = body_at p p.body refl (eqb-true p.to s.views.me e ∙ (all []).own.0.stands.me) arises
 
-pub stepped_is : (f : Answering) (s : Core) (e : NodeEvent) → stepped f s e ≡ step_ended f (acted f (at_work s) e)
+pub stepped_is : (f : Answering) (s : Core) (e : NodeEvent) → stepped f s e ≡ end_step f (acted f (at_work s) e)
 unfolding stepped event_row tick_row
 stepped_is f s Ticks = refl
 stepped_is f s (Asks mask) = refl

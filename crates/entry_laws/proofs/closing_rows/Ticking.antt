@@ -1,21 +1,21 @@
 -- A tick.
 use Rattle.std.proofs.Common.{ℕ, List, Option, Some, None, Bool, true, false, refl, ap, inl, inr}
 use Rattle.std.specs.Prelude.{◌==◌, ◌&&◌, fold}
-use Rattle.rsct_packet.specs.declared.ids.ProviderId.{ProviderId}
-use Rattle.proposal_core.specs.declared.entry.Entry.TheVariants.{Late}
-use Rattle.proposal_core.specs.declared.group_state.Running.{Running}
-use Rattle.proposal_core.specs.Fold.{applied}
-use Rattle.proposal_core.specs.Lists.{state_in}
-use Rattle.vote_phases.specs.Tally.{TallyView, expires, open_voters}
-use Rattle.view_state.specs.Views.{views_at_work, gathering_ticks, install_again}
-use Rattle.node_state.specs.declared.group.GroupRow.{GroupRow}
-use Rattle.node_state.specs.declared.state.Core.{Core}
-use Rattle.node_state.specs.State.{row_of, led_of, state_of, fits_at_end, frozen, led_groups, others, with_led}
-use Rattle.node_state.specs.HandOn.{Answering}
-use Rattle.node_state.specs.Leading.{appended_if, with_tally}
-use Rattle.node_state.specs.Applying.{own_parts, views_taken}
-use Rattle.node_state.specs.Ticks.{ring_ask, views_part, late_appended, announced, ticked_in, tally_ticks, sent_again, group_ticks, led_part}
-use Rattle.run_safety.specs.Past.{History}
+use Rattle.row_laws.specs.rsct_packet.declared.ids.ProviderId.{ProviderId}
+use Rattle.row_laws.specs.proposal_core.declared.entry.Entry.TheVariants.{Late}
+use Rattle.row_laws.specs.proposal_core.declared.group_state.Running.{Running}
+use Rattle.row_laws.specs.proposal_core.Fold.{apply}
+use Rattle.row_laws.specs.proposal_core.Lists.{state_in}
+use Rattle.row_laws.specs.vote_phases.Tally.{TallyView, expires, open_voters}
+use Rattle.row_laws.specs.view_state.Views.{views_at_work, gathering_ticks, install_again}
+use Rattle.row_laws.specs.node_state.declared.group.GroupRow.{GroupRow}
+use Rattle.row_laws.specs.node_state.declared.state.Core.{Core}
+use Rattle.row_laws.specs.node_state.State.{row_of, led_of, state_of, fits_at_end, frozen, led_groups, others, with_led}
+use Rattle.row_laws.specs.node_state.HandOn.{Answering}
+use Rattle.row_laws.specs.node_state.Leading.{append_if_fits, with_tally}
+use Rattle.row_laws.specs.node_state.Applying.{own_parts, views_taken}
+use Rattle.row_laws.specs.node_state.Ticks.{ring_ask, tick_views, late_appended, announced, ticked_in, tally_ticks, sent_again, tick_group, tick_led}
+use Rattle.row_laws.specs.run_safety.Past.{History}
 use Rattle.entry_laws.specs.closing_rows.Rows.{TallyFits}
 use Rattle.entry_laws.proofs.closing_rows.At.{found, leads_row, RowIs, calm_fold, At, at_calm, at_row}
 use Rattle.entry_laws.proofs.closing_rows.Calms.{again_calm}
@@ -39,8 +39,8 @@ module _ (h : History) where
 
   -- ---- views
 
-  pub at_views_part : (f : Answering) (s : Core) → Full s → Full (views_part f s)
-  unfolding views_part
+  pub at_views_part : (f : Answering) (s : Core) → Full s → Full (tick_views f s)
+  unfolding tick_views
   at_views_part f s a =
       let t : Core = views_taken f s (gathering_ticks (views_at_work s.views) (ring_ask s) (own_parts s)) in
       at_views_taken h f t (install_again (views_at_work t.views)) (install_again_stays t.views (views_at_work t.views) (begun_stays t.views)) (at_views_taken h f s (gathering_ticks (views_at_work s.views) (ring_ask s) (own_parts s)) (ticks_stay s.views (views_at_work s.views) (ring_ask s) (own_parts s) (begun_stays s.views)) a)
@@ -48,8 +48,8 @@ module _ (h : History) where
   -- ---- what is led
 
   module _ (f : Answering) (G : List ℕ → Type 0) where
-    late_leaves : (run : Running) (ps : List ProviderId) (b : Bool) (s : Core) (g : List ℕ) → At h Every G s → At h Every G (appended_if f s g (Late run.proto run.phase ps) b)
-    unfolding applied
+    late_leaves : (run : Running) (ps : List ProviderId) (b : Bool) (s : Core) (g : List ℕ) → At h Every G s → At h Every G (append_if_fits f s g (Late run.proto run.phase ps) b)
+    unfolding apply
     late_leaves run ps b s g a = at_announces h Every G f s g (Late run.proto run.phase ps) (λ st. tt) (λ st v i. refl) b a
 
     at_late : (s : Core) (g : List ℕ) (t : TallyView) (o : Option Running) → At h Every G s → At h Every G (late_appended f s g t o)
@@ -74,16 +74,16 @@ module _ (h : History) where
         let u : Core = announced f s g t (s.sessions.level == 2 && expires t) in
         at_closes h Every G f (with_tally u g (ticked_in (led_of u g).tally)) g tt led (at_ticked u g (at_announced s g t (s.sessions.level == 2 && expires t) a))
 
-    at_group_ticks : (s : Core) (g : List ℕ) → G g → At h Every G s → At h Every G (group_ticks f s g)
-    unfolding group_ticks
+    at_group_ticks : (s : Core) (g : List ℕ) → G g → At h Every G s → At h Every G (tick_group f s g)
+    unfolding tick_group
     at_group_ticks s g led a =
         let t : Core = tally_ticks f s g (led_of s g).tally in
         at_calm h Every G t (fold (sent_again g) t (others t)) (calm_fold (sent_again g) (λ c n. again_calm g c n) (others t) t) (at_tally_ticks s g (led_of s g).tally led a)
 
-  pub at_led_part : (f : Answering) (s : Core) → Full s → Full (led_part f s)
-  unfolding led_part
+  pub at_led_part : (f : Answering) (s : Core) → Full s → Full (tick_led f s)
+  unfolding tick_led
   at_led_part f s a = by (frozen s)
     where
-      by : (b : Bool) → Full (elim b as (λ _. Core) [ true ↦ s | false ↦ fold (group_ticks f) s (led_groups s) ])
+      by : (b : Bool) → Full (elim b as (λ _. Core) [ true ↦ s | false ↦ fold (tick_group f) s (led_groups s) ])
       by true = a
-      by false = at_led_groups h (group_ticks f) (λ G c g led k. at_group_ticks f G c g led k) s a
+      by false = at_led_groups h (tick_group f) (λ G c g led k. at_group_ticks f G c g led k) s a

@@ -1,21 +1,21 @@
 -- The rows of views leave a node where it is; it enters a view only as an install is applied.
 use Rattle.std.proofs.Common.{◌≡◌, ℕ, List, length, Option, Some, None, Bool, true, false, refl}
 use Rattle.std.specs.Prelude.{◌==◌, ◌&&◌, not, filter, nat_le}
-use Rattle.rsct_packet.specs.declared.ids.ViewId.{ViewId}
-use Rattle.rsct_packet.specs.declared.mask.Mask.{Mask}
-use Rattle.rsct_packet.specs.Ids.{same_view, is_member}
-use Rattle.rsct_packet.specs.Mask.{has_node, with_node, nodes_of}
-use Rattle.view_state.specs.declared.answer.Answer.{Answer}
-use Rattle.view_state.specs.declared.exchange.Exchange.{Exchange}
-use Rattle.view_state.specs.declared.install.Part.{Part}
-use Rattle.view_state.specs.declared.install.Install.{Install}
-use Rattle.view_state.specs.Answers.{max_parts, opened, may_answer, has_answered, with_answer, all_answered, install_of, is_spelled}
-use Rattle.view_state.specs.declared.packet.ViewPacket.{ViewPacket}
-use Rattle.view_state.specs.declared.packet.ViewPacket.TheVariants as packet
-use Rattle.view_state.specs.declared.views.Views.{Views}
-use Rattle.view_state.specs.declared.views.RingAsk.{RingAsk}
-use Rattle.view_state.specs.declared.views.ViewWork.{ViewWork}
-use Rattle.view_state.specs.Views.{is_frozen, is_coordinator, others_of, view_sent, view_sent_all, gathering_set, promised, installs, gathered, gathers, own_answer, asks_view, next_view, may_ask, ask_if, ask_row, answered, prepared, prepare_row, answer_to, answer_row, refused_by, refuse_to, refuse_row, installed, install_row, taken_row, aged, prepared_again, tick_asks, stuck_noted, asks_or_ages, gathering_ticks, install_again_of, install_again, views_at_work}
+use Rattle.row_laws.specs.rsct_packet.declared.ids.ViewId.{ViewId}
+use Rattle.row_laws.specs.rsct_packet.declared.mask.Mask.{Mask}
+use Rattle.row_laws.specs.rsct_packet.Ids.{same_view, is_member}
+use Rattle.row_laws.specs.rsct_packet.Mask.{has_node, with_node, nodes_of}
+use Rattle.row_laws.specs.view_state.declared.answer.Answer.{Answer}
+use Rattle.row_laws.specs.view_state.declared.exchange.Exchange.{Exchange}
+use Rattle.row_laws.specs.view_state.declared.install.Part.{Part}
+use Rattle.row_laws.specs.view_state.declared.install.Install.{Install}
+use Rattle.row_laws.specs.view_state.Answers.{max_parts, opened, may_answer, has_answered, with_answer, all_answered, install_of, is_spelled}
+use Rattle.row_laws.specs.view_state.declared.packet.ViewPacket.{ViewPacket}
+use Rattle.row_laws.specs.view_state.declared.packet.ViewPacket.TheVariants as packet
+use Rattle.row_laws.specs.view_state.declared.views.Views.{Views}
+use Rattle.row_laws.specs.view_state.declared.views.RingAsk.{RingAsk}
+use Rattle.row_laws.specs.view_state.declared.views.ViewWork.{ViewWork}
+use Rattle.row_laws.specs.view_state.Views.{is_frozen, is_coordinator, others_of, view_sent, view_sent_all, gathering_set, promised, begin_install, gathered, gather_on, own_answer, ask_others, next_view, may_ask, ask_if, ask_row, answered, prepare, prepare_row, answer_to, answer_row, refused_by, refuse_to, refuse_row, installed, install_row, taken_row, aged, prepare_again, tick_asks, note_stuck, asks_or_ages, gathering_ticks, install_again_of, install_again, views_at_work}
 
 -- the same node in the same view
 pub record Stays (v : Views) (w : ViewWork) : Type 0 where
@@ -42,21 +42,21 @@ module _ (v : Views) where
   unfolding promised
   promised_stays w u k = record { me = k.me; view = k.view }
 
-  installs_stay : (w : ViewWork) (i : Install) (b : Bool) → Stays v w → Stays v (installs w i b)
-  unfolding installs view_sent_all
+  installs_stay : (w : ViewWork) (i : Install) (b : Bool) → Stays v w → Stays v (begin_install w i b)
+  unfolding begin_install view_sent_all
   installs_stay w i false k = k
   installs_stay w i true k = record { me = k.me; view = k.view }
 
-  gathers_stay : (w : ViewWork) (g : Exchange) → Stays v w → Stays v (gathers w g)
-  unfolding gathers gathered
+  gathers_stay : (w : ViewWork) (g : Exchange) → Stays v w → Stays v (gather_on w g)
+  unfolding gather_on gathered
   gathers_stay w g k = by (all_answered g)
     where
       by : (b : Bool) → Stays v (gathered w g b)
       by false = gathering_stays w (Some g) k
       by true = installs_stay (gathering_set w None) (install_of g) (is_spelled (install_of g)) (gathering_stays w None k)
 
-  asks_stay : (w : ViewWork) (u : ViewId) (mask : Mask) (parts : List Part) (b : Bool) → Stays v w → Stays v (asks_view w u mask parts b)
-  unfolding asks_view
+  asks_stay : (w : ViewWork) (u : ViewId) (mask : Mask) (parts : List Part) (b : Bool) → Stays v w → Stays v (ask_others w u mask parts b)
+  unfolding ask_others
   asks_stay w u mask parts false k = promised_stays w u k
   asks_stay w u mask parts true k =
       gathers_stay (view_sent_all (promised w u) (filter (λ n. not (n == w.views.me)) (nodes_of mask)) (packet.Prepare u mask)) (with_answer (opened u mask) (own_answer w.views parts)) (sent_all_stays (promised w u) (filter (λ n. not (n == w.views.me)) (nodes_of mask)) (packet.Prepare u mask) (promised_stays w u k))
@@ -77,8 +77,8 @@ module _ (v : Views) where
       by true = sent_stays w u.coord (packet.Answer u w.views.view parts) k
       by false = k
 
-  prepared_stays : (w : ViewWork) (u : ViewId) (parts : List Part) (a b c : Bool) → Stays v w → Stays v (prepared w u parts a b c)
-  unfolding prepared
+  prepared_stays : (w : ViewWork) (u : ViewId) (parts : List Part) (a b c : Bool) → Stays v w → Stays v (prepare w u parts a b c)
+  unfolding prepare
   prepared_stays w u parts true b c k = answered_stays (promised w u) u parts (promised_stays w u k)
   prepared_stays w u parts false true c k = answered_stays w u parts k
   prepared_stays w u parts false false true k = sent_stays w u.coord (packet.Refuse u w.views.promise.number) k
@@ -92,7 +92,7 @@ module _ (v : Views) where
   unfolding answer_row answer_to
   answer_stays w u a k = by w.views.gathering
     where
-      at : (g : Exchange) (b : Bool) → Stays v (elim b as (λ _. ViewWork) [ true ↦ gathers w (with_answer g a) | false ↦ w ])
+      at : (g : Exchange) (b : Bool) → Stays v (elim b as (λ _. ViewWork) [ true ↦ gather_on w (with_answer g a) | false ↦ w ])
       at g true = gathers_stay w (with_answer g a) k
       at g false = k
 
@@ -131,25 +131,25 @@ module _ (v : Views) where
 
   -- ---- a tick
 
-  again_stays : (w : ViewWork) → Stays v w → Stays v (prepared_again w w.views.gathering)
-  unfolding prepared_again aged
+  again_stays : (w : ViewWork) → Stays v w → Stays v (prepare_again w w.views.gathering)
+  unfolding prepare_again aged
   again_stays w k = by w.views.gathering
     where
-      by : (o : Option Exchange) → Stays v (prepared_again w o)
+      by : (o : Option Exchange) → Stays v (prepare_again w o)
       by None = k
       by (Some g) = sent_all_stays (gathering_set w (Some (aged g))) (filter (λ n. not (has_answered g n)) (nodes_of g.asked)) (packet.Prepare g.view g.asked) (gathering_stays w (Some (aged g)) k)
 
   pub ticks_stay : (w : ViewWork) (a : Option RingAsk) (parts : List Part) → Stays v w → Stays v (gathering_ticks w a parts)
-  unfolding gathering_ticks asks_or_ages stuck_noted
+  unfolding gathering_ticks asks_or_ages note_stuck
   ticks_stay w None parts k = again_stays w k
   ticks_stay w (Some a) parts k = by (tick_asks w.views a)
     where
-      noted : Stays v (stuck_noted w)
+      noted : Stays v (note_stuck w)
       noted = record { me = k.me; view = k.view }
 
-      by : (b : Bool) → Stays v (asks_or_ages (stuck_noted w) a parts b)
-      by true = ask_stays (stuck_noted w) a.mask parts noted
-      by false = again_stays (stuck_noted w) noted
+      by : (b : Bool) → Stays v (asks_or_ages (note_stuck w) a parts b)
+      by true = ask_stays (note_stuck w) a.mask parts noted
+      by false = again_stays (note_stuck w) noted
 
   pub install_again_stays : (w : ViewWork) → Stays v w → Stays v (install_again w)
   unfolding install_again install_again_of

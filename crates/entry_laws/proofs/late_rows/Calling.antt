@@ -2,36 +2,36 @@
 use Rattle.std.proofs.Common.{◌≡◌, ℕ, List, Option, Some, None, Bool, true, false, refl}
 use Rattle.std.specs.Prelude.{filter, find, fold, Result, Ok, Err, if◌then◌else◌}
 use Rattle.std.specs.List.{last_or, list_any}
-use Rattle.rsct_packet.specs.declared.ids.ProviderId.{ProviderId}
-use Rattle.group_attr.specs.declared.attrs.Attrs.{Attrs}
-use Rattle.group_attr.specs.declared.attrs.Phases.{Phases}
-use Rattle.group_attr.specs.Attrs.{first_fault}
-use Rattle.proposal_core.specs.declared.entry.Vote.{Vote}
-use Rattle.proposal_core.specs.declared.proposal.Proposal.{Proposal}
-use Rattle.proposal_core.specs.declared.proposal.Proposal.TheVariants.{Leave, Expel, State, Message, Attributes}
-use Rattle.client_callbacks.specs.declared.ballot.Filled.{Filled}
-use Rattle.client_callbacks.specs.Ballots.{is_within, value_limit}
-use Rattle.subscribe_core.specs.declared.subs.ClientToken.{ClientToken}
-use Rattle.subscribe_core.specs.declared.subs.SubToken.{SubToken}
-use Rattle.session_state.specs.declared.fault.Field.TheVariants as field
-use Rattle.session_state.specs.declared.fault.GsFault.{GsFault}
-use Rattle.session_state.specs.declared.fault.GsFault.TheVariants as fault
-use Rattle.session_state.specs.declared.state.KeptBallot.{KeptBallot}
-use Rattle.session_state.specs.declared.state.MemberToken.{MemberToken}
-use Rattle.session_state.specs.declared.state.OpenPhase.{OpenPhase}
-use Rattle.session_state.specs.declared.state.Provider.{Provider}
-use Rattle.session_state.specs.declared.state.Request.{Request}
-use Rattle.session_state.specs.declared.state.SessionState.{SessionState}
-use Rattle.session_state.specs.State.{is_member_of, is_client_of, is_kept_for, client_token}
-use Rattle.session_state.specs.Calls.{unless_fault, fault_if, attributes_fault, init_fault, session_added, inited, join_fault, join_asked, joined, asked, ask_fault, member_asks, if_session, is_empty, request_made, value_fault, message_fault, targets_fault, left, expelled, state_changed, message_sent, member_changes, attributes_changed, keeps, vote_in, member_votes, voted, subscribe_fault, subscribe_taken, unsubscribe_fault, unsubscribe_taken, client_fault, session_ended, goodbye_taken}
-use Rattle.subscribe_core.specs.Subs.{subscribed, unsubscribed}
-use Rattle.node_state.specs.declared.call.CallLine.{CallLine}
-use Rattle.node_state.specs.declared.call.CallLine.TheVariants as call
-use Rattle.node_state.specs.declared.happened.Happened.TheVariants as happened
-use Rattle.node_state.specs.declared.packet.Body.TheVariants as body
-use Rattle.node_state.specs.declared.state.Core.{Core}
-use Rattle.node_state.specs.State.{holds, frozen, leader_of, recorded, with_sessions}
-use Rattle.node_state.specs.Calls.{caller, subscriber, call_refused, changed, last_asked, proposed, ballot_recorded, ballot_sent_if, last_cast, ballot_given, gone_sent, all_gone_sent, goodbye_said, call_row}
+use Rattle.row_laws.specs.rsct_packet.declared.ids.ProviderId.{ProviderId}
+use Rattle.row_laws.specs.group_attr.declared.attrs.Attrs.{Attrs}
+use Rattle.row_laws.specs.group_attr.declared.attrs.Phases.{Phases}
+use Rattle.row_laws.specs.group_attr.Attrs.{first_fault}
+use Rattle.row_laws.specs.proposal_core.declared.entry.Vote.{Vote}
+use Rattle.row_laws.specs.proposal_core.declared.proposal.Proposal.{Proposal}
+use Rattle.row_laws.specs.proposal_core.declared.proposal.Proposal.TheVariants.{Leave, Expel, State, Message, Attributes}
+use Rattle.row_laws.specs.client_callbacks.declared.ballot.Filled.{Filled}
+use Rattle.row_laws.specs.client_callbacks.Ballots.{is_within, value_limit}
+use Rattle.row_laws.specs.subscribe_core.declared.subs.ClientToken.{ClientToken}
+use Rattle.row_laws.specs.subscribe_core.declared.subs.SubToken.{SubToken}
+use Rattle.row_laws.specs.session_state.declared.fault.Field.TheVariants as field
+use Rattle.row_laws.specs.session_state.declared.fault.GsFault.{GsFault}
+use Rattle.row_laws.specs.session_state.declared.fault.GsFault.TheVariants as fault
+use Rattle.row_laws.specs.session_state.declared.state.KeptBallot.{KeptBallot}
+use Rattle.row_laws.specs.session_state.declared.state.MemberToken.{MemberToken}
+use Rattle.row_laws.specs.session_state.declared.state.OpenPhase.{OpenPhase}
+use Rattle.row_laws.specs.session_state.declared.state.Provider.{Provider}
+use Rattle.row_laws.specs.session_state.declared.state.Request.{Request}
+use Rattle.row_laws.specs.session_state.declared.state.SessionState.{SessionState}
+use Rattle.row_laws.specs.session_state.State.{is_member_of, is_client_of, is_kept_for, client_token}
+use Rattle.row_laws.specs.session_state.Calls.{unless_fault, fault_if, attributes_fault, init_fault, add_session, inited, join_fault, join_asked, joined, asked, ask_fault, member_asks, if_session, is_empty, request_made, value_fault, message_fault, targets_fault, left, expelled, state_changed, message_sent, member_changes, attributes_changed, keeps, vote_in, member_votes, voted, subscribe_fault, subscribe_taken, unsubscribe_fault, unsubscribe_taken, client_fault, end_session, goodbye_taken}
+use Rattle.row_laws.specs.subscribe_core.Subs.{subs_add, subs_remove}
+use Rattle.row_laws.specs.node_state.declared.call.CallLine.{CallLine}
+use Rattle.row_laws.specs.node_state.declared.call.CallLine.TheVariants as call
+use Rattle.row_laws.specs.node_state.declared.happened.Happened.TheVariants as happened
+use Rattle.row_laws.specs.node_state.declared.packet.Body.TheVariants as body
+use Rattle.row_laws.specs.node_state.declared.state.Core.{Core}
+use Rattle.row_laws.specs.node_state.State.{holds, frozen, leader_of, recorded, with_sessions}
+use Rattle.row_laws.specs.node_state.Calls.{caller, subscriber, refuse_call, changed, ask_last, proposed, record_ballot, ballot_sent_if, cast_last, give_ballot, send_gone, send_all_gone, goodbye_said, take_call}
 use Rattle.entry_laws.proofs.late_rows.At.{Turn, At, at_fold, at_recorded}
 use Rattle.entry_laws.proofs.late_rows.Hands.{at_sent_if_known, at_request_sent, at_kept_sent, at_sessions}
 use Rattle.entry_laws.proofs.late_rows.Ending.{Every, NoGroup}
@@ -51,8 +51,8 @@ if_level s true r k = tt
 if_level s false r k = k
 
 inited_level : (s : SessionState) (name : List ℕ) → SameLevel s (inited s name)
-unfolding inited session_added
-inited_level s name = unless_level s (session_added s name) (init_fault s name) refl
+unfolding inited add_session
+inited_level s name = unless_level s (add_session s name) (init_fault s name) refl
 
 joined_level : (s : SessionState) (t : ClientToken) (g : List ℕ) (instance : ℕ) (attrs : Attrs) → SameLevel s (joined s t g instance attrs)
 unfolding joined join_asked
@@ -94,15 +94,15 @@ attributes_level s m phases attrs =
 
 subscribe_level : (s : SessionState) (t : ClientToken) (g : List ℕ) (known : Bool) → SameLevel s (subscribe_taken s t g known)
 unfolding subscribe_taken
-subscribe_level s t g known = unless_level s (record s { subs = subscribed t g s.subs }) (subscribe_fault s t g known) refl
+subscribe_level s t g known = unless_level s (record s { subs = subs_add t g s.subs }) (subscribe_fault s t g known) refl
 
 unsubscribe_level : (s : SessionState) (t : ClientToken) (sub : SubToken) → SameLevel s (unsubscribe_taken s t sub)
 unfolding unsubscribe_taken
-unsubscribe_level s t sub = unless_level s (record s { subs = unsubscribed sub s.subs }) (unsubscribe_fault s t sub) refl
+unsubscribe_level s t sub = unless_level s (record s { subs = subs_remove sub s.subs }) (unsubscribe_fault s t sub) refl
 
 goodbye_level : (s : SessionState) (t : ClientToken) → SameLevel s (goodbye_taken s t)
-unfolding goodbye_taken session_ended
-goodbye_level s t = unless_level s (session_ended s t) (client_fault s t) refl
+unfolding goodbye_taken end_session
+goodbye_level s t = unless_level s (end_session s t) (client_fault s t) refl
 
 voted_level : (s : SessionState) (m : MemberToken) (v : Vote) (value : Option (List ℕ)) → SameLevel s (voted s m v value)
 unfolding voted
@@ -124,8 +124,8 @@ module _ (h : Turn) where
   abbrev Full : Core → Type 0
   Full s = At h Every NoGroup ⊥ s
 
-  at_call_refused : (s : Core) (client : List ℕ) (f : GsFault) → Full s → Full (call_refused s client f)
-  unfolding call_refused
+  at_call_refused : (s : Core) (client : List ℕ) (f : GsFault) → Full s → Full (refuse_call s client f)
+  unfolding refuse_call
   at_call_refused s client f a = at_recorded h Every NoGroup ⊥ s (happened.Refused s.views.me client f) tt a
 
   at_changed : (s : Core) (client : List ℕ) (r : Result SessionState GsFault) → SameLevel s.sessions r → Full s → Full (changed s client r)
@@ -133,8 +133,8 @@ module _ (h : Turn) where
   at_changed s client (Ok t) same a = at_sessions h Every NoGroup ⊥ s t same a
   at_changed s client (Err f) same a = at_call_refused s client f a
 
-  at_last_asked : (s : Core) (o : Option Request) → Full s → Full (last_asked s o)
-  unfolding last_asked
+  at_last_asked : (s : Core) (o : Option Request) → Full s → Full (ask_last s o)
+  unfolding ask_last
   at_last_asked s None a = a
   at_last_asked s (Some q) a =
       at_request_sent h Every NoGroup ⊥ (recorded s (happened.Asked q.p q.r q.group q.proposal)) q (at_recorded h Every NoGroup ⊥ s (happened.Asked q.p q.r q.group q.proposal) tt a)
@@ -145,12 +145,12 @@ module _ (h : Turn) where
   at_proposed s client (Err f) same a = at_call_refused s client f a
 
   -- a vote is recorded, kept and sent
-  at_last_cast : (s : Core) (o : Option KeptBallot) → Full s → Full (last_cast s o)
-  unfolding last_cast ballot_recorded ballot_sent_if
+  at_last_cast : (s : Core) (o : Option KeptBallot) → Full s → Full (cast_last s o)
+  unfolding cast_last record_ballot ballot_sent_if
   at_last_cast s None a = a
   at_last_cast s (Some k) a = by k.ballot.filled (frozen s)
     where
-      by : (b : Option Filled) (c : Bool) → Full (ballot_sent_if (ballot_recorded s k b) k c)
+      by : (b : Option Filled) (c : Bool) → Full (ballot_sent_if (record_ballot s k b) k c)
       by None true = a
       by None false = at_kept_sent h Every NoGroup ⊥ s k a
       by (Some b) true = at_recorded h Every NoGroup ⊥ s (happened.Cast k.p k.proto k.phase b.vote b.value b.message) tt a
@@ -158,30 +158,30 @@ module _ (h : Turn) where
           let t : Core = recorded s (happened.Cast k.p k.proto k.phase b.vote b.value b.message) in
           at_kept_sent h Every NoGroup ⊥ t k (at_recorded h Every NoGroup ⊥ s (happened.Cast k.p k.proto k.phase b.vote b.value b.message) tt a)
 
-  at_ballot : (s : Core) (client : List ℕ) (r : Result SessionState GsFault) → SameLevel s.sessions r → Full s → Full (ballot_given s client r)
-  unfolding ballot_given
+  at_ballot : (s : Core) (client : List ℕ) (r : Result SessionState GsFault) → SameLevel s.sessions r → Full s → Full (give_ballot s client r)
+  unfolding give_ballot
   at_ballot s client (Ok t) same a = at_last_cast (with_sessions s t) (last_or None t.kept) (at_sessions h Every NoGroup ⊥ s t same a)
   at_ballot s client (Err f) same a = at_call_refused s client f a
 
-  at_gone_sent : (s : Core) (x : Provider) → Full s → Full (gone_sent s x)
-  unfolding gone_sent
+  at_gone_sent : (s : Core) (x : Provider) → Full s → Full (send_gone s x)
+  unfolding send_gone
   at_gone_sent s x a = at_sent_if_known h Every NoGroup ⊥ s (leader_of s x.group) (body.Gone s.views.view x.group x.p) a
 
-  at_all_gone : (s : Core) (xs : List Provider) → Full s → Full (all_gone_sent s xs)
-  unfolding all_gone_sent
+  at_all_gone : (s : Core) (xs : List Provider) → Full s → Full (send_all_gone s xs)
+  unfolding send_all_gone
   at_all_gone s xs a = by (frozen s)
     where
-      by : (b : Bool) → Full (elim b as (λ _. Core) [ true ↦ s | false ↦ fold gone_sent s xs ])
+      by : (b : Bool) → Full (elim b as (λ _. Core) [ true ↦ s | false ↦ fold send_gone s xs ])
       by true = a
-      by false = at_fold h Every NoGroup ⊥ gone_sent xs (λ t x i k. at_gone_sent t x k) s a
+      by false = at_fold h Every NoGroup ⊥ send_gone xs (λ t x i k. at_gone_sent t x k) s a
 
   at_goodbye : (s : Core) (client : List ℕ) (xs : List Provider) (r : Result SessionState GsFault) → SameLevel s.sessions r → Full s → Full (goodbye_said s client xs r)
   unfolding goodbye_said
   at_goodbye s client xs (Ok t) same a = at_all_gone (with_sessions s t) xs (at_sessions h Every NoGroup ⊥ s t same a)
   at_goodbye s client xs (Err f) same a = at_call_refused s client f a
 
-  pub at_call : (s : Core) (c : CallLine) → Full s → Full (call_row s c)
-  unfolding call_row
+  pub at_call : (s : Core) (c : CallLine) → Full s → Full (take_call s c)
+  unfolding take_call
   at_call s (call.Init node name votes) a = at_changed s name (inited s.sessions name) (inited_level s.sessions name) a
   at_call s (call.Join client g instance attrs) a = at_proposed s client (joined s.sessions (client_token s.sessions client) g instance attrs) (joined_level s.sessions (client_token s.sessions client) g instance attrs) a
   at_call s (call.Leave client g phases) a = at_proposed s client (left s.sessions (caller s.sessions client g) phases) (left_level s.sessions (caller s.sessions client g) phases) a

@@ -1,32 +1,32 @@
 -- What a leader decides, and what begins at the end of a step.
 use Rattle.std.proofs.Common.{◌≡◌, ℕ, zero, suc, List, [], ◌∷◌, length, Option, Some, None, Bool, true, false, refl, ◌∙◌, inl, inr}
 use Rattle.std.specs.Prelude.{not, fold, filter}
-use Rattle.rsct_packet.specs.declared.ids.ProviderId.{ProviderId}
-use Rattle.rsct_packet.specs.Lists.{is_empty}
-use Rattle.rsct_packet.specs.Providers.{among}
-use Rattle.rsct_packet.specs.Search.{Has}
-use Rattle.group_attr.specs.declared.attrs.Attrs.{Attrs}
-use Rattle.group_attr.specs.declared.attrs.Phases.{Phases}
-use Rattle.proposal_core.specs.declared.proposal.Failure.{Failure}
-use Rattle.proposal_core.specs.declared.proposal.Proposal.{Proposal}
-use Rattle.proposal_core.specs.declared.proposal.Proposal.TheVariants.{Join, Leave, Fail, Expel, State, Message, Attributes, Reflect}
-use Rattle.proposal_core.specs.declared.group_state.GroupState.{GroupState}
-use Rattle.proposal_core.specs.Lists.{list_or_new}
-use Rattle.batch_rules.specs.Waiting.{batches_failures, chosen_of, next_failures, failures_left, next_joins, joins_left, waits_join}
-use Rattle.source_target.specs.declared.Due.{Due}
-use Rattle.source_target.specs.declared.Due.TheVariants as due
-use Rattle.source_target.specs.Due as target
-use Rattle.client_callbacks.specs.declared.told.Why.{Why}
-use Rattle.client_callbacks.specs.declared.told.Why.TheVariants.{NoSource}
-use Rattle.node_state.specs.declared.group.GroupRow.{GroupRow}
-use Rattle.node_state.specs.declared.packet.Body.TheVariants as body
-use Rattle.node_state.specs.declared.state.Core.{Core}
-use Rattle.node_state.specs.State.{row_of, led_of, state_of, frozen, led_groups, decisions_with}
-use Rattle.node_state.specs.HandOn.{Answering}
-use Rattle.node_state.specs.Leading.{with_waiting, begins}
-use Rattle.node_state.specs.Deciding.{decision_kept, refused, known_state, lacks_source, source_len, is_idle_empty, join_refusal, attrs_kept, join_waits, decided_join, other_refusal, decided_other, decided}
-use Rattle.node_state.specs.Ending.{Pass, quiet, begun_now, failures_begin, due_begins, source_begins, attrs_for, carried_len, source_refused, joins_begin, or_due, or_joins, may_begin, first_begins, group_begins, one_pass, passes, most_begun, step_ended}
-use Rattle.step_ties.proofs.LedGroups.{led_are_led}
+use Rattle.row_laws.specs.rsct_packet.declared.ids.ProviderId.{ProviderId}
+use Rattle.row_laws.specs.rsct_packet.Lists.{is_empty}
+use Rattle.row_laws.specs.rsct_packet.Providers.{among}
+use Rattle.row_laws.specs.rsct_packet.Search.{Has}
+use Rattle.row_laws.specs.group_attr.declared.attrs.Attrs.{Attrs}
+use Rattle.row_laws.specs.group_attr.declared.attrs.Phases.{Phases}
+use Rattle.row_laws.specs.proposal_core.declared.proposal.Failure.{Failure}
+use Rattle.row_laws.specs.proposal_core.declared.proposal.Proposal.{Proposal}
+use Rattle.row_laws.specs.proposal_core.declared.proposal.Proposal.TheVariants.{Join, Leave, Fail, Expel, State, Message, Attributes, Reflect}
+use Rattle.row_laws.specs.proposal_core.declared.group_state.GroupState.{GroupState}
+use Rattle.row_laws.specs.proposal_core.Lists.{list_or_new}
+use Rattle.row_laws.specs.batch_rules.Waiting.{batches_failures, chosen_of, next_failures, failures_left, next_joins, joins_left, waits_join}
+use Rattle.row_laws.specs.source_target.declared.Due.{Due}
+use Rattle.row_laws.specs.source_target.declared.Due.TheVariants as due
+use Rattle.row_laws.specs.source_target.Due as target
+use Rattle.row_laws.specs.client_callbacks.declared.told.Why.{Why}
+use Rattle.row_laws.specs.client_callbacks.declared.told.Why.TheVariants.{NoSource}
+use Rattle.row_laws.specs.node_state.declared.group.GroupRow.{GroupRow}
+use Rattle.row_laws.specs.node_state.declared.packet.Body.TheVariants as body
+use Rattle.row_laws.specs.node_state.declared.state.Core.{Core}
+use Rattle.row_laws.specs.node_state.State.{row_of, led_of, state_of, frozen, led_groups, decisions_with}
+use Rattle.row_laws.specs.node_state.HandOn.{Answering}
+use Rattle.row_laws.specs.node_state.Leading.{with_waiting, begins}
+use Rattle.row_laws.specs.node_state.Deciding.{keep_decision, refused, known_state, lacks_source, source_len, is_idle_empty, join_refusal, keep_attrs, wait_join, decide_join, other_refusal, decide_change, decided}
+use Rattle.row_laws.specs.node_state.Ending.{Pass, quiet, begun_now, failures_begin, due_begins, source_begins, attrs_for, carried_len, source_refused, joins_begin, or_due, or_joins, may_begin, first_begins, group_begins, one_pass, passes, most_begun, end_step}
+use Rattle.row_laws.proofs.step_refinement_laws.LedGroups.{led_are_led}
 use Rattle.entry_laws.proofs.late_rows.At.{Turn, found, leads_row, leads_is, At, at_for, at_fold}
 use Rattle.entry_laws.proofs.late_rows.Hands.{at_sent}
 use Rattle.entry_laws.proofs.late_rows.Leading.{MayLead, at_led, at_waits, at_begins}
@@ -42,23 +42,23 @@ module _ (h : Turn) where
   module _ (T : List ℕ → ℕ → Type 0) (G : List ℕ → Type 0) (E : Type 0) where
     -- ---- deciding
 
-    pub at_decision : (s : Core) (g : List ℕ) (p : ProviderId) (r : ℕ) (y : Option Why) → At h T G E s → At h T G E (decision_kept s g p r y)
-    unfolding decision_kept
+    pub at_decision : (s : Core) (g : List ℕ) (p : ProviderId) (r : ℕ) (y : Option Why) → At h T G E s → At h T G E (keep_decision s g p r y)
+    unfolding keep_decision
     at_decision s g p r y a = at_led h T G E s g (λ l. record l { decided = decisions_with (record { p = p; r = r; why = y }) l.decided }) (λ l. (refl, refl)) a
 
     pub at_refused : (s : Core) (g : List ℕ) (p : ProviderId) (r : ℕ) (y : Why) → At h T G E s → At h T G E (refused s g p r y)
     unfolding refused
-    at_refused s g p r y a = at_sent h T G E (decision_kept s g p r (Some y)) p.node (body.Tell s.views.view g p r y) (at_decision s g p r (Some y) a)
+    at_refused s g p r y a = at_sent h T G E (keep_decision s g p r (Some y)) p.node (body.Tell s.views.view g p r y) (at_decision s g p r (Some y) a)
 
-    at_decided_join : (s : Core) (g : List ℕ) (p : ProviderId) (r : ℕ) (attrs : Attrs) (o : Option Why) → At h T G E s → At h T G E (decided_join s g p r attrs o)
-    unfolding decided_join join_waits
+    at_decided_join : (s : Core) (g : List ℕ) (p : ProviderId) (r : ℕ) (attrs : Attrs) (o : Option Why) → At h T G E s → At h T G E (decide_join s g p r attrs o)
+    unfolding decide_join wait_join
     at_decided_join s g p r attrs None a =
-        at_led h T G E (decision_kept s g p r None) g (λ l. record l { waiting = waits_join p l.waiting; join_attrs = attrs_kept l.join_attrs p attrs (is_idle_empty (state_of s g)) }) (λ l. (refl, refl)) (at_decision s g p r None a)
+        at_led h T G E (keep_decision s g p r None) g (λ l. record l { waiting = waits_join p l.waiting; join_attrs = keep_attrs l.join_attrs p attrs (is_idle_empty (state_of s g)) }) (λ l. (refl, refl)) (at_decision s g p r None a)
     at_decided_join s g p r attrs (Some y) a = at_refused s g p r y a
 
-    at_decided_other : (f : Answering) (s : Core) (g : List ℕ) (p : ProviderId) (r : ℕ) (phases : Phases) (x : Proposal) (o : Option Why) → MayLead h T G E g → At h T G E s → At h T G E (decided_other f s g p r phases x o)
-    unfolding decided_other
-    at_decided_other f s g p r phases x None m a = at_begins h T G E f (decision_kept s g p r None) g x phases m (at_decision s g p r None a)
+    at_decided_other : (f : Answering) (s : Core) (g : List ℕ) (p : ProviderId) (r : ℕ) (phases : Phases) (x : Proposal) (o : Option Why) → MayLead h T G E g → At h T G E s → At h T G E (decide_change f s g p r phases x o)
+    unfolding decide_change
+    at_decided_other f s g p r phases x None m a = at_begins h T G E f (keep_decision s g p r None) g x phases m (at_decision s g p r None a)
     at_decided_other f s g p r phases x (Some y) m a = at_refused s g p r y a
 
     pub at_decided : (f : Answering) (s : Core) (g : List ℕ) (p : ProviderId) (r : ℕ) (phases : Phases) (x : Proposal) → MayLead h T G E g → At h T G E s → At h T G E (decided f s g p r phases x)
@@ -199,8 +199,8 @@ module _ (h : Turn) where
         by p true k rest = rest
         by p false k rest = k
 
-    pub at_step_ended : (f : Answering) (s : Core) → At h Every NoGroup E s → At h Every NoGroup E (step_ended f s)
-    unfolding step_ended
+    pub at_step_ended : (f : Answering) (s : Core) → At h Every NoGroup E s → At h Every NoGroup E (end_step f s)
+    unfolding end_step
     at_step_ended f s a = by (frozen s)
       where
         by : (b : Bool) → At h Every NoGroup E (elim b as (λ _. Core) [ true ↦ s | false ↦ passes (most_begun s) (most_begun s) f s ])

@@ -6,51 +6,51 @@ use Rattle.std.specs.Option.{option_map}
 use Rattle.std.specs.Str.{bytes_eq}
 use Rattle.std.proofs.lemmas.List.{reverse-append, reverse-reverse}
 use Rattle.std.proofs.lemmas.Bool.{eq-eqb}
-use Rattle.rsct_packet.specs.declared.ids.ViewId.{ViewId}
-use Rattle.rsct_packet.specs.declared.ids.ProviderId.{ProviderId}
-use Rattle.rsct_packet.specs.declared.ids.Member.{Member}
-use Rattle.rsct_packet.specs.Providers.{among}
-use Rattle.rsct_packet.specs.Search.{Has}
-use Rattle.rsct_packet.proofs.HasLaws.{has_append, append_has_left, append_has_right}
-use Rattle.group_attr.specs.Attrs.{host_membership}
-use Rattle.proposal_core.specs.declared.proposal.Cause.TheVariants.{Died}
-use Rattle.proposal_core.specs.declared.entry.Entry.{Entry}
-use Rattle.proposal_core.specs.Fold.{empty_state, present}
-use Rattle.proposal_core.specs.Lists.{list_or_new, state_in, with_entry}
-use Rattle.batch_rules.specs.Waiting.{waits_failure}
-use Rattle.subscribe_core.specs.declared.subs.Subscription.{Subscription}
-use Rattle.client_callbacks.specs.declared.told.Told.TheVariants as told
-use Rattle.client_callbacks.specs.declared.told.Why.TheVariants.{Dissolved}
-use Rattle.session_state.specs.declared.state.Provider.{Provider}
-use Rattle.session_state.specs.State.{provider_of, outstanding}
-use Rattle.session_state.specs.HandOn.{telling_taken}
-use Rattle.view_state.specs.declared.install.Install.{Install}
-use Rattle.view_state.specs.declared.install.Base.{Base}
-use Rattle.view_state.specs.Bases.{bases_of, base_named}
-use Rattle.view_state.specs.declared.packet.ViewPacket.TheVariants as packet
-use Rattle.view_state.specs.declared.views.ViewWork.{ViewWork}
-use Rattle.view_state.specs.Views.{views_entered}
-use Rattle.node_state.specs.declared.group.GroupRow.{GroupRow}
-use Rattle.node_state.specs.declared.happened.Happened.{Happened}
-use Rattle.node_state.specs.declared.happened.Happened.TheVariants as happened
-use Rattle.node_state.specs.declared.packet.Body.TheVariants as body
-use Rattle.node_state.specs.declared.state.Core.{Core}
-use Rattle.node_state.specs.Settings.{view_level}
-use Rattle.node_state.specs.State.{AllAfter, InNameOrder, row_found, row_of, list_of, state_of, len_of, held_rows, recorded, recorded_all, with_sessions, with_row, has_name}
-use Rattle.node_state.specs.Sending.{sent, requests_sent}
-use Rattle.node_state.specs.HandOn.{Answering, subscriber_name, note_of}
-use Rattle.node_state.specs.Leading.{put, put_and_handed, with_waiting, tally_opened}
-use Rattle.node_state.specs.Applying.{Lacking, lacking, lists_filled, level_set, base_row, base_record, view_entered, is_in_base, number_of, dissolved, dissolved_if, group_dissolved, sides_dissolved, base_note, entering_note, entering_noted, taken_sent, owed_sent, failed_wait, phase_reopened, group_led, groups_led, entered, entered_if, install_applied, views_taken}
-use Rattle.run_safety.specs.Past.{History, records_of, Within}
-use Rattle.run_safety.specs.Stays.{Stay, stays}
-use Rattle.run_safety.specs.Stays as stay
-use Rattle.run_safety.specs.SafeHeard.{enters}
-use Rattle.node_state.proofs.NameOrder.{text_same, text_other, none_after, row_here, row_there, cases_text, text_self}
-use Rattle.step_ties.proofs.Appending.{handed_rows}
-use Rattle.step_ties.proofs.BaseOrder.{bases_ordered, row_of_base, base_noted}
-use Rattle.step_ties.proofs.Fills.{collected}
-use Rattle.step_ties.proofs.Founding.{Sent, sends_out, sends_are, lacking_same}
-use Rattle.step_ties.proofs.Turns.{has_turned}
+use Rattle.row_laws.specs.rsct_packet.declared.ids.ViewId.{ViewId}
+use Rattle.row_laws.specs.rsct_packet.declared.ids.ProviderId.{ProviderId}
+use Rattle.row_laws.specs.rsct_packet.declared.ids.Member.{Member}
+use Rattle.row_laws.specs.rsct_packet.Providers.{among}
+use Rattle.row_laws.specs.rsct_packet.Search.{Has}
+use Rattle.row_laws.proofs.rsct_packet_laws.HasLaws.{has_append, append_has_left, append_has_right}
+use Rattle.row_laws.specs.group_attr.Attrs.{host_membership}
+use Rattle.row_laws.specs.proposal_core.declared.proposal.Cause.TheVariants.{Died}
+use Rattle.row_laws.specs.proposal_core.declared.entry.Entry.{Entry}
+use Rattle.row_laws.specs.proposal_core.Fold.{empty_state, present}
+use Rattle.row_laws.specs.proposal_core.Lists.{list_or_new, state_in, with_entry}
+use Rattle.row_laws.specs.batch_rules.Waiting.{add_failure}
+use Rattle.row_laws.specs.subscribe_core.declared.subs.Subscription.{Subscription}
+use Rattle.row_laws.specs.client_callbacks.declared.told.Told.TheVariants as told
+use Rattle.row_laws.specs.client_callbacks.declared.told.Why.TheVariants.{Dissolved}
+use Rattle.row_laws.specs.session_state.declared.state.Provider.{Provider}
+use Rattle.row_laws.specs.session_state.State.{provider_of, outstanding}
+use Rattle.row_laws.specs.session_state.HandOn.{take_telling}
+use Rattle.row_laws.specs.view_state.declared.install.Install.{Install}
+use Rattle.row_laws.specs.view_state.declared.install.Base.{Base}
+use Rattle.row_laws.specs.view_state.Bases.{bases_of, base_named}
+use Rattle.row_laws.specs.view_state.declared.packet.ViewPacket.TheVariants as packet
+use Rattle.row_laws.specs.view_state.declared.views.ViewWork.{ViewWork}
+use Rattle.row_laws.specs.view_state.Views.{views_entered}
+use Rattle.row_laws.specs.node_state.declared.group.GroupRow.{GroupRow}
+use Rattle.row_laws.specs.node_state.declared.happened.Happened.{Happened}
+use Rattle.row_laws.specs.node_state.declared.happened.Happened.TheVariants as happened
+use Rattle.row_laws.specs.node_state.declared.packet.Body.TheVariants as body
+use Rattle.row_laws.specs.node_state.declared.state.Core.{Core}
+use Rattle.row_laws.specs.node_state.Settings.{view_level}
+use Rattle.row_laws.specs.node_state.State.{AllAfter, InNameOrder, row_found, row_of, list_of, state_of, len_of, held_rows, recorded, recorded_all, with_sessions, with_row, has_name}
+use Rattle.row_laws.specs.node_state.Sending.{sent, send_requests}
+use Rattle.row_laws.specs.node_state.HandOn.{Answering, subscriber_name, note_of}
+use Rattle.row_laws.specs.node_state.Leading.{put, put_and_hand, with_waiting, tally_opened}
+use Rattle.row_laws.specs.node_state.Applying.{Lacking, lacking, fill_lists, level_set, base_row, base_record, view_entered, is_in_base, number_of, dissolved, dissolved_if, group_dissolved, sides_dissolved, base_note, entering_note, entering_noted, taken_sent, owed_sent, wait_failed, phase_reopened, lead, lead_groups, entered, entered_if, apply_install, views_taken}
+use Rattle.row_laws.specs.run_safety.Past.{History, records_of, Within}
+use Rattle.row_laws.specs.run_safety.Stays.{Stay, stays}
+use Rattle.row_laws.specs.run_safety.Stays as stay
+use Rattle.row_laws.specs.run_safety.SafeHeard.{enters}
+use Rattle.row_laws.proofs.node_state_laws.NameOrder.{text_same, text_other, none_after, row_here, row_there, cases_text, text_self}
+use Rattle.row_laws.proofs.step_refinement_laws.Appending.{handed_rows}
+use Rattle.row_laws.proofs.step_refinement_laws.BaseOrder.{bases_ordered, row_of_base, base_noted}
+use Rattle.row_laws.proofs.step_refinement_laws.Fills.{collected}
+use Rattle.row_laws.proofs.step_refinement_laws.Founding.{Sent, sends_out, sends_are, lacking_same}
+use Rattle.row_laws.proofs.step_refinement_laws.Turns.{has_turned}
 use Rattle.entry_laws.specs.late_rows.Late.{PutBefore, RecordLate}
 use Rattle.entry_laws.specs.late_rows.Announced.{members_now, RecordTold}
 use Rattle.entry_laws.proofs.late_rows.At.{Turn, tick_here, Plain, AllPlain, Mine, Folds, found_in, AtOf, At, at_for, at_fold, at_recorded, at_recorded_all}
@@ -109,8 +109,8 @@ bases_stay n m v g me (b ∷ bs) o s older rest q =
 
 -- ---- so much a list has after a put
 
-len_put : (f : Answering) (s : Core) (g : List ℕ) (e : Entry) (k : List ℕ) → InNameOrder s.groups → len_of (put_and_handed f s None g e) k ≡ (if bytes_eq g k then len_of s k + 1 else len_of s k)
-unfolding put_and_handed len_of list_of row_of put recorded with_row with_entry
+len_put : (f : Answering) (s : Core) (g : List ℕ) (e : Entry) (k : List ℕ) → InNameOrder s.groups → len_of (put_and_hand f s None g e) k ≡ (if bytes_eq g k then len_of s k + 1 else len_of s k)
+unfolding put_and_hand len_of list_of row_of put recorded with_row with_entry
 len_put f s g e k o =
     ap (λ rows. (list_or_new (row_found k (find (has_name k) rows)).list).len) (handed_rows f (put s g e) None g (len_of s g) (state_of s g) (state_of (put s g e) g) e).0 ∙ by (cases_text g k)
   where
@@ -135,7 +135,7 @@ module _ (h : Turn) where
         knows : (r : Happened) → Has r known → Has r (reverse s.records ++ records_of h.before)
         fits : (g : List ℕ) → len_of s g + length (collected g xs) ≤ bound g
 
-      one_filled : (g : List ℕ) (e : Entry) (es : List Entry) (xs : List Lacking) (s : Core) → Filling (record { name = g; entries = e ∷ es } ∷ xs) s → Filling (record { name = g; entries = es } ∷ xs) (put_and_handed f s None g e)
+      one_filled : (g : List ℕ) (e : Entry) (es : List Entry) (xs : List Lacking) (s : Core) → Filling (record { name = g; entries = e ∷ es } ∷ xs) s → Filling (record { name = g; entries = es } ∷ xs) (put_and_hand f s None g e)
       one_filled g e es xs s a =
           record {
             at = at_put_and_handed_for h NoTally NoTally NoGroup E f s None g e late told (λ k less u ne. u) (λ less u. absurd u) a.at;
@@ -145,7 +145,7 @@ module _ (h : Turn) where
           }
         where
           t : Core
-          t = put_and_handed f s None g e
+          t = put_and_hand f s None g e
 
           l : PutThen s (happened.Put s.views.me s.views.view g (len_of s g) e) t
           l = later_put f s None g e
@@ -176,19 +176,19 @@ module _ (h : Turn) where
           by k true q c = let z : len_of t k ≡ len_of s k + 1 = len_put f s g e k a.at.order ∙ ap (λ b. if b then len_of s k + 1 else len_of s k) q in omega arith
           by k false q c = let z : len_of t k ≡ len_of s k = len_put f s g e k a.at.order ∙ ap (λ b. if b then len_of s k + 1 else len_of s k) q in omega arith
 
-      entries_filled : (g : List ℕ) (es : List Entry) (xs : List Lacking) (s : Core) → Filling (record { name = g; entries = es } ∷ xs) s → Filling xs (fold (λ u e. put_and_handed f u None g e) s es)
+      entries_filled : (g : List ℕ) (es : List Entry) (xs : List Lacking) (s : Core) → Filling (record { name = g; entries = es } ∷ xs) s → Filling xs (fold (λ u e. put_and_hand f u None g e) s es)
       entries_filled g [] xs s a = record { at = a.at; view = a.view; knows = a.knows; fits = λ k. by k (bytes_eq g k) (a.fits k) }
         where
           by : (k : List ℕ) (b : Bool) → len_of s k + length (if b then [] ++ collected k xs else collected k xs) ≤ bound k → len_of s k + length (collected k xs) ≤ bound k
           by k true c = c
           by k false c = c
-      entries_filled g (e ∷ es) xs s a = entries_filled g es xs (put_and_handed f s None g e) (one_filled g e es xs s a)
+      entries_filled g (e ∷ es) xs s a = entries_filled g es xs (put_and_hand f s None g e) (one_filled g e es xs s a)
 
-      all_filled : (xs : List Lacking) (s : Core) → Filling xs s → Filling [] (lists_filled f s xs)
-      unfolding lists_filled
+      all_filled : (xs : List Lacking) (s : Core) → Filling xs s → Filling [] (fill_lists f s xs)
+      unfolding fill_lists
       all_filled [] s a = a
       all_filled (y ∷ xs) s a =
-          all_filled xs (fold (λ u e. put_and_handed f u None y.name e) s y.entries) (entries_filled y.name y.entries xs s (record { at = a.at; view = a.view; knows = a.knows; fits = a.fits }))
+          all_filled xs (fold (λ u e. put_and_hand f u None y.name e) s y.entries) (entries_filled y.name y.entries xs s (record { at = a.at; view = a.view; knows = a.knows; fits = a.fits }))
 
     -- (2) in a view that is entered nothing is counted yet
     bare_folds : (g : List ℕ) (me : ℕ) (v : ViewId) (ms : List Member) (now : List Happened) → me ≡ h.node → stays h.node g (happened.In me v ms ∷ now ++ records_of h.before) ≡ record { view = v; base = empty_state; entries = [] } ∷ stays h.node g (now ++ records_of h.before)
@@ -285,7 +285,7 @@ module _ (h : Turn) where
       -- (3)
       at_dissolved : (s : Core) (p : ProviderId) (r : ℕ) → Full s → Full (dissolved s p r)
       unfolding dissolved with_sessions
-      at_dissolved s p r a = at_recorded h T NoGroup (Unit {0}) (with_sessions s (telling_taken s.sessions p r Dissolved)) (happened.Told p r Dissolved) tt (at_sessions h T NoGroup (Unit {0}) s (telling_taken s.sessions p r Dissolved) (telling_level s.sessions p r Dissolved) a)
+      at_dissolved s p r a = at_recorded h T NoGroup (Unit {0}) (with_sessions s (take_telling s.sessions p r Dissolved)) (happened.Told p r Dissolved) tt (at_sessions h T NoGroup (Unit {0}) s (take_telling s.sessions p r Dissolved) (telling_level s.sessions p r Dissolved) a)
 
       at_dissolved_if : (s : Core) (g : List ℕ) (old : ViewId) (b : Option Base) (o : Option Provider) → Full s → Full (dissolved_if s g old b o)
       unfolding dissolved_if
@@ -340,33 +340,33 @@ module _ (h : Turn) where
 
       at_owed_sent : (s : Core) → Full s → Full (owed_sent s)
       unfolding owed_sent
-      at_owed_sent s a = at_votes_again h T NoGroup (Unit {0}) (requests_sent s) (at_requests_sent h T NoGroup (Unit {0}) s a)
+      at_owed_sent s a = at_votes_again h T NoGroup (Unit {0}) (send_requests s) (at_requests_sent h T NoGroup (Unit {0}) s a)
 
       -- (7)
       module _ (some : (g : List ℕ) → (less : ℕ) × T g less) (may : (g : List ℕ) → MayOpen h T (Unit {0}) g) where
-        at_group_led : (f : Answering) (G : List ℕ → Type 0) (s : Core) (g : List ℕ) → G g → At h T G (Unit {0}) s → At h T G (Unit {0}) (group_led f s g)
-        unfolding group_led failed_wait phase_reopened
+        at_group_led : (f : Answering) (G : List ℕ → Type 0) (s : Core) (g : List ℕ) → G g → At h T G (Unit {0}) s → At h T G (Unit {0}) (lead f s g)
+        unfolding lead wait_failed phase_reopened
         at_group_led f G s g led a = by (is_some (state_of s g).running)
           where
             t : Core
-            t = failed_wait s g (filter (among (state_of s g).members) (state_of s g).failed)
+            t = wait_failed s g (filter (among (state_of s g).members) (state_of s g).failed)
 
             waits : At h T G (Unit {0}) t
             waits =
-                at_fold h T G (Unit {0}) (λ t p. with_waiting t g (waits_failure p Died)) (filter (among (state_of s g).members) (state_of s g).failed) (λ t p i k. at_waits h T G (Unit {0}) t g (waits_failure p Died) k) s a
+                at_fold h T G (Unit {0}) (λ t p. with_waiting t g (add_failure p Died)) (filter (among (state_of s g).members) (state_of s g).failed) (λ t p i k. at_waits h T G (Unit {0}) t g (add_failure p Died) k) s a
 
             by : (b : Bool) → At h T G (Unit {0}) (phase_reopened f t g b)
             by false = waits
             by true = at_closes h T G (Unit {0}) f (tally_opened t g) g (some g, may g, led) (at_opened_anew h T G (Unit {0}) t g (may g) led waits)
 
-        at_groups_led : (f : Answering) (s : Core) → Full s → Full (groups_led f s)
-        unfolding groups_led
-        at_groups_led f s a = at_led_groups h T (Unit {0}) (group_led f) (at_group_led f) s a
+        at_groups_led : (f : Answering) (s : Core) → Full s → Full (lead_groups f s)
+        unfolding lead_groups
+        at_groups_led f s a = at_led_groups h T (Unit {0}) (lead f) (at_group_led f) s a
 
         at_entered : (f : Answering) (s : Core) (i : Install) (xs : List Lacking) → Brought h.before s i → lacking s i ≡ Some xs → Loose s → Full (entered f s i xs)
         unfolding entered
         at_entered f s i xs brought lacks a =
-            let t : Core = lists_filled f s xs in
+            let t : Core = fill_lists f s xs in
             let k = all_filled f s.views.view (reverse s.records ++ records_of h.before) brought.bound brought.put xs s (record { at = a; view = refl; knows = λ r i. i; fits = brought.fits xs lacks }) in
             let bs : List Base = bases_of i in
             let v : Core = view_entered t i bs in
@@ -382,8 +382,8 @@ module _ (h : Turn) where
   Fresh T = (g : List ℕ) → ((less : ℕ) × T g less) × ((less : ℕ) → T g less → less ≤ tick_here h)
 
   module _ (T : List ℕ → ℕ → Type 0) (fresh : Fresh T) where
-    at_applied : (f : Answering) (s : Core) (o : Option Install) → IfBrought h.before s o → At h T NoGroup ⊥ s → At h T NoGroup ⊥ (install_applied f s o)
-    unfolding install_applied entered_if
+    at_applied : (f : Answering) (s : Core) (o : Option Install) → IfBrought h.before s o → At h T NoGroup ⊥ s → At h T NoGroup ⊥ (apply_install f s o)
+    unfolding apply_install entered_if
     at_applied f s None ok a = a
     at_applied f s (Some i) ok a = by (lacking s i) refl
       where
@@ -395,7 +395,7 @@ module _ (h : Turn) where
     pub at_views_taken : (f : Answering) (s : Core) (w : ViewWork) → Work (Brought h.before s) s.views w → At h T NoGroup ⊥ s → At h T NoGroup ⊥ (views_taken f s w)
     unfolding views_taken lacking len_of list_of row_of
     at_views_taken f s w k a =
-        subst (λ d. At h T NoGroup ⊥ (install_applied f d w.install)) (sym sent.is) (at_applied f (record c { sends = sent.ps }) w.install brought moved)
+        subst (λ d. At h T NoGroup ⊥ (apply_install f d w.install)) (sym sent.is) (at_applied f (record c { sends = sent.ps }) w.install brought moved)
       where
         c : Core
         c = record s { views = w.views }

@@ -2,40 +2,40 @@
 use Rattle.std.proofs.Common.{◌≡◌, ◌⊎◌, ℕ, List, Option, Some, None, Bool, true, false, refl, sym, ap, ◌∙◌, subst, inl, inr}
 use Rattle.std.specs.Prelude.{◌==◌, ◌&&◌, ◌||◌, find, reverse, nat_le, nat_lt, is_none}
 use Rattle.std.specs.Option.{unwrap_or}
-use Rattle.rsct_packet.specs.declared.ids.ProviderId.{ProviderId}
-use Rattle.rsct_packet.specs.declared.ids.ProtoId.{ProtoId}
-use Rattle.rsct_packet.specs.Providers.{among}
-use Rattle.group_attr.specs.declared.attrs.Phases.{Phases}
-use Rattle.proposal_core.specs.declared.proposal.Cause.TheVariants.{Gone}
-use Rattle.proposal_core.specs.declared.proposal.Proposal.{Proposal}
-use Rattle.proposal_core.specs.declared.entry.Entry.{Entry}
-use Rattle.proposal_core.specs.declared.entry.Vote.{Vote}
-use Rattle.proposal_core.specs.Fold.{runs, present}
-use Rattle.proposal_core.specs.Lists.{state_in}
-use Rattle.batch_rules.specs.Waiting.{waits_failure, join_dropped}
-use Rattle.name_server.specs.Names as names
-use Rattle.name_server.specs.declared.names.Leader.{Leader}
-use Rattle.vote_phases.specs.Tally.{TallyView, tally_cast, tally_fail}
-use Rattle.client_callbacks.specs.declared.told.Why.{Why}
-use Rattle.client_callbacks.specs.declared.told.Why.TheVariants.{GroupsFull}
-use Rattle.session_state.specs.declared.state.Request.{Request}
-use Rattle.session_state.specs.State.{outstanding}
-use Rattle.session_state.specs.HandOn.{is_numbered, telling_taken}
-use Rattle.node_state.specs.declared.group.Decision.{Decision}
-use Rattle.node_state.specs.declared.group.GroupRow.{GroupRow}
-use Rattle.node_state.specs.declared.happened.Happened.{Happened}
-use Rattle.node_state.specs.declared.happened.Happened.TheVariants as happened
-use Rattle.node_state.specs.declared.packet.Body.TheVariants as body
-use Rattle.node_state.specs.declared.state.Core.{Core}
-use Rattle.node_state.specs.Settings.{is_fixed}
-use Rattle.node_state.specs.State.{InNameOrder, row_found, row_of, with_row, with_led, led_of, list_of, state_of, len_of, holds, fits_at_end, forgets_below, coordinates, is_this, leader_in, leader_of, leads_in, leads, led_by, acked_raised, decision_of, recorded, with_sessions, has_name}
-use Rattle.node_state.specs.Sending.{sent, sent_on, request_sent}
-use Rattle.node_state.specs.HandOn.{Answering}
-use Rattle.node_state.specs.Leading.{put, put_and_handed, with_waiting, with_tally, closes}
-use Rattle.node_state.specs.Deciding.{decided}
-use Rattle.node_state.specs.Following.{lookup_row, told_if, tell_row, requests_of, named, is_name_used, name_row, told_again, request_new, request_after, request_at, is_group_refused, request_row, entry_next, entry_elsewhere, entry_row, acked, ack_row, vote_cast, vote_row, tally_failed, gone_waits, marked, gone_present, gone_of, gone_row}
-use Rattle.node_state.proofs.NameOrder.{cases_text, row_here, row_there, rows_ordered}
-use Rattle.step_ties.proofs.Appending.{handed_rows}
+use Rattle.row_laws.specs.rsct_packet.declared.ids.ProviderId.{ProviderId}
+use Rattle.row_laws.specs.rsct_packet.declared.ids.ProtoId.{ProtoId}
+use Rattle.row_laws.specs.rsct_packet.Providers.{among}
+use Rattle.row_laws.specs.group_attr.declared.attrs.Phases.{Phases}
+use Rattle.row_laws.specs.proposal_core.declared.proposal.Cause.TheVariants.{Gone}
+use Rattle.row_laws.specs.proposal_core.declared.proposal.Proposal.{Proposal}
+use Rattle.row_laws.specs.proposal_core.declared.entry.Entry.{Entry}
+use Rattle.row_laws.specs.proposal_core.declared.entry.Vote.{Vote}
+use Rattle.row_laws.specs.proposal_core.Fold.{runs, present}
+use Rattle.row_laws.specs.proposal_core.Lists.{state_in}
+use Rattle.row_laws.specs.batch_rules.Waiting.{add_failure, drop_join}
+use Rattle.row_laws.specs.name_server.Names as names
+use Rattle.row_laws.specs.name_server.declared.names.Leader.{Leader}
+use Rattle.row_laws.specs.vote_phases.Tally.{TallyView, tally_cast, tally_fail}
+use Rattle.row_laws.specs.client_callbacks.declared.told.Why.{Why}
+use Rattle.row_laws.specs.client_callbacks.declared.told.Why.TheVariants.{GroupsFull}
+use Rattle.row_laws.specs.session_state.declared.state.Request.{Request}
+use Rattle.row_laws.specs.session_state.State.{outstanding}
+use Rattle.row_laws.specs.session_state.HandOn.{is_numbered, take_telling}
+use Rattle.row_laws.specs.node_state.declared.group.Decision.{Decision}
+use Rattle.row_laws.specs.node_state.declared.group.GroupRow.{GroupRow}
+use Rattle.row_laws.specs.node_state.declared.happened.Happened.{Happened}
+use Rattle.row_laws.specs.node_state.declared.happened.Happened.TheVariants as happened
+use Rattle.row_laws.specs.node_state.declared.packet.Body.TheVariants as body
+use Rattle.row_laws.specs.node_state.declared.state.Core.{Core}
+use Rattle.row_laws.specs.node_state.Settings.{is_fixed}
+use Rattle.row_laws.specs.node_state.State.{InNameOrder, row_found, row_of, with_row, with_led, led_of, list_of, state_of, len_of, holds, fits_at_end, forget_below, coordinates, is_this, leader_in, leader_of, leads_in, leads, set_leader, acked_raised, decision_of, recorded, with_sessions, has_name}
+use Rattle.row_laws.specs.node_state.Sending.{sent, send_on, send_request}
+use Rattle.row_laws.specs.node_state.HandOn.{Answering}
+use Rattle.row_laws.specs.node_state.Leading.{put, put_and_hand, with_waiting, with_tally, closes}
+use Rattle.row_laws.specs.node_state.Deciding.{decided}
+use Rattle.row_laws.specs.node_state.Following.{take_lookup, told_if, take_tell, requests_of, named, is_name_used, take_name, tell_again, decide_new, request_after, request_at, is_group_refused, take_request, entry_next, entry_elsewhere, take_entry, acked, take_ack, vote_cast, take_vote, tally_failed, wait_gone, marked, gone_present, gone_of, take_gone}
+use Rattle.row_laws.proofs.node_state_laws.NameOrder.{cases_text, row_here, row_there, rows_ordered}
+use Rattle.row_laws.proofs.step_refinement_laws.Appending.{handed_rows}
 use Rattle.entry_laws.specs.late_rows.Late.{RecordLate}
 use Rattle.entry_laws.specs.late_rows.Announced.{RecordTold}
 use Rattle.entry_laws.proofs.late_rows.At.{Turn, ticks_now, TallyIs, Settled, TallyRuns, RowIs, Folds, found, leads_row, leads_is, At, at_for, at_fold, at_recorded, at_row_for}
@@ -43,7 +43,7 @@ use Rattle.entry_laws.proofs.late_rows.Puts.{put_row, put_record}
 use Rattle.entry_laws.proofs.late_rows.Hands.{at_sent, at_request_sent, at_sessions}
 use Rattle.entry_laws.proofs.late_rows.Tallies.{failed_late, voted_late, failed_settled, voted_settled}
 use Rattle.entry_laws.proofs.late_rows.Tellings.{telling_level}
-use Rattle.node_state.specs.declared.group.Led.{Led}
+use Rattle.row_laws.specs.node_state.declared.group.Led.{Led}
 use Rattle.entry_laws.proofs.late_rows.Leading.{at_put_and_handed_for, at_led, at_waits, at_forgets, at_forgets_least, at_closes}
 use Rattle.entry_laws.proofs.late_rows.Ending.{Every, NoGroup, every_may, at_decided}
 
@@ -85,8 +85,8 @@ module _ (h : Turn) where
   at_names s ns a = a
 
   -- a leader is known
-  at_led_by : (s : Core) (g : List ℕ) (n : ℕ) → RowIs (ticks_now h g (reverse s.records)) 0 (leads_row s (record (found s g) { leader = Some n })) (record (found s g) { leader = Some n }) → Full s → Full (led_by s g n)
-  unfolding led_by with_row row_of
+  at_led_by : (s : Core) (g : List ℕ) (n : ℕ) → RowIs (ticks_now h g (reverse s.records)) 0 (leads_row s (record (found s g) { leader = Some n })) (record (found s g) { leader = Some n }) → Full s → Full (set_leader s g n)
+  unfolding set_leader with_row row_of
   at_led_by s g n own a =
       record {
         me_is = a.me_is;
@@ -135,26 +135,26 @@ module _ (h : Turn) where
 
   -- ---- LOOKUP, NAME and TELL
 
-  pub at_lookup : (s : Core) (from : ℕ) (g : List ℕ) → Full s → Full (lookup_row s from g)
-  unfolding lookup_row
+  pub at_lookup : (s : Core) (from : ℕ) (g : List ℕ) → Full s → Full (take_lookup s from g)
+  unfolding take_lookup
   at_lookup s from g a = by (coordinates s)
     where
-      by : (b : Bool) → Full (elim b as (λ _. Core) [ false ↦ s | true ↦ sent (record s { names = names.names_after g from s.names }) from (body.Name s.views.view g (unwrap_or (names.looked_up g from s.names) 0)) ])
+      by : (b : Bool) → Full (elim b as (λ _. Core) [ false ↦ s | true ↦ sent (record s { names = names.lookup g from s.names }) from (body.Name s.views.view g (unwrap_or (names.looked_up g from s.names) 0)) ])
       by false = a
-      by true = at_sent h Every NoGroup ⊥ (record s { names = names.names_after g from s.names }) from (body.Name s.views.view g (unwrap_or (names.looked_up g from s.names) 0)) (at_names s (names.names_after g from s.names) a)
+      by true = at_sent h Every NoGroup ⊥ (record s { names = names.lookup g from s.names }) from (body.Name s.views.view g (unwrap_or (names.looked_up g from s.names) 0)) (at_names s (names.lookup g from s.names) a)
 
   at_told_if : (s : Core) (p : ProviderId) (r : ℕ) (y : Why) (b : Bool) → Full s → Full (told_if s p r y b)
   unfolding told_if
   at_told_if s p r y false a = a
   at_told_if s p r y true a =
-      at_recorded h Every NoGroup ⊥ (with_sessions s (telling_taken s.sessions p r y)) (happened.Told p r y) tt (at_sessions h Every NoGroup ⊥ s (telling_taken s.sessions p r y) (telling_level s.sessions p r y) a)
+      at_recorded h Every NoGroup ⊥ (with_sessions s (take_telling s.sessions p r y)) (happened.Told p r y) tt (at_sessions h Every NoGroup ⊥ s (take_telling s.sessions p r y) (telling_level s.sessions p r y) a)
 
-  pub at_tell : (s : Core) (p : ProviderId) (r : ℕ) (y : Why) → Full s → Full (tell_row s p r y)
-  unfolding tell_row
+  pub at_tell : (s : Core) (p : ProviderId) (r : ℕ) (y : Why) → Full s → Full (take_tell s p r y)
+  unfolding take_tell
   at_tell s p r y a = at_told_if s p r y (is_numbered r (outstanding s.sessions p)) a
 
-  pub at_name : (s : Core) (g : List ℕ) (n : ℕ) → Full s → Full (name_row s g n)
-  unfolding name_row named is_name_used leader_of leader_in row_of
+  pub at_name : (s : Core) (g : List ℕ) (n : ℕ) → Full s → Full (take_name s g n)
+  unfolding take_name named is_name_used leader_of leader_in row_of
   at_name s g n a = by (n == 0) (is_none (leader_in s (found s g))) (is_fixed s.config.mode) refl
     where
       idle : is_none (leader_in s (found s g)) ≡ true → (found s g).led.tally ≡ None
@@ -165,33 +165,33 @@ module _ (h : Turn) where
           unled (Some k) e q = absurd (cc)
 
       by : (zero none fixed : Bool) → is_none (leader_in s (found s g)) ≡ none → Full (elim (none || (fixed && zero)) as (λ _. Core) [ true ↦ named s g n zero | false ↦ s ])
-      by true true fixed e = at_fold h Every NoGroup ⊥ (λ t (q : Request). tell_row t q.p q.r (GroupsFull 64)) (requests_of s g) (λ t q i k. at_tell t q.p q.r (GroupsFull 64) k) s a
-      by true false true e = at_fold h Every NoGroup ⊥ (λ t (q : Request). tell_row t q.p q.r (GroupsFull 64)) (requests_of s g) (λ t q i k. at_tell t q.p q.r (GroupsFull 64) k) s a
+      by true true fixed e = at_fold h Every NoGroup ⊥ (λ t (q : Request). take_tell t q.p q.r (GroupsFull 64)) (requests_of s g) (λ t q i k. at_tell t q.p q.r (GroupsFull 64) k) s a
+      by true false true e = at_fold h Every NoGroup ⊥ (λ t (q : Request). take_tell t q.p q.r (GroupsFull 64)) (requests_of s g) (λ t q i k. at_tell t q.p q.r (GroupsFull 64) k) s a
       by true false false e = a
-      by false true fixed e = at_fold h Every NoGroup ⊥ request_sent (requests_of s g) (λ t q i k. at_request_sent h Every NoGroup ⊥ t q k) (led_by s g n) (at_led_by s g n (λ t q. absurd (let z = idle e in cc)) a)
+      by false true fixed e = at_fold h Every NoGroup ⊥ send_request (requests_of s g) (λ t q i k. at_request_sent h Every NoGroup ⊥ t q k) (set_leader s g n) (at_led_by s g n (λ t q. absurd (let z = idle e in cc)) a)
       by false false true e = a
       by false false false e = a
 
   -- ---- REQUEST
 
-  at_told_again : (s : Core) (g : List ℕ) (p : ProviderId) (r : ℕ) (o : Option Why) → Full s → Full (told_again s g p r o)
-  unfolding told_again
+  at_told_again : (s : Core) (g : List ℕ) (p : ProviderId) (r : ℕ) (o : Option Why) → Full s → Full (tell_again s g p r o)
+  unfolding tell_again
   at_told_again s g p r None a = a
   at_told_again s g p r (Some y) a = at_sent h Every NoGroup ⊥ s p.node (body.Tell s.views.view g p r y) a
 
   -- noting itself as leader, the node leads
-  module _ (f : Answering) (s : Core) (g : List ℕ) (leads_it : leads (led_by s g s.views.me) g ≡ true) where
-    at_noted : Full s → Full (led_by s g s.views.me)
-    unfolding led_by with_row leads leads_in leader_in row_of
+  module _ (f : Answering) (s : Core) (g : List ℕ) (leads_it : leads (set_leader s g s.views.me) g ≡ true) where
+    at_noted : Full s → Full (set_leader s g s.views.me)
+    unfolding set_leader with_row leads leads_in leader_in row_of
     at_noted a = at_led_by s g s.views.me (λ t q. (now, (a.tallies g 0 refl t q).1)) a
       where
         now : leads_row s (record (found s g) { leader = Some s.views.me }) ≡ true
         now = ap (leads_row s) (sym (row_here g (λ row. record row { leader = Some s.views.me }) (λ x. refl) s a.order)) ∙ leads_it
 
-    at_request_new : (p : ProviderId) (r : ℕ) (phases : Phases) (x : Proposal) → Full s → Full (request_new f s g p r phases x)
-    unfolding request_new
+    at_request_new : (p : ProviderId) (r : ℕ) (phases : Phases) (x : Proposal) → Full s → Full (decide_new f s g p r phases x)
+    unfolding decide_new
     at_request_new p r phases x a =
-        let t : Core = led_by s g s.views.me in
+        let t : Core = set_leader s g s.views.me in
         all_again (decided f t g p r phases x) g (at_decided h Every (Only g) ⊥ f t g p r phases x (every_may h (Only g) ⊥ g refl) (only_led t g leads_it (at_noted a)))
 
     at_request_after : (p : ProviderId) (r : ℕ) (phases : Phases) (x : Proposal) (d : Decision) (b c : Bool) → Full s → Full (request_after f s g p r phases x d b c)
@@ -205,8 +205,8 @@ module _ (h : Turn) where
     at_request_at p r phases x None a = at_request_new p r phases x a
     at_request_at p r phases x (Some d) a = at_request_after p r phases x d (nat_lt r d.r) (r == d.r) a
 
-    pub at_request : (from : ℕ) (p : ProviderId) (r : ℕ) (phases : Phases) (x : Proposal) → Full s → Full (request_row f s from g p r phases x)
-    unfolding request_row
+    pub at_request : (from : ℕ) (p : ProviderId) (r : ℕ) (phases : Phases) (x : Proposal) → Full s → Full (take_request f s from g p r phases x)
+    unfolding take_request
     at_request from p r phases x a = by (is_group_refused s g)
       where
         by : (b : Bool) → Full (elim b as (λ _. Core) [ true ↦ sent s from (body.Name s.views.view g 0) | false ↦ request_at f s g p r phases x (decision_of (led_of s g) p) ])
@@ -216,8 +216,8 @@ module _ (h : Turn) where
   -- ---- ENTRY and ACK
 
   -- what is counted stays where an entry is put
-  rows_after : (f : Answering) (s : Core) (from : ℕ) (g : List ℕ) (e : Entry) → InNameOrder s.groups → (found (put_and_handed f s (Some from) g e) g).led.tally ≡ (found s g).led.tally
-  unfolding put_and_handed put recorded with_row row_of
+  rows_after : (f : Answering) (s : Core) (from : ℕ) (g : List ℕ) (e : Entry) → InNameOrder s.groups → (found (put_and_hand f s (Some from) g e) g).led.tally ≡ (found s g).led.tally
+  unfolding put_and_hand put recorded with_row row_of
   rows_after f s from g e order =
       ap (λ rows. (row_found g (find (has_name g) rows)).led.tally) (handed_rows f (put s g e) (Some from) g (len_of s g) (state_of s g) (state_of (put s g e) g) e).0 ∙ ap (λ (z : GroupRow). z.led.tally) (row_here g (λ row. put_row h s row e) (λ x. refl) s order)
 
@@ -227,18 +227,18 @@ module _ (h : Turn) where
     Known = RecordLate h.event (reverse s.records) h.before (put_record h s g e) × RecordTold h.config (reverse s.records) h.before (put_record h s g e)
 
     at_next : Known → (leads s g ≡ true → ⊥) → Full s → Full (entry_next f s from g stable e true)
-    unfolding entry_next sent sent_on
+    unfolding entry_next sent send_on
     at_next before follows a =
-        let t : Core = put_and_handed f s (Some from) g e in
+        let t : Core = put_and_hand f s (Some from) g e in
         let u : Core = sent t from (body.Ack t.views.view g (len_of t g)) in
         let b : Full t = at_put_and_handed_for h Every Every NoGroup ⊥ f s (Some from) g e before.0 before.1 (λ k less u ne. u) (λ less u t q. absurd (let z = none in cc)) a in
         let c : Full u = at_sent h Every NoGroup ⊥ t from (body.Ack t.views.view g (len_of t g)) b in
-        at_forgets h Every NoGroup ⊥ (led_by u g from) g stable (at_led_by u g from (λ t q. absurd (let z = after in cc)) c)
+        at_forgets h Every NoGroup ⊥ (set_leader u g from) g stable (at_led_by u g from (λ t q. absurd (let z = after in cc)) c)
       where
         none : (found s g).led.tally ≡ None
         none = untallied (ticks_now h g (reverse s.records)) (leads_row s (found s g)) (found s g) (λ q. follows (sym (leads_is s g) ∙ q)) (a.tallies g 0 refl)
 
-        after : (found (put_and_handed f s (Some from) g e) g).led.tally ≡ None
+        after : (found (put_and_hand f s (Some from) g e) g).led.tally ≡ None
         after = rows_after f s from g e a.order ∙ none
 
     at_next_if : Known → (leads s g ≡ true → ⊥) → (b : Bool) → Full s → Full (entry_next f s from g stable e b)
@@ -251,12 +251,12 @@ module _ (h : Turn) where
     at_elsewhere true a = at_forgets h Every NoGroup ⊥ (sent s from (body.Ack s.views.view g (len_of s g))) g stable (at_sent h Every NoGroup ⊥ s from (body.Ack s.views.view g (len_of s g)) a)
     at_elsewhere false a = by (holds s g)
       where
-        by : (b : Bool) → Full (elim b as (λ _. Core) [ true ↦ forgets_below s g stable | false ↦ s ])
+        by : (b : Bool) → Full (elim b as (λ _. Core) [ true ↦ forget_below s g stable | false ↦ s ])
         by true = at_forgets h Every NoGroup ⊥ s g stable a
         by false = a
 
-    pub at_entry : (place : ℕ) → ((place == len_of s g) ≡ true → Known × (leads s g ≡ true → ⊥)) → Full s → Full (entry_row f s from g place stable e)
-    unfolding entry_row
+    pub at_entry : (place : ℕ) → ((place == len_of s g) ≡ true → Known × (leads s g ≡ true → ⊥)) → Full s → Full (take_entry f s from g place stable e)
+    unfolding take_entry
     at_entry place follows a = by (place == len_of s g) refl
       where
         by : (b : Bool) → (place == len_of s g) ≡ b → Full (elim b as (λ _. Core) [ true ↦ entry_next f s from g stable e (fits_at_end s g e) | false ↦ entry_elsewhere s from g stable (nat_lt place (len_of s g)) ])
@@ -269,8 +269,8 @@ module _ (h : Turn) where
       let t : Core = with_led s g (λ l. record l { acked = acked_raised from n l.acked }) in
       at_forgets_least h Every NoGroup ⊥ t g (at_led h Every NoGroup ⊥ s g (λ l. record l { acked = acked_raised from n l.acked }) (λ l. (refl, refl)) a)
 
-  pub at_ack : (s : Core) (from : ℕ) (g : List ℕ) (n : ℕ) → Full s → Full (ack_row s from g n)
-  unfolding ack_row
+  pub at_ack : (s : Core) (from : ℕ) (g : List ℕ) (n : ℕ) → Full s → Full (take_ack s from g n)
+  unfolding take_ack
   at_ack s from g n a = by (leads s g && nat_le n (len_of s g))
     where
       by : (b : Bool) → Full (elim b as (λ _. Core) [ true ↦ acked s from g n | false ↦ s ])
@@ -279,8 +279,8 @@ module _ (h : Turn) where
 
   -- ---- VOTE
 
-  pub at_vote : (f : Answering) (s : Core) (g : List ℕ) (proto : ProtoId) (phase : ℕ) (p : ProviderId) (v : Vote) (value message : Option (List ℕ)) → Full s → Full (vote_row f s g proto phase p v value message)
-  unfolding vote_row state_of list_of row_of with_led
+  pub at_vote : (f : Answering) (s : Core) (g : List ℕ) (proto : ProtoId) (phase : ℕ) (p : ProviderId) (v : Vote) (value message : Option (List ℕ)) → Full s → Full (take_vote f s g proto phase p v value message)
+  unfolding take_vote state_of list_of row_of with_led
   at_vote f s g proto phase p v value message a = by (leads s g) (runs proto phase (state_in (found s g).list).running) refl
     where
       counted : leads s g ≡ true → At h Every (Only g) ⊥ (with_led s g (λ l. vote_cast l p v value message l.tally))
@@ -310,12 +310,12 @@ module _ (h : Turn) where
           let j = k t e in
           (j.0, λ run r. let w = j.1 run r in subst (λ y. TallyIs (state_in (found s g).list) now less y × Settled (record ((found s g).led) { tally = Some (tally_fail p t) }) (found s g).list y) z (failed_late (state_in (found s g).list) now less p t w.0, failed_settled (found s g).led (record ((found s g).led) { tally = Some (tally_fail p t) }) (found s g).list p t refl w.1))
 
-  at_gone_waits : (s : Core) (g : List ℕ) (p : ProviderId) → Full s → Full (gone_waits s g p)
-  unfolding gone_waits
+  at_gone_waits : (s : Core) (g : List ℕ) (p : ProviderId) → Full s → Full (wait_gone s g p)
+  unfolding wait_gone
   at_gone_waits s g p a = by (among (state_of s g).members p)
     where
-      by : (b : Bool) → Full (elim b as (λ _. Core) [ true ↦ with_waiting s g (waits_failure p Gone) | false ↦ s ])
-      by true = at_waits h Every NoGroup ⊥ s g (waits_failure p Gone) a
+      by : (b : Bool) → Full (elim b as (λ _. Core) [ true ↦ with_waiting s g (add_failure p Gone) | false ↦ s ])
+      by true = at_waits h Every NoGroup ⊥ s g (add_failure p Gone) a
       by false = a
 
   at_gone_present : (f : Answering) (s : Core) (g : List ℕ) (p : ProviderId) → leads s g ≡ true → Full s → Full (gone_present f s g p)
@@ -328,11 +328,11 @@ module _ (h : Turn) where
   at_gone_of : (f : Answering) (s : Core) (g : List ℕ) (p : ProviderId) (b c : Bool) → leads s g ≡ true → Full s → Full (gone_of f s g p b c)
   unfolding gone_of
   at_gone_of f s g p true c led a = at_gone_present f s g p led a
-  at_gone_of f s g p false true led a = at_waits h Every NoGroup ⊥ s g (join_dropped p) a
+  at_gone_of f s g p false true led a = at_waits h Every NoGroup ⊥ s g (drop_join p) a
   at_gone_of f s g p false false led a = a
 
-  pub at_gone : (f : Answering) (s : Core) (g : List ℕ) (p : ProviderId) → Full s → Full (gone_row f s g p)
-  unfolding gone_row
+  pub at_gone : (f : Answering) (s : Core) (g : List ℕ) (p : ProviderId) → Full s → Full (take_gone f s g p)
+  unfolding take_gone
   at_gone f s g p a = by (leads s g) refl
     where
       by : (b : Bool) → leads s g ≡ b → Full (elim b as (λ _. Core) [ true ↦ gone_of f s g p (among (present (state_of s g)) p) (among (led_of s g).waiting.joins p) | false ↦ s ])

@@ -1,31 +1,31 @@
 -- What is sent, and an entry that is handed on, move no list and no tally.
 use Rattle.std.proofs.Common.{◌≡◌, ℕ, List, [], ◌∷◌, length, Option, Some, None, Bool, true, false, refl, sym, ap, ◌∙◌, subst, inl, inr, ⊎_elim}
 use Rattle.std.specs.Prelude.{fold, map, filter, flat_map, reverse}
-use Rattle.rsct_packet.specs.declared.ids.ProviderId.{ProviderId}
-use Rattle.rsct_packet.specs.declared.ids.ProtoId.{ProtoId}
-use Rattle.rsct_packet.specs.Search.{Has}
-use Rattle.rsct_packet.proofs.HasLaws.{has_append}
-use Rattle.proposal_core.specs.declared.entry.Entry.{Entry}
-use Rattle.proposal_core.specs.declared.group_state.GroupState.{GroupState}
-use Rattle.proposal_core.specs.Fold.{runs}
-use Rattle.subscribe_core.specs.declared.subs.Subscription.{Subscription}
-use Rattle.subscribe_core.specs.Subs.{is_of_group, differs}
-use Rattle.client_callbacks.specs.declared.ballot.Filled.{Filled}
-use Rattle.client_callbacks.specs.Ballots.{BallotView}
-use Rattle.session_state.specs.declared.casts.Cast.{Cast}
-use Rattle.session_state.specs.declared.state.KeptBallot.{KeptBallot}
-use Rattle.session_state.specs.declared.state.Request.{Request}
-use Rattle.session_state.specs.declared.state.SessionState.{SessionState}
-use Rattle.session_state.specs.HandOn.{hearers, casts_out}
-use Rattle.session_state.specs.HandOn as session
-use Rattle.node_state.specs.declared.happened.Happened.{Happened}
-use Rattle.node_state.specs.declared.packet.Body.{Body}
-use Rattle.node_state.specs.declared.packet.Body.TheVariants as body
-use Rattle.node_state.specs.declared.state.Core.{Core}
-use Rattle.node_state.specs.State.{frozen, leader_of, state_of, recorded_all, with_sessions}
-use Rattle.node_state.specs.Sending.{sent_on, sent, sent_all, sent_if_known, request_to, request_sent, requests_sent, kept_sent_to, kept_sent, kept_sent_if, kept_sent_again, votes_sent_again, vote_of}
-use Rattle.node_state.specs.HandOn.{Answering, fills, cast_record, cast_records, heard, note_of, notes, noted, ballot_sent, cast_sent_of, casts_sent, handed_on}
-use Rattle.step_ties.proofs.SessionLaws.{handed_later}
+use Rattle.row_laws.specs.rsct_packet.declared.ids.ProviderId.{ProviderId}
+use Rattle.row_laws.specs.rsct_packet.declared.ids.ProtoId.{ProtoId}
+use Rattle.row_laws.specs.rsct_packet.Search.{Has}
+use Rattle.row_laws.proofs.rsct_packet_laws.HasLaws.{has_append}
+use Rattle.row_laws.specs.proposal_core.declared.entry.Entry.{Entry}
+use Rattle.row_laws.specs.proposal_core.declared.group_state.GroupState.{GroupState}
+use Rattle.row_laws.specs.proposal_core.Fold.{runs}
+use Rattle.row_laws.specs.subscribe_core.declared.subs.Subscription.{Subscription}
+use Rattle.row_laws.specs.subscribe_core.Subs.{is_of_group, differs}
+use Rattle.row_laws.specs.client_callbacks.declared.ballot.Filled.{Filled}
+use Rattle.row_laws.specs.client_callbacks.Ballots.{BallotView}
+use Rattle.row_laws.specs.session_state.declared.casts.Cast.{Cast}
+use Rattle.row_laws.specs.session_state.declared.state.KeptBallot.{KeptBallot}
+use Rattle.row_laws.specs.session_state.declared.state.Request.{Request}
+use Rattle.row_laws.specs.session_state.declared.state.SessionState.{SessionState}
+use Rattle.row_laws.specs.session_state.HandOn.{hearers, casts_out}
+use Rattle.row_laws.specs.session_state.HandOn as session
+use Rattle.row_laws.specs.node_state.declared.happened.Happened.{Happened}
+use Rattle.row_laws.specs.node_state.declared.packet.Body.{Body}
+use Rattle.row_laws.specs.node_state.declared.packet.Body.TheVariants as body
+use Rattle.row_laws.specs.node_state.declared.state.Core.{Core}
+use Rattle.row_laws.specs.node_state.State.{frozen, leader_of, state_of, recorded_all, with_sessions}
+use Rattle.row_laws.specs.node_state.Sending.{send_on, sent, send_all, send_if_known, send_request_to, send_request, send_requests, send_kept_to, send_kept, kept_sent_if, kept_sent_again, send_votes_again, vote_of}
+use Rattle.row_laws.specs.node_state.HandOn.{Answering, fills, cast_record, cast_records, heard, note_of, notes, noted, ballot_sent, cast_sent_of, casts_sent, hand_on}
+use Rattle.row_laws.proofs.step_refinement_laws.SessionLaws.{handed_later}
 use Rattle.entry_laws.proofs.late_rows.At.{Turn, Plain, AllPlain, AtOf, At, at_fold, at_recorded_all}
 
 cast_plain : (p : ProviderId) (proto : ProtoId) (phase : ℕ) (b : Option Filled) → AllPlain (cast_record p proto phase b)
@@ -61,45 +61,45 @@ module _ (x : Turn) (T : List ℕ → ℕ → Type 0) (G : List ℕ → Type 0) 
 
   -- ---- what is sent
 
-  pub at_sent_on : (s : Core) (network to : ℕ) (b : Body) → Here s → Here (sent_on s network to b)
-  unfolding sent_on
+  pub at_sent_on : (s : Core) (network to : ℕ) (b : Body) → Here s → Here (send_on s network to b)
+  unfolding send_on
   at_sent_on s network to b a = a
 
   pub at_sent : (s : Core) (to : ℕ) (b : Body) → Here s → Here (sent s to b)
-  unfolding sent sent_on
+  unfolding sent send_on
   at_sent s to b a = a
 
-  pub at_sent_all : (ns : List ℕ) (s : Core) (b : Body) → Here s → Here (sent_all s ns b)
-  unfolding sent_all
+  pub at_sent_all : (ns : List ℕ) (s : Core) (b : Body) → Here s → Here (send_all s ns b)
+  unfolding send_all
   at_sent_all ns s b a = at_fold x T G E (λ t n. sent t n b) ns (λ t n i k. at_sent t n b k) s a
 
-  pub at_sent_if_known : (s : Core) (to : Option ℕ) (b : Body) → Here s → Here (sent_if_known s to b)
-  unfolding sent_if_known
+  pub at_sent_if_known : (s : Core) (to : Option ℕ) (b : Body) → Here s → Here (send_if_known s to b)
+  unfolding send_if_known
   at_sent_if_known s None b a = a
   at_sent_if_known s (Some n) b a = at_sent s n b a
 
-  at_request_to : (s : Core) (q : Request) (to : Option ℕ) → Here s → Here (request_to s q to)
-  unfolding request_to
+  at_request_to : (s : Core) (q : Request) (to : Option ℕ) → Here s → Here (send_request_to s q to)
+  unfolding send_request_to
   at_request_to s q None a = at_sent s s.views.view.coord (body.Lookup s.views.view q.group) a
   at_request_to s q (Some n) a = at_sent s n (body.Request s.views.view q.group q.p q.r q.phases q.proposal) a
 
-  pub at_request_sent : (s : Core) (q : Request) → Here s → Here (request_sent s q)
-  unfolding request_sent
+  pub at_request_sent : (s : Core) (q : Request) → Here s → Here (send_request s q)
+  unfolding send_request
   at_request_sent s q a = by (frozen s)
     where
-      by : (b : Bool) → Here (elim b as (λ _. Core) [ true ↦ s | false ↦ request_to s q (leader_of s q.group) ])
+      by : (b : Bool) → Here (elim b as (λ _. Core) [ true ↦ s | false ↦ send_request_to s q (leader_of s q.group) ])
       by true = a
       by false = at_request_to s q (leader_of s q.group) a
 
-  pub at_requests_sent : (s : Core) → Here s → Here (requests_sent s)
-  unfolding requests_sent
-  at_requests_sent s a = at_fold x T G E request_sent s.sessions.requests (λ t q i k. at_request_sent t q k) s a
+  pub at_requests_sent : (s : Core) → Here s → Here (send_requests s)
+  unfolding send_requests
+  at_requests_sent s a = at_fold x T G E send_request s.sessions.requests (λ t q i k. at_request_sent t q k) s a
 
-  pub at_kept_sent : (s : Core) (k : KeptBallot) → Here s → Here (kept_sent s k)
-  unfolding kept_sent kept_sent_to
+  pub at_kept_sent : (s : Core) (k : KeptBallot) → Here s → Here (send_kept s k)
+  unfolding send_kept send_kept_to
   at_kept_sent s k a = by k.ballot.filled
     where
-      by : (b : Option Filled) → Here (kept_sent_to s k (leader_of s k.group) b)
+      by : (b : Option Filled) → Here (send_kept_to s k (leader_of s k.group) b)
       by None = a
       by (Some b) = at_sent_if_known s (leader_of s k.group) (vote_of s k.group k.proto k.phase k.p b) a
 
@@ -111,8 +111,8 @@ module _ (x : Turn) (T : List ℕ → ℕ → Type 0) (G : List ℕ → Type 0) 
       by false = a
       by true = at_kept_sent s k a
 
-  pub at_votes_again : (s : Core) → Here s → Here (votes_sent_again s)
-  unfolding votes_sent_again
+  pub at_votes_again : (s : Core) → Here s → Here (send_votes_again s)
+  unfolding send_votes_again
   at_votes_again s a = at_fold x T G E kept_sent_again s.sessions.kept (λ t k i c. at_kept_again t k c) s a
 
   at_ballot_sent : (s : Core) (g : List ℕ) (to : Option ℕ) (p : ProviderId) (proto : ProtoId) (phase : ℕ) (b : Option Filled) → Here s → Here (ballot_sent s g to p proto phase b)
@@ -155,8 +155,8 @@ module _ (x : Turn) (T : List ℕ → ℕ → Type 0) (G : List ℕ → Type 0) 
       by true = refl
       by false = refl
 
-  pub at_handed : (f : Answering) (s : Core) (to : Option ℕ) (g : List ℕ) (i : ℕ) (before after : GroupState) (e : Entry) → Here s → Here (handed_on f s to g i before after e)
-  unfolding handed_on recorded_all
+  pub at_handed : (f : Answering) (s : Core) (to : Option ℕ) (g : List ℕ) (i : ℕ) (before after : GroupState) (e : Entry) → Here s → Here (hand_on f s to g i before after e)
+  unfolding hand_on recorded_all
   at_handed f s to g i before after e a =
       let bs : List (Option Filled) = fills f (length s.records) s.sessions e after (hearers s.sessions g before e) in
       let cs : List Cast = casts_out s.sessions g before after e bs in

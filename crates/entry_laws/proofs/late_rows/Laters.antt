@@ -1,28 +1,28 @@
 -- Handing on loses no record and moves no view.
 use Rattle.std.proofs.Common.{◌≡◌, ℕ, List, [], ◌∷◌, ◌++◌, length, Option, Some, None, Bool, true, false, refl, sym, ap, ◌∙◌, ⊎_elim, append_assoc, append-nil}
 use Rattle.std.specs.Prelude.{not, fold, map, filter, flat_map}
-use Rattle.rsct_packet.specs.declared.ids.ProviderId.{ProviderId}
-use Rattle.rsct_packet.specs.declared.ids.ProtoId.{ProtoId}
-use Rattle.rsct_packet.specs.Search.{Has}
-use Rattle.rsct_packet.specs.Providers.{among}
-use Rattle.rsct_packet.proofs.HasLaws.{has_append}
-use Rattle.proposal_core.specs.declared.entry.Entry.{Entry}
-use Rattle.proposal_core.specs.declared.group_state.GroupState.{GroupState}
-use Rattle.subscribe_core.specs.Subs.{is_of_group, differs}
-use Rattle.client_callbacks.specs.declared.ballot.Filled.{Filled}
-use Rattle.client_callbacks.specs.Ballots.{BallotView}
-use Rattle.session_state.specs.declared.casts.Cast.{Cast}
-use Rattle.session_state.specs.HandOn.{hearers, casts_out}
-use Rattle.session_state.specs.HandOn as session
-use Rattle.node_state.specs.declared.happened.Happened.{Happened}
-use Rattle.node_state.specs.declared.happened.Happened.TheVariants as happened
-use Rattle.node_state.specs.declared.state.Core.{Core}
-use Rattle.node_state.specs.declared.packet.Body.{Body}
-use Rattle.node_state.specs.declared.packet.Body.TheVariants as body
-use Rattle.node_state.specs.State.{frozen, led_of, state_of, len_of, leader_of, others, least_acked, forgets_below, recorded, recorded_all, with_row, with_led, with_sessions}
-use Rattle.node_state.specs.Sending.{sent_on, sent, sent_all, sent_if_known}
-use Rattle.node_state.specs.HandOn.{Answering, fills, heard, note_of, notes, noted, ballot_sent, cast_sent_of, casts_sent, handed_on}
-use Rattle.node_state.specs.Leading.{put, put_and_handed, forgets_least, with_waiting, waits_if, new_members_wait, appended}
+use Rattle.row_laws.specs.rsct_packet.declared.ids.ProviderId.{ProviderId}
+use Rattle.row_laws.specs.rsct_packet.declared.ids.ProtoId.{ProtoId}
+use Rattle.row_laws.specs.rsct_packet.Search.{Has}
+use Rattle.row_laws.specs.rsct_packet.Providers.{among}
+use Rattle.row_laws.proofs.rsct_packet_laws.HasLaws.{has_append}
+use Rattle.row_laws.specs.proposal_core.declared.entry.Entry.{Entry}
+use Rattle.row_laws.specs.proposal_core.declared.group_state.GroupState.{GroupState}
+use Rattle.row_laws.specs.subscribe_core.Subs.{is_of_group, differs}
+use Rattle.row_laws.specs.client_callbacks.declared.ballot.Filled.{Filled}
+use Rattle.row_laws.specs.client_callbacks.Ballots.{BallotView}
+use Rattle.row_laws.specs.session_state.declared.casts.Cast.{Cast}
+use Rattle.row_laws.specs.session_state.HandOn.{hearers, casts_out}
+use Rattle.row_laws.specs.session_state.HandOn as session
+use Rattle.row_laws.specs.node_state.declared.happened.Happened.{Happened}
+use Rattle.row_laws.specs.node_state.declared.happened.Happened.TheVariants as happened
+use Rattle.row_laws.specs.node_state.declared.state.Core.{Core}
+use Rattle.row_laws.specs.node_state.declared.packet.Body.{Body}
+use Rattle.row_laws.specs.node_state.declared.packet.Body.TheVariants as body
+use Rattle.row_laws.specs.node_state.State.{frozen, led_of, state_of, len_of, leader_of, others, least_acked, forget_below, recorded, recorded_all, with_row, with_led, with_sessions}
+use Rattle.row_laws.specs.node_state.Sending.{send_on, sent, send_all, send_if_known}
+use Rattle.row_laws.specs.node_state.HandOn.{Answering, fills, heard, note_of, notes, noted, ballot_sent, cast_sent_of, casts_sent, hand_on}
+use Rattle.row_laws.specs.node_state.Leading.{put, put_and_hand, forget_least, with_waiting, wait_if, new_members_wait, appended}
 use Rattle.entry_laws.proofs.late_rows.At.{AllPlain}
 use Rattle.entry_laws.proofs.late_rows.Hands.{notes_plain, all_heard_plain}
 
@@ -50,7 +50,7 @@ later_fold f step [] s = later_self s
 later_fold f step (y ∷ ys) s = later_then s (f s y) (fold f (f s y) ys) (step s y) (later_fold f step ys (f s y))
 
 later_cast : (s : Core) (g : List ℕ) (to : Option ℕ) (p : ProviderId) (c : Option (ProtoId × ℕ × BallotView)) → Later s (cast_sent_of s g to p c)
-unfolding cast_sent_of ballot_sent sent_if_known sent sent_on
+unfolding cast_sent_of ballot_sent send_if_known sent send_on
 later_cast s g to p None = later_self s
 later_cast s g to p (Some c) = by to (c.2).filled
   where
@@ -80,11 +80,11 @@ later_noted s g i before after = by (differs before after)
     by false = later_self s
 
 sent_later : (s : Core) (n : ℕ) (b : Body) → Later s (sent s n b)
-unfolding sent sent_on
+unfolding sent send_on
 sent_later s n b = record { views = refl; more = []; is = sym (append-nil s.records); plain = λ r i. absurd i }
 
-pub later_handed : (f : Answering) (s : Core) (to : Option ℕ) (g : List ℕ) (i : ℕ) (before after : GroupState) (e : Entry) → Later s (handed_on f s to g i before after e)
-unfolding handed_on with_sessions
+pub later_handed : (f : Answering) (s : Core) (to : Option ℕ) (g : List ℕ) (i : ℕ) (before after : GroupState) (e : Entry) → Later s (hand_on f s to g i before after e)
+unfolding hand_on with_sessions
 later_handed f s to g i before after e =
     let bs : List (Option Filled) = fills f (length s.records) s.sessions e after (hearers s.sessions g before e) in
     let cs : List Cast = casts_out s.sessions g before after e bs in
@@ -108,24 +108,24 @@ then_put : (s u : Core) (g : List ℕ) (e : Entry) → Later (put s g e) u → P
 unfolding put recorded with_row
 then_put s u g e l = record { views = l.views; more = l.more; is = l.is; plain = l.plain }
 
-pub later_put : (f : Answering) (s : Core) (to : Option ℕ) (g : List ℕ) (e : Entry) → PutThen s (record_of s g e) (put_and_handed f s to g e)
-unfolding put_and_handed
-later_put f s to g e = then_put s (put_and_handed f s to g e) g e (later_handed f (put s g e) to g (len_of s g) (state_of s g) (state_of (put s g e) g) e)
+pub later_put : (f : Answering) (s : Core) (to : Option ℕ) (g : List ℕ) (e : Entry) → PutThen s (record_of s g e) (put_and_hand f s to g e)
+unfolding put_and_hand
+later_put f s to g e = then_put s (put_and_hand f s to g e) g e (later_handed f (put s g e) to g (len_of s g) (state_of s g) (state_of (put s g e) g) e)
 
 -- the leader appends
-later_sent_all : (ns : List ℕ) (s : Core) (b : Body) → Later s (sent_all s ns b)
-unfolding sent_all
+later_sent_all : (ns : List ℕ) (s : Core) (b : Body) → Later s (send_all s ns b)
+unfolding send_all
 later_sent_all ns s b = later_fold (λ t n. sent t n b) (λ t n. one t n) ns s
   where
     one : (t : Core) (n : ℕ) → Later t (sent t n b)
     one t n = sent_later t n b
 
-later_forgets : (s : Core) (g : List ℕ) → Later s (forgets_least s g)
-unfolding forgets_least forgets_below with_row
+later_forgets : (s : Core) (g : List ℕ) → Later s (forget_least s g)
+unfolding forget_least forget_below with_row
 later_forgets s g = record { views = refl; more = []; is = sym (append-nil s.records); plain = λ r i. absurd i }
 
-later_waits : (s : Core) (g : List ℕ) (p : ProviderId) (a b : Bool) → Later s (waits_if s g p a b)
-unfolding waits_if with_waiting with_led with_row
+later_waits : (s : Core) (g : List ℕ) (p : ProviderId) (a b : Bool) → Later s (wait_if s g p a b)
+unfolding wait_if with_waiting with_led with_row
 later_waits s g p true b = record { views = refl; more = []; is = sym (append-nil s.records); plain = λ r i. absurd i }
 later_waits s g p false true = record { views = refl; more = []; is = sym (append-nil s.records); plain = λ r i. absurd i }
 later_waits s g p false false = later_self s
@@ -133,15 +133,15 @@ later_waits s g p false false = later_self s
 later_new : (s : Core) (g : List ℕ) (before after : GroupState) → Later s (new_members_wait s g before after)
 unfolding new_members_wait
 later_new s g before after =
-    later_fold (λ t p. waits_if t g p (among after.failed p) (among (led_of s g).gone p)) (λ t p. later_waits t g p (among after.failed p) (among (led_of s g).gone p)) (filter (λ p. not (among before.members p)) after.members) s
+    later_fold (λ t p. wait_if t g p (among after.failed p) (among (led_of s g).gone p)) (λ t p. later_waits t g p (among after.failed p) (among (led_of s g).gone p)) (filter (λ p. not (among before.members p)) after.members) s
 
 pub later_appended : (f : Answering) (s : Core) (g : List ℕ) (e : Entry) → PutThen s (record_of s g e) (appended f s g e)
 unfolding appended
 later_appended f s g e =
     let t : Core = put s g e in
-    let u : Core = sent_all t (others t) (body.Entry t.views.view g (len_of s g) (least_acked t g) e) in
-    let w : Core = handed_on f u (leader_of u g) g (len_of s g) (state_of s g) (state_of t g) e in
+    let u : Core = send_all t (others t) (body.Entry t.views.view g (len_of s g) (least_acked t g) e) in
+    let w : Core = hand_on f u (leader_of u g) g (len_of s g) (state_of s g) (state_of t g) e in
     let a : Later t u = later_sent_all (others t) t (body.Entry t.views.view g (len_of s g) (least_acked t g) e) in
     let b : Later t w = later_then t u w a (later_handed f u (leader_of u g) g (len_of s g) (state_of s g) (state_of t g) e) in
-    let c : Later t (forgets_least w g) = later_then t w (forgets_least w g) b (later_forgets w g) in
-    then_put s (appended f s g e) g e (later_then t (forgets_least w g) (appended f s g e) c (later_new (forgets_least w g) g (state_of s g) (state_of t g)))
+    let c : Later t (forget_least w g) = later_then t w (forget_least w g) b (later_forgets w g) in
+    then_put s (appended f s g e) g e (later_then t (forget_least w g) (appended f s g e) c (later_new (forget_least w g) g (state_of s g) (state_of t g)))

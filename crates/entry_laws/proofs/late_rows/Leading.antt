@@ -3,37 +3,37 @@ use Rattle.std.proofs.Common.{◌≡◌, ◌≤◌, ◌⊎◌, ℕ, zero, suc, �
 use Rattle.std.specs.Prelude.{not, filter, nat_le, reverse, if◌then◌else◌}
 use Rattle.std.specs.List.{list_any}
 use Rattle.std.proofs.lemmas.Bool.{and_parts}
-use Rattle.rsct_packet.specs.declared.ids.ViewId.{ViewId}
-use Rattle.rsct_packet.specs.declared.ids.ProviderId.{ProviderId}
-use Rattle.rsct_packet.specs.declared.ids.ProtoId.{ProtoId}
-use Rattle.rsct_packet.specs.Providers.{among}
-use Rattle.group_attr.specs.declared.attrs.Phases.{Phases}
-use Rattle.group_attr.specs.declared.attrs.Phases.TheVariants.{One, Many}
-use Rattle.proposal_core.specs.declared.proposal.Cause.TheVariants.{Died, Gone}
-use Rattle.proposal_core.specs.declared.proposal.Proposal.{Proposal}
-use Rattle.proposal_core.specs.declared.entry.Entry.{Entry}
-use Rattle.proposal_core.specs.declared.entry.Entry.TheVariants.{Once, Begin, Late}
-use Rattle.proposal_core.specs.declared.group_state.GroupState.{GroupState}
-use Rattle.proposal_core.specs.declared.group_state.Running.{Running}
-use Rattle.proposal_core.specs.Fold.{max_phases, fits, begun, approved, applied, after_if, after}
-use Rattle.proposal_core.proofs.FoldLaws.{idle_approved}
-use Rattle.proposal_core.specs.GroupView.{GroupView}
-use Rattle.proposal_core.specs.Lists.{list_or_new, state_in, has_room, entry_fits, with_entry, forgotten}
-use Rattle.batch_rules.specs.Waiting.{WaitingView, waits_failure}
-use Rattle.vote_phases.specs.Tally.{TallyView, has_open}
-use Rattle.node_state.specs.declared.group.GroupRow.{GroupRow}
-use Rattle.node_state.specs.declared.group.Led.{Led}
-use Rattle.node_state.specs.declared.packet.Body.TheVariants as body
-use Rattle.node_state.specs.declared.happened.Happened.{Happened}
-use Rattle.node_state.specs.declared.state.Core.{Core}
-use Rattle.node_state.specs.Settings.{view_level}
-use Rattle.node_state.proofs.NameOrder.{cases_text}
-use Rattle.node_state.specs.State.{row_of, with_row, with_led, led_of, list_of, state_of, len_of, fits_at_end, list_forgotten, forgets_below, leader_of, others, least_acked}
-use Rattle.node_state.specs.Sending.{sent_all}
-use Rattle.node_state.specs.HandOn.{Answering, handed_on}
-use Rattle.node_state.specs.Leading.{put, put_and_handed, forgets_least, with_waiting, waits_if, new_members_wait, appended, appended_if, tally_for, tally_set, tally_opened, closing_entry, is_phase, closes_from, closes, begun_many, begins}
-use Rattle.run_safety.specs.Past.{records_of}
-use Rattle.run_safety.specs.SafeHeard.{enters}
+use Rattle.row_laws.specs.rsct_packet.declared.ids.ViewId.{ViewId}
+use Rattle.row_laws.specs.rsct_packet.declared.ids.ProviderId.{ProviderId}
+use Rattle.row_laws.specs.rsct_packet.declared.ids.ProtoId.{ProtoId}
+use Rattle.row_laws.specs.rsct_packet.Providers.{among}
+use Rattle.row_laws.specs.group_attr.declared.attrs.Phases.{Phases}
+use Rattle.row_laws.specs.group_attr.declared.attrs.Phases.TheVariants.{One, Many}
+use Rattle.row_laws.specs.proposal_core.declared.proposal.Cause.TheVariants.{Died, Gone}
+use Rattle.row_laws.specs.proposal_core.declared.proposal.Proposal.{Proposal}
+use Rattle.row_laws.specs.proposal_core.declared.entry.Entry.{Entry}
+use Rattle.row_laws.specs.proposal_core.declared.entry.Entry.TheVariants.{Once, Begin, Late}
+use Rattle.row_laws.specs.proposal_core.declared.group_state.GroupState.{GroupState}
+use Rattle.row_laws.specs.proposal_core.declared.group_state.Running.{Running}
+use Rattle.row_laws.specs.proposal_core.Fold.{max_phases, fits, begun, approve, apply, after_if, after}
+use Rattle.row_laws.proofs.proposal_core_laws.FoldLaws.{idle_approved}
+use Rattle.row_laws.specs.proposal_core.GroupView.{GroupView}
+use Rattle.row_laws.specs.proposal_core.Lists.{list_or_new, state_in, has_room, entry_fits, with_entry, forgotten}
+use Rattle.row_laws.specs.batch_rules.Waiting.{WaitingView, add_failure}
+use Rattle.row_laws.specs.vote_phases.Tally.{TallyView, has_open}
+use Rattle.row_laws.specs.node_state.declared.group.GroupRow.{GroupRow}
+use Rattle.row_laws.specs.node_state.declared.group.Led.{Led}
+use Rattle.row_laws.specs.node_state.declared.packet.Body.TheVariants as body
+use Rattle.row_laws.specs.node_state.declared.happened.Happened.{Happened}
+use Rattle.row_laws.specs.node_state.declared.state.Core.{Core}
+use Rattle.row_laws.specs.node_state.Settings.{view_level}
+use Rattle.row_laws.proofs.node_state_laws.NameOrder.{cases_text}
+use Rattle.row_laws.specs.node_state.State.{row_of, with_row, with_led, led_of, list_of, state_of, len_of, fits_at_end, list_forgotten, forget_below, leader_of, others, least_acked}
+use Rattle.row_laws.specs.node_state.Sending.{send_all}
+use Rattle.row_laws.specs.node_state.HandOn.{Answering, hand_on}
+use Rattle.row_laws.specs.node_state.Leading.{put, put_and_hand, forget_least, with_waiting, wait_if, new_members_wait, appended, append_if_fits, tally_for, tally_set, tally_opened, closing_entry, is_phase, closes_from, closes, begin_many, begins}
+use Rattle.row_laws.specs.run_safety.Past.{records_of}
+use Rattle.row_laws.specs.run_safety.SafeHeard.{enters}
 use Rattle.entry_laws.specs.late_rows.Late.{opens, ticks_of, stay_state, state_here, EntryLate, RecordLate}
 use Rattle.entry_laws.specs.late_rows.Announced.{members_now, entries_here, EntryTold, RecordTold}
 use Rattle.entry_laws.proofs.late_rows.At.{Turn, ticks_now, tick_here, TallyIs, late_voters, Settled, RowIs, Alike, found, leads_row, At, at_for, at_fold, at_row_for, row_is_same, ticks_plain}
@@ -54,7 +54,7 @@ forgotten_same (Some l) n = by (nat_le n l.len)
 
 -- one of who is late leaves the state
 pub late_same : (st : GroupState) (v : ViewId) (i : ℕ) (proto : ProtoId) (phase : ℕ) (ps : List ProviderId) → after st v i (Late proto phase ps) ≡ st
-unfolding after after_if applied
+unfolding after after_if apply
 late_same st v i proto phase ps = by (fits st (Late proto phase ps))
   where
     by : (b : Bool) → after_if st v i (Late proto phase ps) b ≡ st
@@ -63,7 +63,7 @@ late_same st v i proto phase ps = by (fits st (Late proto phase ps))
 
 -- one that begins and ends at once leaves nothing running
 once_idle : (st : GroupState) (v : ViewId) (i : ℕ) (y : Proposal) → fits st (Once y) ≡ true → (after st v i (Once y)).running ≡ None
-unfolding after after_if applied approved
+unfolding after after_if apply approve
 once_idle st v i y e =
     ap (λ b. (after_if st v i (Once y) b).running) e ∙ idle_approved (begun st v i y) v i None (begun st v i y).running refl
 
@@ -102,8 +102,8 @@ module _ (x : Turn) where
   -- ---- an entry is put
 
   module _ (T U : List ℕ → ℕ → Type 0) (G : List ℕ → Type 0) (E : Type 0) where
-    pub at_put_and_handed_for : (f : Answering) (s : Core) (to : Option ℕ) (g : List ℕ) (e : Entry) → RecordLate x.event (reverse s.records) x.before (put_record x s g e) → RecordTold x.config (reverse s.records) x.before (put_record x s g e) → ((k : List ℕ) (less : ℕ) → U k less → (g ≡ k → ⊥) → T k less) → ((less : ℕ) → U g less → RowIs (ticks_now x g (put_record x s g e ∷ reverse s.records)) less (leads_row s (found s g)) (put_row x s (found s g) e)) → At x T G E s → At x U G E (put_and_handed f s to g e)
-    unfolding put_and_handed
+    pub at_put_and_handed_for : (f : Answering) (s : Core) (to : Option ℕ) (g : List ℕ) (e : Entry) → RecordLate x.event (reverse s.records) x.before (put_record x s g e) → RecordTold x.config (reverse s.records) x.before (put_record x s g e) → ((k : List ℕ) (less : ℕ) → U k less → (g ≡ k → ⊥) → T k less) → ((less : ℕ) → U g less → RowIs (ticks_now x g (put_record x s g e ∷ reverse s.records)) less (leads_row s (found s g)) (put_row x s (found s g) e)) → At x T G E s → At x U G E (put_and_hand f s to g e)
+    unfolding put_and_hand
     at_put_and_handed_for f s to g e ok told others own a =
         at_handed x U G E f (put s g e) to g (len_of s g) (state_of s g) (state_of (put s g e) g) e (at_put_for x T U G E s g e ok told others own a)
 
@@ -122,36 +122,36 @@ module _ (x : Turn) where
     unfolding with_waiting
     at_waits s g change a = at_led s g (λ l. record l { waiting = change l.waiting }) (λ l. (refl, refl)) a
 
-    pub at_forgets : (s : Core) (g : List ℕ) (n : ℕ) → At x T G E s → At x T G E (forgets_below s g n)
-    unfolding forgets_below
+    pub at_forgets : (s : Core) (g : List ℕ) (n : ℕ) → At x T G E s → At x T G E (forget_below s g n)
+    unfolding forget_below
     at_forgets s g n a = at_row_same s g (λ row. record row { list = list_forgotten n row.list }) (λ y. refl) (λ y. refl) (λ y. forgotten_same y.list n) (λ y. (refl, refl)) a
 
-    pub at_forgets_least : (s : Core) (g : List ℕ) → At x T G E s → At x T G E (forgets_least s g)
-    unfolding forgets_least
+    pub at_forgets_least : (s : Core) (g : List ℕ) → At x T G E s → At x T G E (forget_least s g)
+    unfolding forget_least
     at_forgets_least s g a = at_forgets s g (least_acked s g) a
 
-    at_waits_if : (s : Core) (g : List ℕ) (p : ProviderId) (a b : Bool) → At x T G E s → At x T G E (waits_if s g p a b)
-    unfolding waits_if
-    at_waits_if s g p true b k = at_waits s g (waits_failure p Died) k
-    at_waits_if s g p false true k = at_waits s g (waits_failure p Gone) k
+    at_waits_if : (s : Core) (g : List ℕ) (p : ProviderId) (a b : Bool) → At x T G E s → At x T G E (wait_if s g p a b)
+    unfolding wait_if
+    at_waits_if s g p true b k = at_waits s g (add_failure p Died) k
+    at_waits_if s g p false true k = at_waits s g (add_failure p Gone) k
     at_waits_if s g p false false k = k
 
     at_new_members : (s : Core) (g : List ℕ) (before after : GroupState) → At x T G E s → At x T G E (new_members_wait s g before after)
     unfolding new_members_wait
     at_new_members s g before after a =
-        at_fold x T G E (λ t p. waits_if t g p (among after.failed p) (among (led_of s g).gone p)) (filter (λ p. not (among before.members p)) after.members) (λ t p i k. at_waits_if t g p (among after.failed p) (among (led_of s g).gone p) k) s a
+        at_fold x T G E (λ t p. wait_if t g p (among after.failed p) (among (led_of s g).gone p)) (filter (λ p. not (among before.members p)) after.members) (λ t p i k. at_waits_if t g p (among after.failed p) (among (led_of s g).gone p) k) s a
 
   module _ (T U : List ℕ → ℕ → Type 0) (G : List ℕ → Type 0) (E : Type 0) where
     pub at_appended_for : (f : Answering) (s : Core) (g : List ℕ) (e : Entry) → EntryLate (state_in (found s g).list) (ticks_now x g (reverse s.records)) e → TellsAll s g e → ((k : List ℕ) (less : ℕ) → U k less → (g ≡ k → ⊥) → T k less) → ((less : ℕ) → U g less → RowIs (ticks_now x g (put_record x s g e ∷ reverse s.records)) less (leads_row s (found s g)) (put_row x s (found s g) e)) → At x T G E s → At x U G E (appended f s g e)
     unfolding appended
     at_appended_for f s g e ok told rest own a =
         let t : Core = put s g e in
-        let u : Core = sent_all t (others t) (body.Entry t.views.view g (len_of s g) (least_acked t g) e) in
-        let w : Core = handed_on f u (leader_of u g) g (len_of s g) (state_of s g) (state_of t g) e in
+        let u : Core = send_all t (others t) (body.Entry t.views.view g (len_of s g) (least_acked t g) e) in
+        let w : Core = hand_on f u (leader_of u g) g (len_of s g) (state_of s g) (state_of t g) e in
         let put_at : At x U G E t = at_put_for x T U G E s g e (put_late T G E s g e ok a) (put_told T G E s g e told a) rest own a in
         let sent_at : At x U G E u = at_sent_all x U G E (others t) t (body.Entry t.views.view g (len_of s g) (least_acked t g) e) put_at in
         let handed_at : At x U G E w = at_handed x U G E f u (leader_of u g) g (len_of s g) (state_of s g) (state_of t g) e sent_at in
-        at_new_members U G E (forgets_least w g) g (state_of s g) (state_of t g) (at_forgets_least U G E w g handed_at)
+        at_new_members U G E (forget_least w g) g (state_of s g) (state_of t g) (at_forgets_least U G E w g handed_at)
 
   -- ---- the tally of a phase
 
@@ -235,21 +235,21 @@ module _ (x : Turn) where
     unfolding closes
     at_closes f s g m a = at_closes_from max_phases f s g (m.0).0 (m.0).1 m.1 m.2 a
 
-    at_begun_many : (f : Answering) (s : Core) (g : List ℕ) (y : Proposal) (b : Bool) → MayLead T G E g → At x T G E s → At x T G E (begun_many f s g y b)
-    unfolding begun_many
+    at_begun_many : (f : Answering) (s : Core) (g : List ℕ) (y : Proposal) (b : Bool) → MayLead T G E g → At x T G E s → At x T G E (begin_many f s g y b)
+    unfolding begin_many
     at_begun_many f s g y false m a = a
     at_begun_many f s g y true m a =
         at_closes f (tally_opened (appended f s g (Begin y)) g) g m (at_tally_opened (appended f s g (Begin y)) g m.1 m.2 (at_appended_loose f s g (Begin y) tt (λ two. tt) a))
 
     pub at_begins : (f : Answering) (s : Core) (g : List ℕ) (y : Proposal) (phases : Phases) → MayLead T G E g → At x T G E s → At x T G E (begins f s g y phases)
-    unfolding begins appended_if fits_at_end entry_fits list_of row_of with_entry
+    unfolding begins append_if_fits fits_at_end entry_fits list_of row_of with_entry
     at_begins f s g y Many m a = at_begun_many f s g y (fits_at_end s g (Begin y)) m a
     at_begins f s g y One m a = by (fits_at_end s g (Once y)) refl
       where
         idle : fits_at_end s g (Once y) ≡ true → (state_in (put_row x s (found s g) (Once y)).list).running ≡ None
         idle e = once_idle (state_in (found s g).list) s.views.view (list_or_new (found s g).list).len y (and_parts (fits (state_in (found s g).list) (Once y)) (has_room (list_or_new (found s g).list) (Once y)) e).0
 
-        by : (b : Bool) → fits_at_end s g (Once y) ≡ b → At x T G E (appended_if f s g (Once y) b)
+        by : (b : Bool) → fits_at_end s g (Once y) ≡ b → At x T G E (append_if_fits f s g (Once y) b)
         by false e = a
         by true e =
             at_appended_for T T G E f s g (Once y) tt (λ two. tt) (λ k less u ne. u) (λ less u z q. ((a.tallies g less u z q).0, λ run r. absurd (let i = idle e in cc))) a

@@ -2,54 +2,54 @@
 use Rattle.std.proofs.Common.{◌≡◌, ℕ, List, [], ◌∷◌, ◌++◌, length, Option, Some, Bool, true, false, refl, sym, ap, ◌∙◌, subst, arith}
 use Rattle.std.specs.Prelude.{◌==◌, slice_get, reverse}
 use Rattle.std.proofs.lemmas.Bool.{eqb-true, eq-eqb}
-use Rattle.rsct_packet.specs.declared.ids.ViewId.{ViewId}
-use Rattle.rsct_packet.specs.declared.ids.ProviderId.{ProviderId}
-use Rattle.rsct_packet.specs.declared.mask.Mask.{Mask}
-use Rattle.rsct_packet.specs.Search.{Has}
-use Rattle.rsct_packet.proofs.HasLaws.{append_has_right}
-use Rattle.group_attr.specs.declared.attrs.Phases.{Phases}
-use Rattle.proposal_core.specs.declared.entry.Entry.{Entry}
-use Rattle.proposal_core.specs.declared.proposal.Proposal.{Proposal}
-use Rattle.view_state.specs.declared.install.Install.{Install}
-use Rattle.view_state.specs.declared.exchange.Exchange.{Exchange}
-use Rattle.view_state.specs.Answers.{opened, with_answer, install_of}
-use Rattle.view_state.specs.declared.packet.ViewPacket.{ViewPacket}
-use Rattle.view_state.specs.declared.packet.ViewPacket.TheVariants as view
-use Rattle.view_state.specs.declared.views.ViewWork.{ViewWork}
-use Rattle.view_state.specs.Views.{views_at_work, own_answer, next_view, gathering_ticks, install_again, ask_row, prepare_row, answer_row, refuse_row, install_row, taken_row}
-use Rattle.node_state.specs.declared.config.Mode.{Mode}
-use Rattle.node_state.specs.declared.config.Mode.TheVariants.{Fixed, Asked, Rings}
-use Rattle.node_state.specs.declared.group.GroupRow.{GroupRow}
-use Rattle.node_state.specs.declared.packet.Body.{Body}
-use Rattle.node_state.specs.declared.packet.Body.TheVariants as body
-use Rattle.node_state.specs.declared.packet.Packet.{Packet}
-use Rattle.node_state.specs.declared.state.Core.{Core}
-use Rattle.node_state.specs.Settings.{is_fixed}
-use Rattle.node_state.specs.State.{row_of, list_of, with_row, len_of, is_this, leader_by, leader_in, leads_in, leads, led_by}
-use Rattle.node_state.specs.HandOn.{Answering}
-use Rattle.node_state.specs.Following.{lookup_row, name_row, request_row, tell_row, entry_row, ack_row, vote_row, gone_row}
-use Rattle.node_state.specs.Applying.{own_parts, views_taken}
-use Rattle.node_state.specs.Status.{status_text}
-use Rattle.node_state.specs.Ticks.{ring_ask, rings_part, views_part, owed_part, tick_row}
-use Rattle.node_state.specs.Ending.{step_ended}
-use Rattle.node_state.specs.Step.{NodeEvent, Ticks, Asks, Given, Calls, Garbage, is_used, used_if, order_row, view_row, body_row, packet_row, event_row, stepped, at_work}
-use Rattle.world_model.specs.declared.event.Event.{Event}
-use Rattle.run_safety.specs.Past.{records_of}
-use Rattle.run_safety.specs.Group.{member}
-use Rattle.run_safety.specs.Group as group
-use Rattle.run_safety.proofs.Whole.{Whole}
-use Rattle.run_safety.proofs.Lives.{whole}
-use Rattle.run_safety.proofs.Parts.{member_parts}
-use Rattle.node_state.proofs.NameOrder.{row_here}
-use Rattle.step_ties.specs.Tied.{ShowsBody, ShowsEntry, ShowsLeader, ShowsRequest, Scene, opening_of, Tied}
-use Rattle.step_ties.specs.Rows.{acted, Arises}
-use Rattle.step_ties.proofs.Acks.{used_is}
-use Rattle.step_ties.proofs.Leads.{leader_inc, leads_known}
-use Rattle.step_ties.proofs.RowWorks.{len_is}
-use Rattle.step_ties.proofs.Rings.{rings_part_tied}
-use Rattle.step_ties.proofs.ViewTicks.{rings_free}
-use Rattle.step_ties.proofs.Gatherings.{counted_tied, opened_tied}
-use Rattle.step_ties.proofs.Founding.{lacking_same}
+use Rattle.row_laws.specs.rsct_packet.declared.ids.ViewId.{ViewId}
+use Rattle.row_laws.specs.rsct_packet.declared.ids.ProviderId.{ProviderId}
+use Rattle.row_laws.specs.rsct_packet.declared.mask.Mask.{Mask}
+use Rattle.row_laws.specs.rsct_packet.Search.{Has}
+use Rattle.row_laws.proofs.rsct_packet_laws.HasLaws.{append_has_right}
+use Rattle.row_laws.specs.group_attr.declared.attrs.Phases.{Phases}
+use Rattle.row_laws.specs.proposal_core.declared.entry.Entry.{Entry}
+use Rattle.row_laws.specs.proposal_core.declared.proposal.Proposal.{Proposal}
+use Rattle.row_laws.specs.view_state.declared.install.Install.{Install}
+use Rattle.row_laws.specs.view_state.declared.exchange.Exchange.{Exchange}
+use Rattle.row_laws.specs.view_state.Answers.{opened, with_answer, install_of}
+use Rattle.row_laws.specs.view_state.declared.packet.ViewPacket.{ViewPacket}
+use Rattle.row_laws.specs.view_state.declared.packet.ViewPacket.TheVariants as view
+use Rattle.row_laws.specs.view_state.declared.views.ViewWork.{ViewWork}
+use Rattle.row_laws.specs.view_state.Views.{views_at_work, own_answer, next_view, gathering_ticks, install_again, ask_row, prepare_row, answer_row, refuse_row, install_row, taken_row}
+use Rattle.row_laws.specs.node_state.declared.config.Mode.{Mode}
+use Rattle.row_laws.specs.node_state.declared.config.Mode.TheVariants.{Fixed, Asked, Rings}
+use Rattle.row_laws.specs.node_state.declared.group.GroupRow.{GroupRow}
+use Rattle.row_laws.specs.node_state.declared.packet.Body.{Body}
+use Rattle.row_laws.specs.node_state.declared.packet.Body.TheVariants as body
+use Rattle.row_laws.specs.node_state.declared.packet.Packet.{Packet}
+use Rattle.row_laws.specs.node_state.declared.state.Core.{Core}
+use Rattle.row_laws.specs.node_state.Settings.{is_fixed}
+use Rattle.row_laws.specs.node_state.State.{row_of, list_of, with_row, len_of, is_this, leader_by, leader_in, leads_in, leads, set_leader}
+use Rattle.row_laws.specs.node_state.HandOn.{Answering}
+use Rattle.row_laws.specs.node_state.Following.{take_lookup, take_name, take_request, take_tell, take_entry, take_ack, take_vote, take_gone}
+use Rattle.row_laws.specs.node_state.Applying.{own_parts, views_taken}
+use Rattle.row_laws.specs.node_state.Status.{status_text}
+use Rattle.row_laws.specs.node_state.Ticks.{ring_ask, tick_rings, tick_views, tick_owed, tick_row}
+use Rattle.row_laws.specs.node_state.Ending.{end_step}
+use Rattle.row_laws.specs.node_state.Step.{NodeEvent, Ticks, Asks, Given, Calls, Garbage, is_used, used_if, take_order, view_row, take_body, packet_row, event_row, stepped, at_work}
+use Rattle.row_laws.specs.world_model.declared.event.Event.{Event}
+use Rattle.row_laws.specs.run_safety.Past.{records_of}
+use Rattle.row_laws.specs.run_safety.Group.{member}
+use Rattle.row_laws.specs.run_safety.Group as group
+use Rattle.row_laws.proofs.run_safety_laws.Whole.{Whole}
+use Rattle.row_laws.proofs.run_safety_laws.Lives.{whole}
+use Rattle.row_laws.proofs.run_safety_laws.Parts.{member_parts}
+use Rattle.row_laws.proofs.node_state_laws.NameOrder.{row_here}
+use Rattle.row_laws.specs.step_refinement.Tied.{ShowsBody, ShowsEntry, ShowsLeader, ShowsRequest, Scene, opening_of, Tied}
+use Rattle.row_laws.specs.step_refinement.Rows.{acted, Arises}
+use Rattle.row_laws.proofs.step_refinement_laws.Acks.{used_is}
+use Rattle.row_laws.proofs.step_refinement_laws.Leads.{leader_inc, leads_known}
+use Rattle.row_laws.proofs.step_refinement_laws.RowWorks.{len_is}
+use Rattle.row_laws.proofs.step_refinement_laws.Rings.{rings_part_tied}
+use Rattle.row_laws.proofs.step_refinement_laws.ViewTicks.{rings_free}
+use Rattle.row_laws.proofs.step_refinement_laws.Gatherings.{counted_tied, opened_tied}
+use Rattle.row_laws.proofs.step_refinement_laws.Founding.{lacking_same}
 use Rattle.entry_laws.specs.late_rows.Late.{tick_of, PutBefore}
 use Rattle.entry_laws.proofs.late_rows.At.{Turn, At}
 use Rattle.entry_laws.proofs.late_rows.Hands.{at_sent_on}
@@ -82,8 +82,8 @@ entry_follows v g place stable e w n s p is delivered t used at led =
     past_end (t.ghost.nodes n).list e (past ∙ get)
 
 -- a node that is sent a request leads the group, once it has noted that
-request_leads : (v : ViewId) (g : List ℕ) (q : ProviderId) (r : ℕ) (phases : Phases) (x : Proposal) (w : Scene) (n : ℕ) (s : Core) (p : Packet) → p.body ≡ body.Request v g q r phases x → p.to ≡ n → Has p w.sent → Tied g w n s → is_used s p v ≡ true → leads (led_by s g s.views.me) g ≡ true
-unfolding leads leads_in leader_in led_by with_row
+request_leads : (v : ViewId) (g : List ℕ) (q : ProviderId) (r : ℕ) (phases : Phases) (x : Proposal) (w : Scene) (n : ℕ) (s : Core) (p : Packet) → p.body ≡ body.Request v g q r phases x → p.to ≡ n → Has p w.sent → Tied g w n s → is_used s p v ≡ true → leads (set_leader s g s.views.me) g ≡ true
+unfolding leads leads_in leader_in set_leader with_row
 request_leads v g q r phases x w n s p is to delivered t used = by s.config.mode t.own.0.led
   where
     shown : ShowsRequest t.ghost p.to v q r x
@@ -133,8 +133,8 @@ module _ (own : Option Event) (w : Scene) (n : ℕ) (f : Answering) (s : Core) (
       gathered_brings (next_view s.views) (with_answer (opened (next_view s.views) mask) (own_answer s.views (own_parts s))) (λ g. opened_tied mask g w n s (all g) free there)
 
   -- the tick of views
-  at_views_part : (T : List ℕ → ℕ → Type 0) → Fresh x T → At x T NoGroup ⊥ s → At x T NoGroup ⊥ (views_part f s)
-  unfolding views_part
+  at_views_part : (T : List ℕ → ℕ → Type 0) → Fresh x T → At x T NoGroup ⊥ s → At x T NoGroup ⊥ (tick_views f s)
+  unfolding tick_views
   at_views_part T fresh a =
       let work : ViewWork = gathering_ticks (views_at_work s.views) (ring_ask s) (own_parts s) in
       let t : Core = views_taken f s work in
@@ -169,27 +169,27 @@ module _ (own : Option Event) (w : Scene) (n : ℕ) (f : Answering) (s : Core) (
         taken (install_row (views_at_work s.views) i) (install_work (Brought w.before s) s.views (views_at_work s.views) i (brought_of i (λ g. sent_brings g w n s (all g) i (subst (ShowsBody (all g).ghost g p.from p.inc p.to) is ((all g).packets p (append_has_right p s.sends w.sent sent))))) begun)
     view_at p (view.Taken v) is sent = taken (taken_row (views_at_work s.views) p.from v) (taken_work (Brought w.before s) s.views (views_at_work s.views) p.from v begun)
 
-    body_at : (p : Packet) (b : Body) → p.body ≡ b → p.to ≡ n → Has p w.sent → Full (body_row f s p b)
-    unfolding body_row
+    body_at : (p : Packet) (b : Body) → p.body ≡ b → p.to ≡ n → Has p w.sent → Full (take_body f s p b)
+    unfolding take_body
     body_at p (body.Ring y) is to sent = at_ring_row x Every s p.network p.from p.inc y a
     body_at p (body.Report rows) is to sent = at_report x Every s rows a
     body_at p (body.View y) is to sent = view_at p y is sent
-    body_at p (body.Lookup v g) is to sent = used (lookup_row s p.from g) (is_used s p v) (λ u. at_lookup x s p.from g a)
-    body_at p (body.Name v g k) is to sent = used (name_row s g k) (is_used s p v) (λ u. at_name x s g k a)
+    body_at p (body.Lookup v g) is to sent = used (take_lookup s p.from g) (is_used s p v) (λ u. at_lookup x s p.from g a)
+    body_at p (body.Name v g k) is to sent = used (take_name s g k) (is_used s p v) (λ u. at_name x s g k a)
     body_at p (body.Request v g q r phases y) is to sent =
-        used (request_row f s p.from g q r phases y) (is_used s p v) (λ u. at_request x f s g (request_leads v g q r phases y w n s p is to sent (all g) u) p.from q r phases y a)
-    body_at p (body.Tell v g q r why) is to sent = used (tell_row s q r why) (is_used s p v) (λ u. at_tell x s q r why a)
+        used (take_request f s p.from g q r phases y) (is_used s p v) (λ u. at_request x f s g (request_leads v g q r phases y w n s p is to sent (all g) u) p.from q r phases y a)
+    body_at p (body.Tell v g q r why) is to sent = used (take_tell s q r why) (is_used s p v) (λ u. at_tell x s q r why a)
     body_at p (body.Entry v g i k e) is to sent =
-        used (entry_row f s p.from g i k e) (is_used s p v) (λ u. at_entry x f s p.from g k e i (λ at. let before = entry_before v g i k e w n s p is sent (all g) u at in ((λ first. absurd (first before), λ first two. absurd (first before)), λ led. entry_follows v g i k e w n s p is sent (all g) u at led)) a)
-    body_at p (body.Ack v g k) is to sent = used (ack_row s p.from g k) (is_used s p v) (λ u. at_ack x s p.from g k a)
+        used (take_entry f s p.from g i k e) (is_used s p v) (λ u. at_entry x f s p.from g k e i (λ at. let before = entry_before v g i k e w n s p is sent (all g) u at in ((λ first. absurd (first before), λ first two. absurd (first before)), λ led. entry_follows v g i k e w n s p is sent (all g) u at led)) a)
+    body_at p (body.Ack v g k) is to sent = used (take_ack s p.from g k) (is_used s p v) (λ u. at_ack x s p.from g k a)
     body_at p (body.Vote v g proto phase q ballot value message) is to sent =
-        used (vote_row f s g proto phase q ballot value message) (is_used s p v) (λ u. at_vote x f s g proto phase q ballot value message a)
-    body_at p (body.Gone v g q) is to sent = used (gone_row f s g q) (is_used s p v) (λ u. at_gone x f s g q a)
+        used (take_vote f s g proto phase q ballot value message) (is_used s p v) (λ u. at_vote x f s g proto phase q ballot value message a)
+    body_at p (body.Gone v g q) is to sent = used (take_gone f s g q) (is_used s p v) (λ u. at_gone x f s g q a)
     body_at p (body.Query question what) is to sent = at_sent_on x Every NoGroup ⊥ s p.network p.from (body.Reply question (status_text s what)) a
     body_at p (body.Reply question text) is to sent = a
 
-    order_at : (mask : Mask) → Full (order_row f s mask)
-    unfolding order_row
+    order_at : (mask : Mask) → Full (take_order f s mask)
+    unfolding take_order
     order_at mask = by (is_fixed s.config.mode) refl
       where
         by : (b : Bool) → is_fixed s.config.mode ≡ b → Full (elim b as (λ _. Core) [ true ↦ s | false ↦ views_taken f s (ask_row (views_at_work s.views) mask (own_parts s)) ])
@@ -200,11 +200,11 @@ module _ (own : Option Event) (w : Scene) (n : ℕ) (f : Answering) (s : Core) (
     unfolding packet_row
     given_at p sent = by (p.to == s.views.me) refl
       where
-        by : (b : Bool) → (p.to == s.views.me) ≡ b → Full (elim b as (λ _. Core) [ true ↦ body_row f s p p.body | false ↦ s ])
+        by : (b : Bool) → (p.to == s.views.me) ≡ b → Full (elim b as (λ _. Core) [ true ↦ take_body f s p p.body | false ↦ s ])
         by false e = a
         by true e = body_at p p.body refl (eqb-true p.to s.views.me e ∙ (all []).own.0.stands.me) sent
 
-stepped_is : (f : Answering) (s : Core) (e : NodeEvent) → stepped f s e ≡ step_ended f (acted f (at_work s) e)
+stepped_is : (f : Answering) (s : Core) (e : NodeEvent) → stepped f s e ≡ end_step f (acted f (at_work s) e)
 unfolding stepped event_row tick_row
 stepped_is f s Ticks = refl
 stepped_is f s (Asks mask) = refl
@@ -228,11 +228,11 @@ module _ (own : Option Event) (w : Scene) (n : ℕ) (f : Answering) (s : Core) (
 
   acted_at : (e : NodeEvent) → Arises w e → TicksIn n e own → At y (Begins e) NoGroup ⊥ s → At y Every NoGroup ⊥ (acted f s e)
   acted_at Ticks arises noted a =
-      let r : Core = rings_part s in
+      let r : Core = tick_rings s in
       let tied : (h : List ℕ) → Tied h w n r = λ h. rings_part_tied h w n s (all h) in
       let fresh : Fresh y Unticked = λ g. ((1, refl), λ less q. omega arith) in
-      let v : Core = views_part f r in
-      at_led_part y f (owed_part v) (at_owed_part y Unticked v (at_views_part own w n f r tied Unticked fresh (at_rings_part y Unticked s a)))
+      let v : Core = tick_views f r in
+      at_led_part y f (tick_owed v) (at_owed_part y Unticked v (at_views_part own w n f r tied Unticked fresh (at_rings_part y Unticked s a)))
   acted_at (Asks mask) arises noted a = order_at own w n f s all a mask
   acted_at (Calls c) arises noted a = at_call y s c a
   acted_at Garbage arises noted a = a

@@ -5,45 +5,45 @@ use Rattle.std.specs.List.{last_or}
 use Rattle.std.specs.Str.{bytes_eq}
 use Rattle.std.proofs.lemmas.List.{reverse-append, reverse-reverse}
 use Rattle.std.proofs.lemmas.Bool.{and_parts, eq-eqb}
-use Rattle.rsct_packet.specs.declared.mask.Mask.{Mask}
-use Rattle.rsct_packet.specs.Mask.{nodes_of}
-use Rattle.rsct_packet.specs.declared.ids.ProviderId.{ProviderId}
-use Rattle.rsct_packet.specs.Text.{name_lt}
-use Rattle.rsct_packet.specs.Search.{Has}
-use Rattle.rsct_packet.proofs.HasLaws.{has_append, append_has_left, has_filter, has_map}
-use Rattle.proposal_core.specs.declared.entry.Entry.{Entry}
-use Rattle.proposal_core.specs.declared.entry.Entry.TheVariants.{Late}
-use Rattle.proposal_core.specs.declared.group_state.GroupState.{GroupState}
-use Rattle.proposal_core.specs.declared.group_state.Running.{Running}
-use Rattle.proposal_core.specs.Fold.{present}
-use Rattle.proposal_core.specs.GroupView.{GroupView}
-use Rattle.proposal_core.specs.Lists.{list_or_new, state_in, entry_fits}
-use Rattle.adapter_ring.specs.declared.ring.Ring.{Ring}
-use Rattle.adapter_ring.specs.declared.ring.RingSet.{RingSet}
-use Rattle.adapter_ring.specs.declared.packet.RingSend.{RingSend}
-use Rattle.adapter_ring.specs.declared.packet.RingPacket.{RingPacket}
-use Rattle.adapter_ring.specs.declared.packet.RingEvent.TheVariants as ring_event
-use Rattle.adapter_ring.specs.declared.work.RingWork.{RingWork}
-use Rattle.adapter_ring.specs.Rings.{ring_stepped}
-use Rattle.node_reach.specs.Reach as reach
-use Rattle.packet_bodies.specs.declared.body.ReportRow.{ReportRow}
-use Rattle.vote_phases.specs.Tally.{TallyView, expires, passes, has_open, open_voters, tally_tick}
-use Rattle.node_state.specs.declared.group.GroupRow.{GroupRow}
-use Rattle.node_state.specs.declared.happened.Happened.{Happened}
-use Rattle.node_state.specs.declared.happened.Happened.TheVariants as happened
-use Rattle.node_state.specs.declared.packet.Body.TheVariants as body
-use Rattle.node_state.specs.declared.state.Core.{Core}
-use Rattle.node_state.specs.Settings.{is_rings}
-use Rattle.node_state.specs.State.{AllAfter, InNameOrder, row_of, led_of, list_of, state_of, len_of, held_rows, fits_at_end, frozen, leader_of, leads_in, led_groups, others, acked_by, least_acked, with_row, with_led}
-use Rattle.node_state.specs.Sending.{sent, sent_on, sent_if_known, requests_sent, votes_sent_again}
-use Rattle.node_state.specs.HandOn.{Answering}
-use Rattle.node_state.specs.Leading.{appended, appended_if, with_tally, closing_entry, closes}
-use Rattle.node_state.specs.Ticks.{ring_put, set_records, ring_taken, ring_row_of, ring_row, report_row, rings_union, report_of, report_sent, rings_tick, rings_part, is_lost, lost_told, owed_part, late_appended, announced, ticked_in, tally_ticks, entries_sent, list_sent_again, sent_again, group_ticks, led_part}
-use Rattle.run_safety.specs.Past.{records_of}
-use Rattle.run_safety.specs.Stays.{stays}
-use Rattle.run_safety.specs.Stays as stay
-use Rattle.node_state.proofs.NameOrder.{lt_self, text_self, row_here}
-use Rattle.step_ties.proofs.Turns.{has_turned}
+use Rattle.row_laws.specs.rsct_packet.declared.mask.Mask.{Mask}
+use Rattle.row_laws.specs.rsct_packet.Mask.{nodes_of}
+use Rattle.row_laws.specs.rsct_packet.declared.ids.ProviderId.{ProviderId}
+use Rattle.row_laws.specs.rsct_packet.Text.{name_lt}
+use Rattle.row_laws.specs.rsct_packet.Search.{Has}
+use Rattle.row_laws.proofs.rsct_packet_laws.HasLaws.{has_append, append_has_left, has_filter, has_map}
+use Rattle.row_laws.specs.proposal_core.declared.entry.Entry.{Entry}
+use Rattle.row_laws.specs.proposal_core.declared.entry.Entry.TheVariants.{Late}
+use Rattle.row_laws.specs.proposal_core.declared.group_state.GroupState.{GroupState}
+use Rattle.row_laws.specs.proposal_core.declared.group_state.Running.{Running}
+use Rattle.row_laws.specs.proposal_core.Fold.{present}
+use Rattle.row_laws.specs.proposal_core.GroupView.{GroupView}
+use Rattle.row_laws.specs.proposal_core.Lists.{list_or_new, state_in, entry_fits}
+use Rattle.row_laws.specs.adapter_ring.declared.ring.Ring.{Ring}
+use Rattle.row_laws.specs.adapter_ring.declared.ring.RingSet.{RingSet}
+use Rattle.row_laws.specs.adapter_ring.declared.packet.RingSend.{RingSend}
+use Rattle.row_laws.specs.adapter_ring.declared.packet.RingPacket.{RingPacket}
+use Rattle.row_laws.specs.adapter_ring.declared.packet.RingEvent.TheVariants as ring_event
+use Rattle.row_laws.specs.adapter_ring.declared.work.RingWork.{RingWork}
+use Rattle.row_laws.specs.adapter_ring.Rings.{ring_step}
+use Rattle.row_laws.specs.node_reach.Reach as reach
+use Rattle.row_laws.specs.packet_bodies.declared.body.ReportRow.{ReportRow}
+use Rattle.row_laws.specs.vote_phases.Tally.{TallyView, expires, passes, has_open, open_voters, tally_tick}
+use Rattle.row_laws.specs.node_state.declared.group.GroupRow.{GroupRow}
+use Rattle.row_laws.specs.node_state.declared.happened.Happened.{Happened}
+use Rattle.row_laws.specs.node_state.declared.happened.Happened.TheVariants as happened
+use Rattle.row_laws.specs.node_state.declared.packet.Body.TheVariants as body
+use Rattle.row_laws.specs.node_state.declared.state.Core.{Core}
+use Rattle.row_laws.specs.node_state.Settings.{is_rings}
+use Rattle.row_laws.specs.node_state.State.{AllAfter, InNameOrder, row_of, led_of, list_of, state_of, len_of, held_rows, fits_at_end, frozen, leader_of, leads_in, led_groups, others, acked_by, least_acked, with_row, with_led}
+use Rattle.row_laws.specs.node_state.Sending.{sent, send_on, send_if_known, send_requests, send_votes_again}
+use Rattle.row_laws.specs.node_state.HandOn.{Answering}
+use Rattle.row_laws.specs.node_state.Leading.{appended, append_if_fits, with_tally, closing_entry, closes}
+use Rattle.row_laws.specs.node_state.Ticks.{ring_put, set_records, ring_taken, ring_row_of, ring_row, take_report, rings_union, report_of, send_report, rings_tick, tick_rings, is_lost, lost_told, tick_owed, late_appended, announced, ticked_in, tally_ticks, entries_sent, list_sent_again, sent_again, tick_group, tick_led}
+use Rattle.row_laws.specs.run_safety.Past.{records_of}
+use Rattle.row_laws.specs.run_safety.Stays.{stays}
+use Rattle.row_laws.specs.run_safety.Stays as stay
+use Rattle.row_laws.proofs.node_state_laws.NameOrder.{lt_self, text_self, row_here}
+use Rattle.row_laws.proofs.step_refinement_laws.Turns.{has_turned}
 use Rattle.entry_laws.specs.late_rows.Announced.{stay_entries, entries_here}
 use Rattle.entry_laws.proofs.late_rows.At.{Turn, ticks_now, TallyIs, RowIs, Settled, late_voters, Folds, AllPlain, Plain, found, leads_row, At, at_for, at_fold, at_recorded_all, at_row_for, plain_stays}
 use Rattle.entry_laws.proofs.late_rows.Laters.{PutThen, later_appended}
@@ -114,8 +114,8 @@ module _ (h : Turn) where
     at_ring_taken : (s : Core) (w : RingWork) → Full s → Full (ring_taken s w)
     unfolding ring_taken
     at_ring_taken s w a =
-        let t : Core = fold (λ u (x : RingSend). sent_on u x.network x.to (body.Ring x.packet)) (record s { rings = ring_put s.rings w.ring }) w.sends in
-        at_recorded_all h T NoGroup ⊥ (set_records s.views.me w.ring.net w.set) t (set_plain s.views.me w.ring.net w.set) (at_fold h T NoGroup ⊥ (λ u (x : RingSend). sent_on u x.network x.to (body.Ring x.packet)) w.sends (λ u x i k. at_sent_on h T NoGroup ⊥ u x.network x.to (body.Ring x.packet) k) (record s { rings = ring_put s.rings w.ring }) a)
+        let t : Core = fold (λ u (x : RingSend). send_on u x.network x.to (body.Ring x.packet)) (record s { rings = ring_put s.rings w.ring }) w.sends in
+        at_recorded_all h T NoGroup ⊥ (set_records s.views.me w.ring.net w.set) t (set_plain s.views.me w.ring.net w.set) (at_fold h T NoGroup ⊥ (λ u (x : RingSend). send_on u x.network x.to (body.Ring x.packet)) w.sends (λ u x i k. at_sent_on h T NoGroup ⊥ u x.network x.to (body.Ring x.packet) k) (record s { rings = ring_put s.rings w.ring }) a)
 
     pub at_ring_row : (s : Core) (network from inc : ℕ) (x : RingPacket) → Full s → Full (ring_row s network from inc x)
     unfolding ring_row ring_row_of
@@ -123,28 +123,28 @@ module _ (h : Turn) where
       where
         by : (o : Option Ring) → Full (ring_row_of s from inc x o)
         by None = a
-        by (Some r) = at_ring_taken s (ring_stepped r (ring_event.Packet from inc x)) a
+        by (Some r) = at_ring_taken s (ring_step r (ring_event.Packet from inc x)) a
 
-    pub at_report : (s : Core) (rows : List ReportRow) → Full s → Full (report_row s rows)
-    unfolding report_row
+    pub at_report : (s : Core) (rows : List ReportRow) → Full s → Full (take_report s rows)
+    unfolding take_report
     at_report s rows a = a
 
-    at_report_sent : (s : Core) (m : Mask) → Full s → Full (report_sent s m)
-    unfolding report_sent
+    at_report_sent : (s : Core) (m : Mask) → Full s → Full (send_report s m)
+    unfolding send_report
     at_report_sent s m a =
-        let t : Core = record s { reach = reach.own_set s.reach m } in
+        let t : Core = record s { reach = reach.set_own s.reach m } in
         at_sent_all h T NoGroup ⊥ (filter (λ n. not (n == s.views.me)) (nodes_of m)) t (body.Report (report_of t.reach)) a
 
-    pub at_rings_part : (s : Core) → Full s → Full (rings_part s)
-    unfolding rings_part rings_tick
+    pub at_rings_part : (s : Core) → Full s → Full (tick_rings s)
+    unfolding tick_rings rings_tick
     at_rings_part s a = by (is_rings s.config.mode)
       where
         t : Core
-        t = fold (λ u (r : Ring). ring_taken u (ring_stepped r ring_event.Tick)) s s.rings
+        t = fold (λ u (r : Ring). ring_taken u (ring_step r ring_event.Tick)) s s.rings
 
-        by : (b : Bool) → Full (elim b as (λ _. Core) [ true ↦ report_sent t (rings_union t.rings) | false ↦ s ])
+        by : (b : Bool) → Full (elim b as (λ _. Core) [ true ↦ send_report t (rings_union t.rings) | false ↦ s ])
         by true =
-            at_report_sent t (rings_union t.rings) (at_fold h T NoGroup ⊥ (λ u (r : Ring). ring_taken u (ring_stepped r ring_event.Tick)) s.rings (λ u r i k. at_ring_taken u (ring_stepped r ring_event.Tick) k) s a)
+            at_report_sent t (rings_union t.rings) (at_fold h T NoGroup ⊥ (λ u (r : Ring). ring_taken u (ring_step r ring_event.Tick)) s.rings (λ u r i k. at_ring_taken u (ring_step r ring_event.Tick) k) s a)
         by false = a
 
     -- ---- what is owed
@@ -152,16 +152,16 @@ module _ (h : Turn) where
     at_lost : (s : Core) (row : GroupRow) → Full s → Full (lost_told s row)
     unfolding lost_told
     at_lost s row a =
-        at_fold h T NoGroup ⊥ (λ t p. sent_if_known t (leader_of t row.name) (body.Gone t.views.view row.name p)) (filter (is_lost s) (present (state_in row.list))) (λ t p i k. at_sent_if_known h T NoGroup ⊥ t (leader_of t row.name) (body.Gone t.views.view row.name p) k) s a
+        at_fold h T NoGroup ⊥ (λ t p. send_if_known t (leader_of t row.name) (body.Gone t.views.view row.name p)) (filter (is_lost s) (present (state_in row.list))) (λ t p i k. at_sent_if_known h T NoGroup ⊥ t (leader_of t row.name) (body.Gone t.views.view row.name p) k) s a
 
-    pub at_owed_part : (s : Core) → Full s → Full (owed_part s)
-    unfolding owed_part
+    pub at_owed_part : (s : Core) → Full s → Full (tick_owed s)
+    unfolding tick_owed
     at_owed_part s a = by (frozen s)
       where
         t : Core
-        t = requests_sent s
+        t = send_requests s
 
-        by : (b : Bool) → Full (elim b as (λ _. Core) [ true ↦ s | false ↦ votes_sent_again (fold lost_told t (held_rows t)) ])
+        by : (b : Bool) → Full (elim b as (λ _. Core) [ true ↦ s | false ↦ send_votes_again (fold lost_told t (held_rows t)) ])
         by true = a
         by false = at_votes_again h T NoGroup ⊥ (fold lost_told t (held_rows t)) (at_fold h T NoGroup ⊥ lost_told (held_rows t) (λ u row i k. at_lost u row k) t (at_requests_sent h T NoGroup ⊥ s a))
 
@@ -271,7 +271,7 @@ module _ (h : Turn) where
             at (inr y) = absurd (apart y.1)
 
     at_tally_ticks : (s : Core) (o : Option TallyView) → (found s g).led.tally ≡ o → Before s → After (tally_ticks f s g o)
-    unfolding tally_ticks announced late_appended appended_if fits_at_end state_of list_of row_of
+    unfolding tally_ticks announced late_appended append_if_fits fits_at_end state_of list_of row_of
     at_tally_ticks s None q a =
         at_for h (Left (g ∷ rest)) (Left rest) G G ⊥ ⊥ s (λ k less t. ⊎_elim (λ (z : less ≡ 0). inl z) (λ (z : (less ≡ 1) × Has k rest). inr (z.0, inr z.1)) t) (λ k z. a.led k z) (λ z. z) a
     at_tally_ticks s (Some t) q a = announces (s.sessions.level == 2 && expires t) refl
@@ -306,7 +306,7 @@ module _ (h : Turn) where
         quiet : (b : Bool) → ((run : Running) → (state_in (found s g).list).running ≡ Some run → Expired t → s.sessions.level ≡ 2 → (e : Entry) → closing_entry (ticked_row (found s g)).led (Some (tally_tick t)) (Some run) ≡ Some e → entry_fits (list_or_new (found s g).list) e ≡ true → ⊥) → Done s
         quiet b never = at_ticked s t q (λ run r x two e c fit. absurd (never run r x two e c fit)) a
 
-        late_if : (run : Running) → (state_in (found s g).list).running ≡ Some run → expires t ≡ true → (b : Bool) → fits_at_end s g (late run) ≡ b → Done (appended_if f s g (late run) b)
+        late_if : (run : Running) → (state_in (found s g).list).running ≡ Some run → expires t ≡ true → (b : Bool) → fits_at_end s g (late run) ≡ b → Done (append_if_fits f s g (late run) b)
         late_if run r x true fit = told run r x
         late_if run r x false fit = quiet true (λ other o z two e c d. unfit other o z e c d)
           where
@@ -339,28 +339,28 @@ module _ (h : Turn) where
         by None = a
         by (Some l) = at_entries_sent n (acked_by s (row_of s g) n) (least_acked s g) (take 16 (drop (acked_by s (row_of s g) n - l.start) l.entries)) s a
 
-    at_group_ticks : (s : Core) → Before s → After (group_ticks f s g)
-    unfolding group_ticks led_of row_of
+    at_group_ticks : (s : Core) → Before s → After (tick_group f s g)
+    unfolding tick_group led_of row_of
     at_group_ticks s a =
         let t : Core = tally_ticks f s g (found s g).led.tally in
         at_fold h (Left rest) G ⊥ (sent_again g) (others t) (λ u n i k. at_again u n k) t (at_tally_ticks s (found s g).led.tally refl a)
 
-  at_all_ticks : (f : Answering) (G : List ℕ → Type 0) (gs : List (List ℕ)) → Apart gs → ((g : List ℕ) → Has g gs → G g) → (s : Core) → At h (Left gs) G ⊥ s → At h (Left []) G ⊥ (fold (group_ticks f) s gs)
+  at_all_ticks : (f : Answering) (G : List ℕ → Type 0) (gs : List (List ℕ)) → Apart gs → ((g : List ℕ) → Has g gs → G g) → (s : Core) → At h (Left gs) G ⊥ s → At h (Left []) G ⊥ (fold (tick_group f) s gs)
   at_all_ticks f G [] apart led s a = a
   at_all_ticks f G (g ∷ gs) apart led s a =
-      at_all_ticks f G gs apart.1 (λ k i. led k (inr i)) (group_ticks f s g) (at_group_ticks f G g gs apart.0 (led g (inl refl)) s a)
+      at_all_ticks f G gs apart.1 (λ k i. led k (inr i)) (tick_group f s g) (at_group_ticks f G g gs apart.0 (led g (inl refl)) s a)
 
-  pub at_led_part : (f : Answering) (s : Core) → At h Unticked NoGroup ⊥ s → At h Every NoGroup ⊥ (led_part f s)
-  unfolding led_part led_groups
+  pub at_led_part : (f : Answering) (s : Core) → At h Unticked NoGroup ⊥ s → At h Every NoGroup ⊥ (tick_led f s)
+  unfolding tick_led led_groups
   at_led_part f s a = by (frozen s)
     where
       none : (G : List ℕ → Type 0) (c : Core) → At h (Left []) G ⊥ c → At h Every NoGroup ⊥ c
       none G c k = at_for h (Left []) Every G NoGroup ⊥ ⊥ c (λ g less t. inl t) (λ g z. absurd z) (λ z. z) k
 
-      ticked : At h (Left []) (Leads h s) ⊥ (fold (group_ticks f) s (led_groups s))
+      ticked : At h (Left []) (Leads h s) ⊥ (fold (tick_group f) s (led_groups s))
       ticked =
           at_all_ticks f (Leads h s) (led_groups s) (names_apart (leads_in s) s.groups a.order) (λ g i. led_leads h Unticked ⊥ s a g i) s (at_down (led_groups s) (Leads h s) s (at_leads h Unticked ⊥ s a))
 
-      by : (b : Bool) → At h Every NoGroup ⊥ (elim b as (λ _. Core) [ true ↦ s | false ↦ fold (group_ticks f) s (led_groups s) ])
+      by : (b : Bool) → At h Every NoGroup ⊥ (elim b as (λ _. Core) [ true ↦ s | false ↦ fold (tick_group f) s (led_groups s) ])
       by true = none NoGroup s (at_down [] NoGroup s a)
-      by false = none (Leads h s) (fold (group_ticks f) s (led_groups s)) ticked
+      by false = none (Leads h s) (fold (tick_group f) s (led_groups s)) ticked

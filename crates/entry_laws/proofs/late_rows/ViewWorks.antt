@@ -2,21 +2,21 @@
 use Rattle.std.proofs.Common.{◌≡◌, ℕ, List, Option, Some, None, Bool, true, false, refl, subst}
 use Rattle.std.specs.Prelude.{◌==◌, ◌&&◌, not, max, filter, length, nat_le, nat_lt}
 use Rattle.std.proofs.lemmas.Bool.{and_parts}
-use Rattle.rsct_packet.specs.declared.ids.ViewId.{ViewId}
-use Rattle.rsct_packet.specs.declared.mask.Mask.{Mask}
-use Rattle.rsct_packet.specs.Ids.{last_u32, same_view, is_member}
-use Rattle.rsct_packet.specs.Mask.{has_node, with_node, nodes_of}
-use Rattle.view_state.specs.declared.answer.Answer.{Answer}
-use Rattle.view_state.specs.declared.exchange.Exchange.{Exchange}
-use Rattle.view_state.specs.declared.install.Part.{Part}
-use Rattle.view_state.specs.declared.install.Install.{Install}
-use Rattle.view_state.specs.Answers.{max_parts, opened, has_answered, may_answer, with_answer, all_answered, install_of, is_spelled}
-use Rattle.view_state.specs.declared.packet.ViewPacket.{ViewPacket}
-use Rattle.view_state.specs.declared.packet.ViewPacket.TheVariants as packet
-use Rattle.view_state.specs.declared.views.RingAsk.{RingAsk}
-use Rattle.view_state.specs.declared.views.Views.{Views}
-use Rattle.view_state.specs.declared.views.ViewWork.{ViewWork}
-use Rattle.view_state.specs.Views.{is_frozen, is_coordinator, others_of, view_sent, view_sent_all, gathering_set, promised, installs, gathered, gathers, own_answer, asks_view, next_view, may_ask, ask_if, ask_row, answered, prepared, prepare_row, answer_to, answer_row, refused_by, refuse_to, refuse_row, installed, install_row, taken_row, aged, prepared_again, tick_asks, stuck_noted, asks_or_ages, gathering_ticks, install_again_of, install_again, views_at_work}
+use Rattle.row_laws.specs.rsct_packet.declared.ids.ViewId.{ViewId}
+use Rattle.row_laws.specs.rsct_packet.declared.mask.Mask.{Mask}
+use Rattle.row_laws.specs.rsct_packet.Ids.{last_u32, same_view, is_member}
+use Rattle.row_laws.specs.rsct_packet.Mask.{has_node, with_node, nodes_of}
+use Rattle.row_laws.specs.view_state.declared.answer.Answer.{Answer}
+use Rattle.row_laws.specs.view_state.declared.exchange.Exchange.{Exchange}
+use Rattle.row_laws.specs.view_state.declared.install.Part.{Part}
+use Rattle.row_laws.specs.view_state.declared.install.Install.{Install}
+use Rattle.row_laws.specs.view_state.Answers.{max_parts, opened, has_answered, may_answer, with_answer, all_answered, install_of, is_spelled}
+use Rattle.row_laws.specs.view_state.declared.packet.ViewPacket.{ViewPacket}
+use Rattle.row_laws.specs.view_state.declared.packet.ViewPacket.TheVariants as packet
+use Rattle.row_laws.specs.view_state.declared.views.RingAsk.{RingAsk}
+use Rattle.row_laws.specs.view_state.declared.views.Views.{Views}
+use Rattle.row_laws.specs.view_state.declared.views.ViewWork.{ViewWork}
+use Rattle.row_laws.specs.view_state.Views.{is_frozen, is_coordinator, others_of, view_sent, view_sent_all, gathering_set, promised, begin_install, gathered, gather_on, own_answer, ask_others, next_view, may_ask, ask_if, ask_row, answered, prepare, prepare_row, answer_to, answer_row, refused_by, refuse_to, refuse_row, installed, install_row, taken_row, aged, prepare_again, tick_asks, note_stuck, asks_or_ages, gathering_ticks, install_again_of, install_again, views_at_work}
 
 module _ (P : Install → Type 0) (v : Views) where
   pub record Work (w : ViewWork) : Type 0 where
@@ -43,13 +43,13 @@ module _ (P : Install → Type 0) (v : Views) where
   unfolding promised
   promised_work w u k = record { me = k.me; view = k.view; install = k.install }
 
-  installs_work : (w : ViewWork) (i : Install) (b : Bool) → P i → Work w → Work (installs w i b)
-  unfolding installs view_sent_all
+  installs_work : (w : ViewWork) (i : Install) (b : Bool) → P i → Work w → Work (begin_install w i b)
+  unfolding begin_install view_sent_all
   installs_work w i false ok k = k
   installs_work w i true ok k = record { me = k.me; view = k.view; install = λ j e. (let q : i ≡ j = cc in subst P q ok) }
 
-  gathers_work : (w : ViewWork) (g : Exchange) → (all_answered g ≡ true → P (install_of g)) → Work w → Work (gathers w g)
-  unfolding gathers gathered
+  gathers_work : (w : ViewWork) (g : Exchange) → (all_answered g ≡ true → P (install_of g)) → Work w → Work (gather_on w g)
+  unfolding gather_on gathered
   gathers_work w g ok k = by (all_answered g) refl
     where
       by : (b : Bool) → all_answered g ≡ b → Work (gathered w g b)
@@ -61,10 +61,10 @@ module _ (P : Install → Type 0) (v : Views) where
   Alone s mask parts = has_node mask s.me ≡ true → all_answered (with_answer (opened (next_view s) mask) (own_answer s parts)) ≡ true → P (install_of (with_answer (opened (next_view s) mask) (own_answer s parts)))
 
   pub ask_work : (w : ViewWork) (mask : Mask) (parts : List Part) → Alone w.views mask parts → Work w → Work (ask_row w mask parts)
-  unfolding ask_row ask_if asks_view may_ask
+  unfolding ask_row ask_if ask_others may_ask
   ask_work w mask parts ok k = by (may_ask w.views mask) refl
     where
-      asks : has_node mask w.views.me ≡ true → (b : Bool) → Work (asks_view w (next_view w.views) mask parts b)
+      asks : has_node mask w.views.me ≡ true → (b : Bool) → Work (ask_others w (next_view w.views) mask parts b)
       asks there false = promised_work w (next_view w.views) k
       asks there true =
           gathers_work (view_sent_all (promised w (next_view w.views)) (filter (λ n. not (n == w.views.me)) (nodes_of mask)) (packet.Prepare (next_view w.views) mask)) (with_answer (opened (next_view w.views) mask) (own_answer w.views parts)) (ok there) (sent_all_work (promised w (next_view w.views)) (filter (λ n. not (n == w.views.me)) (nodes_of mask)) (packet.Prepare (next_view w.views) mask) (promised_work w (next_view w.views) k))
@@ -81,8 +81,8 @@ module _ (P : Install → Type 0) (v : Views) where
       by true = sent_work w u.coord (packet.Answer u w.views.view parts) k
       by false = k
 
-  prepared_work : (w : ViewWork) (u : ViewId) (parts : List Part) (a b c : Bool) → Work w → Work (prepared w u parts a b c)
-  unfolding prepared
+  prepared_work : (w : ViewWork) (u : ViewId) (parts : List Part) (a b c : Bool) → Work w → Work (prepare w u parts a b c)
+  unfolding prepare
   prepared_work w u parts true b c k = answered_work (promised w u) u parts (promised_work w u k)
   prepared_work w u parts false true c k = answered_work w u parts k
   prepared_work w u parts false false true k = sent_work w u.coord (packet.Refuse u w.views.promise.number) k
@@ -96,7 +96,7 @@ module _ (P : Install → Type 0) (v : Views) where
   unfolding answer_row answer_to
   answer_work w u a ok k = by w.views.gathering refl
     where
-      at : (g : Exchange) → w.views.gathering ≡ Some g → (b : Bool) → (same_view g.view u && may_answer g a.node) ≡ b → Work (elim b as (λ _. ViewWork) [ true ↦ gathers w (with_answer g a) | false ↦ w ])
+      at : (g : Exchange) → w.views.gathering ≡ Some g → (b : Bool) → (same_view g.view u && may_answer g a.node) ≡ b → Work (elim b as (λ _. ViewWork) [ true ↦ gather_on w (with_answer g a) | false ↦ w ])
       at g q true e = gathers_work w (with_answer g a) (ok g q e) k
       at g q false e = k
 
@@ -135,26 +135,26 @@ module _ (P : Install → Type 0) (v : Views) where
 
   -- ---- a tick
 
-  again_work : (w : ViewWork) → Work w → Work (prepared_again w w.views.gathering)
-  unfolding prepared_again aged
+  again_work : (w : ViewWork) → Work w → Work (prepare_again w w.views.gathering)
+  unfolding prepare_again aged
   again_work w k = by w.views.gathering
     where
-      by : (o : Option Exchange) → Work (prepared_again w o)
+      by : (o : Option Exchange) → Work (prepare_again w o)
       by None = k
       by (Some g) =
           sent_all_work (gathering_set w (Some (aged g))) (filter (λ n. not (has_answered g n)) (nodes_of g.asked)) (packet.Prepare g.view g.asked) (gathering_work w (Some (aged g)) k)
 
   pub ticks_work : (w : ViewWork) (o : Option RingAsk) (parts : List Part) → ((a : RingAsk) → o ≡ Some a → Alone w.views a.mask parts) → Work w → Work (gathering_ticks w o parts)
-  unfolding gathering_ticks asks_or_ages stuck_noted next_view
+  unfolding gathering_ticks asks_or_ages note_stuck next_view
   ticks_work w None parts ok k = again_work w k
   ticks_work w (Some a) parts ok k = by (tick_asks w.views a)
     where
-      noted_work : Work (stuck_noted w)
+      noted_work : Work (note_stuck w)
       noted_work = record { me = k.me; view = k.view; install = k.install }
 
-      by : (b : Bool) → Work (asks_or_ages (stuck_noted w) a parts b)
-      by true = ask_work (stuck_noted w) a.mask parts (ok a refl) noted_work
-      by false = again_work (stuck_noted w) noted_work
+      by : (b : Bool) → Work (asks_or_ages (note_stuck w) a parts b)
+      by true = ask_work (note_stuck w) a.mask parts (ok a refl) noted_work
+      by false = again_work (note_stuck w) noted_work
 
   pub install_again_work : (w : ViewWork) → Work w → Work (install_again w)
   unfolding install_again install_again_of

@@ -2,55 +2,55 @@
 use Rattle.std.proofs.Common.{◌≡◌, ℕ, List, [], ◌∷◌, Option, Some, None, Bool, true, false, refl, sym, ap, ◌∙◌, subst, inl, inr, ⊎_elim}
 use Rattle.std.specs.Prelude.{◌==◌, not, filter, fold}
 use Rattle.std.proofs.lemmas.Bool.{eqb-true}
-use Rattle.rsct_packet.specs.declared.ids.ViewId.{ViewId}
-use Rattle.rsct_packet.specs.declared.ids.ProviderId.{ProviderId}
-use Rattle.rsct_packet.specs.declared.mask.Mask.{Mask}
-use Rattle.rsct_packet.specs.Mask.{nodes_of}
-use Rattle.rsct_packet.specs.Search.{Has}
-use Rattle.rsct_packet.proofs.HasLaws.{has_append}
-use Rattle.group_attr.specs.declared.attrs.Phases.{Phases}
-use Rattle.proposal_core.specs.declared.proposal.Proposal.{Proposal}
-use Rattle.adapter_ring.specs.declared.ring.Ring.{Ring}
-use Rattle.adapter_ring.specs.declared.ring.RingSet.{RingSet}
-use Rattle.adapter_ring.specs.declared.packet.RingSend.{RingSend}
-use Rattle.adapter_ring.specs.declared.packet.RingEvent.TheVariants as ring_event
-use Rattle.adapter_ring.specs.declared.work.RingWork.{RingWork}
-use Rattle.adapter_ring.specs.Rings.{ring_stepped}
-use Rattle.node_reach.specs.Reach as reach
-use Rattle.view_state.specs.declared.packet.ViewPacket.{ViewPacket}
-use Rattle.view_state.specs.declared.packet.ViewPacket.TheVariants as view
-use Rattle.node_state.specs.declared.happened.Happened.{Happened}
-use Rattle.node_state.specs.declared.packet.Body.{Body}
-use Rattle.node_state.specs.declared.packet.Body.TheVariants as body
-use Rattle.node_state.specs.declared.packet.Packet.{Packet}
-use Rattle.node_state.specs.declared.state.Core.{Core}
-use Rattle.node_state.specs.Settings.{is_rings}
-use Rattle.node_state.specs.State.{row_of, leader_in, leads_in, leads, recorded_all}
-use Rattle.node_state.specs.Sending.{sent_on}
-use Rattle.node_state.specs.HandOn.{Answering}
-use Rattle.node_state.specs.Ticks.{set_records, ring_put, ring_taken, rings_union, report_of, report_sent, rings_tick, rings_part, views_part, owed_part}
-use Rattle.node_state.specs.Step.{NodeEvent, Ticks, Asks, Given, Calls, Garbage, body_row, packet_row, at_work}
-use Rattle.run_safety.specs.Sight.{lines_of}
-use Rattle.run_safety.specs.Group.{kept}
-use Rattle.run_safety.specs.Moves.{Quiet}
-use Rattle.step_ties.specs.Tied.{Scene, Begun, lines_now, Tied}
-use Rattle.step_ties.specs.Rows.{acted, Arises}
-use Rattle.step_ties.proofs.Works.{Unseen, lines_none}
-use Rattle.step_ties.proofs.ViewRows.{taken_is_tied, refuse_is_tied, prepare_is_tied}
-use Rattle.step_ties.proofs.Acks.{ack_is_tied}
-use Rattle.step_ties.proofs.Entries.{entry_is_tied}
-use Rattle.step_ties.proofs.Tellings.{tell_is_tied}
-use Rattle.step_ties.proofs.Named.{lookup_is_tied, name_is_tied}
-use Rattle.step_ties.proofs.Requests.{request_is_tied}
-use Rattle.step_ties.proofs.Votes.{vote_is_tied, gone_is_tied}
-use Rattle.step_ties.proofs.Rings.{rings_part_tied, ring_is_tied, report_is_tied, query_is_tied, reply_is_tied}
-use Rattle.step_ties.proofs.Installs.{install_row_tied}
-use Rattle.step_ties.proofs.FoundingRows.{founding_answer_tied, founding_ask_tied, founding_tick_tied}
-use Rattle.step_ties.proofs.Owed.{owed_part_tied}
-use Rattle.step_ties.proofs.LedTicks.{led_part_tied}
-use Rattle.step_ties.proofs.Calls.{call_is_tied}
-use Rattle.step_ties.proofs.Appending.{sent_all_is}
-use Rattle.step_ties.proofs.JoinsFirst.{joins_first}
+use Rattle.row_laws.specs.rsct_packet.declared.ids.ViewId.{ViewId}
+use Rattle.row_laws.specs.rsct_packet.declared.ids.ProviderId.{ProviderId}
+use Rattle.row_laws.specs.rsct_packet.declared.mask.Mask.{Mask}
+use Rattle.row_laws.specs.rsct_packet.Mask.{nodes_of}
+use Rattle.row_laws.specs.rsct_packet.Search.{Has}
+use Rattle.row_laws.proofs.rsct_packet_laws.HasLaws.{has_append}
+use Rattle.row_laws.specs.group_attr.declared.attrs.Phases.{Phases}
+use Rattle.row_laws.specs.proposal_core.declared.proposal.Proposal.{Proposal}
+use Rattle.row_laws.specs.adapter_ring.declared.ring.Ring.{Ring}
+use Rattle.row_laws.specs.adapter_ring.declared.ring.RingSet.{RingSet}
+use Rattle.row_laws.specs.adapter_ring.declared.packet.RingSend.{RingSend}
+use Rattle.row_laws.specs.adapter_ring.declared.packet.RingEvent.TheVariants as ring_event
+use Rattle.row_laws.specs.adapter_ring.declared.work.RingWork.{RingWork}
+use Rattle.row_laws.specs.adapter_ring.Rings.{ring_step}
+use Rattle.row_laws.specs.node_reach.Reach as reach
+use Rattle.row_laws.specs.view_state.declared.packet.ViewPacket.{ViewPacket}
+use Rattle.row_laws.specs.view_state.declared.packet.ViewPacket.TheVariants as view
+use Rattle.row_laws.specs.node_state.declared.happened.Happened.{Happened}
+use Rattle.row_laws.specs.node_state.declared.packet.Body.{Body}
+use Rattle.row_laws.specs.node_state.declared.packet.Body.TheVariants as body
+use Rattle.row_laws.specs.node_state.declared.packet.Packet.{Packet}
+use Rattle.row_laws.specs.node_state.declared.state.Core.{Core}
+use Rattle.row_laws.specs.node_state.Settings.{is_rings}
+use Rattle.row_laws.specs.node_state.State.{row_of, leader_in, leads_in, leads, recorded_all}
+use Rattle.row_laws.specs.node_state.Sending.{send_on}
+use Rattle.row_laws.specs.node_state.HandOn.{Answering}
+use Rattle.row_laws.specs.node_state.Ticks.{set_records, ring_put, ring_taken, rings_union, report_of, send_report, rings_tick, tick_rings, tick_views, tick_owed}
+use Rattle.row_laws.specs.node_state.Step.{NodeEvent, Ticks, Asks, Given, Calls, Garbage, take_body, packet_row, at_work}
+use Rattle.row_laws.specs.run_safety.Sight.{lines_of}
+use Rattle.row_laws.specs.run_safety.Group.{kept}
+use Rattle.row_laws.specs.run_safety.Moves.{Quiet}
+use Rattle.row_laws.specs.step_refinement.Tied.{Scene, Begun, lines_now, Tied}
+use Rattle.row_laws.specs.step_refinement.Rows.{acted, Arises}
+use Rattle.row_laws.proofs.step_refinement_laws.Works.{Unseen, lines_none}
+use Rattle.row_laws.proofs.step_refinement_laws.ViewRows.{taken_is_tied, refuse_is_tied, prepare_is_tied}
+use Rattle.row_laws.proofs.step_refinement_laws.Acks.{ack_is_tied}
+use Rattle.row_laws.proofs.step_refinement_laws.Entries.{entry_is_tied}
+use Rattle.row_laws.proofs.step_refinement_laws.Tellings.{tell_is_tied}
+use Rattle.row_laws.proofs.step_refinement_laws.Named.{lookup_is_tied, name_is_tied}
+use Rattle.row_laws.proofs.step_refinement_laws.Requests.{request_is_tied}
+use Rattle.row_laws.proofs.step_refinement_laws.Votes.{vote_is_tied, gone_is_tied}
+use Rattle.row_laws.proofs.step_refinement_laws.Rings.{rings_part_tied, ring_is_tied, report_is_tied, query_is_tied, reply_is_tied}
+use Rattle.row_laws.proofs.step_refinement_laws.Installs.{install_row_tied}
+use Rattle.row_laws.proofs.step_refinement_laws.FoundingRows.{founding_answer_tied, founding_ask_tied, founding_tick_tied}
+use Rattle.row_laws.proofs.step_refinement_laws.Owed.{owed_part_tied}
+use Rattle.row_laws.proofs.step_refinement_laws.LedTicks.{led_part_tied}
+use Rattle.row_laws.proofs.step_refinement_laws.Calls.{call_is_tied}
+use Rattle.row_laws.proofs.step_refinement_laws.Appending.{sent_all_is}
+use Rattle.row_laws.proofs.step_refinement_laws.JoinsFirst.{joins_first}
 
 -- ---- rings are no group's
 
@@ -58,15 +58,15 @@ module _ (g : List ℕ) where
   abbrev UnseenAll : List Happened → Type 0
   UnseenAll rs = (r : Happened) → Has r rs → Unseen g r
 
-  sends_records : (xs : List RingSend) (s : Core) → (fold (λ u (x : RingSend). sent_on u x.network x.to (body.Ring x.packet)) s xs).records ≡ s.records
-  unfolding sent_on
+  sends_records : (xs : List RingSend) (s : Core) → (fold (λ u (x : RingSend). send_on u x.network x.to (body.Ring x.packet)) s xs).records ≡ s.records
+  unfolding send_on
   sends_records [] s = refl
-  sends_records (x ∷ xs) s = sends_records xs (sent_on s x.network x.to (body.Ring x.packet))
+  sends_records (x ∷ xs) s = sends_records xs (send_on s x.network x.to (body.Ring x.packet))
 
   taken_unseen : (s : Core) (x : RingWork) → UnseenAll s.records → UnseenAll (ring_taken s x).records
   unfolding ring_taken recorded_all set_records
   taken_unseen s x all r h =
-      let now : Core = fold (λ u (x : RingSend). sent_on u x.network x.to (body.Ring x.packet)) (record s { rings = ring_put s.rings x.ring }) x.sends in
+      let now : Core = fold (λ u (x : RingSend). send_on u x.network x.to (body.Ring x.packet)) (record s { rings = ring_put s.rings x.ring }) x.sends in
       ⊎_elim (λ (i : Has r now.records). all r (subst (Has r) (sends_records x.sends (record s { rings = ring_put s.rings x.ring })) i)) (λ (i : Has r (set_records s.views.me x.ring.net x.set)). by x.set i) (has_append r now.records (set_records s.views.me x.ring.net x.set) h)
     where
       by : (o : Option RingSet) → Has r (set_records s.views.me x.ring.net o) → Unseen g r
@@ -74,50 +74,50 @@ module _ (g : List ℕ) where
       by (Some y) (inl e) = subst (Unseen g) (sym e) (λ rs. refl)
       by (Some y) (inr z) = absurd z
 
-  fold_unseen : (rs : List Ring) (s : Core) → UnseenAll s.records → UnseenAll (fold (λ u (r : Ring). ring_taken u (ring_stepped r ring_event.Tick)) s rs).records
+  fold_unseen : (rs : List Ring) (s : Core) → UnseenAll s.records → UnseenAll (fold (λ u (r : Ring). ring_taken u (ring_step r ring_event.Tick)) s rs).records
   fold_unseen [] s all = all
-  fold_unseen (r ∷ rs) s all = fold_unseen rs (ring_taken s (ring_stepped r ring_event.Tick)) (taken_unseen s (ring_stepped r ring_event.Tick) all)
+  fold_unseen (r ∷ rs) s all = fold_unseen rs (ring_taken s (ring_step r ring_event.Tick)) (taken_unseen s (ring_step r ring_event.Tick) all)
 
-  report_records : (s : Core) (m : Mask) → (report_sent s m).records ≡ s.records
-  unfolding report_sent
+  report_records : (s : Core) (m : Mask) → (send_report s m).records ≡ s.records
+  unfolding send_report
   report_records s m =
-      let t : Core = record s { reach = reach.own_set s.reach m } in
+      let t : Core = record s { reach = reach.set_own s.reach m } in
       ap (λ (z : Core). z.records) (sent_all_is (filter (λ n. not (n == s.views.me)) (nodes_of m)) t (body.Report (report_of t.reach)))
 
-  rings_unseen : (s : Core) → UnseenAll s.records → UnseenAll (rings_part s).records
-  unfolding rings_part rings_tick
+  rings_unseen : (s : Core) → UnseenAll s.records → UnseenAll (tick_rings s).records
+  unfolding tick_rings rings_tick
   rings_unseen s all = by (is_rings s.config.mode)
     where
       ticked : Core
-      ticked = fold (λ u (r : Ring). ring_taken u (ring_stepped r ring_event.Tick)) s s.rings
+      ticked = fold (λ u (r : Ring). ring_taken u (ring_step r ring_event.Tick)) s s.rings
 
-      by : (b : Bool) → UnseenAll (elim b as (λ _. Core) [ true ↦ report_sent ticked (rings_union ticked.rings) | false ↦ s ]).records
+      by : (b : Bool) → UnseenAll (elim b as (λ _. Core) [ true ↦ send_report ticked (rings_union ticked.rings) | false ↦ s ]).records
       by false = all
       by true = λ r h. fold_unseen s.rings s all r (subst (Has r) (report_records ticked (rings_union ticked.rings)) h)
 
   -- no node put anything
-  rings_quiet : (w : Scene) (s : Core) → s.records ≡ [] → Quiet (kept (lines_now g w (rings_part s)))
+  rings_quiet : (w : Scene) (s : Core) → s.records ≡ [] → Quiet (kept (lines_now g w (tick_rings s)))
   rings_quiet w s none =
-      let all : UnseenAll (rings_part s).records = rings_unseen s (λ r h. absurd (subst (Has r) none h)) in
-      subst (λ l. Quiet (kept l)) (sym (lines_none g (rings_part s).records w.before (lines_of g w.before) all)) (record { at = λ m u. refl })
+      let all : UnseenAll (tick_rings s).records = rings_unseen s (λ r h. absurd (subst (Has r) none h)) in
+      subst (λ l. Quiet (kept l)) (sym (lines_none g (tick_rings s).records w.before (lines_of g w.before) all)) (record { at = λ m u. refl })
 
 -- ---- rows
 
 -- REQUEST, given to whom it was sent
-request_given : (v : ViewId) (h : List ℕ) (q : ProviderId) (r : ℕ) (phases : Phases) (x : Proposal) (w : Scene) (n : ℕ) (f : Answering) (s : Core) (p : Packet) → p.to ≡ n → p.body ≡ body.Request v h q r phases x → Has p w.sent → s.records ≡ [] → ((k : List ℕ) → Begun k s) → ((k : List ℕ) → Tied k w n s) → (g : List ℕ) → Tied g w n (body_row f s p (body.Request v h q r phases x))
+request_given : (v : ViewId) (h : List ℕ) (q : ProviderId) (r : ℕ) (phases : Phases) (x : Proposal) (w : Scene) (n : ℕ) (f : Answering) (s : Core) (p : Packet) → p.to ≡ n → p.body ≡ body.Request v h q r phases x → Has p w.sent → s.records ≡ [] → ((k : List ℕ) → Begun k s) → ((k : List ℕ) → Tied k w n s) → (g : List ℕ) → Tied g w n (take_body f s p (body.Request v h q r phases x))
 request_given v h q r phases x w n f s p to is sent none begun all g =
     request_is_tied v h q r phases x g w n f s p to is sent (joins_first w n s none all v h q r phases x p is sent) (begun h) (all g)
 
 module _ (w : Scene) (n : ℕ) (f : Answering) (s : Core) (none : s.records ≡ []) (begun : (h : List ℕ) → Begun h s) (all : (h : List ℕ) → Tied h w n s) where
-  view_tied : (p : Packet) (y : ViewPacket) → p.body ≡ body.View y → Has p w.sent → (g : List ℕ) → Tied g w n (body_row f s p (body.View y))
-  unfolding body_row
+  view_tied : (p : Packet) (y : ViewPacket) → p.body ≡ body.View y → Has p w.sent → (g : List ℕ) → Tied g w n (take_body f s p (body.View y))
+  unfolding take_body
   view_tied p (view.Prepare v mask) is sent g = prepare_is_tied v mask g w n f s p is sent (all g)
   view_tied p (view.Answer v old parts) is sent g = founding_answer_tied v old parts w n f s p is sent none all g
   view_tied p (view.Refuse v k) is sent g = refuse_is_tied v k g w n f s p.from p.inc (all g)
   view_tied p (view.Install i) is sent g = install_row_tied i g w n f s p is sent none (all g)
   view_tied p (view.Taken v) is sent g = taken_is_tied v g w n f s p.from p.inc (all g)
 
-  body_tied : (p : Packet) (b : Body) → p.body ≡ b → p.to ≡ n → Has p w.sent → (g : List ℕ) → Tied g w n (body_row f s p b)
+  body_tied : (p : Packet) (b : Body) → p.body ≡ b → p.to ≡ n → Has p w.sent → (g : List ℕ) → Tied g w n (take_body f s p b)
   body_tied p (body.Ring x) is to sent g = ring_is_tied x g w n f s p (all g)
   body_tied p (body.Report rows) is to sent g = report_is_tied rows g w n f s p (all g)
   body_tied p (body.View y) is to sent g = view_tied p y is sent g
@@ -135,15 +135,15 @@ module _ (w : Scene) (n : ℕ) (f : Answering) (s : Core) (none : s.records ≡ 
   pub acted_tied : (e : NodeEvent) → Arises w e → (g : List ℕ) → Tied g w n (acted f s e)
   unfolding packet_row
   acted_tied Ticks arises g =
-      let rings : (h : List ℕ) → Tied h w n (rings_part s) = λ h. rings_part_tied h w n s (all h) in
-      let viewed = founding_tick_tied w n f (rings_part s) rings g (rings_quiet g w s none) in
-      led_part_tied g w n f (owed_part (views_part f (rings_part s))) (owed_part_tied g w n (views_part f (rings_part s)) viewed)
+      let rings : (h : List ℕ) → Tied h w n (tick_rings s) = λ h. rings_part_tied h w n s (all h) in
+      let viewed = founding_tick_tied w n f (tick_rings s) rings g (rings_quiet g w s none) in
+      led_part_tied g w n f (tick_owed (tick_views f (tick_rings s))) (owed_part_tied g w n (tick_views f (tick_rings s)) viewed)
   acted_tied (Asks mask) arises g = founding_ask_tied mask w n f s none all g
   acted_tied (Calls c) arises g = call_is_tied c g w n s (all g)
   acted_tied Garbage arises g = all g
   acted_tied (Given p) arises g = by (p.to == s.views.me) refl
     where
-      by : (b : Bool) → (p.to == s.views.me) ≡ b → Tied g w n (elim b as (λ _. Core) [ true ↦ body_row f s p p.body | false ↦ s ])
+      by : (b : Bool) → (p.to == s.views.me) ≡ b → Tied g w n (elim b as (λ _. Core) [ true ↦ take_body f s p p.body | false ↦ s ])
       by false e = all g
       by true e = body_tied p p.body refl (eqb-true p.to s.views.me e ∙ (all g).own.0.stands.me) arises g
 

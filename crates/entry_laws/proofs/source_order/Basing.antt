@@ -3,26 +3,26 @@
 use Rattle.std.proofs.Common.{◌≡◌, ◌⊎◌, ◌≤◌, ◌<◌, ℕ, zero, suc, List, ◌++◌, length, take, Option, Some, None, Bool, true, false, refl, sym, ap, ◌∙◌, subst, inl, inr, arith, ◌+◌, length-append}
 use Rattle.std.specs.Prelude.{slice_get}
 use Rattle.std.proofs.lemmas.Bool.Decides.{nat_tests}
-use Rattle.rsct_packet.specs.declared.ids.ViewId.{ViewId}
-use Rattle.rsct_packet.specs.declared.ids.ProtoId.{ProtoId}
-use Rattle.rsct_packet.specs.Ids.{place_lt}
-use Rattle.proposal_core.specs.declared.proposal.Proposal.{Proposal}
-use Rattle.proposal_core.specs.declared.entry.Entry.{Entry}
-use Rattle.proposal_core.specs.declared.entry.Entry.TheVariants.{Once, Begin, Phase, Approve, Reject, Late}
-use Rattle.proposal_core.specs.declared.group_state.GroupState.{GroupState}
-use Rattle.proposal_core.specs.declared.group_state.Running.{Running}
-use Rattle.proposal_core.specs.Fold.{empty_state, fits, begun, approved, rejected_of, rejected, next_phase, advanced, applied, after_if, after, newer, effect, valued, first_value, first_attrs}
-use Rattle.run_safety.specs.ViewOrder.{is_before, Lt}
-use Rattle.run_safety.specs.Past.{fold_from}
-use Rattle.run_safety.specs.Group.{Origin, Install}
-use Rattle.run_safety.specs.Bases.{base_state, state_of_list, side_state, marked, BaseIs, Wins}
-use Rattle.run_safety.specs.Moves.{Opening}
-use Rattle.run_safety.proofs.Order.{Earlier}
-use Rattle.run_safety.proofs.HeardLaw.{take_front}
-use Rattle.run_safety.proofs.Prefix.{IsPrefix}
-use Rattle.run_safety.proofs.Whole.{Whole}
-use Rattle.run_safety.proofs.Lives.{whole}
-use Rattle.step_ties.specs.Ghost.{Ghost, Lives}
+use Rattle.row_laws.specs.rsct_packet.declared.ids.ViewId.{ViewId}
+use Rattle.row_laws.specs.rsct_packet.declared.ids.ProtoId.{ProtoId}
+use Rattle.row_laws.specs.rsct_packet.Ids.{place_lt}
+use Rattle.row_laws.specs.proposal_core.declared.proposal.Proposal.{Proposal}
+use Rattle.row_laws.specs.proposal_core.declared.entry.Entry.{Entry}
+use Rattle.row_laws.specs.proposal_core.declared.entry.Entry.TheVariants.{Once, Begin, Phase, Approve, Reject, Late}
+use Rattle.row_laws.specs.proposal_core.declared.group_state.GroupState.{GroupState}
+use Rattle.row_laws.specs.proposal_core.declared.group_state.Running.{Running}
+use Rattle.row_laws.specs.proposal_core.Fold.{empty_state, fits, begun, approve, take_rejection, reject, next_phase, advance, apply, after_if, after, replace_proposed, effect, take_value, first_value, first_attrs}
+use Rattle.row_laws.specs.run_safety.ViewOrder.{is_before, Lt}
+use Rattle.row_laws.specs.run_safety.Past.{fold_from}
+use Rattle.row_laws.specs.run_safety.Group.{Origin, Install}
+use Rattle.row_laws.specs.run_safety.Bases.{base_state, state_of_list, side_state, marked, BaseIs, Wins}
+use Rattle.row_laws.specs.run_safety.Moves.{Opening}
+use Rattle.row_laws.proofs.run_safety_laws.Order.{Earlier}
+use Rattle.row_laws.proofs.run_safety_laws.HeardLaw.{take_front}
+use Rattle.row_laws.proofs.run_safety_laws.Prefix.{IsPrefix}
+use Rattle.row_laws.proofs.run_safety_laws.Whole.{Whole}
+use Rattle.row_laws.proofs.run_safety_laws.Lives.{whole}
+use Rattle.row_laws.specs.step_refinement.Ghost.{Ghost, Lives}
 use Rattle.entry_laws.specs.source_order.Sources.{OfBegun, Rises, reflected_by}
 use Rattle.entry_laws.proofs.source_order.Climbing.{NotBehind, Ahead, attrs_place, valued_same, effect_same, rejected_same, once_same, rises_place}
 use Rattle.entry_laws.proofs.source_order.At.{take_all}
@@ -115,27 +115,27 @@ module _ (st : GroupState) (v : ViewId) (i : ℕ) where
           let s : x ≡ r.proposal = cc in
           let l = rises_place st x c (ap reflected_by s ∙ p) up in inr (subst (λ o. place_lt o (Some c) ≡ true) q l)
 
-  approves_settled : (value : Option (List ℕ)) (o : Option Running) → st.running ≡ o → Settled (approved st v i value o)
-  unfolding approved
+  approves_settled : (value : Option (List ℕ)) (o : Option Running) → st.running ≡ o → Settled (approve st v i value o)
+  unfolding approve
   approves_settled value None e = idle_settled st e
   approves_settled value (Some run) e =
       let t : GroupState = record st { running = None } in
-      idle_settled (valued (effect t run.proposal) v i (newer value run.proposed)) ((valued_same (effect t run.proposal) v i (newer value run.proposed)).1 ∙ (effect_same t run.proposal).1)
+      idle_settled (take_value (effect t run.proposal) v i (replace_proposed value run.proposed)) ((valued_same (effect t run.proposal) v i (replace_proposed value run.proposed)).1 ∙ (effect_same t run.proposal).1)
 
-  rejects_settled : (o : Option Running) → st.running ≡ o → Settled (rejected st o)
-  unfolding rejected
+  rejects_settled : (o : Option Running) → st.running ≡ o → Settled (reject st o)
+  unfolding reject
   rejects_settled None e = idle_settled st e
-  rejects_settled (Some run) e = let t : GroupState = record st { running = None } in idle_settled (rejected_of t run.proposal) (rejected_same t run.proposal).1
+  rejects_settled (Some run) e = let t : GroupState = record st { running = None } in idle_settled (take_rejection t run.proposal) (rejected_same t run.proposal).1
 
   goes_settled : (value : Option (List ℕ)) (o : Option Running) → st.running ≡ o → Settled st → Settled (next_phase st value o)
-  unfolding next_phase advanced
+  unfolding next_phase advance
   goes_settled value None e k = k
   goes_settled value (Some run) e k =
       λ r c a q p z. (let same : run.proposal ≡ r.proposal = cc in k run c a e (ap reflected_by same ∙ p) z)
 
-  applied_settled : (e : Entry) → OfBegun (Rises st) e → Settled st → Settled (applied st v i e)
-  unfolding applied
-  applied_settled (Once x) up k = idle_settled (applied st v i (Once x)) (once_same st v i x).1
+  applied_settled : (e : Entry) → OfBegun (Rises st) e → Settled st → Settled (apply st v i e)
+  unfolding apply
+  applied_settled (Once x) up k = idle_settled (apply st v i (Once x)) (once_same st v i x).1
   applied_settled (Begin x) up k = begins_settled x up
   applied_settled (Phase c) up k = goes_settled c.value st.running refl k
   applied_settled (Approve c) up k = approves_settled c.value st.running refl

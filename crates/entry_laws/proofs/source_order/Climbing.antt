@@ -3,19 +3,19 @@ use Rattle.std.proofs.Common.{◌≡◌, ◌⊎◌, ℕ, Option, Some, None, Boo
 use Rattle.std.specs.Prelude.{List, is_none, ◌&&◌, ◌||◌, nat_lt}
 use Rattle.std.proofs.lemmas.Bool.{and_parts}
 use Rattle.std.proofs.lemmas.Bool.Decides.{nat_tests}
-use Rattle.rsct_packet.specs.declared.ids.ViewId.{ViewId}
-use Rattle.rsct_packet.specs.declared.ids.ProtoId.{ProtoId}
-use Rattle.rsct_packet.specs.Ids.{same_view, view_lt, proto_lt, place_lt}
-use Rattle.group_attr.specs.declared.attrs.Attrs.{Attrs}
-use Rattle.proposal_core.specs.declared.proposal.Proposal.{Proposal}
-use Rattle.proposal_core.specs.declared.proposal.Proposal.TheVariants.{Join, Leave, Fail, Expel, State, Message, Attributes, Reflect}
-use Rattle.proposal_core.specs.declared.entry.Entry.{Entry}
-use Rattle.proposal_core.specs.declared.entry.Entry.TheVariants.{Once, Begin, Phase, Approve, Reject, Late}
-use Rattle.proposal_core.specs.declared.group_state.GroupState.{GroupState}
-use Rattle.proposal_core.specs.declared.group_state.Running.{Running}
-use Rattle.proposal_core.specs.Fold.{can_begin, fits, without, effect, first_value, first_attrs, with_attrs, begun, newer, valued, approved, rejected_of, rejected, advanced, next_phase, applied, after_if, after}
-use Rattle.run_safety.specs.ViewOrder.{is_before, is_same, Lt}
-use Rattle.run_safety.proofs.Order.{lt_trans, eq_true, eq_same}
+use Rattle.row_laws.specs.rsct_packet.declared.ids.ViewId.{ViewId}
+use Rattle.row_laws.specs.rsct_packet.declared.ids.ProtoId.{ProtoId}
+use Rattle.row_laws.specs.rsct_packet.Ids.{same_view, view_lt, proto_lt, place_lt}
+use Rattle.row_laws.specs.group_attr.declared.attrs.Attrs.{Attrs}
+use Rattle.row_laws.specs.proposal_core.declared.proposal.Proposal.{Proposal}
+use Rattle.row_laws.specs.proposal_core.declared.proposal.Proposal.TheVariants.{Join, Leave, Fail, Expel, State, Message, Attributes, Reflect}
+use Rattle.row_laws.specs.proposal_core.declared.entry.Entry.{Entry}
+use Rattle.row_laws.specs.proposal_core.declared.entry.Entry.TheVariants.{Once, Begin, Phase, Approve, Reject, Late}
+use Rattle.row_laws.specs.proposal_core.declared.group_state.GroupState.{GroupState}
+use Rattle.row_laws.specs.proposal_core.declared.group_state.Running.{Running}
+use Rattle.row_laws.specs.proposal_core.Fold.{can_begin, fits, without, effect, first_value, first_attrs, take_attrs, begun, replace_proposed, take_value, approve, take_rejection, reject, advance, next_phase, apply, after_if, after}
+use Rattle.row_laws.specs.run_safety.ViewOrder.{is_before, is_same, Lt}
+use Rattle.row_laws.proofs.run_safety_laws.Order.{lt_trans, eq_true, eq_same}
 use Rattle.entry_laws.specs.source_order.Sources.{OfBegun, Rises, reflected_by, reflects}
 
 -- ---- the order of places
@@ -89,13 +89,13 @@ PassedIn a st = Passed a st.running st.reflected_at
 
 -- ---- what the fold makes of the reflected place
 
-pub attrs_place : (st : GroupState) (o : Option Attrs) → (with_attrs st o).reflected_at ≡ st.reflected_at
-unfolding with_attrs
+pub attrs_place : (st : GroupState) (o : Option Attrs) → (take_attrs st o).reflected_at ≡ st.reflected_at
+unfolding take_attrs
 attrs_place st None = refl
 attrs_place st (Some a) = refl
 
-pub valued_same : (st : GroupState) (v : ViewId) (i : ℕ) (o : Option (List ℕ)) → ((valued st v i o).reflected_at ≡ st.reflected_at) × ((valued st v i o).running ≡ st.running)
-unfolding valued
+pub valued_same : (st : GroupState) (v : ViewId) (i : ℕ) (o : Option (List ℕ)) → ((take_value st v i o).reflected_at ≡ st.reflected_at) × ((take_value st v i o).running ≡ st.running)
+unfolding take_value
 valued_same st v i None = (refl, refl)
 valued_same st v i (Some value) = (refl, refl)
 
@@ -115,8 +115,8 @@ effect_same st (Message p r bytes) = (refl, refl)
 effect_same st (Attributes p r attrs) = (refl, refl)
 effect_same st (Reflect v i value) = (refl, refl)
 
-pub rejected_same : (st : GroupState) (x : Proposal) → ((rejected_of st x).reflected_at ≡ place_after (reflected_by x) st.reflected_at) × ((rejected_of st x).running ≡ st.running)
-unfolding rejected_of without
+pub rejected_same : (st : GroupState) (x : Proposal) → ((take_rejection st x).reflected_at ≡ place_after (reflected_by x) st.reflected_at) × ((take_rejection st x).running ≡ st.running)
+unfolding take_rejection without
 rejected_same st (Join ps attrs n) = (refl, refl)
 rejected_same st (Leave p r) = (refl, refl)
 rejected_same st (Fail out) = (refl, refl)
@@ -130,12 +130,12 @@ begun_same : (st : GroupState) (v : ViewId) (i : ℕ) (x : Proposal) → (begun 
 unfolding begun
 begun_same st v i x = attrs_place st (first_attrs st x)
 
-pub once_same : (st : GroupState) (v : ViewId) (i : ℕ) (x : Proposal) → ((applied st v i (Once x)).reflected_at ≡ place_after (reflected_by x) st.reflected_at) × ((applied st v i (Once x)).running ≡ None)
-unfolding applied approved begun
+pub once_same : (st : GroupState) (v : ViewId) (i : ℕ) (x : Proposal) → ((apply st v i (Once x)).reflected_at ≡ place_after (reflected_by x) st.reflected_at) × ((apply st v i (Once x)).running ≡ None)
+unfolding apply approve begun
 once_same st v i x =
     let t : GroupState = record (begun st v i x) { running = None } in
     let k = effect_same t x in
-    let o : Option (List ℕ) = newer None (first_value x) in
+    let o : Option (List ℕ) = replace_proposed None (first_value x) in
     let z = valued_same (effect t x) v i o in
     (z.0 ∙ k.0 ∙ ap (place_after (reflected_by x)) (attrs_place st (first_attrs st x)), z.1 ∙ k.1)
 
@@ -196,34 +196,34 @@ module _ (a : ProtoId) (st : GroupState) (v : ViewId) (i : ℕ) where
           let p : x ≡ r.proposal = cc in
           inr (reached_then a st.reflected_at c (done_idle a st idle k) (rises_place st x c (ap reflected_by p ∙ q) up))
 
-  once_passed : (x : Proposal) → st.running ≡ None → Rises st x → PassedIn a st → PassedIn a (applied st v i (Once x))
+  once_passed : (x : Proposal) → st.running ≡ None → Rises st x → PassedIn a st → PassedIn a (apply st v i (Once x))
   once_passed x idle up k =
       let z = once_same st v i x in
-      passed_is a (applied st v i (Once x)) None (place_after (reflected_by x) st.reflected_at) z.1 z.0 (ended a (place_after (reflected_by x) st.reflected_at) (by (reflected_by x) refl))
+      passed_is a (apply st v i (Once x)) None (place_after (reflected_by x) st.reflected_at) z.1 z.0 (ended a (place_after (reflected_by x) st.reflected_at) (by (reflected_by x) refl))
     where
       by : (o : Option ProtoId) → reflected_by x ≡ o → Reached a (place_after o st.reflected_at)
       by None q = done_idle a st idle k
       by (Some c) q = inr (reached_then a st.reflected_at c (done_idle a st idle k) (rises_place st x c q up))
 
-  approves_passed : (value : Option (List ℕ)) (o : Option Running) → st.running ≡ o → PassedIn a st → PassedIn a (approved st v i value o)
-  unfolding approved
+  approves_passed : (value : Option (List ℕ)) (o : Option Running) → st.running ≡ o → PassedIn a st → PassedIn a (approve st v i value o)
+  unfolding approve
   approves_passed value None e k = k
   approves_passed value (Some run) e k =
       let t : GroupState = record st { running = None } in
       let z = effect_same t run.proposal in
-      let y = valued_same (effect t run.proposal) v i (newer value run.proposed) in
-      passed_is a (valued (effect t run.proposal) v i (newer value run.proposed)) None (place_after (reflected_by run.proposal) st.reflected_at) (y.1 ∙ z.1) (y.0 ∙ z.0) (ended a (place_after (reflected_by run.proposal) st.reflected_at) (ends_place run e k))
+      let y = valued_same (effect t run.proposal) v i (replace_proposed value run.proposed) in
+      passed_is a (take_value (effect t run.proposal) v i (replace_proposed value run.proposed)) None (place_after (reflected_by run.proposal) st.reflected_at) (y.1 ∙ z.1) (y.0 ∙ z.0) (ended a (place_after (reflected_by run.proposal) st.reflected_at) (ends_place run e k))
 
-  rejects_passed : (o : Option Running) → st.running ≡ o → PassedIn a st → PassedIn a (rejected st o)
-  unfolding rejected
+  rejects_passed : (o : Option Running) → st.running ≡ o → PassedIn a st → PassedIn a (reject st o)
+  unfolding reject
   rejects_passed None e k = k
   rejects_passed (Some run) e k =
       let t : GroupState = record st { running = None } in
       let z = rejected_same t run.proposal in
-      passed_is a (rejected_of t run.proposal) None (place_after (reflected_by run.proposal) st.reflected_at) z.1 z.0 (ended a (place_after (reflected_by run.proposal) st.reflected_at) (ends_place run e k))
+      passed_is a (take_rejection t run.proposal) None (place_after (reflected_by run.proposal) st.reflected_at) z.1 z.0 (ended a (place_after (reflected_by run.proposal) st.reflected_at) (ends_place run e k))
 
   goes_on : (value : Option (List ℕ)) (o : Option Running) → st.running ≡ o → PassedIn a st → PassedIn a (next_phase st value o)
-  unfolding next_phase advanced
+  unfolding next_phase advance
   goes_on value None e k = k
   goes_on value (Some run) e k =
       record {
@@ -231,16 +231,16 @@ module _ (a : ProtoId) (st : GroupState) (v : ViewId) (i : ℕ) where
         done = by k.done;
       }
     where
-      by : Reached a st.reflected_at ⊎ ((r : Running) × (st.running ≡ Some r) × (reflected_by r.proposal ≡ Some a)) → Reached a st.reflected_at ⊎ ((r : Running) × (Some (advanced value run) ≡ Some r) × (reflected_by r.proposal ≡ Some a))
+      by : Reached a st.reflected_at ⊎ ((r : Running) × (st.running ≡ Some r) × (reflected_by r.proposal ≡ Some a)) → Reached a st.reflected_at ⊎ ((r : Running) × (Some (advance value run) ≡ Some r) × (reflected_by r.proposal ≡ Some a))
       by (inl z) = inl z
       by (inr z) =
           let same : Some z.0 ≡ Some run = sym z.1 ∙ e in
           let r : z.0 ≡ run = cc in
-          inr (advanced value run, refl, ap (λ (y : Running). reflected_by y.proposal) (sym r) ∙ z.2)
+          inr (advance value run, refl, ap (λ (y : Running). reflected_by y.proposal) (sym r) ∙ z.2)
 
   -- it stays passed
-  stays_passed : (e : Entry) → fits st e ≡ true → OfBegun (Rises st) e → PassedIn a st → PassedIn a (applied st v i e)
-  unfolding applied fits
+  stays_passed : (e : Entry) → fits st e ≡ true → OfBegun (Rises st) e → PassedIn a st → PassedIn a (apply st v i e)
+  unfolding apply fits
   stays_passed (Once x) f up k = once_passed x (idle_fits st x f) up k
   stays_passed (Begin x) f up k = begins_passed x (idle_fits st x f) up k
   stays_passed (Phase c) f up k = goes_on c.value st.running refl k
@@ -253,11 +253,11 @@ module _ (a : ProtoId) (st : GroupState) (v : ViewId) (i : ℕ) where
   still_passed e f up k = subst (λ b. PassedIn a (after_if st v i e b)) (sym f) (stays_passed e f up k)
 
   -- as it begins
-  starts_passed : (e : Entry) → fits st e ≡ true → reflects e ≡ Some a → PassedIn a (applied st v i e)
-  unfolding applied begun
+  starts_passed : (e : Entry) → fits st e ≡ true → reflects e ≡ Some a → PassedIn a (apply st v i e)
+  unfolding apply begun
   starts_passed (Once x) f q =
       let z = once_same st v i x in
-      passed_is a (applied st v i (Once x)) None (Some a) z.1 (z.0 ∙ ap (λ o. place_after o st.reflected_at) q) (ended a (Some a) (inl refl))
+      passed_is a (apply st v i (Once x)) None (Some a) z.1 (z.0 ∙ ap (λ o. place_after o st.reflected_at) q) (ended a (Some a) (inl refl))
   starts_passed (Begin x) f q =
       passed_is a (begun st v i x) (Some (record { proto = record { view = v; place = i }; proposal = x; phase = 1; proposed = first_value x })) st.reflected_at refl (attrs_place st (first_attrs st x)) (record { runs = λ r e c p. runs r e c p; done = inr (record { proto = record { view = v; place = i }; proposal = x; phase = 1; proposed = first_value x }, refl, q) })
     where

@@ -1,20 +1,20 @@
 -- What a leader decides.
 use Rattle.std.proofs.Common.{ℕ, List, Option, Some, None}
-use Rattle.rsct_packet.specs.declared.ids.ProviderId.{ProviderId}
-use Rattle.rsct_packet.specs.Search.{Has}
-use Rattle.group_attr.specs.declared.attrs.Attrs.{Attrs}
-use Rattle.group_attr.specs.declared.attrs.Phases.{Phases}
-use Rattle.proposal_core.specs.declared.proposal.Proposal.{Proposal}
-use Rattle.proposal_core.specs.declared.proposal.Proposal.TheVariants.{Join, Leave, Fail, Expel, State, Message, Attributes, Reflect}
-use Rattle.batch_rules.specs.Waiting.{waits_join}
-use Rattle.client_callbacks.specs.declared.told.Why.{Why}
-use Rattle.node_state.specs.declared.packet.Body.TheVariants as body
-use Rattle.node_state.specs.declared.state.Core.{Core}
-use Rattle.node_state.specs.State.{state_of, decisions_with}
-use Rattle.node_state.specs.HandOn.{Answering}
-use Rattle.node_state.specs.Deciding.{decision_kept, refused, is_idle_empty, join_refusal, attrs_kept, join_waits, decided_join, other_refusal, decided_other, decided}
-use Rattle.run_safety.specs.Past.{History}
-use Rattle.run_safety.specs.Requests.{requests_of}
+use Rattle.row_laws.specs.rsct_packet.declared.ids.ProviderId.{ProviderId}
+use Rattle.row_laws.specs.rsct_packet.Search.{Has}
+use Rattle.row_laws.specs.group_attr.declared.attrs.Attrs.{Attrs}
+use Rattle.row_laws.specs.group_attr.declared.attrs.Phases.{Phases}
+use Rattle.row_laws.specs.proposal_core.declared.proposal.Proposal.{Proposal}
+use Rattle.row_laws.specs.proposal_core.declared.proposal.Proposal.TheVariants.{Join, Leave, Fail, Expel, State, Message, Attributes, Reflect}
+use Rattle.row_laws.specs.batch_rules.Waiting.{waits_join}
+use Rattle.row_laws.specs.client_callbacks.declared.told.Why.{Why}
+use Rattle.row_laws.specs.node_state.declared.packet.Body.TheVariants as body
+use Rattle.row_laws.specs.node_state.declared.state.Core.{Core}
+use Rattle.row_laws.specs.node_state.State.{state_of, decisions_with}
+use Rattle.row_laws.specs.node_state.HandOn.{Answering}
+use Rattle.row_laws.specs.node_state.Deciding.{keep_decision, refused, is_idle_empty, join_refusal, keep_attrs, wait_join, decide_join, other_refusal, decide_change, decided}
+use Rattle.row_laws.specs.run_safety.Past.{History}
+use Rattle.row_laws.specs.run_safety.Requests.{requests_of}
 use Rattle.entry_laws.proofs.closing_rows.Calms.{calm_sent}
 use Rattle.entry_laws.proofs.source_order.At.{Plain, plain_well, At, at_calm}
 use Rattle.entry_laws.proofs.source_order.Leading.{at_led, at_begins}
@@ -23,24 +23,24 @@ module _ (h : History) (P : Type 0) where
   abbrev Full : Core → Type 0
   Full s = At h P s
 
-  pub at_decision : (s : Core) (g : List ℕ) (p : ProviderId) (r : ℕ) (y : Option Why) → Full s → Full (decision_kept s g p r y)
-  unfolding decision_kept
+  pub at_decision : (s : Core) (g : List ℕ) (p : ProviderId) (r : ℕ) (y : Option Why) → Full s → Full (keep_decision s g p r y)
+  unfolding keep_decision
   at_decision s g p r y a = at_led h P s g (λ l. record l { decided = decisions_with (record { p = p; r = r; why = y }) l.decided }) a
 
   pub at_refused : (s : Core) (g : List ℕ) (p : ProviderId) (r : ℕ) (y : Why) → Full s → Full (refused s g p r y)
   unfolding refused
-  at_refused s g p r y a = at_calm h P (decision_kept s g p r (Some y)) _ (calm_sent (decision_kept s g p r (Some y)) p.node (body.Tell s.views.view g p r y)) (at_decision s g p r (Some y) a)
+  at_refused s g p r y a = at_calm h P (keep_decision s g p r (Some y)) _ (calm_sent (keep_decision s g p r (Some y)) p.node (body.Tell s.views.view g p r y)) (at_decision s g p r (Some y) a)
 
-  at_decided_join : (s : Core) (g : List ℕ) (p : ProviderId) (r : ℕ) (attrs : Attrs) (o : Option Why) → Full s → Full (decided_join s g p r attrs o)
-  unfolding decided_join join_waits
+  at_decided_join : (s : Core) (g : List ℕ) (p : ProviderId) (r : ℕ) (attrs : Attrs) (o : Option Why) → Full s → Full (decide_join s g p r attrs o)
+  unfolding decide_join wait_join
   at_decided_join s g p r attrs None a =
-      at_led h P (decision_kept s g p r None) g (λ l. record l { waiting = waits_join p l.waiting; join_attrs = attrs_kept l.join_attrs p attrs (is_idle_empty (state_of s g)) }) (at_decision s g p r None a)
+      at_led h P (keep_decision s g p r None) g (λ l. record l { waiting = waits_join p l.waiting; join_attrs = keep_attrs l.join_attrs p attrs (is_idle_empty (state_of s g)) }) (at_decision s g p r None a)
   at_decided_join s g p r attrs (Some y) a = at_refused s g p r y a
 
-  at_decided_other : (f : Answering) (s : Core) (g : List ℕ) (p : ProviderId) (r : ℕ) (phases : Phases) (x : Proposal) (o : Option Why) → Plain x → Full s → Full (decided_other f s g p r phases x o)
-  unfolding decided_other
+  at_decided_other : (f : Answering) (s : Core) (g : List ℕ) (p : ProviderId) (r : ℕ) (phases : Phases) (x : Proposal) (o : Option Why) → Plain x → Full s → Full (decide_change f s g p r phases x o)
+  unfolding decide_change
   at_decided_other f s g p r phases x None plain a =
-      let c : Core = decision_kept s g p r None in at_begins h P f c g x phases (plain_well _ _ g _ _ x plain) (at_decision s g p r None a)
+      let c : Core = keep_decision s g p r None in at_begins h P f c g x phases (plain_well _ _ g _ _ x plain) (at_decision s g p r None a)
   at_decided_other f s g p r phases x (Some y) plain a = at_refused s g p r y a
 
   -- nobody asks for a reflection

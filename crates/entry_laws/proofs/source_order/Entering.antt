@@ -3,41 +3,41 @@ use Rattle.std.proofs.Common.{ℕ, List, [], ◌∷◌, ◌++◌, Option, Some, 
 use Rattle.std.specs.Prelude.{◌==◌, ◌&&◌, not, map, filter, fold, flat_map, reverse, is_some}
 use Rattle.std.specs.Str.{bytes_eq}
 use Rattle.std.proofs.lemmas.List.{reverse-append}
-use Rattle.rsct_packet.specs.declared.ids.ViewId.{ViewId}
-use Rattle.rsct_packet.specs.declared.ids.ProviderId.{ProviderId}
-use Rattle.rsct_packet.specs.Providers.{among}
-use Rattle.rsct_packet.specs.Search.{Has}
-use Rattle.rsct_packet.proofs.HasLaws.{has_append}
-use Rattle.group_attr.specs.Attrs.{host_membership}
-use Rattle.proposal_core.specs.declared.proposal.Cause.TheVariants.{Died}
-use Rattle.proposal_core.specs.Fold.{present}
-use Rattle.proposal_core.specs.Lists.{state_in}
-use Rattle.batch_rules.specs.Waiting.{waits_failure}
-use Rattle.subscribe_core.specs.declared.subs.Subscription.{Subscription}
-use Rattle.client_callbacks.specs.declared.told.Told.TheVariants as told
-use Rattle.client_callbacks.specs.declared.told.Why.TheVariants.{Dissolved}
-use Rattle.session_state.specs.declared.state.Provider.{Provider}
-use Rattle.session_state.specs.State.{provider_of, outstanding}
-use Rattle.session_state.specs.HandOn.{telling_taken}
-use Rattle.view_state.specs.declared.install.Install.{Install}
-use Rattle.view_state.specs.declared.install.Base.{Base}
-use Rattle.view_state.specs.Bases.{bases_of, base_named}
-use Rattle.view_state.specs.declared.packet.ViewPacket.TheVariants as packet
-use Rattle.view_state.specs.declared.packet.ViewSend.{ViewSend}
-use Rattle.view_state.specs.declared.views.ViewWork.{ViewWork}
-use Rattle.view_state.specs.Views.{own_install, views_entered}
-use Rattle.node_state.specs.declared.group.GroupRow.{GroupRow}
-use Rattle.node_state.specs.declared.happened.Happened.{Happened}
-use Rattle.node_state.specs.declared.happened.Happened.TheVariants as happened
-use Rattle.node_state.specs.declared.packet.Body.TheVariants as body
-use Rattle.node_state.specs.declared.state.Core.{Core}
-use Rattle.node_state.specs.State.{state_of, held_rows, recorded_all, with_sessions, led_groups}
-use Rattle.node_state.specs.Sending.{sent, requests_sent, votes_sent_again}
-use Rattle.node_state.specs.HandOn.{Answering, subscriber_name, note_of}
-use Rattle.node_state.specs.Leading.{with_waiting, tally_opened}
-use Rattle.node_state.specs.Applying.{Lacking, lacking, lists_filled, level_set, base_record, view_entered, is_in_base, number_of, dissolved, dissolved_if, group_dissolved, sides_dissolved, base_note, entering_note, entering_noted, taken_sent, owed_sent, failed_wait, phase_reopened, group_led, groups_led, entered, entered_if, install_applied, views_taken}
-use Rattle.run_safety.specs.Past.{History}
-use Rattle.step_ties.proofs.BaseOrder.{base_noted}
+use Rattle.row_laws.specs.rsct_packet.declared.ids.ViewId.{ViewId}
+use Rattle.row_laws.specs.rsct_packet.declared.ids.ProviderId.{ProviderId}
+use Rattle.row_laws.specs.rsct_packet.Providers.{among}
+use Rattle.row_laws.specs.rsct_packet.Search.{Has}
+use Rattle.row_laws.proofs.rsct_packet_laws.HasLaws.{has_append}
+use Rattle.row_laws.specs.group_attr.Attrs.{host_membership}
+use Rattle.row_laws.specs.proposal_core.declared.proposal.Cause.TheVariants.{Died}
+use Rattle.row_laws.specs.proposal_core.Fold.{present}
+use Rattle.row_laws.specs.proposal_core.Lists.{state_in}
+use Rattle.row_laws.specs.batch_rules.Waiting.{add_failure}
+use Rattle.row_laws.specs.subscribe_core.declared.subs.Subscription.{Subscription}
+use Rattle.row_laws.specs.client_callbacks.declared.told.Told.TheVariants as told
+use Rattle.row_laws.specs.client_callbacks.declared.told.Why.TheVariants.{Dissolved}
+use Rattle.row_laws.specs.session_state.declared.state.Provider.{Provider}
+use Rattle.row_laws.specs.session_state.State.{provider_of, outstanding}
+use Rattle.row_laws.specs.session_state.HandOn.{take_telling}
+use Rattle.row_laws.specs.view_state.declared.install.Install.{Install}
+use Rattle.row_laws.specs.view_state.declared.install.Base.{Base}
+use Rattle.row_laws.specs.view_state.Bases.{bases_of, base_named}
+use Rattle.row_laws.specs.view_state.declared.packet.ViewPacket.TheVariants as packet
+use Rattle.row_laws.specs.view_state.declared.packet.ViewSend.{ViewSend}
+use Rattle.row_laws.specs.view_state.declared.views.ViewWork.{ViewWork}
+use Rattle.row_laws.specs.view_state.Views.{own_install, views_entered}
+use Rattle.row_laws.specs.node_state.declared.group.GroupRow.{GroupRow}
+use Rattle.row_laws.specs.node_state.declared.happened.Happened.{Happened}
+use Rattle.row_laws.specs.node_state.declared.happened.Happened.TheVariants as happened
+use Rattle.row_laws.specs.node_state.declared.packet.Body.TheVariants as body
+use Rattle.row_laws.specs.node_state.declared.state.Core.{Core}
+use Rattle.row_laws.specs.node_state.State.{state_of, held_rows, recorded_all, with_sessions, led_groups}
+use Rattle.row_laws.specs.node_state.Sending.{sent, send_requests, send_votes_again}
+use Rattle.row_laws.specs.node_state.HandOn.{Answering, subscriber_name, note_of}
+use Rattle.row_laws.specs.node_state.Leading.{with_waiting, tally_opened}
+use Rattle.row_laws.specs.node_state.Applying.{Lacking, lacking, fill_lists, level_set, base_record, view_entered, is_in_base, number_of, dissolved, dissolved_if, group_dissolved, sides_dissolved, base_note, entering_note, entering_noted, taken_sent, owed_sent, wait_failed, phase_reopened, lead, lead_groups, entered, entered_if, apply_install, views_taken}
+use Rattle.row_laws.specs.run_safety.Past.{History}
+use Rattle.row_laws.proofs.step_refinement_laws.BaseOrder.{base_noted}
 use Rattle.entry_laws.proofs.closing_rows.At.{Silent, calm_fold}
 use Rattle.entry_laws.proofs.closing_rows.Calms.{calm_sent, calm_sessions, owed_calm}
 use Rattle.entry_laws.proofs.source_order.At.{Facts, At, at_fold, at_calm, at_recorded, at_recorded_all}
@@ -70,7 +70,7 @@ module _ (h : History) where
   at_dissolved : (s : Core) (p : ProviderId) (r : ℕ) → Full s → Full (dissolved s p r)
   unfolding dissolved
   at_dissolved s p r a =
-      at_recorded h ⊥ (with_sessions s (telling_taken s.sessions p r Dissolved)) (happened.Told p r Dissolved) tt (at_calm h ⊥ s (with_sessions s (telling_taken s.sessions p r Dissolved)) (calm_sessions s (telling_taken s.sessions p r Dissolved)) a)
+      at_recorded h ⊥ (with_sessions s (take_telling s.sessions p r Dissolved)) (happened.Told p r Dissolved) tt (at_calm h ⊥ s (with_sessions s (take_telling s.sessions p r Dissolved)) (calm_sessions s (take_telling s.sessions p r Dissolved)) a)
 
   at_dissolved_if : (s : Core) (g : List ℕ) (old : ViewId) (b : Option Base) (o : Option Provider) → Full s → Full (dissolved_if s g old b o)
   unfolding dissolved_if
@@ -125,37 +125,37 @@ module _ (h : History) where
 
   at_owed_sent : (s : Core) → Full s → Full (owed_sent s)
   unfolding owed_sent
-  at_owed_sent s a = at_calm h ⊥ s (votes_sent_again (requests_sent s)) (owed_calm s) a
+  at_owed_sent s a = at_calm h ⊥ s (send_votes_again (send_requests s)) (owed_calm s) a
 
   -- (7)
-  at_group_led : (f : Answering) (s : Core) (g : List ℕ) → Full s → Full (group_led f s g)
-  unfolding group_led failed_wait phase_reopened
+  at_group_led : (f : Answering) (s : Core) (g : List ℕ) → Full s → Full (lead f s g)
+  unfolding lead wait_failed phase_reopened
   at_group_led f s g a = by (is_some (state_of s g).running)
     where
       t : Core
-      t = failed_wait s g (filter (among (state_of s g).members) (state_of s g).failed)
+      t = wait_failed s g (filter (among (state_of s g).members) (state_of s g).failed)
 
       waits : Full t
       waits =
-          at_fold h ⊥ (λ t p. with_waiting t g (waits_failure p Died)) (filter (among (state_of s g).members) (state_of s g).failed) (λ t p i k. at_waits h ⊥ t g (waits_failure p Died) k) s a
+          at_fold h ⊥ (λ t p. with_waiting t g (add_failure p Died)) (filter (among (state_of s g).members) (state_of s g).failed) (λ t p i k. at_waits h ⊥ t g (add_failure p Died) k) s a
 
       by : (b : Bool) → Full (phase_reopened f t g b)
       by false = waits
       by true = at_closes h ⊥ f (tally_opened t g) g (at_tally_opened h ⊥ t g waits)
 
   at_entered : (f : Answering) (s : Core) (i : Install) (xs : List Lacking) → Full (entered f s i xs)
-  unfolding entered groups_led
+  unfolding entered lead_groups
   at_entered f s i xs =
-      let t : Core = lists_filled f s xs in
+      let t : Core = fill_lists f s xs in
       let bs : List Base = bases_of i in
       let v : Core = view_entered t i bs in
       let d : Core = sides_dissolved v (held_rows t) t.views.view bs in
       let e : Full d = at_sides v (held_rows t) t.views.view bs (at_view_entered t i) in
       let u : Core = owed_sent (taken_sent (entering_noted d bs)) in
-      at_fold h ⊥ (group_led f) (led_groups u) (λ c g i k. at_group_led f c g k) u (at_owed_sent (taken_sent (entering_noted d bs)) (at_taken_sent (entering_noted d bs) (at_entering_noted d bs e)))
+      at_fold h ⊥ (lead f) (led_groups u) (λ c g i k. at_group_led f c g k) u (at_owed_sent (taken_sent (entering_noted d bs)) (at_taken_sent (entering_noted d bs) (at_entering_noted d bs e)))
 
-  at_applied : (f : Answering) (s : Core) (o : Option Install) → Full s → Full (install_applied f s o)
-  unfolding install_applied entered_if
+  at_applied : (f : Answering) (s : Core) (o : Option Install) → Full s → Full (apply_install f s o)
+  unfolding apply_install entered_if
   at_applied f s None a = a
   at_applied f s (Some i) a = by (lacking s i)
     where

@@ -2,34 +2,34 @@
 use Rattle.std.proofs.Common.{◌≡◌, ℕ, List, Option, Some, None, Bool, true, false, refl}
 use Rattle.std.specs.Prelude.{◌==◌, ◌&&◌, reverse, nat_le, nat_lt}
 use Rattle.std.specs.Option.{unwrap_or}
-use Rattle.rsct_packet.specs.declared.ids.ProviderId.{ProviderId}
-use Rattle.rsct_packet.specs.declared.ids.ProtoId.{ProtoId}
-use Rattle.rsct_packet.specs.Providers.{among}
-use Rattle.rsct_packet.specs.Search.{Has}
-use Rattle.group_attr.specs.declared.attrs.Phases.{Phases}
-use Rattle.proposal_core.specs.declared.proposal.Cause.TheVariants.{Gone}
-use Rattle.proposal_core.specs.declared.proposal.Proposal.{Proposal}
-use Rattle.proposal_core.specs.declared.entry.Entry.{Entry}
-use Rattle.proposal_core.specs.declared.entry.Vote.{Vote}
-use Rattle.proposal_core.specs.Fold.{runs, present}
-use Rattle.proposal_core.specs.Lists.{len_in}
-use Rattle.batch_rules.specs.Waiting.{waits_failure, join_dropped}
-use Rattle.vote_phases.specs.Tally.{TallyView, tally_fail}
-use Rattle.name_server.specs.Names as names
-use Rattle.client_callbacks.specs.declared.told.Why.{Why}
-use Rattle.client_callbacks.specs.declared.told.Why.TheVariants.{GroupsFull}
-use Rattle.session_state.specs.declared.state.Request.{Request}
-use Rattle.node_state.specs.declared.group.Decision.{Decision}
-use Rattle.node_state.specs.declared.packet.Body.{Body}
-use Rattle.node_state.specs.declared.packet.Body.TheVariants as body
-use Rattle.node_state.specs.declared.state.Core.{Core}
-use Rattle.node_state.specs.State.{with_led, led_of, state_of, len_of, holds, fits_at_end, forgets_below, coordinates, leads, led_by, acked_raised, decision_of}
-use Rattle.node_state.specs.Sending.{sent, request_sent}
-use Rattle.node_state.specs.HandOn.{Answering}
-use Rattle.node_state.specs.Leading.{put_and_handed, with_waiting, with_tally, closes}
-use Rattle.node_state.specs.Following.{lookup_row, tell_row, requests_of, named, is_name_used, name_row, told_again, request_new, request_after, request_at, is_group_refused, request_row, entry_next, entry_elsewhere, entry_row, acked, ack_row, vote_cast, vote_row, tally_failed, gone_waits, marked, gone_present, gone_of, gone_row}
-use Rattle.run_safety.specs.Past.{History}
-use Rattle.run_safety.specs.Requests as requests
+use Rattle.row_laws.specs.rsct_packet.declared.ids.ProviderId.{ProviderId}
+use Rattle.row_laws.specs.rsct_packet.declared.ids.ProtoId.{ProtoId}
+use Rattle.row_laws.specs.rsct_packet.Providers.{among}
+use Rattle.row_laws.specs.rsct_packet.Search.{Has}
+use Rattle.row_laws.specs.group_attr.declared.attrs.Phases.{Phases}
+use Rattle.row_laws.specs.proposal_core.declared.proposal.Cause.TheVariants.{Gone}
+use Rattle.row_laws.specs.proposal_core.declared.proposal.Proposal.{Proposal}
+use Rattle.row_laws.specs.proposal_core.declared.entry.Entry.{Entry}
+use Rattle.row_laws.specs.proposal_core.declared.entry.Vote.{Vote}
+use Rattle.row_laws.specs.proposal_core.Fold.{runs, present}
+use Rattle.row_laws.specs.proposal_core.Lists.{len_in}
+use Rattle.row_laws.specs.batch_rules.Waiting.{add_failure, drop_join}
+use Rattle.row_laws.specs.vote_phases.Tally.{TallyView, tally_fail}
+use Rattle.row_laws.specs.name_server.Names as names
+use Rattle.row_laws.specs.client_callbacks.declared.told.Why.{Why}
+use Rattle.row_laws.specs.client_callbacks.declared.told.Why.TheVariants.{GroupsFull}
+use Rattle.row_laws.specs.session_state.declared.state.Request.{Request}
+use Rattle.row_laws.specs.node_state.declared.group.Decision.{Decision}
+use Rattle.row_laws.specs.node_state.declared.packet.Body.{Body}
+use Rattle.row_laws.specs.node_state.declared.packet.Body.TheVariants as body
+use Rattle.row_laws.specs.node_state.declared.state.Core.{Core}
+use Rattle.row_laws.specs.node_state.State.{with_led, led_of, state_of, len_of, holds, fits_at_end, forget_below, coordinates, leads, set_leader, acked_raised, decision_of}
+use Rattle.row_laws.specs.node_state.Sending.{sent, send_request}
+use Rattle.row_laws.specs.node_state.HandOn.{Answering}
+use Rattle.row_laws.specs.node_state.Leading.{put_and_hand, with_waiting, with_tally, closes}
+use Rattle.row_laws.specs.node_state.Following.{take_lookup, take_tell, requests_of, named, is_name_used, take_name, tell_again, decide_new, request_after, request_at, is_group_refused, take_request, entry_next, entry_elsewhere, take_entry, acked, take_ack, vote_cast, take_vote, tally_failed, wait_gone, marked, gone_present, gone_of, take_gone}
+use Rattle.row_laws.specs.run_safety.Past.{History}
+use Rattle.row_laws.specs.run_safety.Requests as requests
 use Rattle.entry_laws.proofs.closing_rows.At.{found, calm_fold}
 use Rattle.entry_laws.proofs.closing_rows.Calms.{calm_sent, request_calm}
 use Rattle.entry_laws.proofs.source_order.At.{PutFact, At, at_fold, at_calm}
@@ -46,37 +46,37 @@ module _ (h : History) (P : Type 0) where
 
   -- ---- LOOKUP and NAME
 
-  pub at_lookup : (s : Core) (from : ℕ) (g : List ℕ) → Full s → Full (lookup_row s from g)
-  unfolding lookup_row
+  pub at_lookup : (s : Core) (from : ℕ) (g : List ℕ) → Full s → Full (take_lookup s from g)
+  unfolding take_lookup
   at_lookup s from g a = by (coordinates s)
     where
       t : Core
-      t = record s { names = names.names_after g from s.names }
+      t = record s { names = names.lookup g from s.names }
 
       by : (b : Bool) → Full (elim b as (λ _. Core) [ false ↦ s | true ↦ sent t from (body.Name s.views.view g (unwrap_or (names.looked_up g from s.names) 0)) ])
       by false = a
       by true = at_sent t from (body.Name s.views.view g (unwrap_or (names.looked_up g from s.names) 0)) (at_calm h P s t (record { groups = refl; views = refl; config = refl; records = refl }) a)
 
-  pub at_name : (s : Core) (g : List ℕ) (n : ℕ) → Full s → Full (name_row s g n)
-  unfolding name_row named
+  pub at_name : (s : Core) (g : List ℕ) (n : ℕ) → Full s → Full (take_name s g n)
+  unfolding take_name named
   at_name s g n a = by (n == 0) (is_name_used s g n)
     where
       by : (zero used : Bool) → Full (elim used as (λ _. Core) [ true ↦ named s g n zero | false ↦ s ])
       by zero false = a
-      by true true = at_fold h P (λ t (q : Request). tell_row t q.p q.r (GroupsFull 64)) (requests_of s g) (λ t q i k. at_tell h P t q.p q.r (GroupsFull 64) k) s a
-      by false true = at_calm h P (led_by s g n) _ (calm_fold request_sent request_calm (requests_of s g) (led_by s g n)) (at_led_by h P s g n a)
+      by true true = at_fold h P (λ t (q : Request). take_tell t q.p q.r (GroupsFull 64)) (requests_of s g) (λ t q i k. at_tell h P t q.p q.r (GroupsFull 64) k) s a
+      by false true = at_calm h P (set_leader s g n) _ (calm_fold send_request request_calm (requests_of s g) (set_leader s g n)) (at_led_by h P s g n a)
 
   -- ---- REQUEST
 
-  at_told_again : (s : Core) (g : List ℕ) (p : ProviderId) (r : ℕ) (o : Option Why) → Full s → Full (told_again s g p r o)
-  unfolding told_again
+  at_told_again : (s : Core) (g : List ℕ) (p : ProviderId) (r : ℕ) (o : Option Why) → Full s → Full (tell_again s g p r o)
+  unfolding tell_again
   at_told_again s g p r None a = a
   at_told_again s g p r (Some y) a = at_sent s p.node (body.Tell s.views.view g p r y) a
 
   module _ (f : Answering) (s : Core) (g : List ℕ) (p : ProviderId) (r : ℕ) (phases : Phases) (x : Proposal) (asked : Has (p, r) (requests.requests_of x)) where
-    at_request_new : Full s → Full (request_new f s g p r phases x)
-    unfolding request_new
-    at_request_new a = at_decided h P f (led_by s g s.views.me) g p r phases x asked (at_led_by h P s g s.views.me a)
+    at_request_new : Full s → Full (decide_new f s g p r phases x)
+    unfolding decide_new
+    at_request_new a = at_decided h P f (set_leader s g s.views.me) g p r phases x asked (at_led_by h P s g s.views.me a)
 
     at_request_after : (d : Decision) (b c : Bool) → Full s → Full (request_after f s g p r phases x d b c)
     unfolding request_after
@@ -89,8 +89,8 @@ module _ (h : History) (P : Type 0) where
     at_request_at None a = at_request_new a
     at_request_at (Some d) a = at_request_after d (nat_lt r d.r) (r == d.r) a
 
-    pub at_request : (from : ℕ) → Full s → Full (request_row f s from g p r phases x)
-    unfolding request_row
+    pub at_request : (from : ℕ) → Full s → Full (take_request f s from g p r phases x)
+    unfolding take_request
     at_request from a = by (is_group_refused s g)
       where
         by : (b : Bool) → Full (elim b as (λ _. Core) [ true ↦ sent s from (body.Name s.views.view g 0) | false ↦ request_at f s g p r phases x (decision_of (led_of s g) p) ])
@@ -108,29 +108,29 @@ module _ (h : History) (P : Type 0) where
     unfolding entry_next
     at_next fact false a = a
     at_next fact true a =
-        let t : Core = put_and_handed f s (Some from) g e in
+        let t : Core = put_and_hand f s (Some from) g e in
         let u : Core = sent t from (body.Ack t.views.view g (len_of t g)) in
-        at_forgets h P (led_by u g from) g stable (at_led_by h P u g from (at_sent t from (body.Ack t.views.view g (len_of t g)) (at_put_and_handed h P f s (Some from) g e fact a)))
+        at_forgets h P (set_leader u g from) g stable (at_led_by h P u g from (at_sent t from (body.Ack t.views.view g (len_of t g)) (at_put_and_handed h P f s (Some from) g e fact a)))
 
     at_elsewhere : (b : Bool) → Full s → Full (entry_elsewhere s from g stable b)
     unfolding entry_elsewhere
     at_elsewhere true a = at_forgets h P (sent s from (body.Ack s.views.view g (len_of s g))) g stable (at_sent s from (body.Ack s.views.view g (len_of s g)) a)
     at_elsewhere false a = by (holds s g)
       where
-        by : (b : Bool) → Full (elim b as (λ _. Core) [ true ↦ forgets_below s g stable | false ↦ s ])
+        by : (b : Bool) → Full (elim b as (λ _. Core) [ true ↦ forget_below s g stable | false ↦ s ])
         by true = at_forgets h P s g stable a
         by false = a
 
-    pub at_entry : (place : ℕ) → ((place == len_of s g) ≡ true → Known) → Full s → Full (entry_row f s from g place stable e)
-    unfolding entry_row
+    pub at_entry : (place : ℕ) → ((place == len_of s g) ≡ true → Known) → Full s → Full (take_entry f s from g place stable e)
+    unfolding take_entry
     at_entry place fact a = by (place == len_of s g) refl
       where
         by : (b : Bool) → (place == len_of s g) ≡ b → Full (elim b as (λ _. Core) [ true ↦ entry_next f s from g stable e (fits_at_end s g e) | false ↦ entry_elsewhere s from g stable (nat_lt place (len_of s g)) ])
         by true q = at_next (fact q) (fits_at_end s g e) a
         by false q = at_elsewhere (nat_lt place (len_of s g)) a
 
-  pub at_ack : (s : Core) (from : ℕ) (g : List ℕ) (n : ℕ) → Full s → Full (ack_row s from g n)
-  unfolding ack_row acked
+  pub at_ack : (s : Core) (from : ℕ) (g : List ℕ) (n : ℕ) → Full s → Full (take_ack s from g n)
+  unfolding take_ack acked
   at_ack s from g n a = by (leads s g && nat_le n (len_of s g))
     where
       t : Core
@@ -142,8 +142,8 @@ module _ (h : History) (P : Type 0) where
 
   -- ---- VOTE and GONE
 
-  pub at_vote : (f : Answering) (s : Core) (g : List ℕ) (proto : ProtoId) (phase : ℕ) (p : ProviderId) (v : Vote) (value message : Option (List ℕ)) → Full s → Full (vote_row f s g proto phase p v value message)
-  unfolding vote_row
+  pub at_vote : (f : Answering) (s : Core) (g : List ℕ) (proto : ProtoId) (phase : ℕ) (p : ProviderId) (v : Vote) (value message : Option (List ℕ)) → Full s → Full (take_vote f s g proto phase p v value message)
+  unfolding take_vote
   at_vote f s g proto phase p v value message a = by (leads s g && runs proto phase (state_of s g).running)
     where
       t : Core
@@ -158,12 +158,12 @@ module _ (h : History) (P : Type 0) where
   at_failed f s g p None a = a
   at_failed f s g p (Some t) a = at_closes h P f (with_tally s g (Some (tally_fail p t))) g (at_tally h P s g (Some (tally_fail p t)) a)
 
-  at_gone_waits : (s : Core) (g : List ℕ) (p : ProviderId) → Full s → Full (gone_waits s g p)
-  unfolding gone_waits
+  at_gone_waits : (s : Core) (g : List ℕ) (p : ProviderId) → Full s → Full (wait_gone s g p)
+  unfolding wait_gone
   at_gone_waits s g p a = by (among (state_of s g).members p)
     where
-      by : (b : Bool) → Full (elim b as (λ _. Core) [ true ↦ with_waiting s g (waits_failure p Gone) | false ↦ s ])
-      by true = at_waits h P s g (waits_failure p Gone) a
+      by : (b : Bool) → Full (elim b as (λ _. Core) [ true ↦ with_waiting s g (add_failure p Gone) | false ↦ s ])
+      by true = at_waits h P s g (add_failure p Gone) a
       by false = a
 
   at_gone_present : (f : Answering) (s : Core) (g : List ℕ) (p : ProviderId) → Full s → Full (gone_present f s g p)
@@ -175,11 +175,11 @@ module _ (h : History) (P : Type 0) where
   at_gone_of : (f : Answering) (s : Core) (g : List ℕ) (p : ProviderId) (b c : Bool) → Full s → Full (gone_of f s g p b c)
   unfolding gone_of
   at_gone_of f s g p true c a = at_gone_present f s g p a
-  at_gone_of f s g p false true a = at_waits h P s g (join_dropped p) a
+  at_gone_of f s g p false true a = at_waits h P s g (drop_join p) a
   at_gone_of f s g p false false a = a
 
-  pub at_gone : (f : Answering) (s : Core) (g : List ℕ) (p : ProviderId) → Full s → Full (gone_row f s g p)
-  unfolding gone_row
+  pub at_gone : (f : Answering) (s : Core) (g : List ℕ) (p : ProviderId) → Full s → Full (take_gone f s g p)
+  unfolding take_gone
   at_gone f s g p a = by (leads s g)
     where
       by : (b : Bool) → Full (elim b as (λ _. Core) [ true ↦ gone_of f s g p (among (present (state_of s g)) p) (among (led_of s g).waiting.joins p) | false ↦ s ])

@@ -1,31 +1,31 @@
 -- What the leader of a group does.
 use Rattle.std.proofs.Common.{◌≡◌, ℕ, zero, suc, ◌-◌, max, List, [], drop, Option, Some, None, Bool, true, false, refl, subst, inl}
 use Rattle.std.specs.Prelude.{not, filter, nat_le, reverse, if◌then◌else◌}
-use Rattle.rsct_packet.specs.declared.ids.ProviderId.{ProviderId}
-use Rattle.rsct_packet.specs.Providers.{among}
-use Rattle.group_attr.specs.declared.attrs.Phases.{Phases}
-use Rattle.group_attr.specs.declared.attrs.Phases.TheVariants.{One, Many}
-use Rattle.proposal_core.specs.declared.proposal.Cause.TheVariants.{Died, Gone}
-use Rattle.proposal_core.specs.declared.proposal.Proposal.{Proposal}
-use Rattle.proposal_core.specs.declared.entry.Vote.{Vote}
-use Rattle.proposal_core.specs.declared.entry.Vote.TheVariants as vote
-use Rattle.proposal_core.specs.declared.entry.Entry.{Entry}
-use Rattle.proposal_core.specs.declared.entry.Entry.TheVariants.{Once, Begin, Phase, Approve, Reject, Late}
-use Rattle.proposal_core.specs.declared.group_state.GroupState.{GroupState}
-use Rattle.proposal_core.specs.declared.group_state.Running.{Running}
-use Rattle.proposal_core.specs.Fold.{max_phases}
-use Rattle.proposal_core.specs.GroupView.{GroupView}
-use Rattle.proposal_core.specs.Lists.{len_in, forgotten}
-use Rattle.batch_rules.specs.Waiting.{WaitingView, waits_failure}
-use Rattle.vote_phases.specs.Tally.{TallyView, outcome}
-use Rattle.node_state.specs.declared.group.Led.{Led}
-use Rattle.node_state.specs.declared.packet.Body.TheVariants as body
-use Rattle.node_state.specs.declared.state.Core.{Core}
-use Rattle.node_state.specs.State.{with_led, led_of, state_of, len_of, fits_at_end, list_forgotten, forgets_below, leader_of, others, least_acked, led_by}
-use Rattle.node_state.specs.Sending.{sent_all}
-use Rattle.node_state.specs.HandOn.{Answering, handed_on}
-use Rattle.node_state.specs.Leading.{put, put_and_handed, forgets_least, with_waiting, waits_if, new_members_wait, appended, appended_if, tally_set, with_tally, tally_opened, closing, closing_of, closing_entry, is_phase, closes_from, closes, begun_many, begins}
-use Rattle.run_safety.specs.Past.{History, earlier}
+use Rattle.row_laws.specs.rsct_packet.declared.ids.ProviderId.{ProviderId}
+use Rattle.row_laws.specs.rsct_packet.Providers.{among}
+use Rattle.row_laws.specs.group_attr.declared.attrs.Phases.{Phases}
+use Rattle.row_laws.specs.group_attr.declared.attrs.Phases.TheVariants.{One, Many}
+use Rattle.row_laws.specs.proposal_core.declared.proposal.Cause.TheVariants.{Died, Gone}
+use Rattle.row_laws.specs.proposal_core.declared.proposal.Proposal.{Proposal}
+use Rattle.row_laws.specs.proposal_core.declared.entry.Vote.{Vote}
+use Rattle.row_laws.specs.proposal_core.declared.entry.Vote.TheVariants as vote
+use Rattle.row_laws.specs.proposal_core.declared.entry.Entry.{Entry}
+use Rattle.row_laws.specs.proposal_core.declared.entry.Entry.TheVariants.{Once, Begin, Phase, Approve, Reject, Late}
+use Rattle.row_laws.specs.proposal_core.declared.group_state.GroupState.{GroupState}
+use Rattle.row_laws.specs.proposal_core.declared.group_state.Running.{Running}
+use Rattle.row_laws.specs.proposal_core.Fold.{max_phases}
+use Rattle.row_laws.specs.proposal_core.GroupView.{GroupView}
+use Rattle.row_laws.specs.proposal_core.Lists.{len_in, forgotten}
+use Rattle.row_laws.specs.batch_rules.Waiting.{WaitingView, add_failure}
+use Rattle.row_laws.specs.vote_phases.Tally.{TallyView, outcome}
+use Rattle.row_laws.specs.node_state.declared.group.Led.{Led}
+use Rattle.row_laws.specs.node_state.declared.packet.Body.TheVariants as body
+use Rattle.row_laws.specs.node_state.declared.state.Core.{Core}
+use Rattle.row_laws.specs.node_state.State.{with_led, led_of, state_of, len_of, fits_at_end, list_forgotten, forget_below, leader_of, others, least_acked, set_leader}
+use Rattle.row_laws.specs.node_state.Sending.{send_all}
+use Rattle.row_laws.specs.node_state.HandOn.{Answering, hand_on}
+use Rattle.row_laws.specs.node_state.Leading.{put, put_and_hand, forget_least, with_waiting, wait_if, new_members_wait, appended, append_if_fits, tally_set, with_tally, tally_opened, closing, closing_of, closing_entry, is_phase, closes_from, closes, begin_many, begins}
+use Rattle.row_laws.specs.run_safety.Past.{History, earlier}
 use Rattle.entry_laws.proofs.closing_rows.At.{found}
 use Rattle.entry_laws.proofs.closing_rows.Calms.{calm_all}
 use Rattle.entry_laws.proofs.closing_rows.Leading.{forgotten_state}
@@ -86,8 +86,8 @@ module _ (h : History) where
 
     -- ---- an entry is put
 
-    pub at_put_and_handed : (f : Answering) (s : Core) (to : Option ℕ) (g : List ℕ) (e : Entry) → PutFact (reverse s.records) h s.views.me s.views.view g (len_in (found s g).list) e → Full s → Full (put_and_handed f s to g e)
-    unfolding put_and_handed
+    pub at_put_and_handed : (f : Answering) (s : Core) (to : Option ℕ) (g : List ℕ) (e : Entry) → PutFact (reverse s.records) h s.views.me s.views.view g (len_in (found s g).list) e → Full s → Full (put_and_hand f s to g e)
+    unfolding put_and_hand
     at_put_and_handed f s to g e fact a =
         at_handed h P f (put s g e) to g (len_of s g) (state_of s g) (state_of (put s g e) g) e (at_put h P s g e fact a)
 
@@ -97,44 +97,44 @@ module _ (h : History) where
     at_led s g f a = at_row h P s g (λ row. record row { led = f row.led }) (λ x. refl) (λ x. refl) (λ x. refl) a
 
     -- a leader is known
-    pub at_led_by : (s : Core) (g : List ℕ) (n : ℕ) → Full s → Full (led_by s g n)
-    unfolding led_by
+    pub at_led_by : (s : Core) (g : List ℕ) (n : ℕ) → Full s → Full (set_leader s g n)
+    unfolding set_leader
     at_led_by s g n a = at_row h P s g (λ row. record row { leader = Some n }) (λ x. refl) (λ x. refl) (λ x. refl) a
 
     pub at_waits : (s : Core) (g : List ℕ) (change : WaitingView → WaitingView) → Full s → Full (with_waiting s g change)
     unfolding with_waiting
     at_waits s g change a = at_led s g (λ l. record l { waiting = change l.waiting }) a
 
-    pub at_forgets : (s : Core) (g : List ℕ) (n : ℕ) → Full s → Full (forgets_below s g n)
-    unfolding forgets_below
+    pub at_forgets : (s : Core) (g : List ℕ) (n : ℕ) → Full s → Full (forget_below s g n)
+    unfolding forget_below
     at_forgets s g n a =
         at_row h P s g (λ row. record row { list = list_forgotten n row.list }) (λ x. refl) (λ x. forgotten_state x.list n) (λ x. forgotten_len x.list n) a
 
-    pub at_forgets_least : (s : Core) (g : List ℕ) → Full s → Full (forgets_least s g)
-    unfolding forgets_least
+    pub at_forgets_least : (s : Core) (g : List ℕ) → Full s → Full (forget_least s g)
+    unfolding forget_least
     at_forgets_least s g a = at_forgets s g (least_acked s g) a
 
-    at_waits_if : (s : Core) (g : List ℕ) (p : ProviderId) (a b : Bool) → Full s → Full (waits_if s g p a b)
-    unfolding waits_if
-    at_waits_if s g p true b k = at_waits s g (waits_failure p Died) k
-    at_waits_if s g p false true k = at_waits s g (waits_failure p Gone) k
+    at_waits_if : (s : Core) (g : List ℕ) (p : ProviderId) (a b : Bool) → Full s → Full (wait_if s g p a b)
+    unfolding wait_if
+    at_waits_if s g p true b k = at_waits s g (add_failure p Died) k
+    at_waits_if s g p false true k = at_waits s g (add_failure p Gone) k
     at_waits_if s g p false false k = k
 
     at_new_members : (s : Core) (g : List ℕ) (before after : GroupState) → Full s → Full (new_members_wait s g before after)
     unfolding new_members_wait
     at_new_members s g before after a =
-        at_fold h P (λ t p. waits_if t g p (among after.failed p) (among (led_of s g).gone p)) (filter (λ p. not (among before.members p)) after.members) (λ t p i k. at_waits_if t g p (among after.failed p) (among (led_of s g).gone p) k) s a
+        at_fold h P (λ t p. wait_if t g p (among after.failed p) (among (led_of s g).gone p)) (filter (λ p. not (among before.members p)) after.members) (λ t p i k. at_waits_if t g p (among after.failed p) (among (led_of s g).gone p) k) s a
 
     at_appended : (f : Answering) (s : Core) (g : List ℕ) (e : Entry) → NextWell s g e → Full s → Full (appended f s g e)
     unfolding appended
     at_appended f s g e ok a =
         let t : Core = put s g e in
-        let u : Core = sent_all t (others t) (body.Entry t.views.view g (len_of s g) (least_acked t g) e) in
-        let w : Core = handed_on f u (leader_of u g) g (len_of s g) (state_of s g) (state_of t g) e in
+        let u : Core = send_all t (others t) (body.Entry t.views.view g (len_of s g) (least_acked t g) e) in
+        let w : Core = hand_on f u (leader_of u g) g (len_of s g) (state_of s g) (state_of t g) e in
         let put_at : Full t = at_put h P s g e (inl ok) a in
         let sent_at : Full u = at_calm h P t u (calm_all t (others t) (body.Entry t.views.view g (len_of s g) (least_acked t g) e)) put_at in
         let handed_at : Full w = at_handed h P f u (leader_of u g) g (len_of s g) (state_of s g) (state_of t g) e sent_at in
-        at_new_members (forgets_least w g) g (state_of s g) (state_of t g) (at_forgets_least w g handed_at)
+        at_new_members (forget_least w g) g (state_of s g) (state_of t g) (at_forgets_least w g handed_at)
 
     -- ---- the tally of a phase
 
@@ -175,14 +175,14 @@ module _ (h : History) where
     unfolding closes
     at_closes f s g a = at_closes_from max_phases f s g a
 
-    at_begun_many : (f : Answering) (s : Core) (g : List ℕ) (x : Proposal) (b : Bool) → NextBegun s g x → Full s → Full (begun_many f s g x b)
-    unfolding begun_many
+    at_begun_many : (f : Answering) (s : Core) (g : List ℕ) (x : Proposal) (b : Bool) → NextBegun s g x → Full s → Full (begin_many f s g x b)
+    unfolding begin_many
     at_begun_many f s g x false ok a = a
     at_begun_many f s g x true ok a =
         at_closes f (tally_opened (appended f s g (Begin x)) g) g (at_tally_opened (appended f s g (Begin x)) g (at_appended f s g (Begin x) ok a))
 
-    pub at_appended_if : (f : Answering) (s : Core) (g : List ℕ) (e : Entry) (b : Bool) → NextWell s g e → Full s → Full (appended_if f s g e b)
-    unfolding appended_if
+    pub at_appended_if : (f : Answering) (s : Core) (g : List ℕ) (e : Entry) (b : Bool) → NextWell s g e → Full s → Full (append_if_fits f s g e b)
+    unfolding append_if_fits
     at_appended_if f s g e false ok a = a
     at_appended_if f s g e true ok a = at_appended f s g e ok a
 

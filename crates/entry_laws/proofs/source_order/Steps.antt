@@ -1,26 +1,26 @@
 -- A whole step.
 use Rattle.std.proofs.Common.{◌≡◌, ℕ, List, [], Some, Bool, true, false, refl, sym, subst}
 use Rattle.std.specs.Prelude.{◌==◌}
-use Rattle.rsct_packet.specs.declared.mask.Mask.{Mask}
-use Rattle.rsct_packet.specs.Search.{Has}
-use Rattle.view_state.specs.declared.packet.ViewPacket.{ViewPacket}
-use Rattle.view_state.specs.declared.packet.ViewPacket.TheVariants as view
-use Rattle.view_state.specs.Views.{views_at_work, ask_row, prepare_row, answer_row, refuse_row, install_row, taken_row}
-use Rattle.node_state.specs.declared.packet.Body.{Body}
-use Rattle.node_state.specs.declared.packet.Body.TheVariants as body
-use Rattle.node_state.specs.declared.packet.Packet.{Packet}
-use Rattle.node_state.specs.declared.state.Core.{Core}
-use Rattle.node_state.specs.Settings.{is_fixed}
-use Rattle.node_state.specs.HandOn.{Answering}
-use Rattle.node_state.specs.Following.{lookup_row, name_row, request_row, tell_row, entry_row, ack_row, vote_row, gone_row}
-use Rattle.node_state.specs.Applying.{own_parts, views_taken}
-use Rattle.node_state.specs.Status.{status_text}
-use Rattle.node_state.specs.Ticks.{rings_part, views_part, owed_part, tick_row}
-use Rattle.node_state.specs.Ending.{step_ended}
-use Rattle.node_state.specs.Step.{NodeEvent, Ticks, Asks, Given, Calls, Garbage, is_used, used_if, order_row, view_row, body_row, packet_row, event_row, stepped, at_work}
-use Rattle.step_ties.specs.Tied.{Scene, Begun, Rests, Tied}
-use Rattle.step_ties.specs.Rows.{acted, Arises}
-use Rattle.step_ties.proofs.Begins.{begin_tied}
+use Rattle.row_laws.specs.rsct_packet.declared.mask.Mask.{Mask}
+use Rattle.row_laws.specs.rsct_packet.Search.{Has}
+use Rattle.row_laws.specs.view_state.declared.packet.ViewPacket.{ViewPacket}
+use Rattle.row_laws.specs.view_state.declared.packet.ViewPacket.TheVariants as view
+use Rattle.row_laws.specs.view_state.Views.{views_at_work, ask_row, prepare_row, answer_row, refuse_row, install_row, taken_row}
+use Rattle.row_laws.specs.node_state.declared.packet.Body.{Body}
+use Rattle.row_laws.specs.node_state.declared.packet.Body.TheVariants as body
+use Rattle.row_laws.specs.node_state.declared.packet.Packet.{Packet}
+use Rattle.row_laws.specs.node_state.declared.state.Core.{Core}
+use Rattle.row_laws.specs.node_state.Settings.{is_fixed}
+use Rattle.row_laws.specs.node_state.HandOn.{Answering}
+use Rattle.row_laws.specs.node_state.Following.{take_lookup, take_name, take_request, take_tell, take_entry, take_ack, take_vote, take_gone}
+use Rattle.row_laws.specs.node_state.Applying.{own_parts, views_taken}
+use Rattle.row_laws.specs.node_state.Status.{status_text}
+use Rattle.row_laws.specs.node_state.Ticks.{tick_rings, tick_views, tick_owed, tick_row}
+use Rattle.row_laws.specs.node_state.Ending.{end_step}
+use Rattle.row_laws.specs.node_state.Step.{NodeEvent, Ticks, Asks, Given, Calls, Garbage, is_used, used_if, take_order, view_row, take_body, packet_row, event_row, stepped, at_work}
+use Rattle.row_laws.specs.step_refinement.Tied.{Scene, Begun, Rests, Tied}
+use Rattle.row_laws.specs.step_refinement.Rows.{acted, Arises}
+use Rattle.row_laws.proofs.step_refinement_laws.Begins.{begin_tied}
 use Rattle.entry_laws.proofs.closing_rows.Calms.{calm_on, owed_part_calm}
 use Rattle.entry_laws.proofs.source_order.At.{At, at_calm}
 use Rattle.entry_laws.proofs.source_order.Quiet.{at_tell, at_ring, at_report, at_rings_part, at_call}
@@ -49,27 +49,27 @@ module _ (w : Scene) (n : ℕ) (f : Answering) (s : Core) (all : (h : List ℕ) 
   view_at from inc (view.Install i) = at_views_taken w.before f s (install_row (views_at_work s.views) i) a
   view_at from inc (view.Taken v) = at_views_taken w.before f s (taken_row (views_at_work s.views) from v) a
 
-  body_at : (p : Packet) (b : Body) → p.body ≡ b → Has p w.sent → Full (body_row f s p b)
-  unfolding body_row
+  body_at : (p : Packet) (b : Body) → p.body ≡ b → Has p w.sent → Full (take_body f s p b)
+  unfolding take_body
   body_at p (body.Ring x) is sent = at_ring w.before ⊥ s p.network p.from p.inc x a
   body_at p (body.Report rows) is sent = at_report w.before ⊥ s rows a
   body_at p (body.View y) is sent = view_at p.from p.inc y
-  body_at p (body.Lookup v g) is sent = used (lookup_row s p.from g) (is_used s p v) (λ u. at_lookup w.before ⊥ s p.from g a)
-  body_at p (body.Name v g k) is sent = used (name_row s g k) (is_used s p v) (λ u. at_name w.before ⊥ s g k a)
+  body_at p (body.Lookup v g) is sent = used (take_lookup s p.from g) (is_used s p v) (λ u. at_lookup w.before ⊥ s p.from g a)
+  body_at p (body.Name v g k) is sent = used (take_name s g k) (is_used s p v) (λ u. at_name w.before ⊥ s g k a)
   body_at p (body.Request v g q r phases x) is sent =
-      used (request_row f s p.from g q r phases x) (is_used s p v) (λ u. at_request w.before ⊥ f s g q r phases x (request_carries v g q r phases x w n s p is sent (all g)) p.from a)
-  body_at p (body.Tell v g q r y) is sent = used (tell_row s q r y) (is_used s p v) (λ u. at_tell w.before ⊥ s q r y a)
+      used (take_request f s p.from g q r phases x) (is_used s p v) (λ u. at_request w.before ⊥ f s g q r phases x (request_carries v g q r phases x w n s p is sent (all g)) p.from a)
+  body_at p (body.Tell v g q r y) is sent = used (take_tell s q r y) (is_used s p v) (λ u. at_tell w.before ⊥ s q r y a)
   body_at p (body.Entry v g i k e) is sent =
-      used (entry_row f s p.from g i k e) (is_used s p v) (λ u. at_entry w.before ⊥ f s p.from g k e i (λ at. entry_was_put v g i k e w n s p is sent (all g) u at) a)
-  body_at p (body.Ack v g k) is sent = used (ack_row s p.from g k) (is_used s p v) (λ u. at_ack w.before ⊥ s p.from g k a)
+      used (take_entry f s p.from g i k e) (is_used s p v) (λ u. at_entry w.before ⊥ f s p.from g k e i (λ at. entry_was_put v g i k e w n s p is sent (all g) u at) a)
+  body_at p (body.Ack v g k) is sent = used (take_ack s p.from g k) (is_used s p v) (λ u. at_ack w.before ⊥ s p.from g k a)
   body_at p (body.Vote v g proto phase q ballot value message) is sent =
-      used (vote_row f s g proto phase q ballot value message) (is_used s p v) (λ u. at_vote w.before ⊥ f s g proto phase q ballot value message a)
-  body_at p (body.Gone v g q) is sent = used (gone_row f s g q) (is_used s p v) (λ u. at_gone w.before ⊥ f s g q a)
+      used (take_vote f s g proto phase q ballot value message) (is_used s p v) (λ u. at_vote w.before ⊥ f s g proto phase q ballot value message a)
+  body_at p (body.Gone v g q) is sent = used (take_gone f s g q) (is_used s p v) (λ u. at_gone w.before ⊥ f s g q a)
   body_at p (body.Query question what) is sent = at_calm w.before ⊥ s _ (calm_on s p.network p.from (body.Reply question (status_text s what))) a
   body_at p (body.Reply question text) is sent = a
 
-  order_at : (mask : Mask) → Full (order_row f s mask)
-  unfolding order_row
+  order_at : (mask : Mask) → Full (take_order f s mask)
+  unfolding take_order
   order_at mask = by (is_fixed s.config.mode)
     where
       by : (b : Bool) → Full (elim b as (λ _. Core) [ true ↦ s | false ↦ views_taken f s (ask_row (views_at_work s.views) mask (own_parts s)) ])
@@ -79,18 +79,18 @@ module _ (w : Scene) (n : ℕ) (f : Answering) (s : Core) (all : (h : List ℕ) 
   acted_at : (e : NodeEvent) → Arises w e → Full (acted f s e)
   unfolding packet_row
   acted_at Ticks arises =
-      let t : Core = views_part f (rings_part s) in
-      at_led_part w.before f (owed_part t) (at_calm w.before ⊥ t (owed_part t) (owed_part_calm t) (at_views_part w.before f (rings_part s) (at_rings_part w.before ⊥ s a)))
+      let t : Core = tick_views f (tick_rings s) in
+      at_led_part w.before f (tick_owed t) (at_calm w.before ⊥ t (tick_owed t) (owed_part_calm t) (at_views_part w.before f (tick_rings s) (at_rings_part w.before ⊥ s a)))
   acted_at (Asks mask) arises = order_at mask
   acted_at (Calls c) arises = at_call w.before ⊥ s c a
   acted_at Garbage arises = a
   acted_at (Given p) arises = by (p.to == s.views.me)
     where
-      by : (b : Bool) → Full (elim b as (λ _. Core) [ true ↦ body_row f s p p.body | false ↦ s ])
+      by : (b : Bool) → Full (elim b as (λ _. Core) [ true ↦ take_body f s p p.body | false ↦ s ])
       by false = a
       by true = body_at p p.body refl arises
 
-stepped_is : (f : Answering) (s : Core) (e : NodeEvent) → stepped f s e ≡ step_ended f (acted f (at_work s) e)
+stepped_is : (f : Answering) (s : Core) (e : NodeEvent) → stepped f s e ≡ end_step f (acted f (at_work s) e)
 unfolding stepped event_row tick_row
 stepped_is f s Ticks = refl
 stepped_is f s (Asks mask) = refl

@@ -1,17 +1,17 @@
 -- A tick.
 use Rattle.std.proofs.Common.{ℕ, List, Option, Some, None, Bool, true, false}
 use Rattle.std.specs.Prelude.{◌==◌, ◌&&◌, fold}
-use Rattle.proposal_core.specs.declared.entry.Entry.TheVariants.{Late}
-use Rattle.proposal_core.specs.declared.group_state.Running.{Running}
-use Rattle.vote_phases.specs.Tally.{TallyView, expires, open_voters}
-use Rattle.view_state.specs.Views.{views_at_work, gathering_ticks, install_again}
-use Rattle.node_state.specs.declared.state.Core.{Core}
-use Rattle.node_state.specs.State.{led_of, state_of, fits_at_end, frozen, led_groups, others}
-use Rattle.node_state.specs.HandOn.{Answering}
-use Rattle.node_state.specs.Leading.{with_tally}
-use Rattle.node_state.specs.Applying.{own_parts, views_taken}
-use Rattle.node_state.specs.Ticks.{ring_ask, views_part, late_appended, announced, ticked_in, tally_ticks, sent_again, group_ticks, led_part}
-use Rattle.run_safety.specs.Past.{History}
+use Rattle.row_laws.specs.proposal_core.declared.entry.Entry.TheVariants.{Late}
+use Rattle.row_laws.specs.proposal_core.declared.group_state.Running.{Running}
+use Rattle.row_laws.specs.vote_phases.Tally.{TallyView, expires, open_voters}
+use Rattle.row_laws.specs.view_state.Views.{views_at_work, gathering_ticks, install_again}
+use Rattle.row_laws.specs.node_state.declared.state.Core.{Core}
+use Rattle.row_laws.specs.node_state.State.{led_of, state_of, fits_at_end, frozen, led_groups, others}
+use Rattle.row_laws.specs.node_state.HandOn.{Answering}
+use Rattle.row_laws.specs.node_state.Leading.{with_tally}
+use Rattle.row_laws.specs.node_state.Applying.{own_parts, views_taken}
+use Rattle.row_laws.specs.node_state.Ticks.{ring_ask, tick_views, late_appended, announced, ticked_in, tally_ticks, sent_again, tick_group, tick_led}
+use Rattle.row_laws.specs.run_safety.Past.{History}
 use Rattle.entry_laws.proofs.closing_rows.At.{calm_fold}
 use Rattle.entry_laws.proofs.closing_rows.Calms.{again_calm}
 use Rattle.entry_laws.proofs.source_order.At.{At, at_fold, at_calm}
@@ -22,8 +22,8 @@ module _ (h : History) where
   abbrev Full : Core → Type 0
   Full s = At h ⊥ s
 
-  pub at_views_part : (f : Answering) (s : Core) → Full s → Full (views_part f s)
-  unfolding views_part
+  pub at_views_part : (f : Answering) (s : Core) → Full s → Full (tick_views f s)
+  unfolding tick_views
   at_views_part f s a =
       let t : Core = views_taken f s (gathering_ticks (views_at_work s.views) (ring_ask s) (own_parts s)) in
       at_views_taken h f t (install_again (views_at_work t.views)) (at_views_taken h f s (gathering_ticks (views_at_work s.views) (ring_ask s) (own_parts s)) a)
@@ -47,16 +47,16 @@ module _ (h : History) where
         let u : Core = announced f s g t (s.sessions.level == 2 && expires t) in
         at_closes h ⊥ f (with_tally u g (ticked_in (led_of u g).tally)) g (at_tally h ⊥ u g (ticked_in (led_of u g).tally) (at_announced s g t (s.sessions.level == 2 && expires t) a))
 
-    at_group_ticks : (s : Core) (g : List ℕ) → Full s → Full (group_ticks f s g)
-    unfolding group_ticks
+    at_group_ticks : (s : Core) (g : List ℕ) → Full s → Full (tick_group f s g)
+    unfolding tick_group
     at_group_ticks s g a =
         let t : Core = tally_ticks f s g (led_of s g).tally in
         at_calm h ⊥ t (fold (sent_again g) t (others t)) (calm_fold (sent_again g) (λ c n. again_calm g c n) (others t) t) (at_tally_ticks s g (led_of s g).tally a)
 
-  pub at_led_part : (f : Answering) (s : Core) → Full s → Full (led_part f s)
-  unfolding led_part
+  pub at_led_part : (f : Answering) (s : Core) → Full s → Full (tick_led f s)
+  unfolding tick_led
   at_led_part f s a = by (frozen s)
     where
-      by : (b : Bool) → Full (elim b as (λ _. Core) [ true ↦ s | false ↦ fold (group_ticks f) s (led_groups s) ])
+      by : (b : Bool) → Full (elim b as (λ _. Core) [ true ↦ s | false ↦ fold (tick_group f) s (led_groups s) ])
       by true = a
-      by false = at_fold h ⊥ (group_ticks f) (led_groups s) (λ c g i k. at_group_ticks f c g k) s a
+      by false = at_fold h ⊥ (tick_group f) (led_groups s) (λ c g i k. at_group_ticks f c g k) s a

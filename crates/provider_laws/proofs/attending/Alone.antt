@@ -2,20 +2,20 @@
 use Rattle.std.proofs.Common.{◌≡◌, ℕ, ◌+◌, List, [], ◌∷◌, ◌++◌, Option, Some, None, Bool, true, false, refl, sym, subst, inl, inr, ⊎_elim, append-nil}
 use Rattle.std.specs.Prelude.{not, filter, length, nat_le, is_none, if◌then◌else◌}
 use Rattle.std.proofs.lemmas.Bool.{and_parts}
-use Rattle.rsct_packet.specs.declared.ids.ProviderId.{ProviderId}
-use Rattle.rsct_packet.specs.declared.ids.ViewId.{ViewId}
-use Rattle.rsct_packet.specs.Providers.{among, none_among, differ}
-use Rattle.rsct_packet.specs.Search.{Has}
-use Rattle.rsct_packet.proofs.HasLaws.{has_filter, has_append, append_has_left, append_has_right, all_has}
-use Rattle.group_attr.specs.declared.attrs.Attrs.{Attrs}
-use Rattle.proposal_core.specs.declared.proposal.Proposal.{Proposal}
-use Rattle.proposal_core.specs.declared.proposal.Proposal.TheVariants.{Join, Leave, Fail, Expel, State, Message, Attributes, Reflect}
-use Rattle.proposal_core.specs.declared.entry.Entry.{Entry}
-use Rattle.proposal_core.specs.declared.entry.Entry.TheVariants.{Once, Begin, Phase, Approve, Reject, Late}
-use Rattle.proposal_core.specs.declared.group_state.GroupState.{GroupState}
-use Rattle.proposal_core.specs.declared.group_state.Running.{Running}
-use Rattle.proposal_core.specs.Fold.{max_providers, joins_of, joiners_in, present, fallen_of, can_begin, fits, without, effect, first_value, first_attrs, with_attrs, begun, newer, valued, approved, rejected_of, rejected, advanced, next_phase, applied, after_if, after}
-use Rattle.run_safety.specs.Past.{fold_from}
+use Rattle.row_laws.specs.rsct_packet.declared.ids.ProviderId.{ProviderId}
+use Rattle.row_laws.specs.rsct_packet.declared.ids.ViewId.{ViewId}
+use Rattle.row_laws.specs.rsct_packet.Providers.{among, none_among, differ}
+use Rattle.row_laws.specs.rsct_packet.Search.{Has}
+use Rattle.row_laws.proofs.rsct_packet_laws.HasLaws.{has_filter, has_append, append_has_left, append_has_right, all_has}
+use Rattle.row_laws.specs.group_attr.declared.attrs.Attrs.{Attrs}
+use Rattle.row_laws.specs.proposal_core.declared.proposal.Proposal.{Proposal}
+use Rattle.row_laws.specs.proposal_core.declared.proposal.Proposal.TheVariants.{Join, Leave, Fail, Expel, State, Message, Attributes, Reflect}
+use Rattle.row_laws.specs.proposal_core.declared.entry.Entry.{Entry}
+use Rattle.row_laws.specs.proposal_core.declared.entry.Entry.TheVariants.{Once, Begin, Phase, Approve, Reject, Late}
+use Rattle.row_laws.specs.proposal_core.declared.group_state.GroupState.{GroupState}
+use Rattle.row_laws.specs.proposal_core.declared.group_state.Running.{Running}
+use Rattle.row_laws.specs.proposal_core.Fold.{max_providers, joins_of, joiners_in, present, fallen_of, can_begin, fits, without, effect, first_value, first_attrs, take_attrs, begun, replace_proposed, take_value, approve, take_rejection, reject, advance, next_phase, apply, after_if, after}
+use Rattle.row_laws.specs.run_safety.Past.{fold_from}
 use Rattle.row_laws.proofs.hearing.Handing.{has_among}
 use Rattle.provider_laws.specs.attending.Places.{Alone, Named}
 
@@ -93,8 +93,8 @@ effect_alone s (Message p r bytes) a = a
 effect_alone s (Attributes p r attrs) a = a
 effect_alone s (Reflect view place value) a = a
 
-rejected_alone : (s : GroupState) (x : Proposal) → Alone (s.members ++ joins_of x) → Alone (present (rejected_of (record s { running = None }) x))
-unfolding rejected_of without
+rejected_alone : (s : GroupState) (x : Proposal) → Alone (s.members ++ joins_of x) → Alone (present (take_rejection (record s { running = None }) x))
+unfolding take_rejection without
 rejected_alone s (Join ps attrs n) a = subst Alone (sym (append-nil s.members)) (alone_left s.members ps a)
 rejected_alone s (Leave p r) a = a
 rejected_alone s (Fail out) a = left_alone (λ q. not (among (fallen_of out) q)) s.members a
@@ -104,23 +104,23 @@ rejected_alone s (Message p r bytes) a = a
 rejected_alone s (Attributes p r attrs) a = a
 rejected_alone s (Reflect view place value) a = a
 
-valued_present : (s : GroupState) (v : ViewId) (i : ℕ) (o : Option (List ℕ)) → present (valued s v i o) ≡ present s
-unfolding valued
+valued_present : (s : GroupState) (v : ViewId) (i : ℕ) (o : Option (List ℕ)) → present (take_value s v i o) ≡ present s
+unfolding take_value
 valued_present s v i None = refl
 valued_present s v i (Some value) = refl
 
-approved_alone : (s : GroupState) (v : ViewId) (i : ℕ) (value : Option (List ℕ)) (run : Running) → Alone (s.members ++ joins_of run.proposal) → Alone (present (approved s v i value (Some run)))
-unfolding approved
+approved_alone : (s : GroupState) (v : ViewId) (i : ℕ) (value : Option (List ℕ)) (run : Running) → Alone (s.members ++ joins_of run.proposal) → Alone (present (approve s v i value (Some run)))
+unfolding approve
 approved_alone s v i value run a =
-    subst Alone (sym (valued_present (effect (record s { running = None }) run.proposal) v i (newer value run.proposed))) (effect_alone s run.proposal a)
+    subst Alone (sym (valued_present (effect (record s { running = None }) run.proposal) v i (replace_proposed value run.proposed))) (effect_alone s run.proposal a)
 
-attrs_members : (s : GroupState) (o : Option Attrs) → (with_attrs s o).members ≡ s.members
-unfolding with_attrs
+attrs_members : (s : GroupState) (o : Option Attrs) → (take_attrs s o).members ≡ s.members
+unfolding take_attrs
 attrs_members s None = refl
 attrs_members s (Some attrs) = refl
 
-applied_alone : (s : GroupState) (v : ViewId) (i : ℕ) (e : Entry) → Alone (present s) → Named e → fits s e ≡ true → Alone (present (applied s v i e))
-unfolding applied approved begun fits rejected next_phase advanced
+applied_alone : (s : GroupState) (v : ViewId) (i : ℕ) (e : Entry) → Alone (present s) → Named e → fits s e ≡ true → Alone (present (apply s v i e))
+unfolding apply approve begun fits reject next_phase advance
 applied_alone s v i (Once x) a n q =
     let k = begins_alone s x a n (and_parts (is_none s.running) (can_begin s x) q).1 in
     approved_alone (begun s v i x) v i None (record { proto = record { view = v; place = i }; proposal = x; phase = 1; proposed = first_value x }) (subst (λ ms. Alone (ms ++ joins_of x)) (sym (attrs_members s (first_attrs s x))) k)
@@ -129,17 +129,17 @@ applied_alone s v i (Begin x) a n q =
     subst (λ ms. Alone (ms ++ joins_of x)) (sym (attrs_members s (first_attrs s x))) k
 applied_alone s v i (Phase c) a n q = by s.running a
   where
-    by : (o : Option Running) → Alone (s.members ++ joiners_in o) → Alone (present (elim o as (λ _. GroupState) [ None ↦ s | Some run ↦ record s { running = Some (advanced c.value run) } ]))
+    by : (o : Option Running) → Alone (s.members ++ joiners_in o) → Alone (present (elim o as (λ _. GroupState) [ None ↦ s | Some run ↦ record s { running = Some (advance c.value run) } ]))
     by None b = a
     by (Some run) b = b
 applied_alone s v i (Approve c) a n q = by s.running a
   where
-    by : (o : Option Running) → Alone (s.members ++ joiners_in o) → Alone (present (approved s v i c.value o))
+    by : (o : Option Running) → Alone (s.members ++ joiners_in o) → Alone (present (approve s v i c.value o))
     by None b = a
     by (Some run) b = approved_alone s v i c.value run b
 applied_alone s v i (Reject c) a n q = by s.running a
   where
-    by : (o : Option Running) → Alone (s.members ++ joiners_in o) → Alone (present (rejected s o))
+    by : (o : Option Running) → Alone (s.members ++ joiners_in o) → Alone (present (reject s o))
     by None b = a
     by (Some run) b = rejected_alone s run.proposal b
 applied_alone s v i (Late proto phase ps) a n q = a

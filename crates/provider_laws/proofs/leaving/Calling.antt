@@ -4,34 +4,34 @@ use Rattle.std.specs.Prelude.{◌||◌, find, filter, fold, if◌then◌else◌,
 use Rattle.std.specs.Option.{option_map}
 use Rattle.std.specs.List.{list_any, last_or}
 use Rattle.std.proofs.lemmas.Bool.{eqb-true, eq-eqb}
-use Rattle.rsct_packet.specs.declared.ids.ProviderId.{ProviderId}
-use Rattle.rsct_packet.specs.Search.{Has, place_where}
-use Rattle.rsct_packet.proofs.HasLaws.{has_append, append_has_right}
-use Rattle.group_attr.specs.declared.attrs.Attrs.{Attrs}
-use Rattle.group_attr.specs.declared.attrs.Phases.{Phases}
-use Rattle.proposal_core.specs.declared.proposal.Proposal.{Proposal}
-use Rattle.proposal_core.specs.declared.proposal.Proposal.TheVariants.{Attributes}
-use Rattle.client_callbacks.specs.declared.ballot.Filled.{Filled}
-use Rattle.subscribe_core.specs.declared.subs.ClientToken.{ClientToken}
-use Rattle.session_state.specs.declared.fault.GsFault.{GsFault}
-use Rattle.session_state.specs.declared.fault.GsFault.TheVariants as fault
-use Rattle.session_state.specs.declared.state.KeptBallot.{KeptBallot}
-use Rattle.session_state.specs.declared.state.MemberToken.{MemberToken}
-use Rattle.session_state.specs.declared.state.Provider.{Provider}
-use Rattle.session_state.specs.declared.state.Request.{Request}
-use Rattle.session_state.specs.declared.state.Session.{Session}
-use Rattle.session_state.specs.declared.state.SessionState.{SessionState}
-use Rattle.session_state.specs.State.{is_member_of, is_session, is_named, is_client_of, client_token}
-use Rattle.session_state.specs.Calls.{or_fault, client_fault, unless_fault, if_session, is_empty, init_fault, session_added, inited, join_fault, join_asked, joined, asked, ask_fault, member_asks, request_made, left, expelled, state_changed, message_sent, member_changes, attributes_changed, subscribe_taken, unsubscribe_taken, removed_at, session_ended, goodbye_taken}
-use Rattle.node_state.specs.declared.call.CallLine.{CallLine}
-use Rattle.node_state.specs.declared.call.CallLine.TheVariants as call
-use Rattle.node_state.specs.declared.happened.Happened.{Happened}
-use Rattle.node_state.specs.declared.happened.Happened.TheVariants as happened
-use Rattle.node_state.specs.declared.state.Core.{Core}
-use Rattle.node_state.specs.State.{frozen, leader_of, recorded, with_sessions}
-use Rattle.node_state.specs.Sending.{request_to, request_sent, kept_sent_to, kept_sent}
-use Rattle.node_state.specs.Calls.{caller, call_refused, changed, last_asked, proposed, ballot_recorded, ballot_sent_if, last_cast, ballot_given, gone_sent, all_gone_sent, goodbye_said, call_row}
-use Rattle.node_state.proofs.NameOrder.{text_self}
+use Rattle.row_laws.specs.rsct_packet.declared.ids.ProviderId.{ProviderId}
+use Rattle.row_laws.specs.rsct_packet.Search.{Has, place_where}
+use Rattle.row_laws.proofs.rsct_packet_laws.HasLaws.{has_append, append_has_right}
+use Rattle.row_laws.specs.group_attr.declared.attrs.Attrs.{Attrs}
+use Rattle.row_laws.specs.group_attr.declared.attrs.Phases.{Phases}
+use Rattle.row_laws.specs.proposal_core.declared.proposal.Proposal.{Proposal}
+use Rattle.row_laws.specs.proposal_core.declared.proposal.Proposal.TheVariants.{Attributes}
+use Rattle.row_laws.specs.client_callbacks.declared.ballot.Filled.{Filled}
+use Rattle.row_laws.specs.subscribe_core.declared.subs.ClientToken.{ClientToken}
+use Rattle.row_laws.specs.session_state.declared.fault.GsFault.{GsFault}
+use Rattle.row_laws.specs.session_state.declared.fault.GsFault.TheVariants as fault
+use Rattle.row_laws.specs.session_state.declared.state.KeptBallot.{KeptBallot}
+use Rattle.row_laws.specs.session_state.declared.state.MemberToken.{MemberToken}
+use Rattle.row_laws.specs.session_state.declared.state.Provider.{Provider}
+use Rattle.row_laws.specs.session_state.declared.state.Request.{Request}
+use Rattle.row_laws.specs.session_state.declared.state.Session.{Session}
+use Rattle.row_laws.specs.session_state.declared.state.SessionState.{SessionState}
+use Rattle.row_laws.specs.session_state.State.{is_member_of, is_session, is_named, is_client_of, client_token}
+use Rattle.row_laws.specs.session_state.Calls.{or_fault, client_fault, unless_fault, if_session, is_empty, init_fault, add_session, inited, join_fault, join_asked, joined, asked, ask_fault, member_asks, request_made, left, expelled, state_changed, message_sent, member_changes, attributes_changed, subscribe_taken, unsubscribe_taken, removed_at, end_session, goodbye_taken}
+use Rattle.row_laws.specs.node_state.declared.call.CallLine.{CallLine}
+use Rattle.row_laws.specs.node_state.declared.call.CallLine.TheVariants as call
+use Rattle.row_laws.specs.node_state.declared.happened.Happened.{Happened}
+use Rattle.row_laws.specs.node_state.declared.happened.Happened.TheVariants as happened
+use Rattle.row_laws.specs.node_state.declared.state.Core.{Core}
+use Rattle.row_laws.specs.node_state.State.{frozen, leader_of, recorded, with_sessions}
+use Rattle.row_laws.specs.node_state.Sending.{send_request_to, send_request, send_kept_to, send_kept}
+use Rattle.row_laws.specs.node_state.Calls.{caller, refuse_call, changed, ask_last, proposed, record_ballot, ballot_sent_if, cast_last, give_ballot, send_gone, send_all_gone, goodbye_said, take_call}
+use Rattle.row_laws.proofs.node_state_laws.NameOrder.{text_self}
 use Rattle.row_laws.proofs.hearing.Changes.{Sends, sends_nothing, sends_one, sends_known, sends_fold}
 use Rattle.row_laws.proofs.hearing.Sessions.{casts_voted, unless_is}
 use Rattle.row_laws.proofs.failed_rows.Owners.{Owned, known_session}
@@ -129,8 +129,8 @@ fit_recorded s r ok k = record { says = λ x i. by x (has_append x s.records (r 
     by x (inr (inl e)) = subst (CallSays s.sessions) (sym e) ok
     by x (inr (inr z)) = absurd z
 
-fit_refused : (s : Core) (client : List ℕ) (f : GsFault) → Fit s → Fit (call_refused s client f)
-unfolding call_refused
+fit_refused : (s : Core) (client : List ℕ) (f : GsFault) → Fit s → Fit (refuse_call s client f)
+unfolding refuse_call
 fit_refused s client f k = fit_recorded s (happened.Refused s.views.me client f) tt k
 
 fit_with : (s : Core) (u : SessionState) → s.records ≡ [] → Apart u.sessions → Fit (with_sessions s u)
@@ -148,33 +148,33 @@ last_has (x ∷ xs) q o e = by (last_has xs q (Some x) e)
     by (inl i) = inl (inr i)
     by (inr z) = inl (inl (sym (some_is z)))
 
-request_sends : (c : Core) (q : Request) → Sends c (request_sent c q)
-unfolding request_sent request_to
+request_sends : (c : Core) (q : Request) → Sends c (send_request c q)
+unfolding send_request send_request_to
 request_sends c q = by (frozen c)
   where
-    to : (o : Option ℕ) → Sends c (request_to c q o)
+    to : (o : Option ℕ) → Sends c (send_request_to c q o)
     to None = sends_one c _ _
     to (Some n) = sends_one c _ _
 
-    by : (b : Bool) → Sends c (elim b as (λ _. Core) [ true ↦ c | false ↦ request_to c q (leader_of c q.group) ])
+    by : (b : Bool) → Sends c (elim b as (λ _. Core) [ true ↦ c | false ↦ send_request_to c q (leader_of c q.group) ])
     by true = sends_nothing c
     by false = to (leader_of c q.group)
 
-kept_sends : (c : Core) (k : KeptBallot) → Sends c (kept_sent c k)
-unfolding kept_sent kept_sent_to
+kept_sends : (c : Core) (k : KeptBallot) → Sends c (send_kept c k)
+unfolding send_kept send_kept_to
 kept_sends c k = by k.ballot.filled
   where
-    by : (o : Option Filled) → Sends c (kept_sent_to c k (leader_of c k.group) o)
+    by : (o : Option Filled) → Sends c (send_kept_to c k (leader_of c k.group) o)
     by None = sends_nothing c
     by (Some b) = sends_known c _ _
 
-gone_sends : (c : Core) (xs : List Provider) → Sends c (all_gone_sent c xs)
-unfolding all_gone_sent gone_sent
+gone_sends : (c : Core) (xs : List Provider) → Sends c (send_all_gone c xs)
+unfolding send_all_gone send_gone
 gone_sends c xs = by (frozen c)
   where
-    by : (b : Bool) → Sends c (elim b as (λ _. Core) [ true ↦ c | false ↦ fold gone_sent c xs ])
+    by : (b : Bool) → Sends c (elim b as (λ _. Core) [ true ↦ c | false ↦ fold send_gone c xs ])
     by true = sends_nothing c
-    by false = sends_fold gone_sent (λ t x. sends_known t _ _) xs c
+    by false = sends_fold send_gone (λ t x. sends_known t _ _) xs c
 
 fit_changed : (s : Core) → s.records ≡ [] → (client : List ℕ) (r : Result SessionState GsFault) → ((u : SessionState) → r ≡ Ok u → Apart u.sessions) → Fit s → Fit (changed s client r)
 unfolding changed
@@ -182,7 +182,7 @@ fit_changed s none client (Ok u) apart k = fit_with s u none (apart u refl)
 fit_changed s none client (Err f) apart k = fit_refused s client f k
 
 fit_proposed : (s : Core) → s.records ≡ [] → (client : List ℕ) (r : Result SessionState GsFault) → ((u : SessionState) → r ≡ Ok u → Apart u.sessions) → Fit s → Fit (proposed s client r)
-unfolding proposed last_asked with_sessions
+unfolding proposed ask_last with_sessions
 fit_proposed s none client (Ok u) apart k = by (last_or None u.requests) refl
   where
     d : Core
@@ -192,15 +192,15 @@ fit_proposed s none client (Ok u) apart k = by (last_or None u.requests) refl
     there q (inl i) = i
     there q (inr z) = absurd (cc)
 
-    by : (o : Option Request) → last_or None u.requests ≡ o → Fit (last_asked d o)
+    by : (o : Option Request) → last_or None u.requests ≡ o → Fit (ask_last d o)
     by None e = fit_with s u none (apart u refl)
     by (Some q) e =
         let t : Core = recorded d (happened.Asked q.p q.r q.group q.proposal) in
-        fit_sends t (request_sent t q) (request_sends t q) (fit_recorded d (happened.Asked q.p q.r q.group q.proposal) (q, there q (last_has u.requests q None e), refl) (fit_with s u none (apart u refl)))
+        fit_sends t (send_request t q) (request_sends t q) (fit_recorded d (happened.Asked q.p q.r q.group q.proposal) (q, there q (last_has u.requests q None e), refl) (fit_with s u none (apart u refl)))
 fit_proposed s none client (Err f) apart k = fit_refused s client f k
 
-fit_given : (s : Core) → s.records ≡ [] → (client : List ℕ) (r : Result SessionState GsFault) → ((u : SessionState) → r ≡ Ok u → Apart u.sessions) → Fit s → Fit (ballot_given s client r)
-unfolding ballot_given last_cast ballot_recorded ballot_sent_if
+fit_given : (s : Core) → s.records ≡ [] → (client : List ℕ) (r : Result SessionState GsFault) → ((u : SessionState) → r ≡ Ok u → Apart u.sessions) → Fit s → Fit (give_ballot s client r)
+unfolding give_ballot cast_last record_ballot ballot_sent_if
 fit_given s none client (Ok u) apart k = by (last_or None u.kept)
   where
     d : Core
@@ -211,20 +211,20 @@ fit_given s none client (Ok u) apart k = by (last_or None u.kept)
 
     sent : (t : Core) (b : KeptBallot) (z : Bool) → Fit t → Fit (ballot_sent_if t b z)
     sent t b true a = a
-    sent t b false a = fit_sends t (kept_sent t b) (kept_sends t b) a
+    sent t b false a = fit_sends t (send_kept t b) (kept_sends t b) a
 
-    said : (b : KeptBallot) (o : Option Filled) → Fit (ballot_recorded d b o)
+    said : (b : KeptBallot) (o : Option Filled) → Fit (record_ballot d b o)
     said b None = begin
     said b (Some f) = fit_recorded d (happened.Cast b.p b.proto b.phase f.vote f.value f.message) tt begin
 
-    by : (o : Option KeptBallot) → Fit (last_cast d o)
+    by : (o : Option KeptBallot) → Fit (cast_last d o)
     by None = begin
-    by (Some b) = sent (ballot_recorded d b b.ballot.filled) b (frozen d) (said b b.ballot.filled)
+    by (Some b) = sent (record_ballot d b b.ballot.filled) b (frozen d) (said b b.ballot.filled)
 fit_given s none client (Err f) apart k = fit_refused s client f k
 
 fit_said : (s : Core) → s.records ≡ [] → (client : List ℕ) (xs : List Provider) (r : Result SessionState GsFault) → ((u : SessionState) → r ≡ Ok u → Apart u.sessions) → Fit s → Fit (goodbye_said s client xs r)
 unfolding goodbye_said
-fit_said s none client xs (Ok u) apart k = fit_sends (with_sessions s u) (all_gone_sent (with_sessions s u) xs) (gone_sends (with_sessions s u) xs) (fit_with s u none (apart u refl))
+fit_said s none client xs (Ok u) apart k = fit_sends (with_sessions s u) (send_all_gone (with_sessions s u) xs) (gone_sends (with_sessions s u) xs) (fit_with s u none (apart u refl))
 fit_said s none client xs (Err f) apart k = fit_refused s client f k
 
 -- ---- sessions that stay
@@ -262,8 +262,8 @@ module _ (s : SessionState) where
 -- ---- the calls
 
 -- a new name is new
-new_apart : (s : SessionState) (name : List ℕ) (u : SessionState) → unless_fault (init_fault s name) (session_added s name) ≡ Ok u → Apart s.sessions → Apart u.sessions
-unfolding init_fault session_added
+new_apart : (s : SessionState) (name : List ℕ) (u : SessionState) → unless_fault (init_fault s name) (add_session s name) ≡ Ok u → Apart s.sessions → Apart u.sessions
+unfolding init_fault add_session
 new_apart s name u e k = by (list_any (is_named name) s.sessions) refl _ _ e
   where
     new : list_any (is_named name) s.sessions ≡ false → (y : Session) → Has y s.sessions → name ≡ y.name → ⊥
@@ -278,13 +278,13 @@ new_apart s name u e k = by (list_any (is_named name) s.sessions) refl _ _ e
             at false f n (inl z) rest = let a : is_named name x ≡ true = ap (λ (b : Session). is_named name b) (sym z) ∙ ap (λ b. is_named b y) q ∙ text_self y.name in let b : true ≡ false = sym a ∙ f in cc
             at false f n (inr z) rest = rest n z
 
-    by : (b : Bool) → list_any (is_named name) s.sessions ≡ b → (a c : Option GsFault) → unless_fault (or_fault a (or_fault (if b then Some fault.Exists else None) c)) (session_added s name) ≡ Ok u → Apart u.sessions
+    by : (b : Bool) → list_any (is_named name) s.sessions ≡ b → (a c : Option GsFault) → unless_fault (or_fault a (or_fault (if b then Some fault.Exists else None) c)) (add_session s name) ≡ Ok u → Apart u.sessions
     by true f None c q = absurd (cc)
     by true f (Some x) c q = absurd (cc)
-    by false f a c q = subst (λ (z : SessionState). Apart z.sessions) (sym (unless_is _ (session_added s name) u q)) (apart_added s.sessions (record { token = record { n = s.last_client + 1 }; name = name }) (new f) k)
+    by false f a c q = subst (λ (z : SessionState). Apart z.sessions) (sym (unless_is _ (add_session s name) u q)) (apart_added s.sessions (record { token = record { n = s.last_client + 1 }; name = name }) (new f) k)
 
-pub call_fits : (c : CallLine) (s : Core) → s.records ≡ [] → Fit s → Fit (call_row s c)
-unfolding call_row inited joined left expelled state_changed message_sent subscribe_taken unsubscribe_taken goodbye_taken join_asked session_ended
+pub call_fits : (c : CallLine) (s : Core) → s.records ≡ [] → Fit s → Fit (take_call s c)
+unfolding take_call inited joined left expelled state_changed message_sent subscribe_taken unsubscribe_taken goodbye_taken join_asked end_session
 call_fits (call.Init node name votes) s none k = fit_changed s none name _ (λ u e. new_apart s.sessions name u e k.apart) k
 call_fits (call.Join client g instance attrs) s none k =
     fit_proposed s none client _ (same_apart s.sessions _ k.apart (unless_same s.sessions (join_fault s.sessions (client_token s.sessions client) g attrs) (join_asked s.sessions (client_token s.sessions client) g instance attrs) refl)) k
@@ -297,11 +297,11 @@ call_fits (call.Vote client g v value) s none k = fit_given s none client _ (sam
 call_fits (call.Subscribe client g) s none k = fit_changed s none client _ (same_apart s.sessions _ k.apart (unless_same s.sessions _ _ refl)) k
 call_fits (call.Unsubscribe client g) s none k = fit_changed s none client _ (same_apart s.sessions _ k.apart (unless_same s.sessions _ _ refl)) k
 call_fits (call.Goodbye client) s none k =
-    fit_said s none client _ _ (λ u e. subst (λ (z : SessionState). Apart z.sessions) (sym (unless_is _ (session_ended s.sessions (client_token s.sessions client)) u e)) (apart_removed (is_session (client_token s.sessions client)) s.sessions.sessions k.apart)) k
+    fit_said s none client _ _ (λ u e. subst (λ (z : SessionState). Apart z.sessions) (sym (unless_is _ (end_session s.sessions (client_token s.sessions client)) u e)) (apart_removed (is_session (client_token s.sessions client)) s.sessions.sessions k.apart)) k
 
 -- who says goodbye has no session after it, unless the call is refused
-pub goodbye_ends : (of : ProviderId → Option (List ℕ)) (s : Core) (client : List ℕ) → Fit s → Owned of s.sessions → ((f : GsFault) × Has (happened.Refused s.views.me client f) (call_row s (call.Goodbye client)).records) ⊎ ((z : Session) → Has z (call_row s (call.Goodbye client)).sessions.sessions → z.name ≡ client → ⊥)
-unfolding call_row goodbye_taken session_ended goodbye_said call_refused recorded with_sessions
+pub goodbye_ends : (of : ProviderId → Option (List ℕ)) (s : Core) (client : List ℕ) → Fit s → Owned of s.sessions → ((f : GsFault) × Has (happened.Refused s.views.me client f) (take_call s (call.Goodbye client)).records) ⊎ ((z : Session) → Has z (take_call s (call.Goodbye client)).sessions.sessions → z.name ≡ client → ⊥)
+unfolding take_call goodbye_taken end_session goodbye_said refuse_call recorded with_sessions
 goodbye_ends of s client k owned = by (client_fault s.sessions t) refl
   where
     t : ClientToken
@@ -313,9 +313,9 @@ goodbye_ends of s client k owned = by (client_fault s.sessions t) refl
     Ends : Core → Type 0
     Ends d = ((f : GsFault) × Has (happened.Refused s.views.me client f) d.records) ⊎ ((z : Session) → Has z d.sessions.sessions → z.name ≡ client → ⊥)
 
-    by : (o : Option GsFault) → client_fault s.sessions t ≡ o → Ends (goodbye_said s client xs (unless_fault o (session_ended s.sessions t)))
+    by : (o : Option GsFault) → client_fault s.sessions t ≡ o → Ends (goodbye_said s client xs (unless_fault o (end_session s.sessions t)))
     by (Some f) e = inl (f, append_has_right (happened.Refused s.views.me client f) s.records (happened.Refused s.views.me client f ∷ []) (inl refl))
     by None e =
-        let d : Core = record s { sessions = session_ended s.sessions t } in
+        let d : Core = record s { sessions = end_session s.sessions t } in
         let y = known_session s.sessions client owned.low e in
         inr (λ z i. removed_unnamed t client y.0 s.sessions.sessions owned.single k.apart y.1 y.2 y.3 z (subst (λ (u : SessionState). Has z u.sessions) (gone_sends d xs).sessions i))

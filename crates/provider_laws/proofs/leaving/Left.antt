@@ -1,25 +1,25 @@
 -- Since the call of a step providers only leave: who hears was there, and who is told DISSOLVED is there no longer.
 use Rattle.std.proofs.Common.{◌≡◌, ◌⊎◌, ℕ, List, [], ◌∷◌, ◌++◌, Option, Some, None, Bool, true, false, refl, sym, ap, ◌∙◌, subst, inl, inr}
 use Rattle.std.specs.Prelude.{◌&&◌, ◌||◌, not, find, filter, is_some, is_none, if◌then◌else◌}
-use Rattle.rsct_packet.specs.declared.ids.ProviderId.{ProviderId}
-use Rattle.rsct_packet.specs.Providers.{among, same_provider}
-use Rattle.rsct_packet.specs.Search.{Has}
-use Rattle.rsct_packet.proofs.HasLaws.{has_append, append_has_left, has_filter, find_none}
-use Rattle.proposal_core.specs.declared.entry.Entry.{Entry}
-use Rattle.proposal_core.specs.declared.group_state.GroupState.{GroupState}
-use Rattle.client_callbacks.specs.declared.ballot.Filled.{Filled}
-use Rattle.client_callbacks.specs.declared.told.Why.{Why}
-use Rattle.session_state.specs.declared.state.Provider.{Provider}
-use Rattle.session_state.specs.declared.state.Request.{Request}
-use Rattle.session_state.specs.declared.state.SessionState.{SessionState}
-use Rattle.session_state.specs.State.{provider_of, is_provider, outstanding, without_providers}
-use Rattle.session_state.specs.HandOn.{is_numbered, is_join_request, is_dissolved, takes_telling, told_of, telling_taken, handed_on}
-use Rattle.node_state.specs.declared.happened.Happened.{Happened}
-use Rattle.node_state.specs.declared.happened.Happened.TheVariants as happened
-use Rattle.node_state.specs.declared.state.Core.{Core}
-use Rattle.node_state.specs.State.{recorded, with_sessions}
-use Rattle.run_safety.specs.Stays.{asks_join}
-use Rattle.step_ties.proofs.SessionLaws.{provider_self, handed_later}
+use Rattle.row_laws.specs.rsct_packet.declared.ids.ProviderId.{ProviderId}
+use Rattle.row_laws.specs.rsct_packet.Providers.{among, same_provider}
+use Rattle.row_laws.specs.rsct_packet.Search.{Has}
+use Rattle.row_laws.proofs.rsct_packet_laws.HasLaws.{has_append, append_has_left, has_filter, find_none}
+use Rattle.row_laws.specs.proposal_core.declared.entry.Entry.{Entry}
+use Rattle.row_laws.specs.proposal_core.declared.group_state.GroupState.{GroupState}
+use Rattle.row_laws.specs.client_callbacks.declared.ballot.Filled.{Filled}
+use Rattle.row_laws.specs.client_callbacks.declared.told.Why.{Why}
+use Rattle.row_laws.specs.session_state.declared.state.Provider.{Provider}
+use Rattle.row_laws.specs.session_state.declared.state.Request.{Request}
+use Rattle.row_laws.specs.session_state.declared.state.SessionState.{SessionState}
+use Rattle.row_laws.specs.session_state.State.{provider_of, is_provider, outstanding, without_providers}
+use Rattle.row_laws.specs.session_state.HandOn.{is_numbered, is_join_request, is_dissolved, takes_telling, told_of, take_telling, handed_on}
+use Rattle.row_laws.specs.node_state.declared.happened.Happened.{Happened}
+use Rattle.row_laws.specs.node_state.declared.happened.Happened.TheVariants as happened
+use Rattle.row_laws.specs.node_state.declared.state.Core.{Core}
+use Rattle.row_laws.specs.node_state.State.{recorded, with_sessions}
+use Rattle.row_laws.specs.run_safety.Stays.{asks_join}
+use Rattle.row_laws.proofs.step_refinement_laws.SessionLaws.{provider_self, handed_later}
 use Rattle.row_laws.proofs.failed_rows.Living.{IsLive, Slimmer, slim_same, told_slim, handed_slim}
 use Rattle.row_laws.proofs.failed_rows.Origin.{Slim, slim_self, slim_more, slim_on}
 use Rattle.provider_laws.proofs.leaving.Walk.{Fine, Alike, Known, Keeps}
@@ -32,8 +32,8 @@ record Less (s t : SessionState) : Type 0 where
   last : t.last_request ≡ s.last_request
   asked : (q : Request) → Has q t.requests → Has q s.requests
 
-pub told_kept : (s : SessionState) (p : ProviderId) (r : ℕ) (y : Why) → ((telling_taken s p r y).last_request ≡ s.last_request) × ((q : Request) → Has q (telling_taken s p r y).requests → Has q s.requests)
-unfolding telling_taken told_of without_providers
+pub told_kept : (s : SessionState) (p : ProviderId) (r : ℕ) (y : Why) → ((take_telling s p r y).last_request ≡ s.last_request) × ((q : Request) → Has q (take_telling s p r y).requests → Has q s.requests)
+unfolding take_telling told_of without_providers
 told_kept s p r y = by (takes_telling s p r y) (is_join_request (outstanding s p) || is_dissolved y)
   where
     fewer : (q : Request) → Has q (filter (λ (q : Request). not (among (p ∷ []) q.p)) s.requests) → Has q s.requests
@@ -44,12 +44,12 @@ told_kept s p r y = by (takes_telling s p r y) (is_join_request (outstanding s p
     by true true = (refl, fewer)
     by true false = (refl, fewer)
 
-told_less : (s : SessionState) (p : ProviderId) (r : ℕ) (y : Why) → Less s (telling_taken s p r y)
+told_less : (s : SessionState) (p : ProviderId) (r : ℕ) (y : Why) → Less s (take_telling s p r y)
 told_less s p r y = record { slim = told_slim s p r y; last = (told_kept s p r y).0; asked = (told_kept s p r y).1 }
 
 -- who is told DISSOLVED is not there then
-gone_told : (s : SessionState) (p : ProviderId) (r : ℕ) (y : Why) → is_dissolved y ≡ true → IsLive (telling_taken s p r y) p → ⊥
-unfolding telling_taken told_of takes_telling without_providers provider_of
+gone_told : (s : SessionState) (p : ProviderId) (r : ℕ) (y : Why) → is_dissolved y ≡ true → IsLive (take_telling s p r y) p → ⊥
+unfolding take_telling told_of takes_telling without_providers provider_of
 gone_told s p r y d live = by (find (is_provider p) s.providers) refl (is_numbered r (outstanding s p)) (is_join_request (outstanding s p)) (is_dissolved y) d live
   where
     dropped : (x : Provider) → Has x (filter (λ (x : Provider). not (among (p ∷ []) x.p)) s.providers) → x.p ≡ p → ⊥
@@ -165,10 +165,10 @@ module _ (root : Core) where
   known_then s p k (inl a) = inl (a.0, k.asked a.0 a.1, a.2)
   known_then s p k (inr l) = inr (live_slim root.sessions s.sessions p k.slim.sessions l)
 
-  told : (s : Core) (p : ProviderId) (r : ℕ) (y : Why) → Known s.sessions p → Left root s → Left root (recorded (with_sessions s (telling_taken s.sessions p r y)) (happened.Told p r y))
+  told : (s : Core) (p : ProviderId) (r : ℕ) (y : Why) → Known s.sessions p → Left root s → Left root (recorded (with_sessions s (take_telling s.sessions p r y)) (happened.Told p r y))
   unfolding recorded with_sessions
   told s p r y known k =
-      pushed (record s { sessions = telling_taken s.sessions p r y }) (happened.Told p r y) (λ q. refl) (known_then s p k known, gone_told s.sessions p r y) (less_on s (telling_taken s.sessions p r y) (told_less s.sessions p r y) k)
+      pushed (record s { sessions = take_telling s.sessions p r y }) (happened.Told p r y) (λ q. refl) (known_then s p k known, gone_told s.sessions p r y) (less_on s (take_telling s.sessions p r y) (told_less s.sessions p r y) k)
 
   noted : (s : Core) (r : Happened) → Fine s.sessions r → Left root s → Left root (recorded s r)
   unfolding recorded

@@ -1,40 +1,40 @@
 -- What appending, closing and beginning keep of the rows of groups.
 use Rattle.std.proofs.Common.{◌≡◌, ℕ, zero, suc, List, [], ◌∷◌, length, Option, Some, None, Bool, true, false, refl}
 use Rattle.std.specs.Prelude.{not, map, filter, fold, flat_map}
-use Rattle.rsct_packet.specs.declared.ids.ProviderId.{ProviderId}
-use Rattle.rsct_packet.specs.declared.ids.ProtoId.{ProtoId}
-use Rattle.rsct_packet.specs.Providers.{among}
-use Rattle.group_attr.specs.declared.attrs.Phases.{Phases}
-use Rattle.group_attr.specs.declared.attrs.Phases.TheVariants.{One, Many}
-use Rattle.proposal_core.specs.declared.proposal.Cause.TheVariants.{Died, Gone}
-use Rattle.proposal_core.specs.declared.proposal.Proposal.{Proposal}
-use Rattle.proposal_core.specs.declared.entry.Entry.{Entry}
-use Rattle.proposal_core.specs.declared.entry.Entry.TheVariants.{Once, Begin}
-use Rattle.proposal_core.specs.declared.group_state.GroupState.{GroupState}
-use Rattle.proposal_core.specs.Fold.{max_phases}
-use Rattle.proposal_core.specs.Lists.{list_or_new, with_entry}
-use Rattle.batch_rules.specs.Waiting.{WaitingView, waits_failure}
-use Rattle.vote_phases.specs.Tally.{TallyView}
-use Rattle.subscribe_core.specs.Subs.{is_of_group, differs}
-use Rattle.client_callbacks.specs.declared.told.Why.{Why}
-use Rattle.client_callbacks.specs.declared.ballot.Filled.{Filled}
-use Rattle.client_callbacks.specs.Ballots.{BallotView}
-use Rattle.session_state.specs.declared.casts.Cast.{Cast}
-use Rattle.session_state.specs.declared.state.SessionState.{SessionState}
-use Rattle.session_state.specs.HandOn.{hearers, casts_out, telling_taken}
-use Rattle.session_state.specs.HandOn as session
-use Rattle.node_state.specs.declared.group.GroupRow.{GroupRow}
-use Rattle.node_state.specs.declared.group.Led.{Led}
-use Rattle.node_state.specs.declared.happened.Happened.{Happened}
-use Rattle.node_state.specs.declared.happened.Happened.TheVariants as happened
-use Rattle.node_state.specs.declared.packet.Body.{Body}
-use Rattle.node_state.specs.declared.packet.Body.TheVariants as body
-use Rattle.node_state.specs.declared.state.Core.{Core}
-use Rattle.node_state.specs.State.{with_row, with_led, led_of, state_of, len_of, list_forgotten, fits_at_end, forgets_below, frozen, leader_of, others, least_acked, decisions_with, recorded, recorded_all, with_sessions}
-use Rattle.node_state.specs.Sending.{sent_on, sent, sent_all, sent_if_known, network_to, vote_of}
-use Rattle.node_state.specs.HandOn.{Answering, fills, heard, note_of, notes, noted, ballot_sent, cast_sent_of, casts_sent, handed_on}
-use Rattle.node_state.specs.Leading.{put, put_and_handed, forgets_least, with_waiting, waits_if, new_members_wait, appended, appended_if, with_tally, tally_set, tally_for, tally_opened, closing_entry, is_phase, closes_from, closes, begun_many, begins}
-use Rattle.node_state.specs.Deciding.{decision_kept, refused}
+use Rattle.row_laws.specs.rsct_packet.declared.ids.ProviderId.{ProviderId}
+use Rattle.row_laws.specs.rsct_packet.declared.ids.ProtoId.{ProtoId}
+use Rattle.row_laws.specs.rsct_packet.Providers.{among}
+use Rattle.row_laws.specs.group_attr.declared.attrs.Phases.{Phases}
+use Rattle.row_laws.specs.group_attr.declared.attrs.Phases.TheVariants.{One, Many}
+use Rattle.row_laws.specs.proposal_core.declared.proposal.Cause.TheVariants.{Died, Gone}
+use Rattle.row_laws.specs.proposal_core.declared.proposal.Proposal.{Proposal}
+use Rattle.row_laws.specs.proposal_core.declared.entry.Entry.{Entry}
+use Rattle.row_laws.specs.proposal_core.declared.entry.Entry.TheVariants.{Once, Begin}
+use Rattle.row_laws.specs.proposal_core.declared.group_state.GroupState.{GroupState}
+use Rattle.row_laws.specs.proposal_core.Fold.{max_phases}
+use Rattle.row_laws.specs.proposal_core.Lists.{list_or_new, with_entry}
+use Rattle.row_laws.specs.batch_rules.Waiting.{WaitingView, add_failure}
+use Rattle.row_laws.specs.vote_phases.Tally.{TallyView}
+use Rattle.row_laws.specs.subscribe_core.Subs.{is_of_group, differs}
+use Rattle.row_laws.specs.client_callbacks.declared.told.Why.{Why}
+use Rattle.row_laws.specs.client_callbacks.declared.ballot.Filled.{Filled}
+use Rattle.row_laws.specs.client_callbacks.Ballots.{BallotView}
+use Rattle.row_laws.specs.session_state.declared.casts.Cast.{Cast}
+use Rattle.row_laws.specs.session_state.declared.state.SessionState.{SessionState}
+use Rattle.row_laws.specs.session_state.HandOn.{hearers, casts_out, take_telling}
+use Rattle.row_laws.specs.session_state.HandOn as session
+use Rattle.row_laws.specs.node_state.declared.group.GroupRow.{GroupRow}
+use Rattle.row_laws.specs.node_state.declared.group.Led.{Led}
+use Rattle.row_laws.specs.node_state.declared.happened.Happened.{Happened}
+use Rattle.row_laws.specs.node_state.declared.happened.Happened.TheVariants as happened
+use Rattle.row_laws.specs.node_state.declared.packet.Body.{Body}
+use Rattle.row_laws.specs.node_state.declared.packet.Body.TheVariants as body
+use Rattle.row_laws.specs.node_state.declared.state.Core.{Core}
+use Rattle.row_laws.specs.node_state.State.{with_row, with_led, led_of, state_of, len_of, list_forgotten, fits_at_end, forget_below, frozen, leader_of, others, least_acked, decisions_with, recorded, recorded_all, with_sessions}
+use Rattle.row_laws.specs.node_state.Sending.{send_on, sent, send_all, send_if_known, network_to, vote_of}
+use Rattle.row_laws.specs.node_state.HandOn.{Answering, fills, heard, note_of, notes, noted, ballot_sent, cast_sent_of, casts_sent, hand_on}
+use Rattle.row_laws.specs.node_state.Leading.{put, put_and_hand, forget_least, with_waiting, wait_if, new_members_wait, appended, append_if_fits, with_tally, tally_set, tally_for, tally_opened, closing_entry, is_phase, closes_from, closes, begin_many, begins}
+use Rattle.row_laws.specs.node_state.Deciding.{keep_decision, refused}
 use Rattle.provider_laws.proofs.resting.Orderly.{MildLed, MildWaits, fails_few}
 use Rattle.provider_laws.proofs.resting.Growing.{Grows, led_grows, put_grows, forgets_grow}
 
@@ -55,20 +55,20 @@ module _ (P : Core → Type 0) (Ok : List ℕ → Type 0) (k : Keeps P Ok) where
 
   -- ---- what is sent and recorded
 
-  pub on_sent_on : {s : Core} (network to : ℕ) (b : Body) → P s → P (sent_on s network to b)
-  unfolding sent_on
-  on_sent_on {s} network to b p = k.alike s (sent_on s network to b) refl refl refl p
+  pub on_sent_on : {s : Core} (network to : ℕ) (b : Body) → P s → P (send_on s network to b)
+  unfolding send_on
+  on_sent_on {s} network to b p = k.alike s (send_on s network to b) refl refl refl p
 
   pub on_sent : {s : Core} (to : ℕ) (b : Body) → P s → P (sent s to b)
   unfolding sent
   on_sent {s} to b p = on_sent_on (network_to s to) to b p
 
-  pub on_sent_all : {s : Core} (ns : List ℕ) (b : Body) → P s → P (sent_all s ns b)
-  unfolding sent_all
+  pub on_sent_all : {s : Core} (ns : List ℕ) (b : Body) → P s → P (send_all s ns b)
+  unfolding send_all
   on_sent_all ns b p = on_fold (λ t n. sent t n b) (λ t n q. on_sent n b q) ns p
 
-  pub on_known : {s : Core} (to : Option ℕ) (b : Body) → P s → P (sent_if_known s to b)
-  unfolding sent_if_known
+  pub on_known : {s : Core} (to : Option ℕ) (b : Body) → P s → P (send_if_known s to b)
+  unfolding send_if_known
   on_known None b p = p
   on_known (Some n) b p = on_sent n b p
 
@@ -105,8 +105,8 @@ module _ (P : Core → Type 0) (Ok : List ℕ → Type 0) (k : Keeps P Ok) where
   on_casts {s} g to cs p =
       on_either (frozen s) p (on_fold (λ t (c : Cast). cast_sent_of t g to c.p c.cast) (λ t c q. on_cast g to c.p c.cast q) cs p)
 
-  pub on_handed : (f : Answering) {s : Core} (to : Option ℕ) (g : List ℕ) (i : ℕ) (before after : GroupState) (e : Entry) → P s → P (handed_on f s to g i before after e)
-  unfolding handed_on
+  pub on_handed : (f : Answering) {s : Core} (to : Option ℕ) (g : List ℕ) (i : ℕ) (before after : GroupState) (e : Entry) → P s → P (hand_on f s to g i before after e)
+  unfolding hand_on
   on_handed f {s} to g i before after e p =
       let bs : List (Option Filled) = fills f (length s.records) s.sessions e after (hearers s.sessions g before e) in
       let cs : List Cast = casts_out s.sessions g before after e bs in
@@ -128,42 +128,42 @@ module _ (P : Core → Type 0) (Ok : List ℕ → Type 0) (k : Keeps P Ok) where
   on_put {s} g ok e p =
       on_record (happened.Put s.views.me s.views.view g (len_of s g) e) (on_row g ok (λ row. record row { list = Some (with_entry (list_or_new row.list) s.views.view e) }) (put_grows s.views.view e) p)
 
-  pub on_put_handed : (f : Answering) {s : Core} (to : Option ℕ) (g : List ℕ) (ok : Ok g) (e : Entry) → P s → P (put_and_handed f s to g e)
-  unfolding put_and_handed
+  pub on_put_handed : (f : Answering) {s : Core} (to : Option ℕ) (g : List ℕ) (ok : Ok g) (e : Entry) → P s → P (put_and_hand f s to g e)
+  unfolding put_and_hand
   on_put_handed f {s} to g ok e p = on_handed f to g (len_of s g) (state_of s g) (state_of (put s g e) g) e (on_put g ok e p)
 
-  pub on_forgets : {s : Core} (g : List ℕ) (ok : Ok g) (n : ℕ) → P s → P (forgets_below s g n)
-  unfolding forgets_below
+  pub on_forgets : {s : Core} (g : List ℕ) (ok : Ok g) (n : ℕ) → P s → P (forget_below s g n)
+  unfolding forget_below
   on_forgets g ok n p = on_row g ok (λ row. record row { list = list_forgotten n row.list }) (forgets_grow n) p
 
-  pub on_forgets_least : {s : Core} (g : List ℕ) (ok : Ok g) → P s → P (forgets_least s g)
-  unfolding forgets_least
+  pub on_forgets_least : {s : Core} (g : List ℕ) (ok : Ok g) → P s → P (forget_least s g)
+  unfolding forget_least
   on_forgets_least {s} g ok p = on_forgets g ok (least_acked s g) p
 
   pub on_waiting : {s : Core} (g : List ℕ) (ok : Ok g) (f : WaitingView → WaitingView) → MildWaits f → P s → P (with_waiting s g f)
   unfolding with_waiting
   on_waiting g ok f m p = on_led g ok (λ l. record l { waiting = f l.waiting }) (λ l w. m l.waiting w) p
 
-  on_waits_if : {s : Core} (g : List ℕ) (ok : Ok g) (q : ProviderId) (a b : Bool) → P s → P (waits_if s g q a b)
-  unfolding waits_if
-  on_waits_if g ok q true b p = on_waiting g ok (waits_failure q Died) (fails_few q Died) p
-  on_waits_if g ok q false true p = on_waiting g ok (waits_failure q Gone) (fails_few q Gone) p
+  on_waits_if : {s : Core} (g : List ℕ) (ok : Ok g) (q : ProviderId) (a b : Bool) → P s → P (wait_if s g q a b)
+  unfolding wait_if
+  on_waits_if g ok q true b p = on_waiting g ok (add_failure q Died) (fails_few q Died) p
+  on_waits_if g ok q false true p = on_waiting g ok (add_failure q Gone) (fails_few q Gone) p
   on_waits_if g ok q false false p = p
 
   pub on_new_members : {s : Core} (g : List ℕ) (ok : Ok g) (before after : GroupState) → P s → P (new_members_wait s g before after)
   unfolding new_members_wait
   on_new_members {s} g ok before after p =
-      on_fold (λ t q. waits_if t g q (among after.failed q) (among (led_of s g).gone q)) (λ t q h. on_waits_if g ok q (among after.failed q) (among (led_of s g).gone q) h) (filter (λ q. not (among before.members q)) after.members) p
+      on_fold (λ t q. wait_if t g q (among after.failed q) (among (led_of s g).gone q)) (λ t q h. on_waits_if g ok q (among after.failed q) (among (led_of s g).gone q) h) (filter (λ q. not (among before.members q)) after.members) p
 
   on_appended : (f : Answering) {s : Core} (g : List ℕ) (ok : Ok g) (e : Entry) → P s → P (appended f s g e)
   unfolding appended
   on_appended f {s} g ok e p =
       let t : Core = put s g e in
-      let u : Core = sent_all t (others t) (body.Entry t.views.view g (len_of s g) (least_acked t g) e) in
+      let u : Core = send_all t (others t) (body.Entry t.views.view g (len_of s g) (least_acked t g) e) in
       on_new_members g ok (state_of s g) (state_of t g) (on_forgets_least g ok (on_handed f (leader_of u g) g (len_of s g) (state_of s g) (state_of t g) e (on_sent_all (others t) (body.Entry t.views.view g (len_of s g) (least_acked t g) e) (on_put g ok e p))))
 
-  pub on_appended_if : (f : Answering) {s : Core} (g : List ℕ) (ok : Ok g) (e : Entry) (b : Bool) → P s → P (appended_if f s g e b)
-  unfolding appended_if
+  pub on_appended_if : (f : Answering) {s : Core} (g : List ℕ) (ok : Ok g) (e : Entry) (b : Bool) → P s → P (append_if_fits f s g e b)
+  unfolding append_if_fits
   on_appended_if f g ok e false p = p
   on_appended_if f g ok e true p = on_appended f g ok e p
 
@@ -200,18 +200,18 @@ module _ (P : Core → Type 0) (Ok : List ℕ → Type 0) (k : Keeps P Ok) where
   on_closes f {s} g ok p = on_closes_from max_phases f s g ok p
 
   pub on_begins : (f : Answering) {s : Core} (g : List ℕ) (ok : Ok g) (x : Proposal) (phases : Phases) → P s → P (begins f s g x phases)
-  unfolding begins begun_many
+  unfolding begins begin_many
   on_begins f {s} g ok x One p = on_appended_if f g ok (Once x) (fits_at_end s g (Once x)) p
   on_begins f {s} g ok x Many p = by (fits_at_end s g (Begin x))
     where
-      by : (b : Bool) → P (begun_many f s g x b)
+      by : (b : Bool) → P (begin_many f s g x b)
       by false = p
       by true = on_closes f g ok (on_opened g ok (on_appended f g ok (Begin x) p))
 
   -- ---- deciding
 
-  pub on_kept : {s : Core} (g : List ℕ) (ok : Ok g) (q : ProviderId) (r : ℕ) (y : Option Why) → P s → P (decision_kept s g q r y)
-  unfolding decision_kept
+  pub on_kept : {s : Core} (g : List ℕ) (ok : Ok g) (q : ProviderId) (r : ℕ) (y : Option Why) → P s → P (keep_decision s g q r y)
+  unfolding keep_decision
   on_kept g ok q r y p = on_led g ok (λ l. record l { decided = decisions_with (record { p = q; r = r; why = y }) l.decided }) (λ l w. w) p
 
   pub on_refused : {s : Core} (g : List ℕ) (ok : Ok g) (q : ProviderId) (r : ℕ) (y : Why) → P s → P (refused s g q r y)

@@ -2,31 +2,31 @@
 use Rattle.std.proofs.Common.{◌≡◌, ℕ, List, [], ◌∷◌, ◌++◌, fold, Option, Some, None, Bool, true, false, refl, sym, subst, inl, inr}
 use Rattle.std.specs.Prelude.{filter, Result, Ok, Err}
 use Rattle.std.specs.List.{last_or}
-use Rattle.rsct_packet.specs.Search.{Has}
-use Rattle.client_callbacks.specs.declared.ballot.Filled.{Filled}
-use Rattle.session_state.specs.declared.fault.GsFault.{GsFault}
-use Rattle.session_state.specs.declared.state.KeptBallot.{KeptBallot}
-use Rattle.session_state.specs.declared.state.Provider.{Provider}
-use Rattle.session_state.specs.declared.state.Request.{Request}
-use Rattle.session_state.specs.declared.state.SessionState.{SessionState}
-use Rattle.session_state.specs.State.{is_client_of, client_token}
-use Rattle.session_state.specs.Calls.{goodbye_taken}
-use Rattle.node_state.specs.declared.call.CallLine.{CallLine}
-use Rattle.node_state.specs.declared.call.CallLine.TheVariants as call
-use Rattle.node_state.specs.declared.happened.Happened.{Happened}
-use Rattle.node_state.specs.declared.happened.Happened.TheVariants as happened
-use Rattle.node_state.specs.declared.packet.Body.{Body}
-use Rattle.node_state.specs.declared.packet.Body.TheVariants as body
-use Rattle.node_state.specs.declared.state.Core.{Core}
-use Rattle.node_state.specs.State.{frozen, leader_of, recorded, with_sessions}
-use Rattle.node_state.specs.Sending.{sent_on, sent, sent_if_known}
-use Rattle.node_state.specs.Calls.{call_refused, changed, last_asked, proposed, ballot_recorded, ballot_sent_if, last_cast, ballot_given, gone_sent, all_gone_sent, goodbye_said, call_row}
+use Rattle.row_laws.specs.rsct_packet.Search.{Has}
+use Rattle.row_laws.specs.client_callbacks.declared.ballot.Filled.{Filled}
+use Rattle.row_laws.specs.session_state.declared.fault.GsFault.{GsFault}
+use Rattle.row_laws.specs.session_state.declared.state.KeptBallot.{KeptBallot}
+use Rattle.row_laws.specs.session_state.declared.state.Provider.{Provider}
+use Rattle.row_laws.specs.session_state.declared.state.Request.{Request}
+use Rattle.row_laws.specs.session_state.declared.state.SessionState.{SessionState}
+use Rattle.row_laws.specs.session_state.State.{is_client_of, client_token}
+use Rattle.row_laws.specs.session_state.Calls.{goodbye_taken}
+use Rattle.row_laws.specs.node_state.declared.call.CallLine.{CallLine}
+use Rattle.row_laws.specs.node_state.declared.call.CallLine.TheVariants as call
+use Rattle.row_laws.specs.node_state.declared.happened.Happened.{Happened}
+use Rattle.row_laws.specs.node_state.declared.happened.Happened.TheVariants as happened
+use Rattle.row_laws.specs.node_state.declared.packet.Body.{Body}
+use Rattle.row_laws.specs.node_state.declared.packet.Body.TheVariants as body
+use Rattle.row_laws.specs.node_state.declared.state.Core.{Core}
+use Rattle.row_laws.specs.node_state.State.{frozen, leader_of, recorded, with_sessions}
+use Rattle.row_laws.specs.node_state.Sending.{send_on, sent, send_if_known}
+use Rattle.row_laws.specs.node_state.Calls.{refuse_call, changed, ask_last, proposed, record_ballot, ballot_sent_if, cast_last, give_ballot, send_gone, send_all_gone, goodbye_said, take_call}
 use Rattle.provider_laws.proofs.resting.Orderly.{Orderly}
 use Rattle.provider_laws.proofs.resting.Walk.{on_either, on_fold, on_known, on_record, on_sessions}
 use Rattle.provider_laws.proofs.resting.Rows.{on_request_sent, on_kept_sent}
 
-on_call_refused : {s : Core} (client : List ℕ) (fault : GsFault) → Orderly s → Orderly (call_refused s client fault)
-unfolding call_refused
+on_call_refused : {s : Core} (client : List ℕ) (fault : GsFault) → Orderly s → Orderly (refuse_call s client fault)
+unfolding refuse_call
 on_call_refused {s} client fault p = on_record (happened.Refused s.views.me client fault) p
 
 on_changed : {s : Core} (client : List ℕ) (r : Result SessionState GsFault) → Orderly s → Orderly (changed s client r)
@@ -34,8 +34,8 @@ unfolding changed
 on_changed client (Ok t) p = on_sessions t p
 on_changed client (Err fault) p = on_call_refused client fault p
 
-on_asked : {s : Core} (o : Option Request) → Orderly s → Orderly (last_asked s o)
-unfolding last_asked
+on_asked : {s : Core} (o : Option Request) → Orderly s → Orderly (ask_last s o)
+unfolding ask_last
 on_asked None p = p
 on_asked (Some q) p = on_request_sent q (on_record (happened.Asked q.p q.r q.group q.proposal) p)
 
@@ -44,8 +44,8 @@ unfolding proposed
 on_proposed client (Ok t) p = on_asked (last_or None t.requests) (on_sessions t p)
 on_proposed client (Err fault) p = on_call_refused client fault p
 
-on_ballot_recorded : {s : Core} (k : KeptBallot) (o : Option Filled) → Orderly s → Orderly (ballot_recorded s k o)
-unfolding ballot_recorded
+on_ballot_recorded : {s : Core} (k : KeptBallot) (o : Option Filled) → Orderly s → Orderly (record_ballot s k o)
+unfolding record_ballot
 on_ballot_recorded k None p = p
 on_ballot_recorded k (Some b) p = on_record (happened.Cast k.p k.proto k.phase b.vote b.value b.message) p
 
@@ -54,27 +54,27 @@ unfolding ballot_sent_if
 on_ballot_sent k true p = p
 on_ballot_sent k false p = on_kept_sent k p
 
-on_cast : {s : Core} (o : Option KeptBallot) → Orderly s → Orderly (last_cast s o)
-unfolding last_cast
+on_cast : {s : Core} (o : Option KeptBallot) → Orderly s → Orderly (cast_last s o)
+unfolding cast_last
 on_cast None p = p
 on_cast {s} (Some k) p = on_ballot_sent k (frozen s) (on_ballot_recorded k k.ballot.filled p)
 
-on_given : {s : Core} (client : List ℕ) (r : Result SessionState GsFault) → Orderly s → Orderly (ballot_given s client r)
-unfolding ballot_given
+on_given : {s : Core} (client : List ℕ) (r : Result SessionState GsFault) → Orderly s → Orderly (give_ballot s client r)
+unfolding give_ballot
 on_given client (Ok t) p = on_cast (last_or None t.kept) (on_sessions t p)
 on_given client (Err fault) p = on_call_refused client fault p
 
-on_all_gone : {s : Core} (ended : List Provider) → Orderly s → Orderly (all_gone_sent s ended)
-unfolding all_gone_sent gone_sent
-on_all_gone {s} ended p = on_either (frozen s) p (on_fold gone_sent (λ t x q. on_known (leader_of t x.group) (body.Gone t.views.view x.group x.p) q) ended p)
+on_all_gone : {s : Core} (ended : List Provider) → Orderly s → Orderly (send_all_gone s ended)
+unfolding send_all_gone send_gone
+on_all_gone {s} ended p = on_either (frozen s) p (on_fold send_gone (λ t x q. on_known (leader_of t x.group) (body.Gone t.views.view x.group x.p) q) ended p)
 
 on_said : {s : Core} (client : List ℕ) (ended : List Provider) (r : Result SessionState GsFault) → Orderly s → Orderly (goodbye_said s client ended r)
 unfolding goodbye_said
 on_said client ended (Ok t) p = on_all_gone ended (on_sessions t p)
 on_said client ended (Err fault) p = on_call_refused client fault p
 
-pub on_call : {s : Core} (c : CallLine) → Orderly s → Orderly (call_row s c)
-unfolding call_row
+pub on_call : {s : Core} (c : CallLine) → Orderly s → Orderly (take_call s c)
+unfolding take_call
 on_call (call.Init node name votes) p = on_changed name _ p
 on_call (call.Join client g instance attrs) p = on_proposed client _ p
 on_call (call.Leave client g phases) p = on_proposed client _ p
@@ -100,26 +100,26 @@ pub record Parts (s u : Core) : Type 0 where
   pub config : u.config ≡ s.config
   pub none : (r : Happened) → Has r u.records → NoPut r
 
-parts_sent : (s u : Core) (to : Option ℕ) (b : Body) → Parts s u → Parts s (sent_if_known u to b)
-unfolding sent_if_known sent sent_on
+parts_sent : (s u : Core) (to : Option ℕ) (b : Body) → Parts s u → Parts s (send_if_known u to b)
+unfolding send_if_known sent send_on
 parts_sent s u None b k = k
 parts_sent s u (Some n) b k = record { groups = k.groups; views = k.views; config = k.config; none = k.none }
 
-parts_gone : (s u : Core) (ended : List Provider) → Parts s u → Parts s (fold gone_sent u ended)
-unfolding gone_sent
+parts_gone : (s u : Core) (ended : List Provider) → Parts s u → Parts s (fold send_gone u ended)
+unfolding send_gone
 parts_gone s u [] k = k
-parts_gone s u (x ∷ xs) k = parts_gone s (gone_sent u x) xs (parts_sent s u (leader_of u x.group) (body.Gone u.views.view x.group x.p) k)
+parts_gone s u (x ∷ xs) k = parts_gone s (send_gone u x) xs (parts_sent s u (leader_of u x.group) (body.Gone u.views.view x.group x.p) k)
 
-parts_all : (s u : Core) (ended : List Provider) → Parts s u → Parts s (all_gone_sent u ended)
-unfolding all_gone_sent
+parts_all : (s u : Core) (ended : List Provider) → Parts s u → Parts s (send_all_gone u ended)
+unfolding send_all_gone
 parts_all s u ended k = by (frozen u)
   where
-    by : (b : Bool) → Parts s (elim b as (λ _. Core) [ true ↦ u | false ↦ fold gone_sent u ended ])
+    by : (b : Bool) → Parts s (elim b as (λ _. Core) [ true ↦ u | false ↦ fold send_gone u ended ])
     by true = k
     by false = parts_gone s u ended k
 
 parts_said : (s : Core) (client : List ℕ) (ended : List Provider) (r : Result SessionState GsFault) → s.records ≡ [] → Parts s (goodbye_said s client ended r)
-unfolding goodbye_said with_sessions call_refused recorded
+unfolding goodbye_said with_sessions refuse_call recorded
 parts_said s client ended (Ok t) none = parts_all s (record s { sessions = t }) ended (record { groups = refl; views = refl; config = refl; none = λ r i. absurd (subst (Has r) none i) })
 parts_said s client ended (Err fault) none =
     record { groups = refl; views = refl; config = refl; none = λ r i. one r (subst (λ rs. Has r (rs ++ happened.Refused s.views.me client fault ∷ [])) none i) }
@@ -128,7 +128,7 @@ parts_said s client ended (Err fault) none =
     one r (inl e) = subst NoPut (sym e) tt
     one r (inr z) = absurd z
 
-pub goodbye_parts : (s : Core) (client : List ℕ) → s.records ≡ [] → Parts s (call_row s (call.Goodbye client))
-unfolding call_row
+pub goodbye_parts : (s : Core) (client : List ℕ) → s.records ≡ [] → Parts s (take_call s (call.Goodbye client))
+unfolding take_call
 goodbye_parts s client none =
     parts_said s client (filter (is_client_of (client_token s.sessions client)) s.sessions.providers) (goodbye_taken s.sessions (client_token s.sessions client)) none

@@ -1,12 +1,12 @@
 -- After the end of a step the node rests, where it is not frozen; and a node that rests stays as it is at the end of a step.
 use Rattle.std.proofs.Common.{◌≡◌, ◌≤◌, ◌<◌, ◌⊎◌, ℕ, zero, suc, List, [], ◌∷◌, length, fold, Bool, true, false, refl, sym, ap, ◌∙◌, subst, inl, inr, arith}
-use Rattle.rsct_packet.specs.Search.{Has}
-use Rattle.view_state.specs.Views.{is_frozen}
-use Rattle.node_state.specs.declared.group.GroupRow.{GroupRow}
-use Rattle.node_state.specs.declared.state.Core.{Core}
-use Rattle.node_state.specs.State.{frozen, led_groups}
-use Rattle.node_state.specs.HandOn.{Answering}
-use Rattle.node_state.specs.Ending.{Pass, quiet, group_begins, one_pass, passes, most_begun, step_ended}
+use Rattle.row_laws.specs.rsct_packet.Search.{Has}
+use Rattle.row_laws.specs.view_state.Views.{is_frozen}
+use Rattle.row_laws.specs.node_state.declared.group.GroupRow.{GroupRow}
+use Rattle.row_laws.specs.node_state.declared.state.Core.{Core}
+use Rattle.row_laws.specs.node_state.State.{frozen, led_groups}
+use Rattle.row_laws.specs.node_state.HandOn.{Answering}
+use Rattle.row_laws.specs.node_state.Ending.{Pass, quiet, group_begins, one_pass, passes, most_begun, end_step}
 use Rattle.provider_laws.proofs.resting.Orderly.{Orderly}
 use Rattle.provider_laws.proofs.resting.Onward.{led_few}
 use Rattle.provider_laws.proofs.resting.Passing.{AllRest, room, room_most, passes_rest, passes_onward, passes_settle}
@@ -54,12 +54,12 @@ passes_all f s k = by (rows_or_none s.groups)
         subst AllRest (sym (passes_none (most_begun s) (most_begun s) f s (led_none s z))) (λ g i. absurd (subst (Has g) (led_none s z) i))
     by (inr z) = passes_settle (most_begun s) (most_begun s) f s (plenty s z) k (rooms s)
 
-pub ended_rests : (f : Answering) (s : Core) → Orderly s → frozen s ≡ false → AllRest (step_ended f s)
-unfolding step_ended
+pub ended_rests : (f : Answering) (s : Core) → Orderly s → frozen s ≡ false → AllRest (end_step f s)
+unfolding end_step
 ended_rests f s k thawed = subst (λ b. AllRest (elim b as (λ _. Core) [ true ↦ s | false ↦ passes (most_begun s) (most_begun s) f s ])) (sym thawed) (passes_all f s k)
 
-pub ended_frozen : (f : Answering) (s : Core) → Orderly s → frozen (step_ended f s) ≡ frozen s
-unfolding step_ended frozen
+pub ended_frozen : (f : Answering) (s : Core) → Orderly s → frozen (end_step f s) ≡ frozen s
+unfolding end_step frozen
 ended_frozen f s k = by (frozen s)
   where
     views : (b : Bool) → (length s.groups ≤ 0) ⊎ (1 ≤ length s.groups) → (passes (most_begun s) (most_begun s) f s).views ≡ s.views
@@ -70,8 +70,8 @@ ended_frozen f s k = by (frozen s)
     by true = refl
     by false = ap is_frozen (views false (rows_or_none s.groups))
 
-pub ended_orderly : (f : Answering) (s : Core) → Orderly s → Orderly (step_ended f s)
-unfolding step_ended
+pub ended_orderly : (f : Answering) (s : Core) → Orderly s → Orderly (end_step f s)
+unfolding end_step
 ended_orderly f s k = by (frozen s)
   where
     passed : (length s.groups ≤ 0) ⊎ (1 ≤ length s.groups) → Orderly (passes (most_begun s) (most_begun s) f s)
@@ -82,8 +82,8 @@ ended_orderly f s k = by (frozen s)
     by true = k
     by false = passed (rows_or_none s.groups)
 
-pub ended_same : (f : Answering) (s : Core) → (frozen s ≡ false → AllRest s) → step_ended f s ≡ s
-unfolding step_ended
+pub ended_same : (f : Answering) (s : Core) → (frozen s ≡ false → AllRest s) → end_step f s ≡ s
+unfolding end_step
 ended_same f s all = by (frozen s) refl
   where
     rests : AllRest s → (length s.groups ≤ 0) ⊎ (1 ≤ length s.groups) → passes (most_begun s) (most_begun s) f s ≡ s

@@ -3,34 +3,34 @@ use Rattle.std.proofs.Common.{◌≡◌, ◌≤◌, ◌<◌, ℕ, List, [], ◌�
 use Rattle.std.specs.Prelude.{◌&&◌, not, find, map, filter, nat_lt, nat_le, is_none, if◌then◌else◌}
 use Rattle.std.specs.Str.{bytes_eq}
 use Rattle.std.proofs.lemmas.Bool.{ltb-true, leb-false}
-use Rattle.rsct_packet.specs.declared.ids.ProviderId.{ProviderId}
-use Rattle.rsct_packet.specs.Text.{name_lt}
-use Rattle.rsct_packet.specs.Search.{Has}
-use Rattle.rsct_packet.specs.Providers.{without}
-use Rattle.rsct_packet.proofs.HasLaws.{find_has, has_map}
-use Rattle.group_attr.specs.declared.attrs.Attrs.{Attrs}
-use Rattle.group_attr.specs.declared.attrs.Batch.{Batch}
-use Rattle.group_attr.specs.Agree.{agree}
-use Rattle.proposal_core.specs.declared.proposal.Cause.{Cause}
-use Rattle.proposal_core.specs.declared.entry.Vote.{Vote}
-use Rattle.proposal_core.specs.declared.group_state.GroupState.{GroupState}
-use Rattle.proposal_core.specs.Fold.{max_providers, present}
-use Rattle.proposal_core.specs.Lists.{is_at_limit}
-use Rattle.vote_phases.specs.Tally.{TallyView}
-use Rattle.batch_rules.specs.Waiting.{WaitingView, has_instance, waits_join, is_failing, waits_failure, join_dropped, batches_joins, batches_failures, left_of, failures_left, joins_left}
-use Rattle.client_callbacks.specs.declared.told.Why.{Why}
-use Rattle.client_callbacks.specs.declared.told.Why.TheVariants as why
-use Rattle.view_state.specs.declared.install.Install.{Install}
-use Rattle.view_state.specs.Bases.{bases_of}
-use Rattle.node_state.specs.declared.group.GroupRow.{GroupRow}
-use Rattle.node_state.specs.declared.group.Led.{Led}
-use Rattle.node_state.specs.declared.state.Core.{Core}
-use Rattle.node_state.specs.State.{InNameOrder, nothing_led, new_row, row_found, row_of, rows_with, with_row, with_led, led_of, list_of, state_of, decisions_with, has_name}
-use Rattle.node_state.specs.Deciding.{decision_kept, lacks_source, source_len, is_idle_empty, meant_attrs, join_refusal, attrs_kept, join_waits}
-use Rattle.node_state.specs.Following.{vote_cast}
-use Rattle.node_state.specs.Applying.{base_row}
-use Rattle.node_state.proofs.NameOrder.{KeepsName, row_here, rows_ordered}
-use Rattle.step_ties.proofs.BaseOrder.{bases_ordered}
+use Rattle.row_laws.specs.rsct_packet.declared.ids.ProviderId.{ProviderId}
+use Rattle.row_laws.specs.rsct_packet.Text.{name_lt}
+use Rattle.row_laws.specs.rsct_packet.Search.{Has}
+use Rattle.row_laws.specs.rsct_packet.Providers.{without}
+use Rattle.row_laws.proofs.rsct_packet_laws.HasLaws.{find_has, has_map}
+use Rattle.row_laws.specs.group_attr.declared.attrs.Attrs.{Attrs}
+use Rattle.row_laws.specs.group_attr.declared.attrs.Batch.{Batch}
+use Rattle.row_laws.specs.group_attr.Agree.{agree}
+use Rattle.row_laws.specs.proposal_core.declared.proposal.Cause.{Cause}
+use Rattle.row_laws.specs.proposal_core.declared.entry.Vote.{Vote}
+use Rattle.row_laws.specs.proposal_core.declared.group_state.GroupState.{GroupState}
+use Rattle.row_laws.specs.proposal_core.Fold.{max_providers, present}
+use Rattle.row_laws.specs.proposal_core.Lists.{is_at_limit}
+use Rattle.row_laws.specs.vote_phases.Tally.{TallyView}
+use Rattle.row_laws.specs.batch_rules.Waiting.{WaitingView, has_instance, waits_join, is_failing, add_failure, drop_join, batches_joins, batches_failures, left_of, failures_left, joins_left}
+use Rattle.row_laws.specs.client_callbacks.declared.told.Why.{Why}
+use Rattle.row_laws.specs.client_callbacks.declared.told.Why.TheVariants as why
+use Rattle.row_laws.specs.view_state.declared.install.Install.{Install}
+use Rattle.row_laws.specs.view_state.Bases.{bases_of}
+use Rattle.row_laws.specs.node_state.declared.group.GroupRow.{GroupRow}
+use Rattle.row_laws.specs.node_state.declared.group.Led.{Led}
+use Rattle.row_laws.specs.node_state.declared.state.Core.{Core}
+use Rattle.row_laws.specs.node_state.State.{InNameOrder, nothing_led, new_row, row_found, row_of, rows_with, with_row, with_led, led_of, list_of, state_of, decisions_with, has_name}
+use Rattle.row_laws.specs.node_state.Deciding.{keep_decision, lacks_source, source_len, is_idle_empty, meant_attrs, join_refusal, keep_attrs, wait_join}
+use Rattle.row_laws.specs.node_state.Following.{vote_cast}
+use Rattle.row_laws.specs.node_state.Applying.{base_row}
+use Rattle.row_laws.proofs.node_state_laws.NameOrder.{KeepsName, row_here, rows_ordered}
+use Rattle.row_laws.proofs.step_refinement_laws.BaseOrder.{bases_ordered}
 
 abbrev pub Few : WaitingView → Type 0
 Few w = (length w.joins ≤ 64) × (length w.failures ≤ 64)
@@ -99,7 +99,7 @@ on_led g f m p = on_row g (λ row. record row { led = f row.led }) (λ x. refl, 
 
 -- ---- what waits
 
-pub fails_few : (q : ProviderId) (c : Cause) → MildWaits (waits_failure q c)
+pub fails_few : (q : ProviderId) (c : Cause) → MildWaits (add_failure q c)
 fails_few q c w k = by (is_failing q w) (nat_lt (length w.failures) 64) refl
   where
     more : WaitingView
@@ -110,7 +110,7 @@ fails_few q c w k = by (is_failing q w) (nat_lt (length w.failures) 64) refl
     by false false e = k
     by false true e = (k.0, let z : length w.failures < 64 = ltb-true (length w.failures) 64 e in omega (arith, z, length-append w.failures (record { p = q; cause = c } ∷ [])))
 
-pub dropped_few : (q : ProviderId) → MildWaits (join_dropped q)
+pub dropped_few : (q : ProviderId) → MildWaits (drop_join q)
 dropped_few q w k = (let z = shorter w.joins in omega (arith, z, k.0), k.1)
   where
     shorter : (ps : List ProviderId) → length (without ps q) ≤ length ps
@@ -168,8 +168,8 @@ room_for s g p a e = by (not idle && not (agree a st.attrs)) (has_instance here 
     by false false false true q r = absurd (cc)
     by false false false false q r = omega (arith, leb-false max_providers (length here) q, length-append (present st) joins)
 
-pub on_joining : {s : Core} (g : List ℕ) (q : ProviderId) (r : ℕ) (a : Attrs) (idle : Bool) → length (led_of s g).waiting.joins < 64 → Orderly s → Orderly (join_waits s g q r a idle)
-unfolding join_waits decision_kept with_led row_of led_of
+pub on_joining : {s : Core} (g : List ℕ) (q : ProviderId) (r : ℕ) (a : Attrs) (idle : Bool) → length (led_of s g).waiting.joins < 64 → Orderly s → Orderly (wait_join s g q r a idle)
+unfolding wait_join keep_decision with_led row_of led_of
 on_joining {s} g q r a idle room p =
     on_row_at {s = t} g (λ row. record row { led = change row.led }) (λ x. refl) (subst (λ (z : GroupRow). Few (change z.led).waiting) (sym here) (added (led_of s g).waiting room (row_few s g p.few))) (added nothing_led.waiting (omega arith) nothing_few) held
   where
@@ -177,7 +177,7 @@ on_joining {s} g q r a idle room p =
     decide l = record l { decided = decisions_with (record { p = q; r = r; why = None }) l.decided }
 
     change : Led → Led
-    change l = record l { waiting = waits_join q l.waiting; join_attrs = attrs_kept l.join_attrs q a idle }
+    change l = record l { waiting = waits_join q l.waiting; join_attrs = keep_attrs l.join_attrs q a idle }
 
     t : Core
     t = with_row s g (λ row. record row { led = decide row.led })

@@ -2,66 +2,66 @@
 use Rattle.std.proofs.Common.{length, ◌<◌, ◌≡◌, ℕ, ◌+◌, ◌-◌, List, [], ◌∷◌, take, drop, Option, Some, None, Bool, true, false, refl}
 use Rattle.std.specs.Prelude.{◌==◌, ◌&&◌, filter, nat_lt, nat_le}
 use Rattle.std.specs.Option.{unwrap_or}
-use Rattle.rsct_packet.specs.declared.ids.ProviderId.{ProviderId}
-use Rattle.rsct_packet.specs.declared.ids.ProtoId.{ProtoId}
-use Rattle.rsct_packet.specs.Providers.{among}
-use Rattle.group_attr.specs.declared.attrs.Attrs.{Attrs}
-use Rattle.group_attr.specs.declared.attrs.Phases.{Phases}
-use Rattle.proposal_core.specs.declared.proposal.Cause.TheVariants.{Gone}
-use Rattle.proposal_core.specs.declared.proposal.Proposal.{Proposal}
-use Rattle.proposal_core.specs.declared.proposal.Proposal.TheVariants.{Join, Leave, Fail, Expel, State, Message, Attributes, Reflect}
-use Rattle.proposal_core.specs.declared.entry.Vote.{Vote}
-use Rattle.proposal_core.specs.declared.entry.Entry.{Entry}
-use Rattle.proposal_core.specs.declared.entry.Entry.TheVariants.{Late}
-use Rattle.proposal_core.specs.declared.group_state.Running.{Running}
-use Rattle.proposal_core.specs.Fold.{runs, present}
-use Rattle.proposal_core.specs.GroupView.{GroupView}
-use Rattle.proposal_core.specs.Lists.{state_in}
-use Rattle.vote_phases.specs.Tally.{TallyView, tally_fail, open_voters, expires}
-use Rattle.batch_rules.specs.Waiting.{waits_failure, join_dropped}
-use Rattle.name_server.specs.Names as names
-use Rattle.client_callbacks.specs.declared.told.Why.{Why}
-use Rattle.client_callbacks.specs.declared.told.Why.TheVariants as why
-use Rattle.client_callbacks.specs.declared.ballot.Filled.{Filled}
-use Rattle.session_state.specs.declared.state.Request.{Request}
-use Rattle.session_state.specs.declared.state.KeptBallot.{KeptBallot}
-use Rattle.session_state.specs.State.{outstanding}
-use Rattle.session_state.specs.HandOn.{is_numbered}
-use Rattle.node_state.specs.declared.group.Decision.{Decision}
-use Rattle.node_state.specs.declared.group.GroupRow.{GroupRow}
-use Rattle.node_state.specs.declared.packet.Body.TheVariants as body
-use Rattle.node_state.specs.declared.state.Core.{Core}
-use Rattle.node_state.specs.State.{row_of, led_of, with_led, state_of, len_of, holds, held_rows, fits_at_end, frozen, coordinates, leader_of, leads, led_by, led_groups, others, least_acked, acked_by, acked_raised, decision_of}
-use Rattle.node_state.specs.Sending.{sent, sent_if_known, request_to, request_sent, requests_sent, vote_of, kept_sent_to, kept_sent, kept_sent_if, kept_sent_again, votes_sent_again}
-use Rattle.node_state.specs.HandOn.{Answering}
-use Rattle.node_state.specs.Leading.{put_and_handed}
-use Rattle.node_state.specs.Deciding.{join_refusal, is_idle_empty, join_waits, decided_join, decided_other, decided}
-use Rattle.node_state.specs.Following.{lookup_row, told_if, tell_row, requests_of, named, is_name_used, name_row, told_again, request_new, request_after, request_at, is_group_refused, request_row, entry_next, entry_elsewhere, entry_row, acked, ack_row, vote_cast, vote_row, tally_failed, gone_waits, marked, gone_present, gone_of, gone_row}
-use Rattle.node_state.specs.Ticks.{is_lost, lost_told, owed_part, late_appended, announced, ticked_in, tally_ticks, entries_sent, list_sent_again, sent_again, group_ticks, led_part}
-use Rattle.node_state.specs.declared.happened.Happened.TheVariants as happened
-use Rattle.session_state.specs.HandOn.{telling_taken}
+use Rattle.row_laws.specs.rsct_packet.declared.ids.ProviderId.{ProviderId}
+use Rattle.row_laws.specs.rsct_packet.declared.ids.ProtoId.{ProtoId}
+use Rattle.row_laws.specs.rsct_packet.Providers.{among}
+use Rattle.row_laws.specs.group_attr.declared.attrs.Attrs.{Attrs}
+use Rattle.row_laws.specs.group_attr.declared.attrs.Phases.{Phases}
+use Rattle.row_laws.specs.proposal_core.declared.proposal.Cause.TheVariants.{Gone}
+use Rattle.row_laws.specs.proposal_core.declared.proposal.Proposal.{Proposal}
+use Rattle.row_laws.specs.proposal_core.declared.proposal.Proposal.TheVariants.{Join, Leave, Fail, Expel, State, Message, Attributes, Reflect}
+use Rattle.row_laws.specs.proposal_core.declared.entry.Vote.{Vote}
+use Rattle.row_laws.specs.proposal_core.declared.entry.Entry.{Entry}
+use Rattle.row_laws.specs.proposal_core.declared.entry.Entry.TheVariants.{Late}
+use Rattle.row_laws.specs.proposal_core.declared.group_state.Running.{Running}
+use Rattle.row_laws.specs.proposal_core.Fold.{runs, present}
+use Rattle.row_laws.specs.proposal_core.GroupView.{GroupView}
+use Rattle.row_laws.specs.proposal_core.Lists.{state_in}
+use Rattle.row_laws.specs.vote_phases.Tally.{TallyView, tally_fail, open_voters, expires}
+use Rattle.row_laws.specs.batch_rules.Waiting.{add_failure, drop_join}
+use Rattle.row_laws.specs.name_server.Names as names
+use Rattle.row_laws.specs.client_callbacks.declared.told.Why.{Why}
+use Rattle.row_laws.specs.client_callbacks.declared.told.Why.TheVariants as why
+use Rattle.row_laws.specs.client_callbacks.declared.ballot.Filled.{Filled}
+use Rattle.row_laws.specs.session_state.declared.state.Request.{Request}
+use Rattle.row_laws.specs.session_state.declared.state.KeptBallot.{KeptBallot}
+use Rattle.row_laws.specs.session_state.State.{outstanding}
+use Rattle.row_laws.specs.session_state.HandOn.{is_numbered}
+use Rattle.row_laws.specs.node_state.declared.group.Decision.{Decision}
+use Rattle.row_laws.specs.node_state.declared.group.GroupRow.{GroupRow}
+use Rattle.row_laws.specs.node_state.declared.packet.Body.TheVariants as body
+use Rattle.row_laws.specs.node_state.declared.state.Core.{Core}
+use Rattle.row_laws.specs.node_state.State.{row_of, led_of, with_led, state_of, len_of, holds, held_rows, fits_at_end, frozen, coordinates, leader_of, leads, set_leader, led_groups, others, least_acked, acked_by, acked_raised, decision_of}
+use Rattle.row_laws.specs.node_state.Sending.{sent, send_if_known, send_request_to, send_request, send_requests, vote_of, send_kept_to, send_kept, kept_sent_if, kept_sent_again, send_votes_again}
+use Rattle.row_laws.specs.node_state.HandOn.{Answering}
+use Rattle.row_laws.specs.node_state.Leading.{put_and_hand}
+use Rattle.row_laws.specs.node_state.Deciding.{join_refusal, is_idle_empty, wait_join, decide_join, decide_change, decided}
+use Rattle.row_laws.specs.node_state.Following.{take_lookup, told_if, take_tell, requests_of, named, is_name_used, take_name, tell_again, decide_new, request_after, request_at, is_group_refused, take_request, entry_next, entry_elsewhere, take_entry, acked, take_ack, vote_cast, take_vote, tally_failed, wait_gone, marked, gone_present, gone_of, take_gone}
+use Rattle.row_laws.specs.node_state.Ticks.{is_lost, lost_told, tick_owed, late_appended, announced, ticked_in, tally_ticks, entries_sent, list_sent_again, sent_again, tick_group, tick_led}
+use Rattle.row_laws.specs.node_state.declared.happened.Happened.TheVariants as happened
+use Rattle.row_laws.specs.session_state.HandOn.{take_telling}
 use Rattle.provider_laws.proofs.resting.Orderly.{Orderly, alike, on_row, on_led, fails_few, cast_few, dropped_few, on_joining, room_for}
 use Rattle.provider_laws.proofs.resting.Walk.{on_either, on_fold, on_sent, on_known, on_record, on_sessions, on_put_handed, on_forgets, on_forgets_least, on_waiting, on_appended_if, on_tally, on_closes, on_begins, on_kept, on_refused}
 
 -- ---- what is owed is sent
 
-pub on_request_sent : {s : Core} (q : Request) → Orderly s → Orderly (request_sent s q)
-unfolding request_sent request_to
+pub on_request_sent : {s : Core} (q : Request) → Orderly s → Orderly (send_request s q)
+unfolding send_request send_request_to
 on_request_sent {s} q p = on_either (frozen s) p (by (leader_of s q.group))
   where
-    by : (o : Option ℕ) → Orderly (request_to s q o)
+    by : (o : Option ℕ) → Orderly (send_request_to s q o)
     by None = on_sent s.views.view.coord (body.Lookup s.views.view q.group) p
     by (Some n) = on_sent n (body.Request s.views.view q.group q.p q.r q.phases q.proposal) p
 
-pub on_requests : {s : Core} → Orderly s → Orderly (requests_sent s)
-unfolding requests_sent
-on_requests {s} p = on_fold request_sent (λ t q h. on_request_sent q h) s.sessions.requests p
+pub on_requests : {s : Core} → Orderly s → Orderly (send_requests s)
+unfolding send_requests
+on_requests {s} p = on_fold send_request (λ t q h. on_request_sent q h) s.sessions.requests p
 
-pub on_kept_sent : {s : Core} (b : KeptBallot) → Orderly s → Orderly (kept_sent s b)
-unfolding kept_sent kept_sent_to vote_of
+pub on_kept_sent : {s : Core} (b : KeptBallot) → Orderly s → Orderly (send_kept s b)
+unfolding send_kept send_kept_to vote_of
 on_kept_sent {s} b p = by b.ballot.filled
   where
-    by : (o : Option Filled) → Orderly (kept_sent_to s b (leader_of s b.group) o)
+    by : (o : Option Filled) → Orderly (send_kept_to s b (leader_of s b.group) o)
     by None = p
     by (Some x) = on_known (leader_of s b.group) _ p
 
@@ -73,34 +73,34 @@ on_kept_again {s} b p = by (runs b.proto b.phase (state_of s b.group).running)
     by false = p
     by true = on_kept_sent b p
 
-pub on_votes : {s : Core} → Orderly s → Orderly (votes_sent_again s)
-unfolding votes_sent_again
+pub on_votes : {s : Core} → Orderly s → Orderly (send_votes_again s)
+unfolding send_votes_again
 on_votes {s} p = on_fold kept_sent_again (λ t b h. on_kept_again b h) s.sessions.kept p
 
 on_lost : {s : Core} (row : GroupRow) → Orderly s → Orderly (lost_told s row)
 unfolding lost_told
 on_lost {s} row p =
-    on_fold (λ t q. sent_if_known t (leader_of t row.name) (body.Gone t.views.view row.name q)) (λ t q h. on_known (leader_of t row.name) (body.Gone t.views.view row.name q) h) (filter (is_lost s) (present (state_in row.list))) p
+    on_fold (λ t q. send_if_known t (leader_of t row.name) (body.Gone t.views.view row.name q)) (λ t q h. on_known (leader_of t row.name) (body.Gone t.views.view row.name q) h) (filter (is_lost s) (present (state_in row.list))) p
 
-pub on_owed_part : {s : Core} → Orderly s → Orderly (owed_part s)
-unfolding owed_part
+pub on_owed_part : {s : Core} → Orderly s → Orderly (tick_owed s)
+unfolding tick_owed
 on_owed_part {s} p =
-    let t : Core = requests_sent s in
+    let t : Core = send_requests s in
     on_either (frozen s) p (on_votes (on_fold lost_told (λ u row h. on_lost row h) (held_rows t) (on_requests p)))
 
 -- ---- requests are decided
 
-pub on_led_by : {s : Core} (g : List ℕ) (n : ℕ) → Orderly s → Orderly (led_by s g n)
-unfolding led_by
+pub on_led_by : {s : Core} (g : List ℕ) (n : ℕ) → Orderly s → Orderly (set_leader s g n)
+unfolding set_leader
 on_led_by g n p = on_row g (λ row. record row { leader = Some n }) (λ x. refl, λ x w. w) p
 
-on_decided_join : {s : Core} (g : List ℕ) (q : ProviderId) (r : ℕ) (a : Attrs) (o : Option Why) → (o ≡ None → length (led_of s g).waiting.joins < 64) → Orderly s → Orderly (decided_join s g q r a o)
-unfolding decided_join join_waits
+on_decided_join : {s : Core} (g : List ℕ) (q : ProviderId) (r : ℕ) (a : Attrs) (o : Option Why) → (o ≡ None → length (led_of s g).waiting.joins < 64) → Orderly s → Orderly (decide_join s g q r a o)
+unfolding decide_join wait_join
 on_decided_join {s} g q r a None room p = on_joining g q r a (is_idle_empty (state_of s g)) (room refl) p
 on_decided_join g q r a (Some y) room p = on_refused g q r y p
 
-on_decided_other : (f : Answering) {s : Core} (g : List ℕ) (q : ProviderId) (r : ℕ) (phases : Phases) (x : Proposal) (o : Option Why) → Orderly s → Orderly (decided_other f s g q r phases x o)
-unfolding decided_other
+on_decided_other : (f : Answering) {s : Core} (g : List ℕ) (q : ProviderId) (r : ℕ) (phases : Phases) (x : Proposal) (o : Option Why) → Orderly s → Orderly (decide_change f s g q r phases x o)
+unfolding decide_change
 on_decided_other f g q r phases x None p = on_begins f g x phases (on_kept g q r None p)
 on_decided_other f g q r phases x (Some y) p = on_refused g q r y p
 
@@ -117,44 +117,44 @@ on_decided f g q r phases (Reflect v i value) p = on_decided_other f g q r phase
 
 -- ---- packets of a view
 
-pub on_lookup : {s : Core} (from : ℕ) (g : List ℕ) → Orderly s → Orderly (lookup_row s from g)
-unfolding lookup_row
+pub on_lookup : {s : Core} (from : ℕ) (g : List ℕ) → Orderly s → Orderly (take_lookup s from g)
+unfolding take_lookup
 on_lookup {s} from g p = by (coordinates s)
   where
     t : Core
-    t = record s { names = names.names_after g from s.names }
+    t = record s { names = names.lookup g from s.names }
 
     by : (b : Bool) → Orderly (elim b as (λ _. Core) [ false ↦ s | true ↦ sent t from (body.Name s.views.view g (unwrap_or (names.looked_up g from s.names) 0)) ])
     by false = p
     by true =
         on_sent from (body.Name s.views.view g (unwrap_or (names.looked_up g from s.names) 0)) (alike s t refl p)
 
-pub on_tell : {s : Core} (q : ProviderId) (r : ℕ) (y : Why) → Orderly s → Orderly (tell_row s q r y)
-unfolding tell_row told_if
+pub on_tell : {s : Core} (q : ProviderId) (r : ℕ) (y : Why) → Orderly s → Orderly (take_tell s q r y)
+unfolding take_tell told_if
 on_tell {s} q r y p = by (is_numbered r (outstanding s.sessions q))
   where
     by : (b : Bool) → Orderly (told_if s q r y b)
     by false = p
-    by true = on_record (happened.Told q r y) (on_sessions (telling_taken s.sessions q r y) p)
+    by true = on_record (happened.Told q r y) (on_sessions (take_telling s.sessions q r y) p)
 
-pub on_name : {s : Core} (g : List ℕ) (n : ℕ) → Orderly s → Orderly (name_row s g n)
-unfolding name_row named
+pub on_name : {s : Core} (g : List ℕ) (n : ℕ) → Orderly s → Orderly (take_name s g n)
+unfolding take_name named
 on_name {s} g n p = on_either (is_name_used s g n) (by (n == 0)) p
   where
     by : (b : Bool) → Orderly (named s g n b)
-    by true = on_fold (λ t (q : Request). tell_row t q.p q.r (why.GroupsFull 64)) (λ t q h. on_tell q.p q.r (why.GroupsFull 64) h) (requests_of s g) p
-    by false = on_fold request_sent (λ t q h. on_request_sent q h) (requests_of s g) (on_led_by g n p)
+    by true = on_fold (λ t (q : Request). take_tell t q.p q.r (why.GroupsFull 64)) (λ t q h. on_tell q.p q.r (why.GroupsFull 64) h) (requests_of s g) p
+    by false = on_fold send_request (λ t q h. on_request_sent q h) (requests_of s g) (on_led_by g n p)
 
-on_request_new : (f : Answering) {s : Core} (g : List ℕ) (q : ProviderId) (r : ℕ) (phases : Phases) (x : Proposal) → Orderly s → Orderly (request_new f s g q r phases x)
-unfolding request_new
+on_request_new : (f : Answering) {s : Core} (g : List ℕ) (q : ProviderId) (r : ℕ) (phases : Phases) (x : Proposal) → Orderly s → Orderly (decide_new f s g q r phases x)
+unfolding decide_new
 on_request_new f {s} g q r phases x p = on_decided f g q r phases x (on_led_by g s.views.me p)
 
 on_request_at : (f : Answering) {s : Core} (g : List ℕ) (q : ProviderId) (r : ℕ) (phases : Phases) (x : Proposal) (o : Option Decision) → Orderly s → Orderly (request_at f s g q r phases x o)
-unfolding request_at told_again request_after
+unfolding request_at tell_again request_after
 on_request_at f g q r phases x None p = on_request_new f g q r phases x p
 on_request_at f {s} g q r phases x (Some d) p = by (nat_lt r d.r) (r == d.r)
   where
-    told : (o : Option Why) → Orderly (told_again s g q r o)
+    told : (o : Option Why) → Orderly (tell_again s g q r o)
     told None = p
     told (Some y) = on_sent q.node (body.Tell s.views.view g q r y) p
 
@@ -163,8 +163,8 @@ on_request_at f {s} g q r phases x (Some d) p = by (nat_lt r d.r) (r == d.r)
     by false true = told d.why
     by false false = on_request_new f g q r phases x p
 
-pub on_request : (f : Answering) {s : Core} (from : ℕ) (g : List ℕ) (q : ProviderId) (r : ℕ) (phases : Phases) (x : Proposal) → Orderly s → Orderly (request_row f s from g q r phases x)
-unfolding request_row
+pub on_request : (f : Answering) {s : Core} (from : ℕ) (g : List ℕ) (q : ProviderId) (r : ℕ) (phases : Phases) (x : Proposal) → Orderly s → Orderly (take_request f s from g q r phases x)
+unfolding take_request
 on_request f {s} from g q r phases x p =
     on_either (is_group_refused s g) (on_sent from (body.Name s.views.view g 0) p) (on_request_at f g q r phases x (decision_of (led_of s g) q) p)
 
@@ -172,7 +172,7 @@ on_entry_next : (f : Answering) {s : Core} (from : ℕ) (g : List ℕ) (stable :
 unfolding entry_next
 on_entry_next f from g stable e false p = p
 on_entry_next f {s} from g stable e true p =
-    let t : Core = put_and_handed f s (Some from) g e in
+    let t : Core = put_and_hand f s (Some from) g e in
     on_forgets g stable (on_led_by g from (on_sent from (body.Ack t.views.view g (len_of t g)) (on_put_handed f (Some from) g e p)))
 
 on_entry_elsewhere : {s : Core} (from : ℕ) (g : List ℕ) (stable : ℕ) (b : Bool) → Orderly s → Orderly (entry_elsewhere s from g stable b)
@@ -180,27 +180,27 @@ unfolding entry_elsewhere
 on_entry_elsewhere {s} from g stable true p = on_forgets g stable (on_sent from (body.Ack s.views.view g (len_of s g)) p)
 on_entry_elsewhere {s} from g stable false p = on_either (holds s g) (on_forgets g stable p) p
 
-pub on_entry : (f : Answering) {s : Core} (from : ℕ) (g : List ℕ) (place stable : ℕ) (e : Entry) → Orderly s → Orderly (entry_row f s from g place stable e)
-unfolding entry_row
+pub on_entry : (f : Answering) {s : Core} (from : ℕ) (g : List ℕ) (place stable : ℕ) (e : Entry) → Orderly s → Orderly (take_entry f s from g place stable e)
+unfolding take_entry
 on_entry f {s} from g place stable e p =
     on_either (place == len_of s g) (on_entry_next f from g stable e (fits_at_end s g e) p) (on_entry_elsewhere from g stable (nat_lt place (len_of s g)) p)
 
-pub on_ack : {s : Core} (from : ℕ) (g : List ℕ) (n : ℕ) → Orderly s → Orderly (ack_row s from g n)
-unfolding ack_row acked
+pub on_ack : {s : Core} (from : ℕ) (g : List ℕ) (n : ℕ) → Orderly s → Orderly (take_ack s from g n)
+unfolding take_ack acked
 on_ack {s} from g n p =
     on_either (leads s g && nat_le n (len_of s g)) (on_forgets_least g (on_led g (λ l. record l { acked = acked_raised from n l.acked }) (λ l w. w) p)) p
 
-pub on_vote : (f : Answering) {s : Core} (g : List ℕ) (proto : ProtoId) (phase : ℕ) (q : ProviderId) (v : Vote) (value message : Option (List ℕ)) → Orderly s → Orderly (vote_row f s g proto phase q v value message)
-unfolding vote_row
+pub on_vote : (f : Answering) {s : Core} (g : List ℕ) (proto : ProtoId) (phase : ℕ) (q : ProviderId) (v : Vote) (value message : Option (List ℕ)) → Orderly s → Orderly (take_vote f s g proto phase q v value message)
+unfolding take_vote
 on_vote f {s} g proto phase q v value message p =
     on_either (leads s g && runs proto phase (state_of s g).running) (on_closes f g (on_led g (λ l. vote_cast l q v value message l.tally) (λ l w. cast_few l q v value message l.tally w) p)) p
 
 on_gone_present : (f : Answering) {s : Core} (g : List ℕ) (q : ProviderId) → Orderly s → Orderly (gone_present f s g q)
-unfolding gone_present gone_waits tally_failed
+unfolding gone_present wait_gone tally_failed
 on_gone_present f {s} g q p =
     let u : Core = tally_failed f t g q (led_of t g).tally in
     let h : Orderly u = failed (led_of t g).tally in
-    on_either (among (state_of u g).members q) (on_waiting g (waits_failure q Gone) (fails_few q Gone) h) h
+    on_either (among (state_of u g).members q) (on_waiting g (add_failure q Gone) (fails_few q Gone) h) h
   where
     t : Core
     t = with_led s g (λ l. record l { gone = marked l.gone q })
@@ -212,13 +212,13 @@ on_gone_present f {s} g q p =
     failed None = at
     failed (Some x) = on_closes f g (on_tally g (Some (tally_fail q x)) at)
 
-pub on_gone : (f : Answering) {s : Core} (g : List ℕ) (q : ProviderId) → Orderly s → Orderly (gone_row f s g q)
-unfolding gone_row gone_of
+pub on_gone : (f : Answering) {s : Core} (g : List ℕ) (q : ProviderId) → Orderly s → Orderly (take_gone f s g q)
+unfolding take_gone gone_of
 on_gone f {s} g q p = on_either (leads s g) (by (among (present (state_of s g)) q) (among (led_of s g).waiting.joins q)) p
   where
     by : (a b : Bool) → Orderly (gone_of f s g q a b)
     by true b = on_gone_present f g q p
-    by false true = on_waiting g (join_dropped q) (dropped_few q) p
+    by false true = on_waiting g (drop_join q) (dropped_few q) p
     by false false = p
 
 -- ---- the tick of what is led
@@ -255,12 +255,12 @@ on_again {s} g n p = by (row_of s g).list
     by None = p
     by (Some l) = on_entries_sent n g (least_acked s g) (take 16 (drop (acked_by s (row_of s g) n - l.start) l.entries)) (acked_by s (row_of s g) n) s p
 
-on_group_ticks : (f : Answering) {s : Core} (g : List ℕ) → Orderly s → Orderly (group_ticks f s g)
-unfolding group_ticks
+on_group_ticks : (f : Answering) {s : Core} (g : List ℕ) → Orderly s → Orderly (tick_group f s g)
+unfolding tick_group
 on_group_ticks f {s} g p =
     let t : Core = tally_ticks f s g (led_of s g).tally in
     on_fold (sent_again g) (λ u n h. on_again g n h) (others t) (on_tally_ticks f g (led_of s g).tally p)
 
-pub on_led_part : (f : Answering) {s : Core} → Orderly s → Orderly (led_part f s)
-unfolding led_part
-on_led_part f {s} p = on_either (frozen s) p (on_fold (group_ticks f) (λ t g h. on_group_ticks f g h) (led_groups s) p)
+pub on_led_part : (f : Answering) {s : Core} → Orderly s → Orderly (tick_led f s)
+unfolding tick_led
+on_led_part f {s} p = on_either (frozen s) p (on_fold (tick_group f) (λ t g h. on_group_ticks f g h) (led_groups s) p)

@@ -2,37 +2,37 @@
 use Rattle.std.proofs.Common.{◌≡◌, ◌≤◌, ◌<◌, ◌⊎◌, ℕ, zero, suc, ◌+◌, List, [], ◌∷◌, length, Option, Some, None, Bool, true, false, refl, sym, ap, ◌∙◌, subst, inl, inr, arith}
 use Rattle.std.specs.Prelude.{filter}
 use Rattle.std.specs.Option.{option_map}
-use Rattle.rsct_packet.specs.declared.ids.ProviderId.{ProviderId}
-use Rattle.rsct_packet.specs.Lists.{is_empty}
-use Rattle.rsct_packet.specs.Providers.{among}
-use Rattle.group_attr.specs.declared.attrs.Phases.{Phases}
-use Rattle.group_attr.specs.declared.attrs.Phases.TheVariants.{One, Many}
-use Rattle.proposal_core.specs.declared.proposal.Failure.{Failure}
-use Rattle.proposal_core.specs.declared.proposal.Proposal.{Proposal}
-use Rattle.proposal_core.specs.declared.proposal.Proposal.TheVariants.{Fail, Reflect}
-use Rattle.proposal_core.specs.declared.entry.Entry.{Entry}
-use Rattle.proposal_core.specs.declared.entry.Entry.TheVariants.{Once, Begin}
-use Rattle.proposal_core.specs.declared.group_state.GroupState.{GroupState}
-use Rattle.proposal_core.specs.GroupView.{GroupView}
-use Rattle.proposal_core.specs.Lists.{list_or_new, len_in, entry_fits, with_entry}
-use Rattle.batch_rules.specs.Waiting.{WaitingView, batches_failures, chosen_of, left_of, next_failures, failures_left}
-use Rattle.source_target.specs.declared.Due.{Due}
-use Rattle.source_target.specs.declared.Due.TheVariants as due
-use Rattle.source_target.specs.Due as target
-use Rattle.client_callbacks.specs.declared.told.Why.{Why}
-use Rattle.client_callbacks.specs.declared.told.Why.TheVariants.{NoSource}
-use Rattle.node_state.specs.declared.group.GroupRow.{GroupRow}
-use Rattle.node_state.specs.declared.group.Led.{Led}
-use Rattle.node_state.specs.declared.packet.Body.{Body}
-use Rattle.node_state.specs.declared.packet.Body.TheVariants as body
-use Rattle.node_state.specs.declared.state.Core.{Core}
-use Rattle.node_state.specs.State.{row_of, with_row, with_led, led_of, list_of, state_of, len_of, fits_at_end, others, least_acked, leader_of, decisions_with, recorded}
-use Rattle.node_state.specs.Sending.{sent_on, sent, sent_all, network_to}
-use Rattle.node_state.specs.HandOn.{Answering}
-use Rattle.node_state.specs.Leading.{put, with_waiting, appended, appended_if, tally_opened, closes, begun_many, begins}
-use Rattle.node_state.specs.Deciding.{decision_kept, refused, source_len}
-use Rattle.node_state.specs.Ending.{Pass, begun_now, failures_begin, source_refused, may_begin}
-use Rattle.node_state.proofs.NameOrder.{cases_text, row_here, row_there}
+use Rattle.row_laws.specs.rsct_packet.declared.ids.ProviderId.{ProviderId}
+use Rattle.row_laws.specs.rsct_packet.Lists.{is_empty}
+use Rattle.row_laws.specs.rsct_packet.Providers.{among}
+use Rattle.row_laws.specs.group_attr.declared.attrs.Phases.{Phases}
+use Rattle.row_laws.specs.group_attr.declared.attrs.Phases.TheVariants.{One, Many}
+use Rattle.row_laws.specs.proposal_core.declared.proposal.Failure.{Failure}
+use Rattle.row_laws.specs.proposal_core.declared.proposal.Proposal.{Proposal}
+use Rattle.row_laws.specs.proposal_core.declared.proposal.Proposal.TheVariants.{Fail, Reflect}
+use Rattle.row_laws.specs.proposal_core.declared.entry.Entry.{Entry}
+use Rattle.row_laws.specs.proposal_core.declared.entry.Entry.TheVariants.{Once, Begin}
+use Rattle.row_laws.specs.proposal_core.declared.group_state.GroupState.{GroupState}
+use Rattle.row_laws.specs.proposal_core.GroupView.{GroupView}
+use Rattle.row_laws.specs.proposal_core.Lists.{list_or_new, len_in, entry_fits, with_entry}
+use Rattle.row_laws.specs.batch_rules.Waiting.{WaitingView, batches_failures, chosen_of, left_of, next_failures, failures_left}
+use Rattle.row_laws.specs.source_target.declared.Due.{Due}
+use Rattle.row_laws.specs.source_target.declared.Due.TheVariants as due
+use Rattle.row_laws.specs.source_target.Due as target
+use Rattle.row_laws.specs.client_callbacks.declared.told.Why.{Why}
+use Rattle.row_laws.specs.client_callbacks.declared.told.Why.TheVariants.{NoSource}
+use Rattle.row_laws.specs.node_state.declared.group.GroupRow.{GroupRow}
+use Rattle.row_laws.specs.node_state.declared.group.Led.{Led}
+use Rattle.row_laws.specs.node_state.declared.packet.Body.{Body}
+use Rattle.row_laws.specs.node_state.declared.packet.Body.TheVariants as body
+use Rattle.row_laws.specs.node_state.declared.state.Core.{Core}
+use Rattle.row_laws.specs.node_state.State.{row_of, with_row, with_led, led_of, list_of, state_of, len_of, fits_at_end, others, least_acked, leader_of, decisions_with, recorded}
+use Rattle.row_laws.specs.node_state.Sending.{send_on, sent, send_all, network_to}
+use Rattle.row_laws.specs.node_state.HandOn.{Answering}
+use Rattle.row_laws.specs.node_state.Leading.{put, with_waiting, appended, append_if_fits, tally_opened, closes, begin_many, begins}
+use Rattle.row_laws.specs.node_state.Deciding.{keep_decision, refused, source_len}
+use Rattle.row_laws.specs.node_state.Ending.{Pass, begun_now, failures_begin, source_refused, may_begin}
+use Rattle.row_laws.proofs.node_state_laws.NameOrder.{cases_text, row_here, row_there}
 use Rattle.provider_laws.proofs.resting.Orderly.{Orderly, MildLed, MildWaits, failures_few}
 use Rattle.provider_laws.proofs.resting.Growing.{led_grows, put_grows}
 use Rattle.provider_laws.proofs.resting.Beginning.{on_record, on_sent_all, on_handed, on_forgets_least, on_new_members, on_opened, on_closes}
@@ -115,8 +115,8 @@ unfolding with_waiting
 waiting_here s g f k = ap (λ (l : Led). l.waiting) (led_here s g (λ l. record l { waiting = f l.waiting }) k)
 
 still_sent : (s : Core) (g : List ℕ) (to : ℕ) (b : Body) → Orderly s → Still g s (sent s to b)
-unfolding sent sent_on row_of led_of
-still_sent s g to b k = record { onward = (keeps_onward s).alike s (sent_on s (network_to s to) to b) refl refl refl (self s k); lists = λ h. refl; others = λ h ne. refl }
+unfolding sent send_on row_of led_of
+still_sent s g to b k = record { onward = (keeps_onward s).alike s (send_on s (network_to s to) to b) refl refl refl (self s k); lists = λ h. refl; others = λ h ne. refl }
 
 -- with what waits in the group too
 pub record Held (g : List ℕ) (s t : Core) : Type 0 where
@@ -124,10 +124,10 @@ pub record Held (g : List ℕ) (s t : Core) : Type 0 where
   pub waits : (led_of t g).waiting ≡ (led_of s g).waiting
 
 held_refused : (s : Core) (g : List ℕ) (p : ProviderId) (r : ℕ) (y : Why) → Orderly s → IsNamed s g → Held g s (refused s g p r y)
-unfolding refused decision_kept sent sent_on row_of led_of
+unfolding refused keep_decision sent send_on row_of led_of
 held_refused s g p r y k named =
     let decide : Led → Led = λ l. record l { decided = decisions_with (record { p = p; r = r; why = Some y }) l.decided } in
-    let t : Core = decision_kept s g p r (Some y) in
+    let t : Core = keep_decision s g p r (Some y) in
     let a : Still g s t = still_led s g decide (λ l w. w) k named in
     record {
       still = still_then g s t (refused s g p r y) a (still_sent t g p.node (body.Tell s.views.view g p r y) a.onward.orderly);
@@ -153,7 +153,7 @@ appended_more f s g e k named =
     let a : Onward s t = on_record (Onward s) (IsNamed s) (keeps_onward s) _ ((keeps_onward s).row s g grow named (put_grows s.views.view e) (self s k)) in
     let n : IsNamed t g = named_on s t g a named in
     let one : len_of t g ≡ len_of s g + 1 = longer in
-    let u : Core = sent_all t (others t) (body.Entry t.views.view g (len_of s g) (least_acked t g) e) in
+    let u : Core = send_all t (others t) (body.Entry t.views.view g (len_of s g) (least_acked t g) e) in
     let z : Onward t (appended f s g e) = on_new_members (Onward t) (IsNamed t) (keeps_onward t) g n (state_of s g) (state_of t g) (on_forgets_least (Onward t) (IsNamed t) (keeps_onward t) g n (on_handed (Onward t) (IsNamed t) (keeps_onward t) f (leader_of u g) g (len_of s g) (state_of s g) (state_of t g) e (on_sent_all (Onward t) (IsNamed t) (keeps_onward t) (others t) (body.Entry t.views.view g (len_of s g) (least_acked t g) e) (self t a.orderly)))) in
     (onward_then s t (appended f s g e) a z, let m : len_of t g ≤ len_of (appended f s g e) g = z.lens g in omega (arith, one, m))
   where
@@ -161,20 +161,20 @@ appended_more f s g e k named =
     longer = ap (λ (row : GroupRow). len_in row.list) (row_here g (λ row. record row { list = Some (with_entry (list_or_new row.list) s.views.view e) }) (λ x. refl) s k.order)
 
 pub begins_on : (f : Answering) (s : Core) (g : List ℕ) (x : Proposal) (phases : Phases) → Orderly s → IsNamed s g → fit_of (list_of s g) x phases ≡ true → Onward s (begins f s g x phases) × (len_of s g < len_of (begins f s g x phases) g)
-unfolding begins begun_many fits_at_end appended_if
+unfolding begins begin_many fits_at_end append_if_fits
 begins_on f s g x One k named e =
-    subst (λ b. Onward s (appended_if f s g (Once x) b) × (len_of s g < len_of (appended_if f s g (Once x) b) g)) (sym e) (appended_more f s g (Once x) k named)
+    subst (λ b. Onward s (append_if_fits f s g (Once x) b) × (len_of s g < len_of (append_if_fits f s g (Once x) b) g)) (sym e) (appended_more f s g (Once x) k named)
 begins_on f s g x Many k named e =
     let a : Core = appended f s g (Begin x) in
     let m = appended_more f s g (Begin x) k named in
     let n : IsNamed a g = named_on s a g m.0 named in
     let z : Onward a (closes f (tally_opened a g) g) = on_closes (Onward a) (IsNamed a) (keeps_onward a) f g n (on_opened (Onward a) (IsNamed a) (keeps_onward a) g n (self a m.0.orderly)) in
-    subst (λ b. Onward s (begun_many f s g x b) × (len_of s g < len_of (begun_many f s g x b) g)) (sym e) (onward_then s a (closes f (tally_opened a g) g) m.0 z, let y : len_of a g ≤ len_of (closes f (tally_opened a g) g) g = z.lens g in let w = m.1 in omega (arith, y, w))
+    subst (λ b. Onward s (begin_many f s g x b) × (len_of s g < len_of (begin_many f s g x b) g)) (sym e) (onward_then s a (closes f (tally_opened a g) g) m.0 z, let y : len_of a g ≤ len_of (closes f (tally_opened a g) g) g = z.lens g in let w = m.1 in omega (arith, y, w))
 
 pub begins_off : (f : Answering) (s : Core) (g : List ℕ) (x : Proposal) (phases : Phases) → fit_of (list_of s g) x phases ≡ false → begins f s g x phases ≡ s
-unfolding begins begun_many fits_at_end appended_if
-begins_off f s g x One e = ap (appended_if f s g (Once x)) e
-begins_off f s g x Many e = ap (begun_many f s g x) e
+unfolding begins begin_many fits_at_end append_if_fits
+begins_off f s g x One e = ap (append_if_fits f s g (Once x)) e
+begins_off f s g x Many e = ap (begin_many f s g x) e
 
 -- ---- what a try leaves
 

@@ -1,27 +1,27 @@
 -- What handing an entry on leaves of the phases that are open and of the ballots that are kept.
 use Rattle.std.proofs.Common.{◌≡◌, ℕ, List, [], ◌∷◌, ◌++◌, Option, Some, None, Bool, true, false, refl, sym, ap, ◌∙◌, subst, inl, inr, ◌⊎◌, ⊎_elim}
 use Rattle.std.specs.Prelude.{not, ◌==◌, ◌&&◌, find, fold, flat_map, if◌then◌else◌, filter}
-use Rattle.rsct_packet.specs.declared.ids.ProviderId.{ProviderId}
-use Rattle.rsct_packet.specs.declared.ids.ProtoId.{ProtoId}
-use Rattle.rsct_packet.specs.Ids.{same_proto}
-use Rattle.rsct_packet.specs.Providers.{same_provider}
-use Rattle.rsct_packet.specs.Search.{Has, edit_where}
-use Rattle.rsct_packet.proofs.HasLaws.{has_filter, filter_has, has_append, append_has_left, append_has_right}
-use Rattle.proposal_core.specs.declared.proposal.Proposal.{Proposal}
-use Rattle.proposal_core.specs.declared.proposal.Proposal.TheVariants.{Join, Leave, Fail, Expel, State, Message, Attributes, Reflect}
-use Rattle.proposal_core.specs.declared.entry.Entry.{Entry}
-use Rattle.proposal_core.specs.declared.entry.Entry.TheVariants.{Once, Begin, Phase, Approve, Reject, Late}
-use Rattle.proposal_core.specs.declared.group_state.GroupState.{GroupState}
-use Rattle.client_callbacks.specs.declared.ballot.Filled.{Filled}
-use Rattle.session_state.specs.declared.casts.Cast.{Cast}
-use Rattle.session_state.specs.declared.state.OpenPhase.{OpenPhase}
-use Rattle.session_state.specs.declared.state.KeptBallot.{KeptBallot}
-use Rattle.session_state.specs.declared.state.Provider.{Provider}
-use Rattle.session_state.specs.declared.state.SessionState.{SessionState}
-use Rattle.session_state.specs.State.{is_provider, is_kept_in, provider_of, with_provider, request_ended, without_providers}
-use Rattle.session_state.specs.HandOn.{kept_ended, kept_after, beginners, hearers, taking_part, part_taken, asks, running_phase, is_late, opened_after, phases_opened, kept_by, casts_kept, proposal_begun, requests_after, removed_from, casts_out, heard, handed_on}
-use Rattle.node_state.proofs.NameOrder.{text_other}
-use Rattle.step_ties.proofs.SessionLaws.{provider_same, provider_self}
+use Rattle.row_laws.specs.rsct_packet.declared.ids.ProviderId.{ProviderId}
+use Rattle.row_laws.specs.rsct_packet.declared.ids.ProtoId.{ProtoId}
+use Rattle.row_laws.specs.rsct_packet.Ids.{same_proto}
+use Rattle.row_laws.specs.rsct_packet.Providers.{same_provider}
+use Rattle.row_laws.specs.rsct_packet.Search.{Has, edit_where}
+use Rattle.row_laws.proofs.rsct_packet_laws.HasLaws.{has_filter, filter_has, has_append, append_has_left, append_has_right}
+use Rattle.row_laws.specs.proposal_core.declared.proposal.Proposal.{Proposal}
+use Rattle.row_laws.specs.proposal_core.declared.proposal.Proposal.TheVariants.{Join, Leave, Fail, Expel, State, Message, Attributes, Reflect}
+use Rattle.row_laws.specs.proposal_core.declared.entry.Entry.{Entry}
+use Rattle.row_laws.specs.proposal_core.declared.entry.Entry.TheVariants.{Once, Begin, Phase, Approve, Reject, Late}
+use Rattle.row_laws.specs.proposal_core.declared.group_state.GroupState.{GroupState}
+use Rattle.row_laws.specs.client_callbacks.declared.ballot.Filled.{Filled}
+use Rattle.row_laws.specs.session_state.declared.casts.Cast.{Cast}
+use Rattle.row_laws.specs.session_state.declared.state.OpenPhase.{OpenPhase}
+use Rattle.row_laws.specs.session_state.declared.state.KeptBallot.{KeptBallot}
+use Rattle.row_laws.specs.session_state.declared.state.Provider.{Provider}
+use Rattle.row_laws.specs.session_state.declared.state.SessionState.{SessionState}
+use Rattle.row_laws.specs.session_state.State.{is_provider, is_kept_in, provider_of, with_provider, end_request, without_providers}
+use Rattle.row_laws.specs.session_state.HandOn.{kept_ended, kept_after, beginners, hearers, taking_part, part_taken, asks, running_phase, is_late, opened_after, open_phases, kept_by, keep_casts, proposal_begun, requests_after, removed_from, casts_out, heard, handed_on}
+use Rattle.row_laws.proofs.node_state_laws.NameOrder.{text_other}
+use Rattle.row_laws.proofs.step_refinement_laws.SessionLaws.{provider_same, provider_self}
 use Rattle.provider_laws.specs.single_casts.Single.{SameBallot, Apart}
 use Rattle.row_laws.proofs.hearing.Sessions.{found_is, fewer_without, fewer_has}
 use Rattle.row_laws.proofs.hearing.Handing.{edit_back, edit_own}
@@ -54,8 +54,8 @@ module _ (e : Entry) (after : GroupState) where
   unfolding opened_after
   opened_is x late = ap (λ b. (if b then x else record x { opened = if asks e after x.p then running_phase after.running else None }).opened) late
 
-  opens_fold : (ps : List ProviderId) (u : SessionState) (p : ProviderId) (y : Provider) → provider_of (phases_opened u e after ps) p ≡ Some y → (x : Provider) × (provider_of u p ≡ Some x) × Opening e after ps p x y
-  unfolding phases_opened provider_of with_provider
+  opens_fold : (ps : List ProviderId) (u : SessionState) (p : ProviderId) (y : Provider) → provider_of (open_phases u e after ps) p ≡ Some y → (x : Provider) × (provider_of u p ≡ Some x) × Opening e after ps p x y
+  unfolding open_phases provider_of with_provider
   opens_fold [] u p y found = (y, found, inr (refl, inr (λ h. h)))
   opens_fold (q ∷ ps) u p y found =
       let k = opens_fold ps (with_provider u q (opened_after e after)) p y found in
@@ -94,21 +94,21 @@ unfolding part_taken with_provider
 parts_kept [] u = refl
 parts_kept (p ∷ ps) u = parts_kept ps (with_provider u p taking_part)
 
-opens_kept : (e : Entry) (after : GroupState) (ps : List ProviderId) (u : SessionState) → (phases_opened u e after ps).kept ≡ u.kept
-unfolding phases_opened with_provider
+opens_kept : (e : Entry) (after : GroupState) (ps : List ProviderId) (u : SessionState) → (open_phases u e after ps).kept ≡ u.kept
+unfolding open_phases with_provider
 opens_kept e after [] u = refl
 opens_kept e after (p ∷ ps) u = opens_kept e after ps (with_provider u p (opened_after e after))
 
 abbrev Requested : SessionState → SessionState → Type 0
 Requested u w = (w.providers ≡ u.providers) × (w.kept ≡ u.kept)
 
-all_ended : (ps : List ProviderId) (u : SessionState) → Requested u (fold (λ t (p : ProviderId). request_ended t p p.join) u ps)
-unfolding request_ended
+all_ended : (ps : List ProviderId) (u : SessionState) → Requested u (fold (λ t (p : ProviderId). end_request t p p.join) u ps)
+unfolding end_request
 all_ended [] u = (refl, refl)
-all_ended (p ∷ ps) u = all_ended ps (request_ended u p p.join)
+all_ended (p ∷ ps) u = all_ended ps (end_request u p p.join)
 
 begun_same : (u : SessionState) (x : Proposal) → Requested u (proposal_begun u x)
-unfolding proposal_begun request_ended
+unfolding proposal_begun end_request
 begun_same u (Join ps attrs n) = all_ended ps u
 begun_same u (Leave p r) = (refl, refl)
 begun_same u (Fail out) = (refl, refl)
@@ -195,10 +195,10 @@ module _ (s : SessionState) (g : List ℕ) (before after : GroupState) (e : Entr
   t = part_taken a new
 
   abbrev o : SessionState
-  o = phases_opened t e after ps
+  o = open_phases t e after ps
 
   abbrev u : SessionState
-  u = casts_kept o g cs
+  u = keep_casts o g cs
 
   abbrev w : SessionState
   w = requests_after u e
@@ -208,7 +208,7 @@ module _ (s : SessionState) (g : List ℕ) (before after : GroupState) (e : Entr
   brought = flat_map (λ (c : Cast). kept_by g c.p c.cast) cs
 
   found_before : (p : ProviderId) (y : Provider) → provider_of (without_providers w (removed_from after ps)) p ≡ Some y → provider_of o p ≡ Some y
-  unfolding provider_of casts_kept
+  unfolding provider_of keep_casts
   found_before p y found =
       ap (λ (xs : List Provider). find (is_provider p) xs) (sym (requests_same u e).0) ∙ (fewer_without w (removed_from after ps)).providers p y found
 
@@ -228,23 +228,23 @@ module _ (s : SessionState) (g : List ℕ) (before after : GroupState) (e : Entr
 
   -- a ballot of another group, or at a Late, stays as long as its provider does
   pub handed_stays : (k : KeptBallot) → Has k s.kept → (k.group ≡ g → ⊥) ⊎ (is_late e ≡ true) → (y : Provider) → provider_of (handed_on s g before after e bs) k.p ≡ Some y → Has k (handed_on s g before after e bs).kept
-  unfolding handed_on heard casts_kept
+  unfolding handed_on heard keep_casts
   handed_stays k i how y found =
       kept_there k (append_has_left k o.kept brought (subst (Has k) (sym (parts_kept new a) ∙ sym (opens_kept e after ps t)) (after_stays s g e k i how))) y found
 
   pub handed_brings : (k : KeptBallot) → Has k brought → (y : Provider) → provider_of (handed_on s g before after e bs) k.p ≡ Some y → Has k (handed_on s g before after e bs).kept
-  unfolding handed_on heard casts_kept
+  unfolding handed_on heard keep_casts
   handed_brings k i y found = kept_there k (append_has_right k o.kept brought i) y found
 
   pub handed_from : (k : KeptBallot) → Has k (handed_on s g before after e bs).kept → Has k s.kept ⊎ Has k brought
-  unfolding handed_on heard casts_kept
+  unfolding handed_on heard keep_casts
   handed_from k i =
       let j : Has k u.kept = subst (Has k) (requests_same u e).1 (fewer_has w (without_providers w (removed_from after ps)) (fewer_without w (removed_from after ps)) k i) in
       ⊎_elim (λ (b : Has k o.kept). inl (after_back s g e k (subst (Has k) (opens_kept e after ps t ∙ parts_kept new a) b))) (λ (b : Has k brought). inr b) (has_append k o.kept brought j)
 
   -- what is kept is apart, where what the notice brings is
   pub handed_apart : ((f : KeptBallot → Bool) (ks : List KeptBallot) → Apart ks → Apart (filter f ks)) → ((xs ys : List KeptBallot) → Apart xs → Apart ys → ((x y : KeptBallot) → Has x xs → Has y ys → SameBallot x y → ⊥) → Apart (xs ++ ys)) → Apart s.kept → Apart brought → ((x y : KeptBallot) → Has x s.kept → Has y brought → SameBallot x y → ⊥) → Apart (handed_on s g before after e bs).kept
-  unfolding handed_on heard casts_kept
+  unfolding handed_on heard keep_casts
   handed_apart of_filter of_append old new cross =
       let end = fewer_without w (removed_from after ps) in
       let there : o.kept ≡ a.kept = opens_kept e after ps t ∙ parts_kept new_ones a in

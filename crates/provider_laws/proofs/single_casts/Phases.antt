@@ -3,22 +3,22 @@ use Rattle.std.proofs.Common.{◌≡◌, ◌≤◌, ◌<◌, ℕ, ◌+◌, Optio
 use Rattle.std.specs.Prelude.{◌==◌, is_none}
 use Rattle.std.proofs.lemmas.Bool.{and_parts}
 use Rattle.std.proofs.lemmas.Bool.Decides.{nat_tests}
-use Rattle.rsct_packet.specs.declared.ids.ViewId.{ViewId}
-use Rattle.rsct_packet.specs.declared.ids.ProtoId.{ProtoId}
-use Rattle.rsct_packet.specs.declared.ids.ProviderId.{ProviderId}
-use Rattle.rsct_packet.specs.Ids.{same_proto}
-use Rattle.rsct_packet.specs.Search.{Has}
-use Rattle.proposal_core.specs.declared.entry.Closed.{Closed}
-use Rattle.proposal_core.specs.declared.entry.Entry.{Entry}
-use Rattle.proposal_core.specs.declared.entry.Entry.TheVariants.{Once, Begin, Phase, Approve, Reject, Late}
-use Rattle.proposal_core.specs.declared.group_state.GroupState.{GroupState}
-use Rattle.proposal_core.specs.declared.group_state.Running.{Running}
-use Rattle.proposal_core.specs.Fold.{runs, fits, begun, next_phase, advanced, applied, after_if, after}
-use Rattle.proposal_core.proofs.FoldLaws.{idle_approved, idle_rejected}
-use Rattle.session_state.specs.declared.state.OpenPhase.{OpenPhase}
-use Rattle.session_state.specs.HandOn.{brought_by}
-use Rattle.run_safety.specs.ViewOrder.{Lt}
-use Rattle.run_safety.proofs.Order.{lt_trans, lt_not_same}
+use Rattle.row_laws.specs.rsct_packet.declared.ids.ViewId.{ViewId}
+use Rattle.row_laws.specs.rsct_packet.declared.ids.ProtoId.{ProtoId}
+use Rattle.row_laws.specs.rsct_packet.declared.ids.ProviderId.{ProviderId}
+use Rattle.row_laws.specs.rsct_packet.Ids.{same_proto}
+use Rattle.row_laws.specs.rsct_packet.Search.{Has}
+use Rattle.row_laws.specs.proposal_core.declared.entry.Closed.{Closed}
+use Rattle.row_laws.specs.proposal_core.declared.entry.Entry.{Entry}
+use Rattle.row_laws.specs.proposal_core.declared.entry.Entry.TheVariants.{Once, Begin, Phase, Approve, Reject, Late}
+use Rattle.row_laws.specs.proposal_core.declared.group_state.GroupState.{GroupState}
+use Rattle.row_laws.specs.proposal_core.declared.group_state.Running.{Running}
+use Rattle.row_laws.specs.proposal_core.Fold.{runs, fits, begun, next_phase, advance, apply, after_if, after}
+use Rattle.row_laws.proofs.proposal_core_laws.FoldLaws.{idle_approved, idle_rejected}
+use Rattle.row_laws.specs.session_state.declared.state.OpenPhase.{OpenPhase}
+use Rattle.row_laws.specs.session_state.HandOn.{brought_by}
+use Rattle.row_laws.specs.run_safety.ViewOrder.{Lt}
+use Rattle.row_laws.proofs.run_safety_laws.Order.{lt_trans, lt_not_same}
 use Rattle.provider_laws.specs.single_casts.Ballots.{opens}
 
 -- the protocol began before the place
@@ -49,14 +49,14 @@ pub data Changed (v : ViewId) (i : ℕ) (a b : Option Running) : Type 0 where
   Advances : (run more : Running) → a ≡ Some run → b ≡ Some more → more.proto ≡ run.proto → more.phase ≡ run.phase + 1 → Changed v i a b
 
 pub after_changes : (s : GroupState) (v : ViewId) (i : ℕ) (e : Entry) → Changed v i s.running (after s v i e).running
-unfolding after after_if applied begun next_phase advanced
+unfolding after after_if apply begun next_phase advance
 after_changes s v i e = by (fits s e)
   where
     next : (c : Closed) (o : Option Running) → s.running ≡ o → Changed v i s.running (next_phase s c.value o).running
     next c None q = Same refl
-    next c (Some run) q = Advances run (advanced c.value run) q refl refl refl
+    next c (Some run) q = Advances run (advance c.value run) q refl refl refl
 
-    fit : (e : Entry) → Changed v i s.running (applied s v i e).running
+    fit : (e : Entry) → Changed v i s.running (apply s v i e).running
     fit (Once x) = Ends (idle_approved (begun s v i x) v i None (begun s v i x).running refl)
     fit (Begin x) = Begins _ refl refl
     fit (Phase c) = next c s.running refl

@@ -4,60 +4,60 @@ use Rattle.std.specs.Prelude.{◌==◌, ◌&&◌, not, map, filter, fold, revers
 use Rattle.std.specs.List.{list_any}
 use Rattle.std.specs.Str.{bytes_eq}
 use Rattle.std.proofs.lemmas.Bool.{eq-eqb}
-use Rattle.rsct_packet.specs.declared.ids.ViewId.{ViewId}
-use Rattle.rsct_packet.specs.declared.ids.ProviderId.{ProviderId}
-use Rattle.rsct_packet.specs.declared.mask.Mask.{Mask}
-use Rattle.rsct_packet.specs.Mask.{nodes_of}
-use Rattle.rsct_packet.specs.Providers.{among}
-use Rattle.rsct_packet.specs.Search.{Has}
-use Rattle.rsct_packet.proofs.HasLaws.{has_append}
-use Rattle.proposal_core.specs.declared.proposal.Proposal.{Proposal}
-use Rattle.proposal_core.specs.declared.proposal.Proposal.TheVariants.{Join, Leave, Fail, Expel, State, Message, Attributes, Reflect}
-use Rattle.proposal_core.specs.declared.entry.Entry.{Entry}
-use Rattle.proposal_core.specs.declared.entry.Entry.TheVariants.{Once, Begin, Phase, Approve, Reject, Late}
-use Rattle.adapter_ring.specs.declared.ring.Ring.{Ring}
-use Rattle.adapter_ring.specs.declared.ring.RingSet.{RingSet}
-use Rattle.adapter_ring.specs.declared.packet.RingSend.{RingSend}
-use Rattle.adapter_ring.specs.declared.packet.RingEvent.TheVariants as ring_event
-use Rattle.adapter_ring.specs.declared.work.RingWork.{RingWork}
-use Rattle.adapter_ring.specs.Rings.{ring_stepped}
-use Rattle.node_reach.specs.Reach as reach
-use Rattle.proposal_core.specs.declared.group_state.GroupState.{GroupState}
-use Rattle.proposal_core.specs.Fold.{joins_of, present, after}
-use Rattle.proposal_core.specs.GroupView.{GroupView}
-use Rattle.proposal_core.specs.Lists.{state_in}
-use Rattle.node_state.specs.declared.happened.Happened.{Happened}
-use Rattle.node_state.specs.declared.happened.Happened.TheVariants as happened
-use Rattle.node_state.specs.declared.packet.Body.TheVariants as body
-use Rattle.node_state.specs.declared.state.Core.{Core}
-use Rattle.node_state.specs.Settings.{is_rings}
-use Rattle.node_state.specs.State.{row_of, recorded_all}
-use Rattle.node_state.specs.Sending.{sent_on, requests_sent}
-use Rattle.node_state.specs.HandOn.{Answering}
-use Rattle.node_state.specs.Ticks.{set_records, ring_put, ring_taken, rings_union, report_of, report_sent, rings_tick, rings_part, views_part}
-use Rattle.run_safety.specs.Past.{History, records_of, earlier, fold_from, view_now}
-use Rattle.run_safety.specs.Stays.{is_join_of, asks_join}
-use Rattle.run_safety.specs.Requests.{requests_of, carried}
-use Rattle.run_safety.specs.Sight.{told_in, lines_at, lines_with, lines_of}
-use Rattle.run_safety.specs.Group.{Standing, Reply, Origin, Packet, Answer, Record, Put, Line, Kept, Noted, kept}
-use Rattle.run_safety.specs.Group as group
-use Rattle.run_safety.specs.Bases.{Bases, base_state, state_of_list, side_state, BaseIs}
-use Rattle.run_safety.specs.Moves.{Leads, Opening, Collected, Quiet, Life, Dawn, NextEvent, Promises, Answers, Appends, Follows, Starts, Enters, Founds, Names, Hears, Asks, Requests, Refuses, IsTold, Acknowledges, Settles}
-use Rattle.run_safety.proofs.Order.{cases_view}
-use Rattle.run_safety.proofs.Prefix.{IsPrefix, prefix_get}
-use Rattle.run_safety.proofs.Lines.{has_entered, has_inserted, has_place}
-use Rattle.run_safety.proofs.Tests.{has_any}
-use Rattle.run_safety.proofs.Whole.{Whole}
-use Rattle.run_safety.proofs.Lives.{whole}
-use Rattle.node_state.proofs.NameOrder.{text_same}
-use Rattle.step_ties.specs.Ghost.{KeepsIf}
-use Rattle.step_ties.specs.Tied.{Scene, opening_of, lines_now, Tied}
-use Rattle.step_ties.proofs.Works.{Unseen, lines_none}
-use Rattle.step_ties.proofs.Appending.{sent_all_is}
-use Rattle.step_ties.proofs.Rings.{rings_part_tied}
-use Rattle.step_ties.proofs.FoundingRows.{founding_tick_tied}
-use Rattle.step_ties.proofs.Owed.{requests_tied}
-use Rattle.step_ties.proofs.SessionLaws.{provider_self}
+use Rattle.step_refinement.specs.rsct_packet.declared.ids.ViewId.{ViewId}
+use Rattle.step_refinement.specs.rsct_packet.declared.ids.ProviderId.{ProviderId}
+use Rattle.step_refinement.specs.rsct_packet.declared.mask.Mask.{Mask}
+use Rattle.step_refinement.specs.rsct_packet.Mask.{nodes_of}
+use Rattle.step_refinement.specs.rsct_packet.Providers.{among}
+use Rattle.step_refinement.specs.rsct_packet.Search.{Has}
+use Rattle.step_refinement.proofs.rsct_packet_laws.HasLaws.{has_append}
+use Rattle.step_refinement.specs.proposal_core.declared.proposal.Proposal.{Proposal}
+use Rattle.step_refinement.specs.proposal_core.declared.proposal.Proposal.TheVariants.{Join, Leave, Fail, Expel, State, Message, Attributes, Reflect}
+use Rattle.step_refinement.specs.proposal_core.declared.entry.Entry.{Entry}
+use Rattle.step_refinement.specs.proposal_core.declared.entry.Entry.TheVariants.{Once, Begin, Phase, Approve, Reject, Late}
+use Rattle.step_refinement.specs.adapter_ring.declared.ring.Ring.{Ring}
+use Rattle.step_refinement.specs.adapter_ring.declared.ring.RingSet.{RingSet}
+use Rattle.step_refinement.specs.adapter_ring.declared.packet.RingSend.{RingSend}
+use Rattle.step_refinement.specs.adapter_ring.declared.packet.RingEvent.TheVariants as ring_event
+use Rattle.step_refinement.specs.adapter_ring.declared.work.RingWork.{RingWork}
+use Rattle.step_refinement.specs.adapter_ring.Rings.{ring_step}
+use Rattle.step_refinement.specs.node_reach.Reach as reach
+use Rattle.step_refinement.specs.proposal_core.declared.group_state.GroupState.{GroupState}
+use Rattle.step_refinement.specs.proposal_core.Fold.{joins_of, present, after}
+use Rattle.step_refinement.specs.proposal_core.GroupView.{GroupView}
+use Rattle.step_refinement.specs.proposal_core.Lists.{state_in}
+use Rattle.step_refinement.specs.node_state.declared.happened.Happened.{Happened}
+use Rattle.step_refinement.specs.node_state.declared.happened.Happened.TheVariants as happened
+use Rattle.step_refinement.specs.node_state.declared.packet.Body.TheVariants as body
+use Rattle.step_refinement.specs.node_state.declared.state.Core.{Core}
+use Rattle.step_refinement.specs.node_state.Settings.{is_rings}
+use Rattle.step_refinement.specs.node_state.State.{row_of, recorded_all}
+use Rattle.step_refinement.specs.node_state.Sending.{send_on, send_requests}
+use Rattle.step_refinement.specs.node_state.HandOn.{Answering}
+use Rattle.step_refinement.specs.node_state.Ticks.{set_records, ring_put, ring_taken, rings_union, report_of, send_report, rings_tick, tick_rings, tick_views}
+use Rattle.step_refinement.specs.run_safety.Past.{History, records_of, earlier, fold_from, view_now}
+use Rattle.step_refinement.specs.run_safety.Stays.{is_join_of, asks_join}
+use Rattle.step_refinement.specs.run_safety.Requests.{requests_of, carried}
+use Rattle.step_refinement.specs.run_safety.Sight.{told_in, lines_at, lines_with, lines_of}
+use Rattle.step_refinement.specs.run_safety.Group.{Standing, Reply, Origin, Packet, Answer, Record, Put, Line, Kept, Noted, kept}
+use Rattle.step_refinement.specs.run_safety.Group as group
+use Rattle.step_refinement.specs.run_safety.Bases.{Bases, base_state, state_of_list, side_state, BaseIs}
+use Rattle.step_refinement.specs.run_safety.Moves.{Leads, Opening, Collected, Quiet, Life, Dawn, NextEvent, Promises, Answers, Appends, Follows, Starts, Enters, Founds, Names, Hears, Asks, Requests, Refuses, IsTold, Acknowledges, Settles}
+use Rattle.step_refinement.proofs.run_safety_laws.Order.{cases_view}
+use Rattle.step_refinement.proofs.run_safety_laws.Prefix.{IsPrefix, prefix_get}
+use Rattle.step_refinement.proofs.run_safety_laws.Lines.{has_entered, has_inserted, has_place}
+use Rattle.step_refinement.proofs.run_safety_laws.Tests.{has_any}
+use Rattle.step_refinement.proofs.run_safety_laws.Whole.{Whole}
+use Rattle.step_refinement.proofs.run_safety_laws.Lives.{whole}
+use Rattle.step_refinement.proofs.node_state_laws.NameOrder.{text_same}
+use Rattle.step_refinement.specs.Ghost.{KeepsIf}
+use Rattle.step_refinement.specs.Tied.{Scene, opening_of, lines_now, Tied}
+use Rattle.step_refinement.proofs.Works.{Unseen, lines_none}
+use Rattle.step_refinement.proofs.Appending.{sent_all_is}
+use Rattle.step_refinement.proofs.Rings.{rings_part_tied}
+use Rattle.step_refinement.proofs.FoundingRows.{founding_tick_tied}
+use Rattle.step_refinement.proofs.Owed.{requests_tied}
+use Rattle.step_refinement.proofs.SessionLaws.{provider_self}
 use Rattle.row_laws.proofs.hearing.Handing.{among_is}
 use Rattle.row_laws.proofs.honest_votes.At.{found}
 use Rattle.row_laws.proofs.failed_rows.Grows.{after_has}
@@ -275,15 +275,15 @@ module _ (g : List ℕ) where
   abbrev UnseenAll : List Happened → Type 0
   UnseenAll rs = (r : Happened) → Has r rs → Unseen g r
 
-  sends_records : (xs : List RingSend) (s : Core) → (fold (λ u (x : RingSend). sent_on u x.network x.to (body.Ring x.packet)) s xs).records ≡ s.records
-  unfolding sent_on
+  sends_records : (xs : List RingSend) (s : Core) → (fold (λ u (x : RingSend). send_on u x.network x.to (body.Ring x.packet)) s xs).records ≡ s.records
+  unfolding send_on
   sends_records [] s = refl
-  sends_records (x ∷ xs) s = sends_records xs (sent_on s x.network x.to (body.Ring x.packet))
+  sends_records (x ∷ xs) s = sends_records xs (send_on s x.network x.to (body.Ring x.packet))
 
   taken_unseen : (s : Core) (x : RingWork) → UnseenAll s.records → UnseenAll (ring_taken s x).records
   unfolding ring_taken recorded_all set_records
   taken_unseen s x all r h =
-      let now : Core = fold (λ u (x : RingSend). sent_on u x.network x.to (body.Ring x.packet)) (record s { rings = ring_put s.rings x.ring }) x.sends in
+      let now : Core = fold (λ u (x : RingSend). send_on u x.network x.to (body.Ring x.packet)) (record s { rings = ring_put s.rings x.ring }) x.sends in
       ⊎_elim (λ (i : Has r now.records). all r (subst (Has r) (sends_records x.sends (record s { rings = ring_put s.rings x.ring })) i)) (λ (i : Has r (set_records s.views.me x.ring.net x.set)). by x.set i) (has_append r now.records (set_records s.views.me x.ring.net x.set) h)
     where
       by : (o : Option RingSet) → Has r (set_records s.views.me x.ring.net o) → Unseen g r
@@ -291,36 +291,36 @@ module _ (g : List ℕ) where
       by (Some y) (inl e) = subst (Unseen g) (sym e) (λ rs. refl)
       by (Some y) (inr z) = absurd z
 
-  fold_unseen : (rs : List Ring) (s : Core) → UnseenAll s.records → UnseenAll (fold (λ u (r : Ring). ring_taken u (ring_stepped r ring_event.Tick)) s rs).records
+  fold_unseen : (rs : List Ring) (s : Core) → UnseenAll s.records → UnseenAll (fold (λ u (r : Ring). ring_taken u (ring_step r ring_event.Tick)) s rs).records
   fold_unseen [] s all = all
-  fold_unseen (r ∷ rs) s all = fold_unseen rs (ring_taken s (ring_stepped r ring_event.Tick)) (taken_unseen s (ring_stepped r ring_event.Tick) all)
+  fold_unseen (r ∷ rs) s all = fold_unseen rs (ring_taken s (ring_step r ring_event.Tick)) (taken_unseen s (ring_step r ring_event.Tick) all)
 
-  report_records : (s : Core) (m : Mask) → (report_sent s m).records ≡ s.records
-  unfolding report_sent
+  report_records : (s : Core) (m : Mask) → (send_report s m).records ≡ s.records
+  unfolding send_report
   report_records s m =
-      let t : Core = record s { reach = reach.own_set s.reach m } in
+      let t : Core = record s { reach = reach.set_own s.reach m } in
       ap (λ (z : Core). z.records) (sent_all_is (filter (λ n. not (n == s.views.me)) (nodes_of m)) t (body.Report (report_of t.reach)))
 
-  rings_unseen : (s : Core) → UnseenAll s.records → UnseenAll (rings_part s).records
-  unfolding rings_part rings_tick
+  rings_unseen : (s : Core) → UnseenAll s.records → UnseenAll (tick_rings s).records
+  unfolding tick_rings rings_tick
   rings_unseen s all = by (is_rings s.config.mode)
     where
       ticked : Core
-      ticked = fold (λ u (r : Ring). ring_taken u (ring_stepped r ring_event.Tick)) s s.rings
+      ticked = fold (λ u (r : Ring). ring_taken u (ring_step r ring_event.Tick)) s s.rings
 
-      by : (b : Bool) → UnseenAll (elim b as (λ _. Core) [ true ↦ report_sent ticked (rings_union ticked.rings) | false ↦ s ]).records
+      by : (b : Bool) → UnseenAll (elim b as (λ _. Core) [ true ↦ send_report ticked (rings_union ticked.rings) | false ↦ s ]).records
       by false = all
       by true = λ r h. fold_unseen s.rings s all r (subst (Has r) (report_records ticked (rings_union ticked.rings)) h)
 
   -- no node put anything
-  rings_quiet : (w : Scene) (s : Core) → s.records ≡ [] → Quiet (kept (lines_now g w (rings_part s)))
+  rings_quiet : (w : Scene) (s : Core) → s.records ≡ [] → Quiet (kept (lines_now g w (tick_rings s)))
   rings_quiet w s none =
-      let all : UnseenAll (rings_part s).records = rings_unseen s (λ r h. absurd (subst (Has r) none h)) in
-      subst (λ l. Quiet (kept l)) (sym (lines_none g (rings_part s).records w.before (lines_of g w.before) all)) (record { at = λ m u. refl })
+      let all : UnseenAll (tick_rings s).records = rings_unseen s (λ r h. absurd (subst (Has r) none h)) in
+      subst (λ l. Quiet (kept l)) (sym (lines_none g (tick_rings s).records w.before (lines_of g w.before) all)) (record { at = λ m u. refl })
 
 -- whoever a node holds as GONE is sent was asked for
-pub lost_asked : (w : Scene) (n : ℕ) (f : Answering) (s : Core) → s.records ≡ [] → ((h : List ℕ) → Tied h w n s) → let t : Core = requests_sent (views_part f (rings_part s)) in (g : List ℕ) (p : ProviderId) → Has p (present (state_in (found t g).list)) → list_any (asks_join p) (reverse t.records ++ records_of w.before) ≡ true
+pub lost_asked : (w : Scene) (n : ℕ) (f : Answering) (s : Core) → s.records ≡ [] → ((h : List ℕ) → Tied h w n s) → let t : Core = send_requests (tick_views f (tick_rings s)) in (g : List ℕ) (p : ProviderId) → Has p (present (state_in (found t g).list)) → list_any (asks_join p) (reverse t.records ++ records_of w.before) ≡ true
 lost_asked w n f s none all g =
-    let rings : (h : List ℕ) → Tied h w n (rings_part s) = λ h. rings_part_tied h w n s (all h) in
-    let viewed : Tied g w n (views_part f (rings_part s)) = founding_tick_tied w n f (rings_part s) rings g (rings_quiet g w s none) in
-    there_asked g w n (requests_sent (views_part f (rings_part s))) (requests_tied g w n (views_part f (rings_part s)) viewed)
+    let rings : (h : List ℕ) → Tied h w n (tick_rings s) = λ h. rings_part_tied h w n s (all h) in
+    let viewed : Tied g w n (tick_views f (tick_rings s)) = founding_tick_tied w n f (tick_rings s) rings g (rings_quiet g w s none) in
+    there_asked g w n (send_requests (tick_views f (tick_rings s))) (requests_tied g w n (tick_views f (tick_rings s)) viewed)

@@ -3,36 +3,36 @@ use Rattle.std.proofs.Common.{◌≡◌, ◌⊎◌, ℕ, List, [], ◌∷◌, �
 use Rattle.std.specs.Prelude.{◌==◌, ◌&&◌, ◌||◌, fold, reverse}
 use Rattle.std.specs.List.{list_any}
 use Rattle.std.proofs.lemmas.List.{reverse-append}
-use Rattle.rsct_packet.specs.declared.ids.ViewId.{ViewId}
-use Rattle.rsct_packet.specs.declared.ids.ProviderId.{ProviderId}
-use Rattle.rsct_packet.specs.Providers.{among, same_provider}
-use Rattle.rsct_packet.specs.Search.{Has}
-use Rattle.rsct_packet.proofs.HasLaws.{has_append, append_has_left}
-use Rattle.proposal_core.specs.declared.proposal.Proposal.{Proposal}
-use Rattle.proposal_core.specs.declared.group_state.GroupState.{GroupState}
-use Rattle.proposal_core.specs.Fold.{joiners_fit}
-use Rattle.proposal_core.specs.Lists.{state_in, len_in}
-use Rattle.client_callbacks.specs.declared.told.Why.{Why}
-use Rattle.session_state.specs.State.{outstanding}
-use Rattle.session_state.specs.HandOn.{telling_taken, is_join_request, is_dissolved}
-use Rattle.session_state.specs.declared.fault.GsFault.{GsFault}
-use Rattle.session_state.specs.declared.state.SessionState.{SessionState}
-use Rattle.view_state.specs.declared.views.Views.{Views}
-use Rattle.node_state.specs.declared.group.GroupRow.{GroupRow}
-use Rattle.node_state.specs.declared.happened.Happened.{Happened}
-use Rattle.node_state.specs.declared.happened.Happened.TheVariants as happened
-use Rattle.node_state.specs.declared.packet.Body.{Body}
-use Rattle.node_state.specs.declared.packet.Packet.{Packet}
-use Rattle.node_state.specs.declared.state.Core.{Core}
-use Rattle.node_state.specs.State.{InNameOrder, row_of, with_row, is_this, leader_by, recorded, recorded_all, with_sessions}
-use Rattle.node_state.specs.Sending.{packet_on, sent_on, sent, network_to}
-use Rattle.run_safety.specs.Past.{History, records_of, inc_now}
-use Rattle.run_safety.specs.Stays.{Stay, stays, stays_after, asks_join, is_refused}
-use Rattle.node_state.proofs.NameOrder.{KeepsName, cases_text, row_here, row_there, rows_ordered}
+use Rattle.step_refinement.specs.rsct_packet.declared.ids.ViewId.{ViewId}
+use Rattle.step_refinement.specs.rsct_packet.declared.ids.ProviderId.{ProviderId}
+use Rattle.step_refinement.specs.rsct_packet.Providers.{among, same_provider}
+use Rattle.step_refinement.specs.rsct_packet.Search.{Has}
+use Rattle.step_refinement.proofs.rsct_packet_laws.HasLaws.{has_append, append_has_left}
+use Rattle.step_refinement.specs.proposal_core.declared.proposal.Proposal.{Proposal}
+use Rattle.step_refinement.specs.proposal_core.declared.group_state.GroupState.{GroupState}
+use Rattle.step_refinement.specs.proposal_core.Fold.{joiners_fit}
+use Rattle.step_refinement.specs.proposal_core.Lists.{state_in, len_in}
+use Rattle.step_refinement.specs.client_callbacks.declared.told.Why.{Why}
+use Rattle.step_refinement.specs.session_state.State.{outstanding}
+use Rattle.step_refinement.specs.session_state.HandOn.{take_telling, is_join_request, is_dissolved}
+use Rattle.step_refinement.specs.session_state.declared.fault.GsFault.{GsFault}
+use Rattle.step_refinement.specs.session_state.declared.state.SessionState.{SessionState}
+use Rattle.step_refinement.specs.view_state.declared.views.Views.{Views}
+use Rattle.step_refinement.specs.node_state.declared.group.GroupRow.{GroupRow}
+use Rattle.step_refinement.specs.node_state.declared.happened.Happened.{Happened}
+use Rattle.step_refinement.specs.node_state.declared.happened.Happened.TheVariants as happened
+use Rattle.step_refinement.specs.node_state.declared.packet.Body.{Body}
+use Rattle.step_refinement.specs.node_state.declared.packet.Packet.{Packet}
+use Rattle.step_refinement.specs.node_state.declared.state.Core.{Core}
+use Rattle.step_refinement.specs.node_state.State.{InNameOrder, row_of, with_row, is_this, leader_by, recorded, recorded_all, with_sessions}
+use Rattle.step_refinement.specs.node_state.Sending.{packet_on, send_on, sent, network_to}
+use Rattle.step_refinement.specs.run_safety.Past.{History, records_of, inc_now}
+use Rattle.step_refinement.specs.run_safety.Stays.{Stay, stays, stays_after, asks_join, is_refused}
+use Rattle.step_refinement.proofs.node_state_laws.NameOrder.{KeepsName, cases_text, row_here, row_there, rows_ordered}
 use Rattle.row_laws.proofs.hearing.Sessions.{fewer_told}
 use Rattle.row_laws.proofs.honest_votes.At.{found, leads_row}
 use Rattle.row_laws.specs.failed_rows.Failures.{IsRefused, IsCut, WasTold, GoneCause, EachPut}
-use Rattle.step_ties.proofs.SessionLaws.{provider_same}
+use Rattle.step_refinement.proofs.SessionLaws.{provider_same}
 use Rattle.row_laws.proofs.failed_rows.Living.{IsLive, told_lives, told_slim}
 use Rattle.row_laws.proofs.failed_rows.Facts.{Whys, Takers, takers_pushed, TallyIs, QueueIs, Track, BasesFit, Quiet, quiet_stays, quiet_puts, quiet_accepted, Stepped, quiet_of, BodyFails, body_on, quiet_unasked, Lives, lives_on, OwnFor, own_pushed}
 use Rattle.row_laws.proofs.failed_rows.Origin.{Origin, SlimIf, slim_self, slim_more, slim_on, slim_free}
@@ -95,8 +95,8 @@ module _ (h : History) (said : ProviderId → Type 0) (origin : Origin) (P L M :
     at_fold f [] step s a = a
     at_fold f (x ∷ xs) step s a = at_fold f xs (λ t y i k. step t y (inr i) k) (f s x) (step s x (inl refl) a)
 
-    pub at_sent_on : (s : Core) (network to : ℕ) (b : Body) → BodyFails said (reverse s.records ++ records_of h) b → At h said origin P L M T G Q s → At h said origin P L M T G Q (sent_on s network to b)
-    unfolding sent_on packet_on
+    pub at_sent_on : (s : Core) (network to : ℕ) (b : Body) → BodyFails said (reverse s.records ++ records_of h) b → At h said origin P L M T G Q s → At h said origin P L M T G Q (send_on s network to b)
+    unfolding send_on packet_on
     at_sent_on s network to b ok a =
         record {
           inc = a.inc;
@@ -211,9 +211,9 @@ module _ (h : History) (said : ProviderId → Type 0) (origin : Origin) (P L M :
         record { inc = a.inc; counted = a.counted; own = own; slim = slim; sends = a.sends; puts = a.puts; accepted = a.accepted; whose = a.whose; order = a.order; tracks = a.tracks; marks = a.marks; tallies = a.tallies; queues = a.queues; apart = a.apart; led = a.led; whys = a.whys; takers = takers }
 
     -- a provider is told, and may be dropped
-    pub at_told : (s : Core) (p : ProviderId) (r : ℕ) (y : Why) → (p.node ≡ s.views.me → p.inc ≡ origin.born → (is_join_request (outstanding s.sessions p) ≡ true) ⊎ (is_dissolved y ≡ true) → IsRefused (reverse s.records ++ records_of h) p r ⊎ ((is_dissolved y ≡ true) × IsCut (reverse s.records ++ records_of h) p)) → At h said origin P L M T G Q s → At h said origin P L M T G Q (recorded (with_sessions s (telling_taken s.sessions p r y)) (happened.Told p r y))
+    pub at_told : (s : Core) (p : ProviderId) (r : ℕ) (y : Why) → (p.node ≡ s.views.me → p.inc ≡ origin.born → (is_join_request (outstanding s.sessions p) ≡ true) ⊎ (is_dissolved y ≡ true) → IsRefused (reverse s.records ++ records_of h) p r ⊎ ((is_dissolved y ≡ true) × IsCut (reverse s.records ++ records_of h) p)) → At h said origin P L M T G Q s → At h said origin P L M T G Q (recorded (with_sessions s (take_telling s.sessions p r y)) (happened.Told p r y))
     unfolding recorded with_sessions
-    at_told s p r y ends a = at_sessions (recorded s told) (telling_taken s.sessions p r y) (slim_on origin.root s.sessions (telling_taken s.sessions p r y) (s.records ++ told ∷ []) (told_slim s.sessions p r y) (at_recorded s told tt a).slim) own (λ q x e part. (at_recorded s told tt a).takers q x ((fewer_told s.sessions p r y).providers q x e) part) (at_recorded s told tt a)
+    at_told s p r y ends a = at_sessions (recorded s told) (take_telling s.sessions p r y) (slim_on origin.root s.sessions (take_telling s.sessions p r y) (s.records ++ told ∷ []) (told_slim s.sessions p r y) (at_recorded s told tt a).slim) own (λ q x e part. (at_recorded s told tt a).takers q x ((fewer_told s.sessions p r y).providers q x e) part) (at_recorded s told tt a)
       where
         told : Happened
         told = happened.Told p r y
@@ -221,17 +221,17 @@ module _ (h : History) (said : ProviderId → Type 0) (origin : Origin) (P L M :
         turned : reverse (s.records ++ told ∷ []) ≡ told ∷ reverse s.records
         turned = reverse-append s.records (told ∷ [])
 
-        own : OwnFor h said origin.born (telling_taken s.sessions p r y) (record s { records = s.records ++ told ∷ [] })
+        own : OwnFor h said origin.born (take_telling s.sessions p r y) (record s { records = s.records ++ told ∷ [] })
         own q at inc asked = by ((at_recorded s told tt a).own q at inc asked)
           where
             was_told : q ≡ p → IsRefused (reverse s.records ++ records_of h) p r ⊎ ((is_dissolved y ≡ true) × IsCut (reverse s.records ++ records_of h) p) → WasTold (told ∷ (reverse s.records ++ records_of h)) q
             was_told e k = subst (WasTold (told ∷ (reverse s.records ++ records_of h))) (sym e) (record { number = r; why = y; newer = []; older = reverse s.records ++ records_of h; moment = refl; ends = k })
 
-            live : IsLive (telling_taken s.sessions p r y) q ⊎ ((q ≡ p) × ((is_join_request (outstanding s.sessions p) ≡ true) ⊎ (is_dissolved y ≡ true))) → Lives said (telling_taken s.sessions p r y) (reverse (s.records ++ told ∷ []) ++ records_of h) q
+            live : IsLive (take_telling s.sessions p r y) q ⊎ ((q ≡ p) × ((is_join_request (outstanding s.sessions p) ≡ true) ⊎ (is_dissolved y ≡ true))) → Lives said (take_telling s.sessions p r y) (reverse (s.records ++ told ∷ []) ++ records_of h) q
             live (inl k) = inl k
             live (inr k) = inr (inr (inl (subst (λ z. WasTold (z ++ records_of h) q) (sym turned) (was_told k.0 (ends (ap (λ (z : ProviderId). z.node) (sym k.0) ∙ at) (ap (λ (z : ProviderId). z.inc) (sym k.0) ∙ inc) k.1)))))
 
-            by : Lives said s.sessions (reverse (s.records ++ told ∷ []) ++ records_of h) q → Lives said (telling_taken s.sessions p r y) (reverse (s.records ++ told ∷ []) ++ records_of h) q
+            by : Lives said s.sessions (reverse (s.records ++ told ∷ []) ++ records_of h) q → Lives said (take_telling s.sessions p r y) (reverse (s.records ++ told ∷ []) ++ records_of h) q
             by (inl k) = live (told_lives s.sessions p r y q k)
             by (inr k) = inr k
 

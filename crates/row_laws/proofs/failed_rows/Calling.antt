@@ -2,27 +2,27 @@
 use Rattle.std.proofs.Common.{◌≡◌, ◌⊎◌, ℕ, List, [], ◌∷◌, ◌++◌, Option, Some, None, Bool, true, false, refl, sym, ap, ◌∙◌, subst, inl, inr}
 use Rattle.std.specs.Prelude.{filter, fold, Result, Ok, Err, not, reverse}
 use Rattle.std.specs.List.{last_or}
-use Rattle.rsct_packet.specs.declared.ids.ProviderId.{ProviderId}
-use Rattle.rsct_packet.specs.Search.{Has}
-use Rattle.rsct_packet.proofs.HasLaws.{has_append, filter_has}
-use Rattle.group_attr.specs.declared.attrs.Attrs.{Attrs}
-use Rattle.subscribe_core.specs.declared.subs.ClientToken.{ClientToken}
-use Rattle.client_callbacks.specs.declared.ballot.Filled.{Filled}
-use Rattle.session_state.specs.declared.fault.GsFault.{GsFault}
-use Rattle.session_state.specs.declared.state.Provider.{Provider}
-use Rattle.session_state.specs.declared.state.Request.{Request}
-use Rattle.session_state.specs.declared.state.KeptBallot.{KeptBallot}
-use Rattle.session_state.specs.declared.state.SessionState.{SessionState}
-use Rattle.session_state.specs.State.{is_client_of, client_token}
-use Rattle.session_state.specs.Calls.{inited, joined, left, expelled, state_changed, message_sent, attributes_changed, voted, subscribe_taken, unsubscribe_taken, goodbye_taken, unless_fault, client_fault, session_ended, join_fault, join_asked, new_provider}
-use Rattle.node_state.specs.declared.call.CallLine.{CallLine}
-use Rattle.node_state.specs.declared.call.CallLine.TheVariants as call
-use Rattle.node_state.specs.declared.happened.Happened.TheVariants as happened
-use Rattle.node_state.specs.declared.packet.Body.TheVariants as body
-use Rattle.node_state.specs.declared.state.Core.{Core}
-use Rattle.node_state.specs.State.{holds, frozen, leader_of, with_sessions}
-use Rattle.node_state.specs.Calls.{caller, subscriber, call_refused, changed, last_asked, proposed, ballot_recorded, ballot_sent_if, last_cast, ballot_given, gone_sent, all_gone_sent, goodbye_said, call_row}
-use Rattle.run_safety.specs.Past.{History, records_of}
+use Rattle.step_refinement.specs.rsct_packet.declared.ids.ProviderId.{ProviderId}
+use Rattle.step_refinement.specs.rsct_packet.Search.{Has}
+use Rattle.step_refinement.proofs.rsct_packet_laws.HasLaws.{has_append, filter_has}
+use Rattle.step_refinement.specs.group_attr.declared.attrs.Attrs.{Attrs}
+use Rattle.step_refinement.specs.subscribe_core.declared.subs.ClientToken.{ClientToken}
+use Rattle.step_refinement.specs.client_callbacks.declared.ballot.Filled.{Filled}
+use Rattle.step_refinement.specs.session_state.declared.fault.GsFault.{GsFault}
+use Rattle.step_refinement.specs.session_state.declared.state.Provider.{Provider}
+use Rattle.step_refinement.specs.session_state.declared.state.Request.{Request}
+use Rattle.step_refinement.specs.session_state.declared.state.KeptBallot.{KeptBallot}
+use Rattle.step_refinement.specs.session_state.declared.state.SessionState.{SessionState}
+use Rattle.step_refinement.specs.session_state.State.{is_client_of, client_token}
+use Rattle.step_refinement.specs.session_state.Calls.{inited, joined, left, expelled, state_changed, message_sent, attributes_changed, voted, subscribe_taken, unsubscribe_taken, goodbye_taken, unless_fault, client_fault, end_session, join_fault, join_asked, new_provider}
+use Rattle.step_refinement.specs.node_state.declared.call.CallLine.{CallLine}
+use Rattle.step_refinement.specs.node_state.declared.call.CallLine.TheVariants as call
+use Rattle.step_refinement.specs.node_state.declared.happened.Happened.TheVariants as happened
+use Rattle.step_refinement.specs.node_state.declared.packet.Body.TheVariants as body
+use Rattle.step_refinement.specs.node_state.declared.state.Core.{Core}
+use Rattle.step_refinement.specs.node_state.State.{holds, frozen, leader_of, with_sessions}
+use Rattle.step_refinement.specs.node_state.Calls.{caller, subscriber, refuse_call, changed, ask_last, proposed, record_ballot, ballot_sent_if, cast_last, give_ballot, send_gone, send_all_gone, goodbye_said, take_call}
+use Rattle.step_refinement.specs.run_safety.Past.{History, records_of}
 use Rattle.row_laws.proofs.honest_votes.Ending.{Every, NoGroup}
 use Rattle.row_laws.proofs.hearing.Sessions.{fewer_ended}
 use Rattle.row_laws.proofs.failed_rows.Living.{IsLive, NoLoss, NewAsks, joined_lives, left_lives, expelled_lives, state_lives, message_lives, attributes_lives, left_same, expelled_same, state_same, message_same, attributes_same, inited_lives, voted_lives, subscribe_lives, unsubscribe_lives, NoTaker, same_taker, joined_taker, inited_same, voted_same, subscribe_same, unsubscribe_same}
@@ -59,8 +59,8 @@ module _ (h : History) (said : ProviderId → Type 0) (origin : Origin) (free : 
   abbrev Full : Core → Type 0
   Full s = At h said origin P L M Every NoGroup Every s
 
-  refused_at : (s : Core) (client : List ℕ) (f : GsFault) → (M → ⊥) → Full s → Full (call_refused s client f)
-  unfolding call_refused
+  refused_at : (s : Core) (client : List ℕ) (f : GsFault) → (M → ⊥) → Full s → Full (refuse_call s client f)
+  unfolding refuse_call
   refused_at s client f none a = at_call_refused h said origin P L M Every NoGroup Every s s.views.me client f none a
 
   -- the sessions change, and whoever is there stays
@@ -83,8 +83,8 @@ module _ (h : History) (said : ProviderId → Type 0) (origin : Origin) (free : 
   abbrev Mine : Core → Type 0
   Mine s = (p : ProviderId) → IsLive s.sessions p → p.node ≡ s.views.me
 
-  at_last_asked : (s : Core) (o : Option Request) → ((q : Request) → o ≡ Some q → IsLive s.sessions q.p) → Mine s → Full s → Full (last_asked s o)
-  unfolding last_asked
+  at_last_asked : (s : Core) (o : Option Request) → ((q : Request) → o ≡ Some q → IsLive s.sessions q.p) → Mine s → Full s → Full (ask_last s o)
+  unfolding ask_last
   at_last_asked s None live mine a = a
   at_last_asked s (Some q) live mine a =
       at_request_sent h said origin P L M Every NoGroup Every _ q (at_asked h said origin P L M Every NoGroup Every free s q.p q.r q.group q.proposal (live q refl) (mine q.p (live q refl)) a)
@@ -98,8 +98,8 @@ module _ (h : History) (said : ProviderId → Type 0) (origin : Origin) (free : 
   at_proposed s client (Ok t) none keeps takes mine a = at_last_asked (with_sessions s t) (last_or None t.requests) keeps.1 mine (at_kept s t keeps.0 takes a)
   at_proposed s client (Err f) none keeps takes mine a = refused_at s client f none a
 
-  at_cast : (s : Core) (k : KeptBallot) (b : Option Filled) → Full s → Full (ballot_recorded s k b)
-  unfolding ballot_recorded
+  at_cast : (s : Core) (k : KeptBallot) (b : Option Filled) → Full s → Full (record_ballot s k b)
+  unfolding record_ballot
   at_cast s k None a = a
   at_cast s k (Some b) a = at_recorded h said origin P L M Every NoGroup Every s (happened.Cast k.p k.proto k.phase b.vote b.value b.message) tt a
 
@@ -108,28 +108,28 @@ module _ (h : History) (said : ProviderId → Type 0) (origin : Origin) (free : 
   at_cast_sent s k true a = a
   at_cast_sent s k false a = at_kept_sent h said origin P L M Every NoGroup Every s k a
 
-  at_last_cast : (s : Core) (o : Option KeptBallot) → Full s → Full (last_cast s o)
-  unfolding last_cast
+  at_last_cast : (s : Core) (o : Option KeptBallot) → Full s → Full (cast_last s o)
+  unfolding cast_last
   at_last_cast s None a = a
-  at_last_cast s (Some k) a = at_cast_sent (ballot_recorded s k k.ballot.filled) k (frozen s) (at_cast s k k.ballot.filled a)
+  at_last_cast s (Some k) a = at_cast_sent (record_ballot s k k.ballot.filled) k (frozen s) (at_cast s k k.ballot.filled a)
 
-  at_ballot : (s : Core) (client : List ℕ) (r : Result SessionState GsFault) → (M → ⊥) → NoLoss s.sessions r → NoTaker s.sessions r → Full s → Full (ballot_given s client r)
-  unfolding ballot_given
+  at_ballot : (s : Core) (client : List ℕ) (r : Result SessionState GsFault) → (M → ⊥) → NoLoss s.sessions r → NoTaker s.sessions r → Full s → Full (give_ballot s client r)
+  unfolding give_ballot
   at_ballot s client (Ok t) none keeps takes a = at_last_cast (with_sessions s t) (last_or None t.kept) (at_kept s t keeps takes a)
   at_ballot s client (Err f) none keeps takes a = refused_at s client f none a
 
   -- GONE is sent for each provider that a goodbye ends
-  at_gone_sent : (s : Core) (x : Provider) → said x.p → Full s → Full (gone_sent s x)
-  unfolding gone_sent
+  at_gone_sent : (s : Core) (x : Provider) → said x.p → Full s → Full (send_gone s x)
+  unfolding send_gone
   at_gone_sent s x ok a = at_sent_if_known h said origin P L M Every NoGroup Every s (leader_of s x.group) (body.Gone s.views.view x.group x.p) (inl ok) a
 
-  at_all_gone : (s : Core) (xs : List Provider) → ((x : Provider) → Has x xs → said x.p) → Full s → Full (all_gone_sent s xs)
-  unfolding all_gone_sent
+  at_all_gone : (s : Core) (xs : List Provider) → ((x : Provider) → Has x xs → said x.p) → Full s → Full (send_all_gone s xs)
+  unfolding send_all_gone
   at_all_gone s xs ok a = by (frozen s)
     where
-      by : (b : Bool) → Full (elim b as (λ _. Core) [ true ↦ s | false ↦ fold gone_sent s xs ])
+      by : (b : Bool) → Full (elim b as (λ _. Core) [ true ↦ s | false ↦ fold send_gone s xs ])
       by true = a
-      by false = at_fold h said origin P L M Every NoGroup Every gone_sent xs (λ t x i k. at_gone_sent t x (ok x i) k) s a
+      by false = at_fold h said origin P L M Every NoGroup Every send_gone xs (λ t x i k. at_gone_sent t x (ok x i) k) s a
 
   abbrev Ends : Core → List Provider → Result SessionState GsFault → Type 0
   Ends s xs (Ok t) = OwnFor h said origin.born t s
@@ -141,15 +141,15 @@ module _ (h : History) (said : ProviderId → Type 0) (origin : Origin) (free : 
   at_goodbye s client xs (Err f) taken ok ends takes a = refused_at s client f (λ m. taken m) a
 
   -- whom a goodbye ends it is said of
-  ended_own : (s : Core) (t : ClientToken) → ((x : Provider) → Has x (filter (is_client_of t) s.sessions.providers) → said x.p) → Full s → OwnFor h said origin.born (session_ended s.sessions t) s
-  unfolding session_ended
+  ended_own : (s : Core) (t : ClientToken) → ((x : Provider) → Has x (filter (is_client_of t) s.sessions.providers) → said x.p) → Full s → OwnFor h said origin.born (end_session s.sessions t) s
+  unfolding end_session
   ended_own s t ok a p node inc asked = by (a.own p node inc asked)
     where
-      here : (x : Provider) → Has x s.sessions.providers → x.p ≡ p → (b : Bool) → is_client_of t x ≡ b → Lives said (session_ended s.sessions t) (reverse s.records ++ records_of h) p
+      here : (x : Provider) → Has x s.sessions.providers → x.p ≡ p → (b : Bool) → is_client_of t x ≡ b → Lives said (end_session s.sessions t) (reverse s.records ++ records_of h) p
       here x i e true c = inr (inl (subst said e (ok x (filter_has (is_client_of t) x s.sessions.providers i c))))
       here x i e false c = inl (x, filter_has (λ x. not (is_client_of t x)) x s.sessions.providers i (ap not c), e)
 
-      by : Lives said s.sessions (reverse s.records ++ records_of h) p → Lives said (session_ended s.sessions t) (reverse s.records ++ records_of h) p
+      by : Lives said s.sessions (reverse s.records ++ records_of h) p → Lives said (end_session s.sessions t) (reverse s.records ++ records_of h) p
       by (inl k) = here k.0 k.1 k.2 (is_client_of t k.0) refl
       by (inr k) = inr k
 
@@ -157,7 +157,7 @@ module _ (h : History) (said : ProviderId → Type 0) (origin : Origin) (free : 
   unfolding goodbye_taken
   goodbye_ends s client ok a = by (client_fault s.sessions (client_token s.sessions client)) ok
     where
-      by : (o : Option GsFault) → (IsTaken (unless_fault o (session_ended s.sessions (client_token s.sessions client))) → (x : Provider) → Has x (Ended s.sessions (call.Goodbye client)) → said x.p) → Ends s (Ended s.sessions (call.Goodbye client)) (unless_fault o (session_ended s.sessions (client_token s.sessions client)))
+      by : (o : Option GsFault) → (IsTaken (unless_fault o (end_session s.sessions (client_token s.sessions client))) → (x : Provider) → Has x (Ended s.sessions (call.Goodbye client)) → said x.p) → Ends s (Ended s.sessions (call.Goodbye client)) (unless_fault o (end_session s.sessions (client_token s.sessions client)))
       by None ok = ended_own s (client_token s.sessions client) (ok tt) a
       by (Some f) ok = tt
 
@@ -165,7 +165,7 @@ module _ (h : History) (said : ProviderId → Type 0) (origin : Origin) (free : 
   unfolding goodbye_taken
   goodbye_taker s client owner = by (client_fault s.sessions (client_token s.sessions client))
     where
-      by : (o : Option GsFault) → NoTaker s.sessions (unless_fault o (session_ended s.sessions (client_token s.sessions client)))
+      by : (o : Option GsFault) → NoTaker s.sessions (unless_fault o (end_session s.sessions (client_token s.sessions client)))
       by None = λ p y q part. (fewer_ended s.sessions (client_token s.sessions client) owner).providers p y q
       by (Some f) = tt
 
@@ -195,8 +195,8 @@ module _ (h : History) (said : ProviderId → Type 0) (origin : Origin) (free : 
   same_mine s (Ok t) mine e = λ p k. mine p (k.0, subst (Has k.0) e k.1, k.2)
   same_mine s (Err f) mine e = tt
 
-  pub at_call : (s : Core) (c : CallLine) → (M → Taken s.sessions c) → (Taken s.sessions c → (x : Provider) → Has x (Ended s.sessions c) → said x.p) → Mine s → ((a b : Provider) → Has a s.sessions.providers → Has b s.sessions.providers → a.p ≡ b.p → a.client ≡ b.client) → s.sessions.me ≡ s.views.me → Full s → Full (call_row s c)
-  unfolding call_row
+  pub at_call : (s : Core) (c : CallLine) → (M → Taken s.sessions c) → (Taken s.sessions c → (x : Provider) → Has x (Ended s.sessions c) → said x.p) → Mine s → ((a b : Provider) → Has a s.sessions.providers → Has b s.sessions.providers → a.p ≡ b.p → a.client ≡ b.client) → s.sessions.me ≡ s.views.me → Full s → Full (take_call s c)
+  unfolding take_call
   at_call s (call.Init node name votes) m ok mine owner me a = at_changed s name (inited s.sessions name) m (inited_lives s.sessions name) (same_taker s.sessions (inited s.sessions name) (inited_same s.sessions name)) a
   at_call s (call.Join client g instance attrs) m ok mine owner me a = at_proposed s client (joined s.sessions (client_token s.sessions client) g instance attrs) m (joined_lives s.sessions (client_token s.sessions client) g instance attrs) (joined_taker s.sessions (client_token s.sessions client) g instance attrs) (joined_mine s (client_token s.sessions client) g instance attrs mine me) a
   at_call s (call.Leave client g phases) m ok mine owner me a = at_proposed s client (left s.sessions (caller s.sessions client g) phases) m (left_lives s.sessions (caller s.sessions client g) phases) (same_taker s.sessions (left s.sessions (caller s.sessions client g) phases) (left_same s.sessions (caller s.sessions client g) phases)) (same_mine s (left s.sessions (caller s.sessions client g) phases) mine (left_same s.sessions (caller s.sessions client g) phases)) a

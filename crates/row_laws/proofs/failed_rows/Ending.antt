@@ -1,45 +1,45 @@
 -- What a leader decides, and what begins at the end of a step.
 use Rattle.std.proofs.Common.{◌≡◌, ℕ, zero, suc, ◌≤◌, List, [], ◌∷◌, length, Option, Some, None, Bool, true, false, refl, sym, ap, ◌∙◌, subst, inl, inr, arith}
 use Rattle.std.specs.Prelude.{not, ◌&&◌, ◌++◌, length, nat_le, is_none, fold, filter}
-use Rattle.rsct_packet.specs.declared.ids.ProviderId.{ProviderId}
-use Rattle.rsct_packet.specs.Lists.{is_empty}
-use Rattle.rsct_packet.specs.Providers.{among, same_provider}
-use Rattle.rsct_packet.specs.Search.{Has}
-use Rattle.rsct_packet.proofs.HasLaws.{has_filter}
-use Rattle.group_attr.specs.declared.attrs.Attrs.{Attrs}
-use Rattle.group_attr.specs.declared.attrs.Batch.{Batch}
-use Rattle.group_attr.specs.declared.attrs.Phases.{Phases}
-use Rattle.group_attr.specs.Agree.{agree}
-use Rattle.proposal_core.specs.declared.proposal.Cause.{Cause}
-use Rattle.proposal_core.specs.declared.proposal.Cause.TheVariants.{Died, Gone, Cast}
-use Rattle.proposal_core.specs.declared.proposal.Failure.{Failure}
-use Rattle.proposal_core.specs.declared.proposal.Proposal.{Proposal}
-use Rattle.proposal_core.specs.declared.proposal.Proposal.TheVariants.{Join, Leave, Fail, Expel, State, Message, Attributes, Reflect}
-use Rattle.proposal_core.specs.declared.group_state.GroupState.{GroupState}
-use Rattle.proposal_core.specs.declared.group_state.Running.{Running}
-use Rattle.proposal_core.specs.Fold.{max_providers, joins_of, present}
-use Rattle.proposal_core.specs.Lists.{list_or_new, state_in, is_at_limit}
-use Rattle.batch_rules.specs.Waiting.{WaitingView, batches_failures, chosen_of, next_failures, failures_left, next_joins, joins_left, waits_join, has_instance}
-use Rattle.source_target.specs.declared.Due.{Due}
-use Rattle.source_target.specs.declared.Due.TheVariants as due
-use Rattle.source_target.specs.Due as target
-use Rattle.client_callbacks.specs.declared.told.Why.{Why}
-use Rattle.client_callbacks.specs.declared.told.Why.TheVariants.{NoSource}
-use Rattle.client_callbacks.specs.declared.told.Why.TheVariants as why
-use Rattle.session_state.specs.HandOn.{is_dissolved}
-use Rattle.node_state.specs.declared.group.Decision.{Decision}
-use Rattle.node_state.specs.declared.group.GroupRow.{GroupRow}
-use Rattle.node_state.specs.declared.packet.Body.TheVariants as body
-use Rattle.node_state.specs.declared.state.Core.{Core}
-use Rattle.node_state.specs.State.{InNameOrder, row_of, with_row, with_led, led_of, list_of, state_of, frozen, led_groups, decisions_with}
-use Rattle.node_state.specs.Sending.{sent, sent_on}
-use Rattle.node_state.specs.HandOn.{Answering}
-use Rattle.node_state.specs.Leading.{with_waiting, begins}
-use Rattle.node_state.specs.Deciding.{decision_kept, refused, known_state, lacks_source, source_len, is_idle_empty, join_refusal, attrs_kept, join_waits, decided_join, has_other_source, is_no_member, full_refusal, collide_refusal, other_refusal, decided_other, decided, meant_attrs}
-use Rattle.node_state.specs.Ending.{Pass, quiet, begun_now, failures_begin, due_begins, source_begins, attrs_for, carried_len, source_refused, joins_begin, or_due, or_joins, may_begin, first_begins, group_begins, one_pass, passes, most_begun, step_ended}
-use Rattle.run_safety.specs.Past.{History}
-use Rattle.node_state.proofs.NameOrder.{row_here, rows_ordered}
-use Rattle.step_ties.proofs.LedGroups.{led_are_led}
+use Rattle.step_refinement.specs.rsct_packet.declared.ids.ProviderId.{ProviderId}
+use Rattle.step_refinement.specs.rsct_packet.Lists.{is_empty}
+use Rattle.step_refinement.specs.rsct_packet.Providers.{among, same_provider}
+use Rattle.step_refinement.specs.rsct_packet.Search.{Has}
+use Rattle.step_refinement.proofs.rsct_packet_laws.HasLaws.{has_filter}
+use Rattle.step_refinement.specs.group_attr.declared.attrs.Attrs.{Attrs}
+use Rattle.step_refinement.specs.group_attr.declared.attrs.Batch.{Batch}
+use Rattle.step_refinement.specs.group_attr.declared.attrs.Phases.{Phases}
+use Rattle.step_refinement.specs.group_attr.Agree.{agree}
+use Rattle.step_refinement.specs.proposal_core.declared.proposal.Cause.{Cause}
+use Rattle.step_refinement.specs.proposal_core.declared.proposal.Cause.TheVariants.{Died, Gone, Cast}
+use Rattle.step_refinement.specs.proposal_core.declared.proposal.Failure.{Failure}
+use Rattle.step_refinement.specs.proposal_core.declared.proposal.Proposal.{Proposal}
+use Rattle.step_refinement.specs.proposal_core.declared.proposal.Proposal.TheVariants.{Join, Leave, Fail, Expel, State, Message, Attributes, Reflect}
+use Rattle.step_refinement.specs.proposal_core.declared.group_state.GroupState.{GroupState}
+use Rattle.step_refinement.specs.proposal_core.declared.group_state.Running.{Running}
+use Rattle.step_refinement.specs.proposal_core.Fold.{max_providers, joins_of, present}
+use Rattle.step_refinement.specs.proposal_core.Lists.{list_or_new, state_in, is_at_limit}
+use Rattle.step_refinement.specs.batch_rules.Waiting.{WaitingView, batches_failures, chosen_of, next_failures, failures_left, next_joins, joins_left, waits_join, has_instance}
+use Rattle.step_refinement.specs.source_target.declared.Due.{Due}
+use Rattle.step_refinement.specs.source_target.declared.Due.TheVariants as due
+use Rattle.step_refinement.specs.source_target.Due as target
+use Rattle.step_refinement.specs.client_callbacks.declared.told.Why.{Why}
+use Rattle.step_refinement.specs.client_callbacks.declared.told.Why.TheVariants.{NoSource}
+use Rattle.step_refinement.specs.client_callbacks.declared.told.Why.TheVariants as why
+use Rattle.step_refinement.specs.session_state.HandOn.{is_dissolved}
+use Rattle.step_refinement.specs.node_state.declared.group.Decision.{Decision}
+use Rattle.step_refinement.specs.node_state.declared.group.GroupRow.{GroupRow}
+use Rattle.step_refinement.specs.node_state.declared.packet.Body.TheVariants as body
+use Rattle.step_refinement.specs.node_state.declared.state.Core.{Core}
+use Rattle.step_refinement.specs.node_state.State.{InNameOrder, row_of, with_row, with_led, led_of, list_of, state_of, frozen, led_groups, decisions_with}
+use Rattle.step_refinement.specs.node_state.Sending.{sent, send_on}
+use Rattle.step_refinement.specs.node_state.HandOn.{Answering}
+use Rattle.step_refinement.specs.node_state.Leading.{with_waiting, begins}
+use Rattle.step_refinement.specs.node_state.Deciding.{keep_decision, refused, known_state, lacks_source, source_len, is_idle_empty, join_refusal, keep_attrs, wait_join, decide_join, has_other_source, is_no_member, full_refusal, collide_refusal, other_refusal, decide_change, decided, meant_attrs}
+use Rattle.step_refinement.specs.node_state.Ending.{Pass, quiet, begun_now, failures_begin, due_begins, source_begins, attrs_for, carried_len, source_refused, joins_begin, or_due, or_joins, may_begin, first_begins, group_begins, one_pass, passes, most_begun, end_step}
+use Rattle.step_refinement.specs.run_safety.Past.{History}
+use Rattle.step_refinement.proofs.node_state_laws.NameOrder.{row_here, rows_ordered}
+use Rattle.step_refinement.proofs.LedGroups.{led_are_led}
 use Rattle.row_laws.proofs.honest_votes.At.{found, leads_row, leads_is}
 use Rattle.row_laws.proofs.honest_votes.Ending.{Every, NoGroup}
 use Rattle.row_laws.specs.failed_rows.Failures.{GoneCause, CauseHolds, LeavesFail}
@@ -159,23 +159,23 @@ module _ (h : History) (said : ProviderId → Type 0) (origin : Origin) (P L M :
   module _ (T G Q : List ℕ → Type 0) where
     -- ---- deciding
 
-    pub at_decision : (s : Core) (g : List ℕ) (p : ProviderId) (r : ℕ) (y : Option Why) → NotDissolved y → At h said origin P L M T G Q s → At h said origin P L M T G Q (decision_kept s g p r y)
-    unfolding decision_kept
+    pub at_decision : (s : Core) (g : List ℕ) (p : ProviderId) (r : ℕ) (y : Option Why) → NotDissolved y → At h said origin P L M T G Q s → At h said origin P L M T G Q (keep_decision s g p r y)
+    unfolding keep_decision
     at_decision s g p r y fine a = at_led h said origin P L M T G Q s g (λ l. record l { decided = decisions_with (record { p = p; r = r; why = y }) l.decided }) (λ l. refl) (λ l. refl) (λ l. refl) (λ l k. decided_whys (record { p = p; r = r; why = y }) l.decided fine k) a
 
     pub at_refused : (s : Core) (g : List ℕ) (p : ProviderId) (r : ℕ) (y : Why) → is_dissolved y ≡ false → At h said origin P L M T G Q s → At h said origin P L M T G Q (refused s g p r y)
     unfolding refused
-    at_refused s g p r y fine a = at_sent h said origin P L M T G Q (decision_kept s g p r (Some y)) p.node (body.Tell s.views.view g p r y) fine (at_decision s g p r (Some y) fine a)
+    at_refused s g p r y fine a = at_sent h said origin P L M T G Q (keep_decision s g p r (Some y)) p.node (body.Tell s.views.view g p r y) fine (at_decision s g p r (Some y) fine a)
 
-    at_decided_join : (s : Core) (g : List ℕ) (p : ProviderId) (r : ℕ) (attrs : Attrs) (o : Option Why) → NotDissolved o → At h said origin P L M T G Q s → At h said origin P L M T G Q (decided_join s g p r attrs o)
-    unfolding decided_join join_waits
+    at_decided_join : (s : Core) (g : List ℕ) (p : ProviderId) (r : ℕ) (attrs : Attrs) (o : Option Why) → NotDissolved o → At h said origin P L M T G Q s → At h said origin P L M T G Q (decide_join s g p r attrs o)
+    unfolding decide_join wait_join
     at_decided_join s g p r attrs None fine a =
-        at_led h said origin P L M T G Q (decision_kept s g p r None) g (λ l. record l { waiting = waits_join p l.waiting; join_attrs = attrs_kept l.join_attrs p attrs (is_idle_empty (state_of s g)) }) (λ l. refl) (λ l. refl) (λ l. refl) (λ l z. z) (at_decision s g p r None tt a)
+        at_led h said origin P L M T G Q (keep_decision s g p r None) g (λ l. record l { waiting = waits_join p l.waiting; join_attrs = keep_attrs l.join_attrs p attrs (is_idle_empty (state_of s g)) }) (λ l. refl) (λ l. refl) (λ l. refl) (λ l z. z) (at_decision s g p r None tt a)
     at_decided_join s g p r attrs (Some y) fine a = at_refused s g p r y fine a
 
-    at_decided_other : (f : Answering) (s : Core) (g : List ℕ) (p : ProviderId) (r : ℕ) (phases : Phases) (x : Proposal) (o : Option Why) → NotDissolved o → T g → G g → ((c : Core) → Begins h said origin P L M T G Q c g x) → joins_of x ≡ [] → At h said origin P L M T G Q s → At h said origin P L M T G Q (decided_other f s g p r phases x o)
-    unfolding decided_other
-    at_decided_other f s g p r phases x None fine t led ok none a = at_begins h said origin P L M T G Q f (decision_kept s g p r None) g x phases live t led (ok (decision_kept s g p r None)) (inl none) (at_decision s g p r None tt a)
+    at_decided_other : (f : Answering) (s : Core) (g : List ℕ) (p : ProviderId) (r : ℕ) (phases : Phases) (x : Proposal) (o : Option Why) → NotDissolved o → T g → G g → ((c : Core) → Begins h said origin P L M T G Q c g x) → joins_of x ≡ [] → At h said origin P L M T G Q s → At h said origin P L M T G Q (decide_change f s g p r phases x o)
+    unfolding decide_change
+    at_decided_other f s g p r phases x None fine t led ok none a = at_begins h said origin P L M T G Q f (keep_decision s g p r None) g x phases live t led (ok (keep_decision s g p r None)) (inl none) (at_decision s g p r None tt a)
     at_decided_other f s g p r phases x (Some y) fine t led ok none a = at_refused s g p r y fine a
 
     pub at_decided : (f : Answering) (s : Core) (g : List ℕ) (p : ProviderId) (r : ℕ) (phases : Phases) (x : Proposal) → NoFailure x → T g → G g → At h said origin P L M T G Q s → At h said origin P L M T G Q (decided f s g p r phases x)
@@ -241,7 +241,7 @@ module _ (h : History) (said : ProviderId → Type 0) (origin : Origin) (P L M :
         none : waiting_of s g ≡ []
 
       free_refused : (s : Core) (p : ProviderId) (r : ℕ) (y : Why) → is_dissolved y ≡ false → Free s → Free (refused s g p r y)
-      unfolding refused decision_kept with_led sent sent_on row_of
+      unfolding refused keep_decision with_led sent send_on row_of
       free_refused s p r y fine k =
           record {
             at = at_refused s g p r y fine k.at;
@@ -351,8 +351,8 @@ module _ (h : History) (said : ProviderId → Type 0) (origin : Origin) (P L M :
       by p true k rest = rest
       by p false k rest = k
 
-  pub at_step_ended : (f : Answering) (s : Core) → At h said origin P L M Every NoGroup Every s → At h said origin P L M Every NoGroup Every (step_ended f s)
-  unfolding step_ended
+  pub at_step_ended : (f : Answering) (s : Core) → At h said origin P L M Every NoGroup Every s → At h said origin P L M Every NoGroup Every (end_step f s)
+  unfolding end_step
   at_step_ended f s a = by (frozen s)
     where
       by : (b : Bool) → At h said origin P L M Every NoGroup Every (elim b as (λ _. Core) [ true ↦ s | false ↦ passes (most_begun s) (most_begun s) f s ])

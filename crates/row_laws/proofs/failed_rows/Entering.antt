@@ -5,48 +5,48 @@ use Rattle.std.specs.Str.{bytes_eq}
 use Rattle.std.specs.Option.{option_map}
 use Rattle.std.proofs.lemmas.Bool.{and_parts, eq-eqb}
 use Rattle.std.proofs.lemmas.List.{reverse-append}
-use Rattle.rsct_packet.specs.declared.ids.ProviderId.{ProviderId}
-use Rattle.rsct_packet.specs.Ids.{same_view}
-use Rattle.rsct_packet.specs.Providers.{among, none_among}
-use Rattle.rsct_packet.specs.Search.{Has}
-use Rattle.rsct_packet.proofs.HasLaws.{has_append, append_has_right, has_map, has_filter, all_has, find_has}
-use Rattle.group_attr.specs.Attrs.{host_membership}
-use Rattle.proposal_core.specs.declared.proposal.Cause.TheVariants.{Died}
-use Rattle.proposal_core.specs.declared.proposal.Proposal.{Proposal}
-use Rattle.proposal_core.specs.declared.proposal.Proposal.TheVariants.{Join, Leave, Fail, Expel, State, Message, Attributes, Reflect}
-use Rattle.proposal_core.specs.declared.entry.Entry.{Entry}
-use Rattle.proposal_core.specs.declared.group_state.GroupState.{GroupState}
-use Rattle.proposal_core.specs.declared.group_state.Running.{Running}
-use Rattle.proposal_core.specs.Fold.{empty_state, present, joins_of, joiners_in, can_begin, joiners_fit_at, joiners_fit}
-use Rattle.proposal_core.specs.Lists.{state_in, len_in}
-use Rattle.batch_rules.specs.Waiting.{waits_failure}
-use Rattle.subscribe_core.specs.declared.subs.Subscription.{Subscription}
-use Rattle.client_callbacks.specs.declared.told.Told.TheVariants as told
-use Rattle.client_callbacks.specs.declared.told.Why.TheVariants.{Dissolved}
-use Rattle.session_state.specs.declared.state.Provider.{Provider}
-use Rattle.session_state.specs.State.{is_provider, provider_of, outstanding}
-use Rattle.view_state.specs.declared.install.Install.{Install}
-use Rattle.view_state.specs.declared.install.Base.{Base}
-use Rattle.view_state.specs.Bases.{bases_of, base_named}
-use Rattle.view_state.specs.declared.packet.ViewPacket.TheVariants as packet
-use Rattle.view_state.specs.declared.packet.ViewSend.{ViewSend}
-use Rattle.view_state.specs.declared.views.ViewWork.{ViewWork}
-use Rattle.view_state.specs.Views.{views_entered}
-use Rattle.node_state.specs.declared.group.GroupRow.{GroupRow}
-use Rattle.node_state.specs.declared.happened.Happened.{Happened}
-use Rattle.node_state.specs.declared.happened.Happened.TheVariants as happened
-use Rattle.node_state.specs.declared.packet.Body.TheVariants as body
-use Rattle.node_state.specs.declared.state.Core.{Core}
-use Rattle.node_state.specs.State.{row_found, row_of, list_of, state_of, held_rows, recorded, recorded_all, with_sessions, with_row, with_led, has_name}
-use Rattle.node_state.specs.Sending.{sent, requests_sent}
-use Rattle.node_state.specs.HandOn.{Answering, subscriber_name, note_of}
-use Rattle.node_state.specs.Leading.{put_and_handed, with_waiting, tally_opened}
-use Rattle.node_state.specs.Applying.{Lacking, lacking, lists_filled, level_set, base_row, base_record, view_entered, is_in_base, number_of, dissolved, dissolved_if, group_dissolved, sides_dissolved, base_note, entering_note, entering_noted, taken_sent, owed_sent, failed_wait, phase_reopened, group_led, groups_led, entered, entered_if, install_applied, views_taken}
-use Rattle.run_safety.specs.Past.{History, records_of, inc_now}
-use Rattle.run_safety.specs.Stays.{Stay, asks_join, is_refused, stays, with_base}
-use Rattle.node_state.proofs.NameOrder.{row_here, text_same}
-use Rattle.step_ties.proofs.SessionLaws.{provider_same}
-use Rattle.step_ties.proofs.BaseOrder.{bases_ordered, row_of_base, base_noted}
+use Rattle.step_refinement.specs.rsct_packet.declared.ids.ProviderId.{ProviderId}
+use Rattle.step_refinement.specs.rsct_packet.Ids.{same_view}
+use Rattle.step_refinement.specs.rsct_packet.Providers.{among, none_among}
+use Rattle.step_refinement.specs.rsct_packet.Search.{Has}
+use Rattle.step_refinement.proofs.rsct_packet_laws.HasLaws.{has_append, append_has_right, has_map, has_filter, all_has, find_has}
+use Rattle.step_refinement.specs.group_attr.Attrs.{host_membership}
+use Rattle.step_refinement.specs.proposal_core.declared.proposal.Cause.TheVariants.{Died}
+use Rattle.step_refinement.specs.proposal_core.declared.proposal.Proposal.{Proposal}
+use Rattle.step_refinement.specs.proposal_core.declared.proposal.Proposal.TheVariants.{Join, Leave, Fail, Expel, State, Message, Attributes, Reflect}
+use Rattle.step_refinement.specs.proposal_core.declared.entry.Entry.{Entry}
+use Rattle.step_refinement.specs.proposal_core.declared.group_state.GroupState.{GroupState}
+use Rattle.step_refinement.specs.proposal_core.declared.group_state.Running.{Running}
+use Rattle.step_refinement.specs.proposal_core.Fold.{empty_state, present, joins_of, joiners_in, can_begin, joiners_fit_at, joiners_fit}
+use Rattle.step_refinement.specs.proposal_core.Lists.{state_in, len_in}
+use Rattle.step_refinement.specs.batch_rules.Waiting.{add_failure}
+use Rattle.step_refinement.specs.subscribe_core.declared.subs.Subscription.{Subscription}
+use Rattle.step_refinement.specs.client_callbacks.declared.told.Told.TheVariants as told
+use Rattle.step_refinement.specs.client_callbacks.declared.told.Why.TheVariants.{Dissolved}
+use Rattle.step_refinement.specs.session_state.declared.state.Provider.{Provider}
+use Rattle.step_refinement.specs.session_state.State.{is_provider, provider_of, outstanding}
+use Rattle.step_refinement.specs.view_state.declared.install.Install.{Install}
+use Rattle.step_refinement.specs.view_state.declared.install.Base.{Base}
+use Rattle.step_refinement.specs.view_state.Bases.{bases_of, base_named}
+use Rattle.step_refinement.specs.view_state.declared.packet.ViewPacket.TheVariants as packet
+use Rattle.step_refinement.specs.view_state.declared.packet.ViewSend.{ViewSend}
+use Rattle.step_refinement.specs.view_state.declared.views.ViewWork.{ViewWork}
+use Rattle.step_refinement.specs.view_state.Views.{views_entered}
+use Rattle.step_refinement.specs.node_state.declared.group.GroupRow.{GroupRow}
+use Rattle.step_refinement.specs.node_state.declared.happened.Happened.{Happened}
+use Rattle.step_refinement.specs.node_state.declared.happened.Happened.TheVariants as happened
+use Rattle.step_refinement.specs.node_state.declared.packet.Body.TheVariants as body
+use Rattle.step_refinement.specs.node_state.declared.state.Core.{Core}
+use Rattle.step_refinement.specs.node_state.State.{row_found, row_of, list_of, state_of, held_rows, recorded, recorded_all, with_sessions, with_row, with_led, has_name}
+use Rattle.step_refinement.specs.node_state.Sending.{sent, send_requests}
+use Rattle.step_refinement.specs.node_state.HandOn.{Answering, subscriber_name, note_of}
+use Rattle.step_refinement.specs.node_state.Leading.{put_and_hand, with_waiting, tally_opened}
+use Rattle.step_refinement.specs.node_state.Applying.{Lacking, lacking, fill_lists, level_set, base_row, base_record, view_entered, is_in_base, number_of, dissolved, dissolved_if, group_dissolved, sides_dissolved, base_note, entering_note, entering_noted, taken_sent, owed_sent, wait_failed, phase_reopened, lead, lead_groups, entered, entered_if, apply_install, views_taken}
+use Rattle.step_refinement.specs.run_safety.Past.{History, records_of, inc_now}
+use Rattle.step_refinement.specs.run_safety.Stays.{Stay, asks_join, is_refused, stays, with_base}
+use Rattle.step_refinement.proofs.node_state_laws.NameOrder.{row_here, text_same}
+use Rattle.step_refinement.proofs.SessionLaws.{provider_same}
+use Rattle.step_refinement.proofs.BaseOrder.{bases_ordered, row_of_base, base_noted}
 use Rattle.row_laws.proofs.hearing.Handing.{among_is, has_among}
 use Rattle.row_laws.proofs.hearing.Listening.{reverse_has}
 use Rattle.row_laws.proofs.honest_votes.At.{found}
@@ -119,14 +119,14 @@ module _ (h : History) (said : ProviderId → Type 0) (origin : Origin) (P L M :
       }
 
   -- (1)
-  entries_filled : (f : Answering) (g : List ℕ) (es : List Entry) (s : Core) → Loose s → Loose (fold (λ u e. put_and_handed f u None g e) s es)
+  entries_filled : (f : Answering) (g : List ℕ) (es : List Entry) (s : Core) → Loose s → Loose (fold (λ u e. put_and_hand f u None g e) s es)
   entries_filled f g [] s a = a
   entries_filled f g (e ∷ es) s a =
-      entries_filled f g es (put_and_handed f s None g e) (at_put_and_handed_for h said origin ⊥ L M NoGroup NoGroup NoGroup NoGroup NoGroup f s None g e live (λ z. absurd z) (λ k u ne. u) (λ k u ne. u) (λ u. absurd u) (λ fit u. absurd u) a)
+      entries_filled f g es (put_and_hand f s None g e) (at_put_and_handed_for h said origin ⊥ L M NoGroup NoGroup NoGroup NoGroup NoGroup f s None g e live (λ z. absurd z) (λ k u ne. u) (λ k u ne. u) (λ u. absurd u) (λ fit u. absurd u) a)
 
-  all_filled : (f : Answering) (xs : List Lacking) (s : Core) → Loose s → Loose (fold (λ t (x : Lacking). fold (λ u e. put_and_handed f u None x.name e) t x.entries) s xs)
+  all_filled : (f : Answering) (xs : List Lacking) (s : Core) → Loose s → Loose (fold (λ t (x : Lacking). fold (λ u e. put_and_hand f u None x.name e) t x.entries) s xs)
   all_filled f [] s a = a
-  all_filled f (x ∷ xs) s a = all_filled f xs (fold (λ u e. put_and_handed f u None x.name e) s x.entries) (entries_filled f x.name x.entries s a)
+  all_filled f (x ∷ xs) s a = all_filled f xs (fold (λ u e. put_and_hand f u None x.name e) s x.entries) (entries_filled f x.name x.entries s a)
 
   -- (2) in a view that is entered nothing is counted yet, and nobody waits
   at_view_entered : (s : Core) (i : Install) → Loose s → Full (view_entered s i (bases_of i))
@@ -440,29 +440,29 @@ module _ (h : History) (said : ProviderId → Type 0) (origin : Origin) (P L M :
 
   at_owed_sent : (s : Core) → Full s → Full (owed_sent s)
   unfolding owed_sent
-  at_owed_sent s a = at_votes_again h said origin P L M Every NoGroup Every (requests_sent s) (at_requests_sent h said origin P L M Every NoGroup Every s a)
+  at_owed_sent s a = at_votes_again h said origin P L M Every NoGroup Every (send_requests s) (at_requests_sent h said origin P L M Every NoGroup Every s a)
 
   -- (7)
-  failed_waits : (G : List ℕ → Type 0) (g : List ℕ) (st : GroupState) (ps : List ProviderId) (s : Core) → G g → state_in (found s g).list ≡ st → ((p : ProviderId) → Has p ps → (among st.members p ≡ true) × (among st.failed p ≡ true)) → At h said origin P L M Every G Every s → At h said origin P L M Every G Every (fold (λ t p. with_waiting t g (waits_failure p Died)) s ps)
+  failed_waits : (G : List ℕ → Type 0) (g : List ℕ) (st : GroupState) (ps : List ProviderId) (s : Core) → G g → state_in (found s g).list ≡ st → ((p : ProviderId) → Has p ps → (among st.members p ≡ true) × (among st.failed p ≡ true)) → At h said origin P L M Every G Every s → At h said origin P L M Every G Every (fold (λ t p. with_waiting t g (add_failure p Died)) s ps)
   unfolding with_waiting with_led with_row row_of
   failed_waits G g st [] s led is all a = a
   failed_waits G g st (p ∷ ps) s led is all a =
-      failed_waits G g st ps (with_waiting s g (waits_failure p Died)) led (ap (λ (z : GroupRow). state_in z.list) (row_here g (λ row. record row { led = record (row.led) { waiting = waits_failure p Died row.led.waiting } }) (λ x. refl) s a.order) ∙ is) (λ q i. all q (inr i)) (at_waits h said origin P L M Every G Every s g p Died led (λ fit w. new fit) a)
+      failed_waits G g st ps (with_waiting s g (add_failure p Died)) led (ap (λ (z : GroupRow). state_in z.list) (row_here g (λ row. record row { led = record (row.led) { waiting = add_failure p Died row.led.waiting } }) (λ x. refl) s a.order) ∙ is) (λ q i. all q (inr i)) (at_waits h said origin P L M Every G Every s g p Died led (λ fit w. new fit) a)
     where
       new : BasesFit s.records → Stays (state_in (found s g).list) p ≡ true
       new fit =
           let k = all p (inl refl) in
           failed_stays (state_in (found s g).list) p (ap (λ (z : GroupState). among z.failed p) is ∙ k.1) (no_joiner (state_in (found s g).list) p (a.apart live fit g) (ap (λ (z : GroupState). among z.members p) is ∙ k.0))
 
-  at_group_led : (f : Answering) (G : List ℕ → Type 0) (s : Core) (g : List ℕ) → G g → At h said origin P L M Every G Every s → At h said origin P L M Every G Every (group_led f s g)
-  unfolding group_led failed_wait phase_reopened state_of list_of row_of
+  at_group_led : (f : Answering) (G : List ℕ → Type 0) (s : Core) (g : List ℕ) → G g → At h said origin P L M Every G Every s → At h said origin P L M Every G Every (lead f s g)
+  unfolding lead wait_failed phase_reopened state_of list_of row_of
   at_group_led f G s g led a = by (is_some st.running)
     where
       st : GroupState
       st = state_in (found s g).list
 
       t : Core
-      t = failed_wait s g (filter (among st.members) st.failed)
+      t = wait_failed s g (filter (among st.members) st.failed)
 
       waits : At h said origin P L M Every G Every t
       waits =
@@ -472,14 +472,14 @@ module _ (h : History) (said : ProviderId → Type 0) (origin : Origin) (P L M :
       by false = waits
       by true = at_closes h said origin P L M Every G Every f (tally_opened t g) g live tt led (at_opened_anew h said origin P L M Every G Every t g live led waits)
 
-  at_groups_led : (f : Answering) (s : Core) → Full s → Full (groups_led f s)
-  unfolding groups_led
-  at_groups_led f s a = at_led_groups h said origin P L M live (group_led f) (at_group_led f) s a
+  at_groups_led : (f : Answering) (s : Core) → Full s → Full (lead_groups f s)
+  unfolding lead_groups
+  at_groups_led f s a = at_led_groups h said origin P L M live (lead f) (at_group_led f) s a
 
   at_entered : (f : Answering) (s : Core) (i : Install) (xs : List Lacking) → Full s → Full (entered f s i xs)
-  unfolding entered lists_filled
+  unfolding entered fill_lists
   at_entered f s i xs a =
-      let t : Core = lists_filled f s xs in
+      let t : Core = fill_lists f s xs in
       let bs : List Base = bases_of i in
       let filled : Loose t = all_filled f xs s (loosened s a) in
       let v : Core = view_entered t i bs in
@@ -487,8 +487,8 @@ module _ (h : History) (said : ProviderId → Type 0) (origin : Origin) (P L M :
       let e : Full d = at_sides t i filled (at_view_entered t i filled) in
       at_groups_led f (owed_sent (taken_sent (entering_noted d bs))) (at_owed_sent (taken_sent (entering_noted d bs)) (at_taken_sent (entering_noted d bs) (at_entering_noted d bs e)))
 
-  at_applied : (f : Answering) (s : Core) (o : Option Install) → Full s → Full (install_applied f s o)
-  unfolding install_applied entered_if
+  at_applied : (f : Answering) (s : Core) (o : Option Install) → Full s → Full (apply_install f s o)
+  unfolding apply_install entered_if
   at_applied f s None a = a
   at_applied f s (Some i) a = by (lacking s i)
     where

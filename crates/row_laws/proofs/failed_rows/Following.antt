@@ -4,50 +4,50 @@ use Rattle.std.specs.Prelude.{◌==◌, ◌&&◌, ◌||◌, find, nat_le, nat_lt
 use Rattle.std.specs.Option.{unwrap_or}
 use Rattle.std.proofs.lemmas.Bool.{eqb-true}
 use Rattle.std.proofs.lemmas.List.{reverse-append}
-use Rattle.rsct_packet.specs.declared.ids.ViewId.{ViewId}
-use Rattle.rsct_packet.specs.declared.ids.ProviderId.{ProviderId}
-use Rattle.rsct_packet.specs.declared.ids.ProtoId.{ProtoId}
-use Rattle.rsct_packet.specs.Providers.{among, same_provider}
-use Rattle.rsct_packet.specs.Search.{Has}
-use Rattle.rsct_packet.proofs.HasLaws.{append_has_left, find_has, has_filter}
-use Rattle.group_attr.specs.declared.attrs.Phases.{Phases}
-use Rattle.proposal_core.specs.declared.proposal.Cause.TheVariants.{Gone}
-use Rattle.proposal_core.specs.declared.proposal.Failure.{Failure}
-use Rattle.proposal_core.specs.declared.proposal.Proposal.{Proposal}
-use Rattle.proposal_core.specs.declared.entry.Entry.{Entry}
-use Rattle.proposal_core.specs.declared.entry.Vote.{Vote}
-use Rattle.proposal_core.specs.declared.group_state.GroupState.{GroupState}
-use Rattle.proposal_core.specs.Fold.{runs, present, joiners_fit}
-use Rattle.proposal_core.specs.Lists.{state_in, len_in}
-use Rattle.batch_rules.specs.Waiting.{WaitingView, waits_failure, join_dropped}
-use Rattle.name_server.specs.Names as names
-use Rattle.name_server.specs.declared.names.Leader.{Leader}
-use Rattle.vote_phases.specs.Tally.{TallyView, tally_fail}
-use Rattle.view_state.specs.declared.views.Views.{Views}
-use Rattle.client_callbacks.specs.declared.told.Why.{Why}
-use Rattle.client_callbacks.specs.declared.told.Why.TheVariants.{GroupsFull}
-use Rattle.session_state.specs.declared.state.Request.{Request}
-use Rattle.session_state.specs.State.{is_asked_by, outstanding, without_providers}
-use Rattle.session_state.specs.HandOn.{is_numbered, is_join, is_join_request, is_dissolved, takes_telling, told_of, telling_taken}
-use Rattle.node_state.specs.declared.group.Decision.{Decision}
-use Rattle.node_state.specs.declared.group.GroupRow.{GroupRow}
-use Rattle.node_state.specs.declared.group.Led.{Led}
-use Rattle.node_state.specs.declared.happened.Happened.{Happened}
-use Rattle.node_state.specs.declared.happened.Happened.TheVariants as happened
-use Rattle.node_state.specs.declared.packet.Body.TheVariants as body
-use Rattle.node_state.specs.declared.state.Core.{Core}
-use Rattle.node_state.specs.Settings.{is_fixed}
-use Rattle.node_state.specs.State.{InNameOrder, row_found, row_of, with_row, with_led, led_of, state_of, len_of, holds, fits_at_end, forgets_below, coordinates, is_this, leader_by, leader_in, leader_of, leads_in, leads, led_by, acked_raised, decision_of, recorded, with_sessions, has_name}
-use Rattle.node_state.specs.Sending.{sent, sent_on, request_sent}
-use Rattle.node_state.specs.HandOn.{Answering}
-use Rattle.node_state.specs.Leading.{put, put_and_handed, with_waiting, with_tally, closes}
-use Rattle.node_state.specs.Deciding.{decided}
-use Rattle.node_state.specs.Following.{lookup_row, told_if, tell_row, requests_of, named, is_name_used, name_row, told_again, request_new, request_after, request_at, is_group_refused, request_row, entry_next, entry_elsewhere, entry_row, acked, ack_row, vote_cast, vote_row, tally_failed, gone_waits, marked, gone_present, gone_of, gone_row}
-use Rattle.run_safety.specs.Past.{History, records_of}
-use Rattle.run_safety.specs.Stays.{stays, is_join_of}
-use Rattle.node_state.proofs.NameOrder.{cases_text, row_here, row_there, rows_ordered}
-use Rattle.step_ties.proofs.SessionLaws.{provider_same}
-use Rattle.step_ties.proofs.Appending.{handed_rows}
+use Rattle.step_refinement.specs.rsct_packet.declared.ids.ViewId.{ViewId}
+use Rattle.step_refinement.specs.rsct_packet.declared.ids.ProviderId.{ProviderId}
+use Rattle.step_refinement.specs.rsct_packet.declared.ids.ProtoId.{ProtoId}
+use Rattle.step_refinement.specs.rsct_packet.Providers.{among, same_provider}
+use Rattle.step_refinement.specs.rsct_packet.Search.{Has}
+use Rattle.step_refinement.proofs.rsct_packet_laws.HasLaws.{append_has_left, find_has, has_filter}
+use Rattle.step_refinement.specs.group_attr.declared.attrs.Phases.{Phases}
+use Rattle.step_refinement.specs.proposal_core.declared.proposal.Cause.TheVariants.{Gone}
+use Rattle.step_refinement.specs.proposal_core.declared.proposal.Failure.{Failure}
+use Rattle.step_refinement.specs.proposal_core.declared.proposal.Proposal.{Proposal}
+use Rattle.step_refinement.specs.proposal_core.declared.entry.Entry.{Entry}
+use Rattle.step_refinement.specs.proposal_core.declared.entry.Vote.{Vote}
+use Rattle.step_refinement.specs.proposal_core.declared.group_state.GroupState.{GroupState}
+use Rattle.step_refinement.specs.proposal_core.Fold.{runs, present, joiners_fit}
+use Rattle.step_refinement.specs.proposal_core.Lists.{state_in, len_in}
+use Rattle.step_refinement.specs.batch_rules.Waiting.{WaitingView, add_failure, drop_join}
+use Rattle.step_refinement.specs.name_server.Names as names
+use Rattle.step_refinement.specs.name_server.declared.names.Leader.{Leader}
+use Rattle.step_refinement.specs.vote_phases.Tally.{TallyView, tally_fail}
+use Rattle.step_refinement.specs.view_state.declared.views.Views.{Views}
+use Rattle.step_refinement.specs.client_callbacks.declared.told.Why.{Why}
+use Rattle.step_refinement.specs.client_callbacks.declared.told.Why.TheVariants.{GroupsFull}
+use Rattle.step_refinement.specs.session_state.declared.state.Request.{Request}
+use Rattle.step_refinement.specs.session_state.State.{is_asked_by, outstanding, without_providers}
+use Rattle.step_refinement.specs.session_state.HandOn.{is_numbered, is_join, is_join_request, is_dissolved, takes_telling, told_of, take_telling}
+use Rattle.step_refinement.specs.node_state.declared.group.Decision.{Decision}
+use Rattle.step_refinement.specs.node_state.declared.group.GroupRow.{GroupRow}
+use Rattle.step_refinement.specs.node_state.declared.group.Led.{Led}
+use Rattle.step_refinement.specs.node_state.declared.happened.Happened.{Happened}
+use Rattle.step_refinement.specs.node_state.declared.happened.Happened.TheVariants as happened
+use Rattle.step_refinement.specs.node_state.declared.packet.Body.TheVariants as body
+use Rattle.step_refinement.specs.node_state.declared.state.Core.{Core}
+use Rattle.step_refinement.specs.node_state.Settings.{is_fixed}
+use Rattle.step_refinement.specs.node_state.State.{InNameOrder, row_found, row_of, with_row, with_led, led_of, state_of, len_of, holds, fits_at_end, forget_below, coordinates, is_this, leader_by, leader_in, leader_of, leads_in, leads, set_leader, acked_raised, decision_of, recorded, with_sessions, has_name}
+use Rattle.step_refinement.specs.node_state.Sending.{sent, send_on, send_request}
+use Rattle.step_refinement.specs.node_state.HandOn.{Answering}
+use Rattle.step_refinement.specs.node_state.Leading.{put, put_and_hand, with_waiting, with_tally, closes}
+use Rattle.step_refinement.specs.node_state.Deciding.{decided}
+use Rattle.step_refinement.specs.node_state.Following.{take_lookup, told_if, take_tell, requests_of, named, is_name_used, take_name, tell_again, decide_new, request_after, request_at, is_group_refused, take_request, entry_next, entry_elsewhere, take_entry, acked, take_ack, vote_cast, take_vote, tally_failed, wait_gone, marked, gone_present, gone_of, take_gone}
+use Rattle.step_refinement.specs.run_safety.Past.{History, records_of}
+use Rattle.step_refinement.specs.run_safety.Stays.{stays, is_join_of}
+use Rattle.step_refinement.proofs.node_state_laws.NameOrder.{cases_text, row_here, row_there, rows_ordered}
+use Rattle.step_refinement.proofs.SessionLaws.{provider_same}
+use Rattle.step_refinement.proofs.Appending.{handed_rows}
 use Rattle.row_laws.proofs.hearing.Rows.{closes_on}
 use Rattle.row_laws.proofs.honest_votes.At.{found, leads_row, leads_is}
 use Rattle.row_laws.proofs.honest_votes.Hands.{handed_longer}
@@ -109,8 +109,8 @@ module _ (h : History) (said : ProviderId → Type 0) (origin : Origin) (P L M :
     abbrev led_row : GroupRow → GroupRow
     led_row row = record row { leader = Some n }
 
-    at_led_by : TallyIs (GoneCause h s.views.view g) (leads_row s (led_row (found s g))) (found s g).led.tally (state_in (found s g).list) → (BasesFit s.records → QueueIs (GoneCause h s.views.view g) (leads_row s (led_row (found s g))) (waiting_of s g) (state_in (found s g).list)) → Full s → Full (led_by s g n)
-    unfolding led_by with_row row_of
+    at_led_by : TallyIs (GoneCause h s.views.view g) (leads_row s (led_row (found s g))) (found s g).led.tally (state_in (found s g).list) → (BasesFit s.records → QueueIs (GoneCause h s.views.view g) (leads_row s (led_row (found s g))) (waiting_of s g) (state_in (found s g).list)) → Full s → Full (set_leader s g n)
+    unfolding set_leader with_row row_of
     at_led_by own queue a =
         record {
           inc = a.inc;
@@ -175,13 +175,13 @@ module _ (h : History) (said : ProviderId → Type 0) (origin : Origin) (P L M :
 
   -- ---- LOOKUP, NAME and TELL
 
-  pub at_lookup : (s : Core) (from : ℕ) (g : List ℕ) → Full s → Full (lookup_row s from g)
-  unfolding lookup_row
+  pub at_lookup : (s : Core) (from : ℕ) (g : List ℕ) → Full s → Full (take_lookup s from g)
+  unfolding take_lookup
   at_lookup s from g a = by (coordinates s)
     where
-      by : (b : Bool) → Full (elim b as (λ _. Core) [ false ↦ s | true ↦ sent (record s { names = names.names_after g from s.names }) from (body.Name s.views.view g (unwrap_or (names.looked_up g from s.names) 0)) ])
+      by : (b : Bool) → Full (elim b as (λ _. Core) [ false ↦ s | true ↦ sent (record s { names = names.lookup g from s.names }) from (body.Name s.views.view g (unwrap_or (names.looked_up g from s.names) 0)) ])
       by false = a
-      by true = at_sent h said origin P L M Every NoGroup Every (record s { names = names.names_after g from s.names }) from (body.Name s.views.view g (unwrap_or (names.looked_up g from s.names) 0)) tt (at_names s (names.names_after g from s.names) a)
+      by true = at_sent h said origin P L M Every NoGroup Every (record s { names = names.lookup g from s.names }) from (body.Name s.views.view g (unwrap_or (names.looked_up g from s.names) 0)) tt (at_names s (names.lookup g from s.names) a)
 
   -- a join that is outstanding has the number of its provider's join, and its node did not put it
   abbrev Numbered : Core → Type 0
@@ -192,8 +192,8 @@ module _ (h : History) (said : ProviderId → Type 0) (origin : Origin) (P L M :
   at_told_if s p r y false ends a = a
   at_told_if s p r y true ends a = at_told h said origin P L M Every NoGroup Every s p r y (λ me inc k. inl (ends refl k)) a
 
-  pub at_tell : (s : Core) (p : ProviderId) (r : ℕ) (y : Why) → is_dissolved y ≡ false → Numbered s → Full s → Full (tell_row s p r y)
-  unfolding tell_row outstanding
+  pub at_tell : (s : Core) (p : ProviderId) (r : ℕ) (y : Why) → is_dissolved y ≡ false → Numbered s → Full s → Full (take_tell s p r y)
+  unfolding take_tell outstanding
   at_tell s p r y fine numbered a = at_told_if s p r y (is_numbered r (find (is_asked_by p) s.sessions.requests)) ends a
     where
       joins : (o : Option Request) → find (is_asked_by p) s.sessions.requests ≡ o → is_numbered r o ≡ true → is_join_request o ≡ true → IsRefused (reverse s.records ++ records_of h) p r
@@ -206,8 +206,8 @@ module _ (h : History) (said : ProviderId → Type 0) (origin : Origin) (P L M :
       ends n (inl j) = joins (find (is_asked_by p) s.sessions.requests) refl n j
       ends n (inr d) = absurd (let z : true ≡ false = sym d ∙ fine in cc)
 
-  told_numbered : (s : Core) (p : ProviderId) (r : ℕ) (y : Why) → Numbered s → Numbered (tell_row s p r y)
-  unfolding tell_row told_if recorded with_sessions telling_taken told_of without_providers
+  told_numbered : (s : Core) (p : ProviderId) (r : ℕ) (y : Why) → Numbered s → Numbered (take_tell s p r y)
+  unfolding take_tell told_if recorded with_sessions take_telling told_of without_providers
   told_numbered s p r y k q i j = by (is_numbered r (outstanding s.sessions p)) (takes_telling s.sessions p r y) (is_join_request (outstanding s.sessions p) || is_dissolved y) i
     where
       -- a telling more
@@ -225,7 +225,7 @@ module _ (h : History) (said : ProviderId → Type 0) (origin : Origin) (P L M :
       by false b c i = k q i j
       by true b c i = later (k q (fewer i) j)
         where
-          fewer : Has q (telling_taken s.sessions p r y).requests → Has q s.sessions.requests
+          fewer : Has q (take_telling s.sessions p r y).requests → Has q s.sessions.requests
           fewer i = at (takes_telling s.sessions p r y) (is_join_request (outstanding s.sessions p) || is_dissolved y) i
             where
               at : (b c : Bool) → Has q (if b then (if c then without_providers s.sessions (p ∷ []) else record (s.sessions) { requests = filter (λ (q : Request). not (among (p ∷ []) q.p)) s.sessions.requests }) else s.sessions).requests → Has q s.sessions.requests
@@ -233,9 +233,9 @@ module _ (h : History) (said : ProviderId → Type 0) (origin : Origin) (P L M :
               at true true i = (has_filter (λ (q : Request). not (among (p ∷ []) q.p)) q s.sessions.requests i).0
               at true false i = (has_filter (λ (q : Request). not (among (p ∷ []) q.p)) q s.sessions.requests i).0
 
-  all_told : (qs : List Request) (s : Core) → Numbered s → Full s → Full (fold (λ t (q : Request). tell_row t q.p q.r (GroupsFull 64)) s qs)
+  all_told : (qs : List Request) (s : Core) → Numbered s → Full s → Full (fold (λ t (q : Request). take_tell t q.p q.r (GroupsFull 64)) s qs)
   all_told [] s k a = a
-  all_told (q ∷ qs) s k a = all_told qs (tell_row s q.p q.r (GroupsFull 64)) (told_numbered s q.p q.r (GroupsFull 64) k) (at_tell s q.p q.r (GroupsFull 64) refl k a)
+  all_told (q ∷ qs) s k a = all_told qs (take_tell s q.p q.r (GroupsFull 64)) (told_numbered s q.p q.r (GroupsFull 64) k) (at_tell s q.p q.r (GroupsFull 64) refl k a)
 
   unled : (s : Core) (g : List ℕ) → is_none (leader_in s (found s g)) ≡ true → leads_row s (found s g) ≡ true → ⊥
   unfolding leader_in
@@ -254,8 +254,8 @@ module _ (h : History) (said : ProviderId → Type 0) (origin : Origin) (P L M :
   unqueued gone led fs st asks (inl z) = z
   unqueued gone led fs st asks (inr k) = absurd (asks k.0)
 
-  pub at_name : (s : Core) (g : List ℕ) (n : ℕ) → Numbered s → Full s → Full (name_row s g n)
-  unfolding name_row named is_name_used leader_of row_of
+  pub at_name : (s : Core) (g : List ℕ) (n : ℕ) → Numbered s → Full s → Full (take_name s g n)
+  unfolding take_name named is_name_used leader_of row_of
   at_name s g n numbered a = by (n == 0) (is_none (leader_in s (found s g))) (is_fixed s.config.mode) refl
     where
       by : (zero none fixed : Bool) → is_none (leader_in s (found s g)) ≡ none → Full (elim (none || (fixed && zero)) as (λ _. Core) [ true ↦ named s g n zero | false ↦ s ])
@@ -263,21 +263,21 @@ module _ (h : History) (said : ProviderId → Type 0) (origin : Origin) (P L M :
       by true false true e = all_told (requests_of s g) s numbered a
       by true false false e = a
       by false true fixed e =
-          at_fold h said origin P L M Every NoGroup Every request_sent (requests_of s g) (λ t q i k. at_request_sent h said origin P L M Every NoGroup Every t q k) (led_by s g n) (at_led_by s g n (inl (uncounted (GoneCause h s.views.view g) (leads_row s (found s g)) (found s g).led.tally (state_in (found s g).list) (unled s g e) (a.tallies g tt))) (λ fit. inl (unqueued (GoneCause h s.views.view g) (leads_row s (found s g)) (waiting_of s g) (state_in (found s g).list) (unled s g e) (a.queues fit g tt))) a)
+          at_fold h said origin P L M Every NoGroup Every send_request (requests_of s g) (λ t q i k. at_request_sent h said origin P L M Every NoGroup Every t q k) (set_leader s g n) (at_led_by s g n (inl (uncounted (GoneCause h s.views.view g) (leads_row s (found s g)) (found s g).led.tally (state_in (found s g).list) (unled s g e) (a.tallies g tt))) (λ fit. inl (unqueued (GoneCause h s.views.view g) (leads_row s (found s g)) (waiting_of s g) (state_in (found s g).list) (unled s g e) (a.queues fit g tt))) a)
       by false false true e = a
       by false false false e = a
 
   -- ---- REQUEST
 
-  at_told_again : (s : Core) (g : List ℕ) (p : ProviderId) (r : ℕ) (o : Option Why) → NotDissolved o → Full s → Full (told_again s g p r o)
-  unfolding told_again
+  at_told_again : (s : Core) (g : List ℕ) (p : ProviderId) (r : ℕ) (o : Option Why) → NotDissolved o → Full s → Full (tell_again s g p r o)
+  unfolding tell_again
   at_told_again s g p r None fine a = a
   at_told_again s g p r (Some y) fine a = at_sent h said origin P L M Every NoGroup Every s p.node (body.Tell s.views.view g p r y) fine a
 
   -- noting itself as leader, the node leads
-  module _ (f : Answering) (s : Core) (g : List ℕ) (leads_it : leads (led_by s g s.views.me) g ≡ true) where
-    at_noted : Full s → Full (led_by s g s.views.me)
-    unfolding led_by with_row leads leads_in leader_in row_of
+  module _ (f : Answering) (s : Core) (g : List ℕ) (leads_it : leads (set_leader s g s.views.me) g ≡ true) where
+    at_noted : Full s → Full (set_leader s g s.views.me)
+    unfolding set_leader with_row leads leads_in leader_in row_of
     at_noted a = at_led_by s g s.views.me (own (a.tallies g tt)) (λ fit. queue (a.queues fit g tt)) a
       where
         now : leads_row s (record (found s g) { leader = Some s.views.me }) ≡ true
@@ -291,10 +291,10 @@ module _ (h : History) (said : ProviderId → Type 0) (origin : Origin) (P L M :
         queue (inl e) = inl e
         queue (inr k) = inr (now, k.1)
 
-    at_request_new : (p : ProviderId) (r : ℕ) (phases : Phases) (x : Proposal) → NoFailure x → Full s → Full (request_new f s g p r phases x)
-    unfolding request_new
+    at_request_new : (p : ProviderId) (r : ℕ) (phases : Phases) (x : Proposal) → NoFailure x → Full s → Full (decide_new f s g p r phases x)
+    unfolding decide_new
     at_request_new p r phases x asks a =
-        let t : Core = led_by s g s.views.me in
+        let t : Core = set_leader s g s.views.me in
         all_again (decided f t g p r phases x) g (at_decided h said origin P L M live Every (Only g) Every f t g p r phases x asks tt refl (only_led t g leads_it (at_noted a)))
 
     at_request_after : (p : ProviderId) (r : ℕ) (phases : Phases) (x : Proposal) (d : Decision) (b c : Bool) → NotDissolved d.why → NoFailure x → Full s → Full (request_after f s g p r phases x d b c)
@@ -308,8 +308,8 @@ module _ (h : History) (said : ProviderId → Type 0) (origin : Origin) (P L M :
     at_request_at p r phases x None fine asks a = at_request_new p r phases x asks a
     at_request_at p r phases x (Some d) fine asks a = at_request_after p r phases x d (nat_lt r d.r) (r == d.r) (fine d refl) asks a
 
-    pub at_request : (from : ℕ) (p : ProviderId) (r : ℕ) (phases : Phases) (x : Proposal) → NoFailure x → Full s → Full (request_row f s from g p r phases x)
-    unfolding request_row decision_of led_of row_of
+    pub at_request : (from : ℕ) (p : ProviderId) (r : ℕ) (phases : Phases) (x : Proposal) → NoFailure x → Full s → Full (take_request f s from g p r phases x)
+    unfolding take_request decision_of led_of row_of
     at_request from p r phases x asks a = by (is_group_refused s g)
       where
         by : (b : Bool) → Full (elim b as (λ _. Core) [ true ↦ sent s from (body.Name s.views.view g 0) | false ↦ request_at f s g p r phases x (decision_of (led_of s g) p) ])
@@ -319,14 +319,14 @@ module _ (h : History) (said : ProviderId → Type 0) (origin : Origin) (P L M :
   -- ---- ENTRY and ACK
 
   -- what is led stays where an entry is put
-  led_after : (f : Answering) (s : Core) (from : ℕ) (g : List ℕ) (e : Entry) → InNameOrder s.groups → (found (put_and_handed f s (Some from) g e) g).led ≡ (found s g).led
-  unfolding put_and_handed put recorded with_row row_of
+  led_after : (f : Answering) (s : Core) (from : ℕ) (g : List ℕ) (e : Entry) → InNameOrder s.groups → (found (put_and_hand f s (Some from) g e) g).led ≡ (found s g).led
+  unfolding put_and_hand put recorded with_row row_of
   led_after f s from g e order =
       ap (λ rows. (row_found g (find (has_name g) rows)).led) (handed_rows f (put s g e) (Some from) g (len_of s g) (state_of s g) (state_of (put s g e) g) e).0 ∙ ap (λ (z : GroupRow). z.led) (row_here g (λ row. put_row s row e) (λ x. refl) s order)
 
   -- no record is lost
-  put_longer : (f : Answering) (s : Core) (to : Option ℕ) (g : List ℕ) (e : Entry) (r : Happened) → Has r s.records → Has r (put_and_handed f s to g e).records
-  unfolding put_and_handed put recorded with_row
+  put_longer : (f : Answering) (s : Core) (to : Option ℕ) (g : List ℕ) (e : Entry) (r : Happened) → Has r s.records → Has r (put_and_hand f s to g e).records
+  unfolding put_and_hand put recorded with_row
   put_longer f s to g e r i = handed_longer f (put s g e) to g (len_of s g) (state_of s g) (state_of (put s g e) g) e r (append_has_left r s.records (happened.Put s.views.me s.views.view g (len_of s g) e ∷ []) i)
 
   -- what the node does not lead is not counted there; and its leader put the entry before
@@ -335,13 +335,13 @@ module _ (h : History) (said : ProviderId → Type 0) (origin : Origin) (P L M :
     PutBefore = (m : ℕ) × (d : Entry) × Has (happened.Put m s.views.view g (len_in (found s g).list) d) (reverse s.records ++ records_of h)
 
     at_next : PutBefore → (leads s g ≡ true → ⊥) → Full s → Full (entry_next f s from g stable e true)
-    unfolding entry_next sent sent_on
+    unfolding entry_next sent send_on
     at_next was follows a =
-        let t : Core = put_and_handed f s (Some from) g e in
+        let t : Core = put_and_hand f s (Some from) g e in
         let u : Core = sent t from (body.Ack t.views.view g (len_of t g)) in
         let b : Full t = at_put_and_handed_for h said origin P L M Every NoGroup Every Every Every f s (Some from) g e live (λ l fit first. absurd (first was.0 was.1 was.2)) (λ k u ne. u) (λ k u ne. u) (λ u. inl none) (λ fit u. inl (idle fit)) a in
         let c : Full u = at_sent h said origin P L M Every NoGroup Every t from (body.Ack t.views.view g (len_of t g)) tt b in
-        at_forgets h said origin P L M Every NoGroup Every (led_by u g from) g stable (at_led_by u g from (inl (ap (λ (l : Led). l.tally) (led_after f s from g e a.order) ∙ none)) (λ fit. inl (ap (λ (l : Led). l.waiting.failures) (led_after f s from g e a.order) ∙ idle_later b fit)) c)
+        at_forgets h said origin P L M Every NoGroup Every (set_leader u g from) g stable (at_led_by u g from (inl (ap (λ (l : Led). l.tally) (led_after f s from g e a.order) ∙ none)) (λ fit. inl (ap (λ (l : Led). l.waiting.failures) (led_after f s from g e a.order) ∙ idle_later b fit)) c)
       where
         asks : leads_row s (found s g) ≡ true → ⊥
         asks q = follows (sym (leads_is s g) ∙ q)
@@ -352,7 +352,7 @@ module _ (h : History) (said : ProviderId → Type 0) (origin : Origin) (P L M :
         idle : BasesFit s.records → waiting_of s g ≡ []
         idle fit = unqueued (GoneCause h s.views.view g) (leads_row s (found s g)) (waiting_of s g) (state_in (found s g).list) asks (a.queues fit g tt)
 
-        idle_later : Full (put_and_handed f s (Some from) g e) → BasesFit (put_and_handed f s (Some from) g e).records → waiting_of s g ≡ []
+        idle_later : Full (put_and_hand f s (Some from) g e) → BasesFit (put_and_hand f s (Some from) g e).records → waiting_of s g ≡ []
         idle_later b fit = idle (λ r i. fit r (put_longer f s (Some from) g e r i))
 
     at_next_if : PutBefore → (leads s g ≡ true → ⊥) → (b : Bool) → Full s → Full (entry_next f s from g stable e b)
@@ -365,12 +365,12 @@ module _ (h : History) (said : ProviderId → Type 0) (origin : Origin) (P L M :
     at_elsewhere true a = at_forgets h said origin P L M Every NoGroup Every (sent s from (body.Ack s.views.view g (len_of s g))) g stable (at_sent h said origin P L M Every NoGroup Every s from (body.Ack s.views.view g (len_of s g)) tt a)
     at_elsewhere false a = by (holds s g)
       where
-        by : (b : Bool) → Full (elim b as (λ _. Core) [ true ↦ forgets_below s g stable | false ↦ s ])
+        by : (b : Bool) → Full (elim b as (λ _. Core) [ true ↦ forget_below s g stable | false ↦ s ])
         by true = at_forgets h said origin P L M Every NoGroup Every s g stable a
         by false = a
 
-    pub at_entry : (place : ℕ) → ((place == len_of s g) ≡ true → PutBefore) → ((place == len_of s g) ≡ true → leads s g ≡ true → ⊥) → Full s → Full (entry_row f s from g place stable e)
-    unfolding entry_row
+    pub at_entry : (place : ℕ) → ((place == len_of s g) ≡ true → PutBefore) → ((place == len_of s g) ≡ true → leads s g ≡ true → ⊥) → Full s → Full (take_entry f s from g place stable e)
+    unfolding take_entry
     at_entry place was follows a = by (place == len_of s g) refl
       where
         by : (b : Bool) → (place == len_of s g) ≡ b → Full (elim b as (λ _. Core) [ true ↦ entry_next f s from g stable e (fits_at_end s g e) | false ↦ entry_elsewhere s from g stable (nat_lt place (len_of s g)) ])
@@ -383,8 +383,8 @@ module _ (h : History) (said : ProviderId → Type 0) (origin : Origin) (P L M :
       let t : Core = with_led s g (λ l. record l { acked = acked_raised from n l.acked }) in
       at_forgets_least h said origin P L M Every NoGroup Every t g (at_led h said origin P L M Every NoGroup Every s g (λ l. record l { acked = acked_raised from n l.acked }) (λ l. refl) (λ l. refl) (λ l. refl) (λ l z. z) a)
 
-  pub at_ack : (s : Core) (from : ℕ) (g : List ℕ) (n : ℕ) → Full s → Full (ack_row s from g n)
-  unfolding ack_row
+  pub at_ack : (s : Core) (from : ℕ) (g : List ℕ) (n : ℕ) → Full s → Full (take_ack s from g n)
+  unfolding take_ack
   at_ack s from g n a = by (leads s g && nat_le n (len_of s g))
     where
       by : (b : Bool) → Full (elim b as (λ _. Core) [ true ↦ acked s from g n | false ↦ s ])
@@ -393,8 +393,8 @@ module _ (h : History) (said : ProviderId → Type 0) (origin : Origin) (P L M :
 
   -- ---- VOTE
 
-  pub at_vote : (f : Answering) (s : Core) (g : List ℕ) (proto : ProtoId) (phase : ℕ) (p : ProviderId) (v : Vote) (value message : Option (List ℕ)) → Full s → Full (vote_row f s g proto phase p v value message)
-  unfolding vote_row with_led
+  pub at_vote : (f : Answering) (s : Core) (g : List ℕ) (proto : ProtoId) (phase : ℕ) (p : ProviderId) (v : Vote) (value message : Option (List ℕ)) → Full s → Full (take_vote f s g proto phase p v value message)
+  unfolding take_vote with_led
   at_vote f s g proto phase p v value message a = by (leads s g) (runs proto phase (state_of s g).running) refl
     where
       counted : leads s g ≡ true → At h said origin P L M Every (Only g) Every (with_led s g (λ l. vote_cast l p v value message l.tally))
@@ -431,11 +431,11 @@ module _ (h : History) (said : ProviderId → Type 0) (origin : Origin) (P L M :
     failed_view t None order = refl
     failed_view t (Some y) order = (closes_on f (with_tally t g (Some (tally_fail p y))) g (rows_ordered g (λ row. record row { led = record (row.led) { tally = Some (tally_fail p y) } }) (λ x. refl) t order)).views
 
-    at_gone_waits : (t : Core) → t.views.view ≡ s.views.view → Mine t → Mine (gone_waits t g p)
-    unfolding gone_waits
+    at_gone_waits : (t : Core) → t.views.view ≡ s.views.view → Mine t → Mine (wait_gone t g p)
+    unfolding wait_gone
     at_gone_waits t view a = by (among (state_of t g).members p)
       where
-        by : (b : Bool) → Mine (elim b as (λ _. Core) [ true ↦ with_waiting t g (waits_failure p Gone) | false ↦ t ])
+        by : (b : Bool) → Mine (elim b as (λ _. Core) [ true ↦ with_waiting t g (add_failure p Gone) | false ↦ t ])
         by true = at_waits h said origin P L M Every (Only g) Every t g p Gone refl (λ fit q. subst (λ z. GoneCause h z g p) (sym view) cause) a
         by false = a
 
@@ -444,7 +444,7 @@ module _ (h : History) (said : ProviderId → Type 0) (origin : Origin) (P L M :
     at_gone_present led a =
         let t : Core = with_led s g (λ l. record l { gone = marked l.gone p }) in
         let u : Core = tally_failed f t g p (found t g).led.tally in
-        all_again (gone_waits u g p) g (at_gone_waits u (ap (λ (z : Views). z.view) (failed_view t (found t g).led.tally marks.order)) (at_failed t (found t g).led.tally refl refl marks))
+        all_again (wait_gone u g p) g (at_gone_waits u (ap (λ (z : Views). z.view) (failed_view t (found t g).led.tally marks.order)) (at_failed t (found t g).led.tally refl refl marks))
       where
         b : Mine s
         b = only_led s g led a
@@ -460,11 +460,11 @@ module _ (h : History) (said : ProviderId → Type 0) (origin : Origin) (P L M :
     at_gone_of : (b c : Bool) → leads s g ≡ true → Full s → Full (gone_of f s g p b c)
     unfolding gone_of
     at_gone_of true c led a = at_gone_present led a
-    at_gone_of false true led a = at_waiting h said origin P L M Every NoGroup Every s g (join_dropped p) (λ fit q. a.queues fit g q) a
+    at_gone_of false true led a = at_waiting h said origin P L M Every NoGroup Every s g (drop_join p) (λ fit q. a.queues fit g q) a
     at_gone_of false false led a = a
 
-    pub at_gone : Full s → Full (gone_row f s g p)
-    unfolding gone_row
+    pub at_gone : Full s → Full (take_gone f s g p)
+    unfolding take_gone
     at_gone a = by (leads s g) refl
       where
         by : (b : Bool) → leads s g ≡ b → Full (elim b as (λ _. Core) [ true ↦ gone_of f s g p (among (present (state_of s g)) p) (among (led_of s g).waiting.joins p) | false ↦ s ])

@@ -2,21 +2,21 @@
 use Rattle.std.proofs.Common.{◌≡◌, ◌⊎◌, ℕ, ◌+◌, List, [], ◌∷◌, ◌++◌, Option, Some, None, Bool, true, false, refl, subst, inl, inr, ⊎_elim}
 use Rattle.std.specs.Prelude.{not, ◌||◌, filter}
 use Rattle.std.specs.List.{list_any}
-use Rattle.rsct_packet.specs.declared.ids.ProviderId.{ProviderId}
-use Rattle.rsct_packet.specs.declared.ids.ViewId.{ViewId}
-use Rattle.rsct_packet.specs.Providers.{among}
-use Rattle.rsct_packet.specs.Search.{Has}
-use Rattle.rsct_packet.proofs.HasLaws.{has_filter, has_append, append_has_left}
-use Rattle.group_attr.specs.declared.attrs.Attrs.{Attrs}
-use Rattle.proposal_core.specs.declared.proposal.Proposal.{Proposal}
-use Rattle.proposal_core.specs.declared.proposal.Proposal.TheVariants.{Join, Leave, Fail, Expel, State, Message, Attributes, Reflect}
-use Rattle.proposal_core.specs.declared.entry.Entry.{Entry}
-use Rattle.proposal_core.specs.declared.entry.Entry.TheVariants.{Once, Begin, Phase, Approve, Reject, Late}
-use Rattle.proposal_core.specs.declared.group_state.GroupState.{GroupState}
-use Rattle.proposal_core.specs.declared.group_state.Running.{Running}
-use Rattle.proposal_core.specs.Fold.{joins_of, joiners_in, present, fallen_of, fits, without, effect, first_value, first_attrs, with_attrs, begun, newer, valued, approved, rejected_of, rejected, advanced, next_phase, applied, after_if, after}
-use Rattle.run_safety.specs.Past.{fold_from}
-use Rattle.run_safety.specs.Stays.{is_join_of}
+use Rattle.step_refinement.specs.rsct_packet.declared.ids.ProviderId.{ProviderId}
+use Rattle.step_refinement.specs.rsct_packet.declared.ids.ViewId.{ViewId}
+use Rattle.step_refinement.specs.rsct_packet.Providers.{among}
+use Rattle.step_refinement.specs.rsct_packet.Search.{Has}
+use Rattle.step_refinement.proofs.rsct_packet_laws.HasLaws.{has_filter, has_append, append_has_left}
+use Rattle.step_refinement.specs.group_attr.declared.attrs.Attrs.{Attrs}
+use Rattle.step_refinement.specs.proposal_core.declared.proposal.Proposal.{Proposal}
+use Rattle.step_refinement.specs.proposal_core.declared.proposal.Proposal.TheVariants.{Join, Leave, Fail, Expel, State, Message, Attributes, Reflect}
+use Rattle.step_refinement.specs.proposal_core.declared.entry.Entry.{Entry}
+use Rattle.step_refinement.specs.proposal_core.declared.entry.Entry.TheVariants.{Once, Begin, Phase, Approve, Reject, Late}
+use Rattle.step_refinement.specs.proposal_core.declared.group_state.GroupState.{GroupState}
+use Rattle.step_refinement.specs.proposal_core.declared.group_state.Running.{Running}
+use Rattle.step_refinement.specs.proposal_core.Fold.{joins_of, joiners_in, present, fallen_of, fits, without, effect, first_value, first_attrs, take_attrs, begun, replace_proposed, take_value, approve, take_rejection, reject, advance, next_phase, apply, after_if, after}
+use Rattle.step_refinement.specs.run_safety.Past.{fold_from}
+use Rattle.step_refinement.specs.run_safety.Stays.{is_join_of}
 use Rattle.row_laws.proofs.hearing.Handing.{among_is, has_among}
 
 -- some are left out, and nothing runs
@@ -38,8 +38,8 @@ effect_has s (Message q r bytes) p h = h
 effect_has s (Attributes q r attrs) p h = h
 effect_has s (Reflect view place value) p h = h
 
-rejected_has : (s : GroupState) (x : Proposal) (p : ProviderId) → Has p (present (rejected_of (record s { running = None }) x)) → Has p (s.members ++ joins_of x)
-unfolding rejected_of without
+rejected_has : (s : GroupState) (x : Proposal) (p : ProviderId) → Has p (present (take_rejection (record s { running = None }) x)) → Has p (s.members ++ joins_of x)
+unfolding take_rejection without
 rejected_has s (Join ps attrs n) p h = same_has s.members ps p h
 rejected_has s (Leave q r) p h = h
 rejected_has s (Fail out) p h = left_has (λ z. not (among (fallen_of out) z)) s.members [] p h
@@ -49,44 +49,44 @@ rejected_has s (Message q r bytes) p h = h
 rejected_has s (Attributes q r attrs) p h = h
 rejected_has s (Reflect view place value) p h = h
 
-valued_present : (s : GroupState) (v : ViewId) (i : ℕ) (o : Option (List ℕ)) → present (valued s v i o) ≡ present s
-unfolding valued
+valued_present : (s : GroupState) (v : ViewId) (i : ℕ) (o : Option (List ℕ)) → present (take_value s v i o) ≡ present s
+unfolding take_value
 valued_present s v i None = refl
 valued_present s v i (Some value) = refl
 
-approved_has : (s : GroupState) (v : ViewId) (i : ℕ) (value : Option (List ℕ)) (run : Running) (p : ProviderId) → Has p (present (approved s v i value (Some run))) → Has p (s.members ++ joins_of run.proposal)
-unfolding approved
+approved_has : (s : GroupState) (v : ViewId) (i : ℕ) (value : Option (List ℕ)) (run : Running) (p : ProviderId) → Has p (present (approve s v i value (Some run))) → Has p (s.members ++ joins_of run.proposal)
+unfolding approve
 approved_has s v i value run p h =
-    effect_has s run.proposal p (subst (Has p) (valued_present (effect (record s { running = None }) run.proposal) v i (newer value run.proposed)) h)
+    effect_has s run.proposal p (subst (Has p) (valued_present (effect (record s { running = None }) run.proposal) v i (replace_proposed value run.proposed)) h)
 
-attrs_members : (s : GroupState) (o : Option Attrs) → (with_attrs s o).members ≡ s.members
-unfolding with_attrs
+attrs_members : (s : GroupState) (o : Option Attrs) → (take_attrs s o).members ≡ s.members
+unfolding take_attrs
 attrs_members s None = refl
 attrs_members s (Some attrs) = refl
 
 -- of the members and those that a proposal names in a join
-begun_has : (s : GroupState) (x : Proposal) (p : ProviderId) → Has p ((with_attrs s (first_attrs s x)).members ++ joins_of x) → Has p (present s) ⊎ (among (joins_of x) p ≡ true)
+begun_has : (s : GroupState) (x : Proposal) (p : ProviderId) → Has p ((take_attrs s (first_attrs s x)).members ++ joins_of x) → Has p (present s) ⊎ (among (joins_of x) p ≡ true)
 begun_has s x p h =
     ⊎_elim (λ (i : Has p s.members). inl (append_has_left p s.members (joiners_in s.running) i)) (λ (i : Has p (joins_of x)). inr (has_among (joins_of x) p i)) (has_append p s.members (joins_of x) (subst (λ ms. Has p (ms ++ joins_of x)) (attrs_members s (first_attrs s x)) h))
 
-applied_has : (s : GroupState) (v : ViewId) (i : ℕ) (e : Entry) (p : ProviderId) → Has p (present (applied s v i e)) → Has p (present s) ⊎ (is_join_of p e ≡ true)
-unfolding applied approved begun rejected next_phase advanced
+applied_has : (s : GroupState) (v : ViewId) (i : ℕ) (e : Entry) (p : ProviderId) → Has p (present (apply s v i e)) → Has p (present s) ⊎ (is_join_of p e ≡ true)
+unfolding apply approve begun reject next_phase advance
 applied_has s v i (Once x) p h =
     begun_has s x p (approved_has (begun s v i x) v i None (record { proto = record { view = v; place = i }; proposal = x; phase = 1; proposed = first_value x }) p h)
 applied_has s v i (Begin x) p h = begun_has s x p h
 applied_has s v i (Phase c) p h = inl (by s.running (λ k. k) h)
   where
-    by : (o : Option Running) → (Has p (s.members ++ joiners_in o) → Has p (present s)) → Has p (present (elim o as (λ _. GroupState) [ None ↦ s | Some run ↦ record s { running = Some (advanced c.value run) } ])) → Has p (present s)
+    by : (o : Option Running) → (Has p (s.members ++ joiners_in o) → Has p (present s)) → Has p (present (elim o as (λ _. GroupState) [ None ↦ s | Some run ↦ record s { running = Some (advance c.value run) } ])) → Has p (present s)
     by None same h = h
     by (Some run) same h = same h
 applied_has s v i (Approve c) p h = inl (by s.running (λ k. k) h)
   where
-    by : (o : Option Running) → (Has p (s.members ++ joiners_in o) → Has p (present s)) → Has p (present (approved s v i c.value o)) → Has p (present s)
+    by : (o : Option Running) → (Has p (s.members ++ joiners_in o) → Has p (present s)) → Has p (present (approve s v i c.value o)) → Has p (present s)
     by None same h = h
     by (Some run) same h = same (approved_has s v i c.value run p h)
 applied_has s v i (Reject c) p h = inl (by s.running (λ k. k) h)
   where
-    by : (o : Option Running) → (Has p (s.members ++ joiners_in o) → Has p (present s)) → Has p (present (rejected s o)) → Has p (present s)
+    by : (o : Option Running) → (Has p (s.members ++ joiners_in o) → Has p (present s)) → Has p (present (reject s o)) → Has p (present s)
     by None same h = h
     by (Some run) same h = same (rejected_has s run.proposal p h)
 applied_has s v i (Late proto phase ps) p h = inl h

@@ -3,36 +3,36 @@ use Rattle.std.proofs.Common.{◌≡◌, ◌⊎◌, ◌≤◌, ℕ, ◌+◌, Lis
 use Rattle.std.specs.Prelude.{◌==◌, ◌&&◌, ◌||◌, find, filter, fold, reverse, if◌then◌else◌, Result, Ok, Err}
 use Rattle.std.specs.List.{list_any, last_or}
 use Rattle.std.proofs.lemmas.Bool.{eqb-true, eq-eqb}
-use Rattle.rsct_packet.specs.declared.ids.ProviderId.{ProviderId}
-use Rattle.rsct_packet.specs.Providers.{same_provider}
-use Rattle.rsct_packet.specs.Search.{Has}
-use Rattle.rsct_packet.proofs.HasLaws.{has_append}
-use Rattle.group_attr.specs.declared.attrs.Attrs.{Attrs}
-use Rattle.group_attr.specs.declared.attrs.Phases.{Phases}
-use Rattle.group_attr.specs.declared.attrs.Phases.TheVariants.{One}
-use Rattle.proposal_core.specs.declared.proposal.Proposal.{Proposal}
-use Rattle.proposal_core.specs.declared.proposal.Proposal.TheVariants.{Join, Attributes}
-use Rattle.client_callbacks.specs.declared.ballot.Filled.{Filled}
-use Rattle.subscribe_core.specs.Subs.{subscribed, unsubscribed}
-use Rattle.session_state.specs.declared.fault.GsFault.{GsFault}
-use Rattle.session_state.specs.declared.state.KeptBallot.{KeptBallot}
-use Rattle.session_state.specs.declared.state.MemberToken.{MemberToken}
-use Rattle.session_state.specs.declared.state.Provider.{Provider}
-use Rattle.session_state.specs.declared.state.Request.{Request}
-use Rattle.session_state.specs.declared.state.Session.{Session}
-use Rattle.session_state.specs.declared.state.SessionState.{SessionState}
-use Rattle.session_state.specs.State.{is_member_of, is_client_of, client_token}
-use Rattle.session_state.specs.Calls.{or_fault, client_fault, unless_fault, if_session, is_empty, init_fault, session_added, inited, new_provider, join_fault, join_asked, joined, asked, ask_fault, member_asks, request_made, left, expelled, state_changed, message_sent, member_changes, attributes_changed, keeps, voted, subscribe_taken, unsubscribe_taken, session_ended, goodbye_taken}
-use Rattle.node_state.specs.declared.call.CallLine.{CallLine}
-use Rattle.node_state.specs.declared.call.CallLine.TheVariants as call
-use Rattle.node_state.specs.declared.happened.Happened.{Happened}
-use Rattle.node_state.specs.declared.happened.Happened.TheVariants as happened
-use Rattle.node_state.specs.declared.state.Core.{Core}
-use Rattle.node_state.specs.State.{frozen, leader_of, holds, recorded, with_sessions}
-use Rattle.node_state.specs.Sending.{request_to, request_sent, kept_sent_to, kept_sent}
-use Rattle.node_state.specs.Calls.{caller, subscriber, call_refused, changed, last_asked, proposed, ballot_recorded, ballot_sent_if, last_cast, ballot_given, gone_sent, all_gone_sent, goodbye_said, call_row}
-use Rattle.run_safety.specs.Stays.{asks_join, is_join_call}
-use Rattle.step_ties.proofs.SessionLaws.{provider_self}
+use Rattle.step_refinement.specs.rsct_packet.declared.ids.ProviderId.{ProviderId}
+use Rattle.step_refinement.specs.rsct_packet.Providers.{same_provider}
+use Rattle.step_refinement.specs.rsct_packet.Search.{Has}
+use Rattle.step_refinement.proofs.rsct_packet_laws.HasLaws.{has_append}
+use Rattle.step_refinement.specs.group_attr.declared.attrs.Attrs.{Attrs}
+use Rattle.step_refinement.specs.group_attr.declared.attrs.Phases.{Phases}
+use Rattle.step_refinement.specs.group_attr.declared.attrs.Phases.TheVariants.{One}
+use Rattle.step_refinement.specs.proposal_core.declared.proposal.Proposal.{Proposal}
+use Rattle.step_refinement.specs.proposal_core.declared.proposal.Proposal.TheVariants.{Join, Attributes}
+use Rattle.step_refinement.specs.client_callbacks.declared.ballot.Filled.{Filled}
+use Rattle.step_refinement.specs.subscribe_core.Subs.{subs_add, subs_remove}
+use Rattle.step_refinement.specs.session_state.declared.fault.GsFault.{GsFault}
+use Rattle.step_refinement.specs.session_state.declared.state.KeptBallot.{KeptBallot}
+use Rattle.step_refinement.specs.session_state.declared.state.MemberToken.{MemberToken}
+use Rattle.step_refinement.specs.session_state.declared.state.Provider.{Provider}
+use Rattle.step_refinement.specs.session_state.declared.state.Request.{Request}
+use Rattle.step_refinement.specs.session_state.declared.state.Session.{Session}
+use Rattle.step_refinement.specs.session_state.declared.state.SessionState.{SessionState}
+use Rattle.step_refinement.specs.session_state.State.{is_member_of, is_client_of, client_token}
+use Rattle.step_refinement.specs.session_state.Calls.{or_fault, client_fault, unless_fault, if_session, is_empty, init_fault, add_session, inited, new_provider, join_fault, join_asked, joined, asked, ask_fault, member_asks, request_made, left, expelled, state_changed, message_sent, member_changes, attributes_changed, keeps, voted, subscribe_taken, unsubscribe_taken, end_session, goodbye_taken}
+use Rattle.step_refinement.specs.node_state.declared.call.CallLine.{CallLine}
+use Rattle.step_refinement.specs.node_state.declared.call.CallLine.TheVariants as call
+use Rattle.step_refinement.specs.node_state.declared.happened.Happened.{Happened}
+use Rattle.step_refinement.specs.node_state.declared.happened.Happened.TheVariants as happened
+use Rattle.step_refinement.specs.node_state.declared.state.Core.{Core}
+use Rattle.step_refinement.specs.node_state.State.{frozen, leader_of, holds, recorded, with_sessions}
+use Rattle.step_refinement.specs.node_state.Sending.{send_request_to, send_request, send_kept_to, send_kept}
+use Rattle.step_refinement.specs.node_state.Calls.{caller, subscriber, refuse_call, changed, ask_last, proposed, record_ballot, ballot_sent_if, cast_last, give_ballot, send_gone, send_all_gone, goodbye_said, take_call}
+use Rattle.step_refinement.specs.run_safety.Stays.{asks_join, is_join_call}
+use Rattle.step_refinement.proofs.SessionLaws.{provider_self}
 use Rattle.row_laws.proofs.hearing.Changes.{Sends, sends_nothing, sends_one, sends_known, sends_fold}
 use Rattle.row_laws.proofs.hearing.Sessions.{Casts, casts_voted, unless_is}
 use Rattle.row_laws.proofs.failed_rows.Living.{slim_same, last_is, NewAsks, left_lives, expelled_lives, state_lives, message_lives, attributes_lives}
@@ -56,33 +56,33 @@ first_asks p rs r b none e = ap (λ z. list_any (asks_join p) (reverse (z ++ r �
 
 -- ---- what is sent
 
-request_sends : (c : Core) (q : Request) → Sends c (request_sent c q)
-unfolding request_sent request_to
+request_sends : (c : Core) (q : Request) → Sends c (send_request c q)
+unfolding send_request send_request_to
 request_sends c q = by (frozen c)
   where
-    to : (o : Option ℕ) → Sends c (request_to c q o)
+    to : (o : Option ℕ) → Sends c (send_request_to c q o)
     to None = sends_one c _ _
     to (Some n) = sends_one c _ _
 
-    by : (b : Bool) → Sends c (elim b as (λ _. Core) [ true ↦ c | false ↦ request_to c q (leader_of c q.group) ])
+    by : (b : Bool) → Sends c (elim b as (λ _. Core) [ true ↦ c | false ↦ send_request_to c q (leader_of c q.group) ])
     by true = sends_nothing c
     by false = to (leader_of c q.group)
 
-kept_sends : (c : Core) (k : KeptBallot) → Sends c (kept_sent c k)
-unfolding kept_sent kept_sent_to
+kept_sends : (c : Core) (k : KeptBallot) → Sends c (send_kept c k)
+unfolding send_kept send_kept_to
 kept_sends c k = by k.ballot.filled
   where
-    by : (o : Option Filled) → Sends c (kept_sent_to c k (leader_of c k.group) o)
+    by : (o : Option Filled) → Sends c (send_kept_to c k (leader_of c k.group) o)
     by None = sends_nothing c
     by (Some b) = sends_known c _ _
 
-gone_sends : (c : Core) (xs : List Provider) → Sends c (all_gone_sent c xs)
-unfolding all_gone_sent gone_sent
+gone_sends : (c : Core) (xs : List Provider) → Sends c (send_all_gone c xs)
+unfolding send_all_gone send_gone
 gone_sends c xs = by (frozen c)
   where
-    by : (b : Bool) → Sends c (elim b as (λ _. Core) [ true ↦ c | false ↦ fold gone_sent c xs ])
+    by : (b : Bool) → Sends c (elim b as (λ _. Core) [ true ↦ c | false ↦ fold send_gone c xs ])
     by true = sends_nothing c
-    by false = sends_fold gone_sent (λ t x. sends_known t _ _) xs c
+    by false = sends_fold send_gone (λ t x. sends_known t _ _) xs c
 
 -- ---- requests of those who are there
 
@@ -144,8 +144,8 @@ module _ (of : ProviderId → Option (List ℕ)) (c : CallLine) where
   unfolding recorded
   recorded_now s r none quiet k = quiet_now (record s { records = s.records ++ r ∷ [] }) (λ x i. first_asks x.p s.records r false none (quiet x i)) k
 
-  refused_now : (s : Core) (client : List ℕ) (f : GsFault) → s.records ≡ [] → Owned of s.sessions → Now (call_refused s client f)
-  unfolding call_refused
+  refused_now : (s : Core) (client : List ℕ) (f : GsFault) → s.records ≡ [] → Owned of s.sessions → Now (refuse_call s client f)
+  unfolding refuse_call
   refused_now s client f none k = recorded_now s (happened.Refused s.views.me client f) none (λ x i. refl) k
 
   changed_now : (s : Core) (client : List ℕ) (r : Result SessionState GsFault) → s.records ≡ [] → ((u : SessionState) → r ≡ Ok u → Owned of u) → Owned of s.sessions → Now (changed s client r)
@@ -154,12 +154,12 @@ module _ (of : ProviderId → Option (List ℕ)) (c : CallLine) where
   changed_now s client (Err f) none taken k = refused_now s client f none k
 
   asked_now : (s : Core) (client : List ℕ) (r : Result SessionState GsFault) → s.records ≡ [] → ((x : Provider) → Has x s.sessions.providers → x.p.join ≤ s.sessions.last_request) → ((u : SessionState) → r ≡ Ok u → Asks s.sessions u) → Owned of s.sessions → Now (proposed s client r)
-  unfolding proposed last_asked with_sessions
+  unfolding proposed ask_last with_sessions
   asked_now s client (Err f) none low asks k = refused_now s client f none k
   asked_now s client (Ok u) none low asks k =
       let d : Core = record s { sessions = u } in
       let a : Happened = happened.Asked q.p q.r q.group q.proposal in
-      subst (λ o. Now (last_asked d o)) (sym j.last) (sends_now (recorded d a) (request_sent (recorded d a) q) (request_sends (recorded d a) q) (recorded_now d a none (λ x i. late x (subst (Has x) j.providers i)) (owned_slim of of s.sessions u (λ x i. refl) (slim_same s.sessions u j.providers j.sessions j.clients) k)))
+      subst (λ o. Now (ask_last d o)) (sym j.last) (sends_now (recorded d a) (send_request (recorded d a) q) (request_sends (recorded d a) q) (recorded_now d a none (λ x i. late x (subst (Has x) j.providers i)) (owned_slim of of s.sessions u (λ x i. refl) (slim_same s.sessions u j.providers j.sessions j.clients) k)))
     where
       j : Asks s.sessions u
       j = asks u refl
@@ -175,21 +175,21 @@ module _ (of : ProviderId → Option (List ℕ)) (c : CallLine) where
           by true false e = refl
           by true true e = absurd (let l = low x i in let n = j.number in let z = eqb-true q.r x.p.join e in omega (arith, l, n, z))
 
-  cast_now : (s : Core) (o : Option KeptBallot) → s.records ≡ [] → Owned of s.sessions → Now (last_cast s o)
-  unfolding last_cast ballot_recorded ballot_sent_if
+  cast_now : (s : Core) (o : Option KeptBallot) → s.records ≡ [] → Owned of s.sessions → Now (cast_last s o)
+  unfolding cast_last record_ballot ballot_sent_if
   cast_now s None none k = quiet_now s (λ x i. ap (λ z. list_any (asks_join x.p) (reverse z)) none) k
-  cast_now s (Some b) none k = sent (ballot_recorded s b b.ballot.filled) (frozen s) (kept b.ballot.filled)
+  cast_now s (Some b) none k = sent (record_ballot s b b.ballot.filled) (frozen s) (kept b.ballot.filled)
     where
-      kept : (o : Option Filled) → Now (ballot_recorded s b o)
+      kept : (o : Option Filled) → Now (record_ballot s b o)
       kept None = quiet_now s (λ x i. ap (λ z. list_any (asks_join x.p) (reverse z)) none) k
       kept (Some f) = recorded_now s (happened.Cast b.p b.proto b.phase f.vote f.value f.message) none (λ x i. refl) k
 
       sent : (t : Core) (z : Bool) → Now t → Now (ballot_sent_if t b z)
       sent t true a = a
-      sent t false a = sends_now t (kept_sent t b) (kept_sends t b) a
+      sent t false a = sends_now t (send_kept t b) (kept_sends t b) a
 
-  given_now : (s : Core) (client : List ℕ) (r : Result SessionState GsFault) → s.records ≡ [] → ((u : SessionState) → r ≡ Ok u → Casts s.sessions u) → Owned of s.sessions → Now (ballot_given s client r)
-  unfolding ballot_given with_sessions
+  given_now : (s : Core) (client : List ℕ) (r : Result SessionState GsFault) → s.records ≡ [] → ((u : SessionState) → r ≡ Ok u → Casts s.sessions u) → Owned of s.sessions → Now (give_ballot s client r)
+  unfolding give_ballot with_sessions
   given_now s client (Err f) none casts k = refused_now s client f none k
   given_now s client (Ok u) none casts k = cast_now (record s { sessions = u }) (last_or None u.kept) none (subst (Owned of) (sym j.is) (owned_slim of of s.sessions (keeps s.sessions j.by j.phase j.ballot) (λ x i. refl) (slim_same s.sessions (keeps s.sessions j.by j.phase j.ballot) refl refl refl) k))
     where
@@ -198,7 +198,7 @@ module _ (of : ProviderId → Option (List ℕ)) (c : CallLine) where
 
   said_now : (s : Core) (client : List ℕ) (xs : List Provider) (r : Result SessionState GsFault) → s.records ≡ [] → ((u : SessionState) → r ≡ Ok u → Owned of u) → Owned of s.sessions → Now (goodbye_said s client xs r)
   unfolding goodbye_said
-  said_now s client xs (Ok u) none taken k = sends_now (with_sessions s u) (all_gone_sent (with_sessions s u) xs) (gone_sends (with_sessions s u) xs) (silent_now s u none (taken u refl))
+  said_now s client xs (Ok u) none taken k = sends_now (with_sessions s u) (send_all_gone (with_sessions s u) xs) (gone_sends (with_sessions s u) xs) (silent_now s u none (taken u refl))
   said_now s client xs (Err f) none taken k = refused_now s client f none k
 
 -- a join: its provider is of the client that calls
@@ -237,17 +237,17 @@ module _ (of : ProviderId → Option (List ℕ)) (s : Core) (client g : List ℕ
   its_own ok x (inr (inr z)) = absurd z
 
   joined_now : (o : Option GsFault) → (o ≡ None → client_fault s.sessions (client_token s.sessions client) ≡ None) → Owned (client_now of joins (proposed s client (unless_fault o (join_asked s.sessions (client_token s.sessions client) g instance attrs))).records) (proposed s client (unless_fault o (join_asked s.sessions (client_token s.sessions client) g instance attrs))).sessions
-  unfolding proposed last_asked with_sessions join_asked recorded
+  unfolding proposed ask_last with_sessions join_asked recorded
   joined_now (Some f) known = refused_now of joins s client f none k
   joined_now None known =
       let u : SessionState = join_asked s.sessions (client_token s.sessions client) g instance attrs in
       let d : Core = record s { sessions = u } in
-      subst (λ o. Now of joins (last_asked d o)) (sym (last_is s.sessions.requests request None)) (sends_now of joins (recorded d asks) (request_sent (recorded d asks) request) (request_sends (recorded d asks) request) (record { owner = λ x i. its_own (known refl) x (has_append x s.sessions.providers (next ∷ []) i); low = k.low; high = k.high; single = k.single }))
+      subst (λ o. Now of joins (ask_last d o)) (sym (last_is s.sessions.requests request None)) (sends_now of joins (recorded d asks) (send_request (recorded d asks) request) (request_sends (recorded d asks) request) (record { owner = λ x i. its_own (known refl) x (has_append x s.sessions.providers (next ∷ []) i); low = k.low; high = k.high; single = k.single }))
 
-pub call_now : (of : ProviderId → Option (List ℕ)) (c : CallLine) (s : Core) → s.records ≡ [] → ((x : Provider) → Has x s.sessions.providers → x.p.join ≤ s.sessions.last_request) → Owned of s.sessions → Owned (client_now of c (call_row s c).records) (call_row s c).sessions
-unfolding call_row inited joined join_fault left expelled state_changed message_sent subscribe_taken unsubscribe_taken goodbye_taken
+pub call_now : (of : ProviderId → Option (List ℕ)) (c : CallLine) (s : Core) → s.records ≡ [] → ((x : Provider) → Has x s.sessions.providers → x.p.join ≤ s.sessions.last_request) → Owned of s.sessions → Owned (client_now of c (take_call s c).records) (take_call s c).sessions
+unfolding take_call inited joined join_fault left expelled state_changed message_sent subscribe_taken unsubscribe_taken goodbye_taken
 call_now of (call.Init node name votes) s none low k =
-    changed_now of (call.Init node name votes) s name _ none (λ u e. subst (Owned of) (sym (unless_is (init_fault s.sessions name) (session_added s.sessions name) u e)) (owned_added of s.sessions name k)) k
+    changed_now of (call.Init node name votes) s name _ none (λ u e. subst (Owned of) (sym (unless_is (init_fault s.sessions name) (add_session s.sessions name) u e)) (owned_added of s.sessions name k)) k
 call_now of (call.Join client g instance attrs) s none low k = joined_now of s client g instance attrs none low k (join_fault s.sessions (client_token s.sessions client) g attrs) first
   where
     earlier : (a b : Option GsFault) → or_fault a b ≡ None → a ≡ None
@@ -269,11 +269,11 @@ call_now of (call.ChangeAttributes client g phases attrs) s none low k =
 call_now of (call.Vote client g v value) s none low k =
     given_now of (call.Vote client g v value) s client _ none (casts_voted s.sessions (caller s.sessions client g) v value) k
 call_now of (call.Subscribe client g) s none low k =
-    changed_now of (call.Subscribe client g) s client _ none (λ u e. let t : SessionState = record (s.sessions) { subs = subscribed (client_token s.sessions client) g s.sessions.subs } in subst (Owned of) (sym (unless_is _ t u e)) (owned_slim of of s.sessions t (λ x i. refl) (slim_same s.sessions t refl refl refl) k)) k
+    changed_now of (call.Subscribe client g) s client _ none (λ u e. let t : SessionState = record (s.sessions) { subs = subs_add (client_token s.sessions client) g s.sessions.subs } in subst (Owned of) (sym (unless_is _ t u e)) (owned_slim of of s.sessions t (λ x i. refl) (slim_same s.sessions t refl refl refl) k)) k
 call_now of (call.Unsubscribe client g) s none low k =
-    changed_now of (call.Unsubscribe client g) s client _ none (λ u e. let t : SessionState = record (s.sessions) { subs = unsubscribed (subscriber s.sessions client g) s.sessions.subs } in subst (Owned of) (sym (unless_is _ t u e)) (owned_slim of of s.sessions t (λ x i. refl) (slim_same s.sessions t refl refl refl) k)) k
+    changed_now of (call.Unsubscribe client g) s client _ none (λ u e. let t : SessionState = record (s.sessions) { subs = subs_remove (subscriber s.sessions client g) s.sessions.subs } in subst (Owned of) (sym (unless_is _ t u e)) (owned_slim of of s.sessions t (λ x i. refl) (slim_same s.sessions t refl refl refl) k)) k
 call_now of (call.Goodbye client) s none low k =
-    said_now of (call.Goodbye client) s client _ _ none (λ u e. subst (Owned of) (sym (unless_is _ (session_ended s.sessions (client_token s.sessions client)) u e)) (owned_ended of s.sessions (client_token s.sessions client) k)) k
+    said_now of (call.Goodbye client) s client _ _ none (λ u e. subst (Owned of) (sym (unless_is _ (end_session s.sessions (client_token s.sessions client)) u e)) (owned_ended of s.sessions (client_token s.sessions client) k)) k
 
 -- ---- a call asks for one join at most, with the next number
 
@@ -296,8 +296,8 @@ module _ (s : Core) (none : s.records ≡ []) (low : (x : Provider) → Has x s.
       out (inl q) = other p g x q
       out (inr z) = z
 
-  one_refused : (client : List ℕ) (f : GsFault) → OneOf (call_refused s client f).records
-  unfolding call_refused recorded
+  one_refused : (client : List ℕ) (f : GsFault) → OneOf (refuse_call s client f).records
+  unfolding refuse_call recorded
   one_refused client f = one_other s.records (happened.Refused s.views.me client f) none (λ p g x q. cc)
 
   one_changed : (client : List ℕ) (r : Result SessionState GsFault) → OneOf (changed s client r).records
@@ -307,11 +307,11 @@ module _ (s : Core) (none : s.records ≡ []) (low : (x : Provider) → Has x s.
 
   -- a request of a provider that is there has a later number than its join
   one_asked : (client : List ℕ) (r : Result SessionState GsFault) → ((u : SessionState) → r ≡ Ok u → Asks s.sessions u) → NewAsks r → OneOf (proposed s client r).records
-  unfolding proposed last_asked with_sessions recorded
+  unfolding proposed ask_last with_sessions recorded
   one_asked client (Err f) asks new = one_refused client f
   one_asked client (Ok u) asks new =
       let d : Core = record s { sessions = u } in
-      subst (λ o. OneOf (last_asked d o).records) (sym j.last) (subst OneOf (sym (request_sends (recorded d a) q).records) (one_other s.records a none late))
+      subst (λ o. OneOf (ask_last d o).records) (sym j.last) (subst OneOf (sym (request_sends (recorded d a) q).records) (one_other s.records a none late))
     where
       j : Asks s.sessions u
       j = asks u refl
@@ -332,12 +332,12 @@ module _ (s : Core) (none : s.records ≡ []) (low : (x : Provider) → Has x s.
           let next : q.r ≡ s.sessions.last_request + 1 = j.number in
           omega (arith, le, same, number, next)
 
-  one_cast : (c : Core) (o : Option KeptBallot) → c.records ≡ [] → OneOf (last_cast c o).records
-  unfolding last_cast ballot_recorded ballot_sent_if recorded
+  one_cast : (c : Core) (o : Option KeptBallot) → c.records ≡ [] → OneOf (cast_last c o).records
+  unfolding cast_last record_ballot ballot_sent_if recorded
   one_cast c None e = one_silent c.records e
-  one_cast c (Some b) e = sent (ballot_recorded c b b.ballot.filled) (frozen c) (kept b.ballot.filled)
+  one_cast c (Some b) e = sent (record_ballot c b b.ballot.filled) (frozen c) (kept b.ballot.filled)
     where
-      kept : (o : Option Filled) → OneOf (ballot_recorded c b o).records
+      kept : (o : Option Filled) → OneOf (record_ballot c b o).records
       kept None = one_silent c.records e
       kept (Some f) = one_other c.records (happened.Cast b.p b.proto b.phase f.vote f.value f.message) e (λ p g x q. cc)
 
@@ -345,8 +345,8 @@ module _ (s : Core) (none : s.records ≡ []) (low : (x : Provider) → Has x s.
       sent t true k = k
       sent t false k = subst OneOf (sym (kept_sends t b).records) k
 
-  one_given : (client : List ℕ) (r : Result SessionState GsFault) → OneOf (ballot_given s client r).records
-  unfolding ballot_given with_sessions
+  one_given : (client : List ℕ) (r : Result SessionState GsFault) → OneOf (give_ballot s client r).records
+  unfolding give_ballot with_sessions
   one_given client (Ok u) = one_cast (record s { sessions = u }) (last_or None u.kept) none
   one_given client (Err f) = one_refused client f
 
@@ -357,10 +357,10 @@ module _ (s : Core) (none : s.records ≡ []) (low : (x : Provider) → Has x s.
 
   -- a join
   one_joined : (client g : List ℕ) (instance : ℕ) (attrs : Attrs) (o : Option GsFault) → OneOf (proposed s client (unless_fault o (join_asked s.sessions (client_token s.sessions client) g instance attrs))).records
-  unfolding proposed last_asked with_sessions join_asked recorded
+  unfolding proposed ask_last with_sessions join_asked recorded
   one_joined client g instance attrs (Some f) = one_refused client f
   one_joined client g instance attrs None =
-      subst (λ o. OneOf (last_asked d o).records) (sym (last_is s.sessions.requests request None)) (subst OneOf (sym (request_sends (recorded d a) request).records) one)
+      subst (λ o. OneOf (ask_last d o).records) (sym (last_is s.sessions.requests request None)) (subst OneOf (sym (request_sends (recorded d a) request).records) one)
     where
       new : ProviderId
       new = new_provider s.sessions instance
@@ -400,8 +400,8 @@ message_asks : (s : SessionState) (m : MemberToken) (phases : Phases) (bytes : L
 unfolding message_sent
 message_asks s m phases bytes = made_asks s m phases _ _
 
-pub one_call : (c : CallLine) (s : Core) → s.records ≡ [] → ((x : Provider) → Has x s.sessions.providers → x.p.join ≤ s.sessions.last_request) → OneAsk s.sessions (call_row s c).records
-unfolding call_row joined
+pub one_call : (c : CallLine) (s : Core) → s.records ≡ [] → ((x : Provider) → Has x s.sessions.providers → x.p.join ≤ s.sessions.last_request) → OneAsk s.sessions (take_call s c).records
+unfolding take_call joined
 one_call (call.Init node name votes) s none low = one_changed s none low name (inited s.sessions name)
 one_call (call.Join client g instance attrs) s none low = one_joined s none low client g instance attrs (join_fault s.sessions (client_token s.sessions client) g attrs)
 one_call (call.Leave client g phases) s none low = one_asked s none low client (left s.sessions (caller s.sessions client g) phases) (left_asks s.sessions (caller s.sessions client g) phases) (left_lives s.sessions (caller s.sessions client g) phases).1

@@ -3,37 +3,37 @@ use Rattle.std.proofs.Common.{◌≡◌, ◌⊎◌, ℕ, List, [], ◌∷◌, �
 use Rattle.std.specs.Prelude.{◌&&◌, ◌||◌, fold, reverse, if◌then◌else◌}
 use Rattle.std.specs.List.{list_any}
 use Rattle.std.proofs.lemmas.Bool.{eq-eqb}
-use Rattle.rsct_packet.specs.declared.ids.ProviderId.{ProviderId}
-use Rattle.rsct_packet.specs.Mask.{nodes_of}
-use Rattle.rsct_packet.specs.Search.{Has}
-use Rattle.rsct_packet.proofs.HasLaws.{has_append, append_has_left, has_filter}
-use Rattle.proposal_core.specs.Lists.{state_in}
-use Rattle.session_state.specs.declared.state.Provider.{Provider}
-use Rattle.session_state.specs.State.{is_client_of, client_token}
-use Rattle.node_state.specs.declared.call.CallLine.{CallLine}
-use Rattle.node_state.specs.declared.call.CallLine.TheVariants as call
-use Rattle.node_state.specs.declared.config.Config.{Config}
-use Rattle.node_state.specs.declared.happened.Happened.{Happened}
-use Rattle.node_state.specs.declared.happened.Happened.TheVariants as happened
-use Rattle.proposal_core.specs.declared.proposal.Proposal.{Proposal}
-use Rattle.node_state.specs.declared.packet.Body.{Body}
-use Rattle.node_state.specs.declared.packet.Body.TheVariants as body
-use Rattle.node_state.specs.declared.packet.Packet.{Packet}
-use Rattle.node_state.specs.declared.state.Core.{Core}
-use Rattle.node_state.specs.HandOn.{Answering}
-use Rattle.node_state.specs.Calls.{call_row}
-use Rattle.node_state.specs.Step.{NodeEvent, Ticks, Asks, Given, Calls, Garbage, at_work, stepped}
-use Rattle.world_model.specs.declared.event.Event.{Event}
-use Rattle.run_safety.specs.Past.{records_of, inc_now}
-use Rattle.run_safety.specs.Stays.{is_refused, asks_join, client_of, joining_client, goodbye_of, is_named}
-use Rattle.step_ties.specs.Tied.{Scene, NodeIs, NodeIsIf, Rests}
-use Rattle.step_ties.specs.Rows.{over, ended, nothing_yet, starts_too, Arises}
-use Rattle.step_ties.specs.Runs.{IsNote, noted, Reached}
-use Rattle.step_ties.specs.Runs as runs
-use Rattle.step_ties.proofs.Changed.{each_set, set_here}
-use Rattle.step_ties.proofs.Begins.{begin_tied}
-use Rattle.step_ties.proofs.RunLaw.{reached_rests}
-use Rattle.step_ties.proofs.Turns.{has_turned}
+use Rattle.step_refinement.specs.rsct_packet.declared.ids.ProviderId.{ProviderId}
+use Rattle.step_refinement.specs.rsct_packet.Mask.{nodes_of}
+use Rattle.step_refinement.specs.rsct_packet.Search.{Has}
+use Rattle.step_refinement.proofs.rsct_packet_laws.HasLaws.{has_append, append_has_left, has_filter}
+use Rattle.step_refinement.specs.proposal_core.Lists.{state_in}
+use Rattle.step_refinement.specs.session_state.declared.state.Provider.{Provider}
+use Rattle.step_refinement.specs.session_state.State.{is_client_of, client_token}
+use Rattle.step_refinement.specs.node_state.declared.call.CallLine.{CallLine}
+use Rattle.step_refinement.specs.node_state.declared.call.CallLine.TheVariants as call
+use Rattle.step_refinement.specs.node_state.declared.config.Config.{Config}
+use Rattle.step_refinement.specs.node_state.declared.happened.Happened.{Happened}
+use Rattle.step_refinement.specs.node_state.declared.happened.Happened.TheVariants as happened
+use Rattle.step_refinement.specs.proposal_core.declared.proposal.Proposal.{Proposal}
+use Rattle.step_refinement.specs.node_state.declared.packet.Body.{Body}
+use Rattle.step_refinement.specs.node_state.declared.packet.Body.TheVariants as body
+use Rattle.step_refinement.specs.node_state.declared.packet.Packet.{Packet}
+use Rattle.step_refinement.specs.node_state.declared.state.Core.{Core}
+use Rattle.step_refinement.specs.node_state.HandOn.{Answering}
+use Rattle.step_refinement.specs.node_state.Calls.{take_call}
+use Rattle.step_refinement.specs.node_state.Step.{NodeEvent, Ticks, Asks, Given, Calls, Garbage, at_work, stepped}
+use Rattle.step_refinement.specs.world_model.declared.event.Event.{Event}
+use Rattle.step_refinement.specs.run_safety.Past.{records_of, inc_now}
+use Rattle.step_refinement.specs.run_safety.Stays.{is_refused, asks_join, client_of, joining_client, goodbye_of, is_named}
+use Rattle.step_refinement.specs.Tied.{Scene, NodeIs, NodeIsIf, Rests}
+use Rattle.step_refinement.specs.Rows.{over, ended, nothing_yet, starts_too, Arises}
+use Rattle.step_refinement.specs.Runs.{IsNote, noted, Reached}
+use Rattle.step_refinement.specs.Runs as runs
+use Rattle.step_refinement.proofs.Changed.{each_set, set_here}
+use Rattle.step_refinement.proofs.Begins.{begin_tied}
+use Rattle.step_refinement.proofs.RunLaw.{reached_rests}
+use Rattle.step_refinement.proofs.Turns.{has_turned}
 use Rattle.row_laws.proofs.honest_votes.At.{found, leads_row}
 use Rattle.row_laws.proofs.honest_votes.Ending.{Every, NoGroup}
 use Rattle.row_laws.proofs.hearing.Incarnations.{incs_of}
@@ -202,7 +202,7 @@ module _ (w : Scene) (n : ℕ) (f : Answering) (s : Core) (e : NodeEvent) (v : E
   rooted (Given p) says = were.owners
   rooted Garbage says = were.owners
   rooted (Calls c) says =
-      subst (λ (z : Event). Owned (λ p. if list_any (asks_join p) (reverse (call_row (at_work s) c).records) then joining_client (Some z) else client_of p w.before) (call_row (at_work s) c).sessions) (sym (says c refl)) (call_now (λ p. client_of p w.before) c (at_work s) refl ((rests []).turns n s up).numbered were.owners)
+      subst (λ (z : Event). Owned (λ p. if list_any (asks_join p) (reverse (take_call (at_work s) c).records) then joining_client (Some z) else client_of p w.before) (take_call (at_work s) c).sessions) (sym (says c refl)) (call_now (λ p. client_of p w.before) c (at_work s) refl ((rests []).turns n s up).numbered were.owners)
 
   step_honest : Honest (ended w n v t)
   step_honest =

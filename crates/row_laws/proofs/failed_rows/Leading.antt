@@ -2,45 +2,45 @@
 use Rattle.std.proofs.Common.{◌≡◌, ◌⊎◌, ℕ, zero, suc, ◌-◌, max, List, [], ◌∷◌, drop, Option, Some, None, Bool, true, false, refl, sym, ap, ◌∙◌, subst, inl, inr}
 use Rattle.std.specs.Prelude.{not, filter, find, fold, nat_le, if◌then◌else◌, reverse, ◌++◌}
 use Rattle.std.proofs.lemmas.Bool.{and_parts}
-use Rattle.rsct_packet.specs.declared.ids.ViewId.{ViewId}
-use Rattle.rsct_packet.specs.declared.ids.ProtoId.{ProtoId}
-use Rattle.rsct_packet.specs.declared.ids.ProviderId.{ProviderId}
-use Rattle.rsct_packet.specs.Providers.{among}
-use Rattle.rsct_packet.specs.Search.{Has}
-use Rattle.rsct_packet.proofs.HasLaws.{has_filter}
-use Rattle.group_attr.specs.declared.attrs.Attrs.{Attrs}
-use Rattle.group_attr.specs.declared.attrs.Phases.{Phases}
-use Rattle.group_attr.specs.declared.attrs.Phases.TheVariants.{One, Many}
-use Rattle.proposal_core.specs.declared.proposal.Cause.{Cause}
-use Rattle.proposal_core.specs.declared.proposal.Cause.TheVariants.{Died, Gone, Cast}
-use Rattle.proposal_core.specs.declared.proposal.Failure.{Failure}
-use Rattle.proposal_core.specs.declared.proposal.Proposal.{Proposal}
-use Rattle.proposal_core.specs.declared.entry.Vote.{Vote}
-use Rattle.proposal_core.specs.declared.entry.Vote.TheVariants as vote
-use Rattle.proposal_core.specs.declared.entry.Entry.{Entry}
-use Rattle.proposal_core.specs.declared.entry.Entry.TheVariants.{Once, Begin, Phase, Approve, Reject, Late}
-use Rattle.proposal_core.specs.declared.group_state.GroupState.{GroupState}
-use Rattle.proposal_core.specs.declared.group_state.Running.{Running}
-use Rattle.proposal_core.specs.Fold.{max_phases, joins_of, joiners_in, fits, with_attrs, first_attrs, begun, next_phase, applied, after_if, after}
-use Rattle.proposal_core.proofs.FoldLaws.{idle_approved, idle_rejected}
-use Rattle.proposal_core.specs.GroupView.{GroupView}
-use Rattle.proposal_core.specs.Lists.{list_or_new, state_in, len_in, has_room, entry_fits, with_entry, forgotten}
-use Rattle.batch_rules.specs.Waiting.{WaitingView, waits_failure}
-use Rattle.vote_phases.specs.Tally.{TallyView, outcome}
-use Rattle.view_state.specs.declared.views.Views.{Views}
-use Rattle.node_state.specs.declared.group.GroupRow.{GroupRow}
-use Rattle.node_state.specs.declared.group.Led.{Led}
-use Rattle.node_state.specs.declared.packet.Body.TheVariants as body
-use Rattle.node_state.specs.declared.happened.Happened.{Happened}
-use Rattle.node_state.specs.declared.happened.Happened.TheVariants as happened
-use Rattle.node_state.specs.declared.state.Core.{Core}
-use Rattle.node_state.specs.State.{InNameOrder, row_found, row_of, with_row, with_led, led_of, list_of, state_of, len_of, fits_at_end, list_forgotten, forgets_below, leader_of, others, least_acked, recorded, has_name}
-use Rattle.node_state.specs.Sending.{sent_all}
-use Rattle.node_state.specs.HandOn.{Answering, handed_on}
-use Rattle.node_state.specs.Leading.{put, forgets_least, with_waiting, waits_if, new_members_wait, appended, appended_if, tally_for, tally_set, tally_opened, closing, closing_of, closing_entry, is_phase, closes_from, closes, begun_many, begins}
-use Rattle.run_safety.specs.Past.{History, records_of}
-use Rattle.node_state.proofs.NameOrder.{row_here}
-use Rattle.step_ties.proofs.Appending.{handed_rows}
+use Rattle.step_refinement.specs.rsct_packet.declared.ids.ViewId.{ViewId}
+use Rattle.step_refinement.specs.rsct_packet.declared.ids.ProtoId.{ProtoId}
+use Rattle.step_refinement.specs.rsct_packet.declared.ids.ProviderId.{ProviderId}
+use Rattle.step_refinement.specs.rsct_packet.Providers.{among}
+use Rattle.step_refinement.specs.rsct_packet.Search.{Has}
+use Rattle.step_refinement.proofs.rsct_packet_laws.HasLaws.{has_filter}
+use Rattle.step_refinement.specs.group_attr.declared.attrs.Attrs.{Attrs}
+use Rattle.step_refinement.specs.group_attr.declared.attrs.Phases.{Phases}
+use Rattle.step_refinement.specs.group_attr.declared.attrs.Phases.TheVariants.{One, Many}
+use Rattle.step_refinement.specs.proposal_core.declared.proposal.Cause.{Cause}
+use Rattle.step_refinement.specs.proposal_core.declared.proposal.Cause.TheVariants.{Died, Gone, Cast}
+use Rattle.step_refinement.specs.proposal_core.declared.proposal.Failure.{Failure}
+use Rattle.step_refinement.specs.proposal_core.declared.proposal.Proposal.{Proposal}
+use Rattle.step_refinement.specs.proposal_core.declared.entry.Vote.{Vote}
+use Rattle.step_refinement.specs.proposal_core.declared.entry.Vote.TheVariants as vote
+use Rattle.step_refinement.specs.proposal_core.declared.entry.Entry.{Entry}
+use Rattle.step_refinement.specs.proposal_core.declared.entry.Entry.TheVariants.{Once, Begin, Phase, Approve, Reject, Late}
+use Rattle.step_refinement.specs.proposal_core.declared.group_state.GroupState.{GroupState}
+use Rattle.step_refinement.specs.proposal_core.declared.group_state.Running.{Running}
+use Rattle.step_refinement.specs.proposal_core.Fold.{max_phases, joins_of, joiners_in, fits, take_attrs, first_attrs, begun, next_phase, apply, after_if, after}
+use Rattle.step_refinement.proofs.proposal_core_laws.FoldLaws.{idle_approved, idle_rejected}
+use Rattle.step_refinement.specs.proposal_core.GroupView.{GroupView}
+use Rattle.step_refinement.specs.proposal_core.Lists.{list_or_new, state_in, len_in, has_room, entry_fits, with_entry, forgotten}
+use Rattle.step_refinement.specs.batch_rules.Waiting.{WaitingView, add_failure}
+use Rattle.step_refinement.specs.vote_phases.Tally.{TallyView, outcome}
+use Rattle.step_refinement.specs.view_state.declared.views.Views.{Views}
+use Rattle.step_refinement.specs.node_state.declared.group.GroupRow.{GroupRow}
+use Rattle.step_refinement.specs.node_state.declared.group.Led.{Led}
+use Rattle.step_refinement.specs.node_state.declared.packet.Body.TheVariants as body
+use Rattle.step_refinement.specs.node_state.declared.happened.Happened.{Happened}
+use Rattle.step_refinement.specs.node_state.declared.happened.Happened.TheVariants as happened
+use Rattle.step_refinement.specs.node_state.declared.state.Core.{Core}
+use Rattle.step_refinement.specs.node_state.State.{InNameOrder, row_found, row_of, with_row, with_led, led_of, list_of, state_of, len_of, fits_at_end, list_forgotten, forget_below, leader_of, others, least_acked, recorded, has_name}
+use Rattle.step_refinement.specs.node_state.Sending.{send_all}
+use Rattle.step_refinement.specs.node_state.HandOn.{Answering, hand_on}
+use Rattle.step_refinement.specs.node_state.Leading.{put, forget_least, with_waiting, wait_if, new_members_wait, appended, append_if_fits, tally_for, tally_set, tally_opened, closing, closing_of, closing_entry, is_phase, closes_from, closes, begin_many, begins}
+use Rattle.step_refinement.specs.run_safety.Past.{History, records_of}
+use Rattle.step_refinement.proofs.node_state_laws.NameOrder.{row_here}
+use Rattle.step_refinement.proofs.Appending.{handed_rows}
 use Rattle.row_laws.proofs.honest_votes.At.{found, leads_row}
 use Rattle.row_laws.specs.failed_rows.Failures.{GoneCause, EntryFails, LeavesFail}
 use Rattle.row_laws.proofs.failed_rows.Queues.{Stays, BringsNone, stays_after, failed_stays}
@@ -75,22 +75,22 @@ forgotten_state (Some l) n = by (nat_le n l.len)
     by true = refl
     by false = refl
 
-after_is : (st : GroupState) (v : ViewId) (i : ℕ) (e : Entry) → fits st e ≡ true → after st v i e ≡ applied st v i e
+after_is : (st : GroupState) (v : ViewId) (i : ℕ) (e : Entry) → fits st e ≡ true → after st v i e ≡ apply st v i e
 unfolding after after_if
 after_is st v i e f = ap (λ b. after_if st v i e b) f
 
 -- an entry that begins and ends at once leaves nothing running
 once_idle : (st : GroupState) (v : ViewId) (i : ℕ) (x : Proposal) → fits st (Once x) ≡ true → (after st v i (Once x)).running ≡ None
-unfolding applied
+unfolding apply
 once_idle st v i x f = ap (λ (z : GroupState). z.running) (after_is st v i (Once x) f) ∙ idle_approved (begun st v i x) v i None (begun st v i x).running refl
 
 -- ---- who becomes a member
 
-attrs_members : (s : GroupState) (x : Proposal) → (with_attrs s (first_attrs s x)).members ≡ s.members
-unfolding with_attrs
+attrs_members : (s : GroupState) (x : Proposal) → (take_attrs s (first_attrs s x)).members ≡ s.members
+unfolding take_attrs
 attrs_members s x = by (first_attrs s x)
   where
-    by : (o : Option Attrs) → (with_attrs s o).members ≡ s.members
+    by : (o : Option Attrs) → (take_attrs s o).members ≡ s.members
     by None = refl
     by (Some a) = refl
 
@@ -100,8 +100,8 @@ phase_members s value None = refl
 phase_members s value (Some run) = refl
 
 -- then nothing runs
-new_idle : (s : GroupState) (v : ViewId) (i : ℕ) (e : Entry) (p : ProviderId) → among s.members p ≡ false → among (applied s v i e).members p ≡ true → (applied s v i e).running ≡ None
-unfolding applied begun
+new_idle : (s : GroupState) (v : ViewId) (i : ℕ) (e : Entry) (p : ProviderId) → among s.members p ≡ false → among (apply s v i e).members p ≡ true → (apply s v i e).running ≡ None
+unfolding apply begun
 new_idle s v i (Once x) p f k = idle_approved (begun s v i x) v i None (begun s v i x).running refl
 new_idle s v i (Begin x) p f k = absurd (let z : among s.members p ≡ true = ap (λ ms. among ms p) (sym (attrs_members s x)) ∙ k in cc)
 new_idle s v i (Phase c) p f k = absurd (let z : among s.members p ≡ true = ap (λ ms. among ms p) (sym (phase_members s c.value s.running)) ∙ k in cc)
@@ -165,17 +165,17 @@ module _ (h : History) (said : ProviderId → Type 0) (origin : Origin) (P L M :
     queue_all gone led fs st (inl none) = subst (AllWait gone st) (sym none) (λ f i. absurd i)
     queue_all gone led fs st (inr k) = k.1
 
-    pub at_waits : (s : Core) (g : List ℕ) (p : ProviderId) (c : Cause) → G g → (BasesFit s.records → Q g → Waits (GoneCause h s.views.view g) (state_in (found s g).list) p c) → At h said origin P L M T G Q s → At h said origin P L M T G Q (with_waiting s g (waits_failure p c))
+    pub at_waits : (s : Core) (g : List ℕ) (p : ProviderId) (c : Cause) → G g → (BasesFit s.records → Q g → Waits (GoneCause h s.views.view g) (state_in (found s g).list) p c) → At h said origin P L M T G Q s → At h said origin P L M T G Q (with_waiting s g (add_failure p c))
     at_waits s g p c leads new a =
-        at_waiting s g (waits_failure p c) (λ fit q. inr (a.led g leads, one_waits (GoneCause h s.views.view g) (state_in (found s g).list) p c (found s g).led.waiting (new fit q) (queue_all (GoneCause h s.views.view g) (leads_row s (found s g)) (found s g).led.waiting.failures (state_in (found s g).list) (a.queues fit g q)))) a
+        at_waiting s g (add_failure p c) (λ fit q. inr (a.led g leads, one_waits (GoneCause h s.views.view g) (state_in (found s g).list) p c (found s g).led.waiting (new fit q) (queue_all (GoneCause h s.views.view g) (leads_row s (found s g)) (found s g).led.waiting.failures (state_in (found s g).list) (a.queues fit g q)))) a
 
-    pub at_forgets : (s : Core) (g : List ℕ) (n : ℕ) → At h said origin P L M T G Q s → At h said origin P L M T G Q (forgets_below s g n)
-    unfolding forgets_below
+    pub at_forgets : (s : Core) (g : List ℕ) (n : ℕ) → At h said origin P L M T G Q s → At h said origin P L M T G Q (forget_below s g n)
+    unfolding forget_below
     at_forgets s g n a =
         at_row_for h said origin P L M T G Q T Q s g (λ row. record row { list = list_forgotten n row.list }) (λ x. refl) (λ x. refl) (λ x. forgotten_len x.list n) (λ x. forgotten_state x.list n) (λ x z. z) (λ y p i. a.marks y g p i) (λ k t ne. t) (λ k t ne. t) (λ t. a.tallies g t) (λ fit q. a.queues fit g q) a
 
-    pub at_forgets_least : (s : Core) (g : List ℕ) → At h said origin P L M T G Q s → At h said origin P L M T G Q (forgets_least s g)
-    unfolding forgets_least
+    pub at_forgets_least : (s : Core) (g : List ℕ) → At h said origin P L M T G Q s → At h said origin P L M T G Q (forget_least s g)
+    unfolding forget_least
     at_forgets_least s g a = at_forgets s g (least_acked s g) a
 
     -- ---- new members
@@ -184,29 +184,29 @@ module _ (h : History) (said : ProviderId → Type 0) (origin : Origin) (P L M :
       at : At h said origin P L M T G Q s
       state : state_in (found s g).list ≡ st
 
-    kept_waits : (g : List ℕ) (st : GroupState) (s : Core) (p : ProviderId) (c : Cause) → G g → ((v : ViewId) → v ≡ s.views.view → Waits (GoneCause h v g) st p c) → Kept g st s → Kept g st (with_waiting s g (waits_failure p c))
+    kept_waits : (g : List ℕ) (st : GroupState) (s : Core) (p : ProviderId) (c : Cause) → G g → ((v : ViewId) → v ≡ s.views.view → Waits (GoneCause h v g) st p c) → Kept g st s → Kept g st (with_waiting s g (add_failure p c))
     unfolding with_waiting with_led with_row row_of
     kept_waits g st s p c leads new k =
         record {
           at = at_waits s g p c leads (λ fit q. subst (λ z. Waits (GoneCause h s.views.view g) z p c) (sym k.state) (new s.views.view refl)) k.at;
-          state = ap (λ (z : GroupRow). state_in z.list) (row_here g (λ row. record row { led = record (row.led) { waiting = waits_failure p c row.led.waiting } }) (λ x. refl) s (k.at).order) ∙ k.state;
+          state = ap (λ (z : GroupRow). state_in z.list) (row_here g (λ row. record row { led = record (row.led) { waiting = add_failure p c row.led.waiting } }) (λ x. refl) s (k.at).order) ∙ k.state;
         }
 
-    all_kept : (g : List ℕ) (st : GroupState) (v : ViewId) (marks ps : List ProviderId) → G g → ((p : ProviderId) → among marks p ≡ true → GoneCause h v g p) → ((p : ProviderId) → Has p ps → among st.failed p ≡ true → Stays st p ≡ true) → (s : Core) → s.views.view ≡ v → Kept g st s → Kept g st (fold (λ t p. waits_if t g p (among st.failed p) (among marks p)) s ps)
-    unfolding waits_if with_waiting with_led with_row
+    all_kept : (g : List ℕ) (st : GroupState) (v : ViewId) (marks ps : List ProviderId) → G g → ((p : ProviderId) → among marks p ≡ true → GoneCause h v g p) → ((p : ProviderId) → Has p ps → among st.failed p ≡ true → Stays st p ≡ true) → (s : Core) → s.views.view ≡ v → Kept g st s → Kept g st (fold (λ t p. wait_if t g p (among st.failed p) (among marks p)) s ps)
+    unfolding wait_if with_waiting with_led with_row
     all_kept g st v marks [] leads gone died s at k = k
     all_kept g st v marks (p ∷ ps) leads gone died s at k =
         by (among st.failed p) (among marks p) refl refl (all_kept g st v marks ps leads gone (λ q i. died q (inr i)))
       where
-        by : (a b : Bool) → among st.failed p ≡ a → among marks p ≡ b → ((s : Core) → s.views.view ≡ v → Kept g st s → Kept g st (fold (λ t p. waits_if t g p (among st.failed p) (among marks p)) s ps)) → Kept g st (fold (λ t p. waits_if t g p (among st.failed p) (among marks p)) (waits_if s g p a b) ps)
-        by true b e q rest = rest (with_waiting s g (waits_failure p Died)) at (kept_waits g st s p Died leads (λ v q. died p (inl refl) e) k)
-        by false true e q rest = rest (with_waiting s g (waits_failure p Gone)) at (kept_waits g st s p Gone leads (λ u z. subst (λ y. GoneCause h y g p) (sym (z ∙ at)) (gone p q)) k)
+        by : (a b : Bool) → among st.failed p ≡ a → among marks p ≡ b → ((s : Core) → s.views.view ≡ v → Kept g st s → Kept g st (fold (λ t p. wait_if t g p (among st.failed p) (among marks p)) s ps)) → Kept g st (fold (λ t p. wait_if t g p (among st.failed p) (among marks p)) (wait_if s g p a b) ps)
+        by true b e q rest = rest (with_waiting s g (add_failure p Died)) at (kept_waits g st s p Died leads (λ v q. died p (inl refl) e) k)
+        by false true e q rest = rest (with_waiting s g (add_failure p Gone)) at (kept_waits g st s p Gone leads (λ u z. subst (λ y. GoneCause h y g p) (sym (z ∙ at)) (gone p q)) k)
         by false false e q rest = rest s at k
 
   module _ (T G Q U : List ℕ → Type 0) where
     -- an entry that fits
     pub at_appended_for : (f : Answering) (s : Core) (g : List ℕ) (e : Entry) → L → G g → fits (state_in (found s g).list) e ≡ true → (BasesFit s.records → EntryFails (GoneCause h s.views.view g) (λ k. state_in (found s k).list) (state_in (found s g).list) e) → Leaves e (found s g).led.waiting.failures → ((k : List ℕ) → U k → (g ≡ k → ⊥) → T k) → (U g → TallyIs (GoneCause h s.views.view g) (leads_row s (found s g)) (found s g).led.tally (state_in (put_row s (found s g) e).list)) → At h said origin P L M T G Q s → At h said origin P L M U G Q (appended f s g e)
-    unfolding appended new_members_wait forgets_least put recorded state_of list_of led_of row_of with_entry forgets_below handed_on with_row
+    unfolding appended new_members_wait forget_least put recorded state_of list_of led_of row_of with_entry forget_below hand_on with_row
     at_appended_for f s g e live leads fit ok brings others_too tally a =
         (all_kept U G Q g st s.views.view (found x g).led.gone new leads (λ p i. subst (λ z. GoneCause h z g p) x_view (forgot_at.marks live g p i)) died x x_view (record { at = forgot_at; state = x_state })).at
       where
@@ -214,16 +214,16 @@ module _ (h : History) (said : ProviderId → Type 0) (origin : Origin) (P L M :
         t = put s g e
 
         u : Core
-        u = sent_all t (others t) (body.Entry t.views.view g (len_of s g) (least_acked t g) e)
+        u = send_all t (others t) (body.Entry t.views.view g (len_of s g) (least_acked t g) e)
 
         st : GroupState
         st = state_of t g
 
         w : Core
-        w = handed_on f u (leader_of u g) g (len_of s g) (state_of s g) st e
+        w = hand_on f u (leader_of u g) g (len_of s g) (state_of s g) st e
 
         x : Core
-        x = forgets_below w g (least_acked w g)
+        x = forget_below w g (least_acked w g)
 
         new : List ProviderId
         new = filter (λ p. not (among (state_of s g).members p)) st.members
@@ -347,34 +347,34 @@ module _ (h : History) (said : ProviderId → Type 0) (origin : Origin) (P L M :
     abbrev pub Begins : Core → List ℕ → Proposal → Type 0
     Begins s g x = BasesFit s.records → LeavesFail (GoneCause h s.views.view g) (λ k. state_in (found s k).list) (state_in (found s g).list) x
 
-    at_begun_many : (f : Answering) (s : Core) (g : List ℕ) (x : Proposal) (b : Bool) → fits_at_end s g (Begin x) ≡ b → L → T g → G g → Begins s g x → (joins_of x ≡ []) ⊎ ((found s g).led.waiting.failures ≡ []) → At h said origin P L M T G Q s → At h said origin P L M T G Q (begun_many f s g x b)
-    unfolding begun_many
+    at_begun_many : (f : Answering) (s : Core) (g : List ℕ) (x : Proposal) (b : Bool) → fits_at_end s g (Begin x) ≡ b → L → T g → G g → Begins s g x → (joins_of x ≡ []) ⊎ ((found s g).led.waiting.failures ≡ []) → At h said origin P L M T G Q s → At h said origin P L M T G Q (begin_many f s g x b)
+    unfolding begin_many
     at_begun_many f s g x false q live t led ok brings a = a
     at_begun_many f s g x true q live t led ok brings a =
         at_closes f (tally_opened (appended f s g (Begin x)) g) g live t led (at_tally_opened (appended f s g (Begin x)) g live led (at_appended_loose f s g (Begin x) live led (fits_of s g (Begin x) q) ok brings a))
 
     pub at_begins : (f : Answering) (s : Core) (g : List ℕ) (x : Proposal) (phases : Phases) → L → T g → G g → Begins s g x → (joins_of x ≡ []) ⊎ ((found s g).led.waiting.failures ≡ []) → At h said origin P L M T G Q s → At h said origin P L M T G Q (begins f s g x phases)
-    unfolding begins appended_if with_entry
+    unfolding begins append_if_fits with_entry
     at_begins f s g x Many live t led ok brings a = at_begun_many f s g x (fits_at_end s g (Begin x)) refl live t led ok brings a
     at_begins f s g x One live t led ok brings a = by (fits_at_end s g (Once x)) refl
       where
         idle : fits_at_end s g (Once x) ≡ true → (state_in (put_row s (found s g) (Once x)).list).running ≡ None
         idle e = once_idle (state_in (found s g).list) s.views.view (list_or_new (found s g).list).len x (fits_of s g (Once x) e)
 
-        by : (b : Bool) → fits_at_end s g (Once x) ≡ b → At h said origin P L M T G Q (appended_if f s g (Once x) b)
+        by : (b : Bool) → fits_at_end s g (Once x) ≡ b → At h said origin P L M T G Q (append_if_fits f s g (Once x) b)
         by false e = a
         by true e =
             at_appended_for T G Q T f s g (Once x) live led (fits_of s g (Once x) e) ok brings (λ k u ne. u) (λ u. tally_idle (GoneCause h s.views.view g) (leads_row s (found s g)) (found s g).led.tally (state_in (found s g).list) (state_in (put_row s (found s g) (Once x)).list) (idle e) (a.tallies g u)) a
 
     -- who is late is announced
-    pub at_announces : (f : Answering) (s : Core) (g : List ℕ) (proto : ProtoId) (phase : ℕ) (ps : List ProviderId) → L → G g → At h said origin P L M T G Q s → At h said origin P L M T G Q (appended_if f s g (Late proto phase ps) (fits_at_end s g (Late proto phase ps)))
-    unfolding appended_if with_entry applied
+    pub at_announces : (f : Answering) (s : Core) (g : List ℕ) (proto : ProtoId) (phase : ℕ) (ps : List ProviderId) → L → G g → At h said origin P L M T G Q s → At h said origin P L M T G Q (append_if_fits f s g (Late proto phase ps) (fits_at_end s g (Late proto phase ps)))
+    unfolding append_if_fits with_entry apply
     at_announces f s g proto phase ps live led a = by (fits_at_end s g (Late proto phase ps)) refl
       where
         same : fits_at_end s g (Late proto phase ps) ≡ true → state_in (put_row s (found s g) (Late proto phase ps)).list ≡ state_in (found s g).list
         same e = after_is (state_in (found s g).list) s.views.view (list_or_new (found s g).list).len (Late proto phase ps) (fits_of s g (Late proto phase ps) e)
 
-        by : (b : Bool) → fits_at_end s g (Late proto phase ps) ≡ b → At h said origin P L M T G Q (appended_if f s g (Late proto phase ps) b)
+        by : (b : Bool) → fits_at_end s g (Late proto phase ps) ≡ b → At h said origin P L M T G Q (append_if_fits f s g (Late proto phase ps) b)
         by false e = a
         by true e =
             at_appended_for T G Q T f s g (Late proto phase ps) live led (fits_of s g (Late proto phase ps) e) (λ fitting. tt) (inl tt) (λ k u ne. u) (λ u. tally_same (GoneCause h s.views.view g) (leads_row s (found s g)) (found s g).led.tally (state_in (found s g).list) (state_in (put_row s (found s g) (Late proto phase ps)).list) (same e) (a.tallies g u)) a

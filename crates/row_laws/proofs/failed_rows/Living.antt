@@ -2,40 +2,40 @@
 use Rattle.std.proofs.Common.{◌≡◌, ◌⊎◌, ℕ, List, [], ◌∷◌, ◌++◌, Option, Some, None, Bool, true, false, refl, sym, ap, ◌∙◌, subst, inl, inr}
 use Rattle.std.specs.Prelude.{◌+◌, not, cond, ◌||◌, find, fold, filter, if◌then◌else◌, Result, Ok, Err}
 use Rattle.std.specs.List.{last_or, list_any}
-use Rattle.rsct_packet.specs.declared.ids.ProviderId.{ProviderId}
-use Rattle.rsct_packet.specs.Providers.{among, same_provider}
-use Rattle.rsct_packet.specs.Search.{Has, edit_where}
-use Rattle.rsct_packet.proofs.HasLaws.{has_append, has_filter, filter_has, append_has_left, append_has_right, find_has}
-use Rattle.group_attr.specs.declared.attrs.Attrs.{Attrs}
-use Rattle.group_attr.specs.declared.attrs.Phases.{Phases}
-use Rattle.group_attr.specs.declared.attrs.Phases.TheVariants.{One}
-use Rattle.proposal_core.specs.declared.entry.Entry.{Entry}
-use Rattle.proposal_core.specs.declared.entry.Entry.TheVariants.{Once, Begin, Phase, Approve, Reject, Late}
-use Rattle.proposal_core.specs.declared.proposal.Proposal.{Proposal}
-use Rattle.proposal_core.specs.declared.proposal.Proposal.TheVariants.{Join, Leave, Fail, Expel, State, Message, Attributes, Reflect}
-use Rattle.proposal_core.specs.declared.group_state.GroupState.{GroupState}
-use Rattle.proposal_core.specs.Fold.{joins_of, joiners_in, present}
-use Rattle.client_callbacks.specs.declared.ballot.Filled.{Filled}
-use Rattle.client_callbacks.specs.declared.told.Why.{Why}
-use Rattle.subscribe_core.specs.declared.subs.ClientToken.{ClientToken}
-use Rattle.subscribe_core.specs.declared.subs.SubToken.{SubToken}
-use Rattle.subscribe_core.specs.Subs.{subscribed, unsubscribed}
-use Rattle.proposal_core.specs.declared.entry.Vote.{Vote}
-use Rattle.client_callbacks.specs.Ballots.{is_within, value_limit}
-use Rattle.session_state.specs.declared.state.OpenPhase.{OpenPhase}
-use Rattle.session_state.specs.declared.fault.GsFault.TheVariants as fault
-use Rattle.session_state.specs.declared.fault.Field.TheVariants as field
-use Rattle.session_state.specs.declared.fault.GsFault.{GsFault}
-use Rattle.session_state.specs.declared.state.MemberToken.{MemberToken}
-use Rattle.session_state.specs.declared.state.Provider.{Provider}
-use Rattle.session_state.specs.declared.state.Request.{Request}
-use Rattle.session_state.specs.declared.state.SessionState.{SessionState}
-use Rattle.session_state.specs.State.{provider_of, is_kept_for, is_provider, is_member_of, with_provider, request_ended, without_providers, outstanding}
-use Rattle.session_state.specs.Calls.{unless_fault, if_session, is_empty, new_provider, join_asked, joined, join_fault, asked, ask_fault, member_asks, request_made, left, expelled, state_changed, message_sent, member_changes, attributes_changed, targets_fault, value_fault, message_fault, attributes_fault, inited, init_fault, session_added, subscribe_taken, subscribe_fault, unsubscribe_taken, unsubscribe_fault, voted, member_votes, vote_in, keeps, fault_if}
-use Rattle.group_attr.specs.Attrs.{first_fault}
-use Rattle.session_state.specs.HandOn.{hears, hearers_in, brought_by, kept_ended, kept_after, beginners, hearers, part_taken, taking_part, opened_after, phases_opened, casts_kept, proposal_begun, requests_after, is_present, removed_from, casts_out, heard, handed_on, takes_telling, told_of, telling_taken, is_join_request, is_dissolved}
-use Rattle.run_safety.specs.Stays.{is_join_of}
-use Rattle.step_ties.proofs.SessionLaws.{provider_same}
+use Rattle.step_refinement.specs.rsct_packet.declared.ids.ProviderId.{ProviderId}
+use Rattle.step_refinement.specs.rsct_packet.Providers.{among, same_provider}
+use Rattle.step_refinement.specs.rsct_packet.Search.{Has, edit_where}
+use Rattle.step_refinement.proofs.rsct_packet_laws.HasLaws.{has_append, has_filter, filter_has, append_has_left, append_has_right, find_has}
+use Rattle.step_refinement.specs.group_attr.declared.attrs.Attrs.{Attrs}
+use Rattle.step_refinement.specs.group_attr.declared.attrs.Phases.{Phases}
+use Rattle.step_refinement.specs.group_attr.declared.attrs.Phases.TheVariants.{One}
+use Rattle.step_refinement.specs.proposal_core.declared.entry.Entry.{Entry}
+use Rattle.step_refinement.specs.proposal_core.declared.entry.Entry.TheVariants.{Once, Begin, Phase, Approve, Reject, Late}
+use Rattle.step_refinement.specs.proposal_core.declared.proposal.Proposal.{Proposal}
+use Rattle.step_refinement.specs.proposal_core.declared.proposal.Proposal.TheVariants.{Join, Leave, Fail, Expel, State, Message, Attributes, Reflect}
+use Rattle.step_refinement.specs.proposal_core.declared.group_state.GroupState.{GroupState}
+use Rattle.step_refinement.specs.proposal_core.Fold.{joins_of, joiners_in, present}
+use Rattle.step_refinement.specs.client_callbacks.declared.ballot.Filled.{Filled}
+use Rattle.step_refinement.specs.client_callbacks.declared.told.Why.{Why}
+use Rattle.step_refinement.specs.subscribe_core.declared.subs.ClientToken.{ClientToken}
+use Rattle.step_refinement.specs.subscribe_core.declared.subs.SubToken.{SubToken}
+use Rattle.step_refinement.specs.subscribe_core.Subs.{subs_add, subs_remove}
+use Rattle.step_refinement.specs.proposal_core.declared.entry.Vote.{Vote}
+use Rattle.step_refinement.specs.client_callbacks.Ballots.{is_within, value_limit}
+use Rattle.step_refinement.specs.session_state.declared.state.OpenPhase.{OpenPhase}
+use Rattle.step_refinement.specs.session_state.declared.fault.GsFault.TheVariants as fault
+use Rattle.step_refinement.specs.session_state.declared.fault.Field.TheVariants as field
+use Rattle.step_refinement.specs.session_state.declared.fault.GsFault.{GsFault}
+use Rattle.step_refinement.specs.session_state.declared.state.MemberToken.{MemberToken}
+use Rattle.step_refinement.specs.session_state.declared.state.Provider.{Provider}
+use Rattle.step_refinement.specs.session_state.declared.state.Request.{Request}
+use Rattle.step_refinement.specs.session_state.declared.state.SessionState.{SessionState}
+use Rattle.step_refinement.specs.session_state.State.{provider_of, is_kept_for, is_provider, is_member_of, with_provider, end_request, without_providers, outstanding}
+use Rattle.step_refinement.specs.session_state.Calls.{unless_fault, if_session, is_empty, new_provider, join_asked, joined, join_fault, asked, ask_fault, member_asks, request_made, left, expelled, state_changed, message_sent, member_changes, attributes_changed, targets_fault, value_fault, message_fault, attributes_fault, inited, init_fault, add_session, subscribe_taken, subscribe_fault, unsubscribe_taken, unsubscribe_fault, voted, member_votes, vote_in, keeps, fault_if}
+use Rattle.step_refinement.specs.group_attr.Attrs.{first_fault}
+use Rattle.step_refinement.specs.session_state.HandOn.{hears, hearers_in, brought_by, kept_ended, kept_after, beginners, hearers, part_taken, taking_part, opened_after, open_phases, keep_casts, proposal_begun, requests_after, is_present, removed_from, casts_out, heard, handed_on, takes_telling, told_of, take_telling, is_join_request, is_dissolved}
+use Rattle.step_refinement.specs.run_safety.Stays.{is_join_of}
+use Rattle.step_refinement.proofs.SessionLaws.{provider_same}
 use Rattle.row_laws.proofs.hearing.Handing.{among_is, has_among}
 
 -- the node has the provider
@@ -90,13 +90,13 @@ after_providers s g (Approve c) = refl
 after_providers s g (Reject c) = refl
 after_providers s g (Late proto phase ps) = refl
 
-joins_providers : (ps : List ProviderId) (s : SessionState) → (fold (λ t (p : ProviderId). request_ended t p p.join) s ps).providers ≡ s.providers
-unfolding request_ended
+joins_providers : (ps : List ProviderId) (s : SessionState) → (fold (λ t (p : ProviderId). end_request t p p.join) s ps).providers ≡ s.providers
+unfolding end_request
 joins_providers [] s = refl
-joins_providers (p ∷ ps) s = joins_providers ps (request_ended s p p.join)
+joins_providers (p ∷ ps) s = joins_providers ps (end_request s p p.join)
 
 begun_providers : (s : SessionState) (x : Proposal) → (proposal_begun s x).providers ≡ s.providers
-unfolding proposal_begun request_ended
+unfolding proposal_begun end_request
 begun_providers s (Join ps attrs n) = joins_providers ps s
 begun_providers s (Leave p r) = refl
 begun_providers s (Fail out) = refl
@@ -120,7 +120,7 @@ not_false true e = absurd (cc)
 not_false false e = refl
 
 pub handed_lives : (s : SessionState) (g : List ℕ) (before after : GroupState) (e : Entry) (bs : List (Option Filled)) (p : ProviderId) → IsLive s p → IsLive (handed_on s g before after e bs) p ⊎ (Has p (hearers s g before e) × (is_present after p ≡ false))
-unfolding handed_on heard part_taken phases_opened casts_kept removed_from
+unfolding handed_on heard part_taken open_phases keep_casts removed_from
 handed_lives s g before after e bs p k = by (among (filter (λ p. not (is_present after p)) ps) p) refl
   where
     ps : List ProviderId
@@ -130,7 +130,7 @@ handed_lives s g before after e bs p k = by (among (filter (λ p. not (is_presen
     t = fold (λ t p. with_provider t p taking_part) (kept_after s g e) (beginners s g e)
 
     u : SessionState
-    u = casts_kept (fold (λ t p. with_provider t p (opened_after e after)) t ps) g (casts_out s g before after e bs)
+    u = keep_casts (fold (λ t p. with_provider t p (opened_after e after)) t ps) g (casts_out s g before after e bs)
 
     live : IsLive (requests_after u e) p
     live =
@@ -142,8 +142,8 @@ handed_lives s g before after e bs p k = by (among (filter (λ p. not (is_presen
 
 -- ---- a provider is told
 
-pub told_lives : (s : SessionState) (p : ProviderId) (r : ℕ) (y : Why) (q : ProviderId) → IsLive s q → IsLive (telling_taken s p r y) q ⊎ ((q ≡ p) × ((is_join_request (outstanding s p) ≡ true) ⊎ (is_dissolved y ≡ true)))
-unfolding telling_taken told_of
+pub told_lives : (s : SessionState) (p : ProviderId) (r : ℕ) (y : Why) (q : ProviderId) → IsLive s q → IsLive (take_telling s p r y) q ⊎ ((q ≡ p) × ((is_join_request (outstanding s p) ≡ true) ⊎ (is_dissolved y ≡ true)))
+unfolding take_telling told_of
 told_lives s p r y q k = by (takes_telling s p r y) (is_join_request (outstanding s p)) (is_dissolved y) refl refl
   where
     gone : (b c : Bool) → (b ≡ true) ⊎ (c ≡ true) → (z : Bool) → same_provider p q ≡ z → IsLive (without_providers s (p ∷ [])) q ⊎ ((q ≡ p) × ((b ≡ true) ⊎ (c ≡ true)))
@@ -252,16 +252,16 @@ attributes_lives s m phases attrs =
     by (Some x) e = asked_lives s x phases (λ r. Attributes x.p r attrs) (ask_fault s x (attributes_fault (first_fault attrs x.group))) (find_has (is_member_of m) s.providers x e).0
 
 pub inited_lives : (s : SessionState) (name : List ℕ) → NoLoss s (inited s name)
-unfolding inited session_added
-inited_lives s name = unless_loses s (session_added s name) (init_fault s name) (λ p k. k)
+unfolding inited add_session
+inited_lives s name = unless_loses s (add_session s name) (init_fault s name) (λ p k. k)
 
 pub subscribe_lives : (s : SessionState) (t : ClientToken) (g : List ℕ) (known : Bool) → NoLoss s (subscribe_taken s t g known)
 unfolding subscribe_taken
-subscribe_lives s t g known = unless_loses s (record s { subs = subscribed t g s.subs }) (subscribe_fault s t g known) (λ p k. k)
+subscribe_lives s t g known = unless_loses s (record s { subs = subs_add t g s.subs }) (subscribe_fault s t g known) (λ p k. k)
 
 pub unsubscribe_lives : (s : SessionState) (t : ClientToken) (sub : SubToken) → NoLoss s (unsubscribe_taken s t sub)
 unfolding unsubscribe_taken
-unsubscribe_lives s t sub = unless_loses s (record s { subs = unsubscribed sub s.subs }) (unsubscribe_fault s t sub) (λ p k. k)
+unsubscribe_lives s t sub = unless_loses s (record s { subs = subs_remove sub s.subs }) (unsubscribe_fault s t sub) (λ p k. k)
 
 pub voted_lives : (s : SessionState) (m : MemberToken) (v : Vote) (value : Option (List ℕ)) → NoLoss s (voted s m v value)
 unfolding voted
@@ -327,16 +327,16 @@ attributes_same s m phases attrs =
     by (Some x) = unless_same s (asked s x phases (λ r. Attributes x.p r attrs)) (ask_fault s x (attributes_fault (first_fault attrs x.group))) refl
 
 pub inited_same : (s : SessionState) (name : List ℕ) → SameProviders s (inited s name)
-unfolding inited session_added
-inited_same s name = unless_same s (session_added s name) (init_fault s name) refl
+unfolding inited add_session
+inited_same s name = unless_same s (add_session s name) (init_fault s name) refl
 
 pub subscribe_same : (s : SessionState) (t : ClientToken) (g : List ℕ) (known : Bool) → SameProviders s (subscribe_taken s t g known)
 unfolding subscribe_taken
-subscribe_same s t g known = unless_same s (record s { subs = subscribed t g s.subs }) (subscribe_fault s t g known) refl
+subscribe_same s t g known = unless_same s (record s { subs = subs_add t g s.subs }) (subscribe_fault s t g known) refl
 
 pub unsubscribe_same : (s : SessionState) (t : ClientToken) (sub : SubToken) → SameProviders s (unsubscribe_taken s t sub)
 unfolding unsubscribe_taken
-unsubscribe_same s t sub = unless_same s (record s { subs = unsubscribed sub s.subs }) (unsubscribe_fault s t sub) refl
+unsubscribe_same s t sub = unless_same s (record s { subs = subs_remove sub s.subs }) (unsubscribe_fault s t sub) refl
 
 pub voted_same : (s : SessionState) (m : MemberToken) (v : Vote) (value : Option (List ℕ)) → SameProviders s (voted s m v value)
 unfolding voted
@@ -446,13 +446,13 @@ slim_after s g (Approve c) = slim_same s _ refl refl refl
 slim_after s g (Reject c) = slim_same s _ refl refl refl
 slim_after s g (Late proto phase ps) = slim_same s s refl refl refl
 
-slim_joins : (ps : List ProviderId) (s : SessionState) → Slimmer s (fold (λ t (p : ProviderId). request_ended t p p.join) s ps)
-unfolding request_ended
+slim_joins : (ps : List ProviderId) (s : SessionState) → Slimmer s (fold (λ t (p : ProviderId). end_request t p p.join) s ps)
+unfolding end_request
 slim_joins [] s = slim_same s s refl refl refl
-slim_joins (p ∷ ps) s = slim_then s (request_ended s p p.join) (fold (λ t (p : ProviderId). request_ended t p p.join) (request_ended s p p.join) ps) (slim_same s (request_ended s p p.join) refl refl refl) (slim_joins ps (request_ended s p p.join))
+slim_joins (p ∷ ps) s = slim_then s (end_request s p p.join) (fold (λ t (p : ProviderId). end_request t p p.join) (end_request s p p.join) ps) (slim_same s (end_request s p p.join) refl refl refl) (slim_joins ps (end_request s p p.join))
 
 slim_begun : (s : SessionState) (x : Proposal) → Slimmer s (proposal_begun s x)
-unfolding proposal_begun request_ended
+unfolding proposal_begun end_request
 slim_begun s (Join ps attrs n) = slim_joins ps s
 slim_begun s (Leave p r) = slim_same s _ refl refl refl
 slim_begun s (Fail out) = slim_same s s refl refl refl
@@ -472,7 +472,7 @@ slim_requests s (Reject c) = slim_same s s refl refl refl
 slim_requests s (Late proto phase ps) = slim_same s s refl refl refl
 
 pub handed_slim : (s : SessionState) (g : List ℕ) (before after : GroupState) (e : Entry) (bs : List (Option Filled)) → Slimmer s (handed_on s g before after e bs)
-unfolding handed_on heard part_taken phases_opened casts_kept
+unfolding handed_on heard part_taken open_phases keep_casts
 handed_slim s g before after e bs =
     slim_then s k (without_providers r (removed_from after ps)) (slim_after s g e) (slim_then k t (without_providers r (removed_from after ps)) (slim_edits taking_part (λ x. refl) (λ x. refl) (beginners s g e) k) (slim_then t o (without_providers r (removed_from after ps)) (slim_edits (opened_after e after) (opened_p e after) (opened_client e after) ps t) (slim_then o u (without_providers r (removed_from after ps)) (slim_same o u refl refl refl) (slim_then u r (without_providers r (removed_from after ps)) (slim_requests u e) (slim_without r (removed_from after ps))))))
   where
@@ -489,13 +489,13 @@ handed_slim s g before after e bs =
     o = fold (λ t p. with_provider t p (opened_after e after)) t ps
 
     u : SessionState
-    u = casts_kept o g (casts_out s g before after e bs)
+    u = keep_casts o g (casts_out s g before after e bs)
 
     r : SessionState
     r = requests_after u e
 
-pub told_slim : (s : SessionState) (p : ProviderId) (r : ℕ) (y : Why) → Slimmer s (telling_taken s p r y)
-unfolding telling_taken told_of
+pub told_slim : (s : SessionState) (p : ProviderId) (r : ℕ) (y : Why) → Slimmer s (take_telling s p r y)
+unfolding take_telling told_of
 told_slim s p r y = by (takes_telling s p r y) (is_join_request (outstanding s p) || is_dissolved y)
   where
     by : (a b : Bool) → Slimmer s (if a then (if b then without_providers s (p ∷ []) else record s { requests = filter (λ (q : Request). not (among (p ∷ []) q.p)) s.requests }) else s)

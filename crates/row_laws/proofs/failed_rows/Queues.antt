@@ -3,17 +3,17 @@ use Rattle.std.proofs.Common.{◌≡◌, ℕ, List, [], ◌∷◌, ◌++◌, Opt
 use Rattle.std.specs.Prelude.{not, ◌&&◌, ◌||◌, is_none, cond}
 use Rattle.std.proofs.lemmas.Bool.{and_parts}
 use Rattle.std.proofs.lemmas.Bool.Decides.{nat_tests}
-use Rattle.rsct_packet.specs.declared.ids.ViewId.{ViewId}
-use Rattle.rsct_packet.specs.declared.ids.ProviderId.{ProviderId}
-use Rattle.rsct_packet.specs.Providers.{among, same_provider, without_all}
-use Rattle.group_attr.specs.declared.attrs.Attrs.{Attrs}
-use Rattle.proposal_core.specs.declared.proposal.Proposal.{Proposal}
-use Rattle.proposal_core.specs.declared.proposal.Proposal.TheVariants.{Join, Leave, Fail, Expel, State, Message, Attributes, Reflect}
-use Rattle.proposal_core.specs.declared.entry.Entry.{Entry}
-use Rattle.proposal_core.specs.declared.entry.Entry.TheVariants.{Once, Begin, Phase, Approve, Reject, Late}
-use Rattle.proposal_core.specs.declared.group_state.GroupState.{GroupState}
-use Rattle.proposal_core.specs.declared.group_state.Running.{Running}
-use Rattle.proposal_core.specs.Fold.{joins_of, joiners_in, fallen_of, can_begin, fits, without, effect, first_attrs, with_attrs, begun, newer, valued, approved, rejected_of, rejected, advanced, next_phase, applied, after_if, after}
+use Rattle.step_refinement.specs.rsct_packet.declared.ids.ViewId.{ViewId}
+use Rattle.step_refinement.specs.rsct_packet.declared.ids.ProviderId.{ProviderId}
+use Rattle.step_refinement.specs.rsct_packet.Providers.{among, same_provider, without_all}
+use Rattle.step_refinement.specs.group_attr.declared.attrs.Attrs.{Attrs}
+use Rattle.step_refinement.specs.proposal_core.declared.proposal.Proposal.{Proposal}
+use Rattle.step_refinement.specs.proposal_core.declared.proposal.Proposal.TheVariants.{Join, Leave, Fail, Expel, State, Message, Attributes, Reflect}
+use Rattle.step_refinement.specs.proposal_core.declared.entry.Entry.{Entry}
+use Rattle.step_refinement.specs.proposal_core.declared.entry.Entry.TheVariants.{Once, Begin, Phase, Approve, Reject, Late}
+use Rattle.step_refinement.specs.proposal_core.declared.group_state.GroupState.{GroupState}
+use Rattle.step_refinement.specs.proposal_core.declared.group_state.Running.{Running}
+use Rattle.step_refinement.specs.proposal_core.Fold.{joins_of, joiners_in, fallen_of, can_begin, fits, without, effect, first_attrs, take_attrs, begun, replace_proposed, take_value, approve, take_rejection, reject, advance, next_phase, apply, after_if, after}
 
 -- two of three: it failed, it is no member, it is no joiner
 abbrev pub most : Bool → Bool → Bool → Bool
@@ -96,13 +96,13 @@ record Like (s t : GroupState) : Type 0 where
 like_most : (s t : GroupState) (p : ProviderId) (j : Bool) → Like s t → most (among s.failed p) (among s.members p) j ≡ true → most (among t.failed p) (among t.members p) j ≡ true
 like_most s t p j k h = subst (λ (z : List ProviderId × List ProviderId). most (among z.0 p) (among z.1 p) j ≡ true) (λ i. (sym k.failed i, sym k.members i)) h
 
-valued_like : (s : GroupState) (v : ViewId) (i : ℕ) (o : Option (List ℕ)) → Like s (valued s v i o)
-unfolding valued
+valued_like : (s : GroupState) (v : ViewId) (i : ℕ) (o : Option (List ℕ)) → Like s (take_value s v i o)
+unfolding take_value
 valued_like s v i None = record { failed = refl; members = refl }
 valued_like s v i (Some b) = record { failed = refl; members = refl }
 
-valued_running : (s : GroupState) (v : ViewId) (i : ℕ) (o : Option (List ℕ)) → (valued s v i o).running ≡ s.running
-unfolding valued
+valued_running : (s : GroupState) (v : ViewId) (i : ℕ) (o : Option (List ℕ)) → (take_value s v i o).running ≡ s.running
+unfolding take_value
 valued_running s v i None = refl
 valued_running s v i (Some b) = refl
 
@@ -131,8 +131,8 @@ effect_stays s (Message q r bytes) p idle k = same_stays s p idle k
 effect_stays s (Attributes q r attrs) p idle k = same_stays s p idle k
 effect_stays s (Reflect v i value) p idle k = same_stays s p idle k
 
-rejection_stays : (s : GroupState) (x : Proposal) (p : ProviderId) → s.running ≡ None → most (among s.failed p) (among s.members p) (among (joins_of x) p) ≡ true → Idle (rejected_of s x) p
-unfolding rejected_of
+rejection_stays : (s : GroupState) (x : Proposal) (p : ProviderId) → s.running ≡ None → most (among s.failed p) (among s.members p) (among (joins_of x) p) ≡ true → Idle (take_rejection s x) p
+unfolding take_rejection
 rejection_stays s (Join ps attrs n) p idle k =
     subst (λ (z : Bool × Option Running). most z.0 (among s.members p) (among (joiners_in z.1) p) ≡ true) (λ i. (sym (among_without ps s.failed p) i, sym idle i)) (joined_not (among s.failed p) (among s.members p) (among ps p) k)
 rejection_stays s (Leave q r) p idle k = same_stays s p idle k
@@ -143,37 +143,37 @@ rejection_stays s (Message q r bytes) p idle k = same_stays s p idle k
 rejection_stays s (Attributes q r attrs) p idle k = same_stays s p idle k
 rejection_stays s (Reflect v i value) p idle k = same_stays s p idle k
 
-stays_valued : (s : GroupState) (v : ViewId) (i : ℕ) (o : Option (List ℕ)) (p : ProviderId) → Idle s p → Idle (valued s v i o) p
-unfolding valued
+stays_valued : (s : GroupState) (v : ViewId) (i : ℕ) (o : Option (List ℕ)) (p : ProviderId) → Idle s p → Idle (take_value s v i o) p
+unfolding take_value
 stays_valued s v i None p k = k
 stays_valued s v i (Some b) p k = k
 
-approved_stays : (s : GroupState) (v : ViewId) (i : ℕ) (value : Option (List ℕ)) (run : Option Running) (p : ProviderId) → s.running ≡ run → Stays s p ≡ true → Stays (approved s v i value run) p ≡ true
-unfolding approved
+approved_stays : (s : GroupState) (v : ViewId) (i : ℕ) (value : Option (List ℕ)) (run : Option Running) (p : ProviderId) → s.running ≡ run → Stays s p ≡ true → Stays (approve s v i value run) p ≡ true
+unfolding approve
 approved_stays s v i value None p e k = k
 approved_stays s v i value (Some run) p e k =
-    stays_valued (effect (record s { running = None }) run.proposal) v i (newer value run.proposed) p (effect_stays (record s { running = None }) run.proposal p refl (subst (λ z. most (among s.failed p) (among s.members p) (among (joiners_in z) p) ≡ true) e k))
+    stays_valued (effect (record s { running = None }) run.proposal) v i (replace_proposed value run.proposed) p (effect_stays (record s { running = None }) run.proposal p refl (subst (λ z. most (among s.failed p) (among s.members p) (among (joiners_in z) p) ≡ true) e k))
 
-rejected_stays : (s : GroupState) (run : Option Running) (p : ProviderId) → s.running ≡ run → Stays s p ≡ true → Stays (rejected s run) p ≡ true
-unfolding rejected
+rejected_stays : (s : GroupState) (run : Option Running) (p : ProviderId) → s.running ≡ run → Stays s p ≡ true → Stays (reject s run) p ≡ true
+unfolding reject
 rejected_stays s None p e k = k
 rejected_stays s (Some run) p e k =
     rejection_stays (record s { running = None }) run.proposal p refl (subst (λ z. most (among s.failed p) (among s.members p) (among (joiners_in z) p) ≡ true) e k)
 
 phase_stays : (s : GroupState) (value : Option (List ℕ)) (run : Option Running) (p : ProviderId) → s.running ≡ run → Stays s p ≡ true → Stays (next_phase s value run) p ≡ true
-unfolding next_phase advanced
+unfolding next_phase advance
 phase_stays s value None p e k = k
 phase_stays s value (Some run) p e k = subst (λ z. most (among s.failed p) (among s.members p) (among (joiners_in z) p) ≡ true) e k
 
-attrs_like : (s : GroupState) (o : Option Attrs) → Like s (with_attrs s o)
-unfolding with_attrs
+attrs_like : (s : GroupState) (o : Option Attrs) → Like s (take_attrs s o)
+unfolding take_attrs
 attrs_like s None = record { failed = refl; members = refl }
 attrs_like s (Some a) = record { failed = refl; members = refl }
 
 begun_stays : (s : GroupState) (v : ViewId) (i : ℕ) (x : Proposal) (p : ProviderId) → s.running ≡ None → joins_of x ≡ [] → Stays s p ≡ true → Stays (begun s v i x) p ≡ true
 unfolding begun
 begun_stays s v i x p idle none k =
-    subst (λ z. most (among (with_attrs s (first_attrs s x)).failed p) (among (with_attrs s (first_attrs s x)).members p) (among z p) ≡ true) (sym none) (like_most s (with_attrs s (first_attrs s x)) p false (attrs_like s (first_attrs s x)) (subst (λ z. most (among s.failed p) (among s.members p) (among (joiners_in z) p) ≡ true) idle k))
+    subst (λ z. most (among (take_attrs s (first_attrs s x)).failed p) (among (take_attrs s (first_attrs s x)).members p) (among z p) ≡ true) (sym none) (like_most s (take_attrs s (first_attrs s x)) p false (attrs_like s (first_attrs s x)) (subst (λ z. most (among s.failed p) (among s.members p) (among (joiners_in z) p) ≡ true) idle k))
 
 -- no join begins
 abbrev pub BringsNone : Entry → Type 0
@@ -188,8 +188,8 @@ none_is (Some x) e = absurd (cc)
 idle_of : (s : GroupState) (x : Proposal) → (is_none s.running && can_begin s x) ≡ true → s.running ≡ None
 idle_of s x e = none_is s.running (and_parts (is_none s.running) (can_begin s x) e).0
 
-applied_stays : (s : GroupState) (v : ViewId) (i : ℕ) (e : Entry) (p : ProviderId) → fits s e ≡ true → BringsNone e → Stays s p ≡ true → Stays (applied s v i e) p ≡ true
-unfolding applied fits
+applied_stays : (s : GroupState) (v : ViewId) (i : ℕ) (e : Entry) (p : ProviderId) → fits s e ≡ true → BringsNone e → Stays s p ≡ true → Stays (apply s v i e) p ≡ true
+unfolding apply fits
 applied_stays s v i (Once x) p f none k =
     approved_stays (begun s v i x) v i None (begun s v i x).running p refl (begun_stays s v i x p (idle_of s x f) none k)
 applied_stays s v i (Begin x) p f none k = begun_stays s v i x p (idle_of s x f) none k

@@ -2,65 +2,65 @@
 use Rattle.std.proofs.Common.{◌≡◌, ℕ, List, [], ◌∷◌, ◌++◌, length, Option, Some, None, Bool, true, false, refl, sym, ap, ◌∙◌, subst, inr}
 use Rattle.std.specs.Prelude.{◌==◌, slice_get, reverse}
 use Rattle.std.proofs.lemmas.Bool.{eqb-true, eq-eqb}
-use Rattle.rsct_packet.specs.declared.ids.ViewId.{ViewId}
-use Rattle.rsct_packet.specs.declared.ids.ProviderId.{ProviderId}
-use Rattle.rsct_packet.specs.declared.mask.Mask.{Mask}
-use Rattle.rsct_packet.specs.Search.{Has}
-use Rattle.rsct_packet.proofs.HasLaws.{append_has_right, has_map}
-use Rattle.group_attr.specs.declared.attrs.Phases.{Phases}
-use Rattle.proposal_core.specs.declared.entry.Entry.{Entry}
-use Rattle.proposal_core.specs.declared.proposal.Proposal.{Proposal}
-use Rattle.proposal_core.specs.declared.proposal.Proposal.TheVariants.{Join, Leave, Fail, Expel, State, Message, Attributes, Reflect}
-use Rattle.proposal_core.specs.Lists.{len_in}
-use Rattle.session_state.specs.declared.state.Provider.{Provider}
-use Rattle.session_state.specs.declared.state.Request.{Request}
-use Rattle.session_state.specs.HandOn.{is_join, is_dissolved}
-use Rattle.view_state.specs.declared.packet.ViewPacket.{ViewPacket}
-use Rattle.view_state.specs.declared.packet.ViewPacket.TheVariants as view
-use Rattle.view_state.specs.declared.views.ViewWork.{ViewWork}
-use Rattle.view_state.specs.Views.{views_at_work, ask_row, prepare_row, answer_row, refuse_row, install_row, taken_row}
-use Rattle.node_state.specs.declared.call.CallLine.{CallLine}
-use Rattle.node_state.specs.declared.config.Mode.{Mode}
-use Rattle.node_state.specs.declared.config.Mode.TheVariants.{Fixed, Asked, Rings}
-use Rattle.node_state.specs.declared.group.GroupRow.{GroupRow}
-use Rattle.node_state.specs.declared.happened.Happened.TheVariants as happened
-use Rattle.node_state.specs.declared.packet.Body.{Body}
-use Rattle.node_state.specs.declared.packet.Body.TheVariants as body
-use Rattle.node_state.specs.declared.packet.Packet.{Packet}
-use Rattle.node_state.specs.declared.state.Core.{Core}
-use Rattle.node_state.specs.Settings.{is_fixed}
-use Rattle.node_state.specs.State.{row_of, with_row, len_of, list_of, is_this, leader_by, leader_in, leads_in, leads, led_by}
-use Rattle.node_state.specs.HandOn.{Answering}
-use Rattle.node_state.specs.Following.{lookup_row, name_row, request_row, tell_row, entry_row, ack_row, vote_row, gone_row}
-use Rattle.node_state.specs.Applying.{own_parts, views_taken}
-use Rattle.node_state.specs.Status.{status_text}
-use Rattle.node_state.specs.Ticks.{rings_part, views_part, owed_part, tick_row}
-use Rattle.node_state.specs.Ending.{step_ended}
-use Rattle.node_state.specs.Step.{NodeEvent, Ticks, Asks, Given, Calls, Garbage, is_used, used_if, order_row, view_row, body_row, packet_row, event_row, stepped, at_work}
-use Rattle.run_safety.specs.Past.{History, records_of, view_now}
-use Rattle.run_safety.specs.Stays.{is_join_of}
-use Rattle.run_safety.specs.Group.{member}
-use Rattle.run_safety.specs.Group as group
-use Rattle.run_safety.specs.Requests.{requests_of, carried}
-use Rattle.run_safety.specs.Sight.{lines_with, lines_of}
-use Rattle.run_safety.proofs.SightLaws.{put_seen}
-use Rattle.run_safety.proofs.Whole.{Whole}
-use Rattle.run_safety.proofs.Lives.{whole}
-use Rattle.run_safety.proofs.Parts.{member_parts}
-use Rattle.node_state.proofs.NameOrder.{row_here}
-use Rattle.step_ties.specs.Ghost.{asking}
-use Rattle.step_ties.specs.Tied.{Owed, ShowsBody, ShowsEntry, ShowsLeader, ShowsRequest, Scene, opening_of, lines_now, Tied}
-use Rattle.step_ties.specs.Rows.{acted, Arises}
-use Rattle.step_ties.proofs.Acks.{used_is}
-use Rattle.step_ties.proofs.Leads.{leader_inc, leads_known}
-use Rattle.step_ties.proofs.RowWorks.{len_is}
+use Rattle.step_refinement.specs.rsct_packet.declared.ids.ViewId.{ViewId}
+use Rattle.step_refinement.specs.rsct_packet.declared.ids.ProviderId.{ProviderId}
+use Rattle.step_refinement.specs.rsct_packet.declared.mask.Mask.{Mask}
+use Rattle.step_refinement.specs.rsct_packet.Search.{Has}
+use Rattle.step_refinement.proofs.rsct_packet_laws.HasLaws.{append_has_right, has_map}
+use Rattle.step_refinement.specs.group_attr.declared.attrs.Phases.{Phases}
+use Rattle.step_refinement.specs.proposal_core.declared.entry.Entry.{Entry}
+use Rattle.step_refinement.specs.proposal_core.declared.proposal.Proposal.{Proposal}
+use Rattle.step_refinement.specs.proposal_core.declared.proposal.Proposal.TheVariants.{Join, Leave, Fail, Expel, State, Message, Attributes, Reflect}
+use Rattle.step_refinement.specs.proposal_core.Lists.{len_in}
+use Rattle.step_refinement.specs.session_state.declared.state.Provider.{Provider}
+use Rattle.step_refinement.specs.session_state.declared.state.Request.{Request}
+use Rattle.step_refinement.specs.session_state.HandOn.{is_join, is_dissolved}
+use Rattle.step_refinement.specs.view_state.declared.packet.ViewPacket.{ViewPacket}
+use Rattle.step_refinement.specs.view_state.declared.packet.ViewPacket.TheVariants as view
+use Rattle.step_refinement.specs.view_state.declared.views.ViewWork.{ViewWork}
+use Rattle.step_refinement.specs.view_state.Views.{views_at_work, ask_row, prepare_row, answer_row, refuse_row, install_row, taken_row}
+use Rattle.step_refinement.specs.node_state.declared.call.CallLine.{CallLine}
+use Rattle.step_refinement.specs.node_state.declared.config.Mode.{Mode}
+use Rattle.step_refinement.specs.node_state.declared.config.Mode.TheVariants.{Fixed, Asked, Rings}
+use Rattle.step_refinement.specs.node_state.declared.group.GroupRow.{GroupRow}
+use Rattle.step_refinement.specs.node_state.declared.happened.Happened.TheVariants as happened
+use Rattle.step_refinement.specs.node_state.declared.packet.Body.{Body}
+use Rattle.step_refinement.specs.node_state.declared.packet.Body.TheVariants as body
+use Rattle.step_refinement.specs.node_state.declared.packet.Packet.{Packet}
+use Rattle.step_refinement.specs.node_state.declared.state.Core.{Core}
+use Rattle.step_refinement.specs.node_state.Settings.{is_fixed}
+use Rattle.step_refinement.specs.node_state.State.{row_of, with_row, len_of, list_of, is_this, leader_by, leader_in, leads_in, leads, set_leader}
+use Rattle.step_refinement.specs.node_state.HandOn.{Answering}
+use Rattle.step_refinement.specs.node_state.Following.{take_lookup, take_name, take_request, take_tell, take_entry, take_ack, take_vote, take_gone}
+use Rattle.step_refinement.specs.node_state.Applying.{own_parts, views_taken}
+use Rattle.step_refinement.specs.node_state.Status.{status_text}
+use Rattle.step_refinement.specs.node_state.Ticks.{tick_rings, tick_views, tick_owed, tick_row}
+use Rattle.step_refinement.specs.node_state.Ending.{end_step}
+use Rattle.step_refinement.specs.node_state.Step.{NodeEvent, Ticks, Asks, Given, Calls, Garbage, is_used, used_if, take_order, view_row, take_body, packet_row, event_row, stepped, at_work}
+use Rattle.step_refinement.specs.run_safety.Past.{History, records_of, view_now}
+use Rattle.step_refinement.specs.run_safety.Stays.{is_join_of}
+use Rattle.step_refinement.specs.run_safety.Group.{member}
+use Rattle.step_refinement.specs.run_safety.Group as group
+use Rattle.step_refinement.specs.run_safety.Requests.{requests_of, carried}
+use Rattle.step_refinement.specs.run_safety.Sight.{lines_with, lines_of}
+use Rattle.step_refinement.proofs.run_safety_laws.SightLaws.{put_seen}
+use Rattle.step_refinement.proofs.run_safety_laws.Whole.{Whole}
+use Rattle.step_refinement.proofs.run_safety_laws.Lives.{whole}
+use Rattle.step_refinement.proofs.run_safety_laws.Parts.{member_parts}
+use Rattle.step_refinement.proofs.node_state_laws.NameOrder.{row_here}
+use Rattle.step_refinement.specs.Ghost.{asking}
+use Rattle.step_refinement.specs.Tied.{Owed, ShowsBody, ShowsEntry, ShowsLeader, ShowsRequest, Scene, opening_of, lines_now, Tied}
+use Rattle.step_refinement.specs.Rows.{acted, Arises}
+use Rattle.step_refinement.proofs.Acks.{used_is}
+use Rattle.step_refinement.proofs.Leads.{leader_inc, leads_known}
+use Rattle.step_refinement.proofs.RowWorks.{len_is}
 use Rattle.row_laws.proofs.honest_votes.At.{found}
 use Rattle.row_laws.proofs.honest_votes.Ending.{Every, NoGroup}
 use Rattle.row_laws.specs.failed_rows.Failures.{IsRefused, GoneCause}
 use Rattle.row_laws.proofs.failed_rows.Fitting.{put_recorded, put_back}
 use Rattle.row_laws.proofs.failed_rows.Asked.{join_carried, lost_asked}
 use Rattle.row_laws.proofs.failed_rows.InView.{InView, stay_asks, stay_prepares, stay_answers, stay_refuses, stay_installs, stay_takes}
-use Rattle.node_state.specs.Calls.{call_row}
+use Rattle.step_refinement.specs.node_state.Calls.{take_call}
 use Rattle.row_laws.proofs.failed_rows.Origin.{origin_of, root_of}
 use Rattle.row_laws.proofs.failed_rows.At.{At, at_sent_on, at_rooted}
 use Rattle.row_laws.proofs.failed_rows.Ending.{NoFailure, at_step_ended}
@@ -91,8 +91,8 @@ entry_follows v g place stable e w n s p is delivered t used at led =
     past_end (t.ghost.nodes n).list e (past ∙ get)
 
 -- a node that is sent a request leads the group, once it has noted that
-request_leads : (v : ViewId) (g : List ℕ) (q : ProviderId) (r : ℕ) (phases : Phases) (x : Proposal) (w : Scene) (n : ℕ) (s : Core) (p : Packet) → p.body ≡ body.Request v g q r phases x → p.to ≡ n → Has p w.sent → Tied g w n s → is_used s p v ≡ true → leads (led_by s g s.views.me) g ≡ true
-unfolding leads leads_in leader_in led_by with_row
+request_leads : (v : ViewId) (g : List ℕ) (q : ProviderId) (r : ℕ) (phases : Phases) (x : Proposal) (w : Scene) (n : ℕ) (s : Core) (p : Packet) → p.body ≡ body.Request v g q r phases x → p.to ≡ n → Has p w.sent → Tied g w n s → is_used s p v ≡ true → leads (set_leader s g s.views.me) g ≡ true
+unfolding leads leads_in leader_in set_leader with_row
 request_leads v g q r phases x w n s p is to delivered t used = by s.config.mode t.own.0.led
   where
     shown : ShowsRequest t.ghost p.to v q r x
@@ -238,28 +238,28 @@ module _ (w : Scene) (n : ℕ) (f : Answering) (s : Core) (root : Option Core) (
   view_at from inc (view.Install i) = taken (install_row (views_at_work s.views) i) (stay_installs (views_at_work s.views) i)
   view_at from inc (view.Taken v) = taken (taken_row (views_at_work s.views) from v) (stay_takes (views_at_work s.views) from v)
 
-  body_at : (p : Packet) (b : Body) → p.body ≡ b → p.to ≡ n → Has p w.sent → BodyGone w.before b → Full (body_row f s p b)
-  unfolding body_row
+  body_at : (p : Packet) (b : Body) → p.body ≡ b → p.to ≡ n → Has p w.sent → BodyGone w.before b → Full (take_body f s p b)
+  unfolding take_body
   body_at p (body.Ring x) is to sent ok = at_ring_row w.before said (origin_of s root) (Unit {0}) (Unit {0}) M tt s p.network p.from p.inc x a
   body_at p (body.Report rows) is to sent ok = at_report w.before said (origin_of s root) (Unit {0}) (Unit {0}) M tt s rows a
   body_at p (body.View y) is to sent ok = view_at p.from p.inc y
-  body_at p (body.Lookup v g) is to sent ok = used (lookup_row s p.from g) (is_used s p v) (λ u. at_lookup w.before said (origin_of s root) (Unit {0}) (Unit {0}) M tt s p.from g a)
-  body_at p (body.Name v g k) is to sent ok = used (name_row s g k) (is_used s p v) (λ u. at_name w.before said (origin_of s root) (Unit {0}) (Unit {0}) M tt s g k numbered a)
+  body_at p (body.Lookup v g) is to sent ok = used (take_lookup s p.from g) (is_used s p v) (λ u. at_lookup w.before said (origin_of s root) (Unit {0}) (Unit {0}) M tt s p.from g a)
+  body_at p (body.Name v g k) is to sent ok = used (take_name s g k) (is_used s p v) (λ u. at_name w.before said (origin_of s root) (Unit {0}) (Unit {0}) M tt s g k numbered a)
   body_at p (body.Request v g q r phases x) is to sent ok =
-      used (request_row f s p.from g q r phases x) (is_used s p v) (λ u. at_request w.before said (origin_of s root) (Unit {0}) (Unit {0}) M tt f s g (request_leads v g q r phases x w n s p is to sent (all g) u) p.from q r phases x (no_failure q r x ((subst (ShowsBody (all g).ghost g p.from p.inc p.to) is ((all g).packets p (append_has_right p s.sends w.sent sent))).1)) a)
-  body_at p (body.Tell v g q r why) is to sent ok = used (tell_row s q r why) (is_used s p v) (λ u. at_tell w.before said (origin_of s root) (Unit {0}) (Unit {0}) M tt s q r why ok numbered a)
+      used (take_request f s p.from g q r phases x) (is_used s p v) (λ u. at_request w.before said (origin_of s root) (Unit {0}) (Unit {0}) M tt f s g (request_leads v g q r phases x w n s p is to sent (all g) u) p.from q r phases x (no_failure q r x ((subst (ShowsBody (all g).ghost g p.from p.inc p.to) is ((all g).packets p (append_has_right p s.sends w.sent sent))).1)) a)
+  body_at p (body.Tell v g q r why) is to sent ok = used (take_tell s q r why) (is_used s p v) (λ u. at_tell w.before said (origin_of s root) (Unit {0}) (Unit {0}) M tt s q r why ok numbered a)
   body_at p (body.Entry v g i k e) is to sent ok =
-      used (entry_row f s p.from g i k e) (is_used s p v) (λ u. at_entry w.before said (origin_of s root) (Unit {0}) (Unit {0}) M tt f s p.from g k e i (λ at. entry_put v g i k e w n s p is sent (all g) u at) (λ at led. entry_follows v g i k e w n s p is sent (all g) u at led) a)
-  body_at p (body.Ack v g k) is to sent ok = used (ack_row s p.from g k) (is_used s p v) (λ u. at_ack w.before said (origin_of s root) (Unit {0}) (Unit {0}) M tt s p.from g k a)
+      used (take_entry f s p.from g i k e) (is_used s p v) (λ u. at_entry w.before said (origin_of s root) (Unit {0}) (Unit {0}) M tt f s p.from g k e i (λ at. entry_put v g i k e w n s p is sent (all g) u at) (λ at led. entry_follows v g i k e w n s p is sent (all g) u at led) a)
+  body_at p (body.Ack v g k) is to sent ok = used (take_ack s p.from g k) (is_used s p v) (λ u. at_ack w.before said (origin_of s root) (Unit {0}) (Unit {0}) M tt s p.from g k a)
   body_at p (body.Vote v g proto phase q ballot value message) is to sent ok =
-      used (vote_row f s g proto phase q ballot value message) (is_used s p v) (λ u. at_vote w.before said (origin_of s root) (Unit {0}) (Unit {0}) M tt f s g proto phase q ballot value message a)
+      used (take_vote f s g proto phase q ballot value message) (is_used s p v) (λ u. at_vote w.before said (origin_of s root) (Unit {0}) (Unit {0}) M tt f s g proto phase q ballot value message a)
   body_at p (body.Gone v g q) is to sent ok =
-      used (gone_row f s g q) (is_used s p v) (λ u. at_gone w.before said (origin_of s root) (Unit {0}) (Unit {0}) M tt f s g q (subst (λ z. GoneCause w.before z g q) (used_is s p v u).0 ok) a)
+      used (take_gone f s g q) (is_used s p v) (λ u. at_gone w.before said (origin_of s root) (Unit {0}) (Unit {0}) M tt f s g q (subst (λ z. GoneCause w.before z g q) (used_is s p v u).0 ok) a)
   body_at p (body.Query question what) is to sent ok = at_sent_on w.before said (origin_of s root) (Unit {0}) (Unit {0}) M Every NoGroup Every s p.network p.from (body.Reply question (status_text s what)) tt a
   body_at p (body.Reply question text) is to sent ok = a
 
-  order_at : (mask : Mask) → Full (order_row f s mask)
-  unfolding order_row
+  order_at : (mask : Mask) → Full (take_order f s mask)
+  unfolding take_order
   order_at mask = by (is_fixed s.config.mode)
     where
       by : (b : Bool) → Full (elim b as (λ _. Core) [ true ↦ s | false ↦ views_taken f s (ask_row (views_at_work s.views) mask (own_parts s)) ])
@@ -269,17 +269,17 @@ module _ (w : Scene) (n : ℕ) (f : Answering) (s : Core) (root : Option Core) (
   pub acted_at : (e : NodeEvent) → ((c : CallLine) → e ≡ Calls c → root ≡ None) → Arises w e → Calling s said M e → Full (acted f s e)
   unfolding packet_row
   acted_at Ticks free arises calls =
-      at_led_part w.before said (origin_of s root) (Unit {0}) (Unit {0}) M tt f (owed_part (views_part f (rings_part s))) (at_owed_part w.before said (origin_of s root) (Unit {0}) (Unit {0}) M tt (views_part f (rings_part s)) (lost_asked w n f s nothing all) (at_views_part w.before said (origin_of s root) (Unit {0}) (Unit {0}) M tt f (rings_part s) (at_rings_part w.before said (origin_of s root) (Unit {0}) (Unit {0}) M tt s a)))
+      at_led_part w.before said (origin_of s root) (Unit {0}) (Unit {0}) M tt f (tick_owed (tick_views f (tick_rings s))) (at_owed_part w.before said (origin_of s root) (Unit {0}) (Unit {0}) M tt (tick_views f (tick_rings s)) (lost_asked w n f s nothing all) (at_views_part w.before said (origin_of s root) (Unit {0}) (Unit {0}) M tt f (tick_rings s) (at_rings_part w.before said (origin_of s root) (Unit {0}) (Unit {0}) M tt s a)))
   acted_at (Asks mask) free arises calls = order_at mask
   acted_at (Calls c) free arises calls = at_call w.before said (origin_of s root) (free c refl) (Unit {0}) (Unit {0}) M s c (calls.taken c refl) (calls.says c refl) calls.mine calls.owner calls.me a
   acted_at Garbage free arises calls = a
   acted_at (Given p) free arises calls = by (p.to == s.views.me) refl
     where
-      by : (b : Bool) → (p.to == s.views.me) ≡ b → Full (elim b as (λ _. Core) [ true ↦ body_row f s p p.body | false ↦ s ])
+      by : (b : Bool) → (p.to == s.views.me) ≡ b → Full (elim b as (λ _. Core) [ true ↦ take_body f s p p.body | false ↦ s ])
       by false e = a
       by true e = body_at p p.body refl (eqb-true p.to s.views.me e ∙ (all []).own.0.stands.me) arises (were p arises)
 
-stepped_is : (f : Answering) (s : Core) (e : NodeEvent) → stepped f s e ≡ step_ended f (acted f (at_work s) e)
+stepped_is : (f : Answering) (s : Core) (e : NodeEvent) → stepped f s e ≡ end_step f (acted f (at_work s) e)
 unfolding stepped event_row tick_row
 stepped_is f s Ticks = refl
 stepped_is f s (Asks mask) = refl
@@ -299,7 +299,7 @@ at_stepped w n f s said M e were all arises a calls =
     other e none arises calls = acted_at w n f (at_work s) (Some (at_work s)) said M were refl all (rooted (at_work s) a) e none arises calls
 
     by : (e : NodeEvent) → Arises w e → Calling (at_work s) said M e → At w.before said (origin_of s (Some (root_of (at_work s) e))) (Unit {0}) (Unit {0}) M Every NoGroup Every (acted f (at_work s) e)
-    by (Calls c) arises calls = rooted (call_row (at_work s) c) (acted_at w n f (at_work s) None said M were refl all a (Calls c) (λ d q. refl) arises calls)
+    by (Calls c) arises calls = rooted (take_call (at_work s) c) (acted_at w n f (at_work s) None said M were refl all a (Calls c) (λ d q. refl) arises calls)
     by Ticks arises calls = other Ticks (λ c q. absurd (cc)) arises calls
     by (Asks mask) arises calls = other (Asks mask) (λ c q. absurd (cc)) arises calls
     by (Given p) arises calls = other (Given p) (λ c q. absurd (cc)) arises calls

@@ -3,45 +3,45 @@ use Rattle.std.proofs.Common.{◌⊎◌, ◌≡◌, ℕ, ◌+◌, ◌-◌, List,
 use Rattle.std.specs.Prelude.{◌==◌, ◌&&◌, not, filter, fold, find, reverse, is_none, is_some}
 use Rattle.std.specs.List.{list_any}
 use Rattle.std.proofs.lemmas.Bool.{eqb-true, and_parts}
-use Rattle.rsct_packet.specs.declared.ids.ProviderId.{ProviderId}
-use Rattle.rsct_packet.specs.declared.mask.Mask.{Mask}
-use Rattle.rsct_packet.specs.Mask.{nodes_of}
-use Rattle.rsct_packet.specs.Providers.{among, same_provider}
-use Rattle.rsct_packet.specs.Search.{Has}
-use Rattle.rsct_packet.proofs.HasLaws.{has_filter, find_none}
-use Rattle.proposal_core.specs.declared.entry.Entry.{Entry}
-use Rattle.proposal_core.specs.declared.group_state.GroupState.{GroupState}
-use Rattle.proposal_core.specs.declared.group_state.Running.{Running}
-use Rattle.proposal_core.specs.Fold.{present}
-use Rattle.proposal_core.specs.GroupView.{GroupView}
-use Rattle.proposal_core.specs.Lists.{state_in}
-use Rattle.adapter_ring.specs.declared.ring.Ring.{Ring}
-use Rattle.adapter_ring.specs.declared.ring.RingSet.{RingSet}
-use Rattle.adapter_ring.specs.declared.packet.RingSend.{RingSend}
-use Rattle.adapter_ring.specs.declared.packet.RingPacket.{RingPacket}
-use Rattle.adapter_ring.specs.declared.packet.RingEvent.TheVariants as ring_event
-use Rattle.adapter_ring.specs.declared.work.RingWork.{RingWork}
-use Rattle.adapter_ring.specs.Rings.{ring_stepped}
-use Rattle.node_reach.specs.declared.reach.Reach.{Reach}
-use Rattle.node_reach.specs.Reach as reach
-use Rattle.packet_bodies.specs.declared.body.ReportRow.{ReportRow}
-use Rattle.vote_phases.specs.Tally.{TallyView, expires, open_voters}
-use Rattle.session_state.specs.State.{is_provider, provider_of}
-use Rattle.view_state.specs.Views.{views_at_work, gathering_ticks, install_again}
-use Rattle.node_state.specs.declared.group.GroupRow.{GroupRow}
-use Rattle.node_state.specs.declared.happened.Happened.{Happened}
-use Rattle.node_state.specs.declared.packet.Body.TheVariants as body
-use Rattle.node_state.specs.declared.state.Core.{Core}
-use Rattle.node_state.specs.Settings.{is_rings}
-use Rattle.node_state.specs.State.{row_found, row_of, led_of, state_of, held_rows, frozen, leader_of, led_groups, others, acked_by, least_acked, with_led, has_name}
-use Rattle.node_state.specs.Sending.{sent, sent_on, sent_if_known, requests_sent, votes_sent_again}
-use Rattle.node_state.specs.HandOn.{Answering}
-use Rattle.node_state.specs.Leading.{with_tally}
-use Rattle.node_state.specs.Applying.{own_parts, views_taken}
-use Rattle.node_state.specs.Ticks.{ring_put, set_records, ring_taken, ring_row_of, ring_row, row_reported, report_row, rings_union, report_of, report_sent, rings_tick, rings_part, ring_ask, views_part, is_lost, lost_told, owed_part, late_appended, announced, ticked_in, tally_ticks, entries_sent, list_sent_again, sent_again, group_ticks, led_part}
-use Rattle.run_safety.specs.Past.{History, records_of}
-use Rattle.run_safety.specs.Stays.{stays, asks_join}
-use Rattle.step_ties.proofs.SessionLaws.{provider_self}
+use Rattle.step_refinement.specs.rsct_packet.declared.ids.ProviderId.{ProviderId}
+use Rattle.step_refinement.specs.rsct_packet.declared.mask.Mask.{Mask}
+use Rattle.step_refinement.specs.rsct_packet.Mask.{nodes_of}
+use Rattle.step_refinement.specs.rsct_packet.Providers.{among, same_provider}
+use Rattle.step_refinement.specs.rsct_packet.Search.{Has}
+use Rattle.step_refinement.proofs.rsct_packet_laws.HasLaws.{has_filter, find_none}
+use Rattle.step_refinement.specs.proposal_core.declared.entry.Entry.{Entry}
+use Rattle.step_refinement.specs.proposal_core.declared.group_state.GroupState.{GroupState}
+use Rattle.step_refinement.specs.proposal_core.declared.group_state.Running.{Running}
+use Rattle.step_refinement.specs.proposal_core.Fold.{present}
+use Rattle.step_refinement.specs.proposal_core.GroupView.{GroupView}
+use Rattle.step_refinement.specs.proposal_core.Lists.{state_in}
+use Rattle.step_refinement.specs.adapter_ring.declared.ring.Ring.{Ring}
+use Rattle.step_refinement.specs.adapter_ring.declared.ring.RingSet.{RingSet}
+use Rattle.step_refinement.specs.adapter_ring.declared.packet.RingSend.{RingSend}
+use Rattle.step_refinement.specs.adapter_ring.declared.packet.RingPacket.{RingPacket}
+use Rattle.step_refinement.specs.adapter_ring.declared.packet.RingEvent.TheVariants as ring_event
+use Rattle.step_refinement.specs.adapter_ring.declared.work.RingWork.{RingWork}
+use Rattle.step_refinement.specs.adapter_ring.Rings.{ring_step}
+use Rattle.step_refinement.specs.node_reach.declared.reach.Reach.{Reach}
+use Rattle.step_refinement.specs.node_reach.Reach as reach
+use Rattle.step_refinement.specs.packet_bodies.declared.body.ReportRow.{ReportRow}
+use Rattle.step_refinement.specs.vote_phases.Tally.{TallyView, expires, open_voters}
+use Rattle.step_refinement.specs.session_state.State.{is_provider, provider_of}
+use Rattle.step_refinement.specs.view_state.Views.{views_at_work, gathering_ticks, install_again}
+use Rattle.step_refinement.specs.node_state.declared.group.GroupRow.{GroupRow}
+use Rattle.step_refinement.specs.node_state.declared.happened.Happened.{Happened}
+use Rattle.step_refinement.specs.node_state.declared.packet.Body.TheVariants as body
+use Rattle.step_refinement.specs.node_state.declared.state.Core.{Core}
+use Rattle.step_refinement.specs.node_state.Settings.{is_rings}
+use Rattle.step_refinement.specs.node_state.State.{row_found, row_of, led_of, state_of, held_rows, frozen, leader_of, led_groups, others, acked_by, least_acked, with_led, has_name}
+use Rattle.step_refinement.specs.node_state.Sending.{sent, send_on, send_if_known, send_requests, send_votes_again}
+use Rattle.step_refinement.specs.node_state.HandOn.{Answering}
+use Rattle.step_refinement.specs.node_state.Leading.{with_tally}
+use Rattle.step_refinement.specs.node_state.Applying.{own_parts, views_taken}
+use Rattle.step_refinement.specs.node_state.Ticks.{ring_put, set_records, ring_taken, ring_row_of, ring_row, row_reported, take_report, rings_union, report_of, send_report, rings_tick, tick_rings, ring_ask, tick_views, is_lost, lost_told, tick_owed, late_appended, announced, ticked_in, tally_ticks, entries_sent, list_sent_again, sent_again, tick_group, tick_led}
+use Rattle.step_refinement.specs.run_safety.Past.{History, records_of}
+use Rattle.step_refinement.specs.run_safety.Stays.{stays, asks_join}
+use Rattle.step_refinement.proofs.SessionLaws.{provider_self}
 use Rattle.row_laws.proofs.hearing.Handing.{has_among}
 use Rattle.row_laws.proofs.honest_votes.At.{found, leads_row}
 use Rattle.row_laws.proofs.honest_votes.Ending.{Every, NoGroup}
@@ -86,8 +86,8 @@ module _ (h : History) (said : ProviderId → Type 0) (origin : Origin) (P L M :
   at_ring_taken : (s : Core) (w : RingWork) → Full s → Full (ring_taken s w)
   unfolding ring_taken
   at_ring_taken s w a =
-      let t : Core = fold (λ u (x : RingSend). sent_on u x.network x.to (body.Ring x.packet)) (record s { rings = ring_put s.rings w.ring }) w.sends in
-      at_recorded_all h said origin P L M Every NoGroup Every (set_records s.views.me w.ring.net w.set) t (set_quiet s.views.me w.ring.net w.set) (at_fold h said origin P L M Every NoGroup Every (λ u (x : RingSend). sent_on u x.network x.to (body.Ring x.packet)) w.sends (λ u x i k. at_sent_on h said origin P L M Every NoGroup Every u x.network x.to (body.Ring x.packet) tt k) (record s { rings = ring_put s.rings w.ring }) (at_rings s (ring_put s.rings w.ring) a))
+      let t : Core = fold (λ u (x : RingSend). send_on u x.network x.to (body.Ring x.packet)) (record s { rings = ring_put s.rings w.ring }) w.sends in
+      at_recorded_all h said origin P L M Every NoGroup Every (set_records s.views.me w.ring.net w.set) t (set_quiet s.views.me w.ring.net w.set) (at_fold h said origin P L M Every NoGroup Every (λ u (x : RingSend). send_on u x.network x.to (body.Ring x.packet)) w.sends (λ u x i k. at_sent_on h said origin P L M Every NoGroup Every u x.network x.to (body.Ring x.packet) tt k) (record s { rings = ring_put s.rings w.ring }) (at_rings s (ring_put s.rings w.ring) a))
 
   pub at_ring_row : (s : Core) (network from inc : ℕ) (x : RingPacket) → Full s → Full (ring_row s network from inc x)
   unfolding ring_row ring_row_of
@@ -95,34 +95,34 @@ module _ (h : History) (said : ProviderId → Type 0) (origin : Origin) (P L M :
     where
       by : (o : Option Ring) → Full (ring_row_of s from inc x o)
       by None = a
-      by (Some r) = at_ring_taken s (ring_stepped r (ring_event.Packet from inc x)) a
+      by (Some r) = at_ring_taken s (ring_step r (ring_event.Packet from inc x)) a
 
-  pub at_report : (s : Core) (rows : List ReportRow) → Full s → Full (report_row s rows)
-  unfolding report_row
+  pub at_report : (s : Core) (rows : List ReportRow) → Full s → Full (take_report s rows)
+  unfolding take_report
   at_report s rows a = at_reach s (fold row_reported s.reach rows) a
 
-  at_report_sent : (s : Core) (m : Mask) → Full s → Full (report_sent s m)
-  unfolding report_sent
+  at_report_sent : (s : Core) (m : Mask) → Full s → Full (send_report s m)
+  unfolding send_report
   at_report_sent s m a =
-      let t : Core = record s { reach = reach.own_set s.reach m } in
-      at_sent_all h said origin P L M Every NoGroup Every (filter (λ n. not (n == s.views.me)) (nodes_of m)) t (body.Report (report_of t.reach)) tt (at_reach s (reach.own_set s.reach m) a)
+      let t : Core = record s { reach = reach.set_own s.reach m } in
+      at_sent_all h said origin P L M Every NoGroup Every (filter (λ n. not (n == s.views.me)) (nodes_of m)) t (body.Report (report_of t.reach)) tt (at_reach s (reach.set_own s.reach m) a)
 
-  pub at_rings_part : (s : Core) → Full s → Full (rings_part s)
-  unfolding rings_part rings_tick
+  pub at_rings_part : (s : Core) → Full s → Full (tick_rings s)
+  unfolding tick_rings rings_tick
   at_rings_part s a = by (is_rings s.config.mode)
     where
       t : Core
-      t = fold (λ u (r : Ring). ring_taken u (ring_stepped r ring_event.Tick)) s s.rings
+      t = fold (λ u (r : Ring). ring_taken u (ring_step r ring_event.Tick)) s s.rings
 
-      by : (b : Bool) → Full (elim b as (λ _. Core) [ true ↦ report_sent t (rings_union t.rings) | false ↦ s ])
+      by : (b : Bool) → Full (elim b as (λ _. Core) [ true ↦ send_report t (rings_union t.rings) | false ↦ s ])
       by true =
-          at_report_sent t (rings_union t.rings) (at_fold h said origin P L M Every NoGroup Every (λ u (r : Ring). ring_taken u (ring_stepped r ring_event.Tick)) s.rings (λ u r i k. at_ring_taken u (ring_stepped r ring_event.Tick) k) s a)
+          at_report_sent t (rings_union t.rings) (at_fold h said origin P L M Every NoGroup Every (λ u (r : Ring). ring_taken u (ring_step r ring_event.Tick)) s.rings (λ u r i k. at_ring_taken u (ring_step r ring_event.Tick) k) s a)
       by false = a
 
   -- ---- views
 
-  pub at_views_part : (f : Answering) (s : Core) → Full s → Full (views_part f s)
-  unfolding views_part
+  pub at_views_part : (f : Answering) (s : Core) → Full s → Full (tick_views f s)
+  unfolding tick_views
   at_views_part f s a =
       let t : Core = views_taken f s (gathering_ticks (views_at_work s.views) (ring_ask s) (own_parts s)) in
       let j = stay_ticks (views_at_work s.views) (ring_ask s) (own_parts s) in
@@ -166,12 +166,12 @@ module _ (h : History) (said : ProviderId → Type 0) (origin : Origin) (P L M :
       over (inr (inl k)) = inl k
       over (inr (inr k)) = inr (stood s row p is node there k a)
 
-  at_losts : (row : GroupRow) (ps : List ProviderId) (s : Core) → Known s → found s row.name ≡ row → ((p : ProviderId) → Has p ps → (p.node ≡ s.views.me) × (p.inc ≡ s.views.inc) × (is_none (provider_of s.sessions p) ≡ true) × Has p (present (state_in row.list))) → Full s → Full (fold (λ t p. sent_if_known t (leader_of t row.name) (body.Gone t.views.view row.name p)) s ps)
-  unfolding sent_if_known sent sent_on
+  at_losts : (row : GroupRow) (ps : List ProviderId) (s : Core) → Known s → found s row.name ≡ row → ((p : ProviderId) → Has p ps → (p.node ≡ s.views.me) × (p.inc ≡ s.views.inc) × (is_none (provider_of s.sessions p) ≡ true) × Has p (present (state_in row.list))) → Full s → Full (fold (λ t p. send_if_known t (leader_of t row.name) (body.Gone t.views.view row.name p)) s ps)
+  unfolding send_if_known sent send_on
   at_losts row [] s known is all a = a
   at_losts row (p ∷ ps) s known is all a = by (leader_of s row.name) (at_losts row ps)
     where
-      by : (o : Option ℕ) → ((s : Core) → Known s → found s row.name ≡ row → ((p : ProviderId) → Has p ps → (p.node ≡ s.views.me) × (p.inc ≡ s.views.inc) × (is_none (provider_of s.sessions p) ≡ true) × Has p (present (state_in row.list))) → Full s → Full (fold (λ t p. sent_if_known t (leader_of t row.name) (body.Gone t.views.view row.name p)) s ps)) → Full (fold (λ t p. sent_if_known t (leader_of t row.name) (body.Gone t.views.view row.name p)) (sent_if_known s o (body.Gone s.views.view row.name p)) ps)
+      by : (o : Option ℕ) → ((s : Core) → Known s → found s row.name ≡ row → ((p : ProviderId) → Has p ps → (p.node ≡ s.views.me) × (p.inc ≡ s.views.inc) × (is_none (provider_of s.sessions p) ≡ true) × Has p (present (state_in row.list))) → Full s → Full (fold (λ t p. send_if_known t (leader_of t row.name) (body.Gone t.views.view row.name p)) s ps)) → Full (fold (λ t p. send_if_known t (leader_of t row.name) (body.Gone t.views.view row.name p)) (send_if_known s o (body.Gone s.views.view row.name p)) ps)
       by None rest = rest s known is (λ q i. all q (inr i)) a
       by (Some n) rest =
           let k = all p (inl refl) in
@@ -188,21 +188,21 @@ module _ (h : History) (said : ProviderId → Type 0) (origin : Origin) (P L M :
           (eqb-true p.node s.views.me (and_parts (p.node == s.views.me) (p.inc == s.views.inc) j.0).0, eqb-true p.inc s.views.inc (and_parts (p.node == s.views.me) (p.inc == s.views.inc) j.0).1, j.1, k.0)
 
   -- what is sent changes no row
-  losts_rows : (row : GroupRow) (ps : List ProviderId) (s : Core) → (fold (λ t p. sent_if_known t (leader_of t row.name) (body.Gone t.views.view row.name p)) s ps).groups ≡ s.groups
-  unfolding sent_if_known sent sent_on
+  losts_rows : (row : GroupRow) (ps : List ProviderId) (s : Core) → (fold (λ t p. send_if_known t (leader_of t row.name) (body.Gone t.views.view row.name p)) s ps).groups ≡ s.groups
+  unfolding send_if_known sent send_on
   losts_rows row [] s = refl
-  losts_rows row (p ∷ ps) s = losts_rows row ps (sent_if_known s (leader_of s row.name) (body.Gone s.views.view row.name p)) ∙ by (leader_of s row.name)
+  losts_rows row (p ∷ ps) s = losts_rows row ps (send_if_known s (leader_of s row.name) (body.Gone s.views.view row.name p)) ∙ by (leader_of s row.name)
     where
-      by : (o : Option ℕ) → (sent_if_known s o (body.Gone s.views.view row.name p)).groups ≡ s.groups
+      by : (o : Option ℕ) → (send_if_known s o (body.Gone s.views.view row.name p)).groups ≡ s.groups
       by None = refl
       by (Some n) = refl
 
-  losts_records : (row : GroupRow) (ps : List ProviderId) (s : Core) → (fold (λ t p. sent_if_known t (leader_of t row.name) (body.Gone t.views.view row.name p)) s ps).records ≡ s.records
-  unfolding sent_if_known sent sent_on
+  losts_records : (row : GroupRow) (ps : List ProviderId) (s : Core) → (fold (λ t p. send_if_known t (leader_of t row.name) (body.Gone t.views.view row.name p)) s ps).records ≡ s.records
+  unfolding send_if_known sent send_on
   losts_records row [] s = refl
-  losts_records row (p ∷ ps) s = losts_records row ps (sent_if_known s (leader_of s row.name) (body.Gone s.views.view row.name p)) ∙ by (leader_of s row.name)
+  losts_records row (p ∷ ps) s = losts_records row ps (send_if_known s (leader_of s row.name) (body.Gone s.views.view row.name p)) ∙ by (leader_of s row.name)
     where
-      by : (o : Option ℕ) → (sent_if_known s o (body.Gone s.views.view row.name p)).records ≡ s.records
+      by : (o : Option ℕ) → (send_if_known s o (body.Gone s.views.view row.name p)).records ≡ s.records
       by None = refl
       by (Some n) = refl
 
@@ -219,17 +219,17 @@ module _ (h : History) (said : ProviderId → Type 0) (origin : Origin) (P L M :
   at_all_lost (row ∷ rows) s known all a =
       at_all_lost rows (lost_told s row) (subst (λ (z : List GroupRow × List Happened). KnownIn z.0 z.1) (λ i. (sym (lost_rows s row) i, sym (lost_records s row) i)) known) (λ x i. subst (Has x) (sym (lost_rows s row)) (all x (inr i))) (at_lost s row known (ap (row_found row.name) (found_self s.groups row a.order (all row (inl refl)))) a)
 
-  pub at_owed_part : (s : Core) → Known (requests_sent s) → Full s → Full (owed_part s)
-  unfolding owed_part held_rows
+  pub at_owed_part : (s : Core) → Known (send_requests s) → Full s → Full (tick_owed s)
+  unfolding tick_owed held_rows
   at_owed_part s known a = by (frozen s)
     where
       t : Core
-      t = requests_sent s
+      t = send_requests s
 
       rows : List GroupRow
       rows = filter (λ (row : GroupRow). is_some row.list) t.groups
 
-      by : (b : Bool) → Full (elim b as (λ _. Core) [ true ↦ s | false ↦ votes_sent_again (fold lost_told t rows) ])
+      by : (b : Bool) → Full (elim b as (λ _. Core) [ true ↦ s | false ↦ send_votes_again (fold lost_told t rows) ])
       by true = a
       by false =
           at_votes_again h said origin P L M Every NoGroup Every (fold lost_told t rows) (at_all_lost rows t known (λ row i. (has_filter (λ (row : GroupRow). is_some row.list) row t.groups i).0) (at_requests_sent h said origin P L M Every NoGroup Every s a))
@@ -276,16 +276,16 @@ module _ (h : History) (said : ProviderId → Type 0) (origin : Origin) (P L M :
         by None = a
         by (Some l) = at_entries_sent n g (acked_by s (found s g) n) (least_acked s g) (take 16 (drop (acked_by s (found s g) n - l.start) l.entries)) s a
 
-    at_group_ticks : (s : Core) (g : List ℕ) → G g → Mine s → Mine (group_ticks f s g)
-    unfolding group_ticks
+    at_group_ticks : (s : Core) (g : List ℕ) → G g → Mine s → Mine (tick_group f s g)
+    unfolding tick_group
     at_group_ticks s g led a =
         let t : Core = tally_ticks f s g (led_of s g).tally in
         at_fold h said origin P L M Every G Every (sent_again g) (others t) (λ u n i k. at_again g u n k) t (at_tally_ticks s g (led_of s g).tally led a)
 
-  pub at_led_part : (f : Answering) (s : Core) → Full s → Full (led_part f s)
-  unfolding led_part
+  pub at_led_part : (f : Answering) (s : Core) → Full s → Full (tick_led f s)
+  unfolding tick_led
   at_led_part f s a = by (frozen s)
     where
-      by : (b : Bool) → Full (elim b as (λ _. Core) [ true ↦ s | false ↦ fold (group_ticks f) s (led_groups s) ])
+      by : (b : Bool) → Full (elim b as (λ _. Core) [ true ↦ s | false ↦ fold (tick_group f) s (led_groups s) ])
       by true = a
-      by false = at_led_groups h said origin P L M live (group_ticks f) (at_group_ticks f) s a
+      by false = at_led_groups h said origin P L M live (tick_group f) (at_group_ticks f) s a

@@ -1,13 +1,13 @@
 -- Who waits as a failure.
 use Rattle.std.proofs.Common.{◌≡◌, ◌⊎◌, ℕ, zero, suc, ◌≤◌, List, [], ◌∷◌, ◌++◌, length, take, drop, Bool, true, false, refl, sym, subst, inl, inr, arith}
 use Rattle.std.specs.Prelude.{if◌then◌else◌}
-use Rattle.rsct_packet.specs.declared.ids.ProviderId.{ProviderId}
-use Rattle.rsct_packet.specs.Search.{Has}
-use Rattle.rsct_packet.proofs.HasLaws.{has_append}
-use Rattle.proposal_core.specs.declared.proposal.Cause.{Cause}
-use Rattle.proposal_core.specs.declared.proposal.Failure.{Failure}
-use Rattle.proposal_core.specs.declared.group_state.GroupState.{GroupState}
-use Rattle.batch_rules.specs.Waiting.{WaitingView, takes_failure, waits_failure, chosen_of, left_of}
+use Rattle.step_refinement.specs.rsct_packet.declared.ids.ProviderId.{ProviderId}
+use Rattle.step_refinement.specs.rsct_packet.Search.{Has}
+use Rattle.step_refinement.proofs.rsct_packet_laws.HasLaws.{has_append}
+use Rattle.step_refinement.specs.proposal_core.declared.proposal.Cause.{Cause}
+use Rattle.step_refinement.specs.proposal_core.declared.proposal.Failure.{Failure}
+use Rattle.step_refinement.specs.proposal_core.declared.group_state.GroupState.{GroupState}
+use Rattle.step_refinement.specs.batch_rules.Waiting.{WaitingView, takes_failure, add_failure, chosen_of, left_of}
 use Rattle.row_laws.proofs.failed_rows.Facts.{Waits, AllWait}
 
 pub has_dropped : {A : Type 0} (n : ℕ) (xs : List A) (x : A) → Has x (drop n xs) → Has x xs
@@ -42,7 +42,7 @@ none_left (x ∷ xs) k = absurd (omega (arith, k))
 
 module _ (gone : ProviderId → Type 0) (st : GroupState) where
   -- one more waits
-  pub one_waits : (p : ProviderId) (c : Cause) (w : WaitingView) → Waits gone st p c → AllWait gone st w.failures → AllWait gone st (waits_failure p c w).failures
+  pub one_waits : (p : ProviderId) (c : Cause) (w : WaitingView) → Waits gone st p c → AllWait gone st w.failures → AllWait gone st (add_failure p c w).failures
   one_waits p c w new old = by (takes_failure p w)
     where
       by : (b : Bool) → AllWait gone st (if b then record w { failures = w.failures ++ record { p = p; cause = c } ∷ [] } else w).failures

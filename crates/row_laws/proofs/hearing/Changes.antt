@@ -2,32 +2,32 @@
 use Rattle.std.proofs.Common.{◌≡◌, ◌⊎◌, ℕ, List, [], ◌∷◌, length, Option, Some, None, Bool, true, false, refl, sym, ap, ◌∙◌, subst, inl, inr, ⊎_elim, append_assoc}
 use Rattle.std.specs.Prelude.{map, filter, fold, flat_map}
 use Rattle.std.proofs.lemmas.List.{append-nil}
-use Rattle.rsct_packet.specs.declared.ids.ProviderId.{ProviderId}
-use Rattle.rsct_packet.specs.declared.ids.ProtoId.{ProtoId}
-use Rattle.rsct_packet.specs.Search.{Has}
-use Rattle.rsct_packet.proofs.HasLaws.{has_map, has_append}
-use Rattle.proposal_core.specs.declared.entry.Entry.{Entry}
-use Rattle.proposal_core.specs.declared.group_state.GroupState.{GroupState}
-use Rattle.proposal_core.specs.Lists.{len_in, state_in, list_or_new, with_entry}
-use Rattle.subscribe_core.specs.Subs.{is_of_group, differs}
-use Rattle.client_callbacks.specs.declared.ballot.Filled.{Filled}
-use Rattle.client_callbacks.specs.Ballots.{BallotView}
-use Rattle.session_state.specs.declared.casts.Cast.{Cast}
-use Rattle.session_state.specs.declared.state.SessionState.{SessionState}
-use Rattle.session_state.specs.HandOn.{hearers, casts_out}
-use Rattle.session_state.specs.HandOn as session
-use Rattle.node_state.specs.declared.group.GroupRow.{GroupRow}
-use Rattle.node_state.specs.declared.group.Led.{Led}
-use Rattle.node_state.specs.declared.happened.Happened.{Happened}
-use Rattle.node_state.specs.declared.happened.Happened.TheVariants as happened
-use Rattle.node_state.specs.declared.packet.Body.{Body}
-use Rattle.node_state.specs.declared.state.Core.{Core}
-use Rattle.node_state.specs.State.{InNameOrder, row_of, with_row, with_led, list_of, state_of, len_of, frozen, recorded, recorded_all, with_sessions}
-use Rattle.node_state.specs.Sending.{sent_on, sent, sent_all, sent_if_known}
-use Rattle.node_state.specs.HandOn.{Answering, fills, cast_record, cast_records, heard, note_of, notes, noted, ballot_sent, cast_sent_of, casts_sent, handed_on}
-use Rattle.node_state.specs.Leading.{put, put_and_handed}
+use Rattle.step_refinement.specs.rsct_packet.declared.ids.ProviderId.{ProviderId}
+use Rattle.step_refinement.specs.rsct_packet.declared.ids.ProtoId.{ProtoId}
+use Rattle.step_refinement.specs.rsct_packet.Search.{Has}
+use Rattle.step_refinement.proofs.rsct_packet_laws.HasLaws.{has_map, has_append}
+use Rattle.step_refinement.specs.proposal_core.declared.entry.Entry.{Entry}
+use Rattle.step_refinement.specs.proposal_core.declared.group_state.GroupState.{GroupState}
+use Rattle.step_refinement.specs.proposal_core.Lists.{len_in, state_in, list_or_new, with_entry}
+use Rattle.step_refinement.specs.subscribe_core.Subs.{is_of_group, differs}
+use Rattle.step_refinement.specs.client_callbacks.declared.ballot.Filled.{Filled}
+use Rattle.step_refinement.specs.client_callbacks.Ballots.{BallotView}
+use Rattle.step_refinement.specs.session_state.declared.casts.Cast.{Cast}
+use Rattle.step_refinement.specs.session_state.declared.state.SessionState.{SessionState}
+use Rattle.step_refinement.specs.session_state.HandOn.{hearers, casts_out}
+use Rattle.step_refinement.specs.session_state.HandOn as session
+use Rattle.step_refinement.specs.node_state.declared.group.GroupRow.{GroupRow}
+use Rattle.step_refinement.specs.node_state.declared.group.Led.{Led}
+use Rattle.step_refinement.specs.node_state.declared.happened.Happened.{Happened}
+use Rattle.step_refinement.specs.node_state.declared.happened.Happened.TheVariants as happened
+use Rattle.step_refinement.specs.node_state.declared.packet.Body.{Body}
+use Rattle.step_refinement.specs.node_state.declared.state.Core.{Core}
+use Rattle.step_refinement.specs.node_state.State.{InNameOrder, row_of, with_row, with_led, list_of, state_of, len_of, frozen, recorded, recorded_all, with_sessions}
+use Rattle.step_refinement.specs.node_state.Sending.{send_on, sent, send_all, send_if_known}
+use Rattle.step_refinement.specs.node_state.HandOn.{Answering, fills, cast_record, cast_records, heard, note_of, notes, noted, ballot_sent, cast_sent_of, casts_sent, hand_on}
+use Rattle.step_refinement.specs.node_state.Leading.{put, put_and_hand}
 use Rattle.row_laws.specs.hearing.Changes.{Same, Aside, Inner, Unentered, handing, Does, Stays, Then, Records, Hands}
-use Rattle.node_state.proofs.NameOrder.{KeepsName, cases_text, row_here, row_there, rows_ordered}
+use Rattle.step_refinement.proofs.node_state_laws.NameOrder.{KeepsName, cases_text, row_here, row_there, rows_ordered}
 
 pub inner_aside : (r : Happened) → Inner r → Aside r
 inner_aside (happened.Up n j) a = absurd a
@@ -158,20 +158,20 @@ same_sends c d k =
 pub onward_sends : (c d : Core) → Sends c d → Onward c d
 onward_sends c d k o = record { order = subst InNameOrder (sym k.groups) o; views = k.views; does = Stays c d (same_sends c d k); calm = calm_same c d k.records }
 
-pub sends_on : (c : Core) (network to : ℕ) (b : Body) → Sends c (sent_on c network to b)
-unfolding sent_on
+pub sends_on : (c : Core) (network to : ℕ) (b : Body) → Sends c (send_on c network to b)
+unfolding send_on
 sends_on c network to b = record { groups = refl; views = refl; sessions = refl; records = refl }
 
 pub sends_one : (c : Core) (to : ℕ) (b : Body) → Sends c (sent c to b)
 unfolding sent
 sends_one c to b = sends_on c _ to b
 
-pub sends_all : (c : Core) (ns : List ℕ) (b : Body) → Sends c (sent_all c ns b)
-unfolding sent_all
+pub sends_all : (c : Core) (ns : List ℕ) (b : Body) → Sends c (send_all c ns b)
+unfolding send_all
 sends_all c ns b = sends_fold (λ t n. sent t n b) (λ t n. sends_one t n b) ns c
 
-pub sends_known : (c : Core) (to : Option ℕ) (b : Body) → Sends c (sent_if_known c to b)
-unfolding sent_if_known
+pub sends_known : (c : Core) (to : Option ℕ) (b : Body) → Sends c (send_if_known c to b)
+unfolding send_if_known
 sends_known c None b = sends_nothing c
 sends_known c (Some n) b = sends_one c n b
 
@@ -225,8 +225,8 @@ onward_records rs c aside o = record { order = o; views = refl; does = records_a
 -- ---- handing on
 
 -- put, and handed on from a state of the same
-pub handed_onward : (f : Answering) (s c : Core) (to : Option ℕ) (h : List ℕ) (e : Entry) → InNameOrder s.groups → InNameOrder c.groups → c.views ≡ s.views → Same (put s h e) c → Keeps s (handed_on f c to h (len_of s h) (state_of s h) (state_of (put s h e) h) e)
-unfolding handed_on noted notes note_of recorded_all with_sessions casts_out
+pub handed_onward : (f : Answering) (s c : Core) (to : Option ℕ) (h : List ℕ) (e : Entry) → InNameOrder s.groups → InNameOrder c.groups → c.views ≡ s.views → Same (put s h e) c → Keeps s (hand_on f c to h (len_of s h) (state_of s h) (state_of (put s h e) h) e)
+unfolding hand_on noted notes note_of recorded_all with_sessions casts_out
 handed_onward f s c to h e os oc views same =
     let a : Keeps d0 d1 = told (differs before after) in
     let b : Keeps d1 (casts_sent d1 h to cs) = onward_sends d1 (casts_sent d1 h to cs) (sends_casts d1 h to cs) a.order in
@@ -274,6 +274,6 @@ pub put_views : (s : Core) (h : List ℕ) (e : Entry) → (put s h e).views ≡ 
 unfolding put recorded with_row
 put_views s h e = refl
 
-pub put_handed_onward : (f : Answering) (s : Core) (to : Option ℕ) (h : List ℕ) (e : Entry) → Onward s (put_and_handed f s to h e)
-unfolding put_and_handed
+pub put_handed_onward : (f : Answering) (s : Core) (to : Option ℕ) (h : List ℕ) (e : Entry) → Onward s (put_and_hand f s to h e)
+unfolding put_and_hand
 put_handed_onward f s to h e o = handed_onward f s (put s h e) to h e o (put_order s h e o) (put_views s h e) (same_self (put s h e))

@@ -4,23 +4,23 @@ use Rattle.std.proofs.Common.{◌≡◌, ℕ, List, [], ◌∷◌, ◌++◌, Opt
 use Rattle.std.specs.Prelude.{not, ◌&&◌, ◌||◌, filter, find, fold, if◌then◌else◌}
 use Rattle.std.specs.Str.{bytes_eq}
 use Rattle.std.proofs.lemmas.Bool.{and_parts}
-use Rattle.rsct_packet.specs.declared.ids.ProviderId.{ProviderId}
-use Rattle.rsct_packet.specs.Providers.{same_provider, among}
-use Rattle.rsct_packet.specs.Search.{Has, edit_where}
-use Rattle.rsct_packet.proofs.HasLaws.{has_filter, filter_has, has_append, append_has_left, append_has_right}
-use Rattle.proposal_core.specs.declared.proposal.Proposal.{Proposal}
-use Rattle.proposal_core.specs.declared.proposal.Proposal.TheVariants.{Join, Leave, Fail, Expel, State, Message, Attributes, Reflect}
-use Rattle.proposal_core.specs.declared.entry.Entry.{Entry}
-use Rattle.proposal_core.specs.declared.entry.Entry.TheVariants.{Once, Begin, Phase, Approve, Reject, Late}
-use Rattle.proposal_core.specs.declared.group_state.GroupState.{GroupState}
-use Rattle.proposal_core.specs.Fold.{present, joiners_in}
-use Rattle.client_callbacks.specs.declared.ballot.Filled.{Filled}
-use Rattle.session_state.specs.declared.state.Provider.{Provider}
-use Rattle.session_state.specs.declared.state.SessionState.{SessionState}
-use Rattle.session_state.specs.State.{is_provider, provider_of, with_provider, request_ended, without_providers}
-use Rattle.session_state.specs.HandOn.{kept_ended, kept_after, hears, hearers_in, brought_by, beginners, hearers, taking_part, part_taken, opened_after, phases_opened, casts_kept, proposal_begun, requests_after, is_present, removed_from, casts_out, heard, handed_on}
-use Rattle.node_state.proofs.NameOrder.{text_same, text_self}
-use Rattle.step_ties.proofs.SessionLaws.{provider_same, provider_self}
+use Rattle.step_refinement.specs.rsct_packet.declared.ids.ProviderId.{ProviderId}
+use Rattle.step_refinement.specs.rsct_packet.Providers.{same_provider, among}
+use Rattle.step_refinement.specs.rsct_packet.Search.{Has, edit_where}
+use Rattle.step_refinement.proofs.rsct_packet_laws.HasLaws.{has_filter, filter_has, has_append, append_has_left, append_has_right}
+use Rattle.step_refinement.specs.proposal_core.declared.proposal.Proposal.{Proposal}
+use Rattle.step_refinement.specs.proposal_core.declared.proposal.Proposal.TheVariants.{Join, Leave, Fail, Expel, State, Message, Attributes, Reflect}
+use Rattle.step_refinement.specs.proposal_core.declared.entry.Entry.{Entry}
+use Rattle.step_refinement.specs.proposal_core.declared.entry.Entry.TheVariants.{Once, Begin, Phase, Approve, Reject, Late}
+use Rattle.step_refinement.specs.proposal_core.declared.group_state.GroupState.{GroupState}
+use Rattle.step_refinement.specs.proposal_core.Fold.{present, joiners_in}
+use Rattle.step_refinement.specs.client_callbacks.declared.ballot.Filled.{Filled}
+use Rattle.step_refinement.specs.session_state.declared.state.Provider.{Provider}
+use Rattle.step_refinement.specs.session_state.declared.state.SessionState.{SessionState}
+use Rattle.step_refinement.specs.session_state.State.{is_provider, provider_of, with_provider, end_request, without_providers}
+use Rattle.step_refinement.specs.session_state.HandOn.{kept_ended, kept_after, hears, hearers_in, brought_by, beginners, hearers, taking_part, part_taken, opened_after, open_phases, keep_casts, proposal_begun, requests_after, is_present, removed_from, casts_out, heard, handed_on}
+use Rattle.step_refinement.proofs.node_state_laws.NameOrder.{text_same, text_self}
+use Rattle.step_refinement.proofs.SessionLaws.{provider_same, provider_self}
 
 -- ---- who is among some
 
@@ -136,8 +136,8 @@ opened_p (Approve c) after y = (refl, refl, refl)
 opened_p (Reject c) after y = (refl, refl, refl)
 opened_p (Late proto phase ps) after y = (refl, refl, refl)
 
-kept_opened : (bs : List ProviderId) (t : SessionState) (e : Entry) (after : GroupState) (ps : List ProviderId) → Kept bs t (phases_opened t e after ps)
-unfolding phases_opened
+kept_opened : (bs : List ProviderId) (t : SessionState) (e : Entry) (after : GroupState) (ps : List ProviderId) → Kept bs t (open_phases t e after ps)
+unfolding open_phases
 kept_opened bs t e after ps =
     kept_fold bs (λ t p. with_provider t p (opened_after e after)) (λ p. Unit {0}) (λ t p h. kept_edit bs t p (opened_after e after) (λ x. (opened_p e after x).0) (λ x. (opened_p e after x).1) (λ x i. (opened_p e after x).2 ∙ i) (λ x i. inl (sym (opened_p e after x).2 ∙ i))) ps (λ x h. tt) t
 
@@ -150,13 +150,13 @@ kept_ballots bs t g (Approve c) = kept_same bs t _ refl
 kept_ballots bs t g (Reject c) = kept_same bs t _ refl
 kept_ballots bs t g (Late proto phase ps) = kept_same bs t t refl
 
-kept_request : (bs : List ProviderId) (t : SessionState) (p : ProviderId) (r : ℕ) → Kept bs t (request_ended t p r)
-unfolding request_ended
+kept_request : (bs : List ProviderId) (t : SessionState) (p : ProviderId) (r : ℕ) → Kept bs t (end_request t p r)
+unfolding end_request
 kept_request bs t p r = kept_same bs t _ refl
 
 kept_begun : (bs : List ProviderId) (t : SessionState) (x : Proposal) → Kept bs t (proposal_begun t x)
 unfolding proposal_begun
-kept_begun bs t (Join ps attrs n) = kept_fold bs (λ t (p : ProviderId). request_ended t p p.join) (λ p. Unit {0}) (λ t p h. kept_request bs t p p.join) ps (λ x h. tt) t
+kept_begun bs t (Join ps attrs n) = kept_fold bs (λ t (p : ProviderId). end_request t p p.join) (λ p. Unit {0}) (λ t p h. kept_request bs t p p.join) ps (λ x h. tt) t
 kept_begun bs t (Leave p r) = kept_request bs t p r
 kept_begun bs t (Fail out) = kept_same bs t t refl
 kept_begun bs t (Expel p r out) = kept_request bs t p r
@@ -209,7 +209,7 @@ module _ (s : SessionState) (g : List ℕ) (before after : GroupState) (e : Entr
   t = part_taken (kept_after s g e) new
 
   abbrev u : SessionState
-  u = casts_kept (phases_opened t e after ps) g (casts_out s g before after e bs)
+  u = keep_casts (open_phases t e after ps) g (casts_out s g before after e bs)
 
   abbrev w : SessionState
   w = requests_after u e
@@ -217,12 +217,12 @@ module _ (s : SessionState) (g : List ℕ) (before after : GroupState) (e : Entr
   parts : Kept new s t
   parts = kept_then new s (kept_after s g e) t (kept_ballots new s g e) (kept_parts new new (λ p h. h) (kept_after s g e))
 
-  casts : Kept new (phases_opened t e after ps) u
-  unfolding casts_kept phases_opened
-  casts = kept_same new (phases_opened t e after ps) u refl
+  casts : Kept new (open_phases t e after ps) u
+  unfolding keep_casts open_phases
+  casts = kept_same new (open_phases t e after ps) u refl
 
   rest : Kept new t w
-  rest = kept_then new t (phases_opened t e after ps) w (kept_opened new t e after ps) (kept_then new (phases_opened t e after ps) u w casts (kept_requests new u e))
+  rest = kept_then new t (open_phases t e after ps) w (kept_opened new t e after ps) (kept_then new (open_phases t e after ps) u w casts (kept_requests new u e))
 
   pub handed_kept : Kept (beginners s g e) s (handed_on s g before after e bs)
   unfolding handed_on heard

@@ -1,59 +1,59 @@
 -- What the leader of a group does, change by change: it appends, closes phases, begins protocols, and ends a step.
 use Rattle.std.proofs.Common.{◌≡◌, ℕ, zero, suc, List, [], ◌∷◌, length, Option, Some, None, Bool, true, false, refl, sym, ◌∙◌, subst}
 use Rattle.std.specs.Prelude.{◌-◌, drop, max, nat_le, if◌then◌else◌, not, filter, fold}
-use Rattle.rsct_packet.specs.declared.ids.ProviderId.{ProviderId}
-use Rattle.rsct_packet.specs.Lists.{is_empty}
-use Rattle.rsct_packet.specs.Providers.{among}
-use Rattle.group_attr.specs.declared.attrs.Phases.{Phases}
-use Rattle.group_attr.specs.declared.attrs.Phases.TheVariants.{One, Many}
-use Rattle.group_attr.specs.declared.attrs.Attrs.{Attrs}
-use Rattle.proposal_core.specs.declared.proposal.Cause.{Cause}
-use Rattle.proposal_core.specs.declared.proposal.Cause.TheVariants.{Died, Gone}
-use Rattle.proposal_core.specs.declared.proposal.Failure.{Failure}
-use Rattle.proposal_core.specs.declared.proposal.Proposal.{Proposal}
-use Rattle.proposal_core.specs.declared.proposal.Proposal.TheVariants.{Join, Fail, Reflect}
-use Rattle.proposal_core.specs.declared.entry.Entry.{Entry}
-use Rattle.proposal_core.specs.declared.entry.Entry.TheVariants.{Once, Begin}
-use Rattle.proposal_core.specs.declared.group_state.GroupState.{GroupState}
-use Rattle.proposal_core.specs.GroupView.{GroupView}
-use Rattle.proposal_core.specs.Lists.{list_or_new, len_in, state_in, forgotten}
-use Rattle.batch_rules.specs.Waiting.{waits_failure, batches_failures, chosen_of, next_failures, failures_left, next_joins, joins_left}
-use Rattle.source_target.specs.declared.Due.{Due}
-use Rattle.source_target.specs.declared.Due.TheVariants as due
-use Rattle.source_target.specs.Due as target
-use Rattle.client_callbacks.specs.declared.told.Why.{Why}
-use Rattle.client_callbacks.specs.declared.told.Why.TheVariants.{NoSource}
-use Rattle.vote_phases.specs.Tally.{TallyView}
-use Rattle.node_state.specs.declared.group.GroupRow.{GroupRow}
-use Rattle.node_state.specs.declared.packet.Body.TheVariants as body
-use Rattle.node_state.specs.declared.state.Core.{Core}
-use Rattle.node_state.specs.State.{InNameOrder, row_of, with_led, led_of, state_of, len_of, list_forgotten, forgets_below, frozen, led_groups, leader_of, others, least_acked, fits_at_end, decisions_with}
-use Rattle.node_state.specs.Sending.{sent_all}
-use Rattle.node_state.specs.HandOn.{Answering, handed_on}
-use Rattle.node_state.specs.Leading.{put, forgets_least, with_waiting, waits_if, new_members_wait, appended, appended_if, begun_many, begins, tally_set, tally_for, tally_opened, closing_entry, is_phase, closes_from, closes}
-use Rattle.proposal_core.specs.Fold.{max_phases}
-use Rattle.node_state.specs.Deciding.{decision_kept, refused, known_state, lacks_source, source_len}
-use Rattle.node_state.specs.Ending.{Pass, quiet, begun_now, failures_begin, due_begins, source_begins, attrs_for, carried_len, source_refused, joins_begin, or_due, or_joins, may_begin, first_begins, group_begins, one_pass, passes, most_begun, step_ended}
+use Rattle.step_refinement.specs.rsct_packet.declared.ids.ProviderId.{ProviderId}
+use Rattle.step_refinement.specs.rsct_packet.Lists.{is_empty}
+use Rattle.step_refinement.specs.rsct_packet.Providers.{among}
+use Rattle.step_refinement.specs.group_attr.declared.attrs.Phases.{Phases}
+use Rattle.step_refinement.specs.group_attr.declared.attrs.Phases.TheVariants.{One, Many}
+use Rattle.step_refinement.specs.group_attr.declared.attrs.Attrs.{Attrs}
+use Rattle.step_refinement.specs.proposal_core.declared.proposal.Cause.{Cause}
+use Rattle.step_refinement.specs.proposal_core.declared.proposal.Cause.TheVariants.{Died, Gone}
+use Rattle.step_refinement.specs.proposal_core.declared.proposal.Failure.{Failure}
+use Rattle.step_refinement.specs.proposal_core.declared.proposal.Proposal.{Proposal}
+use Rattle.step_refinement.specs.proposal_core.declared.proposal.Proposal.TheVariants.{Join, Fail, Reflect}
+use Rattle.step_refinement.specs.proposal_core.declared.entry.Entry.{Entry}
+use Rattle.step_refinement.specs.proposal_core.declared.entry.Entry.TheVariants.{Once, Begin}
+use Rattle.step_refinement.specs.proposal_core.declared.group_state.GroupState.{GroupState}
+use Rattle.step_refinement.specs.proposal_core.GroupView.{GroupView}
+use Rattle.step_refinement.specs.proposal_core.Lists.{list_or_new, len_in, state_in, forgotten}
+use Rattle.step_refinement.specs.batch_rules.Waiting.{add_failure, batches_failures, chosen_of, next_failures, failures_left, next_joins, joins_left}
+use Rattle.step_refinement.specs.source_target.declared.Due.{Due}
+use Rattle.step_refinement.specs.source_target.declared.Due.TheVariants as due
+use Rattle.step_refinement.specs.source_target.Due as target
+use Rattle.step_refinement.specs.client_callbacks.declared.told.Why.{Why}
+use Rattle.step_refinement.specs.client_callbacks.declared.told.Why.TheVariants.{NoSource}
+use Rattle.step_refinement.specs.vote_phases.Tally.{TallyView}
+use Rattle.step_refinement.specs.node_state.declared.group.GroupRow.{GroupRow}
+use Rattle.step_refinement.specs.node_state.declared.packet.Body.TheVariants as body
+use Rattle.step_refinement.specs.node_state.declared.state.Core.{Core}
+use Rattle.step_refinement.specs.node_state.State.{InNameOrder, row_of, with_led, led_of, state_of, len_of, list_forgotten, forget_below, frozen, led_groups, leader_of, others, least_acked, fits_at_end, decisions_with}
+use Rattle.step_refinement.specs.node_state.Sending.{send_all}
+use Rattle.step_refinement.specs.node_state.HandOn.{Answering, hand_on}
+use Rattle.step_refinement.specs.node_state.Leading.{put, forget_least, with_waiting, wait_if, new_members_wait, appended, append_if_fits, begin_many, begins, tally_set, tally_for, tally_opened, closing_entry, is_phase, closes_from, closes}
+use Rattle.step_refinement.specs.proposal_core.Fold.{max_phases}
+use Rattle.step_refinement.specs.node_state.Deciding.{keep_decision, refused, known_state, lacks_source, source_len}
+use Rattle.step_refinement.specs.node_state.Ending.{Pass, quiet, begun_now, failures_begin, due_begins, source_begins, attrs_for, carried_len, source_refused, joins_begin, or_due, or_joins, may_begin, first_begins, group_begins, one_pass, passes, most_begun, end_step}
 use Rattle.row_laws.proofs.hearing.Changes.{Sends, Onward, onward_same, onward_then, onward_sends, onward_row, onward_led, sends_one, sends_all, same_sends, put_order, put_views, handed_onward}
 
 -- ---- appending
 
-pub waits_onward : (c : Core) (h : List ℕ) (p : ProviderId) (why : Cause) → Onward c (with_waiting c h (waits_failure p why))
+pub waits_onward : (c : Core) (h : List ℕ) (p : ProviderId) (why : Cause) → Onward c (with_waiting c h (add_failure p why))
 unfolding with_waiting
 waits_onward c h p why =
-    onward_led c h (λ l. record l { waiting = waits_failure p why l.waiting })
+    onward_led c h (λ l. record l { waiting = add_failure p why l.waiting })
 
-waits_if_onward : (c : Core) (h : List ℕ) (p : ProviderId) (a b : Bool) → Onward c (waits_if c h p a b)
-unfolding waits_if
+waits_if_onward : (c : Core) (h : List ℕ) (p : ProviderId) (a b : Bool) → Onward c (wait_if c h p a b)
+unfolding wait_if
 waits_if_onward c h p true b = waits_onward c h p Died
 waits_if_onward c h p false true = waits_onward c h p Gone
 waits_if_onward c h p false false = onward_same c
 
-pub new_onward : (h : List ℕ) (after : GroupState) (gone ps : List ProviderId) (c : Core) → Onward c (fold (λ d p. waits_if d h p (among after.failed p) (among gone p)) c ps)
+pub new_onward : (h : List ℕ) (after : GroupState) (gone ps : List ProviderId) (c : Core) → Onward c (fold (λ d p. wait_if d h p (among after.failed p) (among gone p)) c ps)
 new_onward h after gone [] c = onward_same c
 new_onward h after gone (p ∷ ps) c =
-    let d : Core = waits_if c h p (among after.failed p) (among gone p) in
-    onward_then c d (fold (λ d p. waits_if d h p (among after.failed p) (among gone p)) d ps) (waits_if_onward c h p (among after.failed p) (among gone p)) (new_onward h after gone ps d)
+    let d : Core = wait_if c h p (among after.failed p) (among gone p) in
+    onward_then c d (fold (λ d p. wait_if d h p (among after.failed p) (among gone p)) d ps) (waits_if_onward c h p (among after.failed p) (among gone p)) (new_onward h after gone ps d)
 
 forgotten_len : (m : ℕ) (l : Option GroupView) → len_in (list_forgotten m l) ≡ len_in l
 unfolding forgotten
@@ -73,20 +73,20 @@ forgotten_state m (Some l) = by (nat_le m l.len)
     by true = refl
     by false = refl
 
-pub forgets_onward : (c : Core) (h : List ℕ) (m : ℕ) → Onward c (forgets_below c h m)
-unfolding forgets_below
+pub forgets_onward : (c : Core) (h : List ℕ) (m : ℕ) → Onward c (forget_below c h m)
+unfolding forget_below
 forgets_onward c h m = onward_row c h (λ row. record row { list = list_forgotten m row.list }) (λ x. refl) (λ row. forgotten_len m row.list) (λ row. forgotten_state m row.list)
 
 pub appended_onward : (f : Answering) (c : Core) (h : List ℕ) (e : Entry) → Onward c (appended f c h e)
-unfolding appended new_members_wait forgets_least
+unfolding appended new_members_wait forget_least
 appended_onward f c h e o =
     let t : Core = put c h e in
     let b = body.Entry t.views.view h (len_of c h) (least_acked t h) e in
-    let u : Core = sent_all t (others t) b in
-    let w : Core = handed_on f u (leader_of u h) h (len_of c h) (state_of c h) (state_of t h) e in
-    let x : Core = forgets_below w h (least_acked w h) in
+    let u : Core = send_all t (others t) b in
+    let w : Core = hand_on f u (leader_of u h) h (len_of c h) (state_of c h) (state_of t h) e in
+    let x : Core = forget_below w h (least_acked w h) in
     let out : List ProviderId = filter (λ p. not (among (state_of c h).members p)) (state_of t h).members in
-    let last : Core = fold (λ d p. waits_if d h p (among (state_of t h).failed p) (among (led_of x h).gone p)) x out in
+    let last : Core = fold (λ d p. wait_if d h p (among (state_of t h).failed p) (among (led_of x h).gone p)) x out in
     let sends : Sends t u = sends_all t (others t) b in
     let order : InNameOrder u.groups = subst InNameOrder (sym sends.groups) (put_order c h e o) in
     onward_then c w last (λ z. handed_onward f c u (leader_of u h) h e o order (sends.views ∙ put_views c h e) (same_sends t u sends)) (onward_then w x last (forgets_onward w h (least_acked w h)) (new_onward h (state_of t h) (led_of x h).gone out x)) o
@@ -118,15 +118,15 @@ closes_onward (suc k) f c h = by (closing_entry (led_of c h) (led_of c h).tally 
     by (Some e) rest = fits e rest (fits_at_end c h e)
 
 pub begins_onward : (f : Answering) (c : Core) (h : List ℕ) (x : Proposal) (phases : Phases) → Onward c (begins f c h x phases)
-unfolding begins appended_if begun_many closes
+unfolding begins append_if_fits begin_many closes
 begins_onward f c h x One = by (fits_at_end c h (Once x))
   where
-    by : (b : Bool) → Onward c (appended_if f c h (Once x) b)
+    by : (b : Bool) → Onward c (append_if_fits f c h (Once x) b)
     by false = onward_same c
     by true = appended_onward f c h (Once x)
 begins_onward f c h x Many = by (fits_at_end c h (Begin x))
   where
-    by : (b : Bool) → Onward c (begun_many f c h x b)
+    by : (b : Bool) → Onward c (begin_many f c h x b)
     by false = onward_same c
     by true =
         let d : Core = appended f c h (Begin x) in
@@ -164,9 +164,9 @@ source_onward f c h st (Some k) = by (target.due st (known_state c k))
     by (Some (due.Reflect v i)) = begins_onward f c h (Reflect v i (state_of c k).value) st.attrs.source_phases
 
 pub refused_onward : (c : Core) (h : List ℕ) (p : ProviderId) (r : ℕ) (why : Why) → Onward c (refused c h p r why)
-unfolding refused decision_kept
+unfolding refused keep_decision
 refused_onward c h p r why =
-    let d : Core = decision_kept c h p r (Some why) in
+    let d : Core = keep_decision c h p r (Some why) in
     onward_then c d (refused c h p r why) (onward_led c h (λ l. record l { decided = decisions_with (record { p = p; r = r; why = Some why }) l.decided })) (onward_sends d (refused c h p r why) (sends_one d _ _))
 
 all_refused_onward : (h : List ℕ) (src : Option (List ℕ)) (ps : List ProviderId) (c : Core) → Onward c (source_refused c h src ps)
@@ -267,8 +267,8 @@ passes_onward (suc k) most f c = by (one_pass most f c) (groups_onward most f (l
         at false = u
 
 -- the end of a step
-pub end_onward : (f : Answering) (c : Core) → Onward c (step_ended f c)
-unfolding step_ended
+pub end_onward : (f : Answering) (c : Core) → Onward c (end_step f c)
+unfolding end_step
 end_onward f c = by (frozen c)
   where
     by : (b : Bool) → Onward c (elim b as (λ _. Core) [ true ↦ c | false ↦ passes (most_begun c) (most_begun c) f c ])

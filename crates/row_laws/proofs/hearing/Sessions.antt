@@ -2,31 +2,31 @@
 use Rattle.std.proofs.Common.{◌≡◌, ◌≤◌, ℕ, List, [], ◌∷◌, Option, Some, None, Bool, true, false, refl, sym, ap, ◌∙◌, subst, inl, inr, arith}
 use Rattle.std.specs.List.{list_any}
 use Rattle.std.specs.Prelude.{not, ◌==◌, ◌&&◌, ◌||◌, filter, find, if◌then◌else◌, Result, Ok, Err}
-use Rattle.rsct_packet.specs.declared.ids.ProviderId.{ProviderId}
-use Rattle.rsct_packet.specs.Providers.{same_provider, among}
-use Rattle.rsct_packet.specs.Search.{Has}
-use Rattle.rsct_packet.proofs.HasLaws.{find_has, has_filter, filter_has}
-use Rattle.group_attr.specs.declared.attrs.Phases.{Phases}
-use Rattle.proposal_core.specs.declared.entry.Vote.{Vote}
-use Rattle.proposal_core.specs.declared.proposal.Proposal.{Proposal}
-use Rattle.client_callbacks.specs.declared.told.Why.{Why}
-use Rattle.client_callbacks.specs.declared.ballot.Filled.{Filled}
-use Rattle.client_callbacks.specs.Ballots.{is_within, value_limit}
-use Rattle.subscribe_core.specs.declared.subs.ClientToken.{ClientToken}
-use Rattle.session_state.specs.declared.fault.GsFault.{GsFault}
-use Rattle.session_state.specs.declared.fault.GsFault.TheVariants as fault
-use Rattle.session_state.specs.declared.fault.Field.TheVariants as field
-use Rattle.group_attr.specs.declared.attrs.Attrs.{Attrs}
-use Rattle.proposal_core.specs.declared.proposal.Proposal.TheVariants.{Attributes}
-use Rattle.session_state.specs.declared.state.KeptBallot.{KeptBallot}
-use Rattle.session_state.specs.declared.state.MemberToken.{MemberToken}
-use Rattle.session_state.specs.declared.state.OpenPhase.{OpenPhase}
-use Rattle.session_state.specs.declared.state.Provider.{Provider}
-use Rattle.session_state.specs.declared.state.SessionState.{SessionState}
-use Rattle.session_state.specs.State.{is_provider, is_client_of, is_member_of, is_kept_for, provider_of, outstanding, without_providers}
-use Rattle.session_state.specs.Calls.{is_empty, fault_if, unless_fault, if_session, ask_fault, asked, member_asks, member_changes, vote_in, member_votes, voted, keeps, is_owned, session_ended}
-use Rattle.session_state.specs.HandOn.{takes_telling, told_of, telling_taken, is_join_request, is_dissolved}
-use Rattle.step_ties.proofs.SessionLaws.{provider_same, provider_self}
+use Rattle.step_refinement.specs.rsct_packet.declared.ids.ProviderId.{ProviderId}
+use Rattle.step_refinement.specs.rsct_packet.Providers.{same_provider, among}
+use Rattle.step_refinement.specs.rsct_packet.Search.{Has}
+use Rattle.step_refinement.proofs.rsct_packet_laws.HasLaws.{find_has, has_filter, filter_has}
+use Rattle.step_refinement.specs.group_attr.declared.attrs.Phases.{Phases}
+use Rattle.step_refinement.specs.proposal_core.declared.entry.Vote.{Vote}
+use Rattle.step_refinement.specs.proposal_core.declared.proposal.Proposal.{Proposal}
+use Rattle.step_refinement.specs.client_callbacks.declared.told.Why.{Why}
+use Rattle.step_refinement.specs.client_callbacks.declared.ballot.Filled.{Filled}
+use Rattle.step_refinement.specs.client_callbacks.Ballots.{is_within, value_limit}
+use Rattle.step_refinement.specs.subscribe_core.declared.subs.ClientToken.{ClientToken}
+use Rattle.step_refinement.specs.session_state.declared.fault.GsFault.{GsFault}
+use Rattle.step_refinement.specs.session_state.declared.fault.GsFault.TheVariants as fault
+use Rattle.step_refinement.specs.session_state.declared.fault.Field.TheVariants as field
+use Rattle.step_refinement.specs.group_attr.declared.attrs.Attrs.{Attrs}
+use Rattle.step_refinement.specs.proposal_core.declared.proposal.Proposal.TheVariants.{Attributes}
+use Rattle.step_refinement.specs.session_state.declared.state.KeptBallot.{KeptBallot}
+use Rattle.step_refinement.specs.session_state.declared.state.MemberToken.{MemberToken}
+use Rattle.step_refinement.specs.session_state.declared.state.OpenPhase.{OpenPhase}
+use Rattle.step_refinement.specs.session_state.declared.state.Provider.{Provider}
+use Rattle.step_refinement.specs.session_state.declared.state.SessionState.{SessionState}
+use Rattle.step_refinement.specs.session_state.State.{is_provider, is_client_of, is_member_of, is_kept_for, provider_of, outstanding, without_providers}
+use Rattle.step_refinement.specs.session_state.Calls.{is_empty, fault_if, unless_fault, if_session, ask_fault, asked, member_asks, member_changes, vote_in, member_votes, voted, keeps, is_owned, end_session}
+use Rattle.step_refinement.specs.session_state.HandOn.{takes_telling, told_of, take_telling, is_join_request, is_dissolved}
+use Rattle.step_refinement.proofs.SessionLaws.{provider_same, provider_self}
 use Rattle.row_laws.specs.hearing.Changes.{Fewer}
 
 -- who is found is the provider
@@ -95,8 +95,8 @@ unfolding without_providers
 fewer_without s ps =
     fewer_kept s (without_providers s ps) (λ x. not (among ps x.p)) (λ k. not (among ps k.p)) refl refl (omega arith) (λ a b h k e. ap (λ z. not (among ps z)) e) refl refl (λ x k h e t. ap (λ z. not (among ps z)) (sym e) ∙ t)
 
-pub fewer_told : (s : SessionState) (p : ProviderId) (r : ℕ) (y : Why) → Fewer s (telling_taken s p r y)
-unfolding telling_taken told_of
+pub fewer_told : (s : SessionState) (p : ProviderId) (r : ℕ) (y : Why) → Fewer s (take_telling s p r y)
+unfolding take_telling told_of
 fewer_told s p r y = by (takes_telling s p r y) (is_join_request (outstanding s p) || is_dissolved y)
   where
     by : (a b : Bool) → Fewer s (if a then (if b then without_providers s (p ∷ []) else record s { requests = filter (λ q. not (among (p ∷ []) q.p)) s.requests }) else s)
@@ -105,10 +105,10 @@ fewer_told s p r y = by (takes_telling s p r y) (is_join_request (outstanding s 
     by true false = fewer_same s (record s { requests = filter (λ q. not (among (p ∷ []) q.p)) s.requests }) refl refl (omega arith) refl refl
 
 -- a client's providers go with it
-pub fewer_ended : (s : SessionState) (t : ClientToken) → ((a b : Provider) → Has a s.providers → Has b s.providers → a.p ≡ b.p → a.client ≡ b.client) → Fewer s (session_ended s t)
-unfolding session_ended
+pub fewer_ended : (s : SessionState) (t : ClientToken) → ((a b : Provider) → Has a s.providers → Has b s.providers → a.p ≡ b.p → a.client ≡ b.client) → Fewer s (end_session s t)
+unfolding end_session
 fewer_ended s t owner =
-    fewer_kept s (session_ended s t) (λ x. not (is_client_of t x)) (λ k. not (is_owned s.providers t k.p)) refl refl (omega arith) (λ a b h k e. ap (λ (c : ClientToken). not (c.n == t.n)) (owner a b h k e)) refl refl (λ x k h e stays. ap not (unowned x k.p h e stays s.providers (λ y i. i)))
+    fewer_kept s (end_session s t) (λ x. not (is_client_of t x)) (λ k. not (is_owned s.providers t k.p)) refl refl (omega arith) (λ a b h k e. ap (λ (c : ClientToken). not (c.n == t.n)) (owner a b h k e)) refl refl (λ x k h e stays. ap not (unowned x k.p h e stays s.providers (λ y i. i)))
   where
     -- whose provider stays has no other that goes
     unowned : (x : Provider) (p : ProviderId) → Has x s.providers → x.p ≡ p → not (is_client_of t x) ≡ true → (ys : List Provider) → ((y : Provider) → Has y ys → Has y s.providers) → is_owned ys t p ≡ false

@@ -2,56 +2,56 @@
 use Rattle.std.proofs.Common.{◌≡◌, ℕ, List, [], ◌∷◌, Option, Some, None, Bool, true, false, refl, sym, ap, ◌∙◌, subst, inl, inr, ⊎_elim}
 use Rattle.std.specs.Prelude.{not, ◌==◌, ◌&&◌, filter, fold, flat_map, is_some}
 use Rattle.std.specs.Str.{bytes_eq}
-use Rattle.rsct_packet.specs.declared.ids.ViewId.{ViewId}
-use Rattle.rsct_packet.specs.declared.ids.ProviderId.{ProviderId}
-use Rattle.rsct_packet.specs.declared.mask.Mask.{Mask}
-use Rattle.rsct_packet.specs.Providers.{among}
-use Rattle.rsct_packet.specs.Search.{Has}
-use Rattle.rsct_packet.proofs.HasLaws.{has_append}
-use Rattle.group_attr.specs.Attrs.{host_membership}
-use Rattle.proposal_core.specs.declared.proposal.Cause.TheVariants.{Died}
-use Rattle.proposal_core.specs.declared.entry.Entry.{Entry}
-use Rattle.proposal_core.specs.Fold.{present}
-use Rattle.proposal_core.specs.Lists.{state_in}
-use Rattle.batch_rules.specs.Waiting.{waits_failure}
-use Rattle.subscribe_core.specs.declared.subs.Subscription.{Subscription}
-use Rattle.client_callbacks.specs.declared.told.Told.TheVariants as told
-use Rattle.session_state.specs.declared.state.Provider.{Provider}
-use Rattle.session_state.specs.State.{provider_of, outstanding}
-use Rattle.view_state.specs.declared.answer.Answer.{Answer}
-use Rattle.view_state.specs.declared.install.Install.{Install}
-use Rattle.view_state.specs.declared.install.Base.{Base}
-use Rattle.view_state.specs.Bases.{bases_of, base_named}
-use Rattle.view_state.specs.declared.packet.ViewPacket.{ViewPacket}
-use Rattle.view_state.specs.declared.packet.ViewPacket.TheVariants as packet
-use Rattle.view_state.specs.declared.packet.ViewSend.{ViewSend}
+use Rattle.step_refinement.specs.rsct_packet.declared.ids.ViewId.{ViewId}
+use Rattle.step_refinement.specs.rsct_packet.declared.ids.ProviderId.{ProviderId}
+use Rattle.step_refinement.specs.rsct_packet.declared.mask.Mask.{Mask}
+use Rattle.step_refinement.specs.rsct_packet.Providers.{among}
+use Rattle.step_refinement.specs.rsct_packet.Search.{Has}
+use Rattle.step_refinement.proofs.rsct_packet_laws.HasLaws.{has_append}
+use Rattle.step_refinement.specs.group_attr.Attrs.{host_membership}
+use Rattle.step_refinement.specs.proposal_core.declared.proposal.Cause.TheVariants.{Died}
+use Rattle.step_refinement.specs.proposal_core.declared.entry.Entry.{Entry}
+use Rattle.step_refinement.specs.proposal_core.Fold.{present}
+use Rattle.step_refinement.specs.proposal_core.Lists.{state_in}
+use Rattle.step_refinement.specs.batch_rules.Waiting.{add_failure}
+use Rattle.step_refinement.specs.subscribe_core.declared.subs.Subscription.{Subscription}
+use Rattle.step_refinement.specs.client_callbacks.declared.told.Told.TheVariants as told
+use Rattle.step_refinement.specs.session_state.declared.state.Provider.{Provider}
+use Rattle.step_refinement.specs.session_state.State.{provider_of, outstanding}
+use Rattle.step_refinement.specs.view_state.declared.answer.Answer.{Answer}
+use Rattle.step_refinement.specs.view_state.declared.install.Install.{Install}
+use Rattle.step_refinement.specs.view_state.declared.install.Base.{Base}
+use Rattle.step_refinement.specs.view_state.Bases.{bases_of, base_named}
+use Rattle.step_refinement.specs.view_state.declared.packet.ViewPacket.{ViewPacket}
+use Rattle.step_refinement.specs.view_state.declared.packet.ViewPacket.TheVariants as packet
+use Rattle.step_refinement.specs.view_state.declared.packet.ViewSend.{ViewSend}
 use Rattle.view_core.specs.declared.step.ViewEvent.TheVariants as event
-use Rattle.view_state.specs.declared.views.ViewWork.{ViewWork}
-use Rattle.view_state.specs.Views.{views_entered, is_coordinator, is_frozen, install_again_of, view_sent_all, views_at_work, ask_row, prepare_row, answer_row, refuse_row, install_row, taken_row, gathering_ticks, install_again}
+use Rattle.step_refinement.specs.view_state.declared.views.ViewWork.{ViewWork}
+use Rattle.step_refinement.specs.view_state.Views.{views_entered, is_coordinator, is_frozen, install_again_of, view_sent_all, views_at_work, ask_row, prepare_row, answer_row, refuse_row, install_row, taken_row, gathering_ticks, install_again}
 use Rattle.view_core.specs.Steps.{view_stepped}
 use Rattle.view_core.specs.Steps as steps
 use Rattle.view_core.specs.Laws.{AreViews, IsNext, AppliesNext, Goes}
 use Rattle.view_core.proofs.Promises.{promises_stand, views_rise}
-use Rattle.node_state.specs.declared.group.GroupRow.{GroupRow}
-use Rattle.node_state.specs.declared.happened.Happened.{Happened}
-use Rattle.node_state.specs.declared.happened.Happened.TheVariants as happened
-use Rattle.node_state.specs.declared.packet.Body.{Body}
-use Rattle.node_state.specs.declared.packet.Body.TheVariants as body
-use Rattle.node_state.specs.declared.packet.Packet.{Packet}
-use Rattle.node_state.specs.declared.state.Core.{Core}
-use Rattle.node_state.specs.Settings.{is_fixed}
-use Rattle.node_state.specs.State.{InNameOrder, state_of, len_of, list_of, row_of, held_rows, led_groups, recorded, recorded_all, with_sessions}
-use Rattle.node_state.specs.Sending.{sent, requests_sent, votes_sent_again}
-use Rattle.node_state.specs.HandOn.{Answering, note_of, subscriber_name}
-use Rattle.node_state.specs.Leading.{put_and_handed, with_waiting, tally_opened, closes}
-use Rattle.node_state.specs.Applying.{Lacking, lacking, own_parts, lists_filled, view_entered, is_in_base, number_of, dissolved, dissolved_if, group_dissolved, sides_dissolved, base_note, entering_note, entering_noted, taken_sent, owed_sent, failed_wait, phase_reopened, group_led, groups_led, entered, entered_if, install_applied, views_taken}
-use Rattle.node_state.specs.Ticks.{ring_ask, views_part, rings_part, owed_part, led_part, tick_row}
-use Rattle.node_state.specs.Ending.{step_ended}
-use Rattle.node_state.specs.Status.{status_text}
-use Rattle.node_state.specs.Calls.{call_row}
-use Rattle.node_state.specs.Step.{NodeEvent, Ticks, Asks, Given, Calls, Garbage, is_used, used_if, order_row, view_row, body_row, packet_row, event_row, stepped, at_work}
-use Rattle.run_safety.specs.ViewOrder.{is_before, Lt}
-use Rattle.step_ties.proofs.BaseOrder.{bases_ordered}
+use Rattle.step_refinement.specs.node_state.declared.group.GroupRow.{GroupRow}
+use Rattle.step_refinement.specs.node_state.declared.happened.Happened.{Happened}
+use Rattle.step_refinement.specs.node_state.declared.happened.Happened.TheVariants as happened
+use Rattle.step_refinement.specs.node_state.declared.packet.Body.{Body}
+use Rattle.step_refinement.specs.node_state.declared.packet.Body.TheVariants as body
+use Rattle.step_refinement.specs.node_state.declared.packet.Packet.{Packet}
+use Rattle.step_refinement.specs.node_state.declared.state.Core.{Core}
+use Rattle.step_refinement.specs.node_state.Settings.{is_fixed}
+use Rattle.step_refinement.specs.node_state.State.{InNameOrder, state_of, len_of, list_of, row_of, held_rows, led_groups, recorded, recorded_all, with_sessions}
+use Rattle.step_refinement.specs.node_state.Sending.{sent, send_requests, send_votes_again}
+use Rattle.step_refinement.specs.node_state.HandOn.{Answering, note_of, subscriber_name}
+use Rattle.step_refinement.specs.node_state.Leading.{put_and_hand, with_waiting, tally_opened, closes}
+use Rattle.step_refinement.specs.node_state.Applying.{Lacking, lacking, own_parts, fill_lists, view_entered, is_in_base, number_of, dissolved, dissolved_if, group_dissolved, sides_dissolved, base_note, entering_note, entering_noted, taken_sent, owed_sent, wait_failed, phase_reopened, lead, lead_groups, entered, entered_if, apply_install, views_taken}
+use Rattle.step_refinement.specs.node_state.Ticks.{ring_ask, tick_views, tick_rings, tick_owed, tick_led, tick_row}
+use Rattle.step_refinement.specs.node_state.Ending.{end_step}
+use Rattle.step_refinement.specs.node_state.Status.{status_text}
+use Rattle.step_refinement.specs.node_state.Calls.{take_call}
+use Rattle.step_refinement.specs.node_state.Step.{NodeEvent, Ticks, Asks, Given, Calls, Garbage, is_used, used_if, take_order, view_row, take_body, packet_row, event_row, stepped, at_work}
+use Rattle.step_refinement.specs.run_safety.ViewOrder.{is_before, Lt}
+use Rattle.step_refinement.proofs.BaseOrder.{bases_ordered}
 use Rattle.row_laws.specs.hearing.Changes.{Same, Does, Stays, Then, Enters, Inner, entering, Unentered}
 use Rattle.row_laws.proofs.hearing.Changes.{Sends, sends_nothing, sends_fold, sends_on, sends_one, Keeps, Onward, onward_same, onward_then, onward_sends, onward_records, put_handed_onward}
 use Rattle.row_laws.proofs.hearing.Leading.{waits_onward, opened_onward, end_onward}
@@ -124,10 +124,10 @@ comes_after a b c p q = comes_remains a b c p (remains b c q)
 
 -- ---- entering a view
 
-filled_onward : (f : Answering) (xs : List Lacking) (c : Core) → Onward c (lists_filled f c xs)
-unfolding lists_filled
+filled_onward : (f : Answering) (xs : List Lacking) (c : Core) → Onward c (fill_lists f c xs)
+unfolding fill_lists
 filled_onward f xs c =
-    onward_fold (λ t (x : Lacking). fold (λ u e. put_and_handed f u None x.name e) t x.entries) (λ t x. onward_fold (λ u (e : Entry). put_and_handed f u None x.name e) (λ u e. put_handed_onward f u None x.name e) x.entries t) xs c
+    onward_fold (λ t (x : Lacking). fold (λ u e. put_and_hand f u None x.name e) t x.entries) (λ t x. onward_fold (λ u (e : Entry). put_and_hand f u None x.name e) (λ u e. put_handed_onward f u None x.name e) x.entries t) xs c
 
 -- who is dissolved leaves rows and views as they are
 pub record Stands (c d : Core) : Type 0 where
@@ -181,29 +181,29 @@ taken_sends c = by (c.views.view.coord == c.views.me)
     by true = sends_nothing c
     by false = sends_one c _ _
 
-group_led_onward : (f : Answering) (c : Core) (h : List ℕ) → Onward c (group_led f c h)
-unfolding group_led failed_wait phase_reopened
+group_led_onward : (f : Answering) (c : Core) (h : List ℕ) → Onward c (lead f c h)
+unfolding lead wait_failed phase_reopened
 group_led_onward f c h =
     let out : List ProviderId = filter (among (state_of c h).members) (state_of c h).failed in
-    let d : Core = fold (λ t p. with_waiting t h (waits_failure p Died)) c out in
-    onward_then c d (phase_reopened f d h (is_some (state_of c h).running)) (onward_fold (λ t (p : ProviderId). with_waiting t h (waits_failure p Died)) (λ t p. waits_onward t h p Died) out c) (by d (is_some (state_of c h).running))
+    let d : Core = fold (λ t p. with_waiting t h (add_failure p Died)) c out in
+    onward_then c d (phase_reopened f d h (is_some (state_of c h).running)) (onward_fold (λ t (p : ProviderId). with_waiting t h (add_failure p Died)) (λ t p. waits_onward t h p Died) out c) (by d (is_some (state_of c h).running))
   where
     by : (d : Core) (b : Bool) → Onward d (phase_reopened f d h b)
     by d false = onward_same d
     by d true = onward_then d (tally_opened d h) (closes f (tally_opened d h) h) (opened_onward d h) (closes_on f (tally_opened d h) h)
 
 entered_comes : (f : Answering) (c : Core) (i : Install) (xs : List Lacking) → NoneEntered c → IsNext c.views i.view → Comes c (entered f c i xs)
-unfolding entered owed_sent groups_led view_entered views_entered recorded_all is_before
+unfolding entered owed_sent lead_groups view_entered views_entered recorded_all is_before
 entered_comes f c i xs none next h =
     let filled : Keeps c t = filled_onward f xs c h.order in
     let here : IsNext t.views i.view = subst (λ v. IsNext v i.view) (sym filled.views) next in
     let stands = sides_stand (view_entered t i bs) (held_rows t) t.views.view bs in
     let fit : Fit e = record { order = subst InNameOrder (sym stands.groups) now_order; views = subst AreViews (sym stands.views) (now_views here) } in
-    let rest : Remains e last = remains e last (onward_then e n last (noted_onward e bs) (onward_then n k last (onward_sends n k (taken_sends n)) (onward_then k o last (onward_sends k o (owed_sends k)) (onward_fold (group_led f) (group_led_onward f) (led_groups o) o)))) fit in
+    let rest : Remains e last = remains e last (onward_then e n last (noted_onward e bs) (onward_then n k last (onward_sends n k (taken_sends n)) (onward_then k o last (onward_sends k o (owed_sends k)) (onward_fold (lead f) (group_led_onward f) (led_groups o) o)))) fit in
     record { fit = rest.fit; once = Entered t i filled.does (ap (λ z. z.view) filled.views) (lt here) (λ r k. ⊎_elim (λ (a : Has r c.records). none r a) (λ (a : Unentered r). a) (filled.calm r k)) rest.does (rest.view ∙ ap (λ z. z.view) stands.views ∙ now_view) }
   where
     t : Core
-    t = lists_filled f c xs
+    t = fill_lists f c xs
 
     bs : List Base
     bs = bases_of i
@@ -218,10 +218,10 @@ entered_comes f c i xs none next h =
     k = taken_sent n
 
     o : Core
-    o = votes_sent_again (requests_sent k)
+    o = send_votes_again (send_requests k)
 
     last : Core
-    last = fold (group_led f) o (led_groups o)
+    last = fold (lead f) o (led_groups o)
 
     now_order : InNameOrder (view_entered t i bs).groups
     now_order = bases_ordered i
@@ -238,13 +238,13 @@ entered_comes f c i xs none next h =
 -- ---- what a row of views leaves
 
 taken_comes : (f : Answering) (c : Core) (w : ViewWork) → NoneEntered c → (AreViews c.views → Goes c.views w) → w.views.me ≡ c.views.me → w.views.inc ≡ c.views.inc → Comes c (views_taken f c w)
-unfolding views_taken len_of state_of list_of row_of entered_if install_applied
+unfolding views_taken len_of state_of list_of row_of entered_if apply_install
 taken_comes f c w none goes me inc h =
     let k = goes h.views in
     let a : Fit d = record { order = h.order; views = k.views } in
     let sends : Sends d u = sends_fold (λ t (x : ViewSend). sent t x.to (body.View x.packet)) (λ t x. sends_one t _ _) w.sends d in
-    let rest : Makes d (install_applied f u w.install) = comes_before d u (install_applied f u w.install) (onward_sends d u sends) (by w.install (subst (λ v. AppliesNext v w.install) (sym sends.views) k.applies)) a in
-    record { fit = rest.fit; once = once_before c d (install_applied f u w.install) (Stays c d (same k.view)) k.view rest.once }
+    let rest : Makes d (apply_install f u w.install) = comes_before d u (apply_install f u w.install) (onward_sends d u sends) (by w.install (subst (λ v. AppliesNext v w.install) (sym sends.views) k.applies)) a in
+    record { fit = rest.fit; once = once_before c d (apply_install f u w.install) (Stays c d (same k.view)) k.view rest.once }
   where
     d : Core
     d = record c { views = w.views }
@@ -262,17 +262,17 @@ taken_comes f c w none goes me inc h =
     if_lacking i None next = comes_same u
     if_lacking i (Some xs) next = entered_comes f u i xs (λ r k. none r (subst (Has r) calm.records k)) next
 
-    by : (o : Option Install) → AppliesNext u.views o → Comes u (install_applied f u o)
+    by : (o : Option Install) → AppliesNext u.views o → Comes u (apply_install f u o)
     by None next = comes_same u
     by (Some i) next = if_lacking i (lacking u i) next
 
 -- where no install is to be applied, the view stays
 taken_remains : (f : Answering) (c : Core) (w : ViewWork) → (AreViews c.views → Goes c.views w) → w.views.me ≡ c.views.me → w.views.inc ≡ c.views.inc → w.install ≡ None → Fit c → Remains c (views_taken f c w)
-unfolding views_taken len_of state_of list_of row_of install_applied
+unfolding views_taken len_of state_of list_of row_of apply_install
 taken_remains f c w goes me inc none h =
     let k = goes h.views in
     let x = remains d u (onward_sends d u sends) (record { order = h.order; views = k.views }) in
-    subst (λ o. Remains c (install_applied f u o)) (sym none) (record { fit = x.fit; does = Then c d u (Stays c d (record { me = me; inc = inc; view = k.view; sessions = refl; records = refl; lens = λ j. refl; states = λ j. refl })) x.does; view = x.view ∙ k.view })
+    subst (λ o. Remains c (apply_install f u o)) (sym none) (record { fit = x.fit; does = Then c d u (Stays c d (record { me = me; inc = inc; view = k.view; sessions = refl; records = refl; lens = λ j. refl; states = λ j. refl })) x.does; view = x.view ∙ k.view })
   where
     d : Core
     d = record c { views = w.views }
@@ -291,8 +291,8 @@ module _ (f : Answering) (c : Core) (none : NoneEntered c) where
       let k = whose_asks (views_at_work c.views) mask (own_parts c) in
       taken_comes f c (ask_row (views_at_work c.views) mask (own_parts c)) none (λ a. promises_stand c.views (event.Ask mask) (own_parts c) a) k.0 k.1
 
-  pub order_comes : (mask : Mask) → Comes c (order_row f c mask)
-  unfolding order_row
+  pub order_comes : (mask : Mask) → Comes c (take_order f c mask)
+  unfolding take_order
   order_comes mask = by (is_fixed c.config.mode)
     where
       by : (b : Bool) → Comes c (elim b as (λ _. Core) [ true ↦ c | false ↦ views_taken f c (ask_row (views_at_work c.views) mask (own_parts c)) ])
@@ -346,8 +346,8 @@ module _ (f : Answering) (c : Core) where
       let k = whose_reminds (views_at_work c.views) in
       taken_remains f c (install_again (views_at_work c.views)) (λ a. promises_stand c.views event.Remind (own_parts c) a) k.0 k.1 reminds_only
 
-pub views_part_comes : (f : Answering) (c : Core) → NoneEntered c → Comes c (views_part f c)
-unfolding views_part
+pub views_part_comes : (f : Answering) (c : Core) → NoneEntered c → Comes c (tick_views f c)
+unfolding tick_views
 views_part_comes f c none =
     let t : Core = views_taken f c (gathering_ticks (views_at_work c.views) (ring_ask c) (own_parts c)) in
     comes_remains c t (views_taken f t (install_again (views_at_work t.views))) (tick_comes f c none) (remind_remains f t)
@@ -360,8 +360,8 @@ used_comes c d true k = k
 used_comes c d false k = comes_same c
 
 module _ (f : Answering) (c : Core) (none : NoneEntered c) where
-  body_comes : (p : Packet) (b : Body) → Comes c (body_row f c p b)
-  unfolding body_row
+  body_comes : (p : Packet) (b : Body) → Comes c (take_body f c p b)
+  unfolding take_body
   body_comes p (body.Ring x) = comes_keeps c _ (ring_onward c p.network p.from p.inc x)
   body_comes p (body.Report rows) = comes_keeps c _ (report_onward c rows)
   body_comes p (body.View x) = view_comes f c none p.from p.inc x
@@ -380,24 +380,24 @@ module _ (f : Answering) (c : Core) (none : NoneEntered c) where
   unfolding packet_row
   packet_comes p = by (p.to == c.views.me)
     where
-      by : (b : Bool) → Comes c (elim b as (λ _. Core) [ true ↦ body_row f c p p.body | false ↦ c ])
+      by : (b : Bool) → Comes c (elim b as (λ _. Core) [ true ↦ take_body f c p p.body | false ↦ c ])
       by true = body_comes p p.body
       by false = comes_same c
 
-  ended_comes : (d : Core) → Comes c d → Comes c (step_ended f d)
-  ended_comes d k = comes_after c d (step_ended f d) k (end_onward f d)
+  ended_comes : (d : Core) → Comes c d → Comes c (end_step f d)
+  ended_comes d k = comes_after c d (end_step f d) k (end_onward f d)
 
   event_comes : (e : NodeEvent) → OneOwner c.sessions → c.records ≡ [] → InNameOrder c.groups → Comes c (event_row f c e)
   unfolding event_row tick_row
   event_comes Ticks own empty order =
-      let a : Core = rings_part c in
-      let b : Core = views_part f a in
-      let d : Core = owed_part b in
-      let e : Core = led_part f d in
+      let a : Core = tick_rings c in
+      let b : Core = tick_views f a in
+      let d : Core = tick_owed b in
+      let e : Core = tick_led f d in
       ended_comes e (comes_before c a e (rings_onward c) (comes_after a b e (views_part_comes f a (λ r k. ⊎_elim (λ (i : Has r c.records). none r i) (λ (u : Unentered r). u) ((rings_onward c order).calm r k))) (onward_then b d e (owed_part_onward b) (led_part_onward f d))))
-  event_comes (Asks mask) own empty order = ended_comes (order_row f c mask) (order_comes f c none mask)
+  event_comes (Asks mask) own empty order = ended_comes (take_order f c mask) (order_comes f c none mask)
   event_comes (Given p) own empty order = ended_comes (packet_row f c p) (packet_comes p)
-  event_comes (Calls x) own empty order = ended_comes (call_row c x) (comes_keeps c (call_row c x) (call_onward c x own empty))
+  event_comes (Calls x) own empty order = ended_comes (take_call c x) (comes_keeps c (take_call c x) (call_onward c x own empty))
   event_comes Garbage own empty order = ended_comes c (comes_same c)
 
 -- a step, from a state that fits

@@ -1,29 +1,29 @@
 -- A row of views leaves whose views they are.
 use Rattle.std.proofs.Common.{◌≡◌, ℕ, List, length, Option, Some, None, Bool, true, false, refl}
 use Rattle.std.specs.Prelude.{not, ◌==◌, ◌&&◌, filter, nat_le}
-use Rattle.rsct_packet.specs.declared.ids.ViewId.{ViewId}
-use Rattle.rsct_packet.specs.declared.mask.Mask.{Mask}
-use Rattle.rsct_packet.specs.Ids.{same_view, view_lt, is_member}
-use Rattle.rsct_packet.specs.Mask.{has_node, with_node, nodes_of}
-use Rattle.view_state.specs.declared.answer.Answer.{Answer}
-use Rattle.view_state.specs.declared.exchange.Exchange.{Exchange}
-use Rattle.view_state.specs.declared.install.Part.{Part}
-use Rattle.view_state.specs.declared.install.Install.{Install}
-use Rattle.view_state.specs.Answers.{max_parts, opened, with_answer, may_answer, all_answered, install_of, is_spelled}
-use Rattle.view_state.specs.declared.packet.ViewPacket.TheVariants as packet
-use Rattle.view_state.specs.declared.views.RingAsk.{RingAsk}
-use Rattle.view_state.specs.declared.views.ViewWork.{ViewWork}
-use Rattle.view_state.specs.Views.{view_sent, view_sent_all, gathering_set, promised, installs, gathered, gathers, own_answer, asks_view, next_view, may_ask, ask_if, ask_row, answered, prepared, prepare_row, answer_to, answer_row, refused_by, refuse_to, refuse_row, installed, install_row, taken_row, prepared_again, stuck_noted, tick_asks, asks_or_ages, gathering_ticks, install_again_of, install_again, is_coordinator, is_frozen}
+use Rattle.step_refinement.specs.rsct_packet.declared.ids.ViewId.{ViewId}
+use Rattle.step_refinement.specs.rsct_packet.declared.mask.Mask.{Mask}
+use Rattle.step_refinement.specs.rsct_packet.Ids.{same_view, view_lt, is_member}
+use Rattle.step_refinement.specs.rsct_packet.Mask.{has_node, with_node, nodes_of}
+use Rattle.step_refinement.specs.view_state.declared.answer.Answer.{Answer}
+use Rattle.step_refinement.specs.view_state.declared.exchange.Exchange.{Exchange}
+use Rattle.step_refinement.specs.view_state.declared.install.Part.{Part}
+use Rattle.step_refinement.specs.view_state.declared.install.Install.{Install}
+use Rattle.step_refinement.specs.view_state.Answers.{max_parts, opened, with_answer, may_answer, all_answered, install_of, is_spelled}
+use Rattle.step_refinement.specs.view_state.declared.packet.ViewPacket.TheVariants as packet
+use Rattle.step_refinement.specs.view_state.declared.views.RingAsk.{RingAsk}
+use Rattle.step_refinement.specs.view_state.declared.views.ViewWork.{ViewWork}
+use Rattle.step_refinement.specs.view_state.Views.{view_sent, view_sent_all, gathering_set, promised, begin_install, gathered, gather_on, own_answer, ask_others, next_view, may_ask, ask_if, ask_row, answered, prepare, prepare_row, answer_to, answer_row, refused_by, refuse_to, refuse_row, installed, install_row, taken_row, prepare_again, note_stuck, tick_asks, asks_or_ages, gathering_ticks, install_again_of, install_again, is_coordinator, is_frozen}
 
 -- the node and its incarnation stay
 abbrev pub Whose : ViewWork → ViewWork → Type 0
 Whose w x = (x.views.me ≡ w.views.me) × (x.views.inc ≡ w.views.inc)
 
-whose_gathers : (w : ViewWork) (g : Exchange) → Whose w (gathers w g)
-unfolding gathers gathered installs gathering_set view_sent_all
+whose_gathers : (w : ViewWork) (g : Exchange) → Whose w (gather_on w g)
+unfolding gather_on gathered begin_install gathering_set view_sent_all
 whose_gathers w g = by (all_answered g) (is_spelled (install_of g))
   where
-    last : (b : Bool) → Whose w (installs (gathering_set w None) (install_of g) b)
+    last : (b : Bool) → Whose w (begin_install (gathering_set w None) (install_of g) b)
     last true = (refl, refl)
     last false = (refl, refl)
 
@@ -32,10 +32,10 @@ whose_gathers w g = by (all_answered g) (is_spelled (install_of g))
     by false b = (refl, refl)
 
 pub whose_asks : (w : ViewWork) (mask : Mask) (parts : List Part) → Whose w (ask_row w mask parts)
-unfolding ask_row ask_if asks_view promised view_sent_all
+unfolding ask_row ask_if ask_others promised view_sent_all
 whose_asks w mask parts = by (may_ask w.views mask)
   where
-    asks : (v : ViewId) (b : Bool) → Whose w (asks_view w v mask parts b)
+    asks : (v : ViewId) (b : Bool) → Whose w (ask_others w v mask parts b)
     asks v true =
         whose_gathers (view_sent_all (promised w v) (filter (λ n. not (n == w.views.me)) (nodes_of mask)) (packet.Prepare v mask)) (with_answer (opened v mask) (own_answer w.views parts))
     asks v false = (refl, refl)
@@ -45,7 +45,7 @@ whose_asks w mask parts = by (may_ask w.views mask)
     by false = (refl, refl)
 
 pub whose_prepares : (w : ViewWork) (from inc : ℕ) (v : ViewId) (mask : Mask) (parts : List Part) → Whose w (prepare_row w from inc v mask parts)
-unfolding prepare_row prepared answered promised view_sent
+unfolding prepare_row prepare answered promised view_sent
 whose_prepares w from inc v mask parts =
     by (v.coord == from && v.inc == inc && has_node mask w.views.me && view_lt w.views.promise v) (v.coord == from && v.inc == inc && has_node mask w.views.me && same_view v w.views.promise && not (same_view v w.views.view)) (view_lt v w.views.promise)
   where
@@ -53,7 +53,7 @@ whose_prepares w from inc v mask parts =
     answers x true = (refl, refl)
     answers x false = (refl, refl)
 
-    by : (a b c : Bool) → Whose w (prepared w v parts a b c)
+    by : (a b c : Bool) → Whose w (prepare w v parts a b c)
     by true b c = answers (promised w v) (nat_le (length parts) max_parts)
     by false true c = answers w (nat_le (length parts) max_parts)
     by false false true = (refl, refl)
@@ -63,7 +63,7 @@ pub whose_answers : (w : ViewWork) (v : ViewId) (a : Answer) → Whose w (answer
 unfolding answer_row answer_to
 whose_answers w v a = by w.views.gathering
   where
-    at : (g : Exchange) (b : Bool) → Whose w (elim b as (λ _. ViewWork) [ true ↦ gathers w (with_answer g a) | false ↦ w ])
+    at : (g : Exchange) (b : Bool) → Whose w (elim b as (λ _. ViewWork) [ true ↦ gather_on w (with_answer g a) | false ↦ w ])
     at g true = whose_gathers w (with_answer g a)
     at g false = (refl, refl)
 
@@ -100,19 +100,19 @@ whose_takes w from v = by (same_view w.views.view v)
     by true = (refl, refl)
     by false = (refl, refl)
 
-whose_again : (w : ViewWork) (o : Option Exchange) → Whose w (prepared_again w o)
-unfolding prepared_again view_sent_all gathering_set
+whose_again : (w : ViewWork) (o : Option Exchange) → Whose w (prepare_again w o)
+unfolding prepare_again view_sent_all gathering_set
 whose_again w None = (refl, refl)
 whose_again w (Some g) = (refl, refl)
 
 pub whose_ticks : (w : ViewWork) (o : Option RingAsk) (parts : List Part) → Whose w (gathering_ticks w o parts)
-unfolding gathering_ticks asks_or_ages stuck_noted
+unfolding gathering_ticks asks_or_ages note_stuck
 whose_ticks w None parts = whose_again w w.views.gathering
 whose_ticks w (Some a) parts = by (tick_asks w.views a)
   where
-    by : (b : Bool) → Whose w (asks_or_ages (stuck_noted w) a parts b)
-    by true = whose_asks (stuck_noted w) a.mask parts
-    by false = whose_again (stuck_noted w) w.views.gathering
+    by : (b : Bool) → Whose w (asks_or_ages (note_stuck w) a parts b)
+    by true = whose_asks (note_stuck w) a.mask parts
+    by false = whose_again (note_stuck w) w.views.gathering
 
 pub whose_reminds : (w : ViewWork) → Whose w (install_again w)
 unfolding install_again install_again_of view_sent_all

@@ -1,38 +1,38 @@
 -- What a leader decides, and what begins at the end of a step.
 use Rattle.std.proofs.Common.{◌≡◌, ℕ, zero, suc, List, [], ◌∷◌, length, Option, Some, None, Bool, true, false, refl, ap, ◌∙◌, inl, inr}
 use Rattle.std.specs.Prelude.{not, ◌&&◌, ◌++◌, fold, filter, nat_le, is_none}
-use Rattle.rsct_packet.specs.declared.ids.ProviderId.{ProviderId}
-use Rattle.rsct_packet.specs.Lists.{is_empty}
-use Rattle.rsct_packet.specs.Providers.{among, differ}
-use Rattle.rsct_packet.specs.Search.{Has}
-use Rattle.group_attr.specs.declared.attrs.Attrs.{Attrs}
-use Rattle.group_attr.specs.declared.attrs.Phases.{Phases}
-use Rattle.proposal_core.specs.declared.proposal.Failure.{Failure}
-use Rattle.proposal_core.specs.declared.proposal.Proposal.{Proposal}
-use Rattle.proposal_core.specs.declared.proposal.Proposal.TheVariants.{Join, Leave, Fail, Expel, State, Message, Attributes, Reflect}
-use Rattle.proposal_core.specs.declared.group_state.GroupState.{GroupState}
-use Rattle.proposal_core.specs.Fold.{max_providers, present}
-use Rattle.proposal_core.specs.Lists.{list_or_new, is_at_limit}
-use Rattle.group_attr.specs.Agree.{agree}
-use Rattle.batch_rules.specs.Waiting.{batches_failures, batches_joins, has_instance, chosen_of, next_failures, failures_left, next_joins, joins_left, waits_join}
-use Rattle.source_target.specs.declared.Due.{Due}
-use Rattle.source_target.specs.declared.Due.TheVariants as due
-use Rattle.source_target.specs.Due as target
-use Rattle.client_callbacks.specs.declared.told.Why.{Why}
-use Rattle.client_callbacks.specs.declared.told.Why.TheVariants as why
-use Rattle.client_callbacks.specs.declared.told.Why.TheVariants.{NoSource}
-use Rattle.node_state.specs.declared.group.GroupRow.{GroupRow}
-use Rattle.node_state.specs.declared.packet.Body.TheVariants as body
-use Rattle.node_state.specs.declared.state.Core.{Core}
-use Rattle.node_state.specs.State.{row_of, led_of, list_of, state_of, with_led, frozen, led_groups, decisions_with}
-use Rattle.node_state.specs.HandOn.{Answering}
-use Rattle.node_state.specs.Leading.{with_waiting, begins}
-use Rattle.node_state.specs.Deciding.{decision_kept, refused, known_state, lacks_source, source_len, is_idle_empty, meant_attrs, join_refusal, attrs_kept, join_waits, decided_join, other_refusal, decided_other, decided}
-use Rattle.node_state.specs.Ending.{Pass, quiet, begun_now, failures_begin, due_begins, source_begins, attrs_for, carried_len, source_refused, joins_begin, or_due, or_joins, may_begin, first_begins, group_begins, one_pass, passes, most_begun, step_ended}
-use Rattle.run_safety.specs.Past.{History}
-use Rattle.node_state.proofs.NameOrder.{row_here}
-use Rattle.step_ties.proofs.LedGroups.{led_are_led}
-use Rattle.step_ties.proofs.Decisions.{differ_push, apart_instances}
+use Rattle.step_refinement.specs.rsct_packet.declared.ids.ProviderId.{ProviderId}
+use Rattle.step_refinement.specs.rsct_packet.Lists.{is_empty}
+use Rattle.step_refinement.specs.rsct_packet.Providers.{among, differ}
+use Rattle.step_refinement.specs.rsct_packet.Search.{Has}
+use Rattle.step_refinement.specs.group_attr.declared.attrs.Attrs.{Attrs}
+use Rattle.step_refinement.specs.group_attr.declared.attrs.Phases.{Phases}
+use Rattle.step_refinement.specs.proposal_core.declared.proposal.Failure.{Failure}
+use Rattle.step_refinement.specs.proposal_core.declared.proposal.Proposal.{Proposal}
+use Rattle.step_refinement.specs.proposal_core.declared.proposal.Proposal.TheVariants.{Join, Leave, Fail, Expel, State, Message, Attributes, Reflect}
+use Rattle.step_refinement.specs.proposal_core.declared.group_state.GroupState.{GroupState}
+use Rattle.step_refinement.specs.proposal_core.Fold.{max_providers, present}
+use Rattle.step_refinement.specs.proposal_core.Lists.{list_or_new, is_at_limit}
+use Rattle.step_refinement.specs.group_attr.Agree.{agree}
+use Rattle.step_refinement.specs.batch_rules.Waiting.{batches_failures, batches_joins, has_instance, chosen_of, next_failures, failures_left, next_joins, joins_left, waits_join}
+use Rattle.step_refinement.specs.source_target.declared.Due.{Due}
+use Rattle.step_refinement.specs.source_target.declared.Due.TheVariants as due
+use Rattle.step_refinement.specs.source_target.Due as target
+use Rattle.step_refinement.specs.client_callbacks.declared.told.Why.{Why}
+use Rattle.step_refinement.specs.client_callbacks.declared.told.Why.TheVariants as why
+use Rattle.step_refinement.specs.client_callbacks.declared.told.Why.TheVariants.{NoSource}
+use Rattle.step_refinement.specs.node_state.declared.group.GroupRow.{GroupRow}
+use Rattle.step_refinement.specs.node_state.declared.packet.Body.TheVariants as body
+use Rattle.step_refinement.specs.node_state.declared.state.Core.{Core}
+use Rattle.step_refinement.specs.node_state.State.{row_of, led_of, list_of, state_of, with_led, frozen, led_groups, decisions_with}
+use Rattle.step_refinement.specs.node_state.HandOn.{Answering}
+use Rattle.step_refinement.specs.node_state.Leading.{with_waiting, begins}
+use Rattle.step_refinement.specs.node_state.Deciding.{keep_decision, refused, known_state, lacks_source, source_len, is_idle_empty, meant_attrs, join_refusal, keep_attrs, wait_join, decide_join, other_refusal, decide_change, decided}
+use Rattle.step_refinement.specs.node_state.Ending.{Pass, quiet, begun_now, failures_begin, due_begins, source_begins, attrs_for, carried_len, source_refused, joins_begin, or_due, or_joins, may_begin, first_begins, group_begins, one_pass, passes, most_begun, end_step}
+use Rattle.step_refinement.specs.run_safety.Past.{History}
+use Rattle.step_refinement.proofs.node_state_laws.NameOrder.{row_here}
+use Rattle.step_refinement.proofs.LedGroups.{led_are_led}
+use Rattle.step_refinement.proofs.Decisions.{differ_push, apart_instances}
 use Rattle.row_laws.specs.honest_votes.Casts.{NamesOnce}
 use Rattle.row_laws.proofs.honest_votes.Differing.{filter_differs, left_differ, chosen_differ}
 use Rattle.row_laws.proofs.honest_votes.At.{found, leads_row, leads_is, At, at_for, at_fold, at_sent}
@@ -70,24 +70,24 @@ module _ (h : History) where
   module _ (T G : List ℕ → Type 0) where
     -- ---- deciding
 
-    pub at_decision : (s : Core) (g : List ℕ) (p : ProviderId) (r : ℕ) (y : Option Why) → At h T G s → At h T G (decision_kept s g p r y)
-    unfolding decision_kept
+    pub at_decision : (s : Core) (g : List ℕ) (p : ProviderId) (r : ℕ) (y : Option Why) → At h T G s → At h T G (keep_decision s g p r y)
+    unfolding keep_decision
     at_decision s g p r y a = at_led h T G s g (λ l. record l { decided = decisions_with (record { p = p; r = r; why = y }) l.decided }) (λ l. refl) (λ z. z) a
 
     pub at_refused : (s : Core) (g : List ℕ) (p : ProviderId) (r : ℕ) (y : Why) → At h T G s → At h T G (refused s g p r y)
     unfolding refused
-    at_refused s g p r y a = at_sent h T G (decision_kept s g p r (Some y)) p.node (body.Tell s.views.view g p r y) tt (at_decision s g p r (Some y) a)
+    at_refused s g p r y a = at_sent h T G (keep_decision s g p r (Some y)) p.node (body.Tell s.views.view g p r y) tt (at_decision s g p r (Some y) a)
 
-    at_decided_join : (s : Core) (g : List ℕ) (p : ProviderId) (r : ℕ) (attrs : Attrs) (o : Option Why) → (o ≡ None → among (led_of s g).waiting.joins p ≡ false) → At h T G s → At h T G (decided_join s g p r attrs o)
-    unfolding decided_join join_waits decision_kept with_led led_of row_of
+    at_decided_join : (s : Core) (g : List ℕ) (p : ProviderId) (r : ℕ) (attrs : Attrs) (o : Option Why) → (o ≡ None → among (led_of s g).waiting.joins p ≡ false) → At h T G s → At h T G (decide_join s g p r attrs o)
+    unfolding decide_join wait_join keep_decision with_led led_of row_of
     at_decided_join s g p r attrs None new a =
-        let d : Core = decision_kept s g p r None in
-        at_led h T G d g (λ l. record l { waiting = waits_join p l.waiting; join_attrs = attrs_kept l.join_attrs p attrs (is_idle_empty (state_of s g)) }) (λ l. refl) (λ z. differ_push (found d g).led.waiting.joins p z (ap (λ (row : GroupRow). among row.led.waiting.joins p) (row_here g (λ row. record row { led = record (row.led) { decided = decisions_with (record { p = p; r = r; why = None }) row.led.decided } }) (λ x. refl) s a.order) ∙ new refl)) (at_decision s g p r None a)
+        let d : Core = keep_decision s g p r None in
+        at_led h T G d g (λ l. record l { waiting = waits_join p l.waiting; join_attrs = keep_attrs l.join_attrs p attrs (is_idle_empty (state_of s g)) }) (λ l. refl) (λ z. differ_push (found d g).led.waiting.joins p z (ap (λ (row : GroupRow). among row.led.waiting.joins p) (row_here g (λ row. record row { led = record (row.led) { decided = decisions_with (record { p = p; r = r; why = None }) row.led.decided } }) (λ x. refl) s a.order) ∙ new refl)) (at_decision s g p r None a)
     at_decided_join s g p r attrs (Some y) new a = at_refused s g p r y a
 
-    at_decided_other : (f : Answering) (s : Core) (g : List ℕ) (p : ProviderId) (r : ℕ) (phases : Phases) (x : Proposal) (o : Option Why) → NamesOnce x → T g → G g → At h T G s → At h T G (decided_other f s g p r phases x o)
-    unfolding decided_other
-    at_decided_other f s g p r phases x None once t led a = at_begins h T G f (decision_kept s g p r None) g x phases once t led (at_decision s g p r None a)
+    at_decided_other : (f : Answering) (s : Core) (g : List ℕ) (p : ProviderId) (r : ℕ) (phases : Phases) (x : Proposal) (o : Option Why) → NamesOnce x → T g → G g → At h T G s → At h T G (decide_change f s g p r phases x o)
+    unfolding decide_change
+    at_decided_other f s g p r phases x None once t led a = at_begins h T G f (keep_decision s g p r None) g x phases once t led (at_decision s g p r None a)
     at_decided_other f s g p r phases x (Some y) once t led a = at_refused s g p r y a
 
     pub at_decided : (f : Answering) (s : Core) (g : List ℕ) (p : ProviderId) (r : ℕ) (phases : Phases) (x : Proposal) → T g → G g → At h T G s → At h T G (decided f s g p r phases x)
@@ -223,8 +223,8 @@ module _ (h : History) where
       by p true k rest = rest
       by p false k rest = k
 
-  pub at_step_ended : (f : Answering) (s : Core) → At h Every NoGroup s → At h Every NoGroup (step_ended f s)
-  unfolding step_ended
+  pub at_step_ended : (f : Answering) (s : Core) → At h Every NoGroup s → At h Every NoGroup (end_step f s)
+  unfolding end_step
   at_step_ended f s a = by (frozen s)
     where
       by : (b : Bool) → At h Every NoGroup (elim b as (λ _. Core) [ true ↦ s | false ↦ passes (most_begun s) (most_begun s) f s ])

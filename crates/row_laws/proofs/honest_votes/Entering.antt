@@ -3,48 +3,48 @@ use Rattle.std.proofs.Common.{◌≡◌, ℕ, ◌-◌, List, [], ◌∷◌, ◌+
 use Rattle.std.specs.Prelude.{◌==◌, ◌&&◌, not, map, filter, fold, find, flat_map, nat_le, nat_lt, is_some}
 use Rattle.std.specs.Option.{option_map}
 use Rattle.std.specs.Str.{bytes_eq}
-use Rattle.rsct_packet.specs.declared.ids.ViewId.{ViewId}
-use Rattle.rsct_packet.specs.declared.ids.ProviderId.{ProviderId}
-use Rattle.rsct_packet.specs.Ids.{same_view}
-use Rattle.rsct_packet.specs.Providers.{among, differ}
-use Rattle.rsct_packet.specs.Search.{Has}
-use Rattle.rsct_packet.proofs.HasLaws.{has_append, append_has_left, append_has_right, has_map, has_filter, find_has}
-use Rattle.group_attr.specs.Attrs.{host_membership}
-use Rattle.proposal_core.specs.declared.proposal.Cause.TheVariants.{Died}
-use Rattle.proposal_core.specs.declared.entry.Entry.{Entry}
-use Rattle.proposal_core.specs.Fold.{present}
-use Rattle.proposal_core.specs.GroupView.{GroupView}
-use Rattle.proposal_core.specs.Lists.{list_or_new, state_in}
-use Rattle.batch_rules.specs.Waiting.{waits_failure}
-use Rattle.subscribe_core.specs.declared.subs.Subscription.{Subscription}
-use Rattle.client_callbacks.specs.declared.told.Told.TheVariants as told
-use Rattle.client_callbacks.specs.declared.told.Why.TheVariants.{Dissolved}
-use Rattle.session_state.specs.declared.state.Provider.{Provider}
-use Rattle.session_state.specs.State.{provider_of, outstanding}
-use Rattle.session_state.specs.HandOn.{telling_taken}
-use Rattle.view_state.specs.declared.install.Part.{Part}
-use Rattle.view_state.specs.declared.install.Source.{Source}
-use Rattle.view_state.specs.declared.install.Install.{Install}
-use Rattle.view_state.specs.declared.install.Base.{Base}
-use Rattle.view_state.specs.Parts.{part_len}
-use Rattle.view_state.specs.Bases.{source_at, parts_in, parts_from, bases_of, base_named}
-use Rattle.view_state.specs.Cut.{all_fit, lacking_if, lacking_of}
-use Rattle.view_state.specs.declared.packet.ViewPacket.TheVariants as packet
-use Rattle.view_state.specs.declared.packet.ViewSend.{ViewSend}
-use Rattle.view_state.specs.declared.views.ViewWork.{ViewWork}
-use Rattle.view_state.specs.Views.{own_install, views_entered}
-use Rattle.node_state.specs.declared.group.GroupRow.{GroupRow}
-use Rattle.node_state.specs.declared.happened.Happened.{Happened}
-use Rattle.node_state.specs.declared.happened.Happened.TheVariants as happened
-use Rattle.node_state.specs.declared.packet.Body.TheVariants as body
-use Rattle.node_state.specs.declared.state.Core.{Core}
-use Rattle.node_state.specs.State.{row_found, list_of, state_of, len_of, held_rows, recorded, with_row, with_sessions}
-use Rattle.node_state.specs.Sending.{sent, sent_on, requests_sent}
-use Rattle.node_state.specs.HandOn.{Answering, subscriber_name, note_of}
-use Rattle.node_state.specs.Leading.{put, put_and_handed, with_waiting, tally_opened}
-use Rattle.node_state.specs.Applying.{part_of_list, own_parts, Lacking, lacking_in, lacking, lists_filled, level_set, base_row, base_leader, base_record, view_entered, is_in_base, number_of, dissolved, dissolved_if, group_dissolved, sides_dissolved, base_note, entering_note, entering_noted, taken_sent, owed_sent, failed_wait, phase_reopened, group_led, groups_led, entered, entered_if, install_applied, views_taken}
-use Rattle.run_safety.specs.Past.{History, records_of}
-use Rattle.step_ties.proofs.BaseOrder.{bases_ordered, row_of_base}
+use Rattle.step_refinement.specs.rsct_packet.declared.ids.ViewId.{ViewId}
+use Rattle.step_refinement.specs.rsct_packet.declared.ids.ProviderId.{ProviderId}
+use Rattle.step_refinement.specs.rsct_packet.Ids.{same_view}
+use Rattle.step_refinement.specs.rsct_packet.Providers.{among, differ}
+use Rattle.step_refinement.specs.rsct_packet.Search.{Has}
+use Rattle.step_refinement.proofs.rsct_packet_laws.HasLaws.{has_append, append_has_left, append_has_right, has_map, has_filter, find_has}
+use Rattle.step_refinement.specs.group_attr.Attrs.{host_membership}
+use Rattle.step_refinement.specs.proposal_core.declared.proposal.Cause.TheVariants.{Died}
+use Rattle.step_refinement.specs.proposal_core.declared.entry.Entry.{Entry}
+use Rattle.step_refinement.specs.proposal_core.Fold.{present}
+use Rattle.step_refinement.specs.proposal_core.GroupView.{GroupView}
+use Rattle.step_refinement.specs.proposal_core.Lists.{list_or_new, state_in}
+use Rattle.step_refinement.specs.batch_rules.Waiting.{add_failure}
+use Rattle.step_refinement.specs.subscribe_core.declared.subs.Subscription.{Subscription}
+use Rattle.step_refinement.specs.client_callbacks.declared.told.Told.TheVariants as told
+use Rattle.step_refinement.specs.client_callbacks.declared.told.Why.TheVariants.{Dissolved}
+use Rattle.step_refinement.specs.session_state.declared.state.Provider.{Provider}
+use Rattle.step_refinement.specs.session_state.State.{provider_of, outstanding}
+use Rattle.step_refinement.specs.session_state.HandOn.{take_telling}
+use Rattle.step_refinement.specs.view_state.declared.install.Part.{Part}
+use Rattle.step_refinement.specs.view_state.declared.install.Source.{Source}
+use Rattle.step_refinement.specs.view_state.declared.install.Install.{Install}
+use Rattle.step_refinement.specs.view_state.declared.install.Base.{Base}
+use Rattle.step_refinement.specs.view_state.Parts.{part_len}
+use Rattle.step_refinement.specs.view_state.Bases.{source_at, parts_in, parts_from, bases_of, base_named}
+use Rattle.step_refinement.specs.view_state.Cut.{all_fit, lacking_if, lacking_of}
+use Rattle.step_refinement.specs.view_state.declared.packet.ViewPacket.TheVariants as packet
+use Rattle.step_refinement.specs.view_state.declared.packet.ViewSend.{ViewSend}
+use Rattle.step_refinement.specs.view_state.declared.views.ViewWork.{ViewWork}
+use Rattle.step_refinement.specs.view_state.Views.{own_install, views_entered}
+use Rattle.step_refinement.specs.node_state.declared.group.GroupRow.{GroupRow}
+use Rattle.step_refinement.specs.node_state.declared.happened.Happened.{Happened}
+use Rattle.step_refinement.specs.node_state.declared.happened.Happened.TheVariants as happened
+use Rattle.step_refinement.specs.node_state.declared.packet.Body.TheVariants as body
+use Rattle.step_refinement.specs.node_state.declared.state.Core.{Core}
+use Rattle.step_refinement.specs.node_state.State.{row_found, list_of, state_of, len_of, held_rows, recorded, with_row, with_sessions}
+use Rattle.step_refinement.specs.node_state.Sending.{sent, send_on, send_requests}
+use Rattle.step_refinement.specs.node_state.HandOn.{Answering, subscriber_name, note_of}
+use Rattle.step_refinement.specs.node_state.Leading.{put, put_and_hand, with_waiting, tally_opened}
+use Rattle.step_refinement.specs.node_state.Applying.{part_of_list, own_parts, Lacking, lacking_in, lacking, fill_lists, level_set, base_row, base_leader, base_record, view_entered, is_in_base, number_of, dissolved, dissolved_if, group_dissolved, sides_dissolved, base_note, entering_note, entering_noted, taken_sent, owed_sent, wait_failed, phase_reopened, lead, lead_groups, entered, entered_if, apply_install, views_taken}
+use Rattle.step_refinement.specs.run_safety.Past.{History, records_of}
+use Rattle.step_refinement.proofs.BaseOrder.{bases_ordered, row_of_base}
 use Rattle.row_laws.specs.honest_votes.Casts.{RecordCast, EntriesCast, PartsCast, InstallCast, InstallIfCast, ViewPacketCast}
 use Rattle.row_laws.proofs.honest_votes.More.{entry_on, entries_on, install_on}
 use Rattle.row_laws.proofs.honest_votes.At.{found, At, at_for, at_fold, at_sent, at_recorded, at_recorded_all, at_sessions, at_views}
@@ -109,8 +109,8 @@ module _ (rs : List Happened) where
 longer_then : (s t u : Core) → Longer s t → Longer t u → Longer s u
 longer_then s t u a b r i = b r (a r i)
 
-put_longer : (f : Answering) (s : Core) (to : Option ℕ) (g : List ℕ) (e : Entry) → Longer s (put_and_handed f s to g e)
-unfolding put_and_handed put recorded with_row
+put_longer : (f : Answering) (s : Core) (to : Option ℕ) (g : List ℕ) (e : Entry) → Longer s (put_and_hand f s to g e)
+unfolding put_and_hand put recorded with_row
 put_longer f s to g e r i = handed_longer f (put s g e) to g (len_of s g) (state_of s g) (state_of (put s g e) g) e r (append_has_left r s.records (happened.Put s.views.me s.views.view g (len_of s g) e ∷ []) i)
 
 module _ (h : History) where
@@ -125,21 +125,21 @@ module _ (h : History) where
       ⊎_elim (λ (j : Has r s.records). append_has_left r t.records (records_of h) (more r j)) (λ (j : Has r (records_of h)). append_has_right r t.records (records_of h) j) (has_append r s.records (records_of h) i)
 
   -- (1)
-  entries_filled : (f : Answering) (g : List ℕ) (es : List Entry) (s : Core) → EntriesCast (s.records ++ records_of h) es → Loose s → Loose (fold (λ u e. put_and_handed f u None g e) s es) × Longer s (fold (λ u e. put_and_handed f u None g e) s es)
+  entries_filled : (f : Answering) (g : List ℕ) (es : List Entry) (s : Core) → EntriesCast (s.records ++ records_of h) es → Loose s → Loose (fold (λ u e. put_and_hand f u None g e) s es) × Longer s (fold (λ u e. put_and_hand f u None g e) s es)
   entries_filled f g [] s all a = (a, λ r i. i)
   entries_filled f g (e ∷ es) s all a =
-      let t : Core = put_and_handed f s None g e in
+      let t : Core = put_and_hand f s None g e in
       let more : Longer s t = put_longer f s None g e in
       let k = entries_filled f g es t (λ d i. entry_on (s.records ++ records_of h) (t.records ++ records_of h) (longer_on s t more) d (all d (inr i))) (at_put_and_handed_for h NoGroup NoGroup NoGroup f s None g e (all e (inl refl)) (λ j u ne. u) (λ u. absurd u) a) in
-      (k.0, longer_then s t (fold (λ u e. put_and_handed f u None g e) t es) more k.1)
+      (k.0, longer_then s t (fold (λ u e. put_and_hand f u None g e) t es) more k.1)
 
-  all_filled : (f : Answering) (xs : List Lacking) (s : Core) → LackingCast (s.records ++ records_of h) xs → Loose s → Loose (fold (λ t (x : Lacking). fold (λ u e. put_and_handed f u None x.name e) t x.entries) s xs) × Longer s (fold (λ t (x : Lacking). fold (λ u e. put_and_handed f u None x.name e) t x.entries) s xs)
+  all_filled : (f : Answering) (xs : List Lacking) (s : Core) → LackingCast (s.records ++ records_of h) xs → Loose s → Loose (fold (λ t (x : Lacking). fold (λ u e. put_and_hand f u None x.name e) t x.entries) s xs) × Longer s (fold (λ t (x : Lacking). fold (λ u e. put_and_hand f u None x.name e) t x.entries) s xs)
   all_filled f [] s all a = (a, λ r i. i)
   all_filled f (x ∷ xs) s all a =
       let j = entries_filled f x.name x.entries s (all x (inl refl)) a in
-      let t : Core = fold (λ u e. put_and_handed f u None x.name e) s x.entries in
+      let t : Core = fold (λ u e. put_and_hand f u None x.name e) s x.entries in
       let k = all_filled f xs t (λ y i. entries_on (s.records ++ records_of h) (t.records ++ records_of h) (longer_on s t j.1) y.entries (all y (inr i))) j.0 in
-      (k.0, longer_then s t (fold (λ t (x : Lacking). fold (λ u e. put_and_handed f u None x.name e) t x.entries) t xs) j.1 k.1)
+      (k.0, longer_then s t (fold (λ t (x : Lacking). fold (λ u e. put_and_hand f u None x.name e) t x.entries) t xs) j.1 k.1)
 
   -- (2) in a view that is entered nothing is counted yet
   at_view_entered : (s : Core) (i : Install) → InstallCast (s.records ++ records_of h) i → Loose s → Full (view_entered s i (bases_of i))
@@ -195,7 +195,7 @@ module _ (h : History) where
   at_dissolved : (s : Core) (p : ProviderId) (r : ℕ) → Full s → Full (dissolved s p r)
   unfolding dissolved with_sessions
   at_dissolved s p r a =
-      at_recorded h Every NoGroup (with_sessions s (telling_taken s.sessions p r Dissolved)) (happened.Told p r Dissolved) tt (at_sessions h Every NoGroup s (telling_taken s.sessions p r Dissolved) (λ k i. a.kept k (told_no_more s.sessions p r Dissolved k i)) a)
+      at_recorded h Every NoGroup (with_sessions s (take_telling s.sessions p r Dissolved)) (happened.Told p r Dissolved) tt (at_sessions h Every NoGroup s (take_telling s.sessions p r Dissolved) (λ k i. a.kept k (told_no_more s.sessions p r Dissolved k i)) a)
 
   at_dissolved_if : (s : Core) (g : List ℕ) (old : ViewId) (b : Option Base) (o : Option Provider) → Full s → Full (dissolved_if s g old b o)
   unfolding dissolved_if
@@ -250,33 +250,33 @@ module _ (h : History) where
 
   at_owed_sent : (s : Core) → Full s → Full (owed_sent s)
   unfolding owed_sent
-  at_owed_sent s a = at_votes_again h Every NoGroup (requests_sent s) (at_requests_sent h Every NoGroup s a)
+  at_owed_sent s a = at_votes_again h Every NoGroup (send_requests s) (at_requests_sent h Every NoGroup s a)
 
   -- (7)
-  at_group_led : (f : Answering) (G : List ℕ → Type 0) (s : Core) (g : List ℕ) → G g → At h Every G s → At h Every G (group_led f s g)
-  unfolding group_led failed_wait phase_reopened
+  at_group_led : (f : Answering) (G : List ℕ → Type 0) (s : Core) (g : List ℕ) → G g → At h Every G s → At h Every G (lead f s g)
+  unfolding lead wait_failed phase_reopened
   at_group_led f G s g led a = by (is_some (state_of s g).running)
     where
       t : Core
-      t = failed_wait s g (filter (among (state_of s g).members) (state_of s g).failed)
+      t = wait_failed s g (filter (among (state_of s g).members) (state_of s g).failed)
 
       waits : At h Every G t
       waits =
-          at_fold h Every G (λ t p. with_waiting t g (waits_failure p Died)) (filter (among (state_of s g).members) (state_of s g).failed) (λ t p i k. at_fails h Every G t g p Died k) s a
+          at_fold h Every G (λ t p. with_waiting t g (add_failure p Died)) (filter (among (state_of s g).members) (state_of s g).failed) (λ t p i k. at_fails h Every G t g p Died k) s a
 
       by : (b : Bool) → At h Every G (phase_reopened f t g b)
       by false = waits
       by true = at_closes h Every G f (tally_opened t g) g tt led (at_opened_anew h Every G t g led waits)
 
-  at_groups_led : (f : Answering) (s : Core) → Full s → Full (groups_led f s)
-  unfolding groups_led
-  at_groups_led f s a = at_led_groups h (group_led f) (at_group_led f) s a
+  at_groups_led : (f : Answering) (s : Core) → Full s → Full (lead_groups f s)
+  unfolding lead_groups
+  at_groups_led f s a = at_led_groups h (lead f) (at_group_led f) s a
 
   at_entered : (f : Answering) (s : Core) (i : Install) (xs : List Lacking) → InstallCast (s.records ++ records_of h) i → LackingCast (s.records ++ records_of h) xs → Full s → Full (entered f s i xs)
-  unfolding entered lists_filled
+  unfolding entered fill_lists
   at_entered f s i xs ok lacks a =
       let k = all_filled f xs s lacks (at_for h Every NoGroup NoGroup NoGroup s (λ g z. absurd z) (λ g z. absurd z) a) in
-      let t : Core = lists_filled f s xs in
+      let t : Core = fill_lists f s xs in
       let bs : List Base = bases_of i in
       let v : Core = view_entered t i bs in
       let d : Core = sides_dissolved v (held_rows t) t.views.view bs in
@@ -284,8 +284,8 @@ module _ (h : History) where
       let e : Full d = at_sides v (held_rows t) t.views.view bs b in
       at_groups_led f (owed_sent (taken_sent (entering_noted d bs))) (at_owed_sent (taken_sent (entering_noted d bs)) (at_taken_sent (entering_noted d bs) (at_entering_noted d bs e)))
 
-  at_applied : (f : Answering) (s : Core) (o : Option Install) → InstallIfCast (s.records ++ records_of h) o → Full s → Full (install_applied f s o)
-  unfolding install_applied entered_if
+  at_applied : (f : Answering) (s : Core) (o : Option Install) → InstallIfCast (s.records ++ records_of h) o → Full s → Full (apply_install f s o)
+  unfolding apply_install entered_if
   at_applied f s None ok a = a
   at_applied f s (Some i) ok a = by (lacking s i) (lacking_cast (s.records ++ records_of h) s i ok)
     where
@@ -296,7 +296,7 @@ module _ (h : History) where
   -- ---- a row of views
 
   views_sent : (xs : List ViewSend) (s : Core) → ((x : ViewSend) → Has x xs → ViewPacketCast (s.records ++ records_of h) x.packet) → Full s → Full (fold (λ t (x : ViewSend). sent t x.to (body.View x.packet)) s xs) × ((fold (λ t (x : ViewSend). sent t x.to (body.View x.packet)) s xs).records ≡ s.records)
-  unfolding sent sent_on
+  unfolding sent send_on
   views_sent [] s all a = (a, refl)
   views_sent (x ∷ xs) s all a = views_sent xs (sent s x.to (body.View x.packet)) (λ y i. all y (inr i)) (at_sent h Every NoGroup s x.to (body.View x.packet) (all x (inl refl)) a)
 

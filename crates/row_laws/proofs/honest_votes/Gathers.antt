@@ -1,29 +1,29 @@
 -- What nodes gather for a view, and install.
 use Rattle.std.proofs.Common.{◌≡◌, ◌⊎◌, ℕ, List, [], ◌∷◌, Option, Some, None, Bool, true, false, refl, sym, subst, inl, inr, ⊎_elim}
 use Rattle.std.specs.Prelude.{◌==◌, ◌&&◌, not, map, filter, length, nat_le, if◌then◌else◌}
-use Rattle.rsct_packet.specs.declared.ids.ViewId.{ViewId}
-use Rattle.rsct_packet.specs.declared.mask.Mask.{Mask}
-use Rattle.rsct_packet.specs.Ids.{same_view, is_member}
-use Rattle.rsct_packet.specs.Mask.{has_node, with_node, nodes_of}
-use Rattle.rsct_packet.specs.Search.{Has, place_where, edit_where, insert_before}
-use Rattle.rsct_packet.proofs.HasLaws.{has_append, has_map}
-use Rattle.view_state.specs.declared.answer.Answer.{Answer}
-use Rattle.view_state.specs.declared.exchange.Exchange.{Exchange}
-use Rattle.view_state.specs.declared.sides.Kept.{Kept}
-use Rattle.view_state.specs.declared.sides.Side.{Side}
-use Rattle.view_state.specs.declared.install.Part.{Part}
-use Rattle.view_state.specs.declared.install.Source.{Source}
-use Rattle.view_state.specs.declared.install.Install.{Install}
-use Rattle.view_state.specs.Parts.{part_len}
-use Rattle.view_state.specs.Answers.{max_parts, opened, may_answer, has_answered, kept_of, is_beaten, better_of, is_kept_of, is_kept_above, with_kept_at, with_kept, with_parts, side_with, side_from, is_side_of, is_side_above, with_side_at, with_side, with_answer, all_answered, source_of, install_of, is_spelled}
-use Rattle.view_state.specs.declared.packet.ViewPacket.{ViewPacket}
-use Rattle.view_state.specs.declared.packet.ViewPacket.TheVariants as packet
-use Rattle.view_state.specs.declared.packet.ViewSend.{ViewSend}
-use Rattle.view_state.specs.declared.views.Views.{Views}
-use Rattle.view_state.specs.declared.views.RingAsk.{RingAsk}
-use Rattle.view_state.specs.declared.views.ViewWork.{ViewWork}
-use Rattle.view_state.specs.Views.{is_frozen, is_coordinator, others_of, view_sent, view_sent_all, gathering_set, promised, installs, gathered, gathers, own_answer, asks_view, next_view, may_ask, ask_if, ask_row, answered, prepared, prepare_row, answer_to, answer_row, refused_by, refuse_to, refuse_row, installed, install_row, taken_row, aged, prepared_again, tick_asks, stuck_noted, asks_or_ages, gathering_ticks, install_again_of, install_again, views_at_work}
-use Rattle.node_state.specs.declared.happened.Happened.{Happened}
+use Rattle.step_refinement.specs.rsct_packet.declared.ids.ViewId.{ViewId}
+use Rattle.step_refinement.specs.rsct_packet.declared.mask.Mask.{Mask}
+use Rattle.step_refinement.specs.rsct_packet.Ids.{same_view, is_member}
+use Rattle.step_refinement.specs.rsct_packet.Mask.{has_node, with_node, nodes_of}
+use Rattle.step_refinement.specs.rsct_packet.Search.{Has, place_where, edit_where, insert_before}
+use Rattle.step_refinement.proofs.rsct_packet_laws.HasLaws.{has_append, has_map}
+use Rattle.step_refinement.specs.view_state.declared.answer.Answer.{Answer}
+use Rattle.step_refinement.specs.view_state.declared.exchange.Exchange.{Exchange}
+use Rattle.step_refinement.specs.view_state.declared.sides.Kept.{Kept}
+use Rattle.step_refinement.specs.view_state.declared.sides.Side.{Side}
+use Rattle.step_refinement.specs.view_state.declared.install.Part.{Part}
+use Rattle.step_refinement.specs.view_state.declared.install.Source.{Source}
+use Rattle.step_refinement.specs.view_state.declared.install.Install.{Install}
+use Rattle.step_refinement.specs.view_state.Parts.{part_len}
+use Rattle.step_refinement.specs.view_state.Answers.{max_parts, opened, may_answer, has_answered, kept_of, is_beaten, better_of, is_kept_of, is_kept_above, with_kept_at, with_kept, with_parts, side_with, side_from, is_side_of, is_side_above, with_side_at, with_side, with_answer, all_answered, source_of, install_of, is_spelled}
+use Rattle.step_refinement.specs.view_state.declared.packet.ViewPacket.{ViewPacket}
+use Rattle.step_refinement.specs.view_state.declared.packet.ViewPacket.TheVariants as packet
+use Rattle.step_refinement.specs.view_state.declared.packet.ViewSend.{ViewSend}
+use Rattle.step_refinement.specs.view_state.declared.views.Views.{Views}
+use Rattle.step_refinement.specs.view_state.declared.views.RingAsk.{RingAsk}
+use Rattle.step_refinement.specs.view_state.declared.views.ViewWork.{ViewWork}
+use Rattle.step_refinement.specs.view_state.Views.{is_frozen, is_coordinator, others_of, view_sent, view_sent_all, gathering_set, promised, begin_install, gathered, gather_on, own_answer, ask_others, next_view, may_ask, ask_if, ask_row, answered, prepare, prepare_row, answer_to, answer_row, refused_by, refuse_to, refuse_row, installed, install_row, taken_row, aged, prepare_again, tick_asks, note_stuck, asks_or_ages, gathering_ticks, install_again_of, install_again, views_at_work}
+use Rattle.step_refinement.specs.node_state.declared.happened.Happened.{Happened}
 use Rattle.row_laws.specs.honest_votes.Casts.{EntriesCast, PartsCast, InstallCast, ExchangeCast, ViewPacketCast, GatheringCast, InstallIfCast, ViewsCast}
 
 has_insert : {A : Type 0} (test : A → Bool) (x y : A) (xs : List A) → Has y (insert_before test x xs) → (y ≡ x) ⊎ Has y xs
@@ -131,23 +131,23 @@ module _ (rs : List Happened) where
     unfolding promised
     promised_work w u k = record { views = (tt, k.views.1); me = k.me; view = k.view; sends = k.sends; install = k.install }
 
-    installs_work : (w : ViewWork) (i : Install) (b : Bool) → InstallCast rs i → WorkIs v w → WorkIs v (installs w i b)
-    unfolding installs
+    installs_work : (w : ViewWork) (i : Install) (b : Bool) → InstallCast rs i → WorkIs v w → WorkIs v (begin_install w i b)
+    unfolding begin_install
     installs_work w i false ok k = k
     installs_work w i true ok k =
         let a = sent_all_work w (others_of w.views.me i.members) (packet.Install i) ok k in
         record { views = a.views; me = a.me; view = a.view; sends = a.sends; install = ok }
 
-    gathers_work : (w : ViewWork) (g : Exchange) → ExchangeCast rs g → WorkIs v w → WorkIs v (gathers w g)
-    unfolding gathers gathered
+    gathers_work : (w : ViewWork) (g : Exchange) → ExchangeCast rs g → WorkIs v w → WorkIs v (gather_on w g)
+    unfolding gather_on gathered
     gathers_work w g ok k = by (all_answered g)
       where
         by : (b : Bool) → WorkIs v (gathered w g b)
         by false = gathering_work w (Some g) ok k
         by true = installs_work (gathering_set w None) (install_of g) (is_spelled (install_of g)) (install_cast g ok) (gathering_work w None tt k)
 
-    asks_work : (w : ViewWork) (u : ViewId) (mask : Mask) (parts : List Part) (b : Bool) → PartsCast rs parts → WorkIs v w → WorkIs v (asks_view w u mask parts b)
-    unfolding asks_view opened
+    asks_work : (w : ViewWork) (u : ViewId) (mask : Mask) (parts : List Part) (b : Bool) → PartsCast rs parts → WorkIs v w → WorkIs v (ask_others w u mask parts b)
+    unfolding ask_others opened
     asks_work w u mask parts false ok k = promised_work w u k
     asks_work w u mask parts true ok k =
         gathers_work (view_sent_all (promised w u) (filter (λ n. not (n == w.views.me)) (nodes_of mask)) (packet.Prepare u mask)) (with_answer (opened u mask) (own_answer w.views parts)) (answer_cast (opened u mask) (own_answer w.views parts) ok (λ s i. absurd i)) (sent_all_work (promised w u) (filter (λ n. not (n == w.views.me)) (nodes_of mask)) (packet.Prepare u mask) tt (promised_work w u k))
@@ -168,8 +168,8 @@ module _ (rs : List Happened) where
         by true = sent_work w u.coord (packet.Answer u w.views.view parts) ok k
         by false = k
 
-    prepared_work : (w : ViewWork) (u : ViewId) (parts : List Part) (a b c : Bool) → PartsCast rs parts → WorkIs v w → WorkIs v (prepared w u parts a b c)
-    unfolding prepared
+    prepared_work : (w : ViewWork) (u : ViewId) (parts : List Part) (a b c : Bool) → PartsCast rs parts → WorkIs v w → WorkIs v (prepare w u parts a b c)
+    unfolding prepare
     prepared_work w u parts true b c ok k = answered_work (promised w u) u parts ok (promised_work w u k)
     prepared_work w u parts false true c ok k = answered_work w u parts ok k
     prepared_work w u parts false false true ok k = sent_work w u.coord (packet.Refuse u w.views.promise.number) tt k
@@ -183,7 +183,7 @@ module _ (rs : List Happened) where
     unfolding answer_row answer_to
     answer_work w u a ok k = by w.views.gathering k.views.0
       where
-        at : (g : Exchange) → ExchangeCast rs g → (b : Bool) → WorkIs v (elim b as (λ _. ViewWork) [ true ↦ gathers w (with_answer g a) | false ↦ w ])
+        at : (g : Exchange) → ExchangeCast rs g → (b : Bool) → WorkIs v (elim b as (λ _. ViewWork) [ true ↦ gather_on w (with_answer g a) | false ↦ w ])
         at g all true = gathers_work w (with_answer g a) (answer_cast g a ok all) k
         at g all false = k
 
@@ -222,26 +222,26 @@ module _ (rs : List Happened) where
 
     -- ---- a tick
 
-    again_work : (w : ViewWork) → WorkIs v w → WorkIs v (prepared_again w w.views.gathering)
-    unfolding prepared_again aged
+    again_work : (w : ViewWork) → WorkIs v w → WorkIs v (prepare_again w w.views.gathering)
+    unfolding prepare_again aged
     again_work w k = by w.views.gathering k.views.0
       where
-        by : (o : Option Exchange) → GatheringCast rs o → WorkIs v (prepared_again w o)
+        by : (o : Option Exchange) → GatheringCast rs o → WorkIs v (prepare_again w o)
         by None all = k
         by (Some g) all =
             sent_all_work (gathering_set w (Some (aged g))) (filter (λ n. not (has_answered g n)) (nodes_of g.asked)) (packet.Prepare g.view g.asked) tt (gathering_work w (Some (aged g)) all k)
 
     pub ticks_work : (w : ViewWork) (a : Option RingAsk) (parts : List Part) → PartsCast rs parts → WorkIs v w → WorkIs v (gathering_ticks w a parts)
-    unfolding gathering_ticks asks_or_ages stuck_noted
+    unfolding gathering_ticks asks_or_ages note_stuck
     ticks_work w None parts ok k = again_work w k
     ticks_work w (Some a) parts ok k = by (tick_asks w.views a)
       where
-        noted_work : WorkIs v (stuck_noted w)
+        noted_work : WorkIs v (note_stuck w)
         noted_work = record { views = k.views; me = k.me; view = k.view; sends = k.sends; install = k.install }
 
-        by : (b : Bool) → WorkIs v (asks_or_ages (stuck_noted w) a parts b)
-        by true = ask_work (stuck_noted w) a.mask parts ok noted_work
-        by false = again_work (stuck_noted w) noted_work
+        by : (b : Bool) → WorkIs v (asks_or_ages (note_stuck w) a parts b)
+        by true = ask_work (note_stuck w) a.mask parts ok noted_work
+        by false = again_work (note_stuck w) noted_work
 
     pub install_again_work : (w : ViewWork) → WorkIs v w → WorkIs v (install_again w)
     unfolding install_again install_again_of

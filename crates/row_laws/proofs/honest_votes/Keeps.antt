@@ -2,26 +2,26 @@
 use Rattle.std.proofs.Common.{◌≡◌, ◌⊎◌, ℕ, List, [], ◌∷◌, ◌++◌, Option, Some, None, Bool, true, false, refl, sym, ◌∙◌, subst, inl, inr, ⊎_elim}
 use Rattle.std.specs.Prelude.{◌||◌, fold, filter, not, if◌then◌else◌}
 use Rattle.std.specs.List.{flat_map}
-use Rattle.rsct_packet.specs.declared.ids.ProviderId.{ProviderId}
-use Rattle.rsct_packet.specs.declared.ids.ProtoId.{ProtoId}
-use Rattle.rsct_packet.specs.Providers.{among}
-use Rattle.rsct_packet.specs.Search.{Has}
-use Rattle.rsct_packet.proofs.HasLaws.{has_append, has_filter}
-use Rattle.proposal_core.specs.declared.entry.Entry.{Entry}
-use Rattle.proposal_core.specs.declared.entry.Entry.TheVariants.{Once, Begin, Phase, Approve, Reject, Late}
-use Rattle.proposal_core.specs.declared.proposal.Proposal.{Proposal}
-use Rattle.proposal_core.specs.declared.proposal.Proposal.TheVariants.{Join, Leave, Fail, Expel, State, Message, Attributes, Reflect}
-use Rattle.proposal_core.specs.declared.group_state.GroupState.{GroupState}
-use Rattle.client_callbacks.specs.declared.ballot.Filled.{Filled}
-use Rattle.client_callbacks.specs.declared.told.Why.{Why}
-use Rattle.client_callbacks.specs.Ballots.{BallotView}
-use Rattle.session_state.specs.declared.casts.Cast.{Cast}
-use Rattle.session_state.specs.declared.state.KeptBallot.{KeptBallot}
-use Rattle.session_state.specs.declared.state.Request.{Request}
-use Rattle.session_state.specs.declared.state.SessionState.{SessionState}
-use Rattle.session_state.specs.State.{is_kept_in, outstanding, with_provider, request_ended, without_providers}
-use Rattle.session_state.specs.HandOn.{kept_ended, kept_after, beginners, hearers, part_taken, taking_part, opened_after, phases_opened, kept_by, casts_kept, proposal_begun, requests_after, removed_from, casts_out, heard, handed_on, takes_telling, told_of, telling_taken, is_join_request, is_dissolved}
-use Rattle.node_state.specs.declared.happened.Happened.{Happened}
+use Rattle.step_refinement.specs.rsct_packet.declared.ids.ProviderId.{ProviderId}
+use Rattle.step_refinement.specs.rsct_packet.declared.ids.ProtoId.{ProtoId}
+use Rattle.step_refinement.specs.rsct_packet.Providers.{among}
+use Rattle.step_refinement.specs.rsct_packet.Search.{Has}
+use Rattle.step_refinement.proofs.rsct_packet_laws.HasLaws.{has_append, has_filter}
+use Rattle.step_refinement.specs.proposal_core.declared.entry.Entry.{Entry}
+use Rattle.step_refinement.specs.proposal_core.declared.entry.Entry.TheVariants.{Once, Begin, Phase, Approve, Reject, Late}
+use Rattle.step_refinement.specs.proposal_core.declared.proposal.Proposal.{Proposal}
+use Rattle.step_refinement.specs.proposal_core.declared.proposal.Proposal.TheVariants.{Join, Leave, Fail, Expel, State, Message, Attributes, Reflect}
+use Rattle.step_refinement.specs.proposal_core.declared.group_state.GroupState.{GroupState}
+use Rattle.step_refinement.specs.client_callbacks.declared.ballot.Filled.{Filled}
+use Rattle.step_refinement.specs.client_callbacks.declared.told.Why.{Why}
+use Rattle.step_refinement.specs.client_callbacks.Ballots.{BallotView}
+use Rattle.step_refinement.specs.session_state.declared.casts.Cast.{Cast}
+use Rattle.step_refinement.specs.session_state.declared.state.KeptBallot.{KeptBallot}
+use Rattle.step_refinement.specs.session_state.declared.state.Request.{Request}
+use Rattle.step_refinement.specs.session_state.declared.state.SessionState.{SessionState}
+use Rattle.step_refinement.specs.session_state.State.{is_kept_in, outstanding, with_provider, end_request, without_providers}
+use Rattle.step_refinement.specs.session_state.HandOn.{kept_ended, kept_after, beginners, hearers, part_taken, taking_part, opened_after, open_phases, kept_by, keep_casts, proposal_begun, requests_after, removed_from, casts_out, heard, handed_on, takes_telling, told_of, take_telling, is_join_request, is_dissolved}
+use Rattle.step_refinement.specs.node_state.declared.happened.Happened.{Happened}
 use Rattle.row_laws.specs.honest_votes.Casts.{KeptCast}
 use Rattle.row_laws.proofs.honest_votes.Sends.{CastIs}
 
@@ -52,13 +52,13 @@ unfolding with_provider
 opened_same e after [] s = refl
 opened_same e after (p ∷ ps) s = opened_same e after ps (with_provider s p (opened_after e after))
 
-joins_same : (ps : List ProviderId) (s : SessionState) → (fold (λ t (p : ProviderId). request_ended t p p.join) s ps).kept ≡ s.kept
-unfolding request_ended
+joins_same : (ps : List ProviderId) (s : SessionState) → (fold (λ t (p : ProviderId). end_request t p p.join) s ps).kept ≡ s.kept
+unfolding end_request
 joins_same [] s = refl
-joins_same (p ∷ ps) s = joins_same ps (request_ended s p p.join)
+joins_same (p ∷ ps) s = joins_same ps (end_request s p p.join)
 
 begun_same : (s : SessionState) (x : Proposal) → (proposal_begun s x).kept ≡ s.kept
-unfolding proposal_begun request_ended
+unfolding proposal_begun end_request
 begun_same s (Join ps attrs n) = joins_same ps s
 begun_same s (Leave p r) = refl
 begun_same s (Fail out) = refl
@@ -82,13 +82,13 @@ unfolding without_providers
 without_no_more s ps k i = (has_filter (λ k. not (among ps k.p)) k s.kept i).0
 
 handed_kept : (s : SessionState) (g : List ℕ) (before after : GroupState) (e : Entry) (bs : List (Option Filled)) (k : KeptBallot) → Has k (handed_on s g before after e bs).kept → Has k s.kept ⊎ Has k (flat_map (λ (c : Cast). kept_by g c.p c.cast) (casts_out s g before after e bs))
-unfolding handed_on heard part_taken phases_opened casts_kept
+unfolding handed_on heard part_taken open_phases keep_casts
 handed_kept s g before after e bs k i =
     let ps : List ProviderId = hearers s g before e in
     let t : SessionState = part_taken (kept_after s g e) (beginners s g e) in
-    let o : SessionState = phases_opened t e after ps in
+    let o : SessionState = open_phases t e after ps in
     let cs : List Cast = casts_out s g before after e bs in
-    let u : SessionState = casts_kept o g cs in
+    let u : SessionState = keep_casts o g cs in
     let d : SessionState = requests_after u e in
     let was : o.kept ≡ (kept_after s g e).kept = opened_same e after ps t ∙ parts_same (beginners s g e) (kept_after s g e) in
     let j : Has k d.kept = without_no_more d (removed_from after ps) k i in
@@ -115,8 +115,8 @@ handed_casts rs s g before after e bs old new k i =
     ⊎_elim (λ (a : Has k s.kept). old k a) (λ (a : Has k (flat_map (λ (c : Cast). kept_by g c.p c.cast) (casts_out s g before after e bs))). new_kept rs g (casts_out s g before after e bs) k a new) (handed_kept s g before after e bs k i)
 
 -- a provider is told
-pub told_no_more : (s : SessionState) (p : ProviderId) (r : ℕ) (y : Why) → KeepsNoMore s (telling_taken s p r y)
-unfolding telling_taken told_of
+pub told_no_more : (s : SessionState) (p : ProviderId) (r : ℕ) (y : Why) → KeepsNoMore s (take_telling s p r y)
+unfolding take_telling told_of
 told_no_more s p r y = by (takes_telling s p r y) (is_join_request (outstanding s p)) (is_dissolved y)
   where
     by : (a b c : Bool) → KeepsNoMore s (if a then (if b || c then without_providers s (p ∷ []) else record s { requests = filter (λ (q : Request). not (among (p ∷ []) q.p)) s.requests }) else s)

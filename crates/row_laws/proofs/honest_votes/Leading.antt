@@ -2,38 +2,38 @@
 use Rattle.std.proofs.Common.{◌≡◌, ◌⊎◌, ℕ, zero, suc, ◌-◌, max, List, [], ◌∷◌, ◌++◌, drop, Option, Some, None, Bool, true, false, refl, sym, ap, ◌∙◌, subst, inl, inr}
 use Rattle.std.specs.Prelude.{not, filter, nat_le, reverse, if◌then◌else◌}
 use Rattle.std.proofs.lemmas.Bool.{and_parts}
-use Rattle.rsct_packet.specs.declared.ids.ViewId.{ViewId}
-use Rattle.rsct_packet.specs.declared.ids.ProviderId.{ProviderId}
-use Rattle.rsct_packet.specs.Providers.{among, differ}
-use Rattle.rsct_packet.specs.Search.{Has}
-use Rattle.rsct_packet.proofs.HasLaws.{has_append}
-use Rattle.group_attr.specs.declared.attrs.Phases.{Phases}
-use Rattle.group_attr.specs.declared.attrs.Phases.TheVariants.{One, Many}
-use Rattle.proposal_core.specs.declared.proposal.Cause.{Cause}
-use Rattle.proposal_core.specs.declared.proposal.Cause.TheVariants.{Died, Gone}
-use Rattle.proposal_core.specs.declared.proposal.Proposal.{Proposal}
-use Rattle.proposal_core.specs.declared.entry.Entry.{Entry}
-use Rattle.proposal_core.specs.declared.entry.Entry.TheVariants.{Once, Begin}
-use Rattle.proposal_core.specs.declared.group_state.GroupState.{GroupState}
-use Rattle.proposal_core.specs.declared.group_state.Running.{Running}
-use Rattle.proposal_core.specs.Fold.{max_phases, fits, begun, approved, applied, after_if, after}
-use Rattle.proposal_core.proofs.FoldLaws.{idle_approved}
-use Rattle.proposal_core.specs.GroupView.{GroupView}
-use Rattle.proposal_core.specs.Lists.{list_or_new, state_in, has_room, entry_fits, with_entry, forgotten}
-use Rattle.batch_rules.specs.Waiting.{WaitingView, takes_failure, waits_failure}
-use Rattle.vote_phases.specs.Tally.{TallyView}
-use Rattle.node_state.specs.declared.group.GroupRow.{GroupRow}
-use Rattle.node_state.specs.declared.group.Led.{Led}
-use Rattle.node_state.specs.declared.happened.Happened.{Happened}
-use Rattle.node_state.specs.declared.happened.Happened.TheVariants as happened
-use Rattle.node_state.specs.declared.packet.Body.TheVariants as body
-use Rattle.node_state.specs.declared.state.Core.{Core}
-use Rattle.node_state.specs.State.{row_of, with_row, with_led, led_of, list_of, state_of, len_of, fits_at_end, list_forgotten, forgets_below, leader_of, others, least_acked, recorded}
-use Rattle.node_state.specs.Sending.{sent_all}
-use Rattle.node_state.specs.HandOn.{Answering, handed_on}
-use Rattle.node_state.specs.Leading.{put, put_and_handed, forgets_least, with_waiting, waits_if, new_members_wait, appended, appended_if, tally_for, tally_set, tally_opened, closing_entry, is_phase, closes_from, closes, begun_many, begins}
-use Rattle.run_safety.specs.Past.{History, records_of}
-use Rattle.step_ties.proofs.Turns.{has_turned}
+use Rattle.step_refinement.specs.rsct_packet.declared.ids.ViewId.{ViewId}
+use Rattle.step_refinement.specs.rsct_packet.declared.ids.ProviderId.{ProviderId}
+use Rattle.step_refinement.specs.rsct_packet.Providers.{among, differ}
+use Rattle.step_refinement.specs.rsct_packet.Search.{Has}
+use Rattle.step_refinement.proofs.rsct_packet_laws.HasLaws.{has_append}
+use Rattle.step_refinement.specs.group_attr.declared.attrs.Phases.{Phases}
+use Rattle.step_refinement.specs.group_attr.declared.attrs.Phases.TheVariants.{One, Many}
+use Rattle.step_refinement.specs.proposal_core.declared.proposal.Cause.{Cause}
+use Rattle.step_refinement.specs.proposal_core.declared.proposal.Cause.TheVariants.{Died, Gone}
+use Rattle.step_refinement.specs.proposal_core.declared.proposal.Proposal.{Proposal}
+use Rattle.step_refinement.specs.proposal_core.declared.entry.Entry.{Entry}
+use Rattle.step_refinement.specs.proposal_core.declared.entry.Entry.TheVariants.{Once, Begin}
+use Rattle.step_refinement.specs.proposal_core.declared.group_state.GroupState.{GroupState}
+use Rattle.step_refinement.specs.proposal_core.declared.group_state.Running.{Running}
+use Rattle.step_refinement.specs.proposal_core.Fold.{max_phases, fits, begun, approve, apply, after_if, after}
+use Rattle.step_refinement.proofs.proposal_core_laws.FoldLaws.{idle_approved}
+use Rattle.step_refinement.specs.proposal_core.GroupView.{GroupView}
+use Rattle.step_refinement.specs.proposal_core.Lists.{list_or_new, state_in, has_room, entry_fits, with_entry, forgotten}
+use Rattle.step_refinement.specs.batch_rules.Waiting.{WaitingView, takes_failure, add_failure}
+use Rattle.step_refinement.specs.vote_phases.Tally.{TallyView}
+use Rattle.step_refinement.specs.node_state.declared.group.GroupRow.{GroupRow}
+use Rattle.step_refinement.specs.node_state.declared.group.Led.{Led}
+use Rattle.step_refinement.specs.node_state.declared.happened.Happened.{Happened}
+use Rattle.step_refinement.specs.node_state.declared.happened.Happened.TheVariants as happened
+use Rattle.step_refinement.specs.node_state.declared.packet.Body.TheVariants as body
+use Rattle.step_refinement.specs.node_state.declared.state.Core.{Core}
+use Rattle.step_refinement.specs.node_state.State.{row_of, with_row, with_led, led_of, list_of, state_of, len_of, fits_at_end, list_forgotten, forget_below, leader_of, others, least_acked, recorded}
+use Rattle.step_refinement.specs.node_state.Sending.{send_all}
+use Rattle.step_refinement.specs.node_state.HandOn.{Answering, hand_on}
+use Rattle.step_refinement.specs.node_state.Leading.{put, put_and_hand, forget_least, with_waiting, wait_if, new_members_wait, appended, append_if_fits, tally_for, tally_set, tally_opened, closing_entry, is_phase, closes_from, closes, begin_many, begins}
+use Rattle.step_refinement.specs.run_safety.Past.{History, records_of}
+use Rattle.step_refinement.proofs.Turns.{has_turned}
 use Rattle.row_laws.specs.honest_votes.Casts.{NamesOnce, EntryCast, EntriesCast, ListCast, TallyCast}
 use Rattle.row_laws.proofs.honest_votes.More.{entry_on}
 use Rattle.row_laws.proofs.honest_votes.At.{found, leads_row, RowIs, At, at_fold, at_recorded, at_row, at_row_for, more_pushed}
@@ -77,11 +77,11 @@ forgotten_state (Some l) n = by (nat_le n l.len)
 
 -- an entry that begins and ends at once leaves nothing running, and one of who is late leaves what runs
 once_idle : (st : GroupState) (v : ViewId) (i : ℕ) (x : Proposal) → fits st (Once x) ≡ true → (after st v i (Once x)).running ≡ None
-unfolding after after_if applied approved
+unfolding after after_if apply approve
 once_idle st v i x e =
     ap (λ b. (after_if st v i (Once x) b).running) e ∙ idle_approved (begun st v i x) v i None (begun st v i x).running refl
 
-late_same : (st : GroupState) (v : ViewId) (i : ℕ) (e : Entry) → applied st v i e ≡ st → after st v i e ≡ st
+late_same : (st : GroupState) (v : ViewId) (i : ℕ) (e : Entry) → apply st v i e ≡ st → after st v i e ≡ st
 unfolding after after_if
 late_same st v i e same = by (fits st e)
   where
@@ -118,8 +118,8 @@ module _ (h : History) where
         let before : EntryCast (reverse s.records ++ records_of h) e = entry_on (s.records ++ records_of h) (reverse s.records ++ records_of h) (λ x i. has_turned x s.records (records_of h) i) e ok in
         at_recorded h U G (with_row s g f) r before (at_row_for h T G U s g f (λ x. refl) (λ x. refl) (λ x all. entry_pushed (s.records ++ records_of h) (list_or_new x.list) s.views.view e ok all) (λ z. z) others own a)
 
-    pub at_put_and_handed_for : (f : Answering) (s : Core) (to : Option ℕ) (g : List ℕ) (e : Entry) → EntryCast (s.records ++ records_of h) e → ((k : List ℕ) → U k → (g ≡ k → ⊥) → T k) → (U g → RowIs (s.records ++ records_of h) (leads_row s (found s g)) (put_row s (found s g) e)) → At h T G s → At h U G (put_and_handed f s to g e)
-    unfolding put_and_handed
+    pub at_put_and_handed_for : (f : Answering) (s : Core) (to : Option ℕ) (g : List ℕ) (e : Entry) → EntryCast (s.records ++ records_of h) e → ((k : List ℕ) → U k → (g ≡ k → ⊥) → T k) → (U g → RowIs (s.records ++ records_of h) (leads_row s (found s g)) (put_row s (found s g) e)) → At h T G s → At h U G (put_and_hand f s to g e)
+    unfolding put_and_hand
     at_put_and_handed_for f s to g e ok others own a =
         at_handed h U G f (put s g e) to g (len_of s g) (state_of s g) (state_of (put s g e) g) e (at_put_for s g e ok others own a)
 
@@ -135,24 +135,24 @@ module _ (h : History) where
     at_waits s g change waits a = at_led s g (λ l. record l { waiting = change l.waiting }) (λ l. refl) (λ z. waits (found s g).led.waiting z) a
 
     -- a failure that waits leaves the joins as they are
-    pub at_fails : (s : Core) (g : List ℕ) (p : ProviderId) (why : Cause) → At h T G s → At h T G (with_waiting s g (waits_failure p why))
-    at_fails s g p why a = at_waits s g (waits_failure p why) (λ x z. ap differ (joins_stay x (takes_failure p x)) ∙ z) a
+    pub at_fails : (s : Core) (g : List ℕ) (p : ProviderId) (why : Cause) → At h T G s → At h T G (with_waiting s g (add_failure p why))
+    at_fails s g p why a = at_waits s g (add_failure p why) (λ x z. ap differ (joins_stay x (takes_failure p x)) ∙ z) a
       where
         joins_stay : (x : WaitingView) (b : Bool) → (if b then record x { failures = x.failures ++ record { p = p; cause = why } ∷ [] } else x).joins ≡ x.joins
         joins_stay x true = refl
         joins_stay x false = refl
 
-    pub at_forgets : (s : Core) (g : List ℕ) (n : ℕ) → At h T G s → At h T G (forgets_below s g n)
-    unfolding forgets_below
+    pub at_forgets : (s : Core) (g : List ℕ) (n : ℕ) → At h T G s → At h T G (forget_below s g n)
+    unfolding forget_below
     at_forgets s g n a =
         at_row h T G s g (λ row. record row { list = list_forgotten n row.list }) (λ x. refl) (λ x. refl) (λ x all. forgotten_cast (s.records ++ records_of h) x.list n all) (λ z. z) (λ t. row_is_same (s.records ++ records_of h) (leads_row s (found s g)) (found s g) (record (found s g) { list = list_forgotten n (found s g).list }) refl (ap (λ (st : GroupState). st.running) (forgotten_state (found s g).list n)) (a.tallies g t)) a
 
-    pub at_forgets_least : (s : Core) (g : List ℕ) → At h T G s → At h T G (forgets_least s g)
-    unfolding forgets_least
+    pub at_forgets_least : (s : Core) (g : List ℕ) → At h T G s → At h T G (forget_least s g)
+    unfolding forget_least
     at_forgets_least s g a = at_forgets s g (least_acked s g) a
 
-    at_waits_if : (s : Core) (g : List ℕ) (p : ProviderId) (a b : Bool) → At h T G s → At h T G (waits_if s g p a b)
-    unfolding waits_if
+    at_waits_if : (s : Core) (g : List ℕ) (p : ProviderId) (a b : Bool) → At h T G s → At h T G (wait_if s g p a b)
+    unfolding wait_if
     at_waits_if s g p true b k = at_fails s g p Died k
     at_waits_if s g p false true k = at_fails s g p Gone k
     at_waits_if s g p false false k = k
@@ -160,20 +160,20 @@ module _ (h : History) where
     at_new_members : (s : Core) (g : List ℕ) (before after : GroupState) → At h T G s → At h T G (new_members_wait s g before after)
     unfolding new_members_wait
     at_new_members s g before after a =
-        at_fold h T G (λ t p. waits_if t g p (among after.failed p) (among (led_of s g).gone p)) (filter (λ p. not (among before.members p)) after.members) (λ t p i k. at_waits_if t g p (among after.failed p) (among (led_of s g).gone p) k) s a
+        at_fold h T G (λ t p. wait_if t g p (among after.failed p) (among (led_of s g).gone p)) (filter (λ p. not (among before.members p)) after.members) (λ t p i k. at_waits_if t g p (among after.failed p) (among (led_of s g).gone p) k) s a
 
   module _ (T G U : List ℕ → Type 0) where
     pub at_appended_for : (f : Answering) (s : Core) (g : List ℕ) (e : Entry) → EntryCast (s.records ++ records_of h) e → ((k : List ℕ) → U k → (g ≡ k → ⊥) → T k) → (U g → RowIs (s.records ++ records_of h) (leads_row s (found s g)) (put_row s (found s g) e)) → At h T G s → At h U G (appended f s g e)
     unfolding appended put recorded with_row
     at_appended_for f s g e ok rest own a =
         let t : Core = put s g e in
-        let u : Core = sent_all t (others t) (body.Entry t.views.view g (len_of s g) (least_acked t g) e) in
-        let w : Core = handed_on f u (leader_of u g) g (len_of s g) (state_of s g) (state_of t g) e in
+        let u : Core = send_all t (others t) (body.Entry t.views.view g (len_of s g) (least_acked t g) e) in
+        let w : Core = hand_on f u (leader_of u g) g (len_of s g) (state_of s g) (state_of t g) e in
         let put_at : At h U G t = at_put_for T G U s g e ok rest own a in
         let more : EntryCast (t.records ++ records_of h) e = entry_on (s.records ++ records_of h) (t.records ++ records_of h) (λ x i. more_pushed h T G s.records (happened.Put s.views.me s.views.view g (len_of s g) e) x i) e ok in
         let sent_at : At h U G u = at_sent_all h U G (others t) t (body.Entry t.views.view g (len_of s g) (least_acked t g) e) more put_at in
         let handed_at : At h U G w = at_handed h U G f u (leader_of u g) g (len_of s g) (state_of s g) (state_of t g) e sent_at in
-        at_new_members U G (forgets_least w g) g (state_of s g) (state_of t g) (at_forgets_least U G w g handed_at)
+        at_new_members U G (forget_least w g) g (state_of s g) (state_of t g) (at_forgets_least U G w g handed_at)
 
   -- ---- the tally of a phase
 
@@ -232,28 +232,28 @@ module _ (h : History) where
     unfolding closes
     at_closes f s g t led a = at_closes_from max_phases f s g t led a
 
-    at_begun_many : (f : Answering) (s : Core) (g : List ℕ) (x : Proposal) (b : Bool) → NamesOnce x → T g → G g → At h T G s → At h T G (begun_many f s g x b)
-    unfolding begun_many
+    at_begun_many : (f : Answering) (s : Core) (g : List ℕ) (x : Proposal) (b : Bool) → NamesOnce x → T g → G g → At h T G s → At h T G (begin_many f s g x b)
+    unfolding begin_many
     at_begun_many f s g x false once t led a = a
     at_begun_many f s g x true once t led a =
         at_closes f (tally_opened (appended f s g (Begin x)) g) g t led (at_tally_opened (appended f s g (Begin x)) g led (at_appended_loose f s g (Begin x) once a))
 
     pub at_begins : (f : Answering) (s : Core) (g : List ℕ) (x : Proposal) (phases : Phases) → NamesOnce x → T g → G g → At h T G s → At h T G (begins f s g x phases)
-    unfolding begins appended_if fits_at_end entry_fits list_of row_of with_entry
+    unfolding begins append_if_fits fits_at_end entry_fits list_of row_of with_entry
     at_begins f s g x Many once t led a = at_begun_many f s g x (fits_at_end s g (Begin x)) once t led a
     at_begins f s g x One once t led a = by (fits_at_end s g (Once x)) refl
       where
         idle : fits_at_end s g (Once x) ≡ true → (state_in (put_row s (found s g) (Once x)).list).running ≡ None
         idle e = once_idle (state_in (found s g).list) s.views.view (list_or_new (found s g).list).len x (and_parts (fits (state_in (found s g).list) (Once x)) (has_room (list_or_new (found s g).list) (Once x)) e).0
 
-        by : (b : Bool) → fits_at_end s g (Once x) ≡ b → At h T G (appended_if f s g (Once x) b)
+        by : (b : Bool) → fits_at_end s g (Once x) ≡ b → At h T G (append_if_fits f s g (Once x) b)
         by false e = a
         by true e =
             at_appended_for T G T f s g (Once x) once (λ k u ne. u) (λ u. row_is_idle (s.records ++ records_of h) (leads_row s (found s g)) (found s g) (put_row s (found s g) (Once x)) refl (idle e) (a.tallies g u)) a
 
     -- who is late is announced
-    pub at_announces : (f : Answering) (s : Core) (g : List ℕ) (e : Entry) → EntryCast (s.records ++ records_of h) e → ((st : GroupState) (v : ViewId) (i : ℕ) → applied st v i e ≡ st) → (b : Bool) → At h T G s → At h T G (appended_if f s g e b)
-    unfolding appended_if with_entry
+    pub at_announces : (f : Answering) (s : Core) (g : List ℕ) (e : Entry) → EntryCast (s.records ++ records_of h) e → ((st : GroupState) (v : ViewId) (i : ℕ) → apply st v i e ≡ st) → (b : Bool) → At h T G s → At h T G (append_if_fits f s g e b)
+    unfolding append_if_fits with_entry
     at_announces f s g e ok same false a = a
     at_announces f s g e ok same true a =
         at_appended_for T G T f s g e ok (λ k u ne. u) (λ u. row_is_same (s.records ++ records_of h) (leads_row s (found s g)) (found s g) (put_row s (found s g) e) refl (ap (λ (st : GroupState). st.running) (late_same (state_in (found s g).list) s.views.view (list_or_new (found s g).list).len e (same (state_in (found s g).list) s.views.view (list_or_new (found s g).list).len))) (a.tallies g u)) a

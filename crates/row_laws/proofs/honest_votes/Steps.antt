@@ -2,46 +2,46 @@
 use Rattle.std.proofs.Common.{◌≡◌, ℕ, List, [], ◌∷◌, ◌++◌, length, Some, Bool, true, false, refl, sym, ap, ◌∙◌, subst}
 use Rattle.std.specs.Prelude.{◌==◌, slice_get}
 use Rattle.std.proofs.lemmas.Bool.{eqb-true, eq-eqb}
-use Rattle.rsct_packet.specs.declared.ids.ViewId.{ViewId}
-use Rattle.rsct_packet.specs.declared.ids.ProviderId.{ProviderId}
-use Rattle.rsct_packet.specs.declared.mask.Mask.{Mask}
-use Rattle.rsct_packet.specs.Search.{Has}
-use Rattle.rsct_packet.proofs.HasLaws.{append_has_right}
-use Rattle.group_attr.specs.declared.attrs.Phases.{Phases}
-use Rattle.proposal_core.specs.declared.entry.Entry.{Entry}
-use Rattle.proposal_core.specs.declared.proposal.Proposal.{Proposal}
-use Rattle.view_state.specs.declared.packet.ViewPacket.{ViewPacket}
-use Rattle.view_state.specs.declared.packet.ViewPacket.TheVariants as view
-use Rattle.view_state.specs.declared.views.ViewWork.{ViewWork}
-use Rattle.view_state.specs.Views.{views_at_work, ask_row, prepare_row, answer_row, refuse_row, install_row, taken_row}
-use Rattle.node_state.specs.declared.config.Mode.{Mode}
-use Rattle.node_state.specs.declared.config.Mode.TheVariants.{Fixed, Asked, Rings}
-use Rattle.node_state.specs.declared.group.GroupRow.{GroupRow}
-use Rattle.node_state.specs.declared.packet.Body.{Body}
-use Rattle.node_state.specs.declared.packet.Body.TheVariants as body
-use Rattle.node_state.specs.declared.packet.Packet.{Packet}
-use Rattle.node_state.specs.declared.state.Core.{Core}
-use Rattle.node_state.specs.Settings.{is_fixed}
-use Rattle.node_state.specs.State.{row_of, with_row, len_of, is_this, leader_by, leader_in, leads_in, leads, led_by}
-use Rattle.node_state.specs.HandOn.{Answering}
-use Rattle.node_state.specs.Following.{lookup_row, name_row, request_row, tell_row, entry_row, ack_row, vote_row, gone_row}
-use Rattle.node_state.specs.Applying.{own_parts, views_taken}
-use Rattle.node_state.specs.Status.{status_text}
-use Rattle.node_state.specs.Ticks.{rings_part, views_part, owed_part, tick_row}
-use Rattle.node_state.specs.Ending.{step_ended}
-use Rattle.node_state.specs.Step.{NodeEvent, Ticks, Asks, Given, Calls, Garbage, is_used, used_if, order_row, view_row, body_row, packet_row, event_row, stepped, at_work}
-use Rattle.run_safety.specs.Past.{records_of}
-use Rattle.run_safety.specs.Group.{member}
-use Rattle.run_safety.specs.Group as group
-use Rattle.run_safety.proofs.Whole.{Whole}
-use Rattle.run_safety.proofs.Lives.{whole}
-use Rattle.run_safety.proofs.Parts.{member_parts}
-use Rattle.node_state.proofs.NameOrder.{row_here}
-use Rattle.step_ties.specs.Tied.{ShowsBody, ShowsEntry, ShowsLeader, ShowsRequest, Scene, opening_of, Tied}
-use Rattle.step_ties.specs.Rows.{acted, Arises}
-use Rattle.step_ties.proofs.Acks.{used_is}
-use Rattle.step_ties.proofs.Leads.{leader_inc, leads_known}
-use Rattle.step_ties.proofs.RowWorks.{len_is}
+use Rattle.step_refinement.specs.rsct_packet.declared.ids.ViewId.{ViewId}
+use Rattle.step_refinement.specs.rsct_packet.declared.ids.ProviderId.{ProviderId}
+use Rattle.step_refinement.specs.rsct_packet.declared.mask.Mask.{Mask}
+use Rattle.step_refinement.specs.rsct_packet.Search.{Has}
+use Rattle.step_refinement.proofs.rsct_packet_laws.HasLaws.{append_has_right}
+use Rattle.step_refinement.specs.group_attr.declared.attrs.Phases.{Phases}
+use Rattle.step_refinement.specs.proposal_core.declared.entry.Entry.{Entry}
+use Rattle.step_refinement.specs.proposal_core.declared.proposal.Proposal.{Proposal}
+use Rattle.step_refinement.specs.view_state.declared.packet.ViewPacket.{ViewPacket}
+use Rattle.step_refinement.specs.view_state.declared.packet.ViewPacket.TheVariants as view
+use Rattle.step_refinement.specs.view_state.declared.views.ViewWork.{ViewWork}
+use Rattle.step_refinement.specs.view_state.Views.{views_at_work, ask_row, prepare_row, answer_row, refuse_row, install_row, taken_row}
+use Rattle.step_refinement.specs.node_state.declared.config.Mode.{Mode}
+use Rattle.step_refinement.specs.node_state.declared.config.Mode.TheVariants.{Fixed, Asked, Rings}
+use Rattle.step_refinement.specs.node_state.declared.group.GroupRow.{GroupRow}
+use Rattle.step_refinement.specs.node_state.declared.packet.Body.{Body}
+use Rattle.step_refinement.specs.node_state.declared.packet.Body.TheVariants as body
+use Rattle.step_refinement.specs.node_state.declared.packet.Packet.{Packet}
+use Rattle.step_refinement.specs.node_state.declared.state.Core.{Core}
+use Rattle.step_refinement.specs.node_state.Settings.{is_fixed}
+use Rattle.step_refinement.specs.node_state.State.{row_of, with_row, len_of, is_this, leader_by, leader_in, leads_in, leads, set_leader}
+use Rattle.step_refinement.specs.node_state.HandOn.{Answering}
+use Rattle.step_refinement.specs.node_state.Following.{take_lookup, take_name, take_request, take_tell, take_entry, take_ack, take_vote, take_gone}
+use Rattle.step_refinement.specs.node_state.Applying.{own_parts, views_taken}
+use Rattle.step_refinement.specs.node_state.Status.{status_text}
+use Rattle.step_refinement.specs.node_state.Ticks.{tick_rings, tick_views, tick_owed, tick_row}
+use Rattle.step_refinement.specs.node_state.Ending.{end_step}
+use Rattle.step_refinement.specs.node_state.Step.{NodeEvent, Ticks, Asks, Given, Calls, Garbage, is_used, used_if, take_order, view_row, take_body, packet_row, event_row, stepped, at_work}
+use Rattle.step_refinement.specs.run_safety.Past.{records_of}
+use Rattle.step_refinement.specs.run_safety.Group.{member}
+use Rattle.step_refinement.specs.run_safety.Group as group
+use Rattle.step_refinement.proofs.run_safety_laws.Whole.{Whole}
+use Rattle.step_refinement.proofs.run_safety_laws.Lives.{whole}
+use Rattle.step_refinement.proofs.run_safety_laws.Parts.{member_parts}
+use Rattle.step_refinement.proofs.node_state_laws.NameOrder.{row_here}
+use Rattle.step_refinement.specs.Tied.{ShowsBody, ShowsEntry, ShowsLeader, ShowsRequest, Scene, opening_of, Tied}
+use Rattle.step_refinement.specs.Rows.{acted, Arises}
+use Rattle.step_refinement.proofs.Acks.{used_is}
+use Rattle.step_refinement.proofs.Leads.{leader_inc, leads_known}
+use Rattle.step_refinement.proofs.RowWorks.{len_is}
 use Rattle.row_laws.specs.honest_votes.Casts.{BodyCast}
 use Rattle.row_laws.proofs.honest_votes.More.{body_on}
 use Rattle.row_laws.proofs.honest_votes.At.{At, at_sent_on}
@@ -73,8 +73,8 @@ entry_follows v g place stable e w n s p is delivered t used at led =
     past_end (t.ghost.nodes n).list e (past ∙ get)
 
 -- a node that is sent a request leads the group, once it has noted that
-request_leads : (v : ViewId) (g : List ℕ) (q : ProviderId) (r : ℕ) (phases : Phases) (x : Proposal) (w : Scene) (n : ℕ) (s : Core) (p : Packet) → p.body ≡ body.Request v g q r phases x → p.to ≡ n → Has p w.sent → Tied g w n s → is_used s p v ≡ true → leads (led_by s g s.views.me) g ≡ true
-unfolding leads leads_in leader_in led_by with_row
+request_leads : (v : ViewId) (g : List ℕ) (q : ProviderId) (r : ℕ) (phases : Phases) (x : Proposal) (w : Scene) (n : ℕ) (s : Core) (p : Packet) → p.body ≡ body.Request v g q r phases x → p.to ≡ n → Has p w.sent → Tied g w n s → is_used s p v ≡ true → leads (set_leader s g s.views.me) g ≡ true
+unfolding leads leads_in leader_in set_leader with_row
 request_leads v g q r phases x w n s p is to delivered t used = by s.config.mode t.own.0.led
   where
     shown : ShowsRequest t.ghost p.to v q r x
@@ -119,27 +119,27 @@ module _ (w : Scene) (n : ℕ) (f : Answering) (s : Core) (were : (p : Packet) �
   view_at from inc (view.Install i) ok = taken (install_row (views_at_work s.views) i) (install_work (s.records ++ records_of w.before) s.views (views_at_work s.views) i ok begun)
   view_at from inc (view.Taken v) ok = taken (taken_row (views_at_work s.views) from v) (taken_work (s.records ++ records_of w.before) s.views (views_at_work s.views) from v begun)
 
-  body_at : (p : Packet) (b : Body) → p.body ≡ b → p.to ≡ n → Has p w.sent → BodyCast (s.records ++ records_of w.before) b → Full (body_row f s p b)
-  unfolding body_row
+  body_at : (p : Packet) (b : Body) → p.body ≡ b → p.to ≡ n → Has p w.sent → BodyCast (s.records ++ records_of w.before) b → Full (take_body f s p b)
+  unfolding take_body
   body_at p (body.Ring x) is to sent ok = at_ring_row w.before s p.network p.from p.inc x a
   body_at p (body.Report rows) is to sent ok = at_report w.before s rows a
   body_at p (body.View y) is to sent ok = view_at p.from p.inc y ok
-  body_at p (body.Lookup v g) is to sent ok = used (lookup_row s p.from g) (is_used s p v) (λ u. at_lookup w.before s p.from g a)
-  body_at p (body.Name v g k) is to sent ok = used (name_row s g k) (is_used s p v) (λ u. at_name w.before s g k a)
+  body_at p (body.Lookup v g) is to sent ok = used (take_lookup s p.from g) (is_used s p v) (λ u. at_lookup w.before s p.from g a)
+  body_at p (body.Name v g k) is to sent ok = used (take_name s g k) (is_used s p v) (λ u. at_name w.before s g k a)
   body_at p (body.Request v g q r phases x) is to sent ok =
-      used (request_row f s p.from g q r phases x) (is_used s p v) (λ u. at_request w.before f s g (request_leads v g q r phases x w n s p is to sent (all g) u) p.from q r phases x a)
-  body_at p (body.Tell v g q r why) is to sent ok = used (tell_row s q r why) (is_used s p v) (λ u. at_tell w.before s q r why a)
+      used (take_request f s p.from g q r phases x) (is_used s p v) (λ u. at_request w.before f s g (request_leads v g q r phases x w n s p is to sent (all g) u) p.from q r phases x a)
+  body_at p (body.Tell v g q r why) is to sent ok = used (take_tell s q r why) (is_used s p v) (λ u. at_tell w.before s q r why a)
   body_at p (body.Entry v g i k e) is to sent ok =
-      used (entry_row f s p.from g i k e) (is_used s p v) (λ u. at_entry w.before f s p.from g k e ok i (λ at led. entry_follows v g i k e w n s p is sent (all g) u at led) a)
-  body_at p (body.Ack v g k) is to sent ok = used (ack_row s p.from g k) (is_used s p v) (λ u. at_ack w.before s p.from g k a)
+      used (take_entry f s p.from g i k e) (is_used s p v) (λ u. at_entry w.before f s p.from g k e ok i (λ at led. entry_follows v g i k e w n s p is sent (all g) u at led) a)
+  body_at p (body.Ack v g k) is to sent ok = used (take_ack s p.from g k) (is_used s p v) (λ u. at_ack w.before s p.from g k a)
   body_at p (body.Vote v g proto phase q ballot value message) is to sent ok =
-      used (vote_row f s g proto phase q ballot value message) (is_used s p v) (λ u. at_vote w.before f s g proto phase q ballot value message ok a)
-  body_at p (body.Gone v g q) is to sent ok = used (gone_row f s g q) (is_used s p v) (λ u. at_gone w.before f s g q a)
+      used (take_vote f s g proto phase q ballot value message) (is_used s p v) (λ u. at_vote w.before f s g proto phase q ballot value message ok a)
+  body_at p (body.Gone v g q) is to sent ok = used (take_gone f s g q) (is_used s p v) (λ u. at_gone w.before f s g q a)
   body_at p (body.Query question what) is to sent ok = at_sent_on w.before Every NoGroup s p.network p.from (body.Reply question (status_text s what)) tt a
   body_at p (body.Reply question text) is to sent ok = a
 
-  order_at : (mask : Mask) → Full (order_row f s mask)
-  unfolding order_row
+  order_at : (mask : Mask) → Full (take_order f s mask)
+  unfolding take_order
   order_at mask = by (is_fixed s.config.mode)
     where
       by : (b : Bool) → Full (elim b as (λ _. Core) [ true ↦ s | false ↦ views_taken f s (ask_row (views_at_work s.views) mask (own_parts s)) ])
@@ -149,18 +149,18 @@ module _ (w : Scene) (n : ℕ) (f : Answering) (s : Core) (were : (p : Packet) �
   acted_at : (e : NodeEvent) → Arises w e → Full (acted f s e)
   unfolding packet_row
   acted_at Ticks arises =
-      at_led_part w.before f (owed_part (views_part f (rings_part s))) (at_owed_part w.before (views_part f (rings_part s)) (at_views_part w.before f (rings_part s) (at_rings_part w.before s a)))
+      at_led_part w.before f (tick_owed (tick_views f (tick_rings s))) (at_owed_part w.before (tick_views f (tick_rings s)) (at_views_part w.before f (tick_rings s) (at_rings_part w.before s a)))
   acted_at (Asks mask) arises = order_at mask
   acted_at (Calls c) arises = at_call w.before s c a
   acted_at Garbage arises = a
   acted_at (Given p) arises = by (p.to == s.views.me) refl
     where
-      by : (b : Bool) → (p.to == s.views.me) ≡ b → Full (elim b as (λ _. Core) [ true ↦ body_row f s p p.body | false ↦ s ])
+      by : (b : Bool) → (p.to == s.views.me) ≡ b → Full (elim b as (λ _. Core) [ true ↦ take_body f s p p.body | false ↦ s ])
       by false e = a
       by true e =
           body_at p p.body refl (eqb-true p.to s.views.me e ∙ (all []).own.0.stands.me) arises (body_on (records_of w.before) (s.records ++ records_of w.before) (λ r i. append_has_right r s.records (records_of w.before) i) p.body (were p arises))
 
-stepped_is : (f : Answering) (s : Core) (e : NodeEvent) → stepped f s e ≡ step_ended f (acted f (at_work s) e)
+stepped_is : (f : Answering) (s : Core) (e : NodeEvent) → stepped f s e ≡ end_step f (acted f (at_work s) e)
 unfolding stepped event_row tick_row
 stepped_is f s Ticks = refl
 stepped_is f s (Asks mask) = refl

@@ -1,41 +1,41 @@
 -- A tick keeps that votes were cast.
 use Rattle.std.proofs.Common.{◌≡◌, ℕ, zero, suc, ◌+◌, ◌-◌, List, [], ◌∷◌, ◌++◌, take, drop, Option, Some, None, Bool, true, false, refl, sym, ap, subst, inl, inr}
 use Rattle.std.specs.Prelude.{◌==◌, ◌&&◌, not, filter, fold, find}
-use Rattle.rsct_packet.specs.declared.mask.Mask.{Mask}
-use Rattle.rsct_packet.specs.Mask.{nodes_of}
-use Rattle.rsct_packet.specs.declared.ids.ProviderId.{ProviderId}
-use Rattle.rsct_packet.specs.Search.{Has}
-use Rattle.rsct_packet.proofs.HasLaws.{find_has}
-use Rattle.proposal_core.specs.declared.entry.Entry.{Entry}
-use Rattle.proposal_core.specs.declared.entry.Entry.TheVariants.{Late}
-use Rattle.proposal_core.specs.declared.group_state.Running.{Running}
-use Rattle.proposal_core.specs.Fold.{present, applied}
-use Rattle.proposal_core.specs.GroupView.{GroupView}
-use Rattle.proposal_core.specs.Lists.{state_in}
-use Rattle.adapter_ring.specs.declared.ring.Ring.{Ring}
-use Rattle.adapter_ring.specs.declared.ring.RingSet.{RingSet}
-use Rattle.adapter_ring.specs.declared.packet.RingSend.{RingSend}
-use Rattle.adapter_ring.specs.declared.packet.RingPacket.{RingPacket}
-use Rattle.adapter_ring.specs.declared.packet.RingEvent.TheVariants as ring_event
-use Rattle.adapter_ring.specs.declared.work.RingWork.{RingWork}
-use Rattle.adapter_ring.specs.Rings.{ring_stepped}
-use Rattle.node_reach.specs.declared.reach.Reach.{Reach}
-use Rattle.node_reach.specs.Reach as reach
-use Rattle.packet_bodies.specs.declared.body.ReportRow.{ReportRow}
-use Rattle.vote_phases.specs.Tally.{TallyView, expires, open_voters}
-use Rattle.view_state.specs.Views.{views_at_work, gathering_ticks, install_again}
-use Rattle.node_state.specs.declared.group.GroupRow.{GroupRow}
-use Rattle.node_state.specs.declared.happened.Happened.{Happened}
-use Rattle.node_state.specs.declared.packet.Body.TheVariants as body
-use Rattle.node_state.specs.declared.state.Core.{Core}
-use Rattle.node_state.specs.Settings.{is_rings}
-use Rattle.node_state.specs.State.{row_found, row_of, led_of, state_of, held_rows, fits_at_end, frozen, leader_of, led_groups, others, acked_by, least_acked, with_led, has_name}
-use Rattle.node_state.specs.Sending.{sent, sent_on, sent_if_known, requests_sent, votes_sent_again}
-use Rattle.node_state.specs.HandOn.{Answering}
-use Rattle.node_state.specs.Leading.{appended_if, with_tally}
-use Rattle.node_state.specs.Applying.{own_parts, views_taken}
-use Rattle.node_state.specs.Ticks.{ring_put, set_records, ring_taken, ring_row_of, ring_row, row_reported, report_row, rings_union, report_of, report_sent, rings_tick, rings_part, ring_ask, views_part, is_lost, lost_told, owed_part, late_appended, announced, ticked_in, tally_ticks, entries_sent, list_sent_again, sent_again, group_ticks, led_part}
-use Rattle.run_safety.specs.Past.{History, records_of}
+use Rattle.step_refinement.specs.rsct_packet.declared.mask.Mask.{Mask}
+use Rattle.step_refinement.specs.rsct_packet.Mask.{nodes_of}
+use Rattle.step_refinement.specs.rsct_packet.declared.ids.ProviderId.{ProviderId}
+use Rattle.step_refinement.specs.rsct_packet.Search.{Has}
+use Rattle.step_refinement.proofs.rsct_packet_laws.HasLaws.{find_has}
+use Rattle.step_refinement.specs.proposal_core.declared.entry.Entry.{Entry}
+use Rattle.step_refinement.specs.proposal_core.declared.entry.Entry.TheVariants.{Late}
+use Rattle.step_refinement.specs.proposal_core.declared.group_state.Running.{Running}
+use Rattle.step_refinement.specs.proposal_core.Fold.{present, apply}
+use Rattle.step_refinement.specs.proposal_core.GroupView.{GroupView}
+use Rattle.step_refinement.specs.proposal_core.Lists.{state_in}
+use Rattle.step_refinement.specs.adapter_ring.declared.ring.Ring.{Ring}
+use Rattle.step_refinement.specs.adapter_ring.declared.ring.RingSet.{RingSet}
+use Rattle.step_refinement.specs.adapter_ring.declared.packet.RingSend.{RingSend}
+use Rattle.step_refinement.specs.adapter_ring.declared.packet.RingPacket.{RingPacket}
+use Rattle.step_refinement.specs.adapter_ring.declared.packet.RingEvent.TheVariants as ring_event
+use Rattle.step_refinement.specs.adapter_ring.declared.work.RingWork.{RingWork}
+use Rattle.step_refinement.specs.adapter_ring.Rings.{ring_step}
+use Rattle.step_refinement.specs.node_reach.declared.reach.Reach.{Reach}
+use Rattle.step_refinement.specs.node_reach.Reach as reach
+use Rattle.step_refinement.specs.packet_bodies.declared.body.ReportRow.{ReportRow}
+use Rattle.step_refinement.specs.vote_phases.Tally.{TallyView, expires, open_voters}
+use Rattle.step_refinement.specs.view_state.Views.{views_at_work, gathering_ticks, install_again}
+use Rattle.step_refinement.specs.node_state.declared.group.GroupRow.{GroupRow}
+use Rattle.step_refinement.specs.node_state.declared.happened.Happened.{Happened}
+use Rattle.step_refinement.specs.node_state.declared.packet.Body.TheVariants as body
+use Rattle.step_refinement.specs.node_state.declared.state.Core.{Core}
+use Rattle.step_refinement.specs.node_state.Settings.{is_rings}
+use Rattle.step_refinement.specs.node_state.State.{row_found, row_of, led_of, state_of, held_rows, fits_at_end, frozen, leader_of, led_groups, others, acked_by, least_acked, with_led, has_name}
+use Rattle.step_refinement.specs.node_state.Sending.{sent, send_on, send_if_known, send_requests, send_votes_again}
+use Rattle.step_refinement.specs.node_state.HandOn.{Answering}
+use Rattle.step_refinement.specs.node_state.Leading.{append_if_fits, with_tally}
+use Rattle.step_refinement.specs.node_state.Applying.{own_parts, views_taken}
+use Rattle.step_refinement.specs.node_state.Ticks.{ring_put, set_records, ring_taken, ring_row_of, ring_row, row_reported, take_report, rings_union, report_of, send_report, rings_tick, tick_rings, ring_ask, tick_views, is_lost, lost_told, tick_owed, late_appended, announced, ticked_in, tally_ticks, entries_sent, list_sent_again, sent_again, tick_group, tick_led}
+use Rattle.step_refinement.specs.run_safety.Past.{History, records_of}
 use Rattle.row_laws.specs.honest_votes.Casts.{RecordCast, EntriesCast, ListCast, TallyCast}
 use Rattle.row_laws.proofs.honest_votes.At.{found, leads_row, RowIs, At, at_fold, at_sent, at_sent_on, at_recorded_all, at_row}
 use Rattle.row_laws.proofs.honest_votes.Sends.{at_sent_all, at_sent_if_known, at_requests_sent, at_votes_again}
@@ -80,8 +80,8 @@ module _ (h : History) where
   at_ring_taken : (s : Core) (w : RingWork) → Full s → Full (ring_taken s w)
   unfolding ring_taken
   at_ring_taken s w a =
-      let t : Core = fold (λ u (x : RingSend). sent_on u x.network x.to (body.Ring x.packet)) (record s { rings = ring_put s.rings w.ring }) w.sends in
-      at_recorded_all h Every NoGroup (set_records s.views.me w.ring.net w.set) t (set_no_put s.views.me w.ring.net w.set) (at_fold h Every NoGroup (λ u (x : RingSend). sent_on u x.network x.to (body.Ring x.packet)) w.sends (λ u x i k. at_sent_on h Every NoGroup u x.network x.to (body.Ring x.packet) tt k) (record s { rings = ring_put s.rings w.ring }) (at_rings s (ring_put s.rings w.ring) a))
+      let t : Core = fold (λ u (x : RingSend). send_on u x.network x.to (body.Ring x.packet)) (record s { rings = ring_put s.rings w.ring }) w.sends in
+      at_recorded_all h Every NoGroup (set_records s.views.me w.ring.net w.set) t (set_no_put s.views.me w.ring.net w.set) (at_fold h Every NoGroup (λ u (x : RingSend). send_on u x.network x.to (body.Ring x.packet)) w.sends (λ u x i k. at_sent_on h Every NoGroup u x.network x.to (body.Ring x.packet) tt k) (record s { rings = ring_put s.rings w.ring }) (at_rings s (ring_put s.rings w.ring) a))
 
   pub at_ring_row : (s : Core) (network from inc : ℕ) (x : RingPacket) → Full s → Full (ring_row s network from inc x)
   unfolding ring_row ring_row_of
@@ -89,34 +89,34 @@ module _ (h : History) where
     where
       by : (o : Option Ring) → Full (ring_row_of s from inc x o)
       by None = a
-      by (Some r) = at_ring_taken s (ring_stepped r (ring_event.Packet from inc x)) a
+      by (Some r) = at_ring_taken s (ring_step r (ring_event.Packet from inc x)) a
 
-  pub at_report : (s : Core) (rows : List ReportRow) → Full s → Full (report_row s rows)
-  unfolding report_row
+  pub at_report : (s : Core) (rows : List ReportRow) → Full s → Full (take_report s rows)
+  unfolding take_report
   at_report s rows a = at_reach s (fold row_reported s.reach rows) a
 
-  at_report_sent : (s : Core) (m : Mask) → Full s → Full (report_sent s m)
-  unfolding report_sent
+  at_report_sent : (s : Core) (m : Mask) → Full s → Full (send_report s m)
+  unfolding send_report
   at_report_sent s m a =
-      let t : Core = record s { reach = reach.own_set s.reach m } in
-      at_sent_all h Every NoGroup (filter (λ n. not (n == s.views.me)) (nodes_of m)) t (body.Report (report_of t.reach)) tt (at_reach s (reach.own_set s.reach m) a)
+      let t : Core = record s { reach = reach.set_own s.reach m } in
+      at_sent_all h Every NoGroup (filter (λ n. not (n == s.views.me)) (nodes_of m)) t (body.Report (report_of t.reach)) tt (at_reach s (reach.set_own s.reach m) a)
 
-  pub at_rings_part : (s : Core) → Full s → Full (rings_part s)
-  unfolding rings_part rings_tick
+  pub at_rings_part : (s : Core) → Full s → Full (tick_rings s)
+  unfolding tick_rings rings_tick
   at_rings_part s a = by (is_rings s.config.mode)
     where
       t : Core
-      t = fold (λ u (r : Ring). ring_taken u (ring_stepped r ring_event.Tick)) s s.rings
+      t = fold (λ u (r : Ring). ring_taken u (ring_step r ring_event.Tick)) s s.rings
 
-      by : (b : Bool) → Full (elim b as (λ _. Core) [ true ↦ report_sent t (rings_union t.rings) | false ↦ s ])
+      by : (b : Bool) → Full (elim b as (λ _. Core) [ true ↦ send_report t (rings_union t.rings) | false ↦ s ])
       by true =
-          at_report_sent t (rings_union t.rings) (at_fold h Every NoGroup (λ u (r : Ring). ring_taken u (ring_stepped r ring_event.Tick)) s.rings (λ u r i k. at_ring_taken u (ring_stepped r ring_event.Tick) k) s a)
+          at_report_sent t (rings_union t.rings) (at_fold h Every NoGroup (λ u (r : Ring). ring_taken u (ring_step r ring_event.Tick)) s.rings (λ u r i k. at_ring_taken u (ring_step r ring_event.Tick) k) s a)
       by false = a
 
   -- ---- views
 
-  pub at_views_part : (f : Answering) (s : Core) → Full s → Full (views_part f s)
-  unfolding views_part
+  pub at_views_part : (f : Answering) (s : Core) → Full s → Full (tick_views f s)
+  unfolding tick_views
   at_views_part f s a =
       let t : Core = views_taken f s (gathering_ticks (views_at_work s.views) (ring_ask s) (own_parts s)) in
       let k : Full t = at_views_taken h f s (gathering_ticks (views_at_work s.views) (ring_ask s) (own_parts s)) (ticks_work (s.records ++ records_of h) s.views (views_at_work s.views) (ring_ask s) (own_parts s) (own_parts_cast h s a) (begun_work (s.records ++ records_of h) s.views a.views)) a in
@@ -127,24 +127,24 @@ module _ (h : History) where
   at_lost : (s : Core) (row : GroupRow) → Full s → Full (lost_told s row)
   unfolding lost_told
   at_lost s row a =
-      at_fold h Every NoGroup (λ t p. sent_if_known t (leader_of t row.name) (body.Gone t.views.view row.name p)) (filter (is_lost s) (present (state_in row.list))) (λ t p i k. at_sent_if_known h Every NoGroup t (leader_of t row.name) (body.Gone t.views.view row.name p) tt k) s a
+      at_fold h Every NoGroup (λ t p. send_if_known t (leader_of t row.name) (body.Gone t.views.view row.name p)) (filter (is_lost s) (present (state_in row.list))) (λ t p i k. at_sent_if_known h Every NoGroup t (leader_of t row.name) (body.Gone t.views.view row.name p) tt k) s a
 
-  pub at_owed_part : (s : Core) → Full s → Full (owed_part s)
-  unfolding owed_part
+  pub at_owed_part : (s : Core) → Full s → Full (tick_owed s)
+  unfolding tick_owed
   at_owed_part s a = by (frozen s)
     where
       t : Core
-      t = requests_sent s
+      t = send_requests s
 
-      by : (b : Bool) → Full (elim b as (λ _. Core) [ true ↦ s | false ↦ votes_sent_again (fold lost_told t (held_rows t)) ])
+      by : (b : Bool) → Full (elim b as (λ _. Core) [ true ↦ s | false ↦ send_votes_again (fold lost_told t (held_rows t)) ])
       by true = a
       by false = at_votes_again h Every NoGroup (fold lost_told t (held_rows t)) (at_fold h Every NoGroup lost_told (held_rows t) (λ u row i k. at_lost u row k) t (at_requests_sent h Every NoGroup s a))
 
   -- ---- what is led
 
   module _ (f : Answering) (G : List ℕ → Type 0) where
-    late_leaves : (run : Running) (ps : List ProviderId) (b : Bool) (s : Core) (g : List ℕ) → At h Every G s → At h Every G (appended_if f s g (Late run.proto run.phase ps) b)
-    unfolding applied
+    late_leaves : (run : Running) (ps : List ProviderId) (b : Bool) (s : Core) (g : List ℕ) → At h Every G s → At h Every G (append_if_fits f s g (Late run.proto run.phase ps) b)
+    unfolding apply
     late_leaves run ps b s g a = at_announces h Every G f s g (Late run.proto run.phase ps) tt (λ st v i. refl) b a
 
     at_late : (s : Core) (g : List ℕ) (t : TallyView) (o : Option Running) → At h Every G s → At h Every G (late_appended f s g t o)
@@ -170,7 +170,7 @@ module _ (h : History) where
         at_closes h Every G f (with_tally u g (ticked_in (led_of u g).tally)) g tt led (at_ticked u g (at_announced s g t (s.sessions.level == 2 && expires t) a))
 
     at_entries_sent : (to : ℕ) (g : List ℕ) (i stable : ℕ) (es : List Entry) (s : Core) → EntriesCast (s.records ++ records_of h) es → At h Every G s → At h Every G (entries_sent to g i stable es s)
-    unfolding entries_sent sent sent_on
+    unfolding entries_sent sent send_on
     at_entries_sent to g i stable [] s all a = a
     at_entries_sent to g i stable (e ∷ es) s all a =
         at_entries_sent to g (i + 1) stable es (sent s to (body.Entry s.views.view g i stable e)) (λ d j. all d (inr j)) (at_sent h Every G s to (body.Entry s.views.view g i stable e) (all e (inl refl)) a)
@@ -191,16 +191,16 @@ module _ (h : History) where
         by (Some l) all =
             at_entries_sent n g (acked_by s (found s g) n) (least_acked s g) (take 16 (drop (acked_by s (found s g) n - l.start) l.entries)) s (λ e i. all e (has_dropped (acked_by s (found s g) n - l.start) l.entries e (has_taken 16 (drop (acked_by s (found s g) n - l.start) l.entries) e i))) a
 
-    at_group_ticks : (s : Core) (g : List ℕ) → G g → At h Every G s → At h Every G (group_ticks f s g)
-    unfolding group_ticks
+    at_group_ticks : (s : Core) (g : List ℕ) → G g → At h Every G s → At h Every G (tick_group f s g)
+    unfolding tick_group
     at_group_ticks s g led a =
         let t : Core = tally_ticks f s g (led_of s g).tally in
         at_fold h Every G (sent_again g) (others t) (λ u n i k. at_again g u n k) t (at_tally_ticks s g (led_of s g).tally led a)
 
-  pub at_led_part : (f : Answering) (s : Core) → Full s → Full (led_part f s)
-  unfolding led_part
+  pub at_led_part : (f : Answering) (s : Core) → Full s → Full (tick_led f s)
+  unfolding tick_led
   at_led_part f s a = by (frozen s)
     where
-      by : (b : Bool) → Full (elim b as (λ _. Core) [ true ↦ s | false ↦ fold (group_ticks f) s (led_groups s) ])
+      by : (b : Bool) → Full (elim b as (λ _. Core) [ true ↦ s | false ↦ fold (tick_group f) s (led_groups s) ])
       by true = a
-      by false = at_led_groups h (group_ticks f) (at_group_ticks f) s a
+      by false = at_led_groups h (tick_group f) (at_group_ticks f) s a

@@ -2,39 +2,39 @@
 use Rattle.std.proofs.Common.{◌≡◌, ◌⊎◌, ◌≤◌, ℕ, ◌+◌, List, [], ◌∷◌, ◌++◌, Option, Some, None, Bool, true, false, refl, sym, ap, ◌∙◌, subst, inl, inr, ⊎_elim, arith}
 use Rattle.std.specs.Prelude.{not, find, filter, fold, if◌then◌else◌, Result, Ok, Err}
 use Rattle.std.specs.List.{last_or}
-use Rattle.rsct_packet.specs.declared.ids.ProviderId.{ProviderId}
-use Rattle.rsct_packet.specs.Providers.{among}
-use Rattle.rsct_packet.specs.Search.{Has}
-use Rattle.rsct_packet.proofs.HasLaws.{has_append, has_filter, append_has_right, find_has}
-use Rattle.group_attr.specs.declared.attrs.Attrs.{Attrs}
-use Rattle.group_attr.specs.declared.attrs.Phases.{Phases}
-use Rattle.group_attr.specs.declared.attrs.Phases.TheVariants.{One}
-use Rattle.proposal_core.specs.declared.proposal.Proposal.{Proposal}
-use Rattle.proposal_core.specs.declared.proposal.Proposal.TheVariants.{Join, Attributes}
-use Rattle.proposal_core.specs.Fold.{joins_of}
-use Rattle.client_callbacks.specs.declared.ballot.Filled.{Filled}
-use Rattle.subscribe_core.specs.declared.subs.ClientToken.{ClientToken}
-use Rattle.session_state.specs.declared.fault.GsFault.{GsFault}
-use Rattle.session_state.specs.declared.state.KeptBallot.{KeptBallot}
-use Rattle.session_state.specs.declared.state.MemberToken.{MemberToken}
-use Rattle.session_state.specs.declared.state.Provider.{Provider}
-use Rattle.session_state.specs.declared.state.Request.{Request}
-use Rattle.session_state.specs.declared.state.SessionState.{SessionState}
-use Rattle.session_state.specs.State.{provider_of, is_provider, is_member_of, is_client_of, client_token}
-use Rattle.session_state.specs.Calls.{unless_fault, if_session, is_empty, new_provider, session_added, inited, join_fault, join_asked, joined, asked, ask_fault, member_asks, request_made, left, expelled, state_changed, message_sent, member_changes, attributes_changed, subscribe_taken, unsubscribe_taken, session_ended, goodbye_taken}
-use Rattle.session_state.specs.HandOn.{is_join}
-use Rattle.node_state.specs.declared.call.CallLine.{CallLine}
-use Rattle.node_state.specs.declared.call.CallLine.TheVariants as call
-use Rattle.node_state.specs.declared.happened.Happened.{Happened}
-use Rattle.node_state.specs.declared.happened.Happened.TheVariants as happened
-use Rattle.node_state.specs.declared.state.Core.{Core}
-use Rattle.node_state.specs.State.{frozen, leader_of, recorded, with_sessions}
-use Rattle.node_state.specs.Sending.{request_to, request_sent, kept_sent_to, kept_sent}
-use Rattle.node_state.specs.Calls.{caller, call_refused, changed, last_asked, proposed, ballot_recorded, ballot_sent_if, last_cast, ballot_given, gone_sent, all_gone_sent, goodbye_said, call_row}
-use Rattle.step_ties.proofs.SessionLaws.{provider_self, provider_same}
-use Rattle.row_laws.proofs.hearing.Changes.{Sends, sends_nothing, sends_one, sends_known, sends_fold}
-use Rattle.row_laws.proofs.hearing.Rows.{OneOwner}
-use Rattle.row_laws.proofs.hearing.Sessions.{Casts, casts_voted, unless_is, fewer_ended}
+use Rattle.entry_laws.specs.rsct_packet.declared.ids.ProviderId.{ProviderId}
+use Rattle.entry_laws.specs.rsct_packet.Providers.{among}
+use Rattle.entry_laws.specs.rsct_packet.Search.{Has}
+use Rattle.entry_laws.proofs.rsct_packet_laws.HasLaws.{has_append, has_filter, append_has_right, find_has}
+use Rattle.entry_laws.specs.group_attr.declared.attrs.Attrs.{Attrs}
+use Rattle.entry_laws.specs.group_attr.declared.attrs.Phases.{Phases}
+use Rattle.entry_laws.specs.group_attr.declared.attrs.Phases.TheVariants.{One}
+use Rattle.entry_laws.specs.proposal_core.declared.proposal.Proposal.{Proposal}
+use Rattle.entry_laws.specs.proposal_core.declared.proposal.Proposal.TheVariants.{Join, Attributes}
+use Rattle.entry_laws.specs.proposal_core.Fold.{joins_of}
+use Rattle.entry_laws.specs.client_callbacks.declared.ballot.Filled.{Filled}
+use Rattle.entry_laws.specs.subscribe_core.declared.subs.ClientToken.{ClientToken}
+use Rattle.entry_laws.specs.session_state.declared.fault.GsFault.{GsFault}
+use Rattle.entry_laws.specs.session_state.declared.state.KeptBallot.{KeptBallot}
+use Rattle.entry_laws.specs.session_state.declared.state.MemberToken.{MemberToken}
+use Rattle.entry_laws.specs.session_state.declared.state.Provider.{Provider}
+use Rattle.entry_laws.specs.session_state.declared.state.Request.{Request}
+use Rattle.entry_laws.specs.session_state.declared.state.SessionState.{SessionState}
+use Rattle.entry_laws.specs.session_state.State.{provider_of, is_provider, is_member_of, is_client_of, client_token}
+use Rattle.entry_laws.specs.session_state.Calls.{unless_fault, if_session, is_empty, new_provider, add_session, inited, join_fault, join_asked, joined, asked, ask_fault, member_asks, request_made, left, expelled, state_changed, message_sent, member_changes, attributes_changed, subscribe_taken, unsubscribe_taken, end_session, goodbye_taken}
+use Rattle.entry_laws.specs.session_state.HandOn.{is_join}
+use Rattle.entry_laws.specs.node_state.declared.call.CallLine.{CallLine}
+use Rattle.entry_laws.specs.node_state.declared.call.CallLine.TheVariants as call
+use Rattle.entry_laws.specs.node_state.declared.happened.Happened.{Happened}
+use Rattle.entry_laws.specs.node_state.declared.happened.Happened.TheVariants as happened
+use Rattle.entry_laws.specs.node_state.declared.state.Core.{Core}
+use Rattle.entry_laws.specs.node_state.State.{frozen, leader_of, recorded, with_sessions}
+use Rattle.entry_laws.specs.node_state.Sending.{send_request_to, send_request, send_kept_to, send_kept}
+use Rattle.entry_laws.specs.node_state.Calls.{caller, refuse_call, changed, ask_last, proposed, record_ballot, ballot_sent_if, cast_last, give_ballot, send_gone, send_all_gone, goodbye_said, take_call}
+use Rattle.entry_laws.proofs.step_refinement_laws.SessionLaws.{provider_self, provider_same}
+use Rattle.entry_laws.proofs.row_laws_laws.hearing.Changes.{Sends, sends_nothing, sends_one, sends_known, sends_fold}
+use Rattle.entry_laws.proofs.row_laws_laws.hearing.Rows.{OneOwner}
+use Rattle.entry_laws.proofs.row_laws_laws.hearing.Sessions.{Casts, casts_voted, unless_is, fewer_ended}
 use Rattle.run_laws.specs.gapless.Takers.{Stood, AskedJoin}
 use Rattle.run_laws.proofs.gapless.Standing.{JoinWaits}
 
@@ -70,33 +70,33 @@ made_sends c s t u e k =
       joins = λ j. subst JoinWaits (sym e.sessions) (k.joins j);
     }
 
-request_sends : (c : Core) (q : Request) → Sends c (request_sent c q)
-unfolding request_sent request_to
+request_sends : (c : Core) (q : Request) → Sends c (send_request c q)
+unfolding send_request send_request_to
 request_sends c q = by (frozen c)
   where
-    to : (o : Option ℕ) → Sends c (request_to c q o)
+    to : (o : Option ℕ) → Sends c (send_request_to c q o)
     to None = sends_one c _ _
     to (Some n) = sends_one c _ _
 
-    by : (b : Bool) → Sends c (elim b as (λ _. Core) [ true ↦ c | false ↦ request_to c q (leader_of c q.group) ])
+    by : (b : Bool) → Sends c (elim b as (λ _. Core) [ true ↦ c | false ↦ send_request_to c q (leader_of c q.group) ])
     by true = sends_nothing c
     by false = to (leader_of c q.group)
 
-kept_sends : (c : Core) (k : KeptBallot) → Sends c (kept_sent c k)
-unfolding kept_sent kept_sent_to
+kept_sends : (c : Core) (k : KeptBallot) → Sends c (send_kept c k)
+unfolding send_kept send_kept_to
 kept_sends c k = by k.ballot.filled
   where
-    by : (o : Option Filled) → Sends c (kept_sent_to c k (leader_of c k.group) o)
+    by : (o : Option Filled) → Sends c (send_kept_to c k (leader_of c k.group) o)
     by None = sends_nothing c
     by (Some b) = sends_known c _ _
 
-gone_sends : (c : Core) (xs : List Provider) → Sends c (all_gone_sent c xs)
-unfolding all_gone_sent gone_sent
+gone_sends : (c : Core) (xs : List Provider) → Sends c (send_all_gone c xs)
+unfolding send_all_gone send_gone
 gone_sends c xs = by (frozen c)
   where
-    by : (b : Bool) → Sends c (elim b as (λ _. Core) [ true ↦ c | false ↦ fold gone_sent c xs ])
+    by : (b : Bool) → Sends c (elim b as (λ _. Core) [ true ↦ c | false ↦ fold send_gone c xs ])
     by true = sends_nothing c
-    by false = sends_fold gone_sent (λ t x. sends_known t _ _) xs c
+    by false = sends_fold send_gone (λ t x. sends_known t _ _) xs c
 
 -- ---- a call that adds no provider, and no join
 
@@ -131,8 +131,8 @@ module _ (c : CallLine) (s : Core) (none : s.records ≡ []) where
       by (inl e) = e
       by (inr z) = absurd z
 
-  refused_made : (client : List ℕ) (f : GsFault) → Made c s (call_refused s client f)
-  unfolding call_refused recorded
+  refused_made : (client : List ℕ) (f : GsFault) → Made c s (refuse_call s client f)
+  unfolding refuse_call recorded
   refused_made client f =
       plain s.sessions (s.records ++ happened.Refused s.views.me client f ∷ []) (record { providers = refl; joins = λ q i e. i }) (λ r i. subst (CallRecord s.sessions) (sym (one_of (happened.Refused s.views.me client f) r i)) tt) (λ g p a. let z = one_of (happened.Refused s.views.me client f) (happened.Asked p p.join g a.proposal) a.there in cc)
 
@@ -150,13 +150,13 @@ module _ (c : CallLine) (s : Core) (none : s.records ≡ []) where
     pub plain_it : Plain s.sessions u
 
   proposed_made : (client : List ℕ) (r : Result SessionState GsFault) → ((u : SessionState) → r ≡ Ok u → Asks u) → Made c s (proposed s client r)
-  unfolding proposed last_asked with_sessions recorded
+  unfolding proposed ask_last with_sessions recorded
   proposed_made client (Err f) k = refused_made client f
   proposed_made client (Ok u) k =
       let d : Core = record s { sessions = u } in
       let a : Happened = happened.Asked q.p q.r q.group q.proposal in
       let t : Core = record d { records = s.records ++ a ∷ [] } in
-      subst (λ o. Made c s (last_asked d o)) (sym j.last) (made_sends c s t (request_sent t q) (request_sends t q) (plain u (s.records ++ a ∷ []) j.plain_it (λ r i. subst (CallRecord u) (sym (one_of a r i)) (j.own.0, subst (Has j.own.0) (sym j.plain_it.providers) j.own.1, j.own.2)) (λ g p b. no_join p b.proposal (same (one_of a (happened.Asked p p.join g b.proposal) b.there)) b.joins)))
+      subst (λ o. Made c s (ask_last d o)) (sym j.last) (made_sends c s t (send_request t q) (request_sends t q) (plain u (s.records ++ a ∷ []) j.plain_it (λ r i. subst (CallRecord u) (sym (one_of a r i)) (j.own.0, subst (Has j.own.0) (sym j.plain_it.providers) j.own.1, j.own.2)) (λ g p b. no_join p b.proposal (same (one_of a (happened.Asked p p.join g b.proposal) b.there)) b.joins)))
     where
       j : Asks u
       j = k u refl
@@ -210,8 +210,8 @@ module _ (c : CallLine) (s : Core) (none : s.records ≡ []) where
       by (Some x) q e = asked_asks x phases (λ r. Attributes x.p r attrs) _ u (find_has (is_member_of m) s.sessions.providers x q).0 (λ r. (refl, refl)) e
 
   -- a vote
-  given_made : (client : List ℕ) (r : Result SessionState GsFault) → ((u : SessionState) → r ≡ Ok u → Casts s.sessions u) → Made c s (ballot_given s client r)
-  unfolding ballot_given last_cast ballot_recorded ballot_sent_if with_sessions recorded
+  given_made : (client : List ℕ) (r : Result SessionState GsFault) → ((u : SessionState) → r ≡ Ok u → Casts s.sessions u) → Made c s (give_ballot s client r)
+  unfolding give_ballot cast_last record_ballot ballot_sent_if with_sessions recorded
   given_made client (Err f) k = refused_made client f
   given_made client (Ok u) k = by (last_or None u.kept)
     where
@@ -226,17 +226,17 @@ module _ (c : CallLine) (s : Core) (none : s.records ≡ []) where
 
       sent : (t : Core) (b : KeptBallot) (z : Bool) → Made c s t → Made c s (ballot_sent_if t b z)
       sent t b true a = a
-      sent t b false a = made_sends c s t (kept_sent t b) (kept_sends t b) a
+      sent t b false a = made_sends c s t (send_kept t b) (kept_sends t b) a
 
-      said : (b : KeptBallot) (o : Option Filled) → Made c s (ballot_recorded d b o)
+      said : (b : KeptBallot) (o : Option Filled) → Made c s (record_ballot d b o)
       said b None = begin
       said b (Some f) =
           let a : Happened = happened.Cast b.p b.proto b.phase f.vote f.value f.message in
           plain u (s.records ++ a ∷ []) same (λ r i. subst (CallRecord u) (sym (one_of a r i)) tt) (λ g p z. let y = one_of a (happened.Asked p p.join g z.proposal) z.there in cc)
 
-      by : (o : Option KeptBallot) → Made c s (last_cast d o)
+      by : (o : Option KeptBallot) → Made c s (cast_last d o)
       by None = begin
-      by (Some b) = sent (ballot_recorded d b b.ballot.filled) b (frozen d) (said b b.ballot.filled)
+      by (Some b) = sent (record_ballot d b b.ballot.filled) b (frozen d) (said b b.ballot.filled)
 
 -- ---- a goodbye
 
@@ -258,15 +258,15 @@ module _ (s : Core) (none : s.records ≡ []) (client : List ℕ) (own : OneOwne
   t = client_token s.sessions client
 
   abbrev u : SessionState
-  u = session_ended s.sessions t
+  u = end_session s.sessions t
 
   ended_found : (p : ProviderId) (x : Provider) → provider_of s.sessions p ≡ Some x → (b : Bool) → is_client_of t x ≡ b → (provider_of u p ≡ Some x) ⊎ (is_client_of t x ≡ true)
-  unfolding session_ended provider_of
+  unfolding end_session provider_of
   ended_found p x q true e = inr e
   ended_found p x q false e = inl (find_kept p (λ y. not (is_client_of t y)) s.sessions.providers x (ap not e) q)
 
   ended_requests : (q : Request) → Has q u.requests → Has q s.sessions.requests
-  unfolding session_ended
+  unfolding end_session
   ended_requests q i = (has_filter _ q s.sessions.requests i).0
 
   ended_made : Made (call.Goodbye client) s (record s { sessions = u })
@@ -284,7 +284,7 @@ module _ (s : Core) (none : s.records ≡ []) (client : List ℕ) (own : OneOwne
   unfolding goodbye_said with_sessions
   said_made xs (Err f) k = refused_made (call.Goodbye client) s none client f
   said_made xs (Ok v) k =
-      subst (λ z. Made (call.Goodbye client) s (all_gone_sent (record s { sessions = z }) xs)) (sym (k v refl)) (made_sends (call.Goodbye client) s (record s { sessions = u }) (all_gone_sent (record s { sessions = u }) xs) (gone_sends (record s { sessions = u }) xs) ended_made)
+      subst (λ z. Made (call.Goodbye client) s (send_all_gone (record s { sessions = z }) xs)) (sym (k v refl)) (made_sends (call.Goodbye client) s (record s { sessions = u }) (send_all_gone (record s { sessions = u }) xs) (gone_sends (record s { sessions = u }) xs) ended_made)
 
 -- ---- a join
 
@@ -371,20 +371,20 @@ module _ (s : Core) (none : s.records ≡ []) (low : (x : Provider) → Has x s.
       last_is (y ∷ ys) o = last_is ys (Some y)
 
   joined_made : (o : Option GsFault) → Made c s (proposed s client (unless_fault o after))
-  unfolding proposed last_asked with_sessions recorded
+  unfolding proposed ask_last with_sessions recorded
   joined_made (Some f) = refused_made c s none client f
   joined_made None =
       let d : Core = record s { sessions = after } in
       let a : Happened = happened.Asked new (s.sessions.last_request + 1) g (Join (new ∷ []) attrs None) in
       let t : Core = record d { records = s.records ++ a ∷ [] } in
-      subst (λ o. Made c s (last_asked d o)) (sym joined_last) (made_sends c s t (request_sent t request) (request_sends t request) (record { groups = refl; views = refl; records = λ r i. subst (CallRecord after) (sym (one_of c s none a r i)) (next, joined_has, refl); found = λ p x q. inl (joined_found p x q); asks = λ h p b. subst (λ (z : ProviderId × List ℕ). Stood after z.0 z.1 false) (same h p b.proposal (one_of c s none a (happened.Asked p p.join h b.proposal) b.there)) joined_stands; joins = joined_waits }))
+      subst (λ o. Made c s (ask_last d o)) (sym joined_last) (made_sends c s t (send_request t request) (request_sends t request) (record { groups = refl; views = refl; records = λ r i. subst (CallRecord after) (sym (one_of c s none a r i)) (next, joined_has, refl); found = λ p x q. inl (joined_found p x q); asks = λ h p b. subst (λ (z : ProviderId × List ℕ). Stood after z.0 z.1 false) (same h p b.proposal (one_of c s none a (happened.Asked p p.join h b.proposal) b.there)) joined_stands; joins = joined_waits }))
     where
       same : (h : List ℕ) (p : ProviderId) (y : Proposal) → happened.Asked p p.join h y ≡ happened.Asked new (s.sessions.last_request + 1) g (Join (new ∷ []) attrs None) → ◌≡◌ {A = ProviderId × List ℕ} (new, g) (p, h)
       same h p y e = let a : p ≡ new = cc in let b : h ≡ g = cc in (λ i. (sym a i, sym b i))
 
-pub call_made : (c : CallLine) (s : Core) → s.records ≡ [] → OneOwner s.sessions → ((x : Provider) → Has x s.sessions.providers → x.p.join ≤ s.sessions.last_request) → ((q : Request) → Has q s.sessions.requests → (y : Provider) × Has y s.sessions.providers × (y.p ≡ q.p)) → Made c s (call_row s c)
-unfolding call_row inited session_added joined left expelled state_changed message_sent subscribe_taken unsubscribe_taken goodbye_taken
-call_made (call.Init node name votes) s none own low known = changed_made _ s none name _ (λ u e. subst (Plain s.sessions) (sym (unless_is _ (session_added s.sessions name) u e)) (record { providers = refl; joins = λ q i j. i }))
+pub call_made : (c : CallLine) (s : Core) → s.records ≡ [] → OneOwner s.sessions → ((x : Provider) → Has x s.sessions.providers → x.p.join ≤ s.sessions.last_request) → ((q : Request) → Has q s.sessions.requests → (y : Provider) × Has y s.sessions.providers × (y.p ≡ q.p)) → Made c s (take_call s c)
+unfolding take_call inited add_session joined left expelled state_changed message_sent subscribe_taken unsubscribe_taken goodbye_taken
+call_made (call.Init node name votes) s none own low known = changed_made _ s none name _ (λ u e. subst (Plain s.sessions) (sym (unless_is _ (add_session s.sessions name) u e)) (record { providers = refl; joins = λ q i j. i }))
 call_made (call.Join client g instance attrs) s none own low known = joined_made s none low known _ client g instance attrs (join_fault s.sessions (client_token s.sessions client) g attrs)
 call_made (call.Leave client g phases) s none own low known = proposed_made _ s none client _ (made_asks _ s none (caller s.sessions client g) phases _ _ (λ x r. (refl, refl)))
 call_made (call.Expel client g phases out) s none own low known = proposed_made _ s none client _ (made_asks _ s none (caller s.sessions client g) phases _ _ (λ x r. (refl, refl)))
@@ -394,4 +394,4 @@ call_made (call.ChangeAttributes client g phases attrs) s none own low known = p
 call_made (call.Vote client g v value) s none own low known = given_made _ s none client _ (casts_voted s.sessions (caller s.sessions client g) v value)
 call_made (call.Subscribe client g) s none own low known = changed_made _ s none client _ (λ u e. subst (Plain s.sessions) (sym (unless_is _ _ u e)) (record { providers = refl; joins = λ q i j. i }))
 call_made (call.Unsubscribe client g) s none own low known = changed_made _ s none client _ (λ u e. subst (Plain s.sessions) (sym (unless_is _ _ u e)) (record { providers = refl; joins = λ q i j. i }))
-call_made (call.Goodbye client) s none own low known = said_made s none client own _ _ (λ v e. unless_is _ (session_ended s.sessions (client_token s.sessions client)) v e)
+call_made (call.Goodbye client) s none own low known = said_made s none client own _ _ (λ v e. unless_is _ (end_session s.sessions (client_token s.sessions client)) v e)

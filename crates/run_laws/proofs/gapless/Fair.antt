@@ -2,22 +2,22 @@
 use Rattle.std.proofs.Common.{◌≡◌, ◌⊎◌, ℕ, List, [], ◌∷◌, ◌++◌, Option, Some, None, Bool, true, false, refl, sym, ap, ◌∙◌, subst, inl, inr, ⊎_elim, append_assoc, append-nil}
 use Rattle.std.specs.Prelude.{find}
 use Rattle.std.specs.Str.{bytes_eq}
-use Rattle.rsct_packet.specs.declared.ids.ProviderId.{ProviderId}
-use Rattle.rsct_packet.specs.Providers.{same_provider}
-use Rattle.rsct_packet.specs.Search.{Has}
-use Rattle.rsct_packet.specs.Text.{name_lt}
-use Rattle.rsct_packet.proofs.HasLaws.{has_append, append_has_left, find_has}
-use Rattle.client_callbacks.specs.declared.told.Why.{Why}
-use Rattle.node_state.specs.declared.group.Decision.{Decision}
-use Rattle.node_state.specs.declared.group.GroupRow.{GroupRow}
-use Rattle.node_state.specs.declared.group.Led.{Led}
-use Rattle.node_state.specs.declared.happened.Happened.{Happened}
-use Rattle.node_state.specs.declared.packet.Body.{Body}
-use Rattle.node_state.specs.declared.packet.Packet.{Packet}
-use Rattle.node_state.specs.declared.state.Core.{Core}
-use Rattle.node_state.specs.State.{new_row, row_found, row_of, rows_with, with_row, with_led, led_of, decision_of, decisions_with, recorded}
-use Rattle.node_state.specs.Sending.{packet_on, sent_on}
-use Rattle.node_state.specs.Deciding.{decision_kept}
+use Rattle.entry_laws.specs.rsct_packet.declared.ids.ProviderId.{ProviderId}
+use Rattle.entry_laws.specs.rsct_packet.Providers.{same_provider}
+use Rattle.entry_laws.specs.rsct_packet.Search.{Has}
+use Rattle.entry_laws.specs.rsct_packet.Text.{name_lt}
+use Rattle.entry_laws.proofs.rsct_packet_laws.HasLaws.{has_append, append_has_left, find_has}
+use Rattle.entry_laws.specs.client_callbacks.declared.told.Why.{Why}
+use Rattle.entry_laws.specs.node_state.declared.group.Decision.{Decision}
+use Rattle.entry_laws.specs.node_state.declared.group.GroupRow.{GroupRow}
+use Rattle.entry_laws.specs.node_state.declared.group.Led.{Led}
+use Rattle.entry_laws.specs.node_state.declared.happened.Happened.{Happened}
+use Rattle.entry_laws.specs.node_state.declared.packet.Body.{Body}
+use Rattle.entry_laws.specs.node_state.declared.packet.Packet.{Packet}
+use Rattle.entry_laws.specs.node_state.declared.state.Core.{Core}
+use Rattle.entry_laws.specs.node_state.State.{new_row, row_found, row_of, rows_with, with_row, with_led, led_of, decision_of, decisions_with, recorded}
+use Rattle.entry_laws.specs.node_state.Sending.{packet_on, send_on}
+use Rattle.entry_laws.specs.node_state.Deciding.{keep_decision}
 use Rattle.run_laws.proofs.gapless.FairWalk.{Fairly, FairBody, Mild, Alike, Keeps}
 
 -- what is sent and decided
@@ -83,8 +83,8 @@ module _ (c : Core) where
         mild = k.mild;
       }
 
-  fair_sends : (s : Core) (network to : ℕ) (b : Body) → FairBody b → Fair c s → Fair c (sent_on s network to b)
-  unfolding sent_on packet_on
+  fair_sends : (s : Core) (network to : ℕ) (b : Body) → FairBody b → Fair c s → Fair c (send_on s network to b)
+  unfolding send_on packet_on
   fair_sends s network to b fair k =
       record { speaks = record { spoken = λ x h. ⊎_elim (k.speaks.spoken x) (one x) (has_append x s.sends (packet_on s network to b ∷ []) h); decided = k.speaks.decided }; more = k.more; is = k.is; mild = k.mild }
     where
@@ -101,8 +101,8 @@ module _ (c : Core) where
       one q (inl e) = subst Mild (sym e) mild
       one q (inr z) = absurd z
 
-  fair_decides : (s : Core) (g : List ℕ) (q : ProviderId) (r : ℕ) (y : Option Why) → Fairly y → Fair c s → Fair c (decision_kept s g q r y)
-  unfolding decision_kept with_led with_row
+  fair_decides : (s : Core) (g : List ℕ) (q : ProviderId) (r : ℕ) (y : Option Why) → Fairly y → Fair c s → Fair c (keep_decision s g q r y)
+  unfolding keep_decision with_led with_row
   fair_decides s g q r y fair k =
       record {
         speaks = record { spoken = k.speaks.spoken; decided = rows_all (λ z. Fairly z.why) g (λ row. record row { led = change row.led }) step s.groups k.speaks.decided };

@@ -2,46 +2,46 @@
 use Rattle.std.proofs.Common.{ℕ, List, [], ◌∷◌, Option, Some, None, Bool, true, false, refl, sym, subst, inl, inr, ⊎_elim}
 use Rattle.std.specs.Prelude.{not, ◌==◌, filter, find, fold, flat_map, is_some}
 use Rattle.std.specs.Str.{bytes_eq}
-use Rattle.rsct_packet.specs.declared.ids.ProviderId.{ProviderId}
-use Rattle.rsct_packet.specs.Mask.{nodes_of}
-use Rattle.rsct_packet.specs.Providers.{among}
-use Rattle.rsct_packet.specs.Search.{Has}
-use Rattle.rsct_packet.proofs.HasLaws.{has_append}
-use Rattle.group_attr.specs.Attrs.{host_membership}
-use Rattle.proposal_core.specs.declared.proposal.Cause.TheVariants.{Died}
-use Rattle.proposal_core.specs.declared.entry.Entry.{Entry}
-use Rattle.batch_rules.specs.Waiting.{waits_failure}
-use Rattle.adapter_ring.specs.declared.ring.Ring.{Ring}
-use Rattle.adapter_ring.specs.declared.ring.RingSet.{RingSet}
-use Rattle.adapter_ring.specs.declared.packet.RingPacket.{RingPacket}
-use Rattle.adapter_ring.specs.declared.packet.RingSend.{RingSend}
-use Rattle.adapter_ring.specs.declared.packet.RingEvent.TheVariants as ring_event
-use Rattle.adapter_ring.specs.declared.work.RingWork.{RingWork}
-use Rattle.adapter_ring.specs.Rings.{ring_stepped}
-use Rattle.node_reach.specs.Reach as reach
-use Rattle.subscribe_core.specs.declared.subs.Subscription.{Subscription}
-use Rattle.client_callbacks.specs.declared.told.Told.TheVariants as told
-use Rattle.view_state.specs.declared.install.Base.{Base}
-use Rattle.view_state.specs.Bases.{base_named}
-use Rattle.view_state.specs.declared.packet.ViewPacket.TheVariants as packet
-use Rattle.view_state.specs.declared.packet.ViewSend.{ViewSend}
-use Rattle.view_state.specs.declared.views.ViewWork.{ViewWork}
-use Rattle.packet_bodies.specs.declared.body.ReportRow.{ReportRow}
-use Rattle.node_state.specs.declared.happened.Happened.{Happened}
-use Rattle.node_state.specs.declared.happened.Happened.TheVariants as happened
-use Rattle.node_state.specs.declared.packet.Body.{Body}
-use Rattle.node_state.specs.declared.packet.Body.TheVariants as body
-use Rattle.node_state.specs.declared.packet.Packet.{Packet}
-use Rattle.node_state.specs.declared.state.Core.{Core}
-use Rattle.node_state.specs.Settings.{is_rings}
-use Rattle.node_state.specs.State.{state_of, led_groups}
-use Rattle.node_state.specs.Sending.{sent_on, sent}
-use Rattle.node_state.specs.HandOn.{Answering, note_of, subscriber_name}
-use Rattle.node_state.specs.Leading.{put_and_handed, with_waiting}
-use Rattle.node_state.specs.Applying.{Lacking, lists_filled, base_note, entering_note, entering_noted, taken_sent, owed_sent, failed_wait, phase_reopened, group_led, groups_led}
-use Rattle.node_state.specs.Ticks.{row_reported, report_row, ring_put, set_records, ring_taken, ring_row_of, ring_row, rings_union, report_of, report_sent, rings_tick, rings_part}
-use Rattle.node_state.specs.Status.{status_text}
-use Rattle.node_state.specs.Step.{is_used, used_if, body_row}
+use Rattle.entry_laws.specs.rsct_packet.declared.ids.ProviderId.{ProviderId}
+use Rattle.entry_laws.specs.rsct_packet.Mask.{nodes_of}
+use Rattle.entry_laws.specs.rsct_packet.Providers.{among}
+use Rattle.entry_laws.specs.rsct_packet.Search.{Has}
+use Rattle.entry_laws.proofs.rsct_packet_laws.HasLaws.{has_append}
+use Rattle.entry_laws.specs.group_attr.Attrs.{host_membership}
+use Rattle.entry_laws.specs.proposal_core.declared.proposal.Cause.TheVariants.{Died}
+use Rattle.entry_laws.specs.proposal_core.declared.entry.Entry.{Entry}
+use Rattle.entry_laws.specs.batch_rules.Waiting.{add_failure}
+use Rattle.entry_laws.specs.adapter_ring.declared.ring.Ring.{Ring}
+use Rattle.entry_laws.specs.adapter_ring.declared.ring.RingSet.{RingSet}
+use Rattle.entry_laws.specs.adapter_ring.declared.packet.RingPacket.{RingPacket}
+use Rattle.entry_laws.specs.adapter_ring.declared.packet.RingSend.{RingSend}
+use Rattle.entry_laws.specs.adapter_ring.declared.packet.RingEvent.TheVariants as ring_event
+use Rattle.entry_laws.specs.adapter_ring.declared.work.RingWork.{RingWork}
+use Rattle.entry_laws.specs.adapter_ring.Rings.{ring_step}
+use Rattle.entry_laws.specs.node_reach.Reach as reach
+use Rattle.entry_laws.specs.subscribe_core.declared.subs.Subscription.{Subscription}
+use Rattle.entry_laws.specs.client_callbacks.declared.told.Told.TheVariants as told
+use Rattle.entry_laws.specs.view_state.declared.install.Base.{Base}
+use Rattle.entry_laws.specs.view_state.Bases.{base_named}
+use Rattle.entry_laws.specs.view_state.declared.packet.ViewPacket.TheVariants as packet
+use Rattle.entry_laws.specs.view_state.declared.packet.ViewSend.{ViewSend}
+use Rattle.entry_laws.specs.view_state.declared.views.ViewWork.{ViewWork}
+use Rattle.entry_laws.specs.packet_bodies.declared.body.ReportRow.{ReportRow}
+use Rattle.entry_laws.specs.node_state.declared.happened.Happened.{Happened}
+use Rattle.entry_laws.specs.node_state.declared.happened.Happened.TheVariants as happened
+use Rattle.entry_laws.specs.node_state.declared.packet.Body.{Body}
+use Rattle.entry_laws.specs.node_state.declared.packet.Body.TheVariants as body
+use Rattle.entry_laws.specs.node_state.declared.packet.Packet.{Packet}
+use Rattle.entry_laws.specs.node_state.declared.state.Core.{Core}
+use Rattle.entry_laws.specs.node_state.Settings.{is_rings}
+use Rattle.entry_laws.specs.node_state.State.{state_of, led_groups}
+use Rattle.entry_laws.specs.node_state.Sending.{send_on, sent}
+use Rattle.entry_laws.specs.node_state.HandOn.{Answering, note_of, subscriber_name}
+use Rattle.entry_laws.specs.node_state.Leading.{put_and_hand, with_waiting}
+use Rattle.entry_laws.specs.node_state.Applying.{Lacking, fill_lists, base_note, entering_note, entering_noted, taken_sent, owed_sent, wait_failed, phase_reopened, lead, lead_groups}
+use Rattle.entry_laws.specs.node_state.Ticks.{row_reported, take_report, ring_put, set_records, ring_taken, ring_row_of, ring_row, rings_union, report_of, send_report, rings_tick, tick_rings}
+use Rattle.entry_laws.specs.node_state.Status.{status_text}
+use Rattle.entry_laws.specs.node_state.Step.{is_used, used_if, take_body}
 use Rattle.run_laws.proofs.gapless.FairWalk.{FairBody, Mild, alike_groups, Keeps, on_either, on_fold, on_sent, on_sent_all, on_records, on_put_handed, on_waiting, on_opened, on_closes}
 use Rattle.run_laws.proofs.gapless.FairRows.{on_requests, on_votes, on_lookup, on_tell, on_name, on_request, on_entry, on_ack, on_vote, on_gone}
 
@@ -53,10 +53,10 @@ NoView _ = Unit {0}
 module _ (P : Core → Type 0) (k : Keeps P) where
   -- ---- entering a view
 
-  pub on_filled : (f : Answering) {s : Core} (xs : List Lacking) → P s → P (lists_filled f s xs)
-  unfolding lists_filled
+  pub on_filled : (f : Answering) {s : Core} (xs : List Lacking) → P s → P (fill_lists f s xs)
+  unfolding fill_lists
   on_filled f xs p =
-      on_fold P k (λ t (x : Lacking). fold (λ u e. put_and_handed f u None x.name e) t x.entries) (λ t x h. on_fold P k (λ u (e : Entry). put_and_handed f u None x.name e) (λ u e q. on_put_handed P k f None x.name e q) x.entries h) xs p
+      on_fold P k (λ t (x : Lacking). fold (λ u e. put_and_hand f u None x.name e) t x.entries) (λ t x h. on_fold P k (λ u (e : Entry). put_and_hand f u None x.name e) (λ u e q. on_put_handed P k f None x.name e q) x.entries h) xs p
 
   on_entering_noted : {s : Core} (bs : List Base) → P s → P (entering_noted s bs)
   unfolding entering_noted entering_note base_note note_of
@@ -81,18 +81,18 @@ module _ (P : Core → Type 0) (k : Keeps P) where
   unfolding taken_sent
   on_taken_sent {s} p = on_either P k (s.views.view.coord == s.views.me) p (on_sent P k s.views.view.coord (body.View (packet.Taken s.views.view)) tt p)
 
-  on_group_led : (f : Answering) {s : Core} (g : List ℕ) → P s → P (group_led f s g)
-  unfolding group_led failed_wait phase_reopened
+  on_group_led : (f : Answering) {s : Core} (g : List ℕ) → P s → P (lead f s g)
+  unfolding lead wait_failed phase_reopened
   on_group_led f {s} g p = by (is_some (state_of s g).running)
     where
       out : List ProviderId
       out = filter (among (state_of s g).members) (state_of s g).failed
 
       t : Core
-      t = failed_wait s g out
+      t = wait_failed s g out
 
       waits : P t
-      waits = on_fold P k (λ t q. with_waiting t g (waits_failure q Died)) (λ t q h. on_waiting P k g (waits_failure q Died) h) out p
+      waits = on_fold P k (λ t q. with_waiting t g (add_failure q Died)) (λ t q h. on_waiting P k g (add_failure q Died) h) out p
 
       by : (b : Bool) → P (phase_reopened f t g b)
       by false = waits
@@ -104,15 +104,15 @@ module _ (P : Core → Type 0) (k : Keeps P) where
       on_fold P k (λ t (x : ViewSend). sent t x.to (body.View x.packet)) (λ t x h. on_sent P k x.to (body.View x.packet) tt h) w.sends (k.alike s (record s { views = w.views }) (alike_groups s (record s { views = w.views }) refl refl refl) p)
 
   -- what follows after a view was entered
-  pub on_rest : (f : Answering) {e : Core} (bs : List Base) → P e → P (groups_led f (owed_sent (taken_sent (entering_noted e bs))))
-  unfolding owed_sent groups_led
+  pub on_rest : (f : Answering) {e : Core} (bs : List Base) → P e → P (lead_groups f (owed_sent (taken_sent (entering_noted e bs))))
+  unfolding owed_sent lead_groups
   on_rest f {e} bs p =
-      on_fold P k (group_led f) (λ u g h. on_group_led f g h) (led_groups (owed_sent (taken_sent (entering_noted e bs)))) (on_votes P k (on_requests P k (on_taken_sent (on_entering_noted bs p))))
+      on_fold P k (lead f) (λ u g h. on_group_led f g h) (led_groups (owed_sent (taken_sent (entering_noted e bs)))) (on_votes P k (on_requests P k (on_taken_sent (on_entering_noted bs p))))
 
   -- ---- packets
 
-  on_report : {s : Core} (rows : List ReportRow) → P s → P (report_row s rows)
-  unfolding report_row
+  on_report : {s : Core} (rows : List ReportRow) → P s → P (take_report s rows)
+  unfolding take_report
   on_report {s} rows p =
       k.alike s (record s { reach = fold row_reported s.reach rows }) (alike_groups s (record s { reach = fold row_reported s.reach rows }) refl refl refl) p
 
@@ -133,8 +133,8 @@ module _ (P : Core → Type 0) (k : Keeps P) where
   unfolding ring_taken
   on_taken {s} x p =
       let d : Core = record s { rings = ring_put s.rings x.ring } in
-      let e : Core = fold (λ u (y : RingSend). sent_on u y.network y.to (body.Ring y.packet)) d x.sends in
-      on_records P k (set_records s.views.me x.ring.net x.set) (set_mild s.views.me x.ring.net x.set) (on_fold P k (λ u (y : RingSend). sent_on u y.network y.to (body.Ring y.packet)) (λ u y q. k.sends u y.network y.to (body.Ring y.packet) tt q) x.sends (k.alike s d (alike_groups s d refl refl refl) p))
+      let e : Core = fold (λ u (y : RingSend). send_on u y.network y.to (body.Ring y.packet)) d x.sends in
+      on_records P k (set_records s.views.me x.ring.net x.set) (set_mild s.views.me x.ring.net x.set) (on_fold P k (λ u (y : RingSend). send_on u y.network y.to (body.Ring y.packet)) (λ u y q. k.sends u y.network y.to (body.Ring y.packet) tt q) x.sends (k.alike s d (alike_groups s d refl refl refl) p))
 
   on_ring : {s : Core} (network from inc : ℕ) (x : RingPacket) → P s → P (ring_row s network from inc x)
   unfolding ring_row ring_row_of
@@ -142,18 +142,18 @@ module _ (P : Core → Type 0) (k : Keeps P) where
     where
       by : (o : Option Ring) → P (ring_row_of s from inc x o)
       by None = p
-      by (Some r) = on_taken (ring_stepped r (ring_event.Packet from inc x)) p
+      by (Some r) = on_taken (ring_step r (ring_event.Packet from inc x)) p
 
-  pub on_rings : {s : Core} → P s → P (rings_part s)
-  unfolding rings_part rings_tick report_sent
+  pub on_rings : {s : Core} → P s → P (tick_rings s)
+  unfolding tick_rings rings_tick send_report
   on_rings {s} p =
-      let t : Core = fold (λ u (r : Ring). ring_taken u (ring_stepped r ring_event.Tick)) s s.rings in
-      let d : Core = record t { reach = reach.own_set t.reach (rings_union t.rings) } in
-      on_either P k (is_rings s.config.mode) (on_sent_all P k (filter (λ n. not (n == t.views.me)) (nodes_of (rings_union t.rings))) (body.Report (report_of d.reach)) tt (k.alike t d (alike_groups t d refl refl refl) (on_fold P k (λ u (r : Ring). ring_taken u (ring_stepped r ring_event.Tick)) (λ u r q. on_taken (ring_stepped r ring_event.Tick) q) s.rings p))) p
+      let t : Core = fold (λ u (r : Ring). ring_taken u (ring_step r ring_event.Tick)) s s.rings in
+      let d : Core = record t { reach = reach.set_own t.reach (rings_union t.rings) } in
+      on_either P k (is_rings s.config.mode) (on_sent_all P k (filter (λ n. not (n == t.views.me)) (nodes_of (rings_union t.rings))) (body.Report (report_of d.reach)) tt (k.alike t d (alike_groups t d refl refl refl) (on_fold P k (λ u (r : Ring). ring_taken u (ring_step r ring_event.Tick)) (λ u r q. on_taken (ring_step r ring_event.Tick) q) s.rings p))) p
 
   -- packets but those of views; a refusal that is given is fair
-  pub on_body : (f : Answering) {s : Core} (q : Packet) (b : Body) → NoView b → FairBody b → P s → P (body_row f s q b)
-  unfolding body_row
+  pub on_body : (f : Answering) {s : Core} (q : Packet) (b : Body) → NoView b → FairBody b → P s → P (take_body f s q b)
+  unfolding take_body
   on_body f {s} q (body.Ring x) away fair p = on_ring q.network q.from q.inc x p
   on_body f q (body.Report rows) away fair p = on_report rows p
   on_body f q (body.View x) away fair p = absurd away

@@ -2,45 +2,45 @@
 -- and a call enters no view.
 use Rattle.std.proofs.Common.{◌≡◌, ℕ, List, Option, Some, None, Bool, true, false, refl, sym, ap, ◌∙◌, subst}
 use Rattle.std.specs.Prelude.{not, ◌==◌, ◌&&◌, map, fold}
-use Rattle.rsct_packet.specs.declared.mask.Mask.{Mask}
-use Rattle.rsct_packet.specs.Search.{Has}
-use Rattle.rsct_packet.proofs.HasLaws.{has_map}
-use Rattle.proposal_core.specs.declared.entry.Entry.{Entry}
-use Rattle.view_state.specs.declared.answer.Answer.{Answer}
-use Rattle.view_state.specs.declared.install.Install.{Install}
-use Rattle.view_state.specs.declared.install.Base.{Base}
-use Rattle.view_state.specs.Bases.{bases_of}
-use Rattle.view_state.specs.declared.packet.ViewPacket.{ViewPacket}
-use Rattle.view_state.specs.declared.packet.ViewPacket.TheVariants as packet
-use Rattle.view_state.specs.declared.packet.ViewSend.{ViewSend}
-use Rattle.view_core.specs.declared.step.ViewEvent.TheVariants as event
-use Rattle.view_state.specs.declared.views.ViewWork.{ViewWork}
-use Rattle.view_state.specs.Views.{is_coordinator, is_frozen, install_again_of, view_sent_all, views_at_work, ask_row, prepare_row, answer_row, refuse_row, install_row, taken_row, gathering_ticks, install_again}
-use Rattle.view_core.specs.Steps.{view_stepped}
-use Rattle.view_core.specs.Steps as steps
-use Rattle.view_core.specs.Laws.{AreViews, IsNext, AppliesNext, Goes}
-use Rattle.view_core.proofs.Promises.{promises_stand}
-use Rattle.node_state.specs.declared.group.Decision.{Decision}
-use Rattle.node_state.specs.declared.group.GroupRow.{GroupRow}
-use Rattle.node_state.specs.declared.packet.Body.{Body}
-use Rattle.node_state.specs.declared.packet.Body.TheVariants as body
-use Rattle.node_state.specs.declared.packet.Packet.{Packet}
-use Rattle.node_state.specs.declared.state.Core.{Core}
-use Rattle.node_state.specs.Settings.{is_fixed}
-use Rattle.node_state.specs.State.{InNameOrder, row_of, list_of, state_of, len_of, held_rows, recorded_all}
-use Rattle.node_state.specs.Sending.{sent}
-use Rattle.node_state.specs.HandOn.{Answering}
-use Rattle.node_state.specs.Leading.{put_and_handed}
-use Rattle.node_state.specs.Applying.{Lacking, lacking, own_parts, lists_filled, base_row, view_entered, entered, entered_if, install_applied, views_taken}
-use Rattle.node_state.specs.Ticks.{ring_ask, rings_part, views_part, owed_part, led_part, tick_row}
-use Rattle.node_state.specs.Step.{NodeEvent, Ticks, Asks, Given, Calls, Garbage, order_row, view_row, body_row, packet_row, event_row, stepped, at_work}
-use Rattle.node_state.specs.Ending.{step_ended}
-use Rattle.run_safety.specs.ViewOrder.{is_before, Lt}
-use Rattle.row_laws.specs.hearing.Changes.{Same, Does, Stays, Then, entering}
-use Rattle.row_laws.proofs.hearing.Changes.{Sends, sends_fold, sends_one, Onward, same_sends, put_handed_onward}
-use Rattle.row_laws.proofs.hearing.Rows.{onward_fold, rings_onward}
-use Rattle.row_laws.proofs.hearing.Viewing.{Fit, sides_stand}
-use Rattle.row_laws.proofs.hearing.Whose.{whose_asks, whose_prepares, whose_answers, whose_refuses, whose_installs, whose_takes, whose_ticks}
+use Rattle.entry_laws.specs.rsct_packet.declared.mask.Mask.{Mask}
+use Rattle.entry_laws.specs.rsct_packet.Search.{Has}
+use Rattle.entry_laws.proofs.rsct_packet_laws.HasLaws.{has_map}
+use Rattle.entry_laws.specs.proposal_core.declared.entry.Entry.{Entry}
+use Rattle.entry_laws.specs.view_state.declared.answer.Answer.{Answer}
+use Rattle.entry_laws.specs.view_state.declared.install.Install.{Install}
+use Rattle.entry_laws.specs.view_state.declared.install.Base.{Base}
+use Rattle.entry_laws.specs.view_state.Bases.{bases_of}
+use Rattle.entry_laws.specs.view_state.declared.packet.ViewPacket.{ViewPacket}
+use Rattle.entry_laws.specs.view_state.declared.packet.ViewPacket.TheVariants as packet
+use Rattle.entry_laws.specs.view_state.declared.packet.ViewSend.{ViewSend}
+use Rattle.entry_laws.specs.view_core.declared.step.ViewEvent.TheVariants as event
+use Rattle.entry_laws.specs.view_state.declared.views.ViewWork.{ViewWork}
+use Rattle.entry_laws.specs.view_state.Views.{is_coordinator, is_frozen, install_again_of, view_sent_all, views_at_work, ask_row, prepare_row, answer_row, refuse_row, install_row, taken_row, gathering_ticks, install_again}
+use Rattle.entry_laws.specs.view_core.Steps.{view_stepped}
+use Rattle.entry_laws.specs.view_core.Steps as steps
+use Rattle.entry_laws.specs.view_core.Laws.{AreViews, IsNext, AppliesNext, Goes}
+use Rattle.entry_laws.proofs.view_core_laws.Promises.{promises_stand}
+use Rattle.entry_laws.specs.node_state.declared.group.Decision.{Decision}
+use Rattle.entry_laws.specs.node_state.declared.group.GroupRow.{GroupRow}
+use Rattle.entry_laws.specs.node_state.declared.packet.Body.{Body}
+use Rattle.entry_laws.specs.node_state.declared.packet.Body.TheVariants as body
+use Rattle.entry_laws.specs.node_state.declared.packet.Packet.{Packet}
+use Rattle.entry_laws.specs.node_state.declared.state.Core.{Core}
+use Rattle.entry_laws.specs.node_state.Settings.{is_fixed}
+use Rattle.entry_laws.specs.node_state.State.{InNameOrder, row_of, list_of, state_of, len_of, held_rows, recorded_all}
+use Rattle.entry_laws.specs.node_state.Sending.{sent}
+use Rattle.entry_laws.specs.node_state.HandOn.{Answering}
+use Rattle.entry_laws.specs.node_state.Leading.{put_and_hand}
+use Rattle.entry_laws.specs.node_state.Applying.{Lacking, lacking, own_parts, fill_lists, base_row, view_entered, entered, entered_if, apply_install, views_taken}
+use Rattle.entry_laws.specs.node_state.Ticks.{ring_ask, tick_rings, tick_views, tick_owed, tick_led, tick_row}
+use Rattle.entry_laws.specs.node_state.Step.{NodeEvent, Ticks, Asks, Given, Calls, Garbage, take_order, view_row, take_body, packet_row, event_row, stepped, at_work}
+use Rattle.entry_laws.specs.node_state.Ending.{end_step}
+use Rattle.entry_laws.specs.run_safety.ViewOrder.{is_before, Lt}
+use Rattle.entry_laws.specs.row_laws.hearing.Changes.{Same, Does, Stays, Then, entering}
+use Rattle.entry_laws.proofs.row_laws_laws.hearing.Changes.{Sends, sends_fold, sends_one, Onward, same_sends, put_handed_onward}
+use Rattle.entry_laws.proofs.row_laws_laws.hearing.Rows.{onward_fold, rings_onward}
+use Rattle.entry_laws.proofs.row_laws_laws.hearing.Viewing.{Fit, sides_stand}
+use Rattle.entry_laws.proofs.row_laws_laws.hearing.Whose.{whose_asks, whose_prepares, whose_answers, whose_refuses, whose_installs, whose_takes, whose_ticks}
 use Rattle.run_laws.proofs.gapless.FairWalk.{Fairly, FairBody, on_ended}
 use Rattle.run_laws.proofs.gapless.FairRows.{on_owed_part, on_led_part, on_call}
 use Rattle.run_laws.proofs.gapless.FairWalking.{on_filled, on_views_sent, on_rest, on_rings, on_body}
@@ -50,8 +50,8 @@ use Rattle.run_laws.proofs.gapless.Tellings.{sides_send}
 -- what holds of a node in the middle of a step, and goes on to hold up to where it enters a view
 pub record Carries (Q : Core → Type 0) (f : Answering) : Type 0 where
   pub alike : (s t : Core) → Same s t → t.groups ≡ s.groups → Q s → Q t
-  pub rings : (s : Core) → Q s → Q (rings_part s)
-  pub fills : (s : Core) (xs : List Lacking) → Q s → Q (lists_filled f s xs)
+  pub rings : (s : Core) → Q s → Q (tick_rings s)
+  pub fills : (s : Core) (xs : List Lacking) → Q s → Q (fill_lists f s xs)
 
 -- what comes of it all: no view is entered; or the node is at t then, enters a view, and goes on
 pub data Moves (Q : Core → Type 0) (X : Type 0) (c d : Core) : Type 0 where
@@ -79,10 +79,10 @@ entering_speaks t i k =
     bare : (row : GroupRow) → Has row (map base_row bs) → (d : Decision) → Has d row.led.decided → Fairly d.why
     bare row h d j = let q = has_map base_row row bs h in absurd (subst (λ (z : GroupRow). Has d z.led.decided) q.2 j)
 
-filled_onward : (f : Answering) (xs : List Lacking) (c : Core) → Onward c (lists_filled f c xs)
-unfolding lists_filled
+filled_onward : (f : Answering) (xs : List Lacking) (c : Core) → Onward c (fill_lists f c xs)
+unfolding fill_lists
 filled_onward f xs c =
-    onward_fold (λ t (x : Lacking). fold (λ u e. put_and_handed f u None x.name e) t x.entries) (λ t x. onward_fold (λ u (e : Entry). put_and_handed f u None x.name e) (λ u e. put_handed_onward f u None x.name e) x.entries t) xs c
+    onward_fold (λ t (x : Lacking). fold (λ u e. put_and_hand f u None x.name e) t x.entries) (λ t x. onward_fold (λ u (e : Entry). put_and_hand f u None x.name e) (λ u e. put_handed_onward f u None x.name e) x.entries t) xs c
 
 -- ---- rows of views
 
@@ -91,7 +91,7 @@ module _ (Q : Core → Type 0) (X : Type 0) (x : X) (f : Answering) (carries : C
   self = fair_self c speaks
 
   taken_moves : (w : ViewWork) → Goes c.views w → w.views.me ≡ c.views.me → w.views.inc ≡ c.views.inc → Moves Q X c (views_taken f c w)
-  unfolding views_taken install_applied entered_if entered is_before len_of state_of list_of row_of
+  unfolding views_taken apply_install entered_if entered is_before len_of state_of list_of row_of
   taken_moves w goes me inc = by w.install goes.applies
     where
       d : Core
@@ -112,7 +112,7 @@ module _ (Q : Core → Type 0) (X : Type 0) (x : X) (f : Answering) (carries : C
       -- what is lacking is put, and the view is entered
       fills : (i : Install) (xs : List Lacking) → IsNext w.views i.view → Moves Q X c (entered f u i xs)
       fills i xs next =
-          let t : Core = lists_filled f u xs in
+          let t : Core = fill_lists f u xs in
           let filled = filled_onward f xs u (subst InNameOrder (sym sends.groups) order) in
           let there : t.views ≡ w.views = filled.views ∙ sends.views in
           let before : Fair c t = on_filled (Fair c) (fair_keeps c) f xs fair in
@@ -123,7 +123,7 @@ module _ (Q : Core → Type 0) (X : Type 0) (x : X) (f : Answering) (carries : C
       if_lacking i None next = Remains fair
       if_lacking i (Some xs) next = fills i xs next
 
-      by : (o : Option Install) → AppliesNext w.views o → Moves Q X c (install_applied f u o)
+      by : (o : Option Install) → AppliesNext w.views o → Moves Q X c (apply_install f u o)
       by None next = Remains fair
       by (Some i) next = if_lacking i (lacking u i) next
 
@@ -133,8 +133,8 @@ module _ (Q : Core → Type 0) (X : Type 0) (x : X) (f : Answering) (carries : C
       let k = whose_asks (views_at_work c.views) mask (own_parts c) in
       taken_moves (ask_row (views_at_work c.views) mask (own_parts c)) (promises_stand c.views (event.Ask mask) (own_parts c) views) k.0 k.1
 
-  order_moves : (mask : Mask) → Moves Q X c (order_row f c mask)
-  unfolding order_row
+  order_moves : (mask : Mask) → Moves Q X c (take_order f c mask)
+  unfolding take_order
   order_moves mask = by (is_fixed c.config.mode)
     where
       by : (b : Bool) → Moves Q X c (elim b as (λ _. Core) [ true ↦ c | false ↦ views_taken f c (ask_row (views_at_work c.views) mask (own_parts c)) ])
@@ -168,8 +168,8 @@ module _ (Q : Core → Type 0) (X : Type 0) (x : X) (f : Answering) (carries : C
 
   -- ---- packets
 
-  body_moves : (p : Packet) (b : Body) → FairBody b → Moves Q X c (body_row f c p b)
-  unfolding body_row
+  body_moves : (p : Packet) (b : Body) → FairBody b → Moves Q X c (take_body f c p b)
+  unfolding take_body
   body_moves p (body.View y) fair = view_moves p.from p.inc y
   body_moves p (body.Ring y) fair = Remains (on_body (Fair c) (fair_keeps c) f p (body.Ring y) tt fair self)
   body_moves p (body.Report rows) fair = Remains (on_body (Fair c) (fair_keeps c) f p (body.Report rows) tt fair self)
@@ -188,7 +188,7 @@ module _ (Q : Core → Type 0) (X : Type 0) (x : X) (f : Answering) (carries : C
   unfolding packet_row
   packet_moves p fair = by (p.to == c.views.me)
     where
-      by : (b : Bool) → Moves Q X c (elim b as (λ _. Core) [ true ↦ body_row f c p p.body | false ↦ c ])
+      by : (b : Bool) → Moves Q X c (elim b as (λ _. Core) [ true ↦ take_body f c p p.body | false ↦ c ])
       by true = body_moves p p.body fair
       by false = Remains self
 
@@ -210,10 +210,10 @@ module _ (f : Answering) (c : Core) where
       by false = refl
 
   remind_fair : (r : Core) → Fair r c → Fair r (views_taken f c (install_again (views_at_work c.views)))
-  unfolding views_taken install_applied
+  unfolding views_taken apply_install
   remind_fair r k =
       let w : ViewWork = install_again (views_at_work c.views) in
-      subst (λ o. Fair r (install_applied f (fold (λ t (y : ViewSend). sent t y.to (body.View y.packet)) (record c { views = w.views }) w.sends) o)) (sym reminds_only) (on_views_sent (Fair r) (fair_keeps r) w k)
+      subst (λ o. Fair r (apply_install f (fold (λ t (y : ViewSend). sent t y.to (body.View y.packet)) (record c { views = w.views }) w.sends) o)) (sym reminds_only) (on_views_sent (Fair r) (fair_keeps r) w k)
 
 -- ---- a whole step
 
@@ -226,23 +226,23 @@ FairEvent (Given p) = FairBody p.body
 FairEvent _ = Unit {0}
 
 module _ (Q : Core → Type 0) (f : Answering) (carries : Carries Q f) where
-  ended_moves : (X : Type 0) (a b : Core) → Moves Q X a b → Moves Q X a (step_ended f b)
-  ended_moves X a b k = moves_after Q X a b (step_ended f b) (λ r z. on_ended (Fair r) (fair_keeps r) f z) k
+  ended_moves : (X : Type 0) (a b : Core) → Moves Q X a b → Moves Q X a (end_step f b)
+  ended_moves X a b k = moves_after Q X a b (end_step f b) (λ r z. on_ended (Fair r) (fair_keeps r) f z) k
 
   pub step_moves : (s : Core) (e : NodeEvent) → Fit s → Speaks (at_work s) → FairEvent e → Q (at_work s) → Moves Q (NotCall e) (at_work s) (stepped f s e)
-  unfolding stepped event_row tick_row views_part
+  unfolding stepped event_row tick_row tick_views
   step_moves s Ticks fit speaks fair holds =
       let a : Core = at_work s in
-      let b : Core = rings_part a in
+      let b : Core = tick_rings a in
       let t : Core = views_taken f b (gathering_ticks (views_at_work b.views) (ring_ask b) (own_parts b)) in
       let d : Core = views_taken f t (install_again (views_at_work t.views)) in
       let k = rings_onward a fit.order in
       let rings : Fair a b = on_rings (Fair a) (fair_keeps a) (fair_self a speaks) in
       let ticks : Moves Q (Unit {0}) b t = tick_moves Q (Unit {0}) tt f carries b k.order (subst AreViews (sym k.views) fit.views) rings.speaks (carries.rings a holds) in
       let reminded : Moves Q (Unit {0}) a d = moves_after Q (Unit {0}) a t d (remind_fair f t) (moves_before Q (Unit {0}) a b t k.does (ap (λ z. z.view) k.views) rings ticks) in
-      ended_moves (Unit {0}) a (led_part f (owed_part d)) (moves_after Q (Unit {0}) a d (led_part f (owed_part d)) (λ r z. on_led_part (Fair r) (fair_keeps r) f (on_owed_part (Fair r) (fair_keeps r) z)) reminded)
+      ended_moves (Unit {0}) a (tick_led f (tick_owed d)) (moves_after Q (Unit {0}) a d (tick_led f (tick_owed d)) (λ r z. on_led_part (Fair r) (fair_keeps r) f (on_owed_part (Fair r) (fair_keeps r) z)) reminded)
   step_moves s (Asks mask) fit speaks fair holds =
-      ended_moves (Unit {0}) (at_work s) (order_row f (at_work s) mask) (order_moves Q (Unit {0}) tt f carries (at_work s) fit.order fit.views speaks holds mask)
+      ended_moves (Unit {0}) (at_work s) (take_order f (at_work s) mask) (order_moves Q (Unit {0}) tt f carries (at_work s) fit.order fit.views speaks holds mask)
   step_moves s (Given p) fit speaks fair holds =
       ended_moves (Unit {0}) (at_work s) (packet_row f (at_work s) p) (packet_moves Q (Unit {0}) tt f carries (at_work s) fit.order fit.views speaks holds p fair)
   step_moves s (Calls x) fit speaks fair holds =

@@ -3,29 +3,29 @@
 use Rattle.std.proofs.Common.{◌≡◌, ◌⊎◌, ℕ, List, [], ◌∷◌, ◌++◌, Option, Some, Bool, true, false, refl, sym, ap, ◌∙◌, subst, inl, inr, ⊎_elim, append_assoc}
 use Rattle.std.specs.Prelude.{reverse, IsTrue}
 use Rattle.std.proofs.lemmas.List.{reverse-append}
-use Rattle.rsct_packet.specs.declared.ids.ViewId.{ViewId}
-use Rattle.rsct_packet.specs.declared.ids.ProviderId.{ProviderId}
-use Rattle.rsct_packet.specs.Search.{Has}
-use Rattle.proposal_core.specs.declared.entry.Entry.{Entry}
-use Rattle.proposal_core.specs.declared.group_state.GroupState.{GroupState}
-use Rattle.proposal_core.specs.Fold.{after}
-use Rattle.client_callbacks.specs.declared.ballot.Filled.{Filled}
-use Rattle.client_callbacks.specs.declared.told.Why.{Why}
-use Rattle.client_callbacks.specs.declared.told.Why.TheVariants as why
-use Rattle.session_state.specs.declared.state.Provider.{Provider}
-use Rattle.session_state.specs.declared.state.Request.{Request}
-use Rattle.session_state.specs.declared.state.SessionState.{SessionState}
-use Rattle.session_state.specs.State.{provider_of}
-use Rattle.session_state.specs.HandOn.{is_join, is_dissolved, telling_taken, beginners, handed_on}
-use Rattle.node_state.specs.declared.happened.Happened.{Happened}
-use Rattle.node_state.specs.declared.happened.Happened.TheVariants as happened
-use Rattle.run_safety.specs.Past.{History, Within, earlier, view_now}
-use Rattle.run_safety.specs.Requests.{carried}
-use Rattle.run_safety.specs.Stays.{Stay, stays, is_join_of, part, takes_part}
-use Rattle.run_safety.specs.Stays as stay
-use Rattle.step_ties.proofs.SessionLaws.{handed_later, handed_gone}
-use Rattle.row_laws.proofs.hearing.Handing.{handed_kept}
-use Rattle.row_laws.proofs.hearing.Sessions.{fewer_told}
+use Rattle.entry_laws.specs.rsct_packet.declared.ids.ViewId.{ViewId}
+use Rattle.entry_laws.specs.rsct_packet.declared.ids.ProviderId.{ProviderId}
+use Rattle.entry_laws.specs.rsct_packet.Search.{Has}
+use Rattle.entry_laws.specs.proposal_core.declared.entry.Entry.{Entry}
+use Rattle.entry_laws.specs.proposal_core.declared.group_state.GroupState.{GroupState}
+use Rattle.entry_laws.specs.proposal_core.Fold.{after}
+use Rattle.entry_laws.specs.client_callbacks.declared.ballot.Filled.{Filled}
+use Rattle.entry_laws.specs.client_callbacks.declared.told.Why.{Why}
+use Rattle.entry_laws.specs.client_callbacks.declared.told.Why.TheVariants as why
+use Rattle.entry_laws.specs.session_state.declared.state.Provider.{Provider}
+use Rattle.entry_laws.specs.session_state.declared.state.Request.{Request}
+use Rattle.entry_laws.specs.session_state.declared.state.SessionState.{SessionState}
+use Rattle.entry_laws.specs.session_state.State.{provider_of}
+use Rattle.entry_laws.specs.session_state.HandOn.{is_join, is_dissolved, take_telling, beginners, handed_on}
+use Rattle.entry_laws.specs.node_state.declared.happened.Happened.{Happened}
+use Rattle.entry_laws.specs.node_state.declared.happened.Happened.TheVariants as happened
+use Rattle.entry_laws.specs.run_safety.Past.{History, Within, earlier, view_now}
+use Rattle.entry_laws.specs.run_safety.Requests.{carried}
+use Rattle.entry_laws.specs.run_safety.Stays.{Stay, stays, is_join_of, part, takes_part}
+use Rattle.entry_laws.specs.run_safety.Stays as stay
+use Rattle.entry_laws.proofs.step_refinement_laws.SessionLaws.{handed_later, handed_gone}
+use Rattle.entry_laws.proofs.row_laws_laws.hearing.Handing.{handed_kept}
+use Rattle.entry_laws.proofs.row_laws_laws.hearing.Sessions.{fewer_told}
 use Rattle.provider_laws.proofs.attending.Fresh.{join_carried}
 use Rattle.provider_laws.proofs.attending.Turns.{begins_by_join}
 use Rattle.provider_laws.proofs.attending.Staying.{InStay}
@@ -39,7 +39,7 @@ use Rattle.run_laws.proofs.gapless.Growing.{asked_back, Over, over_more, dissolv
 abbrev pub JoinWaits : SessionState → Type 0
 JoinWaits t = (q : Request) → Has q t.requests → is_join q.proposal ≡ true → (q.r ≡ q.p.join) × ((y : Provider) → provider_of t q.p ≡ Some y → y.takes_part ≡ false)
 
-pub told_joins : (t : SessionState) (q : ProviderId) (r : ℕ) (y : Why) → JoinWaits t → JoinWaits (telling_taken t q r y)
+pub told_joins : (t : SessionState) (q : ProviderId) (r : ℕ) (y : Why) → JoinWaits t → JoinWaits (take_telling t q r y)
 told_joins t q r y k z i j = let a = k z ((told_kept t q r y).1 z i) j in (a.0, λ x f. a.1 x ((fewer_told t q r y).providers z.p x f))
 
 pub handed_joins : (t : SessionState) (h : List ℕ) (before after : GroupState) (e : Entry) (bs : List (Option Filled)) → JoinWaits t → JoinWaits (handed_on t h before after e bs)
@@ -118,7 +118,7 @@ module _ (n : ℕ) (before : History) (p : ProviderId) (node : p.node ≡ n) (fi
         subst (λ z. Inv v t (reverse z) lens states) (append_assoc xs (r ∷ []) rs) (inv_records t rs (xs ++ r ∷ []) (λ q h. all q (inr h)) (subst (λ z. Inv v t z lens states) (sym (reverse-append xs (r ∷ []))) (inv_record t (reverse xs) r (all r (inl refl)) k)))
 
     -- a provider is told
-    pub inv_told : (t : SessionState) (now : List Happened) (q : ProviderId) (r : ℕ) (y : Why) → Inv v t now lens states → Inv v (telling_taken t q r y) (happened.Told q r y ∷ now) lens states
+    pub inv_told : (t : SessionState) (now : List Happened) (q : ProviderId) (r : ℕ) (y : Why) → Inv v t now lens states → Inv v (take_telling t q r y) (happened.Told q r y ∷ now) lens states
     inv_told t now q r y k =
         record { stay = k.stay; waits = λ g a. waits g (k.waits g (asked_back g p told (earlier now before) tt a)); takes = λ g a. takes g (k.takes g a); joins = told_joins t q r y k.joins; law = (tt, k.law) }
       where
@@ -137,15 +137,15 @@ module _ (n : ℕ) (before : History) (p : ProviderId) (node : p.node ≡ n) (fi
             let x = k.stay [] in
             inl (inl (same, sym d.2 ∙ number ∙ ap (λ (z : ProviderId). z.join) (own.1 ∙ same), x.now.view, subst (λ m. view_now m rs ≡ Some x.now.view) (sym (ap (λ (z : ProviderId). z.node) same ∙ node)) (stay_view n [] rs x.now x.older x.is)))
 
-        waits : (g : List ℕ) → Stood t p g false ⊎ Over n g p rs → Stood (telling_taken t q r y) p g false ⊎ Over n g p (told ∷ rs)
+        waits : (g : List ℕ) → Stood t p g false ⊎ Over n g p rs → Stood (take_telling t q r y) p g false ⊎ Over n g p (told ∷ rs)
         waits g (inr o) = inr (over_more n g p told rs o)
         waits g (inl s) =
-            ⊎_elim (λ (f : provider_of (telling_taken t q r y) p ≡ Some s.provider). inl (record { provider = s.provider; found = f; group = s.group; part_is = s.part_is })) (λ (d : (q ≡ p) × Drops t q r y). inr (inr (off d.0 d.1 true))) (told_stands t q r y p s.provider s.found)
+            ⊎_elim (λ (f : provider_of (take_telling t q r y) p ≡ Some s.provider). inl (record { provider = s.provider; found = f; group = s.group; part_is = s.part_is })) (λ (d : (q ≡ p) × Drops t q r y). inr (inr (off d.0 d.1 true))) (told_stands t q r y p s.provider s.found)
 
-        takes : (g : List ℕ) → Stood t p g true ⊎ Dissolving p rs → Stood (telling_taken t q r y) p g true ⊎ Dissolving p (told ∷ rs)
+        takes : (g : List ℕ) → Stood t p g true ⊎ Dissolving p rs → Stood (take_telling t q r y) p g true ⊎ Dissolving p (told ∷ rs)
         takes g (inr o) = inr (dissolving_more p told rs o)
         takes g (inl s) =
-            ⊎_elim (λ (f : provider_of (telling_taken t q r y) p ≡ Some s.provider). inl (record { provider = s.provider; found = f; group = s.group; part_is = s.part_is })) (λ (d : (q ≡ p) × Drops t q r y). inr (gone d.0 d.1)) (told_stands t q r y p s.provider s.found)
+            ⊎_elim (λ (f : provider_of (take_telling t q r y) p ≡ Some s.provider). inl (record { provider = s.provider; found = f; group = s.group; part_is = s.part_is })) (λ (d : (q ≡ p) × Drops t q r y). inr (gone d.0 d.1)) (told_stands t q r y p s.provider s.found)
           where
             gone : q ≡ p → Drops t q r y → Dissolving p (told ∷ rs)
             gone same (inr d) = record { number = r; why = y; told = inl (λ i. happened.Told (sym same i) r y); is = dissolved_so y d }

@@ -3,44 +3,44 @@ use Rattle.std.proofs.Common.{◌≡◌, ◌≢◌, ◌⊎◌, ℕ, List, [], �
 use Rattle.std.specs.Prelude.{◌&&◌, ◌||◌, not, reverse, IsTrue}
 use Rattle.std.specs.List.{list_any}
 use Rattle.std.proofs.lemmas.Bool.{eq-eqb}
-use Rattle.rsct_packet.specs.declared.ids.ProviderId.{ProviderId}
-use Rattle.rsct_packet.specs.declared.ids.ViewId.{ViewId}
-use Rattle.rsct_packet.specs.Search.{Has}
-use Rattle.rsct_packet.proofs.HasLaws.{has_append, append_has_right, find_has}
-use Rattle.proposal_core.specs.declared.proposal.Proposal.{Proposal}
-use Rattle.proposal_core.specs.declared.group_state.GroupState.{GroupState}
-use Rattle.session_state.specs.declared.state.Provider.{Provider}
-use Rattle.session_state.specs.declared.state.SessionState.{SessionState}
-use Rattle.session_state.specs.State.{provider_of, is_provider}
-use Rattle.node_state.specs.declared.call.CallLine.{CallLine}
-use Rattle.node_state.specs.declared.call.CallLine.TheVariants as call
-use Rattle.node_state.specs.declared.config.Config.{Config}
-use Rattle.node_state.specs.declared.group.GroupRow.{GroupRow}
-use Rattle.node_state.specs.declared.happened.Happened.{Happened}
-use Rattle.node_state.specs.declared.happened.Happened.TheVariants as happened
-use Rattle.node_state.specs.declared.state.Core.{Core}
-use Rattle.node_state.specs.State.{InNameOrder, row_of, list_of, state_of, len_of}
-use Rattle.node_state.specs.HandOn.{Answering}
-use Rattle.node_state.specs.Calls.{call_row}
-use Rattle.node_state.specs.Step.{NodeEvent, Ticks, Asks, Given, Calls, Garbage, at_work, stepped}
-use Rattle.view_state.specs.declared.views.Views.{Views}
-use Rattle.world_model.specs.declared.event.Event.{Event}
-use Rattle.world_model.specs.declared.event.Event.TheVariants as event
-use Rattle.run_safety.specs.Past.{History, Within, earlier, records_of, inc_now}
-use Rattle.run_safety.specs.Stays.{Stay, stays, part, takes_part, client_of, is_named, goodbye_of, is_refused, ends, lets_go, was_let_go}
-use Rattle.step_ties.specs.Tied.{Scene, NodeIsIf, Rests, InTurn}
-use Rattle.step_ties.specs.Rows.{over, ended, Arises}
-use Rattle.step_ties.specs.Runs.{Reached}
-use Rattle.step_ties.specs.Runs as runs
-use Rattle.step_ties.proofs.Begins.{begin_tied}
-use Rattle.step_ties.proofs.Calls.{call_is_tied}
-use Rattle.step_ties.proofs.Changed.{each_set}
-use Rattle.step_ties.proofs.RunLaw.{reached_rests}
-use Rattle.step_ties.proofs.SessionLaws.{provider_same}
-use Rattle.step_ties.proofs.Turns.{has_turned}
-use Rattle.row_laws.proofs.hearing.Listening.{steps_change, reverse_has}
+use Rattle.entry_laws.specs.rsct_packet.declared.ids.ProviderId.{ProviderId}
+use Rattle.entry_laws.specs.rsct_packet.declared.ids.ViewId.{ViewId}
+use Rattle.entry_laws.specs.rsct_packet.Search.{Has}
+use Rattle.entry_laws.proofs.rsct_packet_laws.HasLaws.{has_append, append_has_right, find_has}
+use Rattle.entry_laws.specs.proposal_core.declared.proposal.Proposal.{Proposal}
+use Rattle.entry_laws.specs.proposal_core.declared.group_state.GroupState.{GroupState}
+use Rattle.entry_laws.specs.session_state.declared.state.Provider.{Provider}
+use Rattle.entry_laws.specs.session_state.declared.state.SessionState.{SessionState}
+use Rattle.entry_laws.specs.session_state.State.{provider_of, is_provider}
+use Rattle.entry_laws.specs.node_state.declared.call.CallLine.{CallLine}
+use Rattle.entry_laws.specs.node_state.declared.call.CallLine.TheVariants as call
+use Rattle.entry_laws.specs.node_state.declared.config.Config.{Config}
+use Rattle.entry_laws.specs.node_state.declared.group.GroupRow.{GroupRow}
+use Rattle.entry_laws.specs.node_state.declared.happened.Happened.{Happened}
+use Rattle.entry_laws.specs.node_state.declared.happened.Happened.TheVariants as happened
+use Rattle.entry_laws.specs.node_state.declared.state.Core.{Core}
+use Rattle.entry_laws.specs.node_state.State.{InNameOrder, row_of, list_of, state_of, len_of}
+use Rattle.entry_laws.specs.node_state.HandOn.{Answering}
+use Rattle.entry_laws.specs.node_state.Calls.{take_call}
+use Rattle.entry_laws.specs.node_state.Step.{NodeEvent, Ticks, Asks, Given, Calls, Garbage, at_work, stepped}
+use Rattle.entry_laws.specs.view_state.declared.views.Views.{Views}
+use Rattle.entry_laws.specs.world_model.declared.event.Event.{Event}
+use Rattle.entry_laws.specs.world_model.declared.event.Event.TheVariants as event
+use Rattle.entry_laws.specs.run_safety.Past.{History, Within, earlier, records_of, inc_now}
+use Rattle.entry_laws.specs.run_safety.Stays.{Stay, stays, part, takes_part, client_of, is_named, goodbye_of, is_refused, ends, lets_go, was_let_go}
+use Rattle.entry_laws.specs.step_refinement.Tied.{Scene, NodeIsIf, Rests, InTurn}
+use Rattle.entry_laws.specs.step_refinement.Rows.{over, ended, Arises}
+use Rattle.entry_laws.specs.step_refinement.Runs.{Reached}
+use Rattle.entry_laws.specs.step_refinement.Runs as runs
+use Rattle.entry_laws.proofs.step_refinement_laws.Begins.{begin_tied}
+use Rattle.entry_laws.proofs.step_refinement_laws.Calls.{call_is_tied}
+use Rattle.entry_laws.proofs.step_refinement_laws.Changed.{each_set}
+use Rattle.entry_laws.proofs.step_refinement_laws.RunLaw.{reached_rests}
+use Rattle.entry_laws.proofs.step_refinement_laws.SessionLaws.{provider_same}
+use Rattle.entry_laws.proofs.step_refinement_laws.Turns.{has_turned}
+use Rattle.entry_laws.proofs.row_laws_laws.hearing.Listening.{steps_change, reverse_has}
 use Rattle.provider_laws.proofs.attending.Law.{begin_strict, step_fine}
-use Rattle.row_laws.proofs.hearing.Incarnations.{incs_of}
+use Rattle.entry_laws.proofs.row_laws_laws.hearing.Incarnations.{incs_of}
 use Rattle.provider_laws.proofs.attending.Staying.{InStay}
 use Rattle.provider_laws.proofs.attending.Ordering.{Ordered, ordered_does}
 use Rattle.provider_laws.proofs.attending.OrderLaw.{reached_orderly}
@@ -48,9 +48,9 @@ use Rattle.provider_laws.proofs.attending.Fresh.{fresh_now}
 use Rattle.provider_laws.proofs.attending.Living.{lively_now}
 use Rattle.run_laws.specs.seen_runs.Seen.{Seen}
 use Rattle.run_laws.proofs.seen_runs.Law.{traces_seen}
-use Rattle.row_laws.specs.failed_rows.Scenes.{Names}
-use Rattle.row_laws.proofs.failed_rows.Origin.{root_of}
-use Rattle.row_laws.proofs.failed_rows.Owners.{goodbye_named}
+use Rattle.entry_laws.specs.row_laws.failed_rows.Scenes.{Names}
+use Rattle.entry_laws.proofs.row_laws_laws.failed_rows.Origin.{root_of}
+use Rattle.entry_laws.proofs.row_laws_laws.failed_rows.Owners.{goodbye_named}
 use Rattle.provider_laws.specs.leaving.Scenes.{IsCall}
 use Rattle.provider_laws.proofs.leaving.Events.{any_none}
 use Rattle.provider_laws.proofs.leaving.Keeping.{KeptIf, Clean}
@@ -160,7 +160,7 @@ module _ (c : Config) (w : Scene) (n : ℕ) (f : Answering) (s : Core) (e : Node
   turn : InTurn s.views.view (records_of w.before) s.sessions
   turn = (rests []).turns n s up
 
-  made : (d : CallLine) → Made d (at_work s) (call_row (at_work s) d)
+  made : (d : CallLine) → Made d (at_work s) (take_call (at_work s) d)
   made d = call_made d (at_work s) refl turn.owner turn.numbered here.0.owes.attended
 
   waiting : JoinWaits s.sessions
@@ -184,7 +184,7 @@ module _ (c : Config) (w : Scene) (n : ℕ) (f : Answering) (s : Core) (e : Node
   root_said (Asks mask) r i = absurd i
   root_said (Given q) r i = absurd i
   root_said Garbage r i = absurd i
-  root_said (Calls d) r i = ((call_row (at_work s) d).sessions, (made d).records r i)
+  root_said (Calls d) r i = ((take_call (at_work s) d).sessions, (made d).records r i)
 
   -- who asks is of this node
   root_asks : (e : NodeEvent) (q : ProviderId) (r : ℕ) (g : List ℕ) (x : Proposal) → Has (happened.Asked q r g x) (root_of (at_work s) e).records → q.node ≡ n
@@ -228,7 +228,7 @@ module _ (c : Config) (w : Scene) (n : ℕ) (f : Answering) (s : Core) (e : Node
     was = subst (KnownIf p w.before) (ap w.cores node ∙ up) (k.known p spared)
 
     -- its client did not say goodbye
-    remains : (d : CallLine) → e ≡ Calls d → (x : Provider) → provider_of s.sessions p ≡ Some x → Leaves d (at_work s) (call_row (at_work s) d) x → ⊥
+    remains : (d : CallLine) → e ≡ Calls d → (x : Provider) → provider_of s.sessions p ≡ Some x → Leaves d (at_work s) (take_call (at_work s) d) x → ⊥
     unfolding provider_of
     remains d q x found l =
         let a = find_has (is_provider p) s.sessions.providers x found in
@@ -261,7 +261,7 @@ module _ (c : Config) (w : Scene) (n : ℕ) (f : Answering) (s : Core) (e : Node
     unfolding len_of state_of list_of row_of
     begun = record { stay = stay_was; waits = waits_was; takes = λ g a. inl (takes_was g a); joins = waiting; law = tt }
 
-    called : (d : CallLine) → e ≡ Calls d → Now (call_row (at_work s) d)
+    called : (d : CallLine) → e ≡ Calls d → Now (take_call (at_work s) d)
     unfolding len_of state_of list_of row_of
     called d q =
         record {
@@ -273,7 +273,7 @@ module _ (c : Config) (w : Scene) (n : ℕ) (f : Answering) (s : Core) (e : Node
         }
       where
         x : Core
-        x = call_row (at_work s) d
+        x = take_call (at_work s) d
 
         m : Made d (at_work s) x
         m = made d

@@ -1,51 +1,51 @@
 -- What keeps what holds of a node's rings: sending, recording, handing on, appending, closing, beginning, and the end of a step.
 use Rattle.std.proofs.Common.{◌≡◌, ℕ, zero, suc, List, [], ◌∷◌, length, Option, Some, None, Bool, true, false, refl, sym, subst, inl, inr, ⊎_elim, append_assoc, append-nil}
 use Rattle.std.specs.Prelude.{not, map, filter, fold, flat_map}
-use Rattle.rsct_packet.specs.declared.ids.ProviderId.{ProviderId}
-use Rattle.rsct_packet.specs.declared.ids.ProtoId.{ProtoId}
-use Rattle.rsct_packet.specs.Lists.{is_empty}
-use Rattle.rsct_packet.specs.Providers.{among}
-use Rattle.rsct_packet.specs.Search.{Has}
-use Rattle.rsct_packet.proofs.HasLaws.{has_append, has_map}
-use Rattle.group_attr.specs.declared.attrs.Attrs.{Attrs}
-use Rattle.group_attr.specs.declared.attrs.Phases.{Phases}
-use Rattle.group_attr.specs.declared.attrs.Phases.TheVariants.{One, Many}
-use Rattle.proposal_core.specs.declared.proposal.Cause.TheVariants.{Died, Gone}
-use Rattle.proposal_core.specs.declared.proposal.Failure.{Failure}
-use Rattle.proposal_core.specs.declared.proposal.Proposal.{Proposal}
-use Rattle.proposal_core.specs.declared.proposal.Proposal.TheVariants.{Join, Fail, Reflect}
-use Rattle.proposal_core.specs.declared.entry.Entry.{Entry}
-use Rattle.proposal_core.specs.declared.entry.Entry.TheVariants.{Once, Begin}
-use Rattle.proposal_core.specs.declared.group_state.GroupState.{GroupState}
-use Rattle.proposal_core.specs.Fold.{max_phases}
-use Rattle.proposal_core.specs.Lists.{list_or_new, with_entry}
-use Rattle.batch_rules.specs.Waiting.{WaitingView, waits_failure, batches_failures, chosen_of, next_failures, failures_left, next_joins, joins_left}
-use Rattle.vote_phases.specs.Tally.{TallyView}
-use Rattle.source_target.specs.declared.Due.{Due}
-use Rattle.source_target.specs.declared.Due.TheVariants as due
-use Rattle.source_target.specs.Due as target
-use Rattle.subscribe_core.specs.Subs.{is_of_group, differs}
-use Rattle.client_callbacks.specs.declared.told.Why.{Why}
-use Rattle.client_callbacks.specs.declared.told.Why.TheVariants.{NoSource}
-use Rattle.client_callbacks.specs.declared.ballot.Filled.{Filled}
-use Rattle.client_callbacks.specs.Ballots.{BallotView}
-use Rattle.session_state.specs.declared.casts.Cast.{Cast}
-use Rattle.session_state.specs.declared.state.SessionState.{SessionState}
-use Rattle.session_state.specs.HandOn.{hearers, casts_out}
-use Rattle.session_state.specs.HandOn as session
-use Rattle.node_state.specs.declared.group.GroupRow.{GroupRow}
-use Rattle.node_state.specs.declared.group.Led.{Led}
-use Rattle.node_state.specs.declared.happened.Happened.{Happened}
-use Rattle.node_state.specs.declared.happened.Happened.TheVariants as happened
-use Rattle.node_state.specs.declared.packet.Body.{Body}
-use Rattle.node_state.specs.declared.packet.Body.TheVariants as body
-use Rattle.node_state.specs.declared.state.Core.{Core}
-use Rattle.node_state.specs.State.{row_of, rows_with, with_row, with_led, led_of, state_of, len_of, list_forgotten, fits_at_end, forgets_below, frozen, leader_of, led_groups, others, least_acked, decisions_with, recorded, recorded_all, with_sessions}
-use Rattle.node_state.specs.Sending.{sent_on, sent, sent_all, sent_if_known, network_to, vote_of}
-use Rattle.node_state.specs.HandOn.{Answering, fills, cast_record, cast_records, heard, note_of, notes, noted, ballot_sent, cast_sent_of, casts_sent, handed_on}
-use Rattle.node_state.specs.Leading.{put, put_and_handed, forgets_least, with_waiting, waits_if, new_members_wait, appended, appended_if, with_tally, tally_set, tally_for, tally_opened, closing_entry, is_phase, closes_from, closes, begun_many, begins}
-use Rattle.node_state.specs.Deciding.{decision_kept, refused, known_state, lacks_source, source_len}
-use Rattle.node_state.specs.Ending.{Pass, quiet, begun_now, failures_begin, due_begins, source_begins, attrs_for, carried_len, source_refused, joins_begin, or_due, or_joins, may_begin, first_begins, group_begins, one_pass, passes, most_begun, step_ended}
+use Rattle.entry_laws.specs.rsct_packet.declared.ids.ProviderId.{ProviderId}
+use Rattle.entry_laws.specs.rsct_packet.declared.ids.ProtoId.{ProtoId}
+use Rattle.entry_laws.specs.rsct_packet.Lists.{is_empty}
+use Rattle.entry_laws.specs.rsct_packet.Providers.{among}
+use Rattle.entry_laws.specs.rsct_packet.Search.{Has}
+use Rattle.entry_laws.proofs.rsct_packet_laws.HasLaws.{has_append, has_map}
+use Rattle.entry_laws.specs.group_attr.declared.attrs.Attrs.{Attrs}
+use Rattle.entry_laws.specs.group_attr.declared.attrs.Phases.{Phases}
+use Rattle.entry_laws.specs.group_attr.declared.attrs.Phases.TheVariants.{One, Many}
+use Rattle.entry_laws.specs.proposal_core.declared.proposal.Cause.TheVariants.{Died, Gone}
+use Rattle.entry_laws.specs.proposal_core.declared.proposal.Failure.{Failure}
+use Rattle.entry_laws.specs.proposal_core.declared.proposal.Proposal.{Proposal}
+use Rattle.entry_laws.specs.proposal_core.declared.proposal.Proposal.TheVariants.{Join, Fail, Reflect}
+use Rattle.entry_laws.specs.proposal_core.declared.entry.Entry.{Entry}
+use Rattle.entry_laws.specs.proposal_core.declared.entry.Entry.TheVariants.{Once, Begin}
+use Rattle.entry_laws.specs.proposal_core.declared.group_state.GroupState.{GroupState}
+use Rattle.entry_laws.specs.proposal_core.Fold.{max_phases}
+use Rattle.entry_laws.specs.proposal_core.Lists.{list_or_new, with_entry}
+use Rattle.entry_laws.specs.batch_rules.Waiting.{WaitingView, add_failure, batches_failures, chosen_of, next_failures, failures_left, next_joins, joins_left}
+use Rattle.entry_laws.specs.vote_phases.Tally.{TallyView}
+use Rattle.entry_laws.specs.source_target.declared.Due.{Due}
+use Rattle.entry_laws.specs.source_target.declared.Due.TheVariants as due
+use Rattle.entry_laws.specs.source_target.Due as target
+use Rattle.entry_laws.specs.subscribe_core.Subs.{is_of_group, differs}
+use Rattle.entry_laws.specs.client_callbacks.declared.told.Why.{Why}
+use Rattle.entry_laws.specs.client_callbacks.declared.told.Why.TheVariants.{NoSource}
+use Rattle.entry_laws.specs.client_callbacks.declared.ballot.Filled.{Filled}
+use Rattle.entry_laws.specs.client_callbacks.Ballots.{BallotView}
+use Rattle.entry_laws.specs.session_state.declared.casts.Cast.{Cast}
+use Rattle.entry_laws.specs.session_state.declared.state.SessionState.{SessionState}
+use Rattle.entry_laws.specs.session_state.HandOn.{hearers, casts_out}
+use Rattle.entry_laws.specs.session_state.HandOn as session
+use Rattle.entry_laws.specs.node_state.declared.group.GroupRow.{GroupRow}
+use Rattle.entry_laws.specs.node_state.declared.group.Led.{Led}
+use Rattle.entry_laws.specs.node_state.declared.happened.Happened.{Happened}
+use Rattle.entry_laws.specs.node_state.declared.happened.Happened.TheVariants as happened
+use Rattle.entry_laws.specs.node_state.declared.packet.Body.{Body}
+use Rattle.entry_laws.specs.node_state.declared.packet.Body.TheVariants as body
+use Rattle.entry_laws.specs.node_state.declared.state.Core.{Core}
+use Rattle.entry_laws.specs.node_state.State.{row_of, rows_with, with_row, with_led, led_of, state_of, len_of, list_forgotten, fits_at_end, forget_below, frozen, leader_of, led_groups, others, least_acked, decisions_with, recorded, recorded_all, with_sessions}
+use Rattle.entry_laws.specs.node_state.Sending.{send_on, sent, send_all, send_if_known, network_to, vote_of}
+use Rattle.entry_laws.specs.node_state.HandOn.{Answering, fills, cast_record, cast_records, heard, note_of, notes, noted, ballot_sent, cast_sent_of, casts_sent, hand_on}
+use Rattle.entry_laws.specs.node_state.Leading.{put, put_and_hand, forget_least, with_waiting, wait_if, new_members_wait, appended, append_if_fits, with_tally, tally_set, tally_for, tally_opened, closing_entry, is_phase, closes_from, closes, begin_many, begins}
+use Rattle.entry_laws.specs.node_state.Deciding.{keep_decision, refused, known_state, lacks_source, source_len}
+use Rattle.entry_laws.specs.node_state.Ending.{Pass, quiet, begun_now, failures_begin, due_begins, source_begins, attrs_for, carried_len, source_refused, joins_begin, or_due, or_joins, may_begin, first_begins, group_begins, one_pass, passes, most_begun, end_step}
 
 -- no ring says it
 abbrev pub NoRing : Body → Type 0
@@ -68,7 +68,7 @@ pub record Alike (s t : Core) : Type 0 where
 -- what is said of a node in the middle of a step does not depend on more than rings
 pub record Keeps (P : Core → Type 0) : Type 0 where
   pub alike : (s t : Core) → Alike s t → P s → P t
-  pub sends : (s : Core) (network to : ℕ) (b : Body) → NoRing b → P s → P (sent_on s network to b)
+  pub sends : (s : Core) (network to : ℕ) (b : Body) → NoRing b → P s → P (send_on s network to b)
   pub records : (s : Core) (r : Happened) → Aside r → P s → P (recorded s r)
 
 module _ (P : Core → Type 0) (k : Keeps P) where
@@ -99,12 +99,12 @@ module _ (P : Core → Type 0) (k : Keeps P) where
   unfolding sent
   on_sent {s} to b away p = k.sends s (network_to s to) to b away p
 
-  pub on_sent_all : {s : Core} (ns : List ℕ) (b : Body) → NoRing b → P s → P (sent_all s ns b)
-  unfolding sent_all
+  pub on_sent_all : {s : Core} (ns : List ℕ) (b : Body) → NoRing b → P s → P (send_all s ns b)
+  unfolding send_all
   on_sent_all ns b away p = on_fold (λ t n. sent t n b) (λ t n q. on_sent n b away q) ns p
 
-  pub on_known : {s : Core} (to : Option ℕ) (b : Body) → NoRing b → P s → P (sent_if_known s to b)
-  unfolding sent_if_known
+  pub on_known : {s : Core} (to : Option ℕ) (b : Body) → NoRing b → P s → P (send_if_known s to b)
+  unfolding send_if_known
   on_known None b away p = p
   on_known (Some n) b away p = on_sent n b away p
 
@@ -161,8 +161,8 @@ module _ (P : Core → Type 0) (k : Keeps P) where
   on_casts {s} g to cs p =
       on_either (frozen s) p (on_fold (λ t (c : Cast). cast_sent_of t g to c.p c.cast) (λ t c q. on_cast g to c.p c.cast q) cs p)
 
-  pub on_handed : (f : Answering) {s : Core} (to : Option ℕ) (g : List ℕ) (i : ℕ) (before after : GroupState) (e : Entry) → P s → P (handed_on f s to g i before after e)
-  unfolding handed_on
+  pub on_handed : (f : Answering) {s : Core} (to : Option ℕ) (g : List ℕ) (i : ℕ) (before after : GroupState) (e : Entry) → P s → P (hand_on f s to g i before after e)
+  unfolding hand_on
   on_handed f {s} to g i before after e p =
       let bs : List (Option Filled) = fills f (length s.records) s.sessions e after (hearers s.sessions g before e) in
       let cs : List Cast = casts_out s.sessions g before after e bs in
@@ -175,42 +175,42 @@ module _ (P : Core → Type 0) (k : Keeps P) where
   on_put {s} g e p =
       k.records _ (happened.Put s.views.me s.views.view g (len_of s g) e) tt (on_row g (λ row. record row { list = Some (with_entry (list_or_new row.list) s.views.view e) }) p)
 
-  pub on_put_handed : (f : Answering) {s : Core} (to : Option ℕ) (g : List ℕ) (e : Entry) → P s → P (put_and_handed f s to g e)
-  unfolding put_and_handed
+  pub on_put_handed : (f : Answering) {s : Core} (to : Option ℕ) (g : List ℕ) (e : Entry) → P s → P (put_and_hand f s to g e)
+  unfolding put_and_hand
   on_put_handed f {s} to g e p = on_handed f to g (len_of s g) (state_of s g) (state_of (put s g e) g) e (on_put g e p)
 
-  pub on_forgets : {s : Core} (g : List ℕ) (n : ℕ) → P s → P (forgets_below s g n)
-  unfolding forgets_below
+  pub on_forgets : {s : Core} (g : List ℕ) (n : ℕ) → P s → P (forget_below s g n)
+  unfolding forget_below
   on_forgets g n p = on_row g (λ row. record row { list = list_forgotten n row.list }) p
 
-  pub on_forgets_least : {s : Core} (g : List ℕ) → P s → P (forgets_least s g)
-  unfolding forgets_least
+  pub on_forgets_least : {s : Core} (g : List ℕ) → P s → P (forget_least s g)
+  unfolding forget_least
   on_forgets_least {s} g p = on_forgets g (least_acked s g) p
 
   pub on_waiting : {s : Core} (g : List ℕ) (f : WaitingView → WaitingView) → P s → P (with_waiting s g f)
   unfolding with_waiting
   on_waiting g f p = on_led g (λ l. record l { waiting = f l.waiting }) p
 
-  on_waits_if : {s : Core} (g : List ℕ) (q : ProviderId) (a b : Bool) → P s → P (waits_if s g q a b)
-  unfolding waits_if
-  on_waits_if g q true b p = on_waiting g (waits_failure q Died) p
-  on_waits_if g q false true p = on_waiting g (waits_failure q Gone) p
+  on_waits_if : {s : Core} (g : List ℕ) (q : ProviderId) (a b : Bool) → P s → P (wait_if s g q a b)
+  unfolding wait_if
+  on_waits_if g q true b p = on_waiting g (add_failure q Died) p
+  on_waits_if g q false true p = on_waiting g (add_failure q Gone) p
   on_waits_if g q false false p = p
 
   on_new_members : {s : Core} (g : List ℕ) (before after : GroupState) → P s → P (new_members_wait s g before after)
   unfolding new_members_wait
   on_new_members {s} g before after p =
-      on_fold (λ t q. waits_if t g q (among after.failed q) (among (led_of s g).gone q)) (λ t q h. on_waits_if g q (among after.failed q) (among (led_of s g).gone q) h) (filter (λ q. not (among before.members q)) after.members) p
+      on_fold (λ t q. wait_if t g q (among after.failed q) (among (led_of s g).gone q)) (λ t q h. on_waits_if g q (among after.failed q) (among (led_of s g).gone q) h) (filter (λ q. not (among before.members q)) after.members) p
 
   on_appended : (f : Answering) {s : Core} (g : List ℕ) (e : Entry) → P s → P (appended f s g e)
   unfolding appended
   on_appended f {s} g e p =
       let t : Core = put s g e in
-      let u : Core = sent_all t (others t) (body.Entry t.views.view g (len_of s g) (least_acked t g) e) in
+      let u : Core = send_all t (others t) (body.Entry t.views.view g (len_of s g) (least_acked t g) e) in
       on_new_members g (state_of s g) (state_of t g) (on_forgets_least g (on_handed f (leader_of u g) g (len_of s g) (state_of s g) (state_of t g) e (on_sent_all (others t) (body.Entry t.views.view g (len_of s g) (least_acked t g) e) tt (on_put g e p))))
 
-  pub on_appended_if : (f : Answering) {s : Core} (g : List ℕ) (e : Entry) (b : Bool) → P s → P (appended_if f s g e b)
-  unfolding appended_if
+  pub on_appended_if : (f : Answering) {s : Core} (g : List ℕ) (e : Entry) (b : Bool) → P s → P (append_if_fits f s g e b)
+  unfolding append_if_fits
   on_appended_if f g e false p = p
   on_appended_if f g e true p = on_appended f g e p
 
@@ -247,18 +247,18 @@ module _ (P : Core → Type 0) (k : Keeps P) where
   on_closes f {s} g p = on_closes_from max_phases f s g p
 
   pub on_begins : (f : Answering) {s : Core} (g : List ℕ) (x : Proposal) (phases : Phases) → P s → P (begins f s g x phases)
-  unfolding begins begun_many
+  unfolding begins begin_many
   on_begins f {s} g x One p = on_appended_if f g (Once x) (fits_at_end s g (Once x)) p
   on_begins f {s} g x Many p = by (fits_at_end s g (Begin x))
     where
-      by : (b : Bool) → P (begun_many f s g x b)
+      by : (b : Bool) → P (begin_many f s g x b)
       by false = p
       by true = on_closes f g (on_opened g (on_appended f g (Begin x) p))
 
   -- ---- deciding
 
-  pub on_kept : {s : Core} (g : List ℕ) (q : ProviderId) (r : ℕ) (y : Option Why) → P s → P (decision_kept s g q r y)
-  unfolding decision_kept
+  pub on_kept : {s : Core} (g : List ℕ) (q : ProviderId) (r : ℕ) (y : Option Why) → P s → P (keep_decision s g q r y)
+  unfolding keep_decision
   on_kept g q r y p = on_led g (λ l. record l { decided = decisions_with (record { p = q; r = r; why = y }) l.decided }) p
 
   pub on_refused : {s : Core} (g : List ℕ) (q : ProviderId) (r : ℕ) (y : Why) → P s → P (refused s g q r y)
@@ -383,6 +383,6 @@ module _ (P : Core → Type 0) (k : Keeps P) where
       by : (x : Pass) → P x.core → ((most : ℕ) (f : Answering) (s : Core) → P s → P (passes n most f s)) → P (elim x.began as (λ _. Core) [ true ↦ passes n most f x.core | false ↦ x.core ])
       by x h rest = at x h rest x.began
 
-  pub on_ended : (f : Answering) {s : Core} → P s → P (step_ended f s)
-  unfolding step_ended
+  pub on_ended : (f : Answering) {s : Core} → P s → P (end_step f s)
+  unfolding end_step
   on_ended f {s} p = on_either (frozen s) p (on_passes (most_begun s) (most_begun s) f s p)

@@ -3,28 +3,28 @@
 use Rattle.std.proofs.Common.{◌≡◌, ◌≢◌, ◌≤◌, ℕ, List, [], ◌∷◌, ◌++◌, Option, Some, None, refl, sym, ap, ◌∙◌, subst, inl, inr, ⊎_elim}
 use Rattle.std.specs.Prelude.{map, fold, find}
 use Rattle.std.proofs.lemmas.List.Sums.{fold-append}
-use Rattle.rsct_packet.specs.Search.{Has}
-use Rattle.rsct_packet.proofs.HasLaws.{has_append, append_has_left, append_has_right, find_has}
-use Rattle.adapter_ring.specs.declared.packet.RingSend.{RingSend}
-use Rattle.adapter_ring.specs.declared.packet.RingEvent.{RingEvent}
-use Rattle.adapter_ring.specs.declared.ring.Ring.{Ring}
-use Rattle.adapter_ring.specs.declared.ring.RingSet.{RingSet}
-use Rattle.adapter_ring.specs.declared.ring.RingSettings.{RingSettings}
-use Rattle.adapter_ring.specs.declared.work.RingWork.{RingWork}
-use Rattle.adapter_ring.specs.Rings.{ring_stepped}
-use Rattle.adapter_ring.specs.Network.{Happening, Sent, Told, Started, Network, quiet, ring_at, sent_by, told_by, step_taken, happens, after}
-use Rattle.node_state.specs.declared.happened.Happened.{Happened}
-use Rattle.node_state.specs.declared.happened.Happened.TheVariants as happened
-use Rattle.node_state.specs.declared.packet.Body.{Body}
-use Rattle.node_state.specs.declared.packet.Body.TheVariants as body
-use Rattle.node_state.specs.declared.packet.Packet.{Packet}
-use Rattle.node_state.specs.declared.state.Core.{Core}
-use Rattle.node_state.specs.State.{recorded, recorded_all}
-use Rattle.node_state.specs.Sending.{packet_on, sent_on}
-use Rattle.node_state.specs.Ticks.{ring_put, set_records, ring_taken}
-use Rattle.run_safety.specs.Past.{records_of}
-use Rattle.step_ties.specs.Tied.{Scene}
-use Rattle.step_ties.proofs.Changed.{has_pushed}
+use Rattle.entry_laws.specs.rsct_packet.Search.{Has}
+use Rattle.entry_laws.proofs.rsct_packet_laws.HasLaws.{has_append, append_has_left, append_has_right, find_has}
+use Rattle.entry_laws.specs.adapter_ring.declared.packet.RingSend.{RingSend}
+use Rattle.entry_laws.specs.adapter_ring.declared.packet.RingEvent.{RingEvent}
+use Rattle.entry_laws.specs.adapter_ring.declared.ring.Ring.{Ring}
+use Rattle.entry_laws.specs.adapter_ring.declared.ring.RingSet.{RingSet}
+use Rattle.entry_laws.specs.adapter_ring.declared.ring.RingSettings.{RingSettings}
+use Rattle.entry_laws.specs.adapter_ring.declared.work.RingWork.{RingWork}
+use Rattle.entry_laws.specs.adapter_ring.Rings.{ring_step}
+use Rattle.entry_laws.specs.adapter_ring.Network.{Happening, Sent, Told, Started, Network, quiet, ring_at, sent_by, told_by, step_taken, happens, after}
+use Rattle.entry_laws.specs.node_state.declared.happened.Happened.{Happened}
+use Rattle.entry_laws.specs.node_state.declared.happened.Happened.TheVariants as happened
+use Rattle.entry_laws.specs.node_state.declared.packet.Body.{Body}
+use Rattle.entry_laws.specs.node_state.declared.packet.Body.TheVariants as body
+use Rattle.entry_laws.specs.node_state.declared.packet.Packet.{Packet}
+use Rattle.entry_laws.specs.node_state.declared.state.Core.{Core}
+use Rattle.entry_laws.specs.node_state.State.{recorded, recorded_all}
+use Rattle.entry_laws.specs.node_state.Sending.{packet_on, send_on}
+use Rattle.entry_laws.specs.node_state.Ticks.{ring_put, set_records, ring_taken}
+use Rattle.entry_laws.specs.run_safety.Past.{records_of}
+use Rattle.entry_laws.specs.step_refinement.Tied.{Scene}
+use Rattle.entry_laws.proofs.step_refinement_laws.Changed.{has_pushed}
 use Rattle.run_laws.specs.ring_runs.Rings.{ring_settings}
 use Rattle.run_laws.proofs.ring_runs.Stepping.{OwnWork, own_step}
 use Rattle.run_laws.proofs.ring_runs.Leading.{NoRing, Aside, Keeps}
@@ -103,8 +103,8 @@ tells_on net v x g _ h = tt
 module _ (net : ℕ) (w : Scene) (n : ℕ) where
   -- ---- what a node sends, records and changes
 
-  at_sent_on : (v : Network) (s : Core) (network to : ℕ) (b : Body) → Carried net v (packet_on s network to b) b → At net w n v s → At net w n v (sent_on s network to b)
-  unfolding sent_on packet_on
+  at_sent_on : (v : Network) (s : Core) (network to : ℕ) (b : Body) → Carried net v (packet_on s network to b) b → At net w n v s → At net w n v (send_on s network to b)
+  unfolding send_on packet_on
   at_sent_on v s network to b ok a =
       record {
         net_is = a.net_is;
@@ -165,12 +165,12 @@ module _ (net : ℕ) (w : Scene) (n : ℕ) where
 
   -- ---- what a ring's step leaves
 
-  sends_at : (v : Network) (xs : List RingSend) (s : Core) → ((y : RingSend) → Has y xs → y.network ≡ net → Has {A = Sent} (record { from = n; inc = w.incs n; to = y.to; packet = y.packet }) v.sent) → At net w n v s → At net w n v (fold (λ u (y : RingSend). sent_on u y.network y.to (body.Ring y.packet)) s xs)
+  sends_at : (v : Network) (xs : List RingSend) (s : Core) → ((y : RingSend) → Has y xs → y.network ≡ net → Has {A = Sent} (record { from = n; inc = w.incs n; to = y.to; packet = y.packet }) v.sent) → At net w n v s → At net w n v (fold (λ u (y : RingSend). send_on u y.network y.to (body.Ring y.packet)) s xs)
   unfolding packet_on
   sends_at v [] s all a = a
   sends_at v (x ∷ xs) s all a =
       let here : x.network ≡ net → Has {A = Sent} (record { from = s.views.me; inc = s.views.inc; to = x.to; packet = x.packet }) v.sent = λ e. subst (λ z. Has {A = Sent} (record { from = z; inc = s.views.inc; to = x.to; packet = x.packet }) v.sent) (sym a.own.me) (subst (λ z. Has {A = Sent} (record { from = n; inc = z; to = x.to; packet = x.packet }) v.sent) (sym a.own.inc) (all x (inl refl) e)) in
-      sends_at v xs (sent_on s x.network x.to (body.Ring x.packet)) (λ y h e. all y (inr h) e) (at_sent_on v s x.network x.to (body.Ring x.packet) here a)
+      sends_at v xs (send_on s x.network x.to (body.Ring x.packet)) (λ y h e. all y (inr h) e) (at_sent_on v s x.network x.to (body.Ring x.packet) here a)
 
   -- the ring of its network in place of the one before
   own_put : (s : Core) (r : Ring) (y : Ring) → Has r s.rings → y.me ≡ r.me → y.inc ≡ r.inc → Own n (w.incs n) s → Own n (w.incs n) (record s { rings = ring_put s.rings y })
@@ -187,7 +187,7 @@ module _ (net : ℕ) (w : Scene) (n : ℕ) where
   taken_at : (v v' : Network) (s : Core) (r : Ring) (x : RingWork) → Has r s.rings → OwnWork r.net r.me r.inc x → GoesOn v v' → find (is_on net) (ring_put s.rings x.ring) ≡ ring_at v' n → ((m : ℕ) → m ≢ n → ring_at v' m ≡ ring_at v m) → ((y : RingSend) → Has y x.sends → r.net ≡ net → Has {A = Sent} (record { from = n; inc = w.incs n; to = y.to; packet = y.packet }) v'.sent) → ((y : RingSet) → x.set ≡ Some y → r.net ≡ net → Has {A = Told} (record { node = n; id = y.id; members = y.members; neighbour = y.neighbour }) v'.told) → At net w n v s → At net w n v' (ring_taken s x)
   unfolding ring_taken set_records
   taken_at v v' s r x h own goes ring others sent told a =
-      at_recorded_all v' (fold (λ u (y : RingSend). sent_on u y.network y.to (body.Ring y.packet)) (record s { rings = ring_put s.rings x.ring }) x.sends) (set_records s.views.me x.ring.net x.set) (by x.set told) (sends_at v' x.sends (record s { rings = ring_put s.rings x.ring }) (λ y i e. sent y i (sym (own.sends y i) ∙ e)) put_at)
+      at_recorded_all v' (fold (λ u (y : RingSend). send_on u y.network y.to (body.Ring y.packet)) (record s { rings = ring_put s.rings x.ring }) x.sends) (set_records s.views.me x.ring.net x.set) (by x.set told) (sends_at v' x.sends (record s { rings = ring_put s.rings x.ring }) (λ y i e. sent y i (sym (own.sends y i) ∙ e)) put_at)
     where
       put_at : At net w n v' (record s { rings = ring_put s.rings x.ring })
       put_at = record {
@@ -209,19 +209,19 @@ module _ (net : ℕ) (w : Scene) (n : ℕ) where
       by (Some y) told q (inr z) = absurd z
 
   -- a ring of another network
-  pub other_taken : (v : Network) (s : Core) (r : Ring) (e : RingEvent) → Has r s.rings → r.net ≢ net → At net w n v s → At net w n v (ring_taken s (ring_stepped r e))
+  pub other_taken : (v : Network) (s : Core) (r : Ring) (e : RingEvent) → Has r s.rings → r.net ≢ net → At net w n v s → At net w n v (ring_taken s (ring_step r e))
   other_taken v s r e h off a =
       let own = own_step r e in
-      taken_at v v s r (ring_stepped r e) h own (record { net_is = refl; settings = refl; starts = refl; grows = record { sent = λ y i. i; told = λ y i. i } }) (put_there net s.rings (ring_stepped r e).ring (λ f. off (sym own.net_is ∙ f)) ∙ a.ring) (λ m ne. refl) (λ y i f. absurd (off f)) (λ y i f. absurd (off f)) a
+      taken_at v v s r (ring_step r e) h own (record { net_is = refl; settings = refl; starts = refl; grows = record { sent = λ y i. i; told = λ y i. i } }) (put_there net s.rings (ring_step r e).ring (λ f. off (sym own.net_is ∙ f)) ∙ a.ring) (λ m ne. refl) (λ y i f. absurd (off f)) (λ y i f. absurd (off f)) a
 
   -- the ring of this one
-  pub this_taken : (v : Network) (s : Core) (r : Ring) (e : RingEvent) → find (is_on net) s.rings ≡ Some r → r.net ≡ net → At net w n v s → At net w n (step_taken v (ring_stepped r e)) (ring_taken s (ring_stepped r e))
+  pub this_taken : (v : Network) (s : Core) (r : Ring) (e : RingEvent) → find (is_on net) s.rings ≡ Some r → r.net ≡ net → At net w n v s → At net w n (step_taken v (ring_step r e)) (ring_taken s (ring_step r e))
   unfolding step_taken sent_by told_by ring_at
   this_taken v s r e is on a =
       taken_at v (step_taken v x) s r x h own goes (put_here net s.rings x.ring r (own.net_is ∙ on) is ∙ sym (with_here n v.rings x.ring r mine (sym a.ring ∙ is))) (λ m ne. with_there m v.rings x.ring (λ f. ne (sym f ∙ mine))) sent told a
     where
       x : RingWork
-      x = ring_stepped r e
+      x = ring_step r e
 
       own : OwnWork r.net r.me r.inc x
       own = own_step r e

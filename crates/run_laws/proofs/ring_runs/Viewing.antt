@@ -3,63 +3,63 @@ use Rattle.std.proofs.Common.{◌≡◌, ℕ, List, [], ◌∷◌, Option, Some,
 use Rattle.std.specs.Prelude.{not, ◌==◌, ◌&&◌, map, filter, fold, flat_map, is_some}
 use Rattle.std.specs.Str.{bytes_eq}
 use Rattle.std.proofs.lemmas.Bool.{eqb-true}
-use Rattle.rsct_packet.specs.declared.ids.ViewId.{ViewId}
-use Rattle.rsct_packet.specs.declared.ids.ProviderId.{ProviderId}
-use Rattle.rsct_packet.specs.declared.mask.Mask.{Mask}
-use Rattle.rsct_packet.specs.Providers.{among}
-use Rattle.rsct_packet.specs.Search.{Has}
-use Rattle.rsct_packet.proofs.HasLaws.{has_append, has_map}
-use Rattle.group_attr.specs.Attrs.{host_membership}
-use Rattle.proposal_core.specs.declared.proposal.Cause.TheVariants.{Died}
-use Rattle.proposal_core.specs.declared.entry.Entry.{Entry}
-use Rattle.proposal_core.specs.Fold.{present}
-use Rattle.proposal_core.specs.Lists.{state_in}
-use Rattle.batch_rules.specs.Waiting.{waits_failure}
-use Rattle.adapter_ring.specs.declared.packet.RingPacket.{RingPacket}
-use Rattle.subscribe_core.specs.declared.subs.Subscription.{Subscription}
-use Rattle.client_callbacks.specs.declared.told.Told.TheVariants as told
-use Rattle.client_callbacks.specs.declared.told.Why.TheVariants.{Dissolved}
-use Rattle.session_state.specs.declared.state.Provider.{Provider}
-use Rattle.session_state.specs.State.{provider_of, outstanding}
-use Rattle.session_state.specs.HandOn.{telling_taken}
-use Rattle.view_state.specs.declared.install.Install.{Install}
-use Rattle.view_state.specs.declared.install.Base.{Base}
-use Rattle.view_state.specs.Bases.{bases_of, base_named}
-use Rattle.view_state.specs.declared.packet.ViewPacket.{ViewPacket}
-use Rattle.view_state.specs.declared.packet.ViewPacket.TheVariants as packet
-use Rattle.view_state.specs.declared.packet.ViewSend.{ViewSend}
-use Rattle.view_state.specs.declared.views.ViewWork.{ViewWork}
-use Rattle.view_state.specs.Views.{views_entered, views_at_work, ask_row, prepare_row, answer_row, refuse_row, install_row, taken_row, gathering_ticks, install_again}
-use Rattle.packet_bodies.specs.declared.body.ReportRow.{ReportRow}
-use Rattle.node_state.specs.declared.group.GroupRow.{GroupRow}
-use Rattle.node_state.specs.declared.happened.Happened.{Happened}
-use Rattle.node_state.specs.declared.happened.Happened.TheVariants as happened
-use Rattle.node_state.specs.declared.packet.Body.{Body}
-use Rattle.node_state.specs.declared.packet.Body.TheVariants as body
-use Rattle.node_state.specs.declared.packet.Packet.{Packet}
-use Rattle.node_state.specs.declared.state.Core.{Core}
-use Rattle.node_state.specs.Settings.{is_fixed}
-use Rattle.node_state.specs.State.{state_of, held_rows, led_groups}
-use Rattle.node_state.specs.Sending.{sent}
-use Rattle.node_state.specs.HandOn.{Answering, note_of, subscriber_name}
-use Rattle.node_state.specs.Leading.{put_and_handed, with_waiting}
-use Rattle.node_state.specs.Applying.{Lacking, lacking, own_parts, lists_filled, level_set, base_row, base_leader, base_record, view_entered, is_in_base, number_of, dissolved, dissolved_if, group_dissolved, sides_dissolved, base_note, entering_note, entering_noted, taken_sent, owed_sent, failed_wait, phase_reopened, group_led, groups_led, entered, entered_if, install_applied, views_taken}
-use Rattle.node_state.specs.Ticks.{row_reported, report_row, ring_ask, ring_row, rings_part, views_part, tick_row}
-use Rattle.node_state.specs.Status.{status_text}
-use Rattle.node_state.specs.Step.{NodeEvent, Ticks, Asks, Given, Calls, Garbage, is_used, used_if, order_row, view_row, body_row, packet_row, event_row, stepped, at_work}
-use Rattle.step_ties.specs.Tied.{Scene}
-use Rattle.step_ties.specs.Rows.{Arises}
-use Rattle.row_laws.proofs.hearing.Whose.{Whose, whose_asks, whose_prepares, whose_answers, whose_refuses, whose_installs, whose_takes, whose_ticks, whose_reminds}
+use Rattle.entry_laws.specs.rsct_packet.declared.ids.ViewId.{ViewId}
+use Rattle.entry_laws.specs.rsct_packet.declared.ids.ProviderId.{ProviderId}
+use Rattle.entry_laws.specs.rsct_packet.declared.mask.Mask.{Mask}
+use Rattle.entry_laws.specs.rsct_packet.Providers.{among}
+use Rattle.entry_laws.specs.rsct_packet.Search.{Has}
+use Rattle.entry_laws.proofs.rsct_packet_laws.HasLaws.{has_append, has_map}
+use Rattle.entry_laws.specs.group_attr.Attrs.{host_membership}
+use Rattle.entry_laws.specs.proposal_core.declared.proposal.Cause.TheVariants.{Died}
+use Rattle.entry_laws.specs.proposal_core.declared.entry.Entry.{Entry}
+use Rattle.entry_laws.specs.proposal_core.Fold.{present}
+use Rattle.entry_laws.specs.proposal_core.Lists.{state_in}
+use Rattle.entry_laws.specs.batch_rules.Waiting.{add_failure}
+use Rattle.entry_laws.specs.adapter_ring.declared.packet.RingPacket.{RingPacket}
+use Rattle.entry_laws.specs.subscribe_core.declared.subs.Subscription.{Subscription}
+use Rattle.entry_laws.specs.client_callbacks.declared.told.Told.TheVariants as told
+use Rattle.entry_laws.specs.client_callbacks.declared.told.Why.TheVariants.{Dissolved}
+use Rattle.entry_laws.specs.session_state.declared.state.Provider.{Provider}
+use Rattle.entry_laws.specs.session_state.State.{provider_of, outstanding}
+use Rattle.entry_laws.specs.session_state.HandOn.{take_telling}
+use Rattle.entry_laws.specs.view_state.declared.install.Install.{Install}
+use Rattle.entry_laws.specs.view_state.declared.install.Base.{Base}
+use Rattle.entry_laws.specs.view_state.Bases.{bases_of, base_named}
+use Rattle.entry_laws.specs.view_state.declared.packet.ViewPacket.{ViewPacket}
+use Rattle.entry_laws.specs.view_state.declared.packet.ViewPacket.TheVariants as packet
+use Rattle.entry_laws.specs.view_state.declared.packet.ViewSend.{ViewSend}
+use Rattle.entry_laws.specs.view_state.declared.views.ViewWork.{ViewWork}
+use Rattle.entry_laws.specs.view_state.Views.{views_entered, views_at_work, ask_row, prepare_row, answer_row, refuse_row, install_row, taken_row, gathering_ticks, install_again}
+use Rattle.entry_laws.specs.packet_bodies.declared.body.ReportRow.{ReportRow}
+use Rattle.entry_laws.specs.node_state.declared.group.GroupRow.{GroupRow}
+use Rattle.entry_laws.specs.node_state.declared.happened.Happened.{Happened}
+use Rattle.entry_laws.specs.node_state.declared.happened.Happened.TheVariants as happened
+use Rattle.entry_laws.specs.node_state.declared.packet.Body.{Body}
+use Rattle.entry_laws.specs.node_state.declared.packet.Body.TheVariants as body
+use Rattle.entry_laws.specs.node_state.declared.packet.Packet.{Packet}
+use Rattle.entry_laws.specs.node_state.declared.state.Core.{Core}
+use Rattle.entry_laws.specs.node_state.Settings.{is_fixed}
+use Rattle.entry_laws.specs.node_state.State.{state_of, held_rows, led_groups}
+use Rattle.entry_laws.specs.node_state.Sending.{sent}
+use Rattle.entry_laws.specs.node_state.HandOn.{Answering, note_of, subscriber_name}
+use Rattle.entry_laws.specs.node_state.Leading.{put_and_hand, with_waiting}
+use Rattle.entry_laws.specs.node_state.Applying.{Lacking, lacking, own_parts, fill_lists, level_set, base_row, base_leader, base_record, view_entered, is_in_base, number_of, dissolved, dissolved_if, group_dissolved, sides_dissolved, base_note, entering_note, entering_noted, taken_sent, owed_sent, wait_failed, phase_reopened, lead, lead_groups, entered, entered_if, apply_install, views_taken}
+use Rattle.entry_laws.specs.node_state.Ticks.{row_reported, take_report, ring_ask, ring_row, tick_rings, tick_views, tick_row}
+use Rattle.entry_laws.specs.node_state.Status.{status_text}
+use Rattle.entry_laws.specs.node_state.Step.{NodeEvent, Ticks, Asks, Given, Calls, Garbage, is_used, used_if, take_order, view_row, take_body, packet_row, event_row, stepped, at_work}
+use Rattle.entry_laws.specs.step_refinement.Tied.{Scene}
+use Rattle.entry_laws.specs.step_refinement.Rows.{Arises}
+use Rattle.entry_laws.proofs.row_laws_laws.hearing.Whose.{Whose, whose_asks, whose_prepares, whose_answers, whose_refuses, whose_installs, whose_takes, whose_ticks, whose_reminds}
 use Rattle.run_laws.proofs.ring_runs.Leading.{Aside, Keeps, on_either, on_fold, on_sessions, on_sent, on_records, on_put_handed, on_waiting, on_opened, on_closes, on_ended}
 use Rattle.run_laws.proofs.ring_runs.Rows.{on_requests, on_votes, on_owed_part, on_lookup, on_tell, on_name, on_request, on_entry, on_ack, on_vote, on_gone, on_led_part, on_call}
 
 module _ (P : Core → Type 0) (k : Keeps P) where
   -- ---- entering a view
 
-  on_filled : (f : Answering) {s : Core} (xs : List Lacking) → P s → P (lists_filled f s xs)
-  unfolding lists_filled
+  on_filled : (f : Answering) {s : Core} (xs : List Lacking) → P s → P (fill_lists f s xs)
+  unfolding fill_lists
   on_filled f xs p =
-      on_fold P k (λ t (x : Lacking). fold (λ u e. put_and_handed f u None x.name e) t x.entries) (λ t x h. on_fold P k (λ u (e : Entry). put_and_handed f u None x.name e) (λ u e q. on_put_handed P k f None x.name e q) x.entries h) xs p
+      on_fold P k (λ t (x : Lacking). fold (λ u e. put_and_hand f u None x.name e) t x.entries) (λ t x h. on_fold P k (λ u (e : Entry). put_and_hand f u None x.name e) (λ u e q. on_put_handed P k f None x.name e q) x.entries h) xs p
 
   on_view_entered : {s : Core} (i : Install) (bs : List Base) → P s → P (view_entered s i bs)
   unfolding view_entered views_entered base_record
@@ -77,7 +77,7 @@ module _ (P : Core → Type 0) (k : Keeps P) where
   unfolding dissolved_if dissolved
   on_dissolved_if g old b None p = p
   on_dissolved_if {s} g old b (Some x) p =
-      on_either P k (x.takes_part && bytes_eq x.group g && not (is_in_base old x.p b)) (k.records _ (happened.Told x.p (number_of (outstanding s.sessions x.p)) Dissolved) tt (on_sessions P k (telling_taken s.sessions x.p (number_of (outstanding s.sessions x.p)) Dissolved) p)) p
+      on_either P k (x.takes_part && bytes_eq x.group g && not (is_in_base old x.p b)) (k.records _ (happened.Told x.p (number_of (outstanding s.sessions x.p)) Dissolved) tt (on_sessions P k (take_telling s.sessions x.p (number_of (outstanding s.sessions x.p)) Dissolved) p)) p
 
   on_sides : {s : Core} (rows : List GroupRow) (old : ViewId) (bs : List Base) → P s → P (sides_dissolved s rows old bs)
   unfolding sides_dissolved group_dissolved
@@ -107,33 +107,33 @@ module _ (P : Core → Type 0) (k : Keeps P) where
   unfolding taken_sent
   on_taken_sent {s} p = on_either P k (s.views.view.coord == s.views.me) p (on_sent P k s.views.view.coord (body.View (packet.Taken s.views.view)) tt p)
 
-  on_group_led : (f : Answering) {s : Core} (g : List ℕ) → P s → P (group_led f s g)
-  unfolding group_led failed_wait phase_reopened
+  on_group_led : (f : Answering) {s : Core} (g : List ℕ) → P s → P (lead f s g)
+  unfolding lead wait_failed phase_reopened
   on_group_led f {s} g p = by (is_some (state_of s g).running)
     where
       out : List ProviderId
       out = filter (among (state_of s g).members) (state_of s g).failed
 
       t : Core
-      t = failed_wait s g out
+      t = wait_failed s g out
 
       waits : P t
-      waits = on_fold P k (λ t q. with_waiting t g (waits_failure q Died)) (λ t q h. on_waiting P k g (waits_failure q Died) h) out p
+      waits = on_fold P k (λ t q. with_waiting t g (add_failure q Died)) (λ t q h. on_waiting P k g (add_failure q Died) h) out p
 
       by : (b : Bool) → P (phase_reopened f t g b)
       by false = waits
       by true = on_closes P k f g (on_opened P k g waits)
 
   on_entered : (f : Answering) {s : Core} (i : Install) (xs : List Lacking) → P s → P (entered f s i xs)
-  unfolding entered owed_sent groups_led
+  unfolding entered owed_sent lead_groups
   on_entered f {s} i xs p =
-      let t : Core = lists_filled f s xs in
+      let t : Core = fill_lists f s xs in
       let bs : List Base = bases_of i in
       let e : Core = entering_noted (sides_dissolved (view_entered t i bs) (held_rows t) t.views.view bs) bs in
-      on_fold P k (group_led f) (λ u g h. on_group_led f g h) (led_groups (owed_sent (taken_sent e))) (on_votes P k (on_requests P k (on_taken_sent (on_entering_noted bs (on_sides (held_rows t) t.views.view bs (on_view_entered i bs (on_filled f xs p)))))))
+      on_fold P k (lead f) (λ u g h. on_group_led f g h) (led_groups (owed_sent (taken_sent e))) (on_votes P k (on_requests P k (on_taken_sent (on_entering_noted bs (on_sides (held_rows t) t.views.view bs (on_view_entered i bs (on_filled f xs p)))))))
 
-  on_applied : (f : Answering) {s : Core} (o : Option Install) → P s → P (install_applied f s o)
-  unfolding install_applied entered_if
+  on_applied : (f : Answering) {s : Core} (o : Option Install) → P s → P (apply_install f s o)
+  unfolding apply_install entered_if
   on_applied f None p = p
   on_applied f {s} (Some i) p = by (lacking s i)
     where
@@ -149,8 +149,8 @@ module _ (P : Core → Type 0) (k : Keeps P) where
       let t : Core = record s { views = w.views } in
       on_applied f w.install (on_fold P k (λ t (x : ViewSend). sent t x.to (body.View x.packet)) (λ t x h. on_sent P k x.to (body.View x.packet) tt h) w.sends (k.alike s t (record { rings = refl; me = whose.0; inc = whose.1; sends = refl; records = refl }) p))
 
-  on_order : (f : Answering) {s : Core} (mask : Mask) → P s → P (order_row f s mask)
-  unfolding order_row
+  on_order : (f : Answering) {s : Core} (mask : Mask) → P s → P (take_order f s mask)
+  unfolding take_order
   on_order f {s} mask p =
       on_either P k (is_fixed s.config.mode) p (on_views_taken f (ask_row (views_at_work s.views) mask (own_parts s)) (whose_asks (views_at_work s.views) mask (own_parts s)) p)
 
@@ -164,16 +164,16 @@ module _ (P : Core → Type 0) (k : Keeps P) where
   on_view f {s} from inc (packet.Install i) p = on_views_taken f (install_row (views_at_work s.views) i) (whose_installs (views_at_work s.views) i) p
   on_view f {s} from inc (packet.Taken v) p = on_views_taken f (taken_row (views_at_work s.views) from v) (whose_takes (views_at_work s.views) from v) p
 
-  on_views_part : (f : Answering) {s : Core} → P s → P (views_part f s)
-  unfolding views_part
+  on_views_part : (f : Answering) {s : Core} → P s → P (tick_views f s)
+  unfolding tick_views
   on_views_part f {s} p =
       let t : Core = views_taken f s (gathering_ticks (views_at_work s.views) (ring_ask s) (own_parts s)) in
       on_views_taken f (install_again (views_at_work t.views)) (whose_reminds (views_at_work t.views)) (on_views_taken f (gathering_ticks (views_at_work s.views) (ring_ask s) (own_parts s)) (whose_ticks (views_at_work s.views) (ring_ask s) (own_parts s)) p)
 
   -- ---- a whole step
 
-  on_report : {s : Core} (rows : List ReportRow) → P s → P (report_row s rows)
-  unfolding report_row
+  on_report : {s : Core} (rows : List ReportRow) → P s → P (take_report s rows)
+  unfolding take_report
   on_report {s} rows p =
       k.alike s (record s { reach = fold row_reported s.reach rows }) (record { rings = refl; me = refl; inc = refl; sends = refl; records = refl }) p
 
@@ -182,9 +182,9 @@ module _ (P : Core → Type 0) (k : Keeps P) where
   on_used true q p = q
   on_used false q p = p
 
-  module _ (w : Scene) (ticks : (s : Core) → P s → P (rings_part s)) (given : (s : Core) (p : Packet) (x : RingPacket) → Has p w.sent → p.to ≡ s.views.me → p.body ≡ body.Ring x → P s → P (ring_row s p.network p.from p.inc x)) where
-    on_body : (f : Answering) {s : Core} (q : Packet) (b : Body) → q.body ≡ b → q.to ≡ s.views.me → Has q w.sent → P s → P (body_row f s q b)
-    unfolding body_row
+  module _ (w : Scene) (ticks : (s : Core) → P s → P (tick_rings s)) (given : (s : Core) (p : Packet) (x : RingPacket) → Has p w.sent → p.to ≡ s.views.me → p.body ≡ body.Ring x → P s → P (ring_row s p.network p.from p.inc x)) where
+    on_body : (f : Answering) {s : Core} (q : Packet) (b : Body) → q.body ≡ b → q.to ≡ s.views.me → Has q w.sent → P s → P (take_body f s q b)
+    unfolding take_body
     on_body f {s} q (body.Ring x) is to sent p = given s q x sent to is p
     on_body f q (body.Report rows) is to sent p = on_report rows p
     on_body f q (body.View x) is to sent p = on_view f q.from q.inc x p
@@ -203,7 +203,7 @@ module _ (P : Core → Type 0) (k : Keeps P) where
     unfolding packet_row
     on_packet f {s} q sent p = by (q.to == s.views.me) refl
       where
-        by : (b : Bool) → (q.to == s.views.me) ≡ b → P (elim b as (λ _. Core) [ true ↦ body_row f s q q.body | false ↦ s ])
+        by : (b : Bool) → (q.to == s.views.me) ≡ b → P (elim b as (λ _. Core) [ true ↦ take_body f s q q.body | false ↦ s ])
         by true e = on_body f q q.body refl (eqb-true q.to s.views.me e) sent p
         by false e = p
 

@@ -5,4 +5,4 @@ use Rattle.client_callbacks.specs.Votes.{text_byte}
 use Rattle.client_callbacks.proofs.texts.text_of.Given as goal
 
 abbrev pub invariant-loop-b : goal.invariant-loop-b
-invariant-loop-b l = l.read ≡ fold text_byte (record { bytes = Some []; escape = Plain }) (take l.b-index l.w)
+invariant-loop-b l = l.read ≡ fold text_byte (record { bytes = Some []; escape = Plain }) (take l.b-index l.word)

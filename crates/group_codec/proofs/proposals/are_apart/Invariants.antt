@@ -3,7 +3,7 @@ use Rattle.proposal_core.specs.ProposalCodec.{failures_differ}
 use Rattle.group_codec.proofs.proposals.are_apart.Given as goal
 
 abbrev pub invariant-loop-f : goal.invariant-loop-f
-invariant-loop-f l = failures_differ l.fs ≡ failures_differ l.left
+invariant-loop-f l = failures_differ l.failures ≡ failures_differ l.left
 
 abbrev pub decreases-loop-f : goal.decreases-loop-f
 decreases-loop-f l = length l.left

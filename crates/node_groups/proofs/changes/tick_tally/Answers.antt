@@ -6,7 +6,7 @@ use Rattle.node_groups.proofs.TallyLaws.{tally_at}
 use Rattle.node_groups.proofs.changes.tick_tally.Goals as goal
 
 pub returns-clause-row : goal.returns-clause-row
-returns-clause-row c = on_ok_weaker c.tick_tally.result (λ rows. tally_at c.args.core.now _ c.args.g.now _ c.requires rows) c.tick_tally.ensures
+returns-clause-row c = on_ok_weaker c.tick_tally.result (λ rows. tally_at c.args.core.now _ c.args.group.now _ c.requires rows) c.tick_tally.ensures
 
 pub returns-clause-keeps : goal.returns-clause-keeps
-returns-clause-keeps c = on_ok_weaker c.tick_tally.result (λ rows. keeps_rows c.args.core.now _ c.args.g.now _ rows (λ x. refl) (λ x. refl)) c.tick_tally.ensures
+returns-clause-keeps c = on_ok_weaker c.tick_tally.result (λ rows. keeps_rows c.args.core.now _ c.args.group.now _ rows (λ x. refl) (λ x. refl)) c.tick_tally.ensures

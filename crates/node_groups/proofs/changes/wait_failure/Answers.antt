@@ -5,4 +5,4 @@ use Rattle.node_groups.proofs.KeepLaws.{keeps_rows}
 use Rattle.node_groups.proofs.changes.wait_failure.Goals as goal
 
 pub returns-clause-keeps : goal.returns-clause-keeps
-returns-clause-keeps c = on_ok_weaker c.wait_failure.result (λ rows. keeps_rows c.args.core.now _ c.args.g.now _ rows (λ x. refl) (λ x. refl)) c.wait_failure.ensures
+returns-clause-keeps c = on_ok_weaker c.wait_failure.result (λ rows. keeps_rows c.args.core.now _ c.args.group.now _ rows (λ x. refl) (λ x. refl)) c.wait_failure.ensures

@@ -8,5 +8,5 @@ use Rattle.packet_codec.proofs.groups.entry_body.Goals as goal
 pub returns : goal.returns
 unfolding body_at
 returns c =
-    sym (entry_end c.in_ok-group.group c.in_ok-place.place c.in_ok-stable.stable c.args.b.now c.in_ok-group.b.now c.in_ok-place.b.now c.in_ok-stable.b.now (sym c.in_ok-group.ensures.value) (sym c.in_ok-place.ensures.value) (sym c.in_ok-stable.ensures.value)
+    sym (entry_end c.in_ok-group.group c.in_ok-place.place c.in_ok-stable.stable c.args.bytes.now c.in_ok-group.bytes.now c.in_ok-place.bytes.now c.in_ok-stable.bytes.now (sym c.in_ok-group.ensures.value) (sym c.in_ok-place.ensures.value) (sym c.in_ok-stable.ensures.value)
     ∙ ap (option_map (λ e. body.Entry c.in_ok-group.group.view c.in_ok-group.group.name c.in_ok-place.place c.in_ok-stable.stable e)) (sym c.in_ok-entry.ensures.value))

@@ -1,7 +1,7 @@
 use Rattle.std.proofs.Common.{◌≡◌, take}
-use Rattle.rsct_packet.specs.Providers.{without_all}
+use Rattle.group_attr.specs.rsct_packet.Providers.{without_all}
 use Rattle.proposal_core.specs.Fold.{fallen_of}
 use Rattle.proposal_core.proofs.fold.take_off_fallen.Given as goal
 
 abbrev pub invariant-loop-f : goal.invariant-loop-f
-invariant-loop-f l = l.ps ≡ without_all l.initial.ps (fallen_of (take l.f-index l.out))
+invariant-loop-f l = l.providers ≡ without_all l.initial.providers (fallen_of (take l.f-index l.out))

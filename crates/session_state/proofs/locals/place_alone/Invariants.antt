@@ -1,8 +1,8 @@
 use Rattle.std.proofs.Common.{◌≡◌}
-use Rattle.rsct_packet.specs.Search.{place_where}
-use Rattle.rsct_packet.proofs.SearchLaws.{place_from}
+use Rattle.client_callbacks.specs.rsct_packet.Search.{place_where}
+use Rattle.client_callbacks.proofs.rsct_packet_laws.SearchLaws.{place_from}
 use Rattle.session_state.specs.State.{is_provider}
 use Rattle.session_state.proofs.locals.place_alone.Given as goal
 
 abbrev pub invariant-loop-i : goal.invariant-loop-i
-invariant-loop-i l = place_where (is_provider l.p) l.rows ≡ place_from (is_provider l.p) l.i l.rows
+invariant-loop-i l = place_where (is_provider l.provider) l.rows ≡ place_from (is_provider l.provider) l.i l.rows

@@ -12,7 +12,7 @@ returns-in_err-name_after c =
     let missing : slice_get (names_in c.args.install.now.sources) c.loop-k.k ≡ None =
     sym (next_is c.args.install.now.sources (option_copied c.loop-k.last) c.loop-k.k c.loop-k.invariant.name c.loop-k.invariant.within)
     ∙ sym c.in_err-name_after.ensures in
-    ap option_copied c.from_residual.ensures ∙ sym (none_later (names_in c.args.install.now.sources) c.loop-k.k c.args.i (omega arith) missing)
+    ap option_copied c.from_residual.ensures ∙ sym (none_later (names_in c.args.install.now.sources) c.loop-k.k c.args.place (omega arith) missing)
 
 pub loop-k-preserved : goal.loop-k-preserved
 loop-k-preserved c =
@@ -27,7 +27,7 @@ loop-k-preserved c =
 pub returns : goal.returns
 unfolding group_at
 returns c =
-    let same : c.loop-k.k ≡ c.args.i = omega arith in
+    let same : c.loop-k.k ≡ c.args.place = omega arith in
     c.name_after-2.ensures
     ∙ next_is c.args.install.now.sources (option_copied c.loop-k.last) c.loop-k.k c.loop-k.invariant.name c.loop-k.invariant.within
     ∙ ap (slice_get (names_in c.args.install.now.sources)) same

@@ -1,8 +1,8 @@
 use Rattle.std.proofs.Common.{◌≡◌}
-use Rattle.rsct_packet.specs.Search.{place_where}
-use Rattle.rsct_packet.proofs.SearchLaws.{place_from}
+use Rattle.view_state.specs.rsct_packet.Search.{place_where}
+use Rattle.view_state.proofs.rsct_packet_laws.SearchLaws.{place_from}
 use Rattle.view_state.specs.Answers.{is_side_of}
 use Rattle.view_exchange.proofs.sides.side_place_alone.Given as goal
 
 abbrev pub invariant-loop-i : goal.invariant-loop-i
-invariant-loop-i l = place_where (is_side_of l.v) l.sides ≡ place_from (is_side_of l.v) l.i l.sides
+invariant-loop-i l = place_where (is_side_of l.view) l.sides ≡ place_from (is_side_of l.view) l.i l.sides

@@ -6,14 +6,14 @@ use Rattle.net_script.proofs.HearLaws.{shown_heard, nothing_heard}
 use Rattle.net_script.proofs.world.World.show.Goals as goal
 
 pub returns-in-None-clause-goes : goal.returns-in-None-clause-goes
-returns-in-None-clause-goes g c = show_nothing c.args.self.now c.args.n c.args.what c.args.out.now (sym c.in-None.ensures)
+returns-in-None-clause-goes g c = show_nothing c.args.self.now c.args.number c.args.what c.args.out.now (sym c.in-None.ensures)
 
 pub returns-in-None-clause-hears : goal.returns-in-None-clause-hears
 returns-in-None-clause-hears g c = nothing_heard g.C.Callbacks.stands_for g.C.Callbacks.script g.C.Made.script_of c.args.self.now c.args.out.now
 
 pub returns-in-Some-clause-goes : goal.returns-in-Some-clause-goes
 returns-in-Some-clause-goes g c =
-    on_ok_weaker c.record_status.result (λ shown. show_goes c.args.self.now c.args.n c.args.what c.in-Some.node.now c.args.out.now c.record_status.new.out (sym c.in-Some.ensures) shown) (rw c.core.ensures at c.record_status.ensures)
+    on_ok_weaker c.record_status.result (λ shown. show_goes c.args.self.now c.args.number c.args.what c.in-Some.node.now c.args.out.now c.record_status.new.out (sym c.in-Some.ensures) shown) (rw c.core.ensures at c.record_status.ensures)
 
 pub returns-in-Some-clause-hears : goal.returns-in-Some-clause-hears
 returns-in-Some-clause-hears g c = on_ok_weaker c.record_status.result (λ shown. shown_heard g.C.Callbacks.stands_for g.C.Callbacks.script g.C.Made.script_of c.args.self.now _ _ c.args.out.now c.record_status.new.out shown) c.record_status.ensures

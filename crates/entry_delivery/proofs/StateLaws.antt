@@ -1,0 +1,117 @@
+-- The states of groups along the records of an entry that is handed on: none of these changes one.
+use Rattle.std.proofs.Common.{◌≡◌, ℕ, Bool, true, false, List, [], ◌∷◌, ◌++◌, map, filter, Option, Some, None, refl, sym, ap, ◌∙◌, append-nil}
+use Rattle.std.specs.List.{flat_map}
+use Rattle.node_sending.specs.rsct_packet.declared.ids.ProviderId.{ProviderId}
+use Rattle.node_sending.specs.rsct_packet.declared.ids.ProtoId.{ProtoId}
+use Rattle.node_sending.specs.rsct_packet.declared.ids.ViewId.{ViewId}
+use Rattle.node_sending.specs.proposal_core.declared.entry.Entry.{Entry}
+use Rattle.node_sending.specs.proposal_core.declared.group_state.GroupState.{GroupState}
+use Rattle.node_sending.specs.subscribe_core.declared.subs.Subscription.{Subscription}
+use Rattle.node_sending.specs.subscribe_core.Subs.{is_of_group, differs}
+use Rattle.node_sending.specs.client_callbacks.declared.ballot.Filled.{Filled}
+use Rattle.node_sending.specs.client_callbacks.declared.votes.VoteItem.{VoteItem}
+use Rattle.node_sending.specs.client_callbacks.Ballots.{BallotView}
+use Rattle.node_sending.specs.session_state.declared.casts.Cast.{Cast}
+use Rattle.node_sending.specs.session_state.declared.state.SessionState.{SessionState}
+use Rattle.node_sending.specs.session_state.HandOn.{cast_of, casts_of}
+use Rattle.session_clients.specs.Notices.{Fillings}
+use Rattle.node_sending.specs.node_state.declared.happened.Happened.{Happened}
+use Rattle.node_sending.specs.node_state.declared.happened.Happened.TheVariants as happened
+use Rattle.node_sending.specs.node_state.declared.state.Core.{Core}
+use Rattle.node_sending.specs.node_state.State.{recorded_all, with_sessions}
+use Rattle.node_sending.specs.node_state.HandOn.{cast_record, cast_records, note_of, notes, noted}
+use Rattle.node_sending.specs.node_state.Handed.{Logged, logged_in}
+use Rattle.node_sending.proofs.node_state_laws.AlongLaws.{LeavesStates, leaves_both}
+use Rattle.entry_delivery.specs.Received.{Handing, told_by, logged, logged_by}
+use Rattle.entry_delivery.specs.Telling.{heard_in, heard_handings, note_handing, noted_handings}
+
+-- ---- what is heard
+
+cast_record_leaves : (p : ProviderId) (proto : ProtoId) (phase : ℕ) (b : Option Filled) → LeavesStates (cast_record p proto phase b)
+unfolding cast_record
+cast_record_leaves p proto phase None g st = refl
+cast_record_leaves p proto phase (Some b) g st = refl
+
+cast_leaves : (p : ProviderId) (c : Option (ProtoId × ℕ × BallotView)) → LeavesStates (cast_records p c)
+unfolding cast_records
+cast_leaves p None = λ g st. refl
+cast_leaves p (Some c) = cast_record_leaves p c.0 c.1 (c.2).filled
+
+pub heard_leaves : (v : ViewId) (g : List ℕ) (i : ℕ) (e : Entry) (after : GroupState) (cs : List Cast) → LeavesStates (flat_map (heard_in v g i e after) cs)
+heard_leaves v g i e after [] = λ h st. refl
+heard_leaves v g i e after (c ∷ cs) = leaves_both (heard_in v g i e after c) (flat_map (heard_in v g i e after) cs) (cast_leaves c.p c.cast) (heard_leaves v g i e after cs)
+
+cast_record_unlogged : (p : ProviderId) (proto : ProtoId) (phase : ℕ) (b : Option Filled) (rs : List Happened) (states : List ℕ → GroupState) → logged_in (cast_record p proto phase b ++ rs) states ≡ logged_in rs states
+unfolding cast_record
+cast_record_unlogged p proto phase None rs states = refl
+cast_record_unlogged p proto phase (Some b) rs states = refl
+
+cast_unlogged : (p : ProviderId) (c : Option (ProtoId × ℕ × BallotView)) (rs : List Happened) (states : List ℕ → GroupState) → logged_in (cast_records p c ++ rs) states ≡ logged_in rs states
+unfolding cast_records
+cast_unlogged p None rs states = refl
+cast_unlogged p (Some c) rs states = cast_record_unlogged p c.0 c.1 (c.2).filled rs states
+
+-- who hears the entry is handed it with the state that its group has
+pub heard_stated : (scripts : List (Option (List (Option VoteItem)))) (s : SessionState) (level : ℕ) (v : ViewId) (g : List ℕ) (i : ℕ) (e : Entry) (after : GroupState) (ps : List ProviderId) (bs : List (Option Filled)) (states : List ℕ → GroupState) → Fillings scripts s e after ps bs → after ≡ states g
+    → logged_in (flat_map (heard_in v g i e after) (casts_of e after level ps bs)) states ≡ logged_by (heard_handings s v g i e after ps)
+unfolding cast_of
+heard_stated scripts s level v g i e after [] bs states h is = refl
+heard_stated scripts s level v g i e after (p ∷ ps) [] states h is = absurd h
+heard_stated scripts s level v g i e after (p ∷ ps) (b ∷ bs) states h is =
+    let c : Cast = cast_of e after level p b in
+    let rest : List Happened = flat_map (heard_in v g i e after) (casts_of e after level ps bs) in
+    let what : Happened = happened.Heard p v g i e after.members after.value in
+    ap (λ (ls : List Logged). record { what = what; after = states g } ∷ ls) (cast_unlogged c.p c.cast rest states ∙ heard_stated scripts s level v g i e after ps bs states h.1 is)
+    ∙ ap (λ st. record { what = what; after = st } ∷ logged_by (heard_handings s v g i e after ps)) (sym is)
+
+-- ---- what subscribers are told
+
+notes_leave : (me : ℕ) (v : ViewId) (s : SessionState) (g : List ℕ) (place : Option ℕ) (st : GroupState) (us : List Subscription) → LeavesStates (told_by (map (note_handing me v s g place st) us))
+notes_leave me v s g place st [] h x = refl
+notes_leave me v s g place st (u ∷ us) h x = notes_leave me v s g place st us h x
+
+noted_leave_head : (b : Bool) (me : ℕ) (v : ViewId) (s : SessionState) (g : List ℕ) (place : Option ℕ) (st : GroupState) (us : List Subscription)
+    → let hs : List Handing = elim b [ true ↦ map (note_handing me v s g place st) us | false ↦ [] ] in LeavesStates (told_by hs)
+noted_leave_head true me v s g place st us = notes_leave me v s g place st us
+noted_leave_head false me v s g place st us = λ h x. refl
+
+pub noted_leave : (s : Core) (g : List ℕ) (i : ℕ) (before after : GroupState) → LeavesStates (told_by (noted_handings s g i before after))
+unfolding noted_handings
+noted_leave s g i before after = noted_leave_head (differs before after) s.views.me s.views.view s.sessions g (Some i) after (filter (is_of_group g) s.sessions.subs.live)
+
+notes_stated : (me : ℕ) (v : ViewId) (s : SessionState) (g : List ℕ) (place : Option ℕ) (st : GroupState) (us : List Subscription) (states : List ℕ → GroupState)
+    → logged_in (told_by (map (note_handing me v s g place st) us)) states ≡ logged_by (map (note_handing me v s g place st) us)
+notes_stated me v s g place st [] states = refl
+notes_stated me v s g place st (u ∷ us) states =
+    ap (λ (ls : List Logged). logged (note_handing me v s g place st u) ∷ ls) (notes_stated me v s g place st us states)
+
+noted_stated_head : (b : Bool) (me : ℕ) (v : ViewId) (s : SessionState) (g : List ℕ) (place : Option ℕ) (st : GroupState) (us : List Subscription) (states : List ℕ → GroupState)
+    → let hs : List Handing = elim b [ true ↦ map (note_handing me v s g place st) us | false ↦ [] ] in logged_in (told_by hs) states ≡ logged_by hs
+noted_stated_head true me v s g place st us states = notes_stated me v s g place st us states
+noted_stated_head false me v s g place st us states = refl
+
+pub noted_stated : (s : Core) (g : List ℕ) (i : ℕ) (before after : GroupState) (states : List ℕ → GroupState) → logged_in (told_by (noted_handings s g i before after)) states ≡ logged_by (noted_handings s g i before after)
+unfolding noted_handings
+noted_stated s g i before after states = noted_stated_head (differs before after) s.views.me s.views.view s.sessions g (Some i) after (filter (is_of_group g) s.sessions.subs.live) states
+
+notes_are : (s : Core) (g : List ℕ) (place : Option ℕ) (st : GroupState) (us : List Subscription) → map (note_of s g place st) us ≡ told_by (map (note_handing s.views.me s.views.view s.sessions g place st) us)
+unfolding note_of
+notes_are s g place st [] = refl
+notes_are s g place st (u ∷ us) = ap (λ (rs : List Happened). note_of s g place st u ∷ rs) (notes_are s g place st us)
+
+noted_records_head : (b : Bool) (s : Core) (g : List ℕ) (i : ℕ) (st : GroupState)
+    → let t : Core = elim b [ true ↦ notes s g (Some i) st | false ↦ s ] in
+    let hs : List Handing = elim b [ true ↦ map (note_handing s.views.me s.views.view s.sessions g (Some i) st) (filter (is_of_group g) s.sessions.subs.live) | false ↦ [] ] in
+    (t.records ≡ s.records ++ told_by hs) × (t.groups ≡ s.groups)
+unfolding notes recorded_all
+noted_records_head true s g i st = (ap (λ (rs : List Happened). s.records ++ rs) (notes_are s g (Some i) st (filter (is_of_group g) s.sessions.subs.live)), refl)
+noted_records_head false s g i st = (sym (append-nil s.records), refl)
+
+-- the records that subscribers are told, and no group is another one
+pub noted_records : (s : Core) (g : List ℕ) (i : ℕ) (before after : GroupState) → let t : Core = noted s g i before after in (t.records ≡ s.records ++ told_by (noted_handings s g i before after)) × (t.groups ≡ s.groups)
+unfolding noted noted_handings
+noted_records s g i before after = noted_records_head (differs before after) s g i after
+
+pub told_groups : (s : Core) (x : SessionState) (rs : List Happened) → (recorded_all (with_sessions s x) rs).groups ≡ s.groups
+unfolding recorded_all with_sessions
+told_groups s x rs = refl

@@ -1,0 +1,47 @@
+-- The records of an entry that is handed on, by what each of them names.
+use Rattle.std.specs.Prelude.{ℕ, true, false, List, [], ◌∷◌, map, filter, Option, Some}
+use Rattle.node_sending.specs.rsct_packet.declared.ids.ProviderId.{ProviderId}
+use Rattle.node_sending.specs.rsct_packet.declared.ids.ViewId.{ViewId}
+use Rattle.node_sending.specs.proposal_core.declared.entry.Entry.{Entry}
+use Rattle.node_sending.specs.proposal_core.declared.group_state.GroupState.{GroupState}
+use Rattle.node_sending.specs.proposal_core.Fold.{empty_state}
+use Rattle.node_sending.specs.subscribe_core.declared.subs.Subscription.{Subscription}
+use Rattle.node_sending.specs.subscribe_core.Subs.{is_of_group, differs}
+use Rattle.node_sending.specs.client_callbacks.declared.told.Told.TheVariants as told
+use Rattle.node_sending.specs.session_state.declared.casts.Cast.{Cast}
+use Rattle.node_sending.specs.session_state.declared.state.SessionState.{SessionState}
+use Rattle.node_sending.specs.session_state.State.{client_place, place_of}
+use Rattle.node_sending.specs.node_state.declared.happened.Happened.{Happened}
+use Rattle.node_sending.specs.node_state.declared.happened.Happened.TheVariants as happened
+use Rattle.node_sending.specs.node_state.declared.state.Core.{Core}
+use Rattle.node_sending.specs.node_state.HandOn.{cast_records, subscriber_name}
+use Rattle.entry_delivery.specs.Received.{Handing}
+
+-- a provider hears the entry at place i in view v, and its ballot is kept
+abbrev pub heard_in : ViewId → List ℕ → ℕ → Entry → GroupState → Cast → List Happened
+heard_in v g i e after c = happened.Heard c.p v g i e after.members after.value ∷ cast_records c.p c.cast
+
+-- the client of a subscription is told at node me in view v
+abbrev pub note_in : ℕ → ViewId → SessionState → List ℕ → Option ℕ → GroupState → Subscription → Happened
+note_in me v t g place st u = happened.Noted me (subscriber_name t u) v place (told.Note g st.members st.value)
+
+-- ---- what clients are handed
+
+abbrev pub heard_handing : SessionState → ViewId → List ℕ → ℕ → Entry → GroupState → ProviderId → Handing
+heard_handing s v g i e after p = record { place = place_of s p; what = happened.Heard p v g i e after.members after.value; after = after }
+
+-- by each of ps
+abbrev pub heard_handings : SessionState → ViewId → List ℕ → ℕ → Entry → GroupState → List ProviderId → List Handing
+heard_handings s v g i e after ps = map (heard_handing s v g i e after) ps
+
+-- by the client of a subscription
+abbrev pub note_handing : ℕ → ViewId → SessionState → List ℕ → Option ℕ → GroupState → Subscription → Handing
+note_handing me v t g place st u = record { place = client_place t u.client; what = note_in me v t g place st u; after = empty_state }
+
+-- by the subscribers of a group, where its members or its value differ
+unfoldable pub noted_handings : Core → List ℕ → ℕ → GroupState → GroupState → List Handing
+noted_handings s g i before after =
+    elim (differs before after) [
+      | true ↦ map (note_handing s.views.me s.views.view s.sessions g (Some i) after) (filter (is_of_group g) s.sessions.subs.live)
+      | false ↦ []
+    ]

@@ -1,8 +1,0 @@
--- What was sent so far.
-use Rattle.std.proofs.Common.{◌≡◌, take}
-use Rattle.std.specs.List.{fold}
-use Rattle.node_state.specs.HandOn.{cast_sent_of}
-use Rattle.entry_handing.proofs.handing.send_each_cast.Given as goal
-
-abbrev pub invariant-loop-c : goal.invariant-loop-c
-invariant-loop-c l = l.core ≡ fold (λ t c. cast_sent_of t l.g l.to c.p c.cast) l.initial.core (take l.c-index l.casts)

@@ -1,0 +1,10 @@
+-- The decision is kept, and then the proposal begins.
+use Rattle.std.proofs.lemmas.Result.{on_ok_weaker}
+use Rattle.group_deciding.proofs.DecidingLaws.{granted}
+use Rattle.group_deciding.proofs.changes.grant.Goals as goal
+
+pub returns-clause-does : goal.returns-clause-does
+returns-clause-does g c =
+    on_ok_weaker c.begin.result
+    (λ done. granted _ _ c.args.core.now c.keep_decision.new.core _ c.args.group.now c.args.provider c.args.request c.args.proposal.now c.args.phases c.in_ok-keep_decision.ensures.row c.in_ok-keep_decision.ensures.keeps done)
+    c.begin.ensures.does

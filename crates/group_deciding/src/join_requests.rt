@@ -1,0 +1,155 @@
+//! Deciding a join: it is refused, or it waits.
+ghost use Rattle.std.specs.Prelude.{◌≡◌, [], IfOk, OnOk};
+ghost use Rattle.group_leading.specs.batch_rules.Next.{added_as};
+ghost use Rattle.group_leading.specs.batch_rules.declared.waiting.Added.TheVariants.{Queued};
+ghost use Rattle.group_leading.specs.proposal_core.Fold.{joins_of, joiners_in, present};
+ghost use Rattle.group_leading.specs.node_state.State.{InNameOrder, led_of, state_of};
+ghost use Rattle.group_leading.specs.node_state.Deciding.{is_idle_empty, meant_attrs, join_refusal, wait_join, decide_join};
+ghost use Rattle.group_leading.specs.node_groups.Keeps.{Keeps};
+
+use crate::limits::full_refusal;
+use crate::queue::{is_duplicate, queue_join};
+use crate::refusals::refuse;
+use crate::sources::{lacks_source, source_len};
+use group_leading::client_callbacks::Why;
+use group_leading::group_attr::Attrs;
+use group_leading::node_groups::{keep_decision, open, state_of, waiting_joins};
+use group_leading::node_state::Core;
+use group_leading::proposal_core::{GroupState, Proposal, Running};
+use group_leading::rsct_packet::{List, MAX_PROVIDERS, Name, NoMemory, ProviderId};
+use std::alloc::Global;
+
+/// The providers of a join.
+fn joins_of(proposal: &Proposal) -> &[ProviderId]
+    ensures { result.now ≡ joins_of proposal.now }
+{
+    match proposal {
+        Proposal::Join { ps, .. } => ps.as_slice(),
+        _ => &[],
+    }
+}
+
+/// The running joiners.
+fn joiners_in(running: &Option<Running>) -> &[ProviderId]
+    ensures { result.now ≡ joiners_in running.now }
+{
+    match running {
+        None => &[],
+        Some(run) => joins_of(&run.proposal),
+    }
+}
+
+/// The members, then the running joiners.
+fn present(alloc: Global, state: &GroupState) -> Result<List<ProviderId>, NoMemory>
+    ensures { IfOk result (λ ps. ps ≡ present state.now) }
+{
+    let mut ps = List::of(alloc, state.members.as_slice())?;
+    ps.extend(joiners_in(&state.running))?;
+    Ok(ps)
+}
+
+/// Is nobody there, and does nothing run?
+#[tactic(auto, unfolding(crate::proofs::Below::is_idle_empty))]
+fn is_idle_empty(state: &GroupState) -> bool
+    ensures { result ≡ is_idle_empty state.now }
+{
+    state.members.as_slice().is_empty() && state.running.is_none()
+}
+
+/// The source that is meant: in an empty idle group that of the request, else the group's own.
+#[tactic(auto, unfolding(crate::proofs::Below::meant_attrs))]
+fn meant_source<'a>(state: &'a GroupState, attrs: &'a Attrs, idle: bool) -> &'a Option<Name>
+    ensures { result.now ≡ (meant_attrs state.now attrs.now idle).source }
+{
+    if idle {
+        &attrs.source
+    } else {
+        &state.attrs.source
+    }
+}
+
+/// Why a join is refused: the first that holds of bad attributes, a duplicate, a missing source, a full group and a
+/// full list.
+#[tactic(auto, unfolding(crate::proofs::Below::join_refusal, crate::proofs::Below::full_refusal), using(std::proofs::lemmas::Grind::common_steps))]
+fn join_refusal(
+    core: &Core,
+    alloc: Global,
+    group: &[u8],
+    provider: ProviderId,
+    attrs: &Attrs,
+    state: &GroupState,
+) -> Result<Option<Why>, NoMemory>
+    requires { state.now ≡ state_of core.now group.now }
+    ensures { IfOk result (λ y. y ≡ join_refusal core.now group.now provider attrs.now) }
+{
+    let idle = is_idle_empty(state);
+    if !idle && !attrs.agrees(&state.attrs) {
+        return Ok(Some(Why::BadAttributes));
+    }
+    let ps = present(alloc, state)?;
+    if is_duplicate(core, group, provider, ps.as_slice()) {
+        return Ok(Some(Why::DuplicateInstance));
+    }
+    let source = meant_source(state, attrs, idle);
+    if lacks_source(core, source, provider.node) {
+        return Ok(Some(Why::NoSource(source_len(core, source))));
+    }
+    if ps.len() + waiting_joins(core, group) >= MAX_PROVIDERS {
+        return Ok(Some(Why::GroupFull(MAX_PROVIDERS as u32)));
+    }
+    if state.running.is_some() {
+        return Ok(None);
+    }
+    Ok(full_refusal(core, group))
+}
+
+/// A join waits, and this decision is kept.
+#[tactic(auto, unfolding(crate::proofs::Below::wait_join, crate::proofs::Below::with_led, crate::proofs::Below::with_row), using(crate::proofs::Below::row_edits, crate::proofs::DecidingLaws::still_free, std::proofs::lemmas::Grind::common_steps))]
+fn wait_join(
+    core: &mut Core,
+    alloc: Global,
+    group: &Name,
+    provider: ProviderId,
+    request: u32,
+    attrs: &Attrs,
+    idle: bool,
+) -> Result<(), NoMemory>
+    requires order { InNameOrder core.old.groups }
+    requires free { added_as provider [] (led_of core.old group.now).waiting ≡ Queued }
+    ensures { OnOk result (core.new ≡ wait_join core.old group.now provider request attrs.now
+        idle) }
+{
+    keep_decision(core, alloc, group, provider, request, None)?;
+    let i = open(&mut core.groups, alloc, group)?;
+    queue_join(&mut core.groups.rows[i], alloc, provider, attrs, idle)
+}
+
+/// Decides a join: it waits or is refused.
+#[tactic(auto, unfolding(crate::proofs::Below::decide_join), using(crate::proofs::DecidingLaws::join_free, crate::proofs::DecidingLaws::waiting_keeps))]
+pub(crate) fn decide_join(
+    core: &mut Core,
+    alloc: Global,
+    group: &Name,
+    provider: ProviderId,
+    request: u32,
+    attrs: &Attrs,
+) -> Result<(), NoMemory>
+    requires order { InNameOrder core.old.groups }
+    ensures row { OnOk result (core.new ≡ decide_join core.old group.now provider request attrs.now
+        (join_refusal core.old group.now provider attrs.now)) }
+    ensures keeps { OnOk result (Keeps core.old core.new) }
+{
+    let state = state_of(core, alloc, group.bytes())?;
+    match join_refusal(core, alloc, group.bytes(), provider, attrs, &state)? {
+        None => wait_join(
+            core,
+            alloc,
+            group,
+            provider,
+            request,
+            attrs,
+            is_idle_empty(&state),
+        ),
+        Some(y) => refuse(core, alloc, group, provider, request, y),
+    }
+}

@@ -1,0 +1,164 @@
+//! A pass over the groups that the node leads.
+ghost use Rattle.std.specs.Prelude.{◌≡◌, IfOk, OnOk, fold, length};
+ghost use Rattle.group_leading.specs.session_clients.Clients.{KeepsScripts};
+ghost use Rattle.group_leading.specs.Working.{AtWork};
+ghost use Rattle.group_leading.specs.node_state.State.{row_of, list_of, led_of};
+ghost use Rattle.group_leading.specs.node_state.Ending.{quiet, failures_begin, or_due, or_joins, may_begin, first_begins, group_begins, one_pass};
+ghost use Rattle.group_deciding.specs.Passing.{passed, PassDoes};
+
+use crate::failures::begin_failures;
+use crate::joins::begin_joins;
+use crate::limits::is_at_limit;
+use crate::source_dues::begin_due;
+use group_leading::client_callbacks::Callbacks;
+use group_leading::node_groups::{led_groups, list_of, waiting_failures, waiting_joins};
+use group_leading::node_state::Core;
+use group_leading::rsct_packet::{Name, NoMemory};
+use std::alloc::Global;
+
+/// Does nothing run in the group, and is its list below its limits?
+#[tactic(auto, unfolding(crate::proofs::Below::may_begin, crate::proofs::Below::list_of, crate::proofs::Below::is_at_limit))]
+fn may_begin(core: &Core, group: &[u8]) -> bool
+    ensures { result ≡ may_begin (list_of core.now group.now) }
+{
+    match list_of(core, group) {
+        None => true,
+        Some(list) => list.state().running.is_none() && !is_at_limit(list),
+    }
+}
+
+/// The first begins of what is due of the group's source, and waiting joins. Has something begun?
+#[tactic(auto, unfolding(crate::proofs::Below::or_due, crate::proofs::Below::or_joins))]
+fn begin_due_or_joins<C: Callbacks>(
+    core: &mut Core,
+    clients: &mut Vec<C>,
+    alloc: Global,
+    group: &Name,
+) -> Result<bool, NoMemory>
+    requires work { AtWork core.old clients.old.items }
+    ensures work { OnOk result (AtWork core.new clients.new.items) }
+    ensures scripts { OnOk result (KeepsScripts C.script clients.old.items clients.new.items) }
+    ensures does { IfOk result (λ began. PassDoes C.script C.stands_for clients.old.items
+        clients.new.items core.old core.new began (λ f. or_joins f group.now
+        (or_due f group.now (quiet core.old)))) }
+{
+    if begin_due(core, clients, alloc, group)? {
+        return Ok(true);
+    }
+    let joins = waiting_joins(core, group.bytes());
+    begin_joins(core, clients, alloc, group, joins)
+}
+
+/// The first begins of waiting failures, what is due of the group's source, and waiting joins. Has something begun?
+#[tactic(auto, unfolding(crate::proofs::Below::or_due, crate::proofs::Below::or_joins))]
+fn begin_waiting<C: Callbacks>(
+    core: &mut Core,
+    clients: &mut Vec<C>,
+    alloc: Global,
+    group: &Name,
+) -> Result<bool, NoMemory>
+    requires work { AtWork core.old clients.old.items }
+    ensures work { OnOk result (AtWork core.new clients.new.items) }
+    ensures scripts { OnOk result (KeepsScripts C.script clients.old.items clients.new.items) }
+    ensures does { IfOk result (λ began. PassDoes C.script C.stands_for clients.old.items
+        clients.new.items core.old core.new began (λ f. or_joins f group.now
+        (or_due f group.now (failures_begin (length (led_of core.old group.now).waiting.failures) f
+        core.old group.now)))) }
+{
+    let failures = waiting_failures(core, group.bytes());
+    if begin_failures(core, clients, alloc, group, failures)? {
+        return Ok(true);
+    }
+    begin_due_or_joins(core, clients, alloc, group)
+}
+
+/// What waits begins in a group where nothing runs and whose list is not full. Has something begun?
+#[tactic(auto, unfolding(crate::proofs::Below::first_begins, crate::proofs::Below::list_of, crate::proofs::Below::led_of))]
+fn begin_first<C: Callbacks>(
+    core: &mut Core,
+    clients: &mut Vec<C>,
+    alloc: Global,
+    group: &Name,
+) -> Result<bool, NoMemory>
+    requires work { AtWork core.old clients.old.items }
+    ensures work { OnOk result (AtWork core.new clients.new.items) }
+    ensures scripts { OnOk result (KeepsScripts C.script clients.old.items clients.new.items) }
+    ensures does { IfOk result (λ began. PassDoes C.script C.stands_for clients.old.items
+        clients.new.items core.old core.new began (λ f. first_begins f core.old group.now
+        (row_of core.old group.now))) }
+{
+    if !may_begin(core, group.bytes()) {
+        return Ok(false);
+    }
+    begin_waiting(core, clients, alloc, group)
+}
+
+/// What waits begins in a group, at most `most` times, until nothing begins. Has something begun, here or before?
+#[tactic(auto, unfolding(crate::proofs::Below::group_begins))]
+fn begin_in_group<C: Callbacks>(
+    core: &mut Core,
+    clients: &mut Vec<C>,
+    alloc: Global,
+    group: &Name,
+    most: u128,
+    began: bool,
+) -> Result<bool, NoMemory>
+    requires work { AtWork core.old clients.old.items }
+    ensures work { OnOk result (AtWork core.new clients.new.items) }
+    ensures scripts { OnOk result (KeepsScripts C.script clients.old.items clients.new.items) }
+    ensures does { IfOk result (λ b. PassDoes C.script C.stands_for clients.old.items
+        clients.new.items core.old core.new b (λ f. group_begins most f group.now
+        (passed core.old began))) }
+{
+    if most == 0 {
+        return Ok(began);
+    }
+    if !begin_first(core, clients, alloc, group)? {
+        return Ok(began);
+    }
+    begin_in_group(core, clients, alloc, group, most - 1, true)
+}
+
+/// What waits begins in each of these groups. Has something begun, here or before?
+fn begin_in_each<C: Callbacks>(
+    core: &mut Core,
+    clients: &mut Vec<C>,
+    alloc: Global,
+    names: &[Name],
+    most: u128,
+    began: bool,
+) -> Result<bool, NoMemory>
+    requires work { AtWork core.old clients.old.items }
+    ensures work { OnOk result (AtWork core.new clients.new.items) }
+    ensures scripts { OnOk result (KeepsScripts C.script clients.old.items clients.new.items) }
+    ensures does { IfOk result (λ b. PassDoes C.script C.stands_for clients.old.items
+        clients.new.items core.old core.new b (λ f. fold
+        (λ p g. group_begins most f g p) (passed core.old began) names.now)) }
+{
+    match names {
+        [] => Ok(began),
+        [g, rest @ ..] => {
+            let began = begin_in_group(core, clients, alloc, g, most, began)?;
+            begin_in_each(core, clients, alloc, rest, most, began)
+        }
+    }
+}
+
+/// Passes over the groups that the node leads, in name order, and in each, at most `most` times, what waits begins.
+/// Has something begun?
+#[tactic(auto, unfolding(crate::proofs::Below::one_pass))]
+pub fn pass<C: Callbacks>(
+    core: &mut Core,
+    clients: &mut Vec<C>,
+    alloc: Global,
+    most: u128,
+) -> Result<bool, NoMemory>
+    requires work { AtWork core.old clients.old.items }
+    ensures work { OnOk result (AtWork core.new clients.new.items) }
+    ensures scripts { OnOk result (KeepsScripts C.script clients.old.items clients.new.items) }
+    ensures does { IfOk result (λ began. PassDoes C.script C.stands_for clients.old.items
+        clients.new.items core.old core.new began (λ f. one_pass most f core.old)) }
+{
+    let names = led_groups(core, alloc)?;
+    begin_in_each(core, clients, alloc, names.as_slice(), most, false)
+}

@@ -1,0 +1,65 @@
+//! Refusing a request.
+ghost use Rattle.std.specs.Prelude.{◌≡◌, OnOk, IfOk};
+ghost use Rattle.group_leading.specs.node_groups.Keeps.{Keeps};
+ghost use Rattle.group_leading.specs.node_state.Deciding.{refused};
+ghost use Rattle.group_leading.specs.node_state.declared.packet.Body.TheVariants as body;
+
+use group_leading::client_callbacks::Why;
+use group_leading::node_groups::keep_decision;
+use group_leading::node_sending::send;
+use group_leading::node_state::{Body, Core};
+use group_leading::rsct_packet::{Name, NoMemory, ProviderId, ViewId};
+use std::alloc::Global;
+
+/// The packet that tells a requester why its request is refused.
+pub fn tell(
+    alloc: Global,
+    view: ViewId,
+    group: &Name,
+    provider: ProviderId,
+    request: u32,
+    why: Why,
+) -> Result<Body, NoMemory>
+    ensures { IfOk result (λ b. b ≡ body.Tell view group.now provider request why) }
+{
+    Ok(Body::Tell {
+        view,
+        name: group.copy(alloc)?,
+        p: provider,
+        r: request,
+        why,
+    })
+}
+
+/// The refusal is kept, and sent to the requester's node.
+#[tactic(auto, unfolding(crate::proofs::Below::refused))]
+fn keep_and_tell(
+    core: &mut Core,
+    alloc: Global,
+    group: &Name,
+    provider: ProviderId,
+    request: u32,
+    why: Why,
+) -> Result<(), NoMemory>
+    ensures { OnOk result (core.new ≡ refused core.old group.now provider request why) }
+{
+    let told = tell(alloc, core.views.view, group, provider, request, why)?;
+    keep_decision(core, alloc, group, provider, request, Some(why))?;
+    send(core, provider.node, told)
+}
+
+/// Refuses a request: the decision is kept, and its requester is told.
+#[tactic(auto, using(crate::proofs::RefusingLaws::refused_keeps))]
+pub fn refuse(
+    core: &mut Core,
+    alloc: Global,
+    group: &Name,
+    provider: ProviderId,
+    request: u32,
+    why: Why,
+) -> Result<(), NoMemory>
+    ensures row { OnOk result (core.new ≡ refused core.old group.now provider request why) }
+    ensures keeps { OnOk result (Keeps core.old core.new) }
+{
+    keep_and_tell(core, alloc, group, provider, request, why)
+}

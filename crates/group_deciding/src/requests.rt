@@ -1,0 +1,42 @@
+//! A request.
+ghost use Rattle.std.specs.Prelude.{OnOk};
+ghost use Rattle.group_leading.specs.session_clients.Clients.{KeepsScripts};
+ghost use Rattle.group_leading.specs.entry_delivery.Doing.{RowDoes};
+ghost use Rattle.group_leading.specs.Working.{AtWork};
+ghost use Rattle.group_leading.specs.node_state.Deciding.{decided};
+
+use crate::changes::decide_change;
+use crate::join_requests::decide_join;
+use group_leading::client_callbacks::Callbacks;
+use group_leading::group_attr::Phases;
+use group_leading::node_state::Core;
+use group_leading::proposal_core::Proposal;
+use group_leading::rsct_packet::{Name, NoMemory, ProviderId};
+use std::alloc::Global;
+
+/// Decides a request: a join waits or is refused, another proposal begins or is refused.
+#[tactic(auto, unfolding(crate::proofs::Below::decided))]
+pub fn decide<C: Callbacks>(
+    core: &mut Core,
+    clients: &mut Vec<C>,
+    alloc: Global,
+    group: &Name,
+    provider: ProviderId,
+    request: u32,
+    phases: Phases,
+    proposal: &Proposal,
+) -> Result<(), NoMemory>
+    requires work { AtWork core.old clients.old.items }
+    ensures work { OnOk result (AtWork core.new clients.new.items) }
+    ensures scripts { OnOk result (KeepsScripts C.script clients.old.items clients.new.items) }
+    ensures does { OnOk result (RowDoes C.script C.stands_for clients.old.items clients.new.items
+        core.old core.new (λ f. decided f core.old group.now provider request phases
+        proposal.now)) }
+{
+    match proposal {
+        Proposal::Join { attrs, .. } => decide_join(core, alloc, group, provider, request, attrs),
+        _ => decide_change(
+            core, clients, alloc, group, provider, request, phases, proposal,
+        ),
+    }
+}

@@ -1,0 +1,70 @@
+//! The end of a step.
+ghost use Rattle.std.specs.Prelude.{◌≡◌, OnOk};
+ghost use Rattle.group_leading.specs.session_clients.Clients.{KeepsScripts};
+ghost use Rattle.group_leading.specs.entry_delivery.Doing.{RowDoes};
+ghost use Rattle.group_leading.specs.Working.{AtWork};
+ghost use Rattle.group_leading.specs.node_state.Ending.{passes, most_begun, end_step};
+
+use crate::passes::pass;
+use group_leading::client_callbacks::Callbacks;
+use group_leading::node_sending::is_frozen;
+use group_leading::node_state::Core;
+use group_leading::rsct_packet::NoMemory;
+use std::alloc::Global;
+
+/// How many places a list has at most in which something begins.
+const MAX_PLACES: u128 = 4096;
+
+/// How often something can begin: each time a list grows, and nothing begins in a full one. 128 bits hold that for
+/// any number of groups.
+#[tactic(auto, unfolding(crate::proofs::Below::most_begun))]
+fn most_begun(core: &Core) -> u128
+    ensures { result ≡ most_begun core.now }
+{
+    core.groups.rows.len() as u128 * MAX_PLACES + 1
+}
+
+/// Passes over the groups, at most `left` times, until nothing begins.
+#[tactic(auto, unfolding(crate::proofs::Below::passes))]
+fn repeat<C: Callbacks>(
+    core: &mut Core,
+    clients: &mut Vec<C>,
+    alloc: Global,
+    left: u128,
+    most: u128,
+) -> Result<(), NoMemory>
+    requires work { AtWork core.old clients.old.items }
+    ensures work { OnOk result (AtWork core.new clients.new.items) }
+    ensures scripts { OnOk result (KeepsScripts C.script clients.old.items clients.new.items) }
+    ensures does { OnOk result (RowDoes C.script C.stands_for clients.old.items clients.new.items
+        core.old core.new (λ f. passes left most f core.old)) }
+{
+    if left == 0 {
+        return Ok(());
+    }
+    if !pass(core, clients, alloc, most)? {
+        return Ok(());
+    }
+    repeat(core, clients, alloc, left - 1, most)
+}
+
+/// Ends a step: in each group that the node leads, and where nothing runs, the first of waiting failures, what is due
+/// of its source, and waiting joins begins, again and again until nothing begins.
+#[tactic(auto, unfolding(crate::proofs::Below::end_step))]
+pub fn end_step<C: Callbacks>(
+    core: &mut Core,
+    clients: &mut Vec<C>,
+    alloc: Global,
+) -> Result<(), NoMemory>
+    requires work { AtWork core.old clients.old.items }
+    ensures work { OnOk result (AtWork core.new clients.new.items) }
+    ensures scripts { OnOk result (KeepsScripts C.script clients.old.items clients.new.items) }
+    ensures does { OnOk result (RowDoes C.script C.stands_for clients.old.items clients.new.items
+        core.old core.new (λ f. end_step f core.old)) }
+{
+    if is_frozen(core) {
+        return Ok(());
+    }
+    let most = most_begun(core);
+    repeat(core, clients, alloc, most, most)
+}

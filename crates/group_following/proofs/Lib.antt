@@ -1,4 +1,0 @@
-pub mod GoneLaws
-pub mod NameLaws
-pub mod TellLaws
-pub mod VoteLaws

@@ -1,0 +1,4 @@
+pub mod Below
+pub mod NameLaws
+pub mod TellLaws
+pub mod EntryLaws

@@ -1,0 +1,119 @@
+//! The entries that a leader sends to the members of its group.
+ghost use Rattle.std.specs.Prelude.{◌≡◌, OnOk, IsTrue, true, nat_lt};
+ghost use Rattle.group_leading.specs.session_clients.Clients.{KeepsScripts};
+ghost use Rattle.group_leading.specs.entry_delivery.Doing.{RowDoes};
+ghost use Rattle.group_leading.specs.Working.{AtWork};
+ghost use Rattle.group_leading.specs.node_state.declared.packet.Body.TheVariants as body;
+ghost use Rattle.group_leading.specs.node_state.State.{len_of, fits_at_end, forget_below, set_leader};
+ghost use Rattle.group_leading.specs.node_state.Sending.{sent};
+ghost use Rattle.group_leading.specs.node_state.Following.{entry_next, entry_elsewhere, take_entry};
+
+use group_leading::client_callbacks::Callbacks;
+use group_leading::node_groups::{fits_at_end, forget_below, holds, len_of, set_leader};
+use group_leading::node_sending::send;
+use group_leading::node_state::{Body, Core};
+use group_leading::proposal_core::Entry;
+use group_leading::put_and_hand;
+use group_leading::rsct_packet::{Name, NoMemory};
+use std::alloc::Global;
+
+/// Acknowledges the length of the list to a node.
+fn acknowledge(core: &mut Core, alloc: Global, to: u8, group: &Name) -> Result<(), NoMemory>
+    ensures { OnOk result (core.new ≡ sent core.old to
+        (body.Ack core.old.views.view group.now (len_of core.old group.now))) }
+{
+    let body = Body::Ack {
+        view: core.views.view,
+        name: group.copy(alloc)?,
+        len: len_of(core, group.bytes()),
+    };
+    send(core, to, body)
+}
+
+/// Acknowledges the length of the list to a node, which leads; what all members hold is forgotten.
+fn follow(
+    core: &mut Core,
+    alloc: Global,
+    leader: u8,
+    group: &Name,
+    stable: u32,
+) -> Result<(), NoMemory>
+    ensures { OnOk result (core.new ≡ forget_below
+        (set_leader (sent core.old leader (body.Ack core.old.views.view group.now
+        (len_of core.old group.now))) group.now leader) group.now stable) }
+{
+    acknowledge(core, alloc, leader, group)?;
+    set_leader(core, alloc, group, leader)?;
+    forget_below(core, alloc, group, stable)
+}
+
+/// An entry that fits at the end of the list is put, handed on and acknowledged to the leader that sent it.
+fn put_next<C: Callbacks>(
+    core: &mut Core,
+    clients: &mut Vec<C>,
+    alloc: Global,
+    from: u8,
+    group: &Name,
+    stable: u32,
+    entry: &Entry,
+) -> Result<(), NoMemory>
+    requires work { AtWork core.old clients.old.items }
+    requires fits { IsTrue (fits_at_end core.old group.now entry.now) }
+    ensures work { OnOk result (AtWork core.new clients.new.items) }
+    ensures scripts { OnOk result (KeepsScripts C.script clients.old.items clients.new.items) }
+    ensures does { OnOk result (RowDoes C.script C.stands_for clients.old.items clients.new.items
+        core.old core.new (λ f. entry_next f core.old from group.now stable entry.now true)) }
+{
+    put_and_hand(core, clients, alloc, Some(from), group, entry)?;
+    follow(core, alloc, from, group, stable)
+}
+
+/// An entry that is held already is acknowledged, and one beyond the end is not; what all members hold is
+/// forgotten.
+#[tactic(auto, unfolding(crate::proofs::Below::entry_elsewhere))]
+fn pass_over(
+    core: &mut Core,
+    alloc: Global,
+    from: u8,
+    group: &Name,
+    place: u32,
+    stable: u32,
+) -> Result<(), NoMemory>
+    ensures { OnOk result (core.new ≡ entry_elsewhere core.old from group.now stable
+        (nat_lt place (len_of core.old group.now))) }
+{
+    if place < len_of(core, group.bytes()) {
+        acknowledge(core, alloc, from, group)?;
+        return forget_below(core, alloc, group, stable);
+    }
+    if !holds(core, group.bytes()) {
+        return Ok(());
+    }
+    forget_below(core, alloc, group, stable)
+}
+
+/// ENTRY: at the end of the list it is put, handed on and acknowledged.
+pub fn take_entry<C: Callbacks>(
+    core: &mut Core,
+    clients: &mut Vec<C>,
+    alloc: Global,
+    from: u8,
+    group: &Name,
+    place: u32,
+    stable: u32,
+    entry: &Entry,
+) -> Result<(), NoMemory>
+    requires work { AtWork core.old clients.old.items }
+    ensures work { OnOk result (AtWork core.new clients.new.items) }
+    ensures scripts { OnOk result (KeepsScripts C.script clients.old.items clients.new.items) }
+    ensures does { OnOk result (RowDoes C.script C.stands_for clients.old.items clients.new.items
+        core.old core.new (λ f. take_entry f core.old from group.now place stable entry.now)) }
+{
+    if place != len_of(core, group.bytes()) {
+        return pass_over(core, alloc, from, group, place, stable);
+    }
+    if !fits_at_end(core, alloc, group.bytes(), entry) {
+        return Ok(());
+    }
+    put_next(core, clients, alloc, from, group, stable, entry)
+}

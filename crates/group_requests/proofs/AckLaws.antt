@@ -1,0 +1,17 @@
+-- A length that is acknowledged changes nothing of sessions, and of groups only what is acknowledged and forgotten.
+use Rattle.std.proofs.Common.{◌≡◌, ℕ, List}
+use Rattle.group_deciding.specs.node_state.declared.state.Core.{Core}
+use Rattle.group_deciding.specs.node_state.State.{least_acked, with_led, acked_raised}
+use Rattle.group_deciding.specs.node_state.Leading.{forget_least}
+use Rattle.group_deciding.specs.node_state.Following.{acked}
+use Rattle.group_deciding.specs.node_groups.Keeps.{Keeps}
+use Rattle.group_deciding.proofs.node_groups_laws.KeepLaws.{keeps_then, keeps_as, led_keeps}
+use Rattle.group_deciding.proofs.group_leading_laws.RowLaws.{forgets_keep}
+
+-- ---- ACK
+
+pub acked_keeps : (s t : Core) (from : ℕ) (g : List ℕ) (n : ℕ) → t ≡ acked s from g n → Keeps s t
+unfolding acked forget_least
+acked_keeps s t from g n e =
+    let u : Core = with_led s g (λ l. record l { acked = acked_raised from n l.acked }) in
+    keeps_as s (acked s from g n) t e (keeps_then s u _ (led_keeps s g (λ l. record l { acked = acked_raised from n l.acked })) (forgets_keep u g (least_acked u g)))

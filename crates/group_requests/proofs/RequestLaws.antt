@@ -1,0 +1,72 @@
+-- What a request does, by what was decided last.
+use Rattle.std.proofs.Common.{◌≡◌, ℕ, ◌<◌, ◌≤◌, ◌==◌, Bool, true, false, List, Option, Some, None, refl, sym, ap, ◌∙◌}
+use Rattle.std.specs.Prelude.{nat_lt}
+use Rattle.std.proofs.lemmas.Bool.{lt-ltb, le-ltb, eq-eqb, ne_eqb}
+use Rattle.group_deciding.specs.rsct_packet.declared.ids.ProviderId.{ProviderId}
+use Rattle.group_deciding.specs.group_attr.declared.attrs.Phases.{Phases}
+use Rattle.group_deciding.specs.proposal_core.declared.proposal.Proposal.{Proposal}
+use Rattle.group_members.specs.client_callbacks.declared.told.Why.{Why}
+use Rattle.group_members.specs.client_callbacks.declared.votes.VoteItem.{VoteItem}
+use Rattle.group_deciding.specs.node_state.declared.group.Decision.{Decision}
+use Rattle.group_deciding.specs.node_state.declared.packet.Body.TheVariants as body
+use Rattle.group_deciding.specs.node_state.declared.state.Core.{Core}
+use Rattle.group_deciding.specs.node_state.State.{led_of, set_leader, decision_of}
+use Rattle.group_deciding.specs.node_state.Sending.{sent}
+use Rattle.group_deciding.specs.node_state.HandOn.{Answering}
+use Rattle.group_deciding.specs.node_state.Deciding.{decided}
+use Rattle.group_deciding.specs.node_state.Following.{tell_again, decide_new, request_after, request_at, is_group_refused, take_request}
+use Rattle.group_deciding.specs.node_groups.Keeps.{Keeps}
+use Rattle.group_deciding.proofs.node_groups_laws.KeepLaws.{keeps_itself, sent_keeps}
+use Rattle.group_deciding.specs.entry_delivery.Received.{Handing}
+use Rattle.group_deciding.specs.entry_delivery.Doing.{Does}
+use Rattle.group_deciding.proofs.group_leading_laws.RowLaws.{leader_keeps, does_behind}
+
+pub again_keeps : (s : Core) (g : List ℕ) (p : ProviderId) (r : ℕ) (why : Option Why) → Keeps s (tell_again s g p r why)
+unfolding tell_again
+again_keeps s g p r None = keeps_itself s
+again_keeps s g p r (Some y) = sent_keeps s p.node _
+
+pub request_refused : (f : Answering) (s : Core) (from : ℕ) (g : List ℕ) (p : ProviderId) (r : ℕ) (phases : Phases) (x : Proposal) → is_group_refused s g ≡ true
+    → sent s from (body.Name s.views.view g 0) ≡ take_request f s from g p r phases x
+unfolding take_request
+request_refused f s from g p r phases x e = rw (e, take_request) refl
+
+pub request_first : (f : Answering) (s : Core) (from : ℕ) (g : List ℕ) (p : ProviderId) (r : ℕ) (phases : Phases) (x : Proposal) → is_group_refused s g ≡ false → decision_of (led_of s g) p ≡ None
+    → decide_new f s g p r phases x ≡ take_request f s from g p r phases x
+unfolding take_request request_at
+request_first f s from g p r phases x e none = rw (e, none, take_request, request_at) refl
+
+-- where a request was decided before
+request_again : (f : Answering) (s : Core) (from : ℕ) (g : List ℕ) (p : ProviderId) (r : ℕ) (phases : Phases) (x : Proposal) (d : Decision) → is_group_refused s g ≡ false → decision_of (led_of s g) p ≡ Some d
+    → request_after f s g p r phases x d (nat_lt r d.r) (r == d.r) ≡ take_request f s from g p r phases x
+unfolding take_request request_at
+request_again f s from g p r phases x d e some = rw (e, some, take_request, request_at) refl
+
+pub request_late : (f : Answering) (s : Core) (from : ℕ) (g : List ℕ) (p : ProviderId) (r : ℕ) (phases : Phases) (x : Proposal) (d : Decision) → is_group_refused s g ≡ false → decision_of (led_of s g) p ≡ Some d
+    → r < d.r → s ≡ take_request f s from g p r phases x
+unfolding request_after
+request_late f s from g p r phases x d e some late =
+    ap (λ (b : Bool). request_after f s g p r phases x d b (r == d.r)) (sym (lt-ltb r d.r late)) ∙ request_again f s from g p r phases x d e some
+
+-- where it is not an earlier one
+request_from : (f : Answering) (s : Core) (from : ℕ) (g : List ℕ) (p : ProviderId) (r : ℕ) (phases : Phases) (x : Proposal) (d : Decision) → is_group_refused s g ≡ false → decision_of (led_of s g) p ≡ Some d
+    → d.r ≤ r → request_after f s g p r phases x d false (r == d.r) ≡ take_request f s from g p r phases x
+request_from f s from g p r phases x d e some late =
+    ap (λ (b : Bool). request_after f s g p r phases x d b (r == d.r)) (sym (le-ltb r d.r late)) ∙ request_again f s from g p r phases x d e some
+
+pub request_same : (f : Answering) (s : Core) (from : ℕ) (g : List ℕ) (p : ProviderId) (r : ℕ) (phases : Phases) (x : Proposal) (d : Decision) → is_group_refused s g ≡ false → decision_of (led_of s g) p ≡ Some d
+    → d.r ≤ r → r ≡ d.r → tell_again s g p r d.why ≡ take_request f s from g p r phases x
+unfolding request_after
+request_same f s from g p r phases x d e some late same =
+    ap (λ (b : Bool). request_after f s g p r phases x d false b) (sym (eq-eqb r d.r same)) ∙ request_from f s from g p r phases x d e some late
+
+pub request_next : (f : Answering) (s : Core) (from : ℕ) (g : List ℕ) (p : ProviderId) (r : ℕ) (phases : Phases) (x : Proposal) (d : Decision) → is_group_refused s g ≡ false → decision_of (led_of s g) p ≡ Some d
+    → d.r ≤ r → (r ≡ d.r → ⊥) → decide_new f s g p r phases x ≡ take_request f s from g p r phases x
+unfolding request_after
+request_next f s from g p r phases x d e some late other =
+    ap (λ (b : Bool). request_after f s g p r phases x d false b) (sym (ne_eqb r d.r other)) ∙ request_from f s from g p r phases x d e some late
+
+pub new_does : (scripts : List (Option (List (Option VoteItem)))) (P : List Handing → Type 0) (s t u : Core) (g : List ℕ) (p : ProviderId) (r : ℕ) (phases : Phases) (x : Proposal) → t ≡ set_leader s g s.views.me → Does scripts P t u (λ f. decided f t g p r phases x)
+    → Does scripts P s u (λ f. decide_new f s g p r phases x)
+unfolding decide_new
+new_does scripts P s t u g p r phases x e next = does_behind scripts P s t u (set_leader s g s.views.me) (λ f y. decided f y g p r phases x) (leader_keeps s g s.views.me) e next

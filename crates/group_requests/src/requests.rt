@@ -1,0 +1,111 @@
+//! Requests that come to the leader of a group.
+ghost use Rattle.std.specs.Prelude.{◌≡◌, OnOk};
+ghost use Rattle.group_deciding.specs.session_clients.Clients.{KeepsScripts};
+ghost use Rattle.group_deciding.specs.entry_delivery.Doing.{RowDoes};
+ghost use Rattle.group_deciding.specs.group_leading.Working.{AtWork};
+ghost use Rattle.group_deciding.specs.node_state.Following.{tell_again, decide_new, is_group_refused, take_request};
+
+use group_deciding::group_attr::Phases;
+use group_deciding::node_groups::{decision_of, held_count, holds, set_leader};
+use group_deciding::node_state::Core;
+use group_deciding::proposal_core::Proposal;
+use group_deciding::rsct_packet::{Name, NoMemory, ProviderId};
+use group_deciding::{decide, tell};
+use group_members::client_callbacks::{Callbacks, Why};
+use group_members::node_sending::{is_fixed, send};
+use group_members::send_name;
+use std::alloc::Global;
+
+/// How many groups a view has.
+const MAX_GROUPS: usize = 64;
+
+/// In mode fixed, is it a new group where as many lists are held as a view has groups?
+#[tactic(auto, unfolding(crate::proofs::Below::is_group_refused))]
+fn is_group_refused(core: &Core, group: &[u8]) -> bool
+    ensures { result ≡ is_group_refused core.now group.now }
+{
+    is_fixed(core.config.mode) && !holds(core, group) && held_count(core) >= MAX_GROUPS
+}
+
+/// Tells the node of a requester again why its request was refused, if it was.
+#[tactic(auto, unfolding(crate::proofs::Below::tell_again))]
+fn tell_again(
+    core: &mut Core,
+    alloc: Global,
+    group: &Name,
+    provider: ProviderId,
+    request: u32,
+    why: Option<Why>,
+) -> Result<(), NoMemory>
+    ensures { OnOk result (core.new ≡ tell_again core.old group.now provider request why) }
+{
+    match why {
+        None => Ok(()),
+        Some(why) => {
+            let told = tell(alloc, core.views.view, group, provider, request, why)?;
+            send(core, provider.node, told)
+        }
+    }
+}
+
+/// The node is the leader, and decides a request that is new to it.
+fn decide_new<C: Callbacks>(
+    core: &mut Core,
+    clients: &mut Vec<C>,
+    alloc: Global,
+    group: &Name,
+    provider: ProviderId,
+    request: u32,
+    phases: Phases,
+    proposal: &Proposal,
+) -> Result<(), NoMemory>
+    requires work { AtWork core.old clients.old.items }
+    ensures work { OnOk result (AtWork core.new clients.new.items) }
+    ensures scripts { OnOk result (KeepsScripts C.script clients.old.items clients.new.items) }
+    ensures does { OnOk result (RowDoes C.script C.stands_for clients.old.items clients.new.items
+        core.old core.new (λ f. decide_new f core.old group.now provider request phases
+        proposal.now)) }
+{
+    set_leader(core, alloc, group, core.views.me)?;
+    decide(
+        core, clients, alloc, group, provider, request, phases, proposal,
+    )
+}
+
+/// REQUEST: a request is decided, or told again; it is dropped where a later one was decided.
+pub fn take_request<C: Callbacks>(
+    core: &mut Core,
+    clients: &mut Vec<C>,
+    alloc: Global,
+    from: u8,
+    group: &Name,
+    provider: ProviderId,
+    request: u32,
+    phases: Phases,
+    proposal: &Proposal,
+) -> Result<(), NoMemory>
+    requires work { AtWork core.old clients.old.items }
+    ensures work { OnOk result (AtWork core.new clients.new.items) }
+    ensures scripts { OnOk result (KeepsScripts C.script clients.old.items clients.new.items) }
+    ensures does { OnOk result (RowDoes C.script C.stands_for clients.old.items clients.new.items
+        core.old core.new (λ f. take_request f core.old from group.now provider request phases
+        proposal.now)) }
+{
+    if is_group_refused(core, group.bytes()) {
+        return send_name(core, alloc, from, group, 0);
+    }
+    let Some(last) = decision_of(core, group.bytes(), provider) else {
+        return decide_new(
+            core, clients, alloc, group, provider, request, phases, proposal,
+        );
+    };
+    if request < last.r {
+        return Ok(());
+    }
+    if request == last.r {
+        return tell_again(core, alloc, group, provider, request, last.why);
+    }
+    decide_new(
+        core, clients, alloc, group, provider, request, phases, proposal,
+    )
+}

@@ -1,0 +1,86 @@
+//! What happens, in one call.
+ghost use Rattle.std.specs.Prelude.{◌≡◌, ℕ, OnOk, IsErrOf};
+ghost use Rattle.node_core.specs.node_state.Step.{Garbage};
+ghost use Rattle.play_state.specs.world_model.World.{node_at, node_steps, happens};
+ghost use Rattle.world_safety.specs.world_laws.world_answers.Answers.{step_by_if, happens_by};
+ghost use Rattle.net_script.specs.Standing.{Goes, Passes, Comes};
+ghost use Rattle.net_script.specs.Hands.{NodeHands, HearsAs, Hears};
+ghost use Rattle.net_script.specs.Safe.{AnswersSafely, GoesSafely};
+
+use crate::world::World;
+use node_core::NodeEvent;
+use node_core::client_callbacks::Made;
+use node_core::node_state::Records;
+use play_state::WorldFault;
+use play_state::world_model::Event;
+use std::alloc::Global;
+
+impl<C: Made> World<C> {
+    /// A node is given bytes that are no packet.
+    fn give_garbage(&mut self, alloc: Global, node: u8, out: &mut Records) -> Result<(), WorldFault>
+        ensures goes { OnOk result (Comes C.script C.script_of self.old
+            (Goes C.script C.script_of self.old self.new out.old out.new)
+            (λ f w. step_by_if f w Garbage (node_at w node)) (λ w. node_steps w node Garbage)) }
+        ensures hears { OnOk result (HearsAs C.stands_for C.script C.script_of self.old
+            self.new.nodes out.old out.new (λ w rs old new. NodeHands
+            (node_at w node) node Garbage rs old new)) }
+        ensures passes { (k : ℕ) → IsErrOf result (WorldFault.TooMuchKept k)
+            → Comes C.script C.script_of self.old (Passes k self.old)
+            (λ f w. step_by_if f w Garbage (node_at w node)) (λ w. node_steps w node Garbage) }
+        ensures kept { (k : ℕ) → IsErrOf result (WorldFault.TooMuchKept k) → out.new ≡ out.old }
+    {
+        self.step(alloc, node, NodeEvent::Datagram(b""), out)
+    }
+
+    /// A plain event happens, each kind by its own call.
+    #[tactic(auto, unfolding(crate::proofs::Below::happens, crate::proofs::Below::happens_by))]
+    fn happen(&mut self, alloc: Global, event: &Event, out: &mut Records) -> Result<(), WorldFault>
+        ensures goes { OnOk result (Comes C.script C.script_of self.old
+            (Goes C.script C.script_of self.old self.new out.old out.new)
+            (λ f w. happens_by f w event.now) (λ w. happens w event.now)) }
+        ensures hears { OnOk result (Hears C.stands_for C.script C.script_of self.old self.new
+            out.old out.new event.now) }
+        ensures passes { (k : ℕ) → IsErrOf result (WorldFault.TooMuchKept k)
+            → Comes C.script C.script_of self.old (Passes k self.old)
+            (λ f w. happens_by f w event.now) (λ w. happens w event.now) }
+        ensures kept { (k : ℕ) → IsErrOf result (WorldFault.TooMuchKept k) → out.new ≡ out.old }
+    {
+        match event {
+            Event::Start(n) => Ok(self.start(alloc, *n, out)?),
+            Event::Stop(n) => Ok(self.stop(*n, out)?),
+            Event::Tick(n) => self.step(alloc, *n, NodeEvent::Tick, out),
+            Event::Ask(n, mask) => self.step(alloc, *n, NodeEvent::Ask(*mask), out),
+            Event::Call(n, c) => self.call(alloc, *n, c, out),
+            Event::Show(n, what) => Ok(self.show(alloc, *n, *what, out)?),
+            Event::Deliver(a, b, k) => self.give(alloc, *a, *b, *k, out),
+            Event::Garbage(n, _) => self.give_garbage(alloc, *n, out),
+        }
+    }
+
+    /// A plain event happens: what it records comes behind what is in `out`, and the run with this event is safe,
+    /// wherever the world stands after events that may happen. The clients answer somehow; where each votes just as its
+    /// word says, what happens is the world's own. Where its packets pass the limit, `out` is as it was. After an error
+    /// nothing is said of the world.
+    pub fn event(
+        &mut self,
+        alloc: Global,
+        event: &Event,
+        out: &mut Records,
+    ) -> Result<(), WorldFault>
+        ensures goes { OnOk result (Comes C.script C.script_of self.old
+            (Goes C.script C.script_of self.old self.new out.old out.new)
+            (λ f w. happens_by f w event.now) (λ w. happens w event.now)) }
+        ensures answers { OnOk result (AnswersSafely C.script C.script_of self.old self.new out.old
+            out.new event.now) }
+        ensures safe { OnOk result (GoesSafely C.script C.script_of self.old self.new out.old
+            out.new event.now) }
+        ensures hears { OnOk result (Hears C.stands_for C.script C.script_of self.old self.new
+            out.old out.new event.now) }
+        ensures passes { (k : ℕ) → IsErrOf result (WorldFault.TooMuchKept k)
+            → Comes C.script C.script_of self.old (Passes k self.old)
+            (λ f w. happens_by f w event.now) (λ w. happens w event.now) }
+        ensures kept { (k : ℕ) → IsErrOf result (WorldFault.TooMuchKept k) → out.new ≡ out.old }
+    {
+        self.happen(alloc, event, out)
+    }
+}

@@ -1,0 +1,37 @@
+//! A plain event of a play.
+ghost use Rattle.std.specs.Prelude.{◌≡◌, ◌≤◌};
+ghost use Rattle.hags_io.specs.Edges.{Rose};
+ghost use Rattle.play_state.specs.world_model.World as world;
+ghost use Rattle.world_safety.specs.world_laws.world_answers.Plays.{AnsweredPlay, PlaysEvent};
+ghost use Rattle.net_script.specs.Stage.{At, LeadsTo};
+
+use crate::records::write_records;
+use crate::stage::Stage;
+use hags_io::Sink;
+use node_core::client_callbacks::Made;
+use node_core::node_state::Records;
+use node_core::rsct_packet::List;
+use play_state::PlayFault;
+use play_state::world_model::Event;
+use std::alloc::Global;
+use transcript::Kinds;
+
+/// A plain event happens, and what it records is written.
+pub fn play_event<C: Made, K: Sink>(
+    alloc: Global,
+    stage: &mut Stage<C>,
+    kinds: Kinds,
+    event: &Event,
+    out: &mut K,
+) -> Result<(), PlayFault>
+    ensures outcome { (p : AnsweredPlay) → (v : world.World) → At C.script C.script_of stage.old p v
+        → LeadsTo C.script C.script_of C.stands_for result kinds (K.held out.old)
+        (K.held out.new) stage.old stage.new p (PlaysEvent C.script_of p event.now) v }
+    ensures later { K.faults out.old ≤ K.faults out.new }
+    ensures fault { result ≡ Err PlayFault.WriteFault → Rose (K.faults out.old) (K.faults out.new) }
+{
+    let mut records: Records = List::new(alloc);
+    stage.world.event(alloc, event, &mut records)?;
+    write_records(alloc, kinds, records.as_slice(), out)?;
+    Ok(())
+}

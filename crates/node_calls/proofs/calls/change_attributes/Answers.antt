@@ -1,0 +1,12 @@
+-- A group's attributes change.
+use Rattle.std.proofs.Common.{refl}
+use Rattle.group_leading.specs.node_state.State.{with_sessions}
+use Rattle.node_calls.proofs.calls.change_attributes.Goals as goal
+
+pub returns-clause-row : goal.returns-clause-row
+unfolding with_sessions
+returns-clause-row c = c.propose.ensures.row c.args.core.now _ (rw (c.caller-m.ensures, c.in_ok-attrs.ensures) at c.change_attributes-answer.ensures.answer) refl
+
+pub returns-clause-keeps : goal.returns-clause-keeps
+unfolding with_sessions
+returns-clause-keeps c = c.propose.ensures.keeps c.args.core.now c.change_attributes-answer.ensures.same refl

@@ -1,0 +1,12 @@
+-- A provider leaves.
+use Rattle.std.proofs.Common.{refl}
+use Rattle.group_leading.specs.node_state.State.{with_sessions}
+use Rattle.node_calls.proofs.calls.leave.Goals as goal
+
+pub returns-clause-row : goal.returns-clause-row
+unfolding with_sessions
+returns-clause-row c = c.propose.ensures.row c.args.core.now _ (rw (c.caller-m.ensures) at c.leave-answer.ensures.answer) refl
+
+pub returns-clause-keeps : goal.returns-clause-keeps
+unfolding with_sessions
+returns-clause-keeps c = c.propose.ensures.keeps c.args.core.now c.leave-answer.ensures.same refl

@@ -1,0 +1,12 @@
+-- A message is sent.
+use Rattle.std.proofs.Common.{refl}
+use Rattle.group_leading.specs.node_state.State.{with_sessions}
+use Rattle.node_calls.proofs.calls.send_message.Goals as goal
+
+pub returns-clause-row : goal.returns-clause-row
+unfolding with_sessions
+returns-clause-row c = c.propose.ensures.row c.args.core.now _ (rw (c.caller-m.ensures) at c.send_message-answer.ensures.answer) refl
+
+pub returns-clause-keeps : goal.returns-clause-keeps
+unfolding with_sessions
+returns-clause-keeps c = c.propose.ensures.keeps c.args.core.now c.send_message-answer.ensures.same refl

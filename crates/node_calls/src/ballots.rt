@@ -1,0 +1,79 @@
+//! Calls that vote: the ballot that they fill is recorded and sent.
+ghost use Rattle.std.specs.Prelude.{◌≡◌, None, OnOk, Result};
+ghost use Rattle.std.specs.List.{last_or};
+ghost use Rattle.group_leading.specs.session_state.declared.fault.GsFault.{GsFault};
+ghost use Rattle.group_leading.specs.session_state.declared.state.SessionState.{SessionState};
+ghost use Rattle.group_leading.specs.session_state.Calls.{Answers, SameSessions};
+ghost use Rattle.group_leading.specs.node_state.declared.state.Core.{Core};
+ghost use Rattle.group_leading.specs.node_state.Calls.{record_ballot, give_ballot, cast_last};
+ghost use Rattle.group_leading.specs.node_state.State.{with_sessions};
+ghost use Rattle.group_leading.specs.node_groups.Keeps.{Stays};
+
+use crate::answers::refuse;
+use group_leading::node_sending::is_frozen;
+use group_leading::node_state::{Core, Happened};
+use group_leading::rsct_packet::NoMemory;
+use group_leading::session_state::{GsFault, KeptBallot};
+use node_owed::{copy_kept, send_kept};
+use std::alloc::Global;
+
+/// Records a kept ballot, where it is filled.
+#[tactic(auto, unfolding(crate::proofs::Below::record_ballot, crate::proofs::Below::recorded), using(crate::proofs::CallLaws::ballot_recorded_keeps))]
+fn record_ballot(core: &mut Core, alloc: Global, kept: &KeptBallot) -> Result<(), NoMemory>
+    ensures row { OnOk result (core.new ≡ record_ballot core.old kept.now kept.now.ballot.filled) }
+    ensures keeps { OnOk result (Stays core.old core.new) }
+{
+    match kept.ballot.filled() {
+        None => Ok(()),
+        Some(filled) => {
+            let filled = filled.copy(alloc)?;
+            core.records.push(Happened::Cast {
+                p: kept.p,
+                proto: kept.proto,
+                phase: kept.phase,
+                vote: filled.vote,
+                value: filled.value,
+                message: filled.message,
+            })
+        }
+    }
+}
+
+/// Records the ballot that was kept last, and sends it where the node is not frozen.
+#[tactic(auto, unfolding(crate::proofs::Below::cast_last, crate::proofs::Below::ballot_sent_if), using(crate::proofs::CallLaws::last_there))]
+fn cast_last(core: &mut Core, alloc: Global) -> Result<(), NoMemory>
+    ensures row { OnOk result (core.new ≡ cast_last core.old
+        (last_or None core.old.sessions.kept)) }
+    ensures keeps { OnOk result (Stays core.old core.new) }
+{
+    let frozen = is_frozen(core);
+    let k = match core.sessions.kept.as_slice().last() {
+        None => return Ok(()),
+        Some(k) => copy_kept(alloc, k)?,
+    };
+    record_ballot(core, alloc, &k)?;
+    if frozen {
+        return Ok(());
+    }
+    send_kept(core, alloc, &k)
+}
+
+/// What a call leaves that voted, or was refused.
+pub fn give_ballot(
+    core: &mut Core,
+    alloc: Global,
+    client: &[u8],
+    answer: Result<(), GsFault>,
+) -> Result<(), NoMemory>
+    ensures row { (s : Core) (r : Result SessionState GsFault)
+        → Answers answer s.sessions core.old.sessions r
+        → core.old ≡ with_sessions s core.old.sessions
+        → OnOk result (core.new ≡ give_ballot s client.now r) }
+    ensures keeps { (s : Core) → SameSessions s.sessions core.old.sessions
+        → core.old ≡ with_sessions s core.old.sessions → OnOk result (Stays s core.new) }
+{
+    match answer {
+        Ok(()) => cast_last(core, alloc),
+        Err(fault) => refuse(core, alloc, client, fault),
+    }
+}

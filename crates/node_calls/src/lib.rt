@@ -1,0 +1,13 @@
+//! What a node does at the calls of its clients.
+#![tactic(auto)]
+
+mod answers;
+mod ballots;
+mod calls;
+mod requests;
+mod sessions;
+
+pub use calls::take_call;
+pub use group_leading::session_clients;
+pub use node_owed;
+pub use sessions::{take_goodbye, take_init};

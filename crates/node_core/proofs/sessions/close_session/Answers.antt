@@ -1,0 +1,13 @@
+-- A session that ends, and the end of the step.
+use Rattle.std.proofs.Common.{sym}
+use Rattle.std.proofs.lemmas.Result.{on_ok_weaker}
+use Rattle.packet_codec.specs.node_state.declared.call.CallLine.TheVariants as call
+use Rattle.node_calls.proofs.group_leading_laws.WorkLaws.{on_ok_both}
+use Rattle.node_core.proofs.StepLaws.{does_by, session_does}
+use Rattle.node_core.proofs.sessions.close_session.Goals as goal
+
+pub returns-clause-does : goal.returns-clause-does
+returns-clause-does g c =
+    on_ok_weaker c.end_step.result
+    (λ both. session_does _ _ c.args.core.now c.take_goodbye.new.core c.end_step.new.core (call.Goodbye c.args.client.now) (rw c.clear.ensures at c.in_ok-take_goodbye.ensures.row) (rw (c.in_ok-take_goodbye.ensures.clients, c.clear.ensures) at (does_by _ _ _ _ _ _ (sym both.0) both.1)))
+    (on_ok_both _ _ c.end_step.result c.end_step.ensures.scripts c.end_step.ensures.does)

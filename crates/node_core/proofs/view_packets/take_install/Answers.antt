@@ -1,0 +1,9 @@
+-- It is the install that was read.
+use Rattle.node_views.specs.view_core.Steps.{view_stepped}
+use Rattle.node_views.specs.view_core.Steps as steps
+use Rattle.packet_codec.specs.node_state.Step.{view_row}
+use Rattle.node_core.proofs.view_packets.take_install.Goals as goal
+
+pub returns-clause-does : goal.returns-clause-does
+unfolding view_row view_stepped steps.view_row
+returns-clause-does g c = rw c.in_ok-install.ensures at c.take_view.ensures.does

@@ -1,0 +1,292 @@
+//! The packets of the groups of a view: each is used in its view alone.
+ghost use Rattle.std.specs.Prelude.{◌≡◌, IfOk, OnOk, option_copied};
+ghost use Rattle.node_calls.specs.session_clients.Clients.{KeepsScripts};
+ghost use Rattle.packet_codec.specs.rsct_packet.Text.{IsName};
+ghost use Rattle.packet_codec.specs.rsct_packet.Ids.{is_member};
+ghost use Rattle.packet_codec.specs.rsct_packet.Format.{OptionFits};
+ghost use Rattle.packet_codec.specs.rsct_packet.Fields.{AreShort};
+ghost use Rattle.node_views.specs.proposal_core.ProposalCodec.{IsProposal};
+ghost use Rattle.packet_codec.specs.group_codec.InPlace.{proposal_in};
+ghost use Rattle.node_views.specs.proposal_core.EntryCodec.{IsEntry};
+ghost use Rattle.packet_codec.specs.group_codec.InPlace.{entry_in};
+ghost use Rattle.node_calls.specs.entry_delivery.Doing.{RowDoes};
+ghost use Rattle.node_text.specs.node_groups.Keeps.{Keeps};
+ghost use Rattle.node_calls.specs.group_leading.Working.{AtWork};
+ghost use Rattle.packet_codec.specs.node_state.Following.{take_lookup, take_name, take_request, take_tell, take_entry, take_ack, take_vote, take_gone};
+ghost use Rattle.packet_codec.specs.node_state.Step.{is_used, used_if};
+ghost use Rattle.packet_codec.specs.InPlace.{packet_in};
+
+use group_requests::group_members::{take_entry, take_lookup, take_name, take_tell};
+use group_requests::{take_ack, take_gone, take_request, take_vote};
+use node_start::node_sending::is_frozen;
+use node_views::group_attr::Phases;
+use node_views::proposal_core::{Vote, optional_text_of};
+use packet_codec::PacketRef;
+use packet_codec::client_callbacks::{Callbacks, Why};
+use packet_codec::group_codec::{EntryRef, ProposalRef};
+use packet_codec::node_state::Core;
+use packet_codec::packet_bodies::{Ack, Gone, GroupRef, Leader};
+use packet_codec::rsct_packet::{Member, Name, NoMemory, ProtoId, ProviderId, ViewId};
+use std::alloc::Global;
+
+/// Is the node a member, in this incarnation?
+fn is_member(members: &[Member], node: u8, inc: u32) -> bool
+    ensures { result ≡ is_member members.now node inc }
+{
+    members.iter().any(|m| m.node == node && m.inc == inc)
+}
+
+/// Is a packet of this view used?
+#[tactic(auto, unfolding(crate::proofs::Below::is_used))]
+fn is_used(core: &Core, packet: &PacketRef<'_>, view: ViewId) -> bool
+    ensures { result ≡ is_used core.now (packet_in packet.now) view }
+{
+    view == core.views.view
+        && packet.level == core.sessions.level
+        && (packet.level == 1 || packet.domain == core.config.domain)
+        && !is_frozen(core)
+        && is_member(core.views.members.as_slice(), packet.from, packet.inc)
+}
+
+/// The name of a packet's group.
+fn name_of(alloc: Global, group: &GroupRef<'_>) -> Result<Name, NoMemory>
+    requires { IsName group.now.name }
+    ensures { IfOk result (λ n. n ≡ group.now.name) }
+{
+    Ok(Name::of(alloc, group.name())?.unwrap())
+}
+
+/// LOOKUP.
+#[tactic(auto, unfolding(crate::proofs::Below::used_if), using(crate::proofs::Below::keeps_itself))]
+pub fn take_lookup_packet(
+    core: &mut Core,
+    alloc: Global,
+    packet: &PacketRef<'_>,
+    group: &GroupRef<'_>,
+) -> Result<(), NoMemory>
+    requires name { IsName group.now.name }
+    ensures row { OnOk result (core.new ≡ used_if core.old
+        (take_lookup core.old packet.now.from group.now.name)
+        (is_used core.old (packet_in packet.now) group.now.view)) }
+    ensures keeps { OnOk result (Keeps core.old core.new) }
+{
+    if !is_used(core, packet, group.view()) {
+        return Ok(());
+    }
+    let name = name_of(alloc, group)?;
+    take_lookup(core, alloc, packet.from, &name)
+}
+
+/// NAME.
+pub fn take_name_packet<C: Callbacks>(
+    core: &mut Core,
+    clients: &mut Vec<C>,
+    alloc: Global,
+    packet: &PacketRef<'_>,
+    leader: &Leader<'_>,
+) -> Result<(), NoMemory>
+    requires name { IsName leader.now.group.name }
+    requires work { AtWork core.old clients.old.items }
+    ensures work { OnOk result (AtWork core.new clients.new.items) }
+    ensures scripts { OnOk result (KeepsScripts C.script clients.old.items clients.new.items) }
+    ensures does { OnOk result (RowDoes C.script C.stands_for clients.old.items clients.new.items
+        core.old core.new (λ f. used_if core.old (take_name core.old leader.now.group.name
+        leader.now.leader) (is_used core.old (packet_in packet.now) leader.now.group.view))) }
+{
+    if !is_used(core, packet, leader.group.view()) {
+        return Ok(());
+    }
+    let name = name_of(alloc, &leader.group)?;
+    take_name(core, clients, alloc, &name, leader.leader)
+}
+
+/// REQUEST.
+pub fn take_request_packet<C: Callbacks>(
+    core: &mut Core,
+    clients: &mut Vec<C>,
+    alloc: Global,
+    packet: &PacketRef<'_>,
+    group: &GroupRef<'_>,
+    by: ProviderId,
+    request: u32,
+    phases: Phases,
+    proposal: &ProposalRef<'_>,
+) -> Result<(), NoMemory>
+    requires name { IsName group.now.name }
+    requires proposal { IsProposal (proposal_in proposal.now) }
+    requires work { AtWork core.old clients.old.items }
+    ensures work { OnOk result (AtWork core.new clients.new.items) }
+    ensures scripts { OnOk result (KeepsScripts C.script clients.old.items clients.new.items) }
+    ensures does { OnOk result (RowDoes C.script C.stands_for clients.old.items clients.new.items
+        core.old core.new (λ f. used_if core.old (take_request f core.old packet.now.from
+        group.now.name by request phases (proposal_in proposal.now))
+        (is_used core.old (packet_in packet.now) group.now.view))) }
+{
+    if !is_used(core, packet, group.view()) {
+        return Ok(());
+    }
+    let name = name_of(alloc, group)?;
+    let own = proposal.own(alloc)?;
+    take_request(
+        core,
+        clients,
+        alloc,
+        packet.from,
+        &name,
+        by,
+        request,
+        phases,
+        &own,
+    )
+}
+
+/// TELL.
+pub fn take_tell_packet<C: Callbacks>(
+    core: &mut Core,
+    clients: &mut Vec<C>,
+    alloc: Global,
+    packet: &PacketRef<'_>,
+    group: &GroupRef<'_>,
+    by: ProviderId,
+    request: u32,
+    why: Why,
+) -> Result<(), NoMemory>
+    requires work { AtWork core.old clients.old.items }
+    ensures work { OnOk result (AtWork core.new clients.new.items) }
+    ensures scripts { OnOk result (KeepsScripts C.script clients.old.items clients.new.items) }
+    ensures does { OnOk result (RowDoes C.script C.stands_for clients.old.items clients.new.items
+        core.old core.new (λ f. used_if core.old (take_tell core.old by request why)
+        (is_used core.old (packet_in packet.now) group.now.view))) }
+{
+    if !is_used(core, packet, group.view()) {
+        return Ok(());
+    }
+    take_tell(core, clients, alloc, by, request, why)
+}
+
+/// ENTRY.
+pub fn take_entry_packet<C: Callbacks>(
+    core: &mut Core,
+    clients: &mut Vec<C>,
+    alloc: Global,
+    packet: &PacketRef<'_>,
+    group: &GroupRef<'_>,
+    place: u32,
+    stable: u32,
+    entry: &EntryRef<'_>,
+) -> Result<(), NoMemory>
+    requires name { IsName group.now.name }
+    requires entry { IsEntry (entry_in entry.now) }
+    requires work { AtWork core.old clients.old.items }
+    ensures work { OnOk result (AtWork core.new clients.new.items) }
+    ensures scripts { OnOk result (KeepsScripts C.script clients.old.items clients.new.items) }
+    ensures does { OnOk result (RowDoes C.script C.stands_for clients.old.items clients.new.items
+        core.old core.new (λ f. used_if core.old (take_entry f core.old packet.now.from
+        group.now.name place stable (entry_in entry.now))
+        (is_used core.old (packet_in packet.now) group.now.view))) }
+{
+    if !is_used(core, packet, group.view()) {
+        return Ok(());
+    }
+    let name = name_of(alloc, group)?;
+    let own = entry.own(alloc)?;
+    take_entry(
+        core,
+        clients,
+        alloc,
+        packet.from,
+        &name,
+        place,
+        stable,
+        &own,
+    )
+}
+
+/// ACK.
+#[tactic(auto, unfolding(crate::proofs::Below::used_if), using(crate::proofs::Below::keeps_itself))]
+pub fn take_ack_packet(
+    core: &mut Core,
+    alloc: Global,
+    packet: &PacketRef<'_>,
+    ack: &Ack<'_>,
+) -> Result<(), NoMemory>
+    requires name { IsName ack.now.group.name }
+    ensures row { OnOk result (core.new ≡ used_if core.old
+        (take_ack core.old packet.now.from ack.now.group.name ack.now.len)
+        (is_used core.old (packet_in packet.now) ack.now.group.view)) }
+    ensures keeps { OnOk result (Keeps core.old core.new) }
+{
+    if !is_used(core, packet, ack.group.view()) {
+        return Ok(());
+    }
+    let name = name_of(alloc, &ack.group)?;
+    take_ack(core, alloc, packet.from, &name, ack.len)
+}
+
+/// VOTE.
+pub fn take_vote_packet<C: Callbacks>(
+    core: &mut Core,
+    clients: &mut Vec<C>,
+    alloc: Global,
+    packet: &PacketRef<'_>,
+    group: &GroupRef<'_>,
+    proto: ProtoId,
+    phase: u16,
+    by: ProviderId,
+    vote: Vote,
+    value: Option<&[u8]>,
+    message: Option<&[u8]>,
+) -> Result<(), NoMemory>
+    requires name { IsName group.now.name }
+    requires value { OptionFits AreShort (option_copied value) }
+    requires message { OptionFits AreShort (option_copied message) }
+    requires work { AtWork core.old clients.old.items }
+    ensures work { OnOk result (AtWork core.new clients.new.items) }
+    ensures scripts { OnOk result (KeepsScripts C.script clients.old.items clients.new.items) }
+    ensures does { OnOk result (RowDoes C.script C.stands_for clients.old.items clients.new.items
+        core.old core.new (λ f. used_if core.old (take_vote f core.old group.now.name proto phase by
+        vote (option_copied value.entry) (option_copied message.entry))
+        (is_used core.old (packet_in packet.now) group.now.view))) }
+{
+    if !is_used(core, packet, group.view()) {
+        return Ok(());
+    }
+    let name = name_of(alloc, group)?;
+    let value = optional_text_of(alloc, value)?;
+    let message = optional_text_of(alloc, message)?;
+    take_vote(
+        core,
+        clients,
+        alloc,
+        &name,
+        proto,
+        phase,
+        by,
+        vote,
+        value.as_ref(),
+        message.as_ref(),
+    )
+}
+
+/// GONE.
+pub fn take_gone_packet<C: Callbacks>(
+    core: &mut Core,
+    clients: &mut Vec<C>,
+    alloc: Global,
+    packet: &PacketRef<'_>,
+    gone: &Gone<'_>,
+) -> Result<(), NoMemory>
+    requires name { IsName gone.now.group.name }
+    requires work { AtWork core.old clients.old.items }
+    ensures work { OnOk result (AtWork core.new clients.new.items) }
+    ensures scripts { OnOk result (KeepsScripts C.script clients.old.items clients.new.items) }
+    ensures does { OnOk result (RowDoes C.script C.stands_for clients.old.items clients.new.items
+        core.old core.new (λ f. used_if core.old (take_gone f core.old gone.now.group.name
+        gone.now.p) (is_used core.old (packet_in packet.now) gone.now.group.view))) }
+{
+    if !is_used(core, packet, gone.group.view()) {
+        return Ok(());
+    }
+    let name = name_of(alloc, &gone.group)?;
+    take_gone(core, clients, alloc, &name, gone.p)
+}

@@ -1,0 +1,191 @@
+//! The table of packets: what a node makes of each.
+ghost use Rattle.std.specs.Prelude.{◌≡◌, IfSome, OnOk, option_map};
+ghost use Rattle.node_calls.specs.session_clients.Clients.{KeepsScripts};
+ghost use Rattle.node_calls.specs.entry_delivery.Doing.{RowDoes};
+ghost use Rattle.node_calls.specs.group_leading.Working.{AtWork};
+ghost use Rattle.node_text.specs.node_groups.Keeps.{Keeps};
+ghost use Rattle.packet_codec.specs.node_state.declared.packet.Body.TheVariants as body;
+ghost use Rattle.packet_codec.specs.node_state.Bytes.{packet_of};
+ghost use Rattle.packet_codec.specs.node_state.Sending.{send_on};
+ghost use Rattle.packet_codec.specs.node_state.Status.{status_text};
+ghost use Rattle.packet_codec.specs.node_state.Step.{take_body, packet_row};
+ghost use Rattle.packet_codec.specs.node_state.Ticks.{take_report};
+ghost use Rattle.packet_codec.specs.InPlace.{packet_in};
+ghost use Rattle.node_core.specs.Event.{datagram_row};
+ghost use Rattle.node_core.specs.Parts.{HasParts};
+
+use crate::group_packets::{
+    take_ack_packet, take_entry_packet, take_gone_packet, take_lookup_packet, take_name_packet,
+    take_request_packet, take_tell_packet, take_vote_packet,
+};
+use crate::view_packets::{take_answer, take_install, take_prepare, take_refuse, take_taken};
+use node_start::node_sending::send_on;
+use node_text::status_text;
+use node_views::node_rings::{take_report, take_ring_packet};
+use packet_codec::client_callbacks::Callbacks;
+use packet_codec::node_state::{Body, Core, ReportRow};
+use packet_codec::packet_bodies::Query;
+use packet_codec::rsct_packet::{Listed, NoMemory};
+use packet_codec::{BodyRef, PacketRef};
+use std::alloc::Global;
+
+/// REPORT.
+fn take_report_packet(
+    core: &mut Core,
+    alloc: Global,
+    rows: &Listed<'_, ReportRow>,
+) -> Result<(), NoMemory>
+    ensures row { OnOk result (core.new ≡ take_report core.old rows.now) }
+    ensures keeps { OnOk result (Keeps core.old core.new) }
+{
+    let rows = rows.own(alloc)?;
+    take_report(core, rows.as_slice());
+    Ok(())
+}
+
+/// QUERY: a reply with the status that it asks for.
+#[tactic(auto, using(crate::proofs::StepLaws::sent_on_keeps))]
+fn take_query(
+    core: &mut Core,
+    alloc: Global,
+    packet: &PacketRef<'_>,
+    query: &Query,
+) -> Result<(), NoMemory>
+    ensures row { OnOk result (core.new ≡ send_on core.old packet.now.network packet.now.from
+        (body.Reply query.now.question (status_text core.old query.now.what))) }
+    ensures keeps { OnOk result (Keeps core.old core.new) }
+{
+    let reply = Body::Reply {
+        question: query.question,
+        text: status_text(core, alloc, query.what)?,
+    };
+    send_on(core, packet.network, packet.from, reply)
+}
+
+/// A packet for this node.
+#[tactic(auto, unfolding(crate::proofs::Below::take_body), using(crate::proofs::StepLaws::plain_does, crate::proofs::Below::work_kept))]
+fn take_body<C: Callbacks>(
+    core: &mut Core,
+    clients: &mut Vec<C>,
+    alloc: Global,
+    packet: &PacketRef<'_>,
+) -> Result<(), NoMemory>
+    requires parts { HasParts (packet_in packet.now).body }
+    requires work { AtWork core.old clients.old.items }
+    ensures work { OnOk result (AtWork core.new clients.new.items) }
+    ensures scripts { OnOk result (KeepsScripts C.script clients.old.items clients.new.items) }
+    ensures does { OnOk result (RowDoes C.script C.stands_for clients.old.items clients.new.items
+        core.old core.new (λ f. take_body f core.old (packet_in packet.now)
+        (packet_in packet.now).body)) }
+{
+    match &packet.body {
+        BodyRef::Ring(ring_packet) => {
+            take_ring_packet(
+                core,
+                alloc,
+                packet.network,
+                packet.from,
+                packet.inc,
+                *ring_packet,
+            )
+        }
+        BodyRef::Report(rows) => take_report_packet(core, alloc, rows),
+        BodyRef::Prepare { view, mask } => take_prepare(core, clients, alloc, packet, *view, *mask),
+        BodyRef::Answer { view, answer } => take_answer(
+            core, clients, alloc, packet, *view, answer,
+        ),
+        BodyRef::Refuse { view, number } => {
+            take_refuse(core, clients, alloc, packet, *view, *number)
+        }
+        BodyRef::Install(install) => take_install(core, clients, alloc, packet, install),
+        BodyRef::Taken(view) => take_taken(core, clients, alloc, packet, *view),
+        BodyRef::Lookup(group) => take_lookup_packet(core, alloc, packet, group),
+        BodyRef::Name(x) => take_name_packet(core, clients, alloc, packet, x),
+        BodyRef::Request {
+            group,
+            p: by,
+            r,
+            phases,
+            proposal,
+        } => take_request_packet(
+            core, clients, alloc, packet, group, *by, *r, *phases, proposal,
+        ),
+        BodyRef::Tell {
+            group,
+            p: by,
+            r,
+            why,
+        } => take_tell_packet(core, clients, alloc, packet, group, *by, *r, *why),
+        BodyRef::Entry {
+            group,
+            place,
+            stable,
+            entry,
+        } => take_entry_packet(core, clients, alloc, packet, group, *place, *stable, entry),
+        BodyRef::Ack(x) => take_ack_packet(core, alloc, packet, x),
+        BodyRef::Vote {
+            group,
+            proto,
+            phase,
+            p: by,
+            vote,
+            value,
+            message,
+        } => take_vote_packet(
+            core, clients, alloc, packet, group, *proto, *phase, *by, *vote, *value, *message,
+        ),
+        BodyRef::Gone(x) => take_gone_packet(core, clients, alloc, packet, x),
+        BodyRef::Query(q) => take_query(core, alloc, packet, q),
+        BodyRef::Reply(_) => Ok(()),
+    }
+}
+
+/// A packet: one for another node is dropped.
+#[tactic(auto, unfolding(crate::proofs::Below::packet_row))]
+fn take_packet<C: Callbacks>(
+    core: &mut Core,
+    clients: &mut Vec<C>,
+    alloc: Global,
+    packet: &PacketRef<'_>,
+) -> Result<(), NoMemory>
+    requires parts { HasParts (packet_in packet.now).body }
+    requires work { AtWork core.old clients.old.items }
+    ensures work { OnOk result (AtWork core.new clients.new.items) }
+    ensures scripts { OnOk result (KeepsScripts C.script clients.old.items clients.new.items) }
+    ensures does { OnOk result (RowDoes C.script C.stands_for clients.old.items clients.new.items
+        core.old core.new (λ f. packet_row f core.old (packet_in packet.now))) }
+{
+    if packet.to != core.views.me {
+        return Ok(());
+    }
+    take_body(core, clients, alloc, packet)
+}
+
+/// The packet of a datagram, and what its parts are.
+#[tactic(auto, using(crate::proofs::PartLaws::read_parts))]
+fn packet_read(bytes: &[u8]) -> Option<PacketRef<'_>>
+    ensures value { option_map packet_in result ≡ packet_of bytes.now }
+    ensures parts { IfSome result (λ p. HasParts (packet_in p).body) }
+{
+    PacketRef::read(bytes)
+}
+
+/// A datagram: bytes that are no packet are dropped.
+#[tactic(auto, unfolding(crate::specs::Event::datagram_row))]
+pub fn take_datagram<C: Callbacks>(
+    core: &mut Core,
+    clients: &mut Vec<C>,
+    alloc: Global,
+    bytes: &[u8],
+) -> Result<(), NoMemory>
+    requires work { AtWork core.old clients.old.items }
+    ensures work { OnOk result (AtWork core.new clients.new.items) }
+    ensures scripts { OnOk result (KeepsScripts C.script clients.old.items clients.new.items) }
+    ensures does { OnOk result (RowDoes C.script C.stands_for clients.old.items clients.new.items
+        core.old core.new (λ f. datagram_row f core.old (packet_of bytes.now))) }
+{
+    match packet_read(bytes) {
+        None => Ok(()),
+        Some(p) => take_packet(core, clients, alloc, &p),
+    }
+}

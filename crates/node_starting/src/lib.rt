@@ -1,6 +1,0 @@
-//! What a node is when it starts.
-#![tactic(auto)]
-
-mod starting;
-
-pub use starting::start_core;

@@ -1,3 +1,0 @@
-pub mod StepLaws
-pub mod StartLaws
-pub mod PartLaws

@@ -1,0 +1,58 @@
+-- What a node does at an install that no client answers, and what it is told.
+use Rattle.std.specs.Prelude.{ℕ, true, false, List, [], ◌∷◌, fold, map, Option, Some, None}
+use Rattle.std.specs.Str.{bytes_eq}
+use Rattle.group_leading.specs.rsct_packet.declared.ids.ViewId.{ViewId}
+use Rattle.group_leading.specs.rsct_packet.declared.ids.Member.{Member}
+use Rattle.group_leading.specs.group_attr.Attrs.{host_membership}
+use Rattle.group_leading.specs.proposal_core.Fold.{empty_state}
+use Rattle.group_leading.specs.subscribe_core.declared.subs.Subscription.{Subscription}
+use Rattle.group_leading.specs.client_callbacks.declared.told.Told.TheVariants as told
+use Rattle.group_leading.specs.session_state.declared.state.SessionState.{SessionState}
+use Rattle.group_leading.specs.session_state.State.{client_place}
+use Rattle.group_leading.specs.view_state.declared.install.Install.{Install}
+use Rattle.group_leading.specs.view_state.declared.install.Base.{Base}
+use Rattle.group_leading.specs.view_state.Bases.{base_named}
+use Rattle.group_leading.specs.view_state.declared.packet.ViewSend.{ViewSend}
+use Rattle.group_leading.specs.view_state.declared.views.ViewWork.{ViewWork}
+use Rattle.group_leading.specs.node_state.declared.happened.Happened.{Happened}
+use Rattle.group_leading.specs.node_state.declared.happened.Happened.TheVariants as happened
+use Rattle.group_leading.specs.node_state.declared.packet.Body.TheVariants as body
+use Rattle.group_leading.specs.node_state.declared.state.Core.{Core}
+use Rattle.group_leading.specs.node_state.State.{held_rows}
+use Rattle.group_leading.specs.node_state.Sending.{sent}
+use Rattle.group_leading.specs.node_state.HandOn.{subscriber_name}
+use Rattle.group_leading.specs.node_state.Applying.{view_entered, sides_dissolved, entering_noted, taken_sent, owed_sent}
+use Rattle.group_leading.specs.entry_delivery.Received.{Handing}
+
+-- an event of views is taken: its state stands, and what it sends is sent
+unfoldable pub views_sent : Core → ViewWork → Core
+views_sent s w = fold (λ t (x : ViewSend). sent t x.to (body.View x.packet)) (record s { views = w.views }) w.sends
+
+-- the view is entered, and all is told and sent that comes before leading
+unfoldable pub arrived : Core → Install → List Base → Core
+arrived s i bs = owed_sent (taken_sent (entering_noted (sides_dissolved (view_entered s i bs) (held_rows s) s.views.view bs) bs))
+
+-- the record of a base, at this node in this view
+abbrev pub base_at : ℕ → ViewId → Base → Happened
+base_at n v b = happened.Base n v b.name b.from b.len b.state
+
+-- what a subscription is told of its group's base
+abbrev pub note_at : ℕ → ViewId → SessionState → Subscription → Option Base → List Happened
+note_at n v s u None = []
+note_at n v s u (Some b) = happened.Noted n (subscriber_name s u) v None (told.Note b.name b.state.members b.state.value) ∷ []
+
+-- what it is told at this node in this view with these members
+abbrev pub notes_at : ℕ → ViewId → List Member → SessionState → List Base → Subscription → List Happened
+notes_at n v ms s bs u =
+    elim (bytes_eq u.group host_membership) [
+      | true ↦ happened.Noted n (subscriber_name s u) v None (told.Hosts v ms) ∷ []
+      | false ↦ note_at n v s u (base_named bs u.group)
+    ]
+
+-- what is handed to the client at a place, as a record tells it
+abbrev pub handed_at : Option ℕ → Happened → Handing
+handed_at place r = record { place = place; what = r; after = empty_state }
+
+-- what the client of the subscription is handed
+abbrev pub note_handings : ℕ → ViewId → List Member → SessionState → List Base → Subscription → List Handing
+note_handings n v ms s bs u = map (handed_at (client_place s u.client)) (notes_at n v ms s bs u)

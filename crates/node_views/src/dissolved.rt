@@ -1,0 +1,268 @@
+//! Providers that do not live in the base of their group are dissolved.
+ghost use Rattle.std.specs.Prelude.{◌≡◌, ◌&&◌, ◌∷◌, [], not, length, OnOk, filter, find, is_some, option_copied};
+ghost use Rattle.group_leading.specs.session_clients.Clients.{KeepsScripts};
+ghost use Rattle.std.specs.List.{fold};
+ghost use Rattle.std.specs.Str.{bytes_eq};
+ghost use Rattle.group_leading.specs.proposal_core.Fold.{joiners_in};
+ghost use Rattle.group_leading.specs.client_callbacks.declared.told.Why.TheVariants as why;
+ghost use Rattle.group_leading.specs.session_state.HandOn.{take_telling};
+ghost use Rattle.group_leading.specs.session_state.State.{provider_of, place_of, outstanding, is_asked_by};
+ghost use Rattle.group_leading.specs.view_state.Bases.{base_named};
+ghost use Rattle.group_leading.specs.node_groups.Keeps.{Stays};
+ghost use Rattle.group_leading.specs.entry_delivery.Received.{Receive};
+ghost use Rattle.group_leading.specs.entry_delivery.Doing.{Does, RowDoes};
+ghost use Rattle.group_leading.specs.node_state.declared.happened.Happened.TheVariants as happened;
+ghost use Rattle.node_views.specs.Arriving.{handed_at};
+ghost use Rattle.group_leading.specs.session_state.Calls.{SameSessions};
+ghost use Rattle.group_leading.specs.node_state.Applying.{is_in_base, number_of, dissolved, dissolved_if, group_dissolved, sides_dissolved};
+
+use group_leading::client_callbacks::{Callbacks, Told, Why};
+use group_leading::node_state::{Core, GroupRow, Happened};
+use group_leading::proposal_core::{Proposal, Running};
+use group_leading::rsct_packet::{Name, NoMemory, ProviderId, ViewId, is_among};
+use group_leading::session_clients::tell_at;
+use group_leading::session_delivery::{place_of, take_telling, takes_telling};
+use group_leading::session_state::{Provider, Request, SessionState};
+use group_leading::view_state::Base;
+
+/// The running joiners.
+fn joiners_in(running: &Option<Running>) -> &[ProviderId]
+    ensures { result.now ≡ joiners_in running.now }
+{
+    match running {
+        None => &[],
+        Some(run) => match &run.proposal {
+            Proposal::Join { ps, .. } => ps.as_slice(),
+            _ => &[],
+        },
+    }
+}
+
+/// The base of a group, where it has one.
+#[tactic(auto, unfolding(crate::proofs::Below::base_named))]
+pub(crate) fn base_named<'a>(bases: &'a [Base], group: &[u8]) -> Option<&'a Base>
+    ensures { option_copied result ≡ base_named bases.now group.now }
+{
+    bases.iter().find(|base| base.name.bytes() == group)
+}
+
+/// Does the provider live in the base, which comes from the old view?
+#[tactic(auto, unfolding(crate::proofs::Below::is_in_base), using(crate::proofs::Below::among_both))]
+fn is_in_base(old: ViewId, provider: ProviderId, base: Option<&Base>) -> bool
+    ensures { result ≡ is_in_base old provider (option_copied base.entry) }
+{
+    match base {
+        None => false,
+        Some(base) => {
+            base.from == old
+                && (is_among(base.state.members.as_slice(), provider)
+                    || is_among(joiners_in(&base.state.running), provider))
+        }
+    }
+}
+
+/// Does it take part in the group, and not live in its base?
+fn is_left_out(provider: &Provider, group: &Name, old: ViewId, base: Option<&Base>) -> bool
+    ensures { result ≡ (provider.now.takes_part && bytes_eq provider.now.group group.now
+        && not (is_in_base old provider.now.p (option_copied base.entry))) }
+{
+    provider.takes_part
+        && provider.group.bytes() == group.bytes()
+        && !is_in_base(old, provider.p, base)
+}
+
+/// The outstanding request of a provider.
+fn request_of(requests: &[Request], provider: ProviderId) -> Option<&Request>
+    ensures { option_copied result ≡ find (is_asked_by provider) requests.now }
+{
+    requests.iter().find(|q| q.p == provider)
+}
+
+/// The number of the provider's outstanding request; 0 where it has none.
+#[tactic(auto, unfolding(crate::proofs::Below::outstanding))]
+fn number_of(sessions: &SessionState, provider: ProviderId) -> u32
+    ensures { result ≡ number_of (outstanding sessions.now provider) }
+{
+    match request_of(sessions.requests.as_slice(), provider) {
+        None => 0,
+        Some(q) => q.r,
+    }
+}
+
+/// Tells the client of a provider that it is dissolved, and drops the provider.
+#[tactic(auto, unfolding(crate::proofs::Below::take_telling))]
+fn tell_dissolved<C: Callbacks>(
+    sessions: &mut SessionState,
+    clients: &mut Vec<C>,
+    provider: ProviderId,
+    request: u32,
+) -> Result<(), NoMemory>
+    requires aligned { length clients.old.items ≡ length sessions.old.sessions }
+    ensures length { length clients.new.items ≡ length clients.old.items }
+    ensures scripts { OnOk result (KeepsScripts C.script clients.old.items clients.new.items) }
+    ensures received { OnOk result (Receive C.stands_for clients.old.items clients.new.items
+        (handed_at (place_of sessions.old provider) (happened.Told provider request why.Dissolved)
+        ∷ [])) }
+    ensures state { OnOk result (sessions.new ≡ take_telling sessions.old provider request
+        why.Dissolved) }
+    ensures same { OnOk result (SameSessions sessions.old sessions.new) }
+{
+    let why = Why::Dissolved;
+    if !takes_telling(sessions, provider, request, why) {
+        return Ok(());
+    }
+    tell_at(
+        clients,
+        place_of(sessions, provider),
+        &Told::Refused {
+            p: provider,
+            r: request,
+            why,
+        },
+    )?;
+    take_telling(sessions, provider, why);
+    Ok(())
+}
+
+/// Dissolves a provider, and records it.
+#[tactic(auto, unfolding(crate::proofs::Below::dissolved, crate::proofs::Below::recorded, crate::proofs::Below::with_sessions), using(crate::proofs::ToldLaws::told_stays))]
+fn dissolve<C: Callbacks>(
+    core: &mut Core,
+    clients: &mut Vec<C>,
+    provider: ProviderId,
+    request: u32,
+) -> Result<(), NoMemory>
+    requires aligned { length clients.old.items ≡ length core.old.sessions.sessions }
+    ensures length { length clients.new.items ≡ length clients.old.items }
+    ensures scripts { OnOk result (KeepsScripts C.script clients.old.items clients.new.items) }
+    ensures received { OnOk result (Receive C.stands_for clients.old.items clients.new.items
+        (handed_at (place_of core.old.sessions provider)
+        (happened.Told provider request why.Dissolved) ∷ [])) }
+    ensures row { OnOk result (core.new ≡ dissolved core.old provider request) }
+    ensures stays { OnOk result (Stays core.old core.new) }
+{
+    tell_dissolved(&mut core.sessions, clients, provider, request)?;
+    core.records.push(Happened::Told {
+        p: provider,
+        r: request,
+        why: Why::Dissolved,
+    })
+}
+
+/// Dissolves a provider that takes part in the group and does not live in its base.
+#[tactic(auto, using(crate::proofs::Below::stays_itself))]
+fn dissolve_if<C: Callbacks>(
+    core: &mut Core,
+    clients: &mut Vec<C>,
+    group: &Name,
+    old: ViewId,
+    base: Option<&Base>,
+    provider: ProviderId,
+) -> Result<(), NoMemory>
+    requires aligned { length clients.old.items ≡ length core.old.sessions.sessions }
+    ensures length { length clients.new.items ≡ length clients.old.items }
+    ensures scripts { OnOk result (KeepsScripts C.script clients.old.items clients.new.items) }
+    ensures does { OnOk result (RowDoes C.script C.stands_for clients.old.items clients.new.items
+        core.old core.new (λ f. dissolved_if core.old group.now old (option_copied base.entry)
+        (provider_of core.old.sessions provider))) }
+    ensures stays { OnOk result (Stays core.old core.new) }
+{
+    match core.sessions.providers.get(provider) {
+        None => Ok(()),
+        Some(x) => {
+            if !is_left_out(x, group, old, base) {
+                return Ok(());
+            }
+            let provider = x.p;
+            let r = number_of(&core.sessions, provider);
+            dissolve(core, clients, provider, r)
+        }
+    }
+}
+
+/// Dissolves those of these that take part in the group and do not live in its base.
+fn dissolve_each<C: Callbacks>(
+    core: &mut Core,
+    clients: &mut Vec<C>,
+    group: &Name,
+    old: ViewId,
+    base: Option<&Base>,
+    providers: &[ProviderId],
+) -> Result<(), NoMemory>
+    requires aligned { length clients.old.items ≡ length core.old.sessions.sessions }
+    ensures length { length clients.new.items ≡ length clients.old.items }
+    ensures scripts { OnOk result (KeepsScripts C.script clients.old.items clients.new.items) }
+    ensures does { OnOk result (RowDoes C.script C.stands_for clients.old.items clients.new.items
+        core.old core.new (λ f. fold (λ t p. dissolved_if t group.now old (option_copied base.entry)
+        (provider_of t.sessions p)) core.old providers.now)) }
+    ensures stays { OnOk result (Stays core.old core.new) }
+{
+    for p in providers {
+        dissolve_if(core, clients, group, old, base, *p)?;
+    }
+    Ok(())
+}
+
+/// Dissolves those of a group's list, members and then running joiners, that do not live in the group's base.
+#[tactic(auto, using(crate::proofs::Below::stays_itself, crate::proofs::Below::stays_then))]
+fn dissolve_group<C: Callbacks>(
+    core: &mut Core,
+    clients: &mut Vec<C>,
+    row: &GroupRow,
+    old: ViewId,
+    bases: &[Base],
+) -> Result<(), NoMemory>
+    requires aligned { length clients.old.items ≡ length core.old.sessions.sessions }
+    ensures length { length clients.new.items ≡ length clients.old.items }
+    ensures scripts { OnOk result (KeepsScripts C.script clients.old.items clients.new.items) }
+    ensures does { OnOk result (RowDoes C.script C.stands_for clients.old.items clients.new.items
+        core.old core.new (λ f. fold (group_dissolved old bases.now) core.old
+        (filter (λ x. is_some x.list) (row.now ∷ [])))) }
+    ensures stays { OnOk result (Stays core.old core.new) }
+{
+    match &row.list {
+        None => Ok(()),
+        Some(list) => {
+            let base = base_named(bases, row.name.bytes());
+            let state = list.state();
+            dissolve_each(
+                core,
+                clients,
+                &row.name,
+                old,
+                base,
+                state.members.as_slice(),
+            )?;
+            dissolve_each(
+                core,
+                clients,
+                &row.name,
+                old,
+                base,
+                joiners_in(&state.running),
+            )
+        }
+    }
+}
+
+/// Dissolves, in the order of these rows of the old view, those of their lists that do not live in their bases.
+pub(crate) fn dissolve_sides<C: Callbacks>(
+    core: &mut Core,
+    clients: &mut Vec<C>,
+    rows: &[GroupRow],
+    old: ViewId,
+    bases: &[Base],
+) -> Result<(), NoMemory>
+    requires aligned { length clients.old.items ≡ length core.old.sessions.sessions }
+    ensures length { length clients.new.items ≡ length clients.old.items }
+    ensures scripts { OnOk result (KeepsScripts C.script clients.old.items clients.new.items) }
+    ensures does { OnOk result (RowDoes C.script C.stands_for clients.old.items clients.new.items
+        core.old core.new (λ f. sides_dissolved core.old
+        (filter (λ x. is_some x.list) rows.now) old bases.now)) }
+    ensures stays { OnOk result (Stays core.old core.new) }
+{
+    for row in rows {
+        dissolve_group(core, clients, row, old, bases)?;
+    }
+    Ok(())
+}

@@ -1,0 +1,16 @@
+//! Views of a node: their packets, and how one is entered.
+#![tactic(auto)]
+
+mod bases;
+mod dissolved;
+mod entry;
+mod led_groups;
+mod missing_entries;
+mod notes;
+mod own_lists;
+mod packets;
+
+pub use group_leading::{group_attr, proposal_core};
+pub use node_rings;
+pub use packets::{take_order, take_view, tick_views};
+pub use view_core;

@@ -1,0 +1,111 @@
+//! What the rows of views make of a node.
+ghost use Rattle.std.specs.Prelude.{◌≡◌, OnOk, IfOk};
+ghost use Rattle.group_leading.specs.session_clients.Clients.{KeepsScripts};
+ghost use Rattle.std.specs.List.{fold};
+ghost use Rattle.group_leading.specs.entry_delivery.Doing.{RowDoes};
+ghost use Rattle.group_leading.specs.Working.{AtWork};
+ghost use Rattle.view_core.specs.Steps.{view_stepped};
+ghost use Rattle.group_leading.specs.view_state.declared.packet.ViewSend.{ViewSend};
+ghost use Rattle.group_leading.specs.node_state.declared.packet.Body.TheVariants as body;
+ghost use Rattle.group_leading.specs.node_state.Sending.{sent};
+ghost use Rattle.group_leading.specs.node_state.Applying.{own_parts, views_taken};
+ghost use Rattle.group_leading.specs.node_state.Step.{take_order};
+ghost use Rattle.group_leading.specs.node_state.Ticks.{tick_views};
+ghost use Rattle.node_views.specs.Arriving.{views_sent};
+
+use crate::entry::apply;
+use crate::own_lists::RowLists;
+use group_leading::client_callbacks::Callbacks;
+use group_leading::node_sending::{is_fixed, send};
+use group_leading::node_state::{Body, Core};
+use group_leading::rsct_packet::{Mask, NoMemory};
+use group_leading::view_state::{Install, ViewSend, ViewSends};
+use node_rings::ring_ask;
+use std::alloc::Global;
+use view_core::{ViewEvent, ViewOut};
+
+/// Sends what an event of views sends.
+#[tactic(auto, using(std::proofs::lemmas::Grind::common_steps))]
+fn send_each(core: &mut Core, sends: ViewSends) -> Result<(), NoMemory>
+    ensures { OnOk result (core.new ≡ fold (λ t (x : ViewSend). sent t x.to (body.View x.packet))
+        core.old sends) }
+{
+    for ViewSend { to, packet } in sends.into_items() {
+        send(core, to, Body::View { packet })?;
+    }
+    Ok(())
+}
+
+/// Takes an event of views, and gives the install that is to be applied.
+#[tactic(auto, unfolding(crate::specs::Arriving::views_sent, crate::proofs::Below::own_parts, crate::proofs::Below::held_rows))]
+fn step(core: &mut Core, alloc: Global, event: ViewEvent<'_>) -> Result<Option<Install>, NoMemory>
+    ensures install { IfOk result (λ o. o ≡ (view_stepped core.old.views event.entry
+        (own_parts core.old)).install) }
+    ensures row { OnOk result (core.new ≡ views_sent core.old
+        (view_stepped core.old.views event.entry (own_parts core.old))) }
+{
+    let mut out = ViewOut::new(alloc);
+    let lists = RowLists {
+        rows: core.groups.rows.as_slice(),
+    };
+    view_core::take_event(&mut core.views, alloc, event, &lists, &mut out)?;
+    let ViewOut { sends, install } = out;
+    send_each(core, sends)?;
+    Ok(install)
+}
+
+/// What the rows of views make of an order, of a tick or of PREPARE, ANSWER, REFUSE, INSTALL or TAKEN; an install that follows is entered.
+pub fn take_view<C: Callbacks>(
+    core: &mut Core,
+    clients: &mut Vec<C>,
+    alloc: Global,
+    event: ViewEvent<'_>,
+) -> Result<(), NoMemory>
+    requires work { AtWork core.old clients.old.items }
+    ensures work { OnOk result (AtWork core.new clients.new.items) }
+    ensures scripts { OnOk result (KeepsScripts C.script clients.old.items clients.new.items) }
+    ensures does { OnOk result (RowDoes C.script C.stands_for clients.old.items clients.new.items
+        core.old core.new (λ f. views_taken f core.old
+        (view_stepped core.old.views event.entry (own_parts core.old)))) }
+{
+    match step(core, alloc, event)? {
+        None => Ok(()),
+        Some(i) => apply(core, clients, alloc, i),
+    }
+}
+
+/// An order to ask for a view of these nodes; in mode fixed it does nothing.
+pub fn take_order<C: Callbacks>(
+    core: &mut Core,
+    clients: &mut Vec<C>,
+    alloc: Global,
+    mask: Mask,
+) -> Result<(), NoMemory>
+    requires work { AtWork core.old clients.old.items }
+    ensures work { OnOk result (AtWork core.new clients.new.items) }
+    ensures scripts { OnOk result (KeepsScripts C.script clients.old.items clients.new.items) }
+    ensures does { OnOk result (RowDoes C.script C.stands_for clients.old.items clients.new.items
+        core.old core.new (λ f. take_order f core.old mask)) }
+{
+    if is_fixed(core.config.mode) {
+        return Ok(());
+    }
+    take_view(core, clients, alloc, ViewEvent::Ask { mask })
+}
+
+/// The part of a tick on views: asking, or PREPARE again; then INSTALL again.
+pub fn tick_views<C: Callbacks>(
+    core: &mut Core,
+    clients: &mut Vec<C>,
+    alloc: Global,
+) -> Result<(), NoMemory>
+    requires work { AtWork core.old clients.old.items }
+    ensures work { OnOk result (AtWork core.new clients.new.items) }
+    ensures scripts { OnOk result (KeepsScripts C.script clients.old.items clients.new.items) }
+    ensures does { OnOk result (RowDoes C.script C.stands_for clients.old.items clients.new.items
+        core.old core.new (λ f. tick_views f core.old)) }
+{
+    let ring_ask = ring_ask(core);
+    take_view(core, clients, alloc, ViewEvent::Tick { ring_ask })?;
+    take_view(core, clients, alloc, ViewEvent::Remind)
+}

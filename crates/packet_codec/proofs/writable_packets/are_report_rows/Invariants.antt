@@ -1,0 +1,10 @@
+use Rattle.std.proofs.Common.{◌≡◌, length, map}
+use Rattle.node_state.specs.rsct_packet.Listed.{ascending_from}
+use Rattle.node_state.specs.packet_bodies.Body.{are_report_rows}
+use Rattle.packet_codec.proofs.writable_packets.are_report_rows.Given as goal
+
+abbrev pub invariant-loop-row : goal.invariant-loop-row
+invariant-loop-row l = are_report_rows l.rows ≡ ascending_from l.last (map (λ r. r.node) l.left)
+
+abbrev pub decreases-loop-row : goal.decreases-loop-row
+decreases-loop-row l = length l.left

@@ -1,0 +1,305 @@
+//! States, lists and installs that have a spelling.
+ghost use Rattle.std.specs.Prelude.{◌≡◌, IsTrue, length, option_copied};
+ghost use Rattle.std.specs.List.{list_all};
+ghost use Rattle.node_state.specs.rsct_packet.Format.{EachFits, OptionFits};
+ghost use Rattle.node_state.specs.rsct_packet.Fields.{IsMember, IsProto, AreShort};
+ghost use Rattle.node_state.specs.proposal_core.Fold.{present, joiners_fit};
+ghost use Rattle.node_state.specs.rsct_packet.Providers.{among};
+ghost use Rattle.node_state.specs.proposal_core.StateCodec.{IsRunning, IsState, failed_are_present};
+ghost use Rattle.node_state.specs.view_state.Codec.{is_after, names_ascend, IsSizedEntry, IsPart, IsParts, views_ascend, is_after_view, IsSource, has_member, comes_from, comes_once, each_comes_once, members_ascend, IsInstall};
+
+use crate::writable_entries::{are_attrs, is_proposal, is_sized_entry};
+use crate::writable_ids::{
+    are_providers, is_mask, is_member, is_optional_text, is_proto, is_text, is_view,
+};
+use node_state::proposal_core::{Entry, GroupState, Proposal, Running};
+use node_state::rsct_packet::{
+    MAX_PROVIDERS, Member, ProtoId, ProviderId, ViewId, is_among, is_none_among,
+};
+use node_state::view_state::{Install, Part, Source};
+
+/// How many parts, members or sources a list has at most.
+const MAX_PARTS: usize = 255;
+
+/// How long a list is at most.
+const LAST_LEN: u128 = 4_294_967_295;
+
+/// The last phase of a protocol.
+const LAST_PHASE: u16 = 200;
+
+/// The nodes.
+const NODES: [u8; 32] = [
+    1, 2, 3, 4, 5, 6, 7, 8, 9, 10, 11, 12, 13, 14, 15, 16, 17, 18, 19, 20, 21, 22, 23, 24, 25, 26,
+    27, 28, 29, 30, 31, 32,
+];
+
+fn is_optional_proto(proto: Option<ProtoId>) -> bool
+    ensures { IsTrue result → OptionFits IsProto proto }
+{
+    match proto {
+        None => true,
+        Some(proto) => is_proto(proto),
+    }
+}
+
+/// Has what runs a spelling?
+fn is_running(run: &Running) -> bool
+    ensures { IsTrue result → IsRunning run.now }
+{
+    is_proto(run.proto)
+        && run.phase >= 1
+        && run.phase <= LAST_PHASE
+        && is_proposal(&run.proposal)
+        && is_optional_text(&run.proposed)
+}
+
+fn is_optional_running(run: &Option<Running>) -> bool
+    ensures { IsTrue result → OptionFits IsRunning run.now }
+{
+    match run {
+        None => true,
+        Some(run) => is_running(run),
+    }
+}
+
+/// Are the running joiners no members, and with the members at most 64?
+#[tactic(auto, unfolding(crate::proofs::Below::joiners_fit, crate::proofs::Below::joiners_fit_at, crate::proofs::Below::can_begin))]
+fn do_joiners_fit(state: &GroupState) -> bool
+    ensures { result ≡ joiners_fit state.now }
+{
+    match &state.running {
+        None => true,
+        Some(run) => match &run.proposal {
+            Proposal::Join { ps, .. } => {
+                is_none_among(state.members.as_slice(), ps.as_slice())
+                    && ps.as_slice().len() <= MAX_PROVIDERS
+                    && state.members.as_slice().len() <= MAX_PROVIDERS - ps.as_slice().len()
+            }
+            _ => true,
+        },
+    }
+}
+
+/// Is the provider a member or a running joiner?
+#[tactic(auto, unfolding(crate::proofs::Below::present))]
+fn is_present(state: &GroupState, provider: ProviderId) -> bool
+    ensures { result ≡ among (present state.now) provider }
+{
+    if is_among(state.members.as_slice(), provider) {
+        return true;
+    }
+    match &state.running {
+        None => false,
+        Some(run) => match &run.proposal {
+            Proposal::Join { ps, .. } => is_among(ps.as_slice(), provider),
+            _ => false,
+        },
+    }
+}
+
+/// Are the failed members or running joiners?
+#[tactic(auto, unfolding(crate::proofs::Below::failed_are_present))]
+fn are_failed_present(state: &GroupState) -> bool
+    ensures { result ≡ failed_are_present state.now }
+{
+    state
+        .failed
+        .as_slice()
+        .iter()
+        .all(|p| is_present(state, *p))
+}
+
+/// Has the state a spelling?
+fn is_state(state: &GroupState) -> bool
+    ensures { IsTrue result → IsState state.now }
+{
+    are_providers(&state.members)
+        && is_text(&state.value)
+        && are_attrs(&state.attrs)
+        && are_providers(&state.failed)
+        && is_optional_proto(state.value_at)
+        && is_optional_proto(state.reflected_at)
+        && is_optional_running(&state.running)
+        && do_joiners_fit(state)
+        && are_failed_present(state)
+}
+
+fn are_entries(entries: &[Entry]) -> bool
+    ensures { IsTrue result → EachFits IsSizedEntry entries.now }
+{
+    entries.iter().all(|e| is_sized_entry(e))
+}
+
+/// Has the list a spelling?
+fn is_part(part: &Part) -> bool
+    ensures { IsTrue result → IsPart part.now }
+{
+    !part.name.bytes().is_empty()
+        && part.len() <= LAST_LEN
+        && is_state(&part.state)
+        && are_entries(part.entries.as_slice())
+}
+
+fn is_each_part(parts: &[Part]) -> bool
+    ensures { IsTrue result → EachFits IsPart parts.now }
+{
+    let mut left = parts;
+    while let Some((p, rest)) = left.split_first() {
+        if !is_part(p) {
+            return false;
+        }
+        left = rest;
+    }
+    true
+}
+
+fn is_after(last: Option<&[u8]>, name: &[u8]) -> bool
+    ensures { result ≡ is_after (option_copied last.entry) name.now }
+{
+    match last {
+        None => true,
+        Some(last) => last.cmp(name).is_lt(),
+    }
+}
+
+/// Do the names ascend?
+fn do_names_ascend(parts: &[Part]) -> bool
+    ensures { result ≡ names_ascend parts.now }
+{
+    let mut left = parts;
+    let mut last: Option<&[u8]> = None;
+    while let Some((p, rest)) = left.split_first() {
+        if !is_after(last, p.name.bytes()) {
+            return false;
+        }
+        last = Some(p.name.bytes());
+        left = rest;
+    }
+    true
+}
+
+/// Have the lists a spelling?
+pub fn are_parts(parts: &[Part]) -> bool
+    ensures { IsTrue result → IsParts parts.now }
+{
+    parts.len() <= MAX_PARTS && is_each_part(parts) && do_names_ascend(parts)
+}
+
+fn is_source(source: &Source) -> bool
+    ensures { IsTrue result → IsSource source.now }
+{
+    is_view(source.view) && is_mask(source.nodes) && are_parts(source.parts.as_slice())
+}
+
+fn are_sources(sources: &[Source]) -> bool
+    ensures { IsTrue result → EachFits IsSource sources.now }
+{
+    let mut left = sources;
+    while let Some((s, rest)) = left.split_first() {
+        if !is_source(s) {
+            return false;
+        }
+        left = rest;
+    }
+    true
+}
+
+fn are_members(members: &[Member]) -> bool
+    ensures { IsTrue result → EachFits IsMember members.now }
+{
+    members.iter().all(|m| is_member(*m))
+}
+
+/// Do the members' nodes ascend?
+fn do_members_ascend(members: &[Member]) -> bool
+    ensures { result ≡ members_ascend members.now }
+{
+    let mut left = members;
+    let mut last: u8 = 0;
+    while let Some((m, rest)) = left.split_first() {
+        if m.node <= last {
+            return false;
+        }
+        last = m.node;
+        left = rest;
+    }
+    true
+}
+
+fn is_after_view(last: Option<ViewId>, view: ViewId) -> bool
+    ensures { result ≡ is_after_view last view }
+{
+    match last {
+        None => true,
+        Some(last) => last < view,
+    }
+}
+
+/// Do the sources' views ascend?
+fn do_views_ascend(sources: &[Source]) -> bool
+    ensures { result ≡ views_ascend sources.now }
+{
+    let mut left = sources;
+    let mut last: Option<ViewId> = None;
+    while let Some((s, rest)) = left.split_first() {
+        if !is_after_view(last, s.view) {
+            return false;
+        }
+        last = Some(s.view);
+        left = rest;
+    }
+    true
+}
+
+/// Does the node come from just one of them, or where it is not wanted from none?
+fn does_come(wanted: bool, sources: &[Source], node: u8) -> bool
+    ensures { result ≡ comes_from wanted sources.now node }
+{
+    let mut wanted = wanted;
+    let mut left = sources;
+    while let Some((s, rest)) = left.split_first() {
+        if s.nodes.has(node) {
+            if !wanted {
+                return false;
+            }
+            wanted = false;
+        }
+        left = rest;
+    }
+    !wanted
+}
+
+fn has_member(members: &[Member], node: u8) -> bool
+    ensures { result ≡ has_member members.now node }
+{
+    members.iter().any(|m| m.node == node)
+}
+
+fn comes_once(members: &[Member], sources: &[Source], node: u8) -> bool
+    ensures { result ≡ comes_once members.now sources.now node }
+{
+    does_come(has_member(members, node), sources, node)
+}
+
+#[tactic(auto, unfolding(crate::proofs::Below::each_comes_once))]
+fn does_each_come_once(members: &[Member], sources: &[Source]) -> bool
+    ensures { result ≡ each_comes_once members.now sources.now }
+{
+    NODES.iter().all(|n| comes_once(members, sources, *n))
+}
+
+/// Has the install a spelling?
+pub fn is_install(install: &Install) -> bool
+    ensures { IsTrue result → IsInstall install.now }
+{
+    let ms = install.members.as_slice();
+    let ss = install.sources.as_slice();
+    is_view(install.view)
+        && ms.len() <= MAX_PARTS
+        && are_members(ms)
+        && ss.len() <= MAX_PARTS
+        && are_sources(ss)
+        && do_members_ascend(ms)
+        && do_views_ascend(ss)
+        && does_each_come_once(ms, ss)
+}

@@ -1,0 +1,15 @@
+-- One thing more that a client was handed.
+use Rattle.std.proofs.Common.{◌≡◌, ℕ, List, [], ◌∷◌, ◌++◌, refl, ap}
+use Rattle.hags_cli.specs.client_callbacks.declared.told.Told.{Told}
+use Rattle.hags_cli.specs.client_callbacks.Handed.{Handed, NoticeView, Notified, Informed}
+use Rattle.program_tests.specs.Clients.{places_heard}
+
+pub heard_more : (hs : List Handed) (n : NoticeView) → places_heard (hs ++ Notified n ∷ []) ≡ places_heard hs ++ n.place ∷ []
+heard_more [] n = refl
+heard_more (Notified m ∷ hs) n = ap (λ (xs : List ℕ). m.place ∷ xs) (heard_more hs n)
+heard_more (Informed t ∷ hs) n = heard_more hs n
+
+pub told_more : (hs : List Handed) (t : Told) → places_heard (hs ++ Informed t ∷ []) ≡ places_heard hs
+told_more [] t = refl
+told_more (Notified m ∷ hs) t = ap (λ (xs : List ℕ). m.place ∷ xs) (told_more hs t)
+told_more (Informed u ∷ hs) t = told_more hs t

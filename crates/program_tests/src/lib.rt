@@ -1,0 +1,10 @@
+//! Tests of plays and of the top call: clients of a kind of their own, the limit on what packets keep, and whole scripts in
+//! memory with their transcripts, statuses and faults.
+#![tactic(auto)]
+
+#[cfg(test)]
+mod clients;
+#[cfg(test)]
+mod limits;
+#[cfg(test)]
+mod runs;

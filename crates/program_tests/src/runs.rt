@@ -1,0 +1,128 @@
+//! Runs of the whole program over sources and sinks in memory, with their statuses and faults.
+use hags_cli::hags;
+use hags_cli::hags_io::{MemSink, MemSource};
+use std::alloc::{AllocError, Global};
+use std::test::Fail;
+
+const ONE_JOIN: &[u8] =
+    b"mode fixed\nnode 1\nbegin\nclient 1 a A\njoin a db 7\nflow\nshow 1 hagsgr\n";
+
+const ONE_JOIN_TRANSCRIPT: &[u8] =
+    b"up 1 1\nin 1 1.1.1 1.1\nasked 1.1.7.1 1 db join\nput 1 1.1.1 db 0 once join 1.1.7.1\nheard 1.1.7.1 1.1.1 db 0 once-join 1.1.7.1 =\nshow 1 hagsgr db leader=1 len=1 members=1.1.7.1 value=\n";
+
+/// A source with this script, which fails at these calls.
+fn source(alloc: Global, script: &[u8], fail: &[u32]) -> Result<MemSource, AllocError> {
+    let bytes = Vec::from_slice(alloc, script)?;
+    let fail = Vec::from_slice(alloc, fail)?;
+    Ok(MemSource::new(bytes, fail))
+}
+
+/// A sink that fails at these calls.
+fn sink(alloc: Global, fail: &[u32]) -> Result<MemSink, AllocError> {
+    Ok(MemSink::new(alloc, Vec::from_slice(alloc, fail)?))
+}
+
+/// The words `run`.
+fn run_words(alloc: Global) -> Result<Vec<String>, AllocError> {
+    let mut words = Vec::new(alloc);
+    words.push(String::from_str(alloc, "run")?)?;
+    Ok(words)
+}
+
+/// What a run over these objects wrote on out, with its status. Its err always fails, which changes nothing.
+fn ran(
+    alloc: Global,
+    script: &[u8],
+    takes: &[u32],
+    puts: &[u32],
+) -> Result<(u8, MemSink), AllocError> {
+    let words = run_words(alloc)?;
+    let mut input = source(alloc, script, takes)?;
+    let mut out = sink(alloc, puts)?;
+    let mut err = sink(alloc, &[1])?;
+    let status = hags(alloc, words.as_slice(), &mut input, &mut out, &mut err);
+    Ok((status, out))
+}
+
+/// What a call with these words said on err, with its status.
+fn said(alloc: Global, words: &[String], script: &[u8]) -> Result<(u8, MemSink), AllocError> {
+    let mut input = source(alloc, script, &[])?;
+    let mut out = sink(alloc, &[])?;
+    let mut err = sink(alloc, &[])?;
+    let status = hags(alloc, words, &mut input, &mut out, &mut err);
+    Ok((status, err))
+}
+
+/// Whether the script gives this transcript.
+fn gives(alloc: Global, script: &[u8], transcript: &[u8]) -> Result<bool, AllocError> {
+    let (status, out) = ran(alloc, script, &[], &[])?;
+    Ok(status == 0 && out.held() == transcript)
+}
+
+fn count_lines(text: &[u8]) -> usize {
+    text.iter().filter(|b| **b == b'\n').count()
+}
+
+#[test]
+fn one_join(rt: HostRuntime) -> Result<(), Fail> {
+    let alloc = rt.alloc();
+    assert!(rt; gives(alloc, ONE_JOIN, ONE_JOIN_TRANSCRIPT)?);
+    let words = run_words(alloc)?;
+    let (status, err) = said(alloc, words.as_slice(), ONE_JOIN)?;
+    assert_eq!(rt; status, 0);
+    assert!(rt; err.held().is_empty());
+    Ok(())
+}
+
+#[test]
+fn the_empty_input_writes_nothing(rt: HostRuntime) -> Result<(), Fail> {
+    assert!(rt; gives(rt.alloc(), b"", b"")?);
+    Ok(())
+}
+
+#[test]
+fn each_failing_take_is_a_read_fault(rt: HostRuntime) -> Result<(), Fail> {
+    for call in 1..=2 {
+        let (status, out) = ran(rt.alloc(), ONE_JOIN, &[call], &[])?;
+        assert_eq!(rt; status, 4);
+        assert!(rt; out.held().is_empty());
+    }
+    let (status, _out) = ran(rt.alloc(), ONE_JOIN, &[3], &[])?;
+    assert_eq!(rt; status, 0);
+    Ok(())
+}
+
+#[test]
+fn each_failing_put_is_a_write_fault(rt: HostRuntime) -> Result<(), Fail> {
+    for (call, whole) in [(1, 0), (2, 1), (3, 2), (4, 3), (5, 4), (6, 5)] {
+        let (status, out) = ran(rt.alloc(), ONE_JOIN, &[], &[call])?;
+        assert_eq!(rt; status, 5);
+        assert!(rt; ONE_JOIN_TRANSCRIPT.starts_with(out.held()));
+        assert_eq!(rt; count_lines(out.held()), whole);
+    }
+    let (status, _out) = ran(rt.alloc(), ONE_JOIN, &[], &[7])?;
+    assert_eq!(rt; status, 0);
+    Ok(())
+}
+
+#[test]
+fn a_bad_line_is_named(rt: HostRuntime) -> Result<(), Fail> {
+    let alloc = rt.alloc();
+    let script = b"mode fixed\nnode 1\nbegin\njoi a db 1\n".as_slice();
+    let words = run_words(alloc)?;
+    let (status, err) = said(alloc, words.as_slice(), script)?;
+    assert_eq!(rt; status, 2);
+    assert!(rt; err.held() == b"hags: line 4: unknown word\n".as_slice());
+    let (status, out) = ran(alloc, script, &[], &[])?;
+    assert_eq!(rt; status, 2);
+    assert!(rt; out.held().is_empty());
+    Ok(())
+}
+
+#[test]
+fn other_words_are_told_the_usage(rt: HostRuntime) -> Result<(), Fail> {
+    let (status, err) = said(rt.alloc(), &[], ONE_JOIN)?;
+    assert_eq!(rt; status, 1);
+    assert!(rt; err.held().starts_with(b"hags: usage: hags run ".as_slice()));
+    Ok(())
+}

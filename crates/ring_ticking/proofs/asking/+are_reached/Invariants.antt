@@ -1,6 +1,0 @@
--- The numbers that are left.
-use Rattle.std.proofs.Common.{length}
-use Rattle.ring_ticking.proofs.asking.+are_reached.Given as goal
-
-abbrev pub decreases-are_reached : goal.decreases-are_reached
-decreases-are_reached l = length l.numbers.now

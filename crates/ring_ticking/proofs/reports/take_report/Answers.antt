@@ -1,6 +1,0 @@
--- Another table of rows.
-use Rattle.ring_ticking.proofs.RingLaws.{keeps_reach}
-use Rattle.ring_ticking.proofs.reports.take_report.Goals as goal
-
-pub returns-clause-keeps : goal.returns-clause-keeps
-returns-clause-keeps c = keeps_reach c.args.core.now _

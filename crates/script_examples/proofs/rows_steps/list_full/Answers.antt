@@ -1,0 +1,7 @@
+use Rattle.std.proofs.Common.{refl}
+use Rattle.script_examples.specs.Opens.{all_opens}
+use Rattle.script_examples.proofs.rows_steps.list_full.Goals as goal
+
+pub returns : goal.returns
+unfolding all_opens
+returns c = refl

@@ -1,5 +1,0 @@
-pub mod ClientLaws
-pub mod EachLaws
-pub mod SaidLaws
-pub mod ReadLaws
-pub mod ScriptLaws

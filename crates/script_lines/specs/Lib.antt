@@ -1,4 +1,0 @@
-pub mod Said
-pub mod Clients
-pub mod Faults
-pub mod Reading

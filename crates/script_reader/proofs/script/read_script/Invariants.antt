@@ -1,0 +1,15 @@
+use Rattle.std.proofs.Common.{◌≡◌, ◌+◌, ◌≤◌, length}
+use Rattle.script_words.specs.world_model.Words.{split_on}
+use Rattle.script_words.specs.world_model.Reading.{read_from, input_limit, script_of}
+use Rattle.script_reader.specs.Reading.{reading_seen}
+use Rattle.script_reader.proofs.script.read_script.Given as goal
+
+abbrev pub invariant-loop-line : goal.invariant-loop-line
+invariant-loop-line l = record {
+  read : read_from (reading_seen l.read) l.number l.place (split_on 10 l.left) ≡ script_of l.bytes;
+  within : l.place ≤ input_limit;
+  numbered : l.number ≤ l.place + 1;
+}
+
+abbrev pub decreases-loop-line : goal.decreases-loop-line
+decreases-loop-line l = length l.left

@@ -1,0 +1,179 @@
+//! Why a line whose words are read is in no script.
+ghost use Rattle.std.specs.Prelude.{◌≡◌, ◌-◌, slice_index};
+ghost use Rattle.std.specs.List.{list_all};
+ghost use Rattle.node_sending.specs.rsct_packet.Mask.{has_node};
+ghost use Rattle.node_sending.specs.node_state.Bytes.{is_packet};
+ghost use Rattle.script_words.specs.world_model.Reading.{nodes_said, is_known_client, event_misplaced, line_misplaced, misplaced, packet_reason, last_reason, reason};
+ghost use Rattle.script_words.specs.world_model.Lines.{SaysBegin};
+ghost use Rattle.script_reader.specs.Said.{said_seen, nodes_seen};
+ghost use Rattle.script_reader.specs.Reading.{reading_seen};
+
+use crate::calls::caller;
+use crate::clients::Clients;
+use crate::networks::{all_share, is_second_adapter};
+use crate::progress::ReadSoFar;
+use crate::said::{ClientVotes, LineNodes, Said};
+use node_sending::node_state::Config;
+use node_sending::rsct_packet::Mask;
+use node_sending::{is_fixed, is_rings};
+use packet_codec::PacketRef;
+use script_words::world_model::{Event, Line, LineWhy};
+
+fn are_nodes(nodes: Mask, named: &[u8]) -> bool
+    ensures { result ≡ list_all (has_node nodes) named.now }
+{
+    named.iter().all(|n| nodes.has(*n))
+}
+
+fn line_nodes_are_known(nodes: Mask, named: &LineNodes) -> bool
+    ensures { result ≡ list_all (has_node nodes) (nodes_seen named.now) }
+{
+    match named {
+        LineNodes::Zero => true,
+        LineNodes::One(node) => nodes.has(*node),
+        LineNodes::Two(a, b) => nodes.has(*a) && nodes.has(*b),
+        LineNodes::More(node, others) => nodes.has(*node) && are_nodes(nodes, others.as_slice()),
+    }
+}
+
+/// Has each node that must be known an earlier line?
+#[tactic(auto, unfolding(crate::proofs::Below::nodes_said))]
+fn nodes_are_known(nodes: Mask, said: &Said) -> bool
+    ensures { result ≡ list_all (has_node nodes) (nodes_said (said_seen said.now)) }
+{
+    match said {
+        Said::Adapter(node, _, _) => nodes.has(*node),
+        Said::Level(node, _) => nodes.has(*node),
+        Said::Line(named, _) => line_nodes_are_known(nodes, named),
+        Said::Client(node, _, _) => nodes.has(*node),
+        _ => true,
+    }
+}
+
+/// Does an earlier line make the client that calls?
+#[tactic(auto, unfolding(crate::proofs::Below::is_known_client))]
+fn client_is_known(clients: &Clients, said: &Said) -> bool
+    ensures { result ≡ is_known_client (said_seen said.now) clients.now }
+{
+    match said {
+        Said::Call(call) => clients.is_known(caller(call)),
+        _ => true,
+    }
+}
+
+#[tactic(auto, unfolding(crate::proofs::Below::event_misplaced))]
+fn event_is_misplaced(config: &Config, event: &Event) -> bool
+    ensures { result ≡ event_misplaced config.now event.now }
+{
+    match event {
+        Event::Start(_) => is_fixed(config.mode),
+        Event::Stop(_) => is_fixed(config.mode),
+        Event::Ask(node, mask) => is_fixed(config.mode)
+            || is_rings(config.mode)
+            || !mask.has(*node),
+        _ => false,
+    }
+}
+
+#[tactic(auto, unfolding(crate::proofs::Below::line_misplaced))]
+fn line_is_misplaced(config: &Config, line: &Line) -> bool
+    ensures { result ≡ line_misplaced config.now line.now }
+{
+    match line {
+        Line::Plain(event) => event_is_misplaced(config, event),
+        _ => false,
+    }
+}
+
+fn level_of(config: &Config, node: u8) -> u32
+    ensures { result ≡ slice_index config.now.level_from (node - 1) }
+{
+    match config.level_from.get(usize::from(node.saturating_sub(1))) {
+        None => 0,
+        Some(inc) => *inc,
+    }
+}
+
+/// Is it a setting after `begin` or for the second time, or an event before it?
+#[tactic(auto, unfolding(crate::proofs::Below::misplaced))]
+fn is_misplaced(read: &ReadSoFar, said: &Said) -> bool
+    ensures { result ≡ misplaced (reading_seen read.now) (said_seen said.now) }
+{
+    match said {
+        Said::Mode(_) => read.begun || read.has_mode,
+        Said::Node(node) => read.begun || read.config.nodes.has(*node),
+        Said::Adapter(node, network, address) => {
+            read.begun || is_second_adapter(&read.config, *node, *network, *address)
+        }
+        Said::Hb(_, _) => read.begun || read.has_hb,
+        Said::Port(_) => read.begun || read.has_port,
+        Said::Level(node, _) => read.begun || level_of(&read.config, *node) > 0,
+        Said::Domain(_) => read.begun || read.has_domain,
+        Said::Begin => read.begun,
+        Said::Line(_, line) => !read.begun || line_is_misplaced(&read.config, line),
+        Said::Client(node, name, _) => !read.begun
+            || read.clients.is_elsewhere(name.as_slice(), *node),
+        Said::Call(_) => !read.begun,
+    }
+}
+
+#[tactic(auto, unfolding(crate::proofs::Below::last_reason))]
+fn network_reason(read: &ReadSoFar) -> Option<LineWhy>
+    ensures { result ≡ last_reason (reading_seen read.now) SaysBegin }
+{
+    if all_share(&read.settled()) {
+        None
+    } else {
+        Some(LineWhy::NoSharedNetwork)
+    }
+}
+
+/// Are these bytes a packet?
+#[tactic(auto, unfolding(crate::proofs::Below::is_packet))]
+fn is_packet(bytes: &[u8]) -> bool
+    ensures { result ≡ is_packet bytes.now }
+{
+    PacketRef::read(bytes).is_some()
+}
+
+#[tactic(auto, unfolding(crate::proofs::Below::packet_reason))]
+fn packet_reason(bytes: &[u8]) -> Option<LineWhy>
+    ensures { result ≡ packet_reason (is_packet bytes.now) }
+{
+    if is_packet(bytes) {
+        Some(LineWhy::IsAPacket)
+    } else {
+        None
+    }
+}
+
+/// The reasons that come last: two nodes without a shared network at `begin`, garbage that is a packet, a client
+/// that a script cannot play.
+#[tactic(auto, unfolding(crate::proofs::Below::last_reason))]
+fn last_reason(read: &ReadSoFar, said: &Said) -> Option<LineWhy>
+    ensures { result ≡ last_reason (reading_seen read.now) (said_seen said.now) }
+{
+    match said {
+        Said::Begin => network_reason(read),
+        Said::Line(_, Line::Plain(Event::Garbage(_, bytes))) => packet_reason(bytes.as_slice()),
+        Said::Client(_, _, ClientVotes::Boxed) => Some(LineWhy::BoxedClient),
+        _ => None,
+    }
+}
+
+/// The first reason after a bad word.
+#[tactic(auto, unfolding(crate::proofs::Below::reason))]
+pub fn reason(read: &ReadSoFar, said: &Said) -> Option<LineWhy>
+    ensures { result ≡ reason (reading_seen read.now) (said_seen said.now) }
+{
+    if !nodes_are_known(read.config.nodes, said) {
+        return Some(LineWhy::UnknownNode);
+    }
+    if !client_is_known(&read.clients, said) {
+        return Some(LineWhy::UnknownClient);
+    }
+    if is_misplaced(read, said) {
+        return Some(LineWhy::OutOfPlace);
+    }
+    last_reason(read, said)
+}

@@ -1,0 +1,188 @@
+//! A script from its bytes, line by line.
+ghost use Rattle.std.specs.Prelude.{◌≡◌, ◌≤◌, ◌∷◌, [], Some, false};
+ghost use Rattle.std.specs.List.{list_any};
+ghost use Rattle.script_words.specs.world_model.Reading.{is_bad_byte, is_comment, is_extra, skipped_line, taken_unless, said_line, counted_line, formed_line, worded_line, read_line, read_from, input_limit, script_of};
+ghost use Rattle.script_words.specs.Heads.{form_seen};
+ghost use Rattle.script_reader.specs.Said.{said_seen};
+ghost use Rattle.script_reader.specs.Reading.{reading_seen, GivesLine, GivesScript};
+
+use crate::faults::{LineFault, ScriptFault};
+use crate::progress::ReadSoFar;
+use crate::reasons::reason;
+use crate::said::{Said, read_said};
+use script_words::world_model::{LineWhy, Script};
+use script_words::{Form, WordFault, Words, cut_at, form_of};
+use std::alloc::Global;
+
+/// How many bytes an input has at most.
+pub const INPUT_LIMIT: usize = 16_777_216;
+
+#[tactic(auto, unfolding(crate::proofs::Below::is_bad_byte))]
+fn is_bad_byte(byte: u8) -> bool
+    ensures { result ≡ is_bad_byte byte }
+{
+    byte < 32 || byte > 126
+}
+
+/// Is there a byte that no line has?
+fn has_bad_byte(line: &[u8]) -> bool
+    ensures { result ≡ list_any is_bad_byte line.now }
+{
+    line.iter().any(|b| is_bad_byte(*b))
+}
+
+#[tactic(auto, unfolding(crate::proofs::Below::is_comment))]
+fn is_comment(line: &[u8]) -> bool
+    ensures { result ≡ is_comment line.now }
+{
+    match line {
+        [] => false,
+        [first, ..] => *first == b'#',
+    }
+}
+
+#[tactic(auto, unfolding(crate::proofs::Below::is_extra))]
+fn is_extra(count: usize, most: Option<usize>) -> bool
+    ensures { result ≡ is_extra count most }
+{
+    match most {
+        None => false,
+        Some(most) => most < count,
+    }
+}
+
+/// Takes a blank line or a comment, which is whole.
+#[tactic(auto, unfolding(crate::proofs::Below::skipped_line))]
+fn skip_line(read: &mut ReadSoFar, whole: bool) -> Result<(), LineFault>
+    ensures { GivesLine result read.new (skipped_line (reading_seen read.old) whole) }
+{
+    if whole {
+        Ok(())
+    } else {
+        Err(LineFault::Bad(LineWhy::MissingWord))
+    }
+}
+
+/// Takes what a line says, unless there is a reason against it.
+#[tactic(auto, unfolding(crate::proofs::Below::said_line, crate::proofs::Below::taken_unless))]
+fn take_said(alloc: Global, read: &mut ReadSoFar, said: Said) -> Result<(), LineFault>
+    ensures { GivesLine result read.new (said_line (reading_seen read.old)
+        (Some (said_seen said))) }
+{
+    if let Some(why) = reason(read, &said) {
+        return Err(LineFault::Bad(why));
+    }
+    read.take(alloc, said)?;
+    Ok(())
+}
+
+/// Takes a line by its head and the words after it.
+#[tactic(auto, unfolding(crate::proofs::Below::counted_line, crate::proofs::Below::said_line))]
+fn counted_line(
+    alloc: Global,
+    read: &mut ReadSoFar,
+    form: Form,
+    words: &mut Words<'_>,
+) -> Result<(), LineFault>
+    ensures { GivesLine result read.new (counted_line (reading_seen read.old)
+        (form_seen form) words.old) }
+{
+    let count = words.len();
+    if count < form.least {
+        return Err(LineFault::Bad(LineWhy::MissingWord));
+    }
+    if is_extra(count, form.most) {
+        return Err(LineFault::Bad(LineWhy::ExtraWord));
+    }
+    match read_said(alloc, form.head, words) {
+        Ok(said) => take_said(alloc, read, said),
+        Err(WordFault::BadWord) => Err(LineFault::Bad(LineWhy::BadWord)),
+        Err(WordFault::NoMemory) => Err(LineFault::NoMemory),
+    }
+}
+
+/// Takes a line of words, if it has any.
+#[tactic(auto, unfolding(crate::proofs::Below::worded_line, crate::proofs::Below::formed_line))]
+fn worded_line(
+    alloc: Global,
+    read: &mut ReadSoFar,
+    whole: bool,
+    words: &mut Words<'_>,
+) -> Result<(), LineFault>
+    ensures { GivesLine result read.new (worded_line (reading_seen read.old) whole words.old) }
+{
+    let Some(first) = words.take() else {
+        return skip_line(read, whole);
+    };
+    let Some(form) = form_of(first) else {
+        return Err(LineFault::Bad(LineWhy::UnknownWord));
+    };
+    if !whole {
+        return Err(LineFault::Bad(LineWhy::MissingWord));
+    }
+    counted_line(alloc, read, form, words)
+}
+
+/// Takes a line within the limit of an input. `whole`: its line feed stands behind it.
+#[tactic(auto, unfolding(crate::proofs::Below::read_line))]
+fn read_line(alloc: Global, read: &mut ReadSoFar, whole: bool, line: &[u8]) -> Result<(), LineFault>
+    ensures { GivesLine result read.new (read_line (reading_seen read.old) whole false line.now) }
+{
+    if has_bad_byte(line) {
+        return Err(LineFault::Bad(LineWhy::BadByte));
+    }
+    if is_comment(line) {
+        return skip_line(read, whole);
+    }
+    let mut words = Words::of(line);
+    worded_line(alloc, read, whole, &mut words)
+}
+
+/// Takes what follows the last line feed, at this place of the input, as the line of this number.
+#[tactic(auto, using(crate::proofs::ScriptLaws::no_line, crate::proofs::ScriptLaws::last_long, crate::proofs::ScriptLaws::last_taken, crate::proofs::ScriptLaws::last_fails))]
+fn read_last(
+    alloc: Global,
+    mut read: ReadSoFar,
+    number: u32,
+    place: usize,
+    line: &[u8],
+) -> Result<Script, ScriptFault>
+    requires { place ≤ input_limit }
+    ensures { GivesScript result (read_from (reading_seen read) number place (line.now ∷ [])) }
+{
+    if line.len() == 0 {
+        return Ok(read.finish());
+    }
+    if place + line.len() > INPUT_LIMIT {
+        return Err(ScriptFault::Line(number, LineWhy::Long));
+    }
+    match read_line(alloc, &mut read, false, line) {
+        Ok(()) => Ok(read.finish()),
+        Err(fault) => Err(fault.at(number)),
+    }
+}
+
+/// The script that the bytes spell. Otherwise the fault is the number of the first line, from 1 on, that is in no
+/// script, and the first reason why, in the order of `LineWhy`; or memory has run out.
+#[tactic(auto, unfolding(crate::proofs::Below::script_of), using(crate::proofs::ScriptLaws::line_long, crate::proofs::ScriptLaws::line_taken, crate::proofs::ScriptLaws::line_fails, crate::proofs::ScriptLaws::last_piece))]
+pub fn read_script(alloc: Global, bytes: &[u8]) -> Result<Script, ScriptFault>
+    ensures { GivesScript result (script_of bytes.now) }
+{
+    let mut read = ReadSoFar::new(alloc);
+    let mut number = 1;
+    let mut place = 0;
+    let mut left = bytes;
+    while let Some((line, after)) = cut_at(b'\n', left) {
+        let end = place + line.len() + 1;
+        if end > INPUT_LIMIT {
+            return Err(ScriptFault::Line(number, LineWhy::Long));
+        }
+        if let Err(fault) = read_line(alloc, &mut read, true, line) {
+            return Err(fault.at(number));
+        }
+        number += 1;
+        place = end;
+        left = after;
+    }
+    read_last(alloc, read, number, place, left)
+}

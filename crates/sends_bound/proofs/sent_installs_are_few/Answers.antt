@@ -1,6 +1,0 @@
--- What stands of any packet, so the law is named here.
-use Rattle.sends_bound.proofs.Law.{installs_few}
-use Rattle.sends_bound.proofs.sent_installs_are_few.Goals as goal
-
-pub returns : goal.returns
-returns c = installs_few

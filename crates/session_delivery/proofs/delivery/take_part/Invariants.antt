@@ -1,0 +1,9 @@
+use Rattle.std.proofs.Common.{◌≡◌, take}
+use Rattle.std.specs.List.{fold}
+use Rattle.session_state.specs.State.{with_provider}
+use Rattle.session_state.specs.HandOn.{taking_part}
+use Rattle.session_state.specs.Calls.{SameSessions}
+use Rattle.session_delivery.proofs.delivery.take_part.Given as goal
+
+abbrev pub invariant-loop-p : goal.invariant-loop-p
+invariant-loop-p l = record { state : l.sessions ≡ fold (λ t p. with_provider t p taking_part) l.initial.sessions (take l.p-index l.providers); same : SameSessions l.initial.sessions l.sessions }

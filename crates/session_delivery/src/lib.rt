@@ -1,0 +1,11 @@
+//! What an entry that is handed on makes of a node's sessions: who hears it, which ballots are kept, which requests end,
+//! and who is told that a request was refused.
+#![tactic(auto)]
+
+mod delivery;
+mod places;
+
+pub use delivery::{beginners, hear, hearers, is_live, outstanding, take_telling, takes_telling};
+pub use places::{client_place, place_of};
+pub use session_state;
+pub use session_state::{client_callbacks, group_attr, proposal_core, rsct_packet, subscribe_core};

@@ -1,0 +1,48 @@
+//! Where clients stand, and whose providers are.
+ghost use Rattle.std.specs.Prelude.{◌≡◌, ◌<◌, length, IfSome};
+ghost use Rattle.session_state.specs.rsct_packet.Search.{place_where};
+ghost use Rattle.session_state.specs.State.{is_session, client_place, place_of};
+
+use session_state::rsct_packet::ProviderId;
+use session_state::subscribe_core::ClientToken;
+use session_state::{Session, SessionState};
+
+#[tactic(auto, using(crate::proofs::Below::place_search))]
+fn place_alone(rows: &[Session], client: ClientToken) -> Option<usize>
+    ensures { result ≡ place_where (is_session client) rows.now }
+{
+    for (i, row) in rows.iter().enumerate() {
+        if row.token == client {
+            return Some(i);
+        }
+    }
+    None
+}
+
+#[tactic(auto, using(crate::proofs::Below::place_is_in))]
+fn place(rows: &[Session], client: ClientToken) -> Option<usize>
+    ensures value { result ≡ place_where (is_session client) rows.now }
+    ensures within { IfSome result (λ i. i < length rows.now) }
+{
+    place_alone(rows, client)
+}
+
+/// The place of a client's session.
+pub fn client_place(sessions: &SessionState, client: ClientToken) -> Option<usize>
+    ensures value { result ≡ client_place sessions.now client }
+    ensures within { IfSome result (λ i. i < length sessions.now.sessions) }
+{
+    place(sessions.sessions.as_slice(), client)
+}
+
+/// The place of the client that has the provider.
+#[tactic(auto, unfolding(session_state::specs::State::place_of, session_state::specs::State::provider_of))]
+pub fn place_of(sessions: &SessionState, provider: ProviderId) -> Option<usize>
+    ensures value { result ≡ place_of sessions.now provider }
+    ensures within { IfSome result (λ i. i < length sessions.now.sessions) }
+{
+    match sessions.providers.get(provider) {
+        None => None,
+        Some(x) => client_place(sessions, x.client),
+    }
+}

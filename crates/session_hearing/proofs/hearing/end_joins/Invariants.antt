@@ -1,8 +1,0 @@
-use Rattle.std.proofs.Common.{◌≡◌, take}
-use Rattle.std.specs.List.{fold}
-use Rattle.session_state.specs.State.{request_ended}
-use Rattle.session_state.specs.Calls.{SameSessions}
-use Rattle.session_hearing.proofs.hearing.end_joins.Given as goal
-
-abbrev pub invariant-loop-p : goal.invariant-loop-p
-invariant-loop-p l = record { state : l.sessions ≡ fold (λ t p. request_ended t p p.join) l.initial.sessions (take l.p-index l.ps); same : SameSessions l.initial.sessions l.sessions }

@@ -1,9 +1,0 @@
-use Rattle.std.proofs.Common.{◌≡◌, take}
-use Rattle.std.specs.List.{fold}
-use Rattle.session_state.specs.State.{with_provider}
-use Rattle.session_state.specs.HandOn.{opened_after}
-use Rattle.session_state.specs.Calls.{SameSessions}
-use Rattle.session_hearing.proofs.hearing.open_phases.Given as goal
-
-abbrev pub invariant-loop-p : goal.invariant-loop-p
-invariant-loop-p l = record { state : l.sessions ≡ fold (λ t p. with_provider t p (opened_after l.n.entry.now l.n.after.now)) l.initial.sessions (take l.p-index l.ps); same : SameSessions l.initial.sessions l.sessions }

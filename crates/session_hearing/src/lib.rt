@@ -1,9 +1,0 @@
-//! What an entry that is handed on makes of a node's sessions: who hears it, which ballots are kept, which requests end,
-//! and who is told that a request was refused.
-#![tactic(auto)]
-
-mod hearing;
-mod places;
-
-pub use hearing::{beginners, hear, hearers, is_live, outstanding, take_telling, takes_telling};
-pub use places::{client_place, place_of};

@@ -1,4 +1,0 @@
-pub mod Ghost
-pub mod Tied
-pub mod Rows
-pub mod Runs

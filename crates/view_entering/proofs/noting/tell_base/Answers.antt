@@ -1,6 +1,0 @@
--- Nothing is told of a group that has no base.
-use Rattle.entry_handing.proofs.DoingLaws.{receive_nothing}
-use Rattle.view_entering.proofs.noting.tell_base.Goals as goal
-
-pub returns-in-None-clause-received : goal.returns-in-None-clause-received
-returns-in-None-clause-received g c = let none = rw c.as_slice.ensures at c.in-None.ensures in rw (← none) (receive_nothing _ _)

@@ -1,3 +1,0 @@
-pub mod Arriving
-pub mod Carried
-pub mod Filling

@@ -1,7 +1,0 @@
-use Rattle.std.proofs.Common.{refl}
-use Rattle.worked_scripts.specs.Opens.{all_opens}
-use Rattle.worked_scripts.proofs.rows_steps.load_of_one.Goals as goal
-
-pub returns : goal.returns
-unfolding all_opens
-returns c = refl

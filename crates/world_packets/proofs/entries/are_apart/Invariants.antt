@@ -1,9 +1,0 @@
-use Rattle.std.proofs.Common.{◌≡◌, length}
-use Rattle.proposal_core.specs.ProposalCodec.{failures_differ}
-use Rattle.world_packets.proofs.entries.are_apart.Given as goal
-
-abbrev pub invariant-loop-f : goal.invariant-loop-f
-invariant-loop-f l = failures_differ l.fs ≡ failures_differ l.left
-
-abbrev pub decreases-loop-f : goal.decreases-loop-f
-decreases-loop-f l = length l.left

@@ -1,9 +1,0 @@
-use Rattle.std.proofs.Common.{◌≡◌, length}
-use Rattle.view_state.specs.Codec.{comes_from}
-use Rattle.world_packets.proofs.lists.does_come.Given as goal
-
-abbrev pub invariant-loop-s : goal.invariant-loop-s
-invariant-loop-s l = comes_from l.fn.wanted l.ss l.node ≡ comes_from l.wanted l.left l.node
-
-abbrev pub decreases-loop-s : goal.decreases-loop-s
-decreases-loop-s l = length l.left

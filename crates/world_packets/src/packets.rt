@@ -1,0 +1,156 @@
+//! What is kept of the packets of a world.
+ghost use Rattle.std.specs.Prelude.{◌≡◌, ◌++◌, ◌∷◌, [], IfOk, OnOk, filter, not, option_copied, drop};
+ghost use Rattle.world_model.specs.rsct_packet.Search.{place_where};
+ghost use Rattle.world_model.specs.rsct_packet.Lists.{drop_where};
+ghost use Rattle.world_model.specs.node_state.Bytes.{packet_len};
+ghost use Rattle.world_model.specs.World.{kth_in, pairs_with};
+ghost use Rattle.world_packets.specs.Packets.{world_pairs, find_pair, is_waiting, is_between, waits_next, first_of};
+
+use crate::Datagram;
+use crate::pairs::{Pair, add, kth};
+use crate::waiting::Waiting;
+use std::alloc::Global;
+use std::collections::VecDeque;
+use std::marker::Model;
+use std::mem;
+use world_model::node_state::Packet;
+use world_model::rsct_packet::NoMemory;
+
+/// All packets of a world, by pairs of nodes, and those that wait to be given, in the order of sending.
+#[derive(Drop)]
+pub struct WorldPackets {
+    pairs: Vec<Pair>,
+    waiting: VecDeque<Waiting>,
+}
+
+impl Model for WorldPackets {
+    ghost use Rattle.world_packets.specs.Packets.{Kept};
+
+    ghost Value = { Kept };
+
+    ghost view = { λ w. record { pairs = w.pairs.items; waiting = w.waiting.items } };
+}
+
+/// Is it the k-th packet of these two nodes?
+fn is_waiting(waiting: &Waiting, from: u8, to: u8, number: u32) -> bool
+    ensures { result ≡ is_waiting from to number waiting.now }
+{
+    waiting.k == number && waiting.from == from && waiting.to == to
+}
+
+/// Is it between these two nodes?
+fn is_between(waiting: &Waiting, from: u8, to: u8) -> bool
+    ensures { result ≡ is_between from to waiting.now }
+{
+    waiting.from == from && waiting.to == to
+}
+
+/// The place of the k-th packet of two nodes among those that wait.
+#[tactic(auto, using(crate::proofs::Below::place_begins, crate::proofs::WaitLaws::place_here, crate::proofs::WaitLaws::place_on, crate::proofs::WaitLaws::place_past, std::proofs::lemmas::Option::slice_get_within))]
+fn place_of(waiting: &VecDeque<Waiting>, from: u8, to: u8, number: u32) -> Option<usize>
+    ensures { result ≡ place_where (is_waiting from to number) waiting.now.items }
+{
+    let mut i: usize = 0;
+    while let Some(x) = waiting.get(i) {
+        if is_waiting(x, from, to, number) {
+            return Some(i);
+        }
+        i += 1;
+    }
+    None
+}
+
+/// What waits between other nodes.
+fn elsewhere(
+    alloc: Global,
+    waiting: VecDeque<Waiting>,
+    from: u8,
+    to: u8,
+) -> Result<VecDeque<Waiting>, NoMemory>
+    ensures { IfOk result (λ kept. kept.items ≡ filter
+        (λ x. not (is_between from to x)) waiting.items) }
+{
+    let mut left = waiting;
+    let mut kept = VecDeque::new(alloc);
+    while let Some(x) = left.pop_front() {
+        if !is_between(&x, from, to) {
+            kept.push_back(x)?;
+        }
+    }
+    Ok(kept)
+}
+
+impl WorldPackets {
+    /// No packets.
+    pub fn new(alloc: Global) -> WorldPackets
+        ensures { result ≡ record { pairs = []; waiting = [] } }
+    {
+        WorldPackets {
+            pairs: Vec::new(alloc),
+            waiting: VecDeque::new(alloc),
+        }
+    }
+
+    /// Sends a packet; answers how many bytes it has.
+    pub fn send(&mut self, alloc: Global, packet: &Packet) -> Result<usize, NoMemory>
+        ensures pairs { OnOk result (world_pairs self.new.pairs
+            ≡ pairs_with packet.now (world_pairs self.old.pairs)) }
+        ensures waiting { OnOk result (self.new.waiting
+            ≡ self.old.waiting ++ waits_next (world_pairs self.old.pairs) packet.now ∷ []) }
+        ensures len { IfOk result (λ n. n ≡ packet_len packet.now) }
+    {
+        let d = Datagram::of(alloc, packet)?;
+        let len = d.len();
+        let k = add(&mut self.pairs, alloc, packet.from, packet.to, d)?;
+        self.waiting.push_back(Waiting {
+            from: packet.from,
+            to: packet.to,
+            k,
+            network: packet.network,
+        })?;
+        Ok(len)
+    }
+
+    /// The k-th packet ever sent from one node to another, from 1 on.
+    pub fn kth(&self, from: u8, to: u8, number: u32) -> Option<&Datagram>
+        ensures { option_copied result ≡ kth_in number
+            (find_pair from to (world_pairs self.now.pairs)) }
+    {
+        kth(self.pairs.as_slice(), from, to, number)
+    }
+
+    /// The packet that waits longest.
+    pub fn first(&self) -> Option<Waiting>
+        ensures { result ≡ first_of self.now.waiting }
+    {
+        self.waiting.front().copied()
+    }
+
+    /// The packet that waits longest waits no more.
+    pub fn skip_first(&mut self)
+        ensures { self.new ≡ record self.old { waiting = drop 1 self.old.waiting } }
+    {
+        let _ = self.waiting.pop_front();
+    }
+
+    /// The k-th packet of two nodes waits no more.
+    #[tactic(auto, using(crate::proofs::WaitLaws::removed_at_place, crate::proofs::WaitLaws::none_removed, std::proofs::lemmas::Grind::common_steps))]
+    pub fn take(&mut self, from: u8, to: u8, number: u32)
+        ensures { self.new ≡ record self.old { waiting = drop_where
+            (is_waiting from to number) self.old.waiting } }
+    {
+        if let Some(i) = place_of(&self.waiting, from, to, number) {
+            let _ = self.waiting.remove(i);
+        }
+    }
+
+    /// What waits between two nodes is lost.
+    pub fn lose(&mut self, alloc: Global, from: u8, to: u8) -> Result<(), NoMemory>
+        ensures { OnOk result (self.new ≡ record self.old { waiting = filter
+            (λ x. not (is_between from to x)) self.old.waiting }) }
+    {
+        let waiting = mem::replace(&mut self.waiting, VecDeque::new(alloc));
+        self.waiting = elsewhere(alloc, waiting, from, to)?;
+        Ok(())
+    }
+}
