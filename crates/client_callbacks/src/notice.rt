@@ -38,8 +38,8 @@ pub trait Callbacks: Drop {
         ensures stands { (h : List Handed) → stands_for self.old h
             → OnOk result (stands_for self.new (h ++ Notified (notice_of notice.now) ∷ [])) }
         ensures script { OnOk result (script self.new ≡ script self.old) }
-        ensures fills { OnOk result (Fills (script self.old) notice.now.after.now ballot.old
-            ballot.new) }
+        ensures fills { OnOk result
+            (Fills (script self.old) notice.now.after.now ballot.old ballot.new) }
         ensures ballot { (ballot.new.votes ≡ ballot.old.votes)
             × (ballot.new.level ≡ ballot.old.level) };
 

@@ -77,8 +77,8 @@ impl<C: Callbacks> Sessions<C> {
         before: &GroupState,
         after: &GroupState,
     ) -> Result<Tokens, NoMemory>
-        ensures { IfOk result (λ l. l ≡ notes_of group.now before.now after.now
-            self.now.state.subs) }
+        ensures { IfOk result
+            (λ l. l ≡ notes_of group.now before.now after.now self.now.state.subs) }
     {
         self.state().subs.notes(alloc, group, before, after)
     }

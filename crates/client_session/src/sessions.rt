@@ -296,8 +296,8 @@ impl<C: Callbacks> Sessions<C> {
     pub fn tell(&mut self, provider: ProviderId, request: u32, why: Why) -> Result<bool, NoMemory>
         ensures answer { IfOk result (λ b. b ≡ takes_telling self.old.state provider request why) }
         ensures untaken { IfOk result (λ b. b ≡ false → self.new ≡ self.old) }
-        ensures state { OnOk result (self.new.state
-            ≡ take_telling self.old.state provider request why) }
+        ensures state { OnOk result
+            (self.new.state ≡ take_telling self.old.state provider request why) }
         ensures stand { (hs : List (List Handed)) → StandFor C.stands_for self.old.clients hs
             → OnOk result (StandFor C.stands_for self.new.clients
             (told_lists self.old.state provider request why hs)) }

@@ -116,8 +116,8 @@ fn wait_join(
 ) -> Result<(), NoMemory>
     requires order { InNameOrder core.old.groups }
     requires free { added_as provider [] (led_of core.old group.now).waiting ≡ Queued }
-    ensures { OnOk result (core.new ≡ wait_join core.old group.now provider request attrs.now
-        idle) }
+    ensures { OnOk result
+        (core.new ≡ wait_join core.old group.now provider request attrs.now idle) }
 {
     keep_decision(core, alloc, group, provider, request, None)?;
     let i = open(&mut core.groups, alloc, group)?;

@@ -35,8 +35,8 @@ fn attrs_for(
     state: &GroupState,
     providers: &[ProviderId],
 ) -> Result<Attrs, NoMemory>
-    ensures { IfOk result (λ a. a ≡ attrs_for state.now
-        (led_of core.now group.now).join_attrs providers.now) }
+    ensures { IfOk result
+        (λ a. a ≡ attrs_for state.now (led_of core.now group.now).join_attrs providers.now) }
 {
     match providers {
         [] => state.attrs.copy(alloc),

@@ -41,8 +41,8 @@ fn late_in(
 /// The entry that announces who passes the limit in this tick, if any do.
 #[tactic(auto, unfolding(crate::specs::LateVotes::late_entry, crate::proofs::Below::state_of, crate::proofs::Below::list_of), using(crate::proofs::TickLaws::late_missing, std::proofs::lemmas::Grind::common_steps))]
 fn late_entry(core: &Core, alloc: Global, group: &Name) -> Result<Option<Entry>, NoMemory>
-    ensures { IfOk result (λ e. e ≡ late_entry core.now group.now
-        (led_of core.now group.now).tally) }
+    ensures { IfOk result
+        (λ e. e ≡ late_entry core.now group.now (led_of core.now group.now).tally) }
 {
     let Some(tally) = tally_of(core, group.bytes()) else {
         return Ok(None);

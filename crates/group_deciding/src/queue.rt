@@ -24,8 +24,8 @@ pub(crate) fn is_duplicate(
     provider: ProviderId,
     present: &[ProviderId],
 ) -> bool
-    ensures { result ≡ has_instance (present.now ++ (led_of core.now group.now).waiting.joins)
-        provider }
+    ensures { result
+        ≡ has_instance (present.now ++ (led_of core.now group.now).waiting.joins) provider }
 {
     match led_of(core, group) {
         None => Waiting::new().is_duplicate(provider, present),

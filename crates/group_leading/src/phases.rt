@@ -90,8 +90,8 @@ fn close_if_fits<C: Callbacks>(
     entry: &Entry,
 ) -> Result<bool, NoMemory>
     requires { AtWork core.old clients.old.items }
-    ensures next { IfOk result (λ b. b ≡ (fits_at_end core.old group.now entry.now
-        && is_phase entry.now)) }
+    ensures next { IfOk result
+        (λ b. b ≡ (fits_at_end core.old group.now entry.now && is_phase entry.now)) }
     ensures work { OnOk result (AtWork core.new clients.new.items) }
     ensures scripts { OnOk result (KeepsScripts C.script clients.old.items clients.new.items) }
     ensures does { OnOk result (RowDoes C.script C.stands_for clients.old.items clients.new.items
@@ -112,8 +112,8 @@ fn close_one<C: Callbacks>(
     group: &Name,
 ) -> Result<bool, NoMemory>
     requires { AtWork core.old clients.old.items }
-    ensures next { IfOk result (λ b. b ≡ goes_on core.old group.now
-        (next_closing core.old group.now)) }
+    ensures next { IfOk result
+        (λ b. b ≡ goes_on core.old group.now (next_closing core.old group.now)) }
     ensures work { OnOk result (AtWork core.new clients.new.items) }
     ensures scripts { OnOk result (KeepsScripts C.script clients.old.items clients.new.items) }
     ensures does { OnOk result (RowDoes C.script C.stands_for clients.old.items clients.new.items

@@ -125,8 +125,8 @@ pub fn wait_failure(
     provider: ProviderId,
     cause: Cause,
 ) -> Result<(), NoMemory>
-    ensures row { OnOk result (core.new ≡ with_waiting core.old group.now
-        (add_failure provider cause)) }
+    ensures row { OnOk result
+        (core.new ≡ with_waiting core.old group.now (add_failure provider cause)) }
     ensures keeps { OnOk result (Keeps core.old core.new) }
 {
     edits::wait_failure(&mut core.groups, alloc, group, provider, cause)

@@ -91,8 +91,8 @@ pub fn join_attrs_of<'a>(
     group: &[u8],
     provider: ProviderId,
 ) -> Option<&'a JoinAttrs>
-    ensures { option_copied result ≡ find (are_attrs_of provider)
-        (led_of core.now group.now).join_attrs }
+    ensures { option_copied result
+        ≡ find (are_attrs_of provider) (led_of core.now group.now).join_attrs }
 {
     match led_of(core, group) {
         None => None,

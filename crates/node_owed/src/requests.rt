@@ -84,8 +84,8 @@ pub fn send_requests(core: &mut Core, alloc: Global) -> Result<(), NoMemory>
 
 /// Sends each outstanding request in the group, in order of number.
 pub fn send_requests_of(core: &mut Core, alloc: Global, group: &[u8]) -> Result<(), NoMemory>
-    ensures row { OnOk result (core.new ≡ fold send_request core.old
-        (requests_of core.old group.now)) }
+    ensures row { OnOk result
+        (core.new ≡ fold send_request core.old (requests_of core.old group.now)) }
     ensures keeps { OnOk result (Keeps core.old core.new) }
 {
     let requests = mem::replace(&mut core.sessions.requests, List::new(alloc));

@@ -63,8 +63,8 @@ pub fn has_adapter(config: &Config, node: u8, network: u8) -> bool
 
 /// Have both nodes an adapter on the network?
 fn joins(config: &Config, first: u8, second: u8, network: u8) -> bool
-    ensures { result ≡ (has_adapter config.now first network
-        && has_adapter config.now second network) }
+    ensures { result
+        ≡ (has_adapter config.now first network && has_adapter config.now second network) }
 {
     has_adapter(config, first, network) && has_adapter(config, second, network)
 }

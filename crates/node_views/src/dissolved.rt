@@ -103,8 +103,8 @@ fn tell_dissolved<C: Callbacks>(
     ensures received { OnOk result (Receive C.stands_for clients.old.items clients.new.items
         (handed_at (place_of sessions.old provider) (happened.Told provider request why.Dissolved)
         ∷ [])) }
-    ensures state { OnOk result (sessions.new ≡ take_telling sessions.old provider request
-        why.Dissolved) }
+    ensures state { OnOk result
+        (sessions.new ≡ take_telling sessions.old provider request why.Dissolved) }
     ensures same { OnOk result (SameSessions sessions.old sessions.new) }
 {
     let why = Why::Dissolved;

@@ -248,8 +248,8 @@ impl GroupState {
         value: &Option<Text>,
     ) -> Result<(), NoMemory>
         requires { IsTrue (joiners_fit self.old) }
-        ensures ok { OnOk result (self.new ≡ approve self.old view place value.now
-            self.old.running) }
+        ensures ok { OnOk result
+            (self.new ≡ approve self.old view place value.now self.old.running) }
         ensures err { OnErr result (self.new ≡ self.old) }
     {
         let value = copy_text(alloc, value)?;

@@ -139,8 +139,8 @@ pub fn notify<C: Callbacks>(
         entry.now.after.now providers.now hs)) }
     ensures scripts { OnOk result (KeepsScripts C.script clients.old.items clients.new.items) }
     ensures length { length clients.new.items ≡ length clients.old.items }
-    ensures others { KeepsAllBut (hears_at state.now providers.now) clients.old.items
-        clients.new.items }
+    ensures others { KeepsAllBut
+        (hears_at state.now providers.now) clients.old.items clients.new.items }
     ensures casts { OnOk result ((bs : List (Option Filled))
         × Fillings (map C.script clients.old.items) state.now entry.now.entry.now
         entry.now.after.now providers.now bs × (casts.new

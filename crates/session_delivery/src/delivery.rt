@@ -232,8 +232,8 @@ fn add_hearers(
     providers: &[ProviderId],
     out: &mut List<ProviderId>,
 ) -> Result<(), NoMemory>
-    ensures { OnOk result (out.new ≡ out.old ++ hearers_in sessions.now group.now part
-        providers.now) }
+    ensures { OnOk result
+        (out.new ≡ out.old ++ hearers_in sessions.now group.now part providers.now) }
 {
     for p in providers {
         if hears(sessions, group, part, *p) {
@@ -308,8 +308,8 @@ fn note_for(sessions: &mut SessionState, provider: ProviderId, entry: &NewEntry<
 /// Opens or closes the phases of those that were handed the entry.
 #[tactic(auto, unfolding(session_state::specs::HandOn::open_phases), using(std::proofs::lemmas::List::Sums::fold_more))]
 fn open_phases(sessions: &mut SessionState, entry: &NewEntry<'_>, providers: &[ProviderId])
-    ensures state { sessions.new ≡ open_phases sessions.old entry.now.entry.now entry.now.after.now
-        providers.now }
+    ensures state { sessions.new
+        ≡ open_phases sessions.old entry.now.entry.now entry.now.after.now providers.now }
     ensures same { SameSessions sessions.old sessions.new }
 {
     for p in providers {

@@ -91,8 +91,8 @@ fn put_asked(
     provider: ProviderId,
     request: u32,
 ) -> Result<(), NoMemory>
-    ensures { OnOk result (out.new.items ≡ out.old.items
-        ++ (label.now ++ asker_text provider request)) }
+    ensures { OnOk result
+        (out.new.items ≡ out.old.items ++ (label.now ++ asker_text provider request)) }
 {
     put_text(out, label)?;
     put_asker(alloc, out, provider, request)

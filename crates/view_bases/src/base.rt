@@ -118,8 +118,8 @@ fn best_in<'a>(
 
 #[tactic(auto, using(crate::proofs::Winning::candidates_taken, crate::proofs::Winning::none_yet, crate::proofs::Winning::best_is, std::proofs::lemmas::Grind::common_steps))]
 fn best_alone<'a>(install: &'a Install, group: &[u8]) -> Option<Winner<'a>>
-    ensures { option_map winner_in result ≡ best_of beats
-        (candidates install.now group.now install.now.sources) }
+    ensures { option_map winner_in result
+        ≡ best_of beats (candidates install.now group.now install.now.sources) }
 {
     let mut best = None;
     for source in install.sources.as_slice() {
@@ -177,8 +177,8 @@ fn failed(
 #[tactic(auto, unfolding(view_state::specs::Bases::base_from))]
 fn base_from(install: &Install, alloc: Global, winner: &Winner) -> Result<Base, NoMemory>
     requires { IsTail winner.now.part.now }
-    ensures { IfOk result (λ b. b ≡ base_from install.now winner.now.part.now.name
-        (winner_in winner.now)) }
+    ensures { IfOk result
+        (λ b. b ≡ base_from install.now winner.now.part.now.name (winner_in winner.now)) }
 {
     let failed = failed(install, alloc, winner.source, &winner.part.state)?;
     let leader = first_not_in(

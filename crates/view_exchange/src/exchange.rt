@@ -51,8 +51,8 @@ fn take(
     inc: u32,
     answer: &AnswerRef,
 ) -> Result<(), NoMemory>
-    ensures { OnOk result (exchange.new ≡ with_answer exchange.old
-        (answer_in node inc answer.now)) }
+    ensures { OnOk result
+        (exchange.new ≡ with_answer exchange.old (answer_in node inc answer.now)) }
 {
     exchange.members = with_member(alloc, &exchange.members, Member { node, inc })?;
     take_answer(&mut exchange.sides, alloc, node, inc, answer)
@@ -70,8 +70,8 @@ pub fn add_answer(
     answer: &AnswerRef,
 ) -> Result<bool, NoMemory>
     ensures counts { IfOk result (λ b. b ≡ may_answer exchange.old node) }
-    ensures added { IfOk result (λ b. exchange.new
-        ≡ add_answer exchange.old (answer_in node inc answer.now) b) }
+    ensures added { IfOk result
+        (λ b. exchange.new ≡ add_answer exchange.old (answer_in node inc answer.now) b) }
     ensures tails { KeepsTails exchange.old → EachFits IsTail answer.now.parts
         → IfOk result (λ _. KeepsTails exchange.new) }
 {

@@ -201,8 +201,8 @@ fn take_among(
     inc: u32,
     answer: &AnswerRef,
 ) -> Result<(), NoMemory>
-    ensures { OnOk result (sides.new.items ≡ with_side sides.old.items
-        (answer_in node inc answer.now)) }
+    ensures { OnOk result
+        (sides.new.items ≡ with_side sides.old.items (answer_in node inc answer.now)) }
 {
     match side_place(sides.as_slice(), answer.view) {
         Some(i) => take_into(&mut sides[i], alloc, node, inc, answer),

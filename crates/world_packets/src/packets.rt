@@ -113,8 +113,8 @@ impl WorldPackets {
 
     /// The k-th packet ever sent from one node to another, from 1 on.
     pub fn kth(&self, from: u8, to: u8, number: u32) -> Option<&Datagram>
-        ensures { option_copied result ≡ kth_in number
-            (find_pair from to (world_pairs self.now.pairs)) }
+        ensures { option_copied result
+            ≡ kth_in number (find_pair from to (world_pairs self.now.pairs)) }
     {
         kth(self.pairs.as_slice(), from, to, number)
     }
