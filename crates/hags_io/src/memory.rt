@@ -9,7 +9,7 @@ use std::alloc::Global;
 use std::marker::Model;
 
 /// Does the list name this call?
-fn is_listed(fail: &[u32], call: u64) -> bool
+pub(crate) fn is_listed(fail: &[u32], call: u64) -> bool
     ensures { result ≡ is_named fail.now call }
 {
     fail.iter().any(|x| u64::from(*x) == call)

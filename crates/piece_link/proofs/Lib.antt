@@ -1,0 +1,13 @@
+pub mod BoundLaw
+pub mod GreatestLaw
+pub mod LastLaw
+pub mod OnceLaw
+pub mod OrderLaws
+pub mod PartLaws
+pub mod PieceLaws
+pub mod ReadLaws
+pub mod RowLaws
+pub mod SelfLaw
+pub mod StepLaws
+pub mod UnchangedLaw
+pub mod WholeLaws
