@@ -82,8 +82,11 @@ impl<C: Callbacks> Sessions<C> {
     pub fn set_level(&mut self, level: u8)
         requires low { 1 ≤ level }
         requires high { level ≤ 2 }
-        ensures { self.new ≡ record { state = record
-            (self.old.state) { level = level }; clients = self.old.clients } }
+        ensures { self.new ≡ record {
+          state = record
+              (self.old.state) { level = level };
+          clients = self.old.clients;
+        } }
     {
         self.state.level = level;
     }

@@ -89,9 +89,14 @@ pub(crate) fn queue_join(
     idle: bool,
 ) -> Result<(), NoMemory>
     requires free { added_as provider [] row.old.led.waiting ≡ Queued }
-    ensures { OnOk result (row.new ≡ record (row.old) { led = record
-        (row.old.led) { waiting = waits_join provider row.old.led.waiting; join_attrs = keep_attrs
-        row.old.led.join_attrs provider attrs.now idle } }) }
+    ensures { OnOk result (row.new ≡ record (row.old) {
+      led = record
+          (row.old.led) {
+            waiting = waits_join provider row.old.led.waiting;
+            join_attrs = keep_attrs
+                row.old.led.join_attrs provider attrs.now idle;
+          };
+    }) }
 {
     keep_attrs(&mut row.led.join_attrs, alloc, provider, attrs, idle)?;
     row.led.waiting.add_join(provider, &[]);

@@ -57,8 +57,11 @@ impl<C: Callbacks> Node<C> {
     /// A node of this number that starts in this incarnation, with no clients. What it records at its start is
     /// there to be taken.
     pub fn start(alloc: Global, config: Config, me: u8, inc: u32) -> Result<Node<C>, NoMemory>
-        ensures { IfOk result (λ n. n ≡ record { core = started config me inc; clients = [];
-            halted = false }) }
+        ensures { IfOk result (λ n. n ≡ record {
+          core = started config me inc;
+          clients = [];
+          halted = false;
+        }) }
     {
         Ok(Node {
             core: start_core(alloc, config, me, inc)?,
@@ -100,8 +103,10 @@ impl<C: Callbacks> Node<C> {
     #[tactic(auto, using(crate::proofs::StepLaws::work_beside))]
     pub fn take_records(&mut self, alloc: Global) -> Records
         ensures taken { result ≡ self.old.core.records }
-        ensures left { self.new ≡ record self.old { core = record
-            (self.old.core) { records = [] } } }
+        ensures left { self.new ≡ record self.old {
+          core = record
+              (self.old.core) { records = [] };
+        } }
     {
         mem::replace(&mut self.core.records, List::new(alloc))
     }

@@ -63,8 +63,10 @@ fn put_entry(core: &mut Core, alloc: Global, group: &Name, entry: &Entry) -> Res
     requires order { InNameOrder core.old.groups }
     requires fits { IsTrue (fits_at_end core.old group.now entry.now) }
     ensures { OnOk result (core.new ≡ with_row core.old group.now
-        (λ row. record row { list = Some (with_entry
-        (list_or_new row.list) core.old.views.view entry.now) })) }
+        (λ row. record row {
+          list = Some (with_entry
+              (list_or_new row.list) core.old.views.view entry.now);
+        })) }
 {
     let view = core.views.view;
     edits::put(&mut core.groups, alloc, group, view, entry)

@@ -79,8 +79,12 @@ pub(crate) fn wait_failure(
     cause: Cause,
 ) -> Result<(), NoMemory>
     ensures { OnOk result (groups.new ≡ rows_with name.now
-        (λ row. record row { led = record (row.led) { waiting = add_failure provider cause
-        row.led.waiting } }) groups.old) }
+        (λ row. record row {
+          led = record (row.led) {
+            waiting = add_failure provider cause
+                row.led.waiting;
+          };
+        }) groups.old) }
 {
     let i = open(groups, alloc, name)?;
     row::wait_failure(&mut groups.rows[i], provider, cause);
@@ -96,8 +100,12 @@ pub(crate) fn drop_join(
     provider: ProviderId,
 ) -> Result<(), NoMemory>
     ensures { OnOk result (groups.new ≡ rows_with name.now
-        (λ row. record row { led = record (row.led) { waiting = drop_join provider
-        row.led.waiting } }) groups.old) }
+        (λ row. record row {
+          led = record (row.led) {
+            waiting = drop_join provider
+                row.led.waiting;
+          };
+        }) groups.old) }
 {
     let i = open(groups, alloc, name)?;
     row::drop_join(&mut groups.rows[i], provider);
@@ -164,8 +172,12 @@ pub(crate) fn fail_voter(
     provider: ProviderId,
 ) -> Result<(), NoMemory>
     ensures { OnOk result (groups.new ≡ rows_with name.now
-        (λ row. record row { led = record (row.led) { tally = option_map
-        (tally_fail provider) row.led.tally } }) groups.old) }
+        (λ row. record row {
+          led = record (row.led) {
+            tally = option_map
+                (tally_fail provider) row.led.tally;
+          };
+        }) groups.old) }
 {
     let i = open(groups, alloc, name)?;
     row::fail_voter(&mut groups.rows[i], provider);
@@ -194,8 +206,12 @@ pub(crate) fn note_acked(
     len: u32,
 ) -> Result<(), NoMemory>
     ensures { OnOk result (groups.new ≡ rows_with name.now
-        (λ row. record row { led = record (row.led) { acked = acked_raised node len
-        row.led.acked } }) groups.old) }
+        (λ row. record row {
+          led = record (row.led) {
+            acked = acked_raised node len
+                row.led.acked;
+          };
+        }) groups.old) }
 {
     let i = open(groups, alloc, name)?;
     row::note_acked(&mut groups.rows[i], node, len)
@@ -226,8 +242,12 @@ pub(crate) fn keep_decision(
     decision: Decision,
 ) -> Result<(), NoMemory>
     ensures { OnOk result (groups.new ≡ rows_with name.now
-        (λ row. record row { led = record (row.led) { decided = decisions_with decision
-        row.led.decided } }) groups.old) }
+        (λ row. record row {
+          led = record (row.led) {
+            decided = decisions_with decision
+                row.led.decided;
+          };
+        }) groups.old) }
 {
     let i = open(groups, alloc, name)?;
     row::keep_decision(&mut groups.rows[i], decision)

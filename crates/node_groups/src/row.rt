@@ -124,8 +124,10 @@ fn list_of_one(alloc: Global, view: ViewId, entry: Entry) -> Result<GroupList, N
 #[tactic(auto, unfolding(crate::proofs::Below::entry_fits))]
 pub fn put(row: &mut GroupRow, alloc: Global, view: ViewId, entry: Entry) -> Result<(), NoMemory>
     requires { IsTrue (entry_fits (list_or_new row.old.list) entry) }
-    ensures { OnOk result (row.new ≡ record (row.old) { list = Some
-        (with_entry (list_or_new row.old.list) view entry) }) }
+    ensures { OnOk result (row.new ≡ record (row.old) {
+      list = Some
+          (with_entry (list_or_new row.old.list) view entry);
+    }) }
 {
     match &mut row.list {
         None => row.list = Some(list_of_one(alloc, view, entry)?),
@@ -157,16 +159,20 @@ pub fn set_leader(row: &mut GroupRow, node: u8)
 
 /// The provider waits as a failure of this cause, unless it waits as one already.
 pub fn wait_failure(row: &mut GroupRow, provider: ProviderId, cause: Cause)
-    ensures { row.new ≡ record (row.old) { led = record
-        (row.old.led) { waiting = add_failure provider cause row.old.led.waiting } } }
+    ensures { row.new ≡ record (row.old) {
+      led = record
+          (row.old.led) { waiting = add_failure provider cause row.old.led.waiting };
+    } }
 {
     row.led.waiting.add_failure(provider, cause);
 }
 
 /// The provider's join waits no more.
 pub fn drop_join(row: &mut GroupRow, provider: ProviderId)
-    ensures { row.new ≡ record (row.old) { led = record
-        (row.old.led) { waiting = drop_join provider row.old.led.waiting } } }
+    ensures { row.new ≡ record (row.old) {
+      led = record
+          (row.old.led) { waiting = drop_join provider row.old.led.waiting };
+    } }
 {
     row.led.waiting.drop_join(provider);
 }
@@ -180,8 +186,10 @@ pub fn set_tally(row: &mut GroupRow, tally: Option<Tally>)
 
 /// The tally is this one, and no ballot has been recorded.
 pub fn open_tally(row: &mut GroupRow, alloc: Global, tally: Option<Tally>)
-    ensures { row.new ≡ record (row.old) { led = record
-        (row.old.led) { tally = tally; given = [] } } }
+    ensures { row.new ≡ record (row.old) {
+      led = record
+          (row.old.led) { tally = tally; given = [] };
+    } }
 {
     row.led.tally = tally;
     row.led.given = List::new(alloc);
@@ -217,8 +225,10 @@ pub fn cast_vote(
     value: Option<Text>,
     message: Option<Text>,
 ) -> Result<(), NoMemory>
-    ensures { OnOk result (row.new ≡ record (row.old) { led = vote_cast row.old.led provider vote
-        value message row.old.led.tally }) }
+    ensures { OnOk result (row.new ≡ record (row.old) {
+      led = vote_cast row.old.led provider vote
+          value message row.old.led.tally;
+    }) }
 {
     match &mut row.led.tally {
         None => Ok(()),
@@ -231,8 +241,10 @@ pub fn cast_vote(
 
 /// The voter has failed, where there is a tally.
 pub fn fail_voter(row: &mut GroupRow, provider: ProviderId)
-    ensures { row.new ≡ record (row.old) { led = record
-        (row.old.led) { tally = option_map (tally_fail provider) row.old.led.tally } } }
+    ensures { row.new ≡ record (row.old) {
+      led = record
+          (row.old.led) { tally = option_map (tally_fail provider) row.old.led.tally };
+    } }
 {
     if let Some(tally) = &mut row.led.tally {
         tally.fail(provider);
@@ -241,8 +253,10 @@ pub fn fail_voter(row: &mut GroupRow, provider: ProviderId)
 
 /// The tally ticks, where there is one.
 pub fn tick_tally(row: &mut GroupRow)
-    ensures { row.new ≡ record (row.old) { led = record
-        (row.old.led) { tally = ticked_in row.old.led.tally } } }
+    ensures { row.new ≡ record (row.old) {
+      led = record
+          (row.old.led) { tally = ticked_in row.old.led.tally };
+    } }
 {
     if let Some(tally) = &mut row.led.tally {
         tally.tick();
@@ -251,24 +265,30 @@ pub fn tick_tally(row: &mut GroupRow)
 
 /// The node has acknowledged this length, or a greater one.
 pub fn note_acked(row: &mut GroupRow, node: u8, len: u32) -> Result<(), NoMemory>
-    ensures { OnOk result (row.new ≡ record (row.old) { led = record
-        (row.old.led) { acked = acked_raised node len row.old.led.acked } }) }
+    ensures { OnOk result (row.new ≡ record (row.old) {
+      led = record
+          (row.old.led) { acked = acked_raised node len row.old.led.acked };
+    }) }
 {
     raise_acked(&mut row.led.acked, node, len)
 }
 
 /// The provider is gone.
 pub fn mark_gone(row: &mut GroupRow, provider: ProviderId) -> Result<(), NoMemory>
-    ensures { OnOk result (row.new ≡ record (row.old) { led = record
-        (row.old.led) { gone = marked row.old.led.gone provider } }) }
+    ensures { OnOk result (row.new ≡ record (row.old) {
+      led = record
+          (row.old.led) { gone = marked row.old.led.gone provider };
+    }) }
 {
     mark(&mut row.led.gone, provider)
 }
 
 /// The last decision on the requester is this one.
 pub fn keep_decision(row: &mut GroupRow, decision: Decision) -> Result<(), NoMemory>
-    ensures { OnOk result (row.new ≡ record (row.old) { led = record
-        (row.old.led) { decided = decisions_with decision row.old.led.decided } }) }
+    ensures { OnOk result (row.new ≡ record (row.old) {
+      led = record
+          (row.old.led) { decided = decisions_with decision row.old.led.decided };
+    }) }
 {
     tables::keep_decision(&mut row.led.decided, decision)
 }

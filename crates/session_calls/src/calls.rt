@@ -32,8 +32,11 @@ fn name_of(alloc: Global, group: &[u8]) -> Result<Name, NoMemory>
 /// Puts a request with the next number at the end.
 fn put_request(sessions: &mut SessionState, request: Request) -> Result<(), NoMemory>
     ensures ok { OnOk result (sessions.new ≡ record
-        sessions.old { last_request = request.r; requests = sessions.old.requests
-        ++ request ∷ [] }) }
+        sessions.old {
+          last_request = request.r;
+          requests = sessions.old.requests
+              ++ request ∷ [];
+        }) }
     ensures err { OnErr result (sessions.new ≡ sessions.old) }
 {
     let r = request.r;
@@ -49,8 +52,12 @@ fn put_joiner(
     request: Request,
 ) -> Result<(), NoMemory>
     ensures ok { OnOk result (sessions.new ≡ record
-        sessions.old { last_request = request.r; providers = sessions.old.providers
-        ++ provider ∷ []; requests = sessions.old.requests ++ request ∷ [] }) }
+        sessions.old {
+          last_request = request.r;
+          providers = sessions.old.providers
+              ++ provider ∷ [];
+          requests = sessions.old.requests ++ request ∷ [];
+        }) }
     ensures err { OnErr result (sessions.new ≡ sessions.old) }
 {
     let n = sessions.providers.len();
@@ -72,8 +79,13 @@ fn join_request(
     attrs: Attrs,
 ) -> Result<Request, NoMemory>
     requires { IsName group.now }
-    ensures { IfOk result (λ q. q ≡ record { p = provider; r = provider.join; group = group.now;
-        phases = Phases.One; proposal = Proposal.Join (provider ∷ []) attrs None }) }
+    ensures { IfOk result (λ q. q ≡ record {
+      p = provider;
+      r = provider.join;
+      group = group.now;
+      phases = Phases.One;
+      proposal = Proposal.Join (provider ∷ []) attrs None;
+    }) }
 {
     Ok(Request {
         p: provider,

@@ -101,8 +101,10 @@ impl Views {
 
     /// Notes for this tick whether it is stuck, and forgets it of the tick three before.
     pub fn note_stuck(&mut self)
-        ensures { self.new ≡ record self.old { stuck = drop 1 self.old.stuck
-            ++ is_stuck self.old ∷ [] } }
+        ensures { self.new ≡ record self.old {
+          stuck = drop 1 self.old.stuck
+              ++ is_stuck self.old ∷ [];
+        } }
     {
         let stuck = self.is_stuck();
         let [_, second, third] = self.stuck;

@@ -136,8 +136,10 @@ impl WorldPackets {
     /// The k-th packet of two nodes waits no more.
     #[tactic(auto, using(crate::proofs::WaitLaws::removed_at_place, crate::proofs::WaitLaws::none_removed, std::proofs::lemmas::Grind::common_steps))]
     pub fn take(&mut self, from: u8, to: u8, number: u32)
-        ensures { self.new ≡ record self.old { waiting = drop_where
-            (is_waiting from to number) self.old.waiting } }
+        ensures { self.new ≡ record self.old {
+          waiting = drop_where
+              (is_waiting from to number) self.old.waiting;
+        } }
     {
         if let Some(i) = place_of(&self.waiting, from, to, number) {
             let _ = self.waiting.remove(i);
@@ -146,8 +148,10 @@ impl WorldPackets {
 
     /// What waits between two nodes is lost.
     pub fn lose(&mut self, alloc: Global, from: u8, to: u8) -> Result<(), NoMemory>
-        ensures { OnOk result (self.new ≡ record self.old { waiting = filter
-            (λ x. not (is_between from to x)) self.old.waiting }) }
+        ensures { OnOk result (self.new ≡ record self.old {
+          waiting = filter
+              (λ x. not (is_between from to x)) self.old.waiting;
+        }) }
     {
         let waiting = mem::replace(&mut self.waiting, VecDeque::new(alloc));
         self.waiting = elsewhere(alloc, waiting, from, to)?;
