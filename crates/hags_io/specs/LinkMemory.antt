@@ -44,14 +44,14 @@ abbrev pub send_fails : LinkView → Bool
 send_fails l = names_call l.fail_sends l.sends
 
 abbrev pub opened_at : ℕ → LinkView → LinkView
-opened_at at l = record l {
+opened_at port l = record l {
   opens = counted l.opens;
-  opened = Some (at, not (open_fails l));
+  opened = Some (port, not (open_fails l));
   faults = if open_fails l then counted l.faults else l.faults;
 }
 
 abbrev pub placed : ℕ → ℕ → ℕ → ℕ → LinkView → LinkView
-placed node network addr port l = record l { places = with_place node network addr port l.places }
+placed node network address port l = record l { places = with_place node network address port l.places }
 
 -- a receive, a send, as it is told
 abbrev pub received : LinkCall → LinkView → LinkView

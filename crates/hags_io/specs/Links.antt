@@ -30,7 +30,7 @@ Counts (Some xs) None more = Unit {0}
 Counts (Some xs) (Some ys) more = ys ≡ xs ++ more
 
 abbrev pub was_opened : ℕ → Bool → Option (ℕ × Bool) → Option (ℕ × Bool)
-was_opened at done old = Some (at, done)
+was_opened port done old = Some (port, done)
 
 -- a datagram, silence or a fault is told; want of memory is not
 abbrev pub Receives : Option (List LinkCall) → Option (List LinkCall) → Got → List ℕ → Type 0

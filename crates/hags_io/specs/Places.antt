@@ -4,7 +4,7 @@ use Rattle.hags_io.specs.declared.link.Places.{Places}
 
 -- no place is told
 abbrev pub no_places : Places
-no_places = record { addr = replicate 4 (replicate 32 0); port = replicate 4 (replicate 32 0) }
+no_places = record { addresses = replicate 4 (replicate 32 0); ports = replicate 4 (replicate 32 0) }
 
 abbrev pub entry_at : ℕ → ℕ → List (List ℕ) → ℕ
 entry_at node network rows = slice_index_or (slice_index_or rows (network - 1) []) (node - 1) 0
@@ -14,13 +14,13 @@ with_entry node network x rows = slice_set rows (network - 1) (slice_set (slice_
 
 -- the place of an adapter in place of what was told before
 abbrev pub with_place : ℕ → ℕ → ℕ → ℕ → Places → Places
-with_place node network addr port places = record {
-  addr = with_entry node network addr places.addr;
-  port = with_entry node network port places.port;
+with_place node network address port places = record {
+  addresses = with_entry node network address places.addresses;
+  ports = with_entry node network port places.ports;
 }
 
 -- the address and the port of an adapter, where they were told
 abbrev pub told_place : ℕ → ℕ → Places → Option (ℕ × ℕ)
 told_place node network places =
-    if entry_at node network places.addr == 0 then None
-    else Some (entry_at node network places.addr, entry_at node network places.port)
+    if entry_at node network places.addresses == 0 then None
+    else Some (entry_at node network places.addresses, entry_at node network places.ports)

@@ -33,8 +33,8 @@ pub enum LinkCall {
 /// Where adapters are: at `[network - 1][node - 1]` an IPv4 address, 0 where none was told, and a port.
 #[derive(Clone, Copy)]
 pub struct Places {
-    pub addr: [[u32; 32]; 4],
-    pub port: [[u16; 32]; 4],
+    pub addresses: [[u32; 32]; 4],
+    pub ports: [[u16; 32]; 4],
 }
 
 impl Places {
@@ -43,20 +43,20 @@ impl Places {
         ensures { result ≡ no_places }
     {
         Places {
-            addr: [[0; 32]; 4],
-            port: [[0; 32]; 4],
+            addresses: [[0; 32]; 4],
+            ports: [[0; 32]; 4],
         }
     }
 
     /// Tells the place of one adapter, in place of what was told of it before.
-    pub fn set(&mut self, node: u8, network: u8, addr: u32, port: u16)
+    pub fn set(&mut self, node: u8, network: u8, address: u32, port: u16)
         requires node { (1 ≤ node) × (node ≤ 32) }
         requires network { (1 ≤ network) × (network ≤ 4) }
-        ensures { self.new ≡ with_place node network addr port self.old }
+        ensures { self.new ≡ with_place node network address port self.old }
     {
         let (row, column) = (usize::from(network) - 1, usize::from(node) - 1);
-        self.addr[row][column] = addr;
-        self.port[row][column] = port;
+        self.addresses[row][column] = address;
+        self.ports[row][column] = port;
     }
 
     /// The address and the port of an adapter, where they were told.
@@ -66,11 +66,11 @@ impl Places {
         ensures { result ≡ told_place node network self.now }
     {
         let (row, column) = (usize::from(network) - 1, usize::from(node) - 1);
-        let addr = self.addr[row][column];
-        if addr == 0 {
+        let address = self.addresses[row][column];
+        if address == 0 {
             return None;
         }
-        Some((addr, self.port[row][column]))
+        Some((address, self.ports[row][column]))
     }
 }
 
@@ -88,19 +88,19 @@ pub trait Link {
     ghost faults: { Self → ℕ };
 
     /// Opens the link at a port, where 0 is any that is free. False where it could not be opened.
-    fn open(&mut self, at: u16) -> bool
-        ensures opened { Tells (opened self.old) (opened self.new) (was_opened at result) }
+    fn open(&mut self, port: u16) -> bool
+        ensures opened { Tells (opened self.old) (opened self.new) (was_opened port result) }
         ensures calls { Same (calls self.old) (calls self.new) }
         ensures places { Same (places self.old) (places self.new) }
         ensures later { faults self.old ≤ faults self.new }
         ensures failed { result ≡ false → Rose (faults self.old) (faults self.new) };
 
     /// Tells where the node's adapter on the network is, in place of what was told of it before.
-    fn place(&mut self, node: u8, network: u8, addr: u32, port: u16)
+    fn place(&mut self, node: u8, network: u8, address: u32, port: u16)
         requires node { (1 ≤ node) × (node ≤ 32) }
         requires network { (1 ≤ network) × (network ≤ 4) }
         ensures places { Tells (places self.old) (places self.new)
-            (with_place node network addr port) }
+            (with_place node network address port) }
         ensures calls { Same (calls self.old) (calls self.new) }
         ensures opened { Same (opened self.old) (opened self.new) }
         ensures later { faults self.new ≡ faults self.old };
@@ -115,8 +115,8 @@ pub trait Link {
         ensures failed { result ≡ Got.Failed → Rose (faults self.old) (faults self.new) };
 
     /// Sends to the node's adapter on the network; to node 0: to the sender of the datagram last received.
-    fn send(&mut self, node: u8, network: u8, b: &[u8]) -> Put
-        ensures told { Sends (calls self.old) (calls self.new) result node network b.now }
+    fn send(&mut self, node: u8, network: u8, bytes: &[u8]) -> Put
+        ensures told { Sends (calls self.old) (calls self.new) result node network bytes.now }
         ensures places { Same (places self.old) (places self.new) }
         ensures opened { Same (opened self.old) (opened self.new) }
         ensures later { faults self.old ≤ faults self.new }

@@ -117,36 +117,36 @@ impl Link for MemLink {
 
     ghost faults = { λ l. l.faults };
 
-    fn open(&mut self, at: u16) -> bool
+    fn open(&mut self, port: u16) -> bool
         ensures opened { Tells (Some self.old.opened) (Some self.new.opened)
-            (was_opened at result) }
+            (was_opened port result) }
         ensures calls { Same (Some self.old.calls) (Some self.new.calls) }
         ensures places { Same (Some self.old.places) (Some self.new.places) }
         ensures later { self.old.faults ≤ self.new.faults }
         ensures failed { result ≡ false → Rose self.old.faults self.new.faults }
         ensures exact { result ≡ not (open_fails self.old) }
-        ensures after { self.new ≡ opened_at at self.old }
+        ensures after { self.new ≡ opened_at port self.old }
     {
         self.opens = self.opens.saturating_add(1);
         let done = !is_listed(self.fails.opens.as_slice(), self.opens);
         if !done {
             self.faults = self.faults.saturating_add(1);
         }
-        self.opened = Some((at, done));
+        self.opened = Some((port, done));
         done
     }
 
-    fn place(&mut self, node: u8, network: u8, addr: u32, port: u16)
+    fn place(&mut self, node: u8, network: u8, address: u32, port: u16)
         requires node { (1 ≤ node) × (node ≤ 32) }
         requires network { (1 ≤ network) × (network ≤ 4) }
         ensures places { Tells (Some self.old.places) (Some self.new.places)
-            (with_place node network addr port) }
+            (with_place node network address port) }
         ensures calls { Same (Some self.old.calls) (Some self.new.calls) }
         ensures opened { Same (Some self.old.opened) (Some self.new.opened) }
         ensures later { self.new.faults ≡ self.old.faults }
-        ensures after { self.new ≡ placed node network addr port self.old }
+        ensures after { self.new ≡ placed node network address port self.old }
     {
-        self.places.set(node, network, addr, port);
+        self.places.set(node, network, address, port);
     }
 
     fn recv(&mut self, buf: &mut [u8]) -> Got
@@ -184,17 +184,17 @@ impl Link for MemLink {
         Got::Datagram(len, network)
     }
 
-    fn send(&mut self, node: u8, network: u8, b: &[u8]) -> Put
-        ensures told { Sends (Some self.old.calls) (Some self.new.calls) result node network b.now }
+    fn send(&mut self, node: u8, network: u8, bytes: &[u8]) -> Put
+        ensures told { Sends (Some self.old.calls) (Some self.new.calls) result node network bytes.now }
         ensures places { Same (Some self.old.places) (Some self.new.places) }
         ensures opened { Same (Some self.old.opened) (Some self.new.opened) }
         ensures later { self.old.faults ≤ self.new.faults }
         ensures failed { result ≡ Put.Failed → Rose self.old.faults self.new.faults }
-        ensures exact { SendsTo self.old self.new result node network b.now }
+        ensures exact { SendsTo self.old self.new result node network bytes.now }
     {
         self.sends = self.sends.saturating_add(1);
         let out = !is_listed(self.fails.sends.as_slice(), self.sends);
-        let Ok(told) = List::of(self.alloc, b) else {
+        let Ok(told) = List::of(self.alloc, bytes) else {
             return Put::NoMemory;
         };
         if self

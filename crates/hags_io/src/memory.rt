@@ -144,8 +144,8 @@ impl Sink for MemSink {
     ghost faults = { λ s. s.faults };
 
     #[tactic(auto, using(crate::proofs::ByteLaws::none_grew))]
-    fn put(&mut self, b: &[u8]) -> Put
-        ensures bytes { Puts (Some self.old.held) (Some self.new.held) result b.now }
+    fn put(&mut self, bytes: &[u8]) -> Put
+        ensures bytes { Puts (Some self.old.held) (Some self.new.held) result bytes.now }
         ensures later { self.old.faults ≤ self.new.faults }
         ensures failed { result ≡ Put.Failed → Rose self.old.faults self.new.faults }
         ensures exact { (result ≡ Put.Failed) ↔ IsTrue (names_call self.old.fail self.old.calls) }
@@ -156,7 +156,7 @@ impl Sink for MemSink {
             self.faults = self.faults.saturating_add(1);
             return Put::Failed;
         }
-        match self.bytes.extend_from_slice(b) {
+        match self.bytes.extend_from_slice(bytes) {
             Ok(()) => Put::Done,
             Err(_) => Put::NoMemory,
         }

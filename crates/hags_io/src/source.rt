@@ -42,9 +42,9 @@ pub trait Sink {
 
     ghost faults: { Self → ℕ };
 
-    /// Puts all of `b`, or a front of it where the call fails.
-    fn put(&mut self, b: &[u8]) -> Put
-        ensures bytes { Puts (held self.old) (held self.new) result b.now }
+    /// Puts all of the bytes, or a front of it where the call fails.
+    fn put(&mut self, bytes: &[u8]) -> Put
+        ensures bytes { Puts (held self.old) (held self.new) result bytes.now }
         ensures later { faults self.old ≤ faults self.new }
         ensures failed { result ≡ Put.Failed → Rose (faults self.old) (faults self.new) };
 }

@@ -67,10 +67,10 @@ impl<W: Write> Sink for StdSink<W> {
     ghost faults = { λ s. s.faults };
 
     #[tactic(auto, using(crate::proofs::ByteLaws::sent_on, crate::proofs::ByteLaws::all_sent, crate::proofs::ByteLaws::stopped, crate::proofs::ByteLaws::broken))]
-    fn put(&mut self, b: &[u8]) -> Put {
+    fn put(&mut self, bytes: &[u8]) -> Put {
         let mut done = 0;
-        while done < b.len() {
-            match self.inner.write(&b[done..]) {
+        while done < bytes.len() {
+            match self.inner.write(&bytes[done..]) {
                 Ok(n) if n > 0 => done += n,
                 Ok(_) => return self.failed(),
                 Err(_) => return self.failed(),

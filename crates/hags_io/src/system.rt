@@ -49,8 +49,8 @@ impl<'r, R: Net> UdpLink<'r, R> {
         if node > 32 || !is_network(network) {
             return None;
         }
-        let (addr, port) = self.places.get(node, network)?;
-        Some(SocketAddr::from((Ipv4Addr::from_bits(addr), port)))
+        let (address, port) = self.places.get(node, network)?;
+        Some(SocketAddr::from((Ipv4Addr::from_bits(address), port)))
     }
 
     fn fail(&mut self)
@@ -69,25 +69,25 @@ fn is_network(network: u8) -> bool
 
 /// A socket of a port on all addresses, whose receive waits at most 20 milliseconds. It stays unconnected, since a
 /// connected one would report the peer's closed port as a fault of a later receive.
-fn bound<R: Net>(net: &R, at: u16) -> io::Result<UdpSocket> {
-    let socket = UdpSocket::bind(net, (Ipv4Addr::UNSPECIFIED, at))?;
+fn bound<R: Net>(net: &R, port: u16) -> io::Result<UdpSocket> {
+    let socket = UdpSocket::bind(net, (Ipv4Addr::UNSPECIFIED, port))?;
     socket.set_read_timeout(Some(Duration::from_millis(20)))?;
     Ok(socket)
 }
 
 /// Is it no fault: the wait was over, or a signal ended it?
-fn is_quiet(e: &io::Error) -> bool {
-    e.kind() == io::ErrorKind::WouldBlock || e.kind() == io::ErrorKind::Interrupted
+fn is_quiet(error: &io::Error) -> bool {
+    error.kind() == io::ErrorKind::WouldBlock || error.kind() == io::ErrorKind::Interrupted
 }
 
 /// A network and a datagram, written into a packet's memory; none where they do not fit.
-fn packed<'p>(packet: &'p mut [u8], network: u8, b: &[u8]) -> Option<&'p [u8]> {
-    let len = b.len();
+fn packed<'p>(packet: &'p mut [u8], network: u8, bytes: &[u8]) -> Option<&'p [u8]> {
+    let len = bytes.len();
     if len >= packet.len() {
         return None;
     }
     packet[0] = network;
-    packet[1..=len].copy_from_slice(b);
+    packet[1..=len].copy_from_slice(bytes);
     Some(&packet[..=len])
 }
 
@@ -96,13 +96,13 @@ fn packed<'p>(packet: &'p mut [u8], network: u8, b: &[u8]) -> Option<&'p [u8]> {
 fn unpacked(packet: &[u8], buf: &mut [u8]) -> Option<(usize, u8)>
     ensures { IfSome result (λ x. x.0 ≤ length buf.old) }
 {
-    let (network, b) = packet.split_first()?;
+    let (network, bytes) = packet.split_first()?;
     let network = *network;
-    if !is_network(network) || b.len() > buf.len() {
+    if !is_network(network) || bytes.len() > buf.len() {
         return None;
     }
-    buf[..b.len()].copy_from_slice(b);
-    Some((b.len(), network))
+    buf[..bytes.len()].copy_from_slice(bytes);
+    Some((bytes.len(), network))
 }
 
 impl<R: Net> Link for UdpLink<'_, R> {
@@ -116,8 +116,8 @@ impl<R: Net> Link for UdpLink<'_, R> {
 
     ghost faults = { λ l. l.faults };
 
-    fn open(&mut self, at: u16) -> bool {
-        match bound(self.net, at) {
+    fn open(&mut self, port: u16) -> bool {
+        match bound(self.net, port) {
             Ok(socket) => {
                 self.socket = Some(socket);
                 true
@@ -129,8 +129,8 @@ impl<R: Net> Link for UdpLink<'_, R> {
         }
     }
 
-    fn place(&mut self, node: u8, network: u8, addr: u32, port: u16) {
-        self.places.set(node, network, addr, port);
+    fn place(&mut self, node: u8, network: u8, address: u32, port: u16) {
+        self.places.set(node, network, address, port);
     }
 
     fn recv(&mut self, buf: &mut [u8]) -> Got {
@@ -156,10 +156,10 @@ impl<R: Net> Link for UdpLink<'_, R> {
         }
     }
 
-    fn send(&mut self, node: u8, network: u8, b: &[u8]) -> Put {
+    fn send(&mut self, node: u8, network: u8, bytes: &[u8]) -> Put {
         let to = self.address_of(node, network);
         if let (Some(socket), Some(to)) = (&self.socket, to) {
-            if let Some(packet) = packed(self.packet.as_mut_slice(), network, b) {
+            if let Some(packet) = packed(self.packet.as_mut_slice(), network, bytes) {
                 if socket.send_to(packet, to).is_ok() {
                     return Put::Done;
                 }
@@ -181,8 +181,8 @@ pub struct SysClock<'r, R> {
     last: u64,
 }
 
-fn millis_of(d: Duration) -> u64 {
-    u64::try_from(d.as_millis()).unwrap_or(u64::MAX)
+fn millis_of(duration: Duration) -> u64 {
+    u64::try_from(duration.as_millis()).unwrap_or(u64::MAX)
 }
 
 /// Milliseconds from 1970; 0 where the system does not say.

@@ -2,6 +2,8 @@
 //! and prints how long a piece and a byte took; with none it does so with 1,000 pieces and prints the counts alone.
 #![tactic(auto)]
 
+ghost use Rattle.std.specs.Prelude.{◌<◌};
+
 use piece_link::{Joiner, PIECE_SIZE, cut};
 use std::alloc::{AllocError, Global};
 use std::time::{Duration, Instant};

@@ -57,16 +57,16 @@ fn is_piece(head: &PieceHead, len: usize) -> bool
 }
 
 #[tactic(auto, unfolding(crate::specs::Pieces::head_at))]
-fn read_head(b: &[u8]) -> Option<(PieceHead, &[u8])>
-    ensures { Gives result (head_at b.now) }
+fn read_head(bytes: &[u8]) -> Option<(PieceHead, &[u8])>
+    ensures { Gives result (head_at bytes.now) }
 {
-    let (mark, b) = read_u16(b)?;
-    let (sender, b) = read_u8(b)?;
-    let (zero, b) = read_u8(b)?;
-    let (incarnation, b) = read_u32(b)?;
-    let (number, b) = read_u64(b)?;
-    let (index, b) = read_u32(b)?;
-    let (count, b) = read_u32(b)?;
+    let (mark, rest) = read_u16(bytes)?;
+    let (sender, rest) = read_u8(rest)?;
+    let (zero, rest) = read_u8(rest)?;
+    let (incarnation, rest) = read_u32(rest)?;
+    let (number, rest) = read_u64(rest)?;
+    let (index, rest) = read_u32(rest)?;
+    let (count, rest) = read_u32(rest)?;
     if mark != MARK || zero != 0 {
         return None;
     }
@@ -77,7 +77,7 @@ fn read_head(b: &[u8]) -> Option<(PieceHead, &[u8])>
         index,
         count,
     };
-    Some((head, b))
+    Some((head, rest))
 }
 
 /// The head of the piece that a datagram is, and its data where they stand. None exactly where it is no piece.

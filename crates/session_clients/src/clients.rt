@@ -175,7 +175,7 @@ pub fn tell_at<C: Callbacks>(
 }
 
 /// Hands an entry on: each local provider that takes part hears it.
-#[tactic(auto, unfolding(crate::proofs::Below::hand_on, crate::proofs::Below::casts_out))]
+#[tactic(auto, unfolding(crate::proofs::Below::handed_on, crate::proofs::Below::casts_out))]
 pub fn hand_entry_on<C: Callbacks>(
     state: &mut SessionState,
     clients: &mut Vec<C>,

@@ -3,7 +3,7 @@ use Rattle.std.specs.Io.KnownBytes.{Appends}
 use Rattle.hags_io.proofs.streams.StdSinkSink.put.Given as goal
 
 abbrev pub invariant-loop-done : goal.invariant-loop-done
-invariant-loop-done g l = (l.done ≤ length l.b) × (l.self.faults ≡ l.initial.self.faults) × Appends (g.W.Write.contents l.initial.self.inner) (g.W.Write.contents l.self.inner) (take l.done l.b)
+invariant-loop-done g l = (l.done ≤ length l.bytes) × (l.self.faults ≡ l.initial.self.faults) × Appends (g.W.Write.contents l.initial.self.inner) (g.W.Write.contents l.self.inner) (take l.done l.bytes)
 
 abbrev pub decreases-loop-done : goal.decreases-loop-done
-decreases-loop-done g l = length l.b - l.done
+decreases-loop-done g l = length l.bytes - l.done

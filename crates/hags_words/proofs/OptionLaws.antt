@@ -1,0 +1,54 @@
+-- What a parse of clap answers, in the words of the grammar.
+use Rattle.std.proofs.Common.{◌≡◌, ◌≢◌, ℕ, false, true, List, [], codes, Option, Some, None, IsSome, IfSome, sym, ◌∙◌, subst, ap}
+use Rattle.std.specs.Option.{option_map}
+use Rattle.clap.specs.Simple.{matches_of}
+use Rattle.clap.specs.Walk.{rows_of}
+use Rattle.clap.specs.Faults.{fault_of}
+use Rattle.clap.specs.Matches.{first_value}
+use Rattle.clap.specs.declared.parser.matches.Found.{Found}
+use Rattle.hags_words.specs.declared.options.Options.{Options}
+use Rattle.hags_words.specs.App.{options_app}
+use Rattle.hags_words.specs.Options.{Values, given_of, has_short}
+use Rattle.hags_words.specs.Found.{HasValues}
+use Rattle.hags_words.specs.Texts.{Texts, seen, texts_in, text_of}
+use Rattle.hags_words.proofs.ClapLaws.{pending_where_ok, none_where_err, values_found}
+use Rattle.hags_words.proofs.GivenLaws.{pending_is_given, none_of_short}
+
+pub given_where_ok : (words : List (List ℕ)) → has_short words ≡ false → fault_of options_app words ≡ [] → IsSome (given_of words)
+given_where_ok words free e = subst (λ (r : Option Values). IsSome r) (pending_is_given words free) (pending_where_ok words free e)
+
+pub not_given_where_err : (words : List (List ℕ)) → has_short words ≡ false → fault_of options_app words ≢ [] → given_of words ≡ None
+not_given_where_err words free e = sym (pending_is_given words free) ∙ none_where_err words free e
+
+pub given_values : (words : List (List ℕ)) (f : Found) → has_short words ≡ false → rows_of f ≡ matches_of options_app words → IfSome (given_of words) (HasValues f)
+given_values words f free e = subst (λ (r : Option Values). IfSome r (HasValues f)) (pending_is_given words free) (values_found words f free e)
+
+abbrev texts : Option (List ℕ) → Option (List ℕ) → Option (List ℕ) → Option (List ℕ) → Option (List ℕ) → Texts
+texts a b c d e = record { of_operand = a; of_kinds = b; of_node = c; of_inc = d; of_turns = e }
+
+same_texts : (a b c d e f g h i j : Option (List ℕ)) → a ≡ f → b ≡ g → c ≡ h → d ≡ i → e ≡ j → texts a b c d e ≡ texts f g h i j
+same_texts a b c d e f g h i j p q r s t =
+    ap (λ x. texts x b c d e) p ∙ (ap (λ x. texts f x c d e) q ∙ (ap (λ x. texts f g x d e) r ∙ (ap (λ x. texts f g h x e) s ∙ ap (λ x. texts f g h i x) t)))
+
+-- the texts are those that a parse found
+pub record AreFound (o : Options) (f : Found) : Type 0 where
+  pub operand : text_of o.operand ≡ first_value f (codes "operand")
+  pub kinds : text_of o.kinds ≡ first_value f (codes "kinds")
+  pub node : text_of o.node ≡ first_value f (codes "node")
+  pub inc : text_of o.inc ≡ first_value f (codes "inc")
+  pub turns : text_of o.turns ≡ first_value f (codes "turns")
+
+texts_by : (r : Option Values) (o : Options) (f : Found) → IsSome r → IfSome r (HasValues f) → AreFound o f → Some (seen o) ≡ option_map texts_in r
+texts_by None o f some h t = absurd cc
+texts_by (Some values) o f some h t =
+    ap (λ x. Some x) (same_texts _ _ _ _ _ _ _ _ _ _ (t.operand ∙ h.operand_is) (t.kinds ∙ h.kinds_is) (t.node ∙ h.node_is) (t.inc ∙ h.inc_is) (t.turns ∙ h.turns_is))
+
+pub texts_of_ok : (words : List (List ℕ)) (o : Options) (f : Found) → IsSome (given_of words) → IfSome (given_of words) (HasValues f) → AreFound o f
+    → option_map seen (Some o) ≡ option_map texts_in (given_of words)
+texts_of_ok words o f some h t = texts_by (given_of words) o f some h t
+
+pub no_texts : (words : List (List ℕ)) → given_of words ≡ None → option_map seen None ≡ option_map texts_in (given_of words)
+no_texts words e = ap (λ r. option_map texts_in r) (sym e)
+
+pub no_texts_of_short : (words : List (List ℕ)) → has_short words ≡ true → option_map seen None ≡ option_map texts_in (given_of words)
+no_texts_of_short words h = no_texts words (none_of_short words h)

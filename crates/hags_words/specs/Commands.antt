@@ -1,0 +1,99 @@
+-- The command that the words of a command line spell.
+use Rattle.std.specs.Prelude.{ℕ, ◌≤◌, IfSome, List, [], ◌∷◌, codes, Option, Some, None, is_some, ◌||◌, if◌then◌else◌, unwrap_or}
+use Rattle.std.specs.Str.{bytes_eq}
+use Rattle.packet_bodies.specs.declared.body.What.{What}
+use Rattle.packet_bodies.specs.declared.body.What.TheVariants as what
+use Rattle.hags_words.specs.Options.{◌>>=◌, given_of}
+use Rattle.hags_words.specs.Texts.{Texts, texts_in}
+use Rattle.hags_words.specs.Numbers.{number_of, number_if_any}
+use Rattle.hags_words.specs.declared.command.Command.{Command}
+use Rattle.hags_words.specs.declared.command.Command.TheVariants as command
+use Rattle.hags_words.specs.declared.command.CommandName.{CommandName}
+use Rattle.hags_words.specs.declared.command.CommandName.TheVariants as name
+
+abbrev pub last_u32 : ℕ
+last_u32 = 4294967295
+
+-- the word of a command
+unfoldable pub name_of : List ℕ → Option CommandName
+name_of word = if bytes_eq word (codes "run") then Some name.Run
+    else (if bytes_eq word (codes "load") then Some name.Load
+    else (if bytes_eq word (codes "daemon") then Some name.Daemon
+    else (if bytes_eq word (codes "status") then Some name.Status else None)))
+
+-- what a status asks for
+unfoldable pub what_of : List ℕ → Option What
+what_of word = if bytes_eq word (codes "hats") then Some what.Hats
+    else (if bytes_eq word (codes "hagsns") then Some what.Hagsns
+    else (if bytes_eq word (codes "hagsgr") then Some what.Hagsgr
+    else (if bytes_eq word (codes "hagsvote") then Some what.Hagsvote else None)))
+
+-- `run [--kinds LIST]`
+unfoldable pub run_of : Texts → Option Command
+run_of t = if is_some t.of_operand || (is_some t.of_node || (is_some t.of_inc || is_some t.of_turns)) then None
+    else Some (command.Run t.of_kinds)
+
+-- `load N`
+unfoldable pub load_of : Texts → Option Command
+load_of t = if is_some t.of_kinds || (is_some t.of_node || (is_some t.of_inc || is_some t.of_turns)) then None
+    else (do
+      text ← t.of_operand
+      views ← number_of 1 2000 text
+      Some (command.Load views))
+
+-- `daemon --node N [--inc I] [--turns T]`
+unfoldable pub daemon_of : Texts → Option Command
+daemon_of t = if is_some t.of_operand || is_some t.of_kinds then None
+    else (do
+      text ← t.of_node
+      node ← number_of 1 32 text
+      incarnation ← number_if_any 1 last_u32 t.of_inc
+      turns ← number_if_any 1 last_u32 t.of_turns
+      Some (command.Daemon node incarnation (unwrap_or turns last_u32)))
+
+-- `status WHAT --node N [--turns T]`
+unfoldable pub status_of : Texts → Option Command
+status_of t = if is_some t.of_kinds || is_some t.of_inc then None
+    else (do
+      word ← t.of_operand
+      what ← what_of word
+      text ← t.of_node
+      node ← number_of 1 32 text
+      turns ← number_if_any 1 last_u32 t.of_turns
+      Some (command.Status what node (unwrap_or turns 1000)))
+
+unfoldable pub command_with : CommandName → Texts → Option Command
+command_with name.Run t = run_of t
+command_with name.Load t = load_of t
+command_with name.Daemon t = daemon_of t
+command_with name.Status t = status_of t
+
+-- `--help` or `--version`, and nothing else
+unfoldable pub help_or_version : Option CommandName → List (List ℕ) → Option Command
+help_or_version about (word ∷ []) = if bytes_eq word (codes "--help") then Some (command.Help about)
+    else (if bytes_eq word (codes "--version") then Some command.Version else None)
+help_or_version about _ = None
+
+abbrev pub or_else : {A : Type 0} → Option A → Option A → Option A
+or_else (Some x) y = Some x
+or_else None y = y
+
+-- the words after that of a command
+unfoldable pub command_after : CommandName → List (List ℕ) → Option Command
+command_after n words = or_else (help_or_version (Some n) words) (given_of words >>= λ values. command_with n (texts_in values))
+
+abbrev pub command_named : Option CommandName → List ℕ → List (List ℕ) → Option Command
+command_named (Some n) word words = command_after n words
+command_named None word words = help_or_version None (word ∷ words)
+
+-- the command, or none where the words are of no command: usage
+unfoldable pub command_of : List (List ℕ) → Option Command
+command_of [] = None
+command_of (word ∷ words) = command_named (name_of word) word words
+
+-- its numbers are within their ranges
+abbrev pub IsWithin : Command → Type 0
+IsWithin (command.Load views) = (1 ≤ views) × (views ≤ 2000)
+IsWithin (command.Daemon node incarnation turns) = (1 ≤ node) × (node ≤ 32) × IfSome incarnation (λ i. 1 ≤ i) × (1 ≤ turns)
+IsWithin (command.Status what node turns) = (1 ≤ node) × (node ≤ 32) × (1 ≤ turns)
+IsWithin _ = Unit {0}

@@ -1,0 +1,245 @@
+//! The command that the words of a command line spell.
+ghost use Rattle.std.specs.Prelude.{◌≡◌, IfOk, IfSome, map, string_bytes};
+ghost use Rattle.hags_words.specs.Texts.{seen, text_of};
+ghost use Rattle.hags_words.specs.Commands.{name_of, what_of, run_of, load_of, daemon_of, status_of, command_with, help_or_version, command_after, command_of, IsWithin};
+
+use crate::numbers::{node_number, number, number_if_any};
+use crate::options::{Options, read_options};
+use packet_bodies::What;
+use rsct_packet::{List, NoMemory};
+use std::alloc::Global;
+
+/// How many views the script of `load` has at most.
+const MOST_VIEWS: u32 = 2_000;
+
+/// How many datagrams `status` receives at most, unless `--turns` says it.
+const STATUS_TURNS: u32 = 1_000;
+
+/// The commands by their words: `run`, `load`, `daemon` and `status`.
+#[derive(Clone, Copy, Debug, PartialEq, Eq)]
+pub enum CommandName {
+    Run,
+    Load,
+    Daemon,
+    Status,
+}
+
+/// What a command line asks for.
+#[derive(Drop)]
+pub enum Command {
+    /// `run [--kinds LIST]`: play a script. The bytes of LIST as they stand: whether they list kinds of records is for
+    /// whoever reads kinds.
+    Run {
+        kinds: Option<List<u8>>,
+    },
+    /// `load N`: play the generated script of N views, from 1 to 2,000.
+    Load {
+        views: u32,
+    },
+    /// `daemon --node N [--inc I] [--turns T]`: serve node N, from 1 to 32, in the incarnation I, from 1 on, or in one
+    /// that the clock gives, for T turns, from 1 on; for 4,294,967,295 where T is not told.
+    Daemon {
+        node: u8,
+        incarnation: Option<u32>,
+        turns: u32,
+    },
+    /// `status WHAT --node N [--turns T]`: ask node N, from 1 to 32, and receive T times at most, from 1 on; 1,000 times
+    /// where T is not told.
+    Status {
+        what: What,
+        node: u8,
+        turns: u32,
+    },
+    /// `--help`, alone or after a command: the text about all commands, or about that one.
+    Help {
+        about: Option<CommandName>,
+    },
+    /// `--version`, alone or after a command.
+    Version,
+}
+
+/// The command of this word.
+#[tactic(auto, unfolding(crate::specs::Commands::name_of))]
+fn name_of(word: &[u8]) -> Option<CommandName>
+    ensures { result ≡ name_of word.now }
+{
+    if word == b"run".as_slice() {
+        Some(CommandName::Run)
+    } else if word == b"load".as_slice() {
+        Some(CommandName::Load)
+    } else if word == b"daemon".as_slice() {
+        Some(CommandName::Daemon)
+    } else if word == b"status".as_slice() {
+        Some(CommandName::Status)
+    } else {
+        None
+    }
+}
+
+/// What a status of this word asks for.
+#[tactic(auto, unfolding(crate::specs::Commands::what_of))]
+fn what_of(word: &[u8]) -> Option<What>
+    ensures { result ≡ what_of word.now }
+{
+    if word == b"hats".as_slice() {
+        Some(What::Hats)
+    } else if word == b"hagsns".as_slice() {
+        Some(What::Hagsns)
+    } else if word == b"hagsgr".as_slice() {
+        Some(What::Hagsgr)
+    } else if word == b"hagsvote".as_slice() {
+        Some(What::Hagsvote)
+    } else {
+        None
+    }
+}
+
+/// The bytes of a text, in memory of their own.
+fn owned(alloc: Global, text: Option<&str>) -> Result<Option<List<u8>>, NoMemory>
+    ensures { IfOk result (λ bytes. bytes ≡ text_of text.entry) }
+{
+    match text {
+        None => Ok(None),
+        Some(text) => Ok(Some(List::of(alloc, text.as_bytes())?)),
+    }
+}
+
+/// `run [--kinds LIST]`
+#[tactic(auto, unfolding(crate::specs::Commands::run_of))]
+fn run_of(alloc: Global, options: Options<'_>) -> Result<Option<Command>, NoMemory>
+    ensures value { IfOk result (λ command. command ≡ run_of (seen options.entry)) }
+    ensures within { IfOk result (λ command. IfSome command IsWithin) }
+{
+    if options.operand.is_some()
+        || options.node.is_some()
+        || options.inc.is_some()
+        || options.turns.is_some()
+    {
+        return Ok(None);
+    }
+    let kinds = owned(alloc, options.kinds)?;
+    Ok(Some(Command::Run { kinds }))
+}
+
+/// `load N`
+#[tactic(auto, unfolding(crate::specs::Commands::load_of))]
+fn load_of(options: Options<'_>) -> Option<Command>
+    ensures value { result ≡ load_of (seen options.entry) }
+    ensures within { IfSome result IsWithin }
+{
+    if options.kinds.is_some()
+        || options.node.is_some()
+        || options.inc.is_some()
+        || options.turns.is_some()
+    {
+        return None;
+    }
+    let views = number(1, MOST_VIEWS, options.operand?)?;
+    Some(Command::Load { views })
+}
+
+/// `daemon --node N [--inc I] [--turns T]`
+#[tactic(auto, unfolding(crate::specs::Commands::daemon_of))]
+fn daemon_of(options: Options<'_>) -> Option<Command>
+    ensures value { result ≡ daemon_of (seen options.entry) }
+    ensures within { IfSome result IsWithin }
+{
+    if options.operand.is_some() || options.kinds.is_some() {
+        return None;
+    }
+    let node = node_number(options.node?)?;
+    let incarnation = number_if_any(1, u32::MAX, options.inc)?;
+    let turns = number_if_any(1, u32::MAX, options.turns)?.unwrap_or(u32::MAX);
+    Some(Command::Daemon {
+        node,
+        incarnation,
+        turns,
+    })
+}
+
+/// `status WHAT --node N [--turns T]`
+#[tactic(auto, unfolding(crate::specs::Commands::status_of))]
+fn status_of(options: Options<'_>) -> Option<Command>
+    ensures value { result ≡ status_of (seen options.entry) }
+    ensures within { IfSome result IsWithin }
+{
+    if options.kinds.is_some() || options.inc.is_some() {
+        return None;
+    }
+    let what = what_of(options.operand?.as_bytes())?;
+    let node = node_number(options.node?)?;
+    let turns = number_if_any(1, u32::MAX, options.turns)?.unwrap_or(STATUS_TURNS);
+    Some(Command::Status { what, node, turns })
+}
+
+/// The command of this name with these options.
+#[tactic(auto, unfolding(crate::specs::Commands::command_with))]
+fn command_with(
+    alloc: Global,
+    name: CommandName,
+    options: Options<'_>,
+) -> Result<Option<Command>, NoMemory>
+    ensures value { IfOk result (λ command. command ≡ command_with name (seen options.entry)) }
+    ensures within { IfOk result (λ command. IfSome command IsWithin) }
+{
+    match name {
+        CommandName::Run => run_of(alloc, options),
+        CommandName::Load => Ok(load_of(options)),
+        CommandName::Daemon => Ok(daemon_of(options)),
+        CommandName::Status => Ok(status_of(options)),
+    }
+}
+
+/// `--help` or `--version`, and nothing else.
+#[tactic(auto, unfolding(crate::specs::Commands::help_or_version))]
+fn help_or_version(about: Option<CommandName>, words: &[String]) -> Option<Command>
+    ensures value { result ≡ help_or_version about (map string_bytes words.now) }
+    ensures within { IfSome result IsWithin }
+{
+    let [word] = words else {
+        return None;
+    };
+    if word.as_bytes() == b"--help".as_slice() {
+        Some(Command::Help { about })
+    } else if word.as_bytes() == b"--version".as_slice() {
+        Some(Command::Version)
+    } else {
+        None
+    }
+}
+
+/// The command of this name, with the words after its name.
+#[tactic(auto, unfolding(crate::specs::Commands::command_after))]
+fn command_after(
+    alloc: Global,
+    name: CommandName,
+    words: &[String],
+) -> Result<Option<Command>, NoMemory>
+    ensures value { IfOk result (λ command. command ≡
+        command_after name (map string_bytes words.now)) }
+    ensures within { IfOk result (λ command. IfSome command IsWithin) }
+{
+    if let Some(command) = help_or_version(Some(name), words) {
+        return Ok(Some(command));
+    }
+    match read_options(alloc, words)? {
+        None => Ok(None),
+        Some(options) => command_with(alloc, name, options),
+    }
+}
+
+/// The command that the words behind the program's name spell, whatever they are; `None` exactly where they spell none,
+/// which is a faulty command line. Numbers are within their ranges. `Err` only where memory runs out.
+#[tactic(auto, unfolding(crate::specs::Commands::command_of))]
+pub fn read_command(alloc: Global, words: &[String]) -> Result<Option<Command>, NoMemory>
+    ensures value { IfOk result (λ command. command ≡ command_of (map string_bytes words.now)) }
+    ensures within { IfOk result (λ command. IfSome command IsWithin) }
+{
+    match words {
+        [] => Ok(None),
+        [first, rest @ ..] => match name_of(first.as_bytes()) {
+            Some(name) => command_after(alloc, name, rest),
+            None => Ok(help_or_version(None, words)),
+        },
+    }
+}

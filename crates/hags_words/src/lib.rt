@@ -1,0 +1,15 @@
+//! The words of the command line: which command they spell, and what `--help` and `--version` say.
+#![tactic(auto)]
+
+mod command;
+mod help;
+mod laws;
+mod numbers;
+mod options;
+
+pub use command::{Command, CommandName, read_command};
+pub use help::{VERSION, help_text};
+pub use laws::words_give_what_they_say;
+
+#[cfg(test)]
+mod tests;

@@ -1,0 +1,164 @@
+//! Command lines and what they spell. A line here is cut into words at each space, so two spaces in a row, or one at the
+//! end, make an empty word.
+use crate::command::CommandName;
+use crate::{Command, VERSION, help_text, read_command};
+use std::alloc::{AllocError, Global};
+use std::str;
+use std::test::Fail;
+
+fn words_of(alloc: Global, line: &str) -> Result<Vec<String>, AllocError> {
+    let mut words = Vec::new(alloc);
+    for word in line.split(' ') {
+        words.push(String::from_str(alloc, word)?)?;
+    }
+    Ok(words)
+}
+
+/// The command and what it was given, in one line.
+fn text_of(alloc: Global, command: &Command) -> Result<String, AllocError> {
+    match command {
+        Command::Run { kinds: None } => String::from_str(alloc, "run"),
+        Command::Run { kinds: Some(kinds) } => {
+            let kinds = str::from_utf8(kinds.as_slice()).unwrap_or("no text");
+            format!(in alloc; "run [{kinds}]")
+        }
+        Command::Load { views } => format!(in alloc; "load {views}"),
+        Command::Daemon {
+            node,
+            incarnation,
+            turns,
+        } => format!(in alloc; "daemon {node} {incarnation:?} {turns}"),
+        Command::Status { what, node, turns } => format!(in alloc;
+            "status {what:?} {node} {turns}"
+        ),
+        Command::Help { about } => format!(in alloc; "help {about:?}"),
+        Command::Version => String::from_str(alloc, "version"),
+    }
+}
+
+/// Whether the words are read, and spell what the text says; `usage` where they are of no command.
+fn reads(alloc: Global, words: &[String], want: &str) -> Result<bool, AllocError> {
+    match read_command(alloc, words) {
+        Ok(Some(command)) => Ok(text_of(alloc, &command)?.as_str() == want),
+        Ok(None) => Ok(want == "usage"),
+        Err(_) => Ok(false),
+    }
+}
+
+fn line_reads(alloc: Global, line: &str, want: &str) -> Result<bool, AllocError> {
+    let words = words_of(alloc, line)?;
+    reads(alloc, words.as_slice(), want)
+}
+
+#[test]
+fn commands_are_read_in_every_form(rt: HostRuntime) -> Result<(), Fail> {
+    for (line, want) in [
+        ("run", "run"),
+        ("run --kinds put", "run [put]"),
+        ("run --kinds=put,heard", "run [put,heard]"),
+        ("run --kinds=", "run []"),
+        ("run --kinds ", "run []"),
+        ("run --kinds=a=b", "run [a=b]"),
+        ("run --", "run"),
+        ("run --kinds put --", "run [put]"),
+        ("load 1", "load 1"),
+        ("load 2000", "load 2000"),
+        ("load -- 40", "load 40"),
+        ("daemon --node 1", "daemon 1 None 4294967295"),
+        ("daemon --node=32 --inc=1", "daemon 32 Some(1) 4294967295"),
+        (
+            "daemon --turns 3 --inc 4294967295 --node 7",
+            "daemon 7 Some(4294967295) 3",
+        ),
+        (
+            "daemon --inc=5 --node 1 --turns=4294967295 --",
+            "daemon 1 Some(5) 4294967295",
+        ),
+        ("status hats --node 1", "status Hats 1 1000"),
+        ("status --node=2 hagsns", "status Hagsns 2 1000"),
+        ("status --turns 1 --node 3 -- hagsgr", "status Hagsgr 3 1"),
+        (
+            "status --node 32 hagsvote --turns=9",
+            "status Hagsvote 32 9",
+        ),
+        ("--help", "help None"),
+        ("run --help", "help Some(Run)"),
+        ("daemon --help", "help Some(Daemon)"),
+        ("--version", "version"),
+        ("status --version", "version"),
+    ] {
+        assert!(rt; line_reads(rt.alloc(), line, want)?, "{line}");
+    }
+    Ok(())
+}
+
+#[test]
+fn faulty_lines_are_usage(rt: HostRuntime) -> Result<(), Fail> {
+    for line in [
+        "",
+        "Run",
+        "runs",
+        "-- run",
+        "--kinds put",
+        "run put",
+        "run -",
+        "run --kinds",
+        "run --kinds --",
+        "run --kinds -- put",
+        "run --kinds put --kinds heard",
+        "run --kinds=put --kinds=put",
+        "run --kind put",
+        "run --Kinds put",
+        "run -k put",
+        "run --kinds -x",
+        "run --node 1",
+        "run ",
+        "run -- --",
+        "run --help --help",
+        "run --version --kinds put",
+        "help",
+        "run -h",
+        "load",
+        "load 0",
+        "load 2001",
+        "load 01",
+        "load +1",
+        "load -1",
+        "load -- -1",
+        "load 1 2",
+        "load 1 -- 2",
+        "load 1 ",
+        "load 1e3",
+        "load 99999999999999999999",
+        "load --turns 3 4",
+        "daemon",
+        "daemon --node 0",
+        "daemon --node 33",
+        "daemon --node 1 --inc 0",
+        "daemon --node 1 --inc 4294967296",
+        "daemon --node 1 --turns 0",
+        "daemon --node 1 2",
+        "daemon --node 1 --node=1",
+        "daemon --node=",
+        "daemon --inc 3",
+        "status --node 1",
+        "status hats",
+        "status Hats --node 1",
+        "status hats hats --node 1",
+        "status hats --node 1 --inc 1",
+        "client --node 1",
+    ] {
+        assert!(rt; line_reads(rt.alloc(), line, "usage")?, "{line}");
+    }
+    assert!(rt; reads(rt.alloc(), &[], "usage")?);
+    Ok(())
+}
+
+#[test]
+fn help_is_of_what_is_built(rt: HostRuntime) {
+    for about in [None, Some(CommandName::Run)] {
+        assert!(rt; help_text(about).is_some_and(|text| text.starts_with(b"hags".as_slice())));
+    }
+    assert!(rt; help_text(Some(CommandName::Daemon)).is_none());
+    assert!(rt; VERSION.ends_with(b"\n".as_slice()));
+}

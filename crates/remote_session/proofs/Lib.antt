@@ -1,0 +1,9 @@
+pub mod SessionLaws
+pub mod MessageLaws
+pub mod ListLaws
+pub mod Parts
+pub mod Changes
+pub mod Steps
+pub mod DaemonSteps
+pub mod FarSteps
+pub mod Runs

@@ -1,0 +1,6 @@
+pub mod Messages
+pub mod Daemon
+pub mod Client
+pub mod World
+pub mod Laws
+pub mod WorkedRows
