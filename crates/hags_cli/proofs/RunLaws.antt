@@ -14,8 +14,8 @@ use Rattle.net_script.specs.transcript.Kinds.{all_kinds, kinds_text}
 use Rattle.net_script.proofs.transcript_laws.KindLaws.{all_lines}
 use Rattle.net_script.specs.PlaySafe.{ScriptIsSafe, KeptRunIsSafe, MayPlay}
 use Rattle.net_script.proofs.PlaySafeLaws.{scripts_may_play}
-use Rattle.hags_cli.specs.declared.run.Ending.{Ending}
-use Rattle.hags_cli.specs.declared.run.Ending.TheVariants as ending
+use Rattle.hags_cli.specs.declared.run_command.Ending.{Ending}
+use Rattle.hags_cli.specs.declared.run_command.Ending.TheVariants as ending
 use Rattle.hags_cli.specs.Run.{ReadsAs, PlaysAll, PlaysPast, PlaysFront, MayHavePlayed, IsOutside, SaysLine, SpellsScript, OnBadLine, status_of, ending_text}
 use Rattle.hags_cli.proofs.LongInputs.{script_within}
 

@@ -9,8 +9,8 @@ use Rattle.script_reader.specs.world_model.Reading.{IsScript, IsNone, script_of}
 use Rattle.script_reader.specs.world_model.Play.{script_records, lines_text, written}
 use Rattle.script_reader.specs.world_model.Kept.{kept_past, kept_records, most_kept}
 use Rattle.net_script.specs.PlaySafe.{ScriptIsSafe, KeptRunIsSafe}
-use Rattle.hags_cli.specs.declared.run.Ending.{Ending}
-use Rattle.hags_cli.specs.declared.run.Ending.TheVariants as ending
+use Rattle.hags_cli.specs.declared.run_command.Ending.{Ending}
+use Rattle.hags_cli.specs.declared.run_command.Ending.TheVariants as ending
 
 -- an input is read as this front of it is
 abbrev pub ReadsAs : List ℕ → List ℕ → Type 0

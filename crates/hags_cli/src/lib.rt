@@ -2,12 +2,12 @@
 #![tactic(auto)]
 
 mod input;
-mod run;
+mod run_command;
 mod status;
 
 pub use net_script;
 pub use net_script::{hags_io, play_state, transcript};
-pub use run::{Ending, MOST_KEPT, run};
+pub use run_command::{Ending, MOST_KEPT, run};
 pub use script_reader;
 pub use script_reader::{client_callbacks, proposal_core, rsct_packet};
 pub use status::hags;

@@ -4,7 +4,7 @@ ghost use Rattle.std.specs.Io.KnownBytes.{IsAtEnd, Keeps};
 ghost use Rattle.net_script.specs.hags_io.Edges.{Rose, GrowsByFront};
 ghost use Rattle.hags_cli.specs.Run.{PlaysAll, PlaysPast, PlaysFront, IsOutside, SaysLine, SpellsScript, MayHavePlayed, status_of, said_of, ending_text, is_run};
 
-use crate::run::{Ending, run};
+use crate::run_command::{Ending, run};
 use net_script::hags_io::{Put, Sink, Source};
 use net_script::transcript::fault_line;
 use std::alloc::Global;

@@ -2,7 +2,7 @@
 use Rattle.std.proofs.Common.{sym, ◌∙◌}
 use Rattle.phase_closing.specs.Parts.{part_of}
 use Rattle.phase_closing.proofs.ClosingLaws.{carried_here, carried_on, carried_last}
-use Rattle.phase_closing.proofs.closing_entry.first_carried.Goals as goal
+use Rattle.phase_closing.proofs.closing.first_carried.Goals as goal
 
 pub returns-in-Some : goal.returns-in-Some
 returns-in-Some c =
