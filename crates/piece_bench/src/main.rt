@@ -2,8 +2,6 @@
 //! and prints how long a piece and a byte took; with none it does so with 1,000 pieces and prints the counts alone.
 #![tactic(auto)]
 
-ghost use Rattle.std.specs.Prelude.{◌<◌};
-
 use piece_link::{Joiner, PIECE_SIZE, cut};
 use std::alloc::{AllocError, Global};
 use std::time::{Duration, Instant};
@@ -50,13 +48,16 @@ fn join_all(alloc: Global, pieces: &[Vec<u8>]) -> u32 {
 }
 
 /// Cuts and joins so many pieces, in messages of so many each.
-fn measure<R: std::rt::Clock>(rt: &R, alloc: Global, count: u32, total: u32) -> io::Result<Measured>
-    requires { 0 < count }
-{
+fn measure<R: std::rt::Clock>(
+    rt: &R,
+    alloc: Global,
+    count: u32,
+    total: u32,
+) -> io::Result<Measured> {
     let message = message_of(alloc, count)?;
     let mut pieces = Vec::new(alloc);
     let start = Instant::now(rt)?;
-    let cut = cut_all(alloc, message.as_slice(), total / count, &mut pieces);
+    let cut = cut_all(alloc, message.as_slice(), total / count.max(1), &mut pieces);
     let cutting = start.elapsed(rt)?;
     let start = Instant::now(rt)?;
     let joined = join_all(alloc, pieces.as_slice());
@@ -75,41 +76,57 @@ fn each(took: Duration, total: u32) -> u64 {
     nanos / u64::from(total).max(1)
 }
 
-/// The first in hundredths of the second.
-fn hundredths(x: u64, of: u64) -> u64 {
-    x.saturating_mul(100) / of.max(1)
+/// A number in hundredths of another.
+fn hundredths(number: u64, of: u64) -> u64 {
+    number.saturating_mul(100) / of.max(1)
+}
+
+/// How long 1,024 bytes take, where a piece of 1,176 takes so long.
+fn of_kib(nanos: u64) -> u64 {
+    nanos.saturating_mul(1024) / 1176
+}
+
+/// Cuts and joins so many pieces, and prints how many messages they were; and, where there is a measure of lone pieces
+/// to compare with, how long each took.
+fn report<R: std::rt::Clock + Print>(
+    rt: &R,
+    alloc: Global,
+    count: u32,
+    total: u32,
+    lone: Option<(u64, u64)>,
+) -> io::Result<()> {
+    let measured = measure(rt, alloc, count, total)?;
+    let (messages, joined) = (measured.cut, measured.joined);
+    println!(rt; "{messages} messages of {count} pieces cut, {joined} joined")?;
+    if let Some((lone_cut, lone_joined)) = lone {
+        let cutting = each(measured.cutting, total);
+        let joining = each(measured.joining, total);
+        let (cut_kib, join_kib) = (of_kib(cutting), of_kib(joining));
+        let (cut_ratio, join_ratio) = (
+            hundredths(cutting, lone_cut),
+            hundredths(joining, lone_joined),
+        );
+        println!(rt; "  a piece: {cutting} ns to cut, {joining} ns to join")?;
+        println!(rt; "  1,024 bytes: {cut_kib} ns to cut, {join_kib} ns to join")?;
+        println!(rt; "  in hundredths of a lone piece: {cut_ratio} to cut, {join_ratio} to join")?;
+    }
+    Ok(())
 }
 
 fn main(rt: HostRuntime) -> io::Result<()> {
     let alloc = rt.alloc();
     let rates = env::args(&rt)?.count() > 1;
     let total = if rates { 50_000 } else { 1_000 };
-    let first = measure(&rt, alloc, 1, total)?;
-    let (mut cutting, mut joining) = (each(first.cutting, total), each(first.joining, total));
-    for (i, count) in COUNTS.iter().enumerate() {
-        let count = *count;
-        let Measured {
-            cut,
-            joined,
-            cutting: cut_time,
-            joining: join_time,
-        } = measure(&rt, alloc, count.max(1), total)?;
-        println!(rt; "{cut} messages of {count} pieces cut, {joined} joined")?;
-        let (cut_each, join_each) = (each(cut_time, total), each(join_time, total));
-        if i == 0 {
-            cutting = cut_each;
-            joining = join_each;
-        }
-        if rates {
-            let (cut_ratio, join_ratio) = (
-                hundredths(cut_each, cutting),
-                hundredths(join_each, joining),
-            );
-            let (cut_kib, join_kib) = (cut_each * 1024 / 1176, join_each * 1024 / 1176);
-            println!(rt;
-                "  a piece: {cut_each} ns to cut, {join_each} ns to join; 1,024 bytes: {cut_kib} ns and {join_kib} ns; of a lone piece's: {cut_ratio} and {join_ratio} hundredths"
-            )?;
-        }
+    let mut lone = None;
+    if rates {
+        let warm = measure(&rt, alloc, 1, total)?;
+        let again = measure(&rt, alloc, 1, total)?;
+        let cutting = warm.cutting.min(again.cutting);
+        let joining = warm.joining.min(again.joining);
+        lone = Some((each(cutting, total), each(joining, total)));
+    }
+    for count in COUNTS {
+        report(&rt, alloc, count, total, lone)?;
     }
     Ok(())
 }
