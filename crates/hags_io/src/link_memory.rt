@@ -185,7 +185,8 @@ impl Link for MemLink {
     }
 
     fn send(&mut self, node: u8, network: u8, bytes: &[u8]) -> Put
-        ensures told { Sends (Some self.old.calls) (Some self.new.calls) result node network bytes.now }
+        ensures told { Sends (Some self.old.calls) (Some self.new.calls)
+            result node network bytes.now }
         ensures places { Same (Some self.old.places) (Some self.new.places) }
         ensures opened { Same (Some self.old.opened) (Some self.new.opened) }
         ensures later { self.old.faults ≤ self.new.faults }
