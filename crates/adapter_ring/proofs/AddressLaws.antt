@@ -3,11 +3,11 @@ use Rattle.std.proofs.Common.{◌≡◌, ◌≢◌, ℕ, ◌<◌, ◌≤◌, ◌
 use Rattle.std.specs.Prelude.{◌==◌, ◌&&◌, not, slice_index, ◌-◌, filter}
 use Rattle.std.specs.List.{fold}
 use Rattle.std.proofs.lemmas.Bool.{ltb-true, ltb-false, lt-ltb, cases_lt, and_parts, and_from, or_cases, or_left, or_right, eq-eqb, eqb-true, ne_eqb, not_from_false}
-use Rattle.ring_commit.specs.rsct_packet.declared.mask.Mask.{Mask}
-use Rattle.ring_commit.specs.rsct_packet.Mask.{is_node, no_nodes, has_node, with_node, without_node, union_of, nodes_of}
-use Rattle.ring_commit.specs.rsct_packet.Search.{Has}
-use Rattle.ring_commit.proofs.rsct_packet_laws.HasLaws.{has_filter, filter_has}
-use Rattle.ring_commit.proofs.rsct_packet_laws.MaskLaws.{has_listed, listed_has, has_no_nodes, has_with, has_without, has_union}
+use Rattle.rsct_packet.specs.declared.mask.Mask.{Mask}
+use Rattle.rsct_packet.specs.Mask.{is_node, no_nodes, has_node, with_node, without_node, union_of, nodes_of}
+use Rattle.rsct_packet.specs.Search.{Has}
+use Rattle.rsct_packet.proofs.HasLaws.{has_filter, filter_has}
+use Rattle.rsct_packet.proofs.MaskLaws.{has_listed, listed_has, has_no_nodes, has_with, has_without, has_union}
 use Rattle.adapter_ring.specs.declared.ring.RingSettings.{RingSettings}
 use Rattle.adapter_ring.specs.Addresses.{addr_of, is_higher, higher_of, highest, highest_of, next_lower, some_of, neighbour_in, node_or_none, crown_prince_in}
 use Rattle.adapter_ring.specs.Agreement.{AddressesDiffer, HasGreatest, IsNeighbour}

@@ -1,4 +1,3 @@
-pub mod Below
 pub mod AddressLaws
 pub mod Parts
 pub mod Works

@@ -3,11 +3,11 @@ use Rattle.std.proofs.Common.{◌≡◌, ℕ, ◌<◌, ◌≤◌, ◌⊎◌, Boo
 use Rattle.std.specs.Prelude.{◌==◌, ◌&&◌, ◌||◌, not, nat_lt, map, filter, find, is_none, slice_get}
 use Rattle.std.specs.List.{list_all}
 use Rattle.std.proofs.lemmas.Bool.{and_parts, or_cases, eqb-false, eq-eqb, not-true, ltb-true}
-use Rattle.ring_commit.specs.rsct_packet.declared.ids.RingId.{RingId}
-use Rattle.ring_commit.specs.rsct_packet.declared.mask.Mask.{Mask}
-use Rattle.ring_commit.specs.rsct_packet.Mask.{no_nodes, with_node}
-use Rattle.ring_commit.specs.rsct_packet.Search.{Has}
-use Rattle.ring_commit.proofs.rsct_packet_laws.HasLaws.{all_has, find_has, find_none, get_has, has_filter, has_append, has_map}
+use Rattle.rsct_packet.specs.declared.ids.RingId.{RingId}
+use Rattle.rsct_packet.specs.declared.mask.Mask.{Mask}
+use Rattle.rsct_packet.specs.Mask.{no_nodes, with_node}
+use Rattle.rsct_packet.specs.Search.{Has}
+use Rattle.rsct_packet.proofs.HasLaws.{all_has, find_has, find_none, get_has, has_filter, has_append, has_map}
 use Rattle.adapter_ring.specs.declared.packet.RingEvent.{RingEvent}
 use Rattle.adapter_ring.specs.declared.packet.RingEvent.TheVariants.{Tick, Packet}
 use Rattle.adapter_ring.specs.declared.ring.Ring.{Ring}

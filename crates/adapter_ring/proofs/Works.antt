@@ -2,13 +2,13 @@
 use Rattle.std.proofs.Common.{◌≡◌, ◌≢◌, ℕ, ◌+◌, ◌*◌, ◌≤◌, true, false, List, [], ◌∷◌, ◌++◌, Option, Some, None, refl, sym, ap, ◌∙◌, subst, inl, inr, ⊎_elim, arith}
 use Rattle.std.specs.Prelude.{◌==◌, ◌&&◌, not, nat_le, map, is_none, IsTrue}
 use Rattle.std.proofs.lemmas.Bool.{and_parts, or_cases, eqb-true, eqb-false, not-true}
-use Rattle.ring_commit.specs.rsct_packet.declared.ids.RingId.{RingId}
-use Rattle.ring_commit.specs.rsct_packet.declared.mask.Mask.{Mask}
-use Rattle.ring_commit.specs.rsct_packet.Ids.{same_ring, last_u32, risen}
-use Rattle.ring_commit.specs.rsct_packet.Mask.{no_nodes, has_node, with_node, without_node, union_of, nodes_of}
-use Rattle.ring_commit.specs.rsct_packet.Search.{Has}
-use Rattle.ring_commit.proofs.rsct_packet_laws.HasLaws.{all_has, has_append, has_map}
-use Rattle.ring_commit.proofs.rsct_packet_laws.MaskLaws.{has_listed}
+use Rattle.rsct_packet.specs.declared.ids.RingId.{RingId}
+use Rattle.rsct_packet.specs.declared.mask.Mask.{Mask}
+use Rattle.rsct_packet.specs.Ids.{same_ring, last_u32, risen}
+use Rattle.rsct_packet.specs.Mask.{no_nodes, has_node, with_node, without_node, union_of, nodes_of}
+use Rattle.rsct_packet.specs.Search.{Has}
+use Rattle.rsct_packet.proofs.HasLaws.{all_has, has_append, has_map}
+use Rattle.rsct_packet.proofs.MaskLaws.{has_listed}
 use Rattle.ring_commit.specs.declared.gather.Gather.{Gather}
 use Rattle.ring_commit.specs.Gather.{gather_opened, is_awaited, gather_acked, all_acked}
 use Rattle.adapter_ring.specs.declared.packet.RingPacket.{RingPacket}

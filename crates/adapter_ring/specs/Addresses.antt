@@ -1,8 +1,8 @@
 -- The order of adapters by address.
 use Rattle.std.specs.Prelude.{ℕ, ◌-◌, Bool, true, false, not, ◌==◌, ◌&&◌, List, filter, Option, Some, None, nat_lt, slice_index}
 use Rattle.std.specs.List.{fold, list_all}
-use Rattle.ring_commit.specs.rsct_packet.declared.mask.Mask.{Mask}
-use Rattle.ring_commit.specs.rsct_packet.Mask.{is_node, node_numbers, has_node, without_node, nodes_of}
+use Rattle.rsct_packet.specs.declared.mask.Mask.{Mask}
+use Rattle.rsct_packet.specs.Mask.{is_node, node_numbers, has_node, without_node, nodes_of}
 use Rattle.adapter_ring.specs.declared.ring.RingSettings.{RingSettings}
 
 -- the address of the node's adapter; 0 where it has none

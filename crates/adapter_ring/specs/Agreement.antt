@@ -1,8 +1,8 @@
 -- What it means that the rings of one network agree.
 use Rattle.std.specs.Prelude.{◌≡◌, ◌⊎◌, ◌<◌, ◌≤◌, ℕ, List, IsTrue}
-use Rattle.ring_commit.specs.rsct_packet.declared.mask.Mask.{Mask}
-use Rattle.ring_commit.specs.rsct_packet.Mask.{has_node}
-use Rattle.ring_commit.specs.rsct_packet.Search.{Has}
+use Rattle.rsct_packet.specs.declared.mask.Mask.{Mask}
+use Rattle.rsct_packet.specs.Mask.{has_node}
+use Rattle.rsct_packet.specs.Search.{Has}
 use Rattle.adapter_ring.specs.declared.ring.RingSettings.{RingSettings}
 use Rattle.adapter_ring.specs.Addresses.{addr_of}
 use Rattle.adapter_ring.specs.Network.{Happening, Told, quiet, after}

@@ -1,8 +1,8 @@
 -- The rings of one network, and what happens to them.
 use Rattle.std.specs.Prelude.{ℕ, Bool, true, false, not, ◌==◌, ◌&&◌, ◌||◌, ◌++◌, List, [], ◌∷◌, map, filter, find, Option, Some, None, nat_lt, is_none, slice_get}
 use Rattle.std.specs.List.{fold, list_all}
-use Rattle.ring_commit.specs.rsct_packet.declared.ids.RingId.{RingId}
-use Rattle.ring_commit.specs.rsct_packet.declared.mask.Mask.{Mask}
+use Rattle.rsct_packet.specs.declared.ids.RingId.{RingId}
+use Rattle.rsct_packet.specs.declared.mask.Mask.{Mask}
 use Rattle.adapter_ring.specs.declared.packet.RingPacket.{RingPacket}
 use Rattle.adapter_ring.specs.declared.packet.RingSend.{RingSend}
 use Rattle.adapter_ring.specs.declared.packet.RingEvent.{RingEvent}

@@ -1,10 +1,10 @@
 -- The machine of one adapter's ring.
 use Rattle.std.specs.Prelude.{ℕ, Bool, true, false, not, ◌==◌, ◌&&◌, ◌||◌, ◌+◌, ◌*◌, ◌++◌, List, [], ◌∷◌, map, count_by, Option, Some, None, nat_le, is_none}
 use Rattle.std.specs.List.{list_all}
-use Rattle.ring_commit.specs.rsct_packet.declared.ids.RingId.{RingId}
-use Rattle.ring_commit.specs.rsct_packet.declared.mask.Mask.{Mask}
-use Rattle.ring_commit.specs.rsct_packet.Ids.{same_ring, last_u32, risen}
-use Rattle.ring_commit.specs.rsct_packet.Mask.{no_nodes, has_node, with_node, without_node, union_of, nodes_of, node_numbers}
+use Rattle.rsct_packet.specs.declared.ids.RingId.{RingId}
+use Rattle.rsct_packet.specs.declared.mask.Mask.{Mask}
+use Rattle.rsct_packet.specs.Ids.{same_ring, last_u32, risen}
+use Rattle.rsct_packet.specs.Mask.{no_nodes, has_node, with_node, without_node, union_of, nodes_of, node_numbers}
 use Rattle.ring_commit.specs.declared.gather.Gather.{Gather}
 use Rattle.ring_commit.specs.Gather.{gather_opened, gather_acked, all_acked}
 use Rattle.adapter_ring.specs.declared.packet.RingPacket.{RingPacket}

@@ -1,8 +1,8 @@
 -- Runs of a few rings, as an operator would let them run.
 use Rattle.std.specs.Prelude.{ℕ, zero, suc, true, false, ◌+◌, List, [], ◌∷◌, map, length, nat_lt, replicate}
 use Rattle.std.specs.List.{fold}
-use Rattle.ring_commit.specs.rsct_packet.Mask.{nodes_of, mask_opens}
-use Rattle.ring_commit.specs.rsct_packet.Ids.{risen}
+use Rattle.rsct_packet.specs.Mask.{nodes_of, mask_opens}
+use Rattle.rsct_packet.specs.Ids.{risen}
 use Rattle.ring_commit.specs.Gather.{gather_opens}
 use Rattle.adapter_ring.specs.declared.ring.RingSettings.{RingSettings}
 use Rattle.adapter_ring.specs.Addresses.{addresses_opens}

@@ -3,7 +3,7 @@ ghost use Rattle.std.specs.Prelude.{◌≡◌, IfOk};
 ghost use Rattle.adapter_ring.specs.Addresses.{addr_of, has_addr, is_higher, higher_of, lower_of, highest_of, lowest_of, next_lower, next_higher, neighbour_in, upstream_in, crown_prince_in, is_highest, outside, all_have_addr};
 
 use crate::ring::RingSettings;
-use ring_commit::rsct_packet::{Mask, NODES, NoMemory, is_node_number};
+use rsct_packet::{Mask, NODES, NoMemory, is_node_number};
 use std::alloc::Global;
 
 impl RingSettings {
@@ -64,7 +64,7 @@ impl RingSettings {
     }
 
     /// The node of the highest address among these.
-    #[tactic(auto, unfolding(crate::specs::Addresses::highest_of, crate::specs::Addresses::highest, crate::proofs::Below::nodes_of))]
+    #[tactic(auto, unfolding(crate::specs::Addresses::highest_of, crate::specs::Addresses::highest, rsct_packet::specs::Mask::nodes_of))]
     pub fn highest_of(&self, members: Mask) -> Option<u8>
         ensures { result ≡ highest_of self.now members }
     {
@@ -76,7 +76,7 @@ impl RingSettings {
     }
 
     /// The node of the lowest address among these.
-    #[tactic(auto, unfolding(crate::specs::Addresses::lowest_of, crate::specs::Addresses::lowest, crate::proofs::Below::nodes_of))]
+    #[tactic(auto, unfolding(crate::specs::Addresses::lowest_of, crate::specs::Addresses::lowest, rsct_packet::specs::Mask::nodes_of))]
     pub fn lowest_of(&self, members: Mask) -> Option<u8>
         ensures { result ≡ lowest_of self.now members }
     {
@@ -88,7 +88,7 @@ impl RingSettings {
     }
 
     /// The highest of those that are lower than the node.
-    #[tactic(auto, unfolding(crate::specs::Addresses::next_lower, crate::specs::Addresses::highest, crate::proofs::Below::nodes_of))]
+    #[tactic(auto, unfolding(crate::specs::Addresses::next_lower, crate::specs::Addresses::highest, rsct_packet::specs::Mask::nodes_of))]
     pub fn next_lower(&self, node: u8, members: Mask) -> Option<u8>
         ensures { result ≡ next_lower self.now node members }
     {
@@ -101,7 +101,7 @@ impl RingSettings {
     }
 
     /// The lowest of those that are higher than the node.
-    #[tactic(auto, unfolding(crate::specs::Addresses::next_higher, crate::specs::Addresses::lowest, crate::proofs::Below::nodes_of))]
+    #[tactic(auto, unfolding(crate::specs::Addresses::next_higher, crate::specs::Addresses::lowest, rsct_packet::specs::Mask::nodes_of))]
     pub fn next_higher(&self, node: u8, members: Mask) -> Option<u8>
         ensures { result ≡ next_higher self.now node members }
     {
@@ -151,7 +151,7 @@ impl RingSettings {
     }
 
     /// Has each of these an adapter?
-    #[tactic(auto, unfolding(crate::specs::Addresses::all_have_addr, crate::proofs::Below::nodes_of))]
+    #[tactic(auto, unfolding(crate::specs::Addresses::all_have_addr, rsct_packet::specs::Mask::nodes_of))]
     pub fn all_have_addr(&self, members: Mask) -> bool
         ensures { result ≡ all_have_addr self.now members }
     {

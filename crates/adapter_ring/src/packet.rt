@@ -1,5 +1,5 @@
 //! What rings tell one another.
-use ring_commit::rsct_packet::{Mask, RingId};
+use rsct_packet::{Mask, RingId};
 
 /// A packet of a ring.
 #[derive(Clone, Copy, Debug, PartialEq, Eq)]

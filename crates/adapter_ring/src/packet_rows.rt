@@ -5,7 +5,7 @@ ghost use Rattle.adapter_ring.specs.Rings.{heartbeat_row, answers_proclaim, proc
 use crate::packet::RingPacket;
 use crate::ring::{Gathering, Ring};
 use crate::work::RingWork;
-use ring_commit::rsct_packet::{Mask, NODES, NoMemory, RingId};
+use rsct_packet::{Mask, NODES, NoMemory, RingId};
 use std::alloc::Global;
 
 impl Ring {
@@ -28,7 +28,7 @@ impl Ring {
         self.settings.has_addr(node) && self.settings.is_higher(self.me, node)
     }
 
-    #[tactic(auto, unfolding(crate::specs::Rings::all_lower, crate::proofs::Below::nodes_of))]
+    #[tactic(auto, unfolding(crate::specs::Rings::all_lower, rsct_packet::specs::Mask::nodes_of))]
     fn all_lower(&self, members: Mask) -> bool
         ensures { result ≡ all_lower self.now members }
     {

@@ -5,7 +5,7 @@ ghost use Rattle.adapter_ring.specs.Rings.{ring_new, neighbour, upstream, crown_
 use crate::packet::{RingEvent, RingSend};
 use crate::work::RingWork;
 use ring_commit::Gather;
-use ring_commit::rsct_packet::{List, Mask, NoMemory, RingId};
+use rsct_packet::{List, Mask, NoMemory, RingId};
 use std::alloc::Global;
 
 /// What the rings of one network share: the address of each node's adapter (node `n` at `n - 1`, and 0 where

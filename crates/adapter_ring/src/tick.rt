@@ -5,7 +5,7 @@ ghost use Rattle.adapter_ring.specs.Rings.{patience, send_heartbeat, ring_procla
 use crate::packet::RingPacket;
 use crate::ring::{Gathering, Ring, RingSettings};
 use crate::work::RingWork;
-use ring_commit::rsct_packet::{NoMemory, RingId, risen};
+use rsct_packet::{NoMemory, RingId, risen};
 use std::alloc::Global;
 
 impl RingSettings {

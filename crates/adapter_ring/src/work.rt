@@ -5,7 +5,7 @@ ghost use Rattle.adapter_ring.specs.Rings.{ring_send, ring_send_all, ring_set, r
 use crate::packet::{RingEvent, RingPacket, RingSend};
 use crate::ring::{Gathering, Ring, RingSet};
 use ring_commit::Gather;
-use ring_commit::rsct_packet::{List, Mask, NoMemory, RingId};
+use rsct_packet::{List, Mask, NoMemory, RingId};
 use std::alloc::Global;
 
 /// A ring in the middle of a step, with what it has sent in this step, and the ring that it was set to.

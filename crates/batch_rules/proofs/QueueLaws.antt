@@ -1,9 +1,9 @@
 -- Joins that wait differ.
 use Rattle.std.proofs.Common.{◌≡◌, ◌<◌, Bool, true, false, List, [], ◌∷◌, ◌++◌, length, refl}
 use Rattle.std.specs.Prelude.{not, ◌||◌, ◌&&◌, ◌==◌, IsTrue}
-use Rattle.proposal_core.specs.rsct_packet.declared.ids.ProviderId.{ProviderId}
-use Rattle.proposal_core.specs.rsct_packet.Providers.{same_provider, among, AreProviders}
-use Rattle.proposal_core.proofs.rsct_packet_laws.ProviderLaws.{AreProviders-push}
+use Rattle.rsct_packet.specs.declared.ids.ProviderId.{ProviderId}
+use Rattle.rsct_packet.specs.Providers.{same_provider, among, AreProviders}
+use Rattle.rsct_packet.proofs.ProviderLaws.{AreProviders-push}
 use Rattle.batch_rules.specs.Waiting.{same_instance, has_instance}
 
 or_false : (a b : Bool) → (a || b) ≡ false → (a ≡ false) × (b ≡ false)

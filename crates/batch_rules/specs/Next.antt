@@ -1,7 +1,7 @@
 -- What becomes of a join, and what begins next: failures before joins.
 use Rattle.std.specs.Prelude.{Bool, ◌==◌, ◌||◌, List, [], ◌∷◌, length, Option, Some, None, if◌then◌else◌}
-use Rattle.proposal_core.specs.rsct_packet.declared.ids.ProviderId.{ProviderId}
-use Rattle.proposal_core.specs.group_attr.declared.attrs.Batch.{Batch}
+use Rattle.rsct_packet.specs.declared.ids.ProviderId.{ProviderId}
+use Rattle.group_attr.specs.declared.attrs.Batch.{Batch}
 use Rattle.proposal_core.specs.declared.proposal.Failure.{Failure}
 use Rattle.batch_rules.specs.declared.waiting.Added.{Added}
 use Rattle.batch_rules.specs.declared.waiting.Added.TheVariants.{Queued, Full, DuplicateInstance}

@@ -1,10 +1,10 @@
 -- What waits to begin.
 use Rattle.std.specs.Prelude.{ℕ, Bool, true, false, not, ◌==◌, ◌&&◌, ◌++◌, List, [], ◌∷◌, take, drop, length, nat_lt, if◌then◌else◌}
 use Rattle.std.specs.List.{list_any}
-use Rattle.proposal_core.specs.rsct_packet.declared.ids.ProviderId.{ProviderId}
-use Rattle.proposal_core.specs.rsct_packet.Providers.{same_provider, without}
-use Rattle.proposal_core.specs.group_attr.declared.attrs.Batch.{Batch}
-use Rattle.proposal_core.specs.group_attr.declared.attrs.Batch.TheVariants.{Neither, Joins, Failures, Both}
+use Rattle.rsct_packet.specs.declared.ids.ProviderId.{ProviderId}
+use Rattle.rsct_packet.specs.Providers.{same_provider, without}
+use Rattle.group_attr.specs.declared.attrs.Batch.{Batch}
+use Rattle.group_attr.specs.declared.attrs.Batch.TheVariants.{Neither, Joins, Failures, Both}
 use Rattle.proposal_core.specs.declared.proposal.Cause.{Cause}
 use Rattle.proposal_core.specs.declared.proposal.Failure.{Failure}
 

@@ -4,6 +4,4 @@
 mod queue;
 mod waiting;
 
-pub use proposal_core;
-pub use proposal_core::group_attr;
 pub use waiting::{Added, Chosen, MAX_WAITING, Waiting};

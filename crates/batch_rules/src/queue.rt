@@ -1,13 +1,13 @@
 //! Parts of the queue.
 ghost use Rattle.std.specs.Prelude.{◌≡◌};
 ghost use Rattle.std.specs.List.{list_any};
-ghost use Rattle.proposal_core.specs.rsct_packet.Providers.{without};
+ghost use Rattle.rsct_packet.specs.Providers.{without};
 ghost use Rattle.batch_rules.specs.Waiting.{has_instance, same_instance, is_failure_of, batches_joins, batches_failures, chosen_of, left_of};
 
 use arrayvec::ArrayVec;
+use group_attr::Batch;
 use proposal_core::Failure;
-use proposal_core::group_attr::Batch;
-use proposal_core::rsct_packet::ProviderId;
+use rsct_packet::ProviderId;
 
 /// Do they have the same node and instance number?
 fn are_same_instance(first: &ProviderId, second: ProviderId) -> bool

@@ -1,6 +1,6 @@
 //! The queue of a group.
 ghost use Rattle.std.specs.Prelude.{◌≡◌, ◌≤◌, length};
-ghost use Rattle.proposal_core.specs.rsct_packet.Providers.{among, AreProviders};
+ghost use Rattle.rsct_packet.specs.Providers.{among, AreProviders};
 ghost use Rattle.batch_rules.specs.Waiting.{nothing_waits, takes_failure, add_failure, drop_join, next_failures, failures_left, next_joins, joins_left};
 ghost use Rattle.batch_rules.specs.Next.{is_duplicate, added_as, add_join, next_chosen, next_left};
 
@@ -8,9 +8,9 @@ use crate::queue::{
     batches_failures, batches_joins, is_failing, is_instance_among, remove_join, take_next,
 };
 use arrayvec::ArrayVec;
-use proposal_core::group_attr::Batch;
-use proposal_core::rsct_packet::{ProviderId, is_among};
+use group_attr::Batch;
 use proposal_core::{Cause, Failure};
+use rsct_packet::{ProviderId, is_among};
 use std::marker::Model;
 
 /// How many joins and how many failures wait at most.
@@ -41,7 +41,7 @@ pub struct Waiting {
 }
 
 impl Model for Waiting {
-    ghost use Rattle.proposal_core.specs.rsct_packet.Providers.{AreProviders};
+    ghost use Rattle.rsct_packet.specs.Providers.{AreProviders};
     ghost use Rattle.batch_rules.specs.Waiting.{WaitingView};
 
     ghost Value = { WaitingView };

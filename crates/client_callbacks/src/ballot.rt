@@ -4,7 +4,7 @@ ghost use Rattle.std.specs.Option.{option_map};
 ghost use Rattle.client_callbacks.specs.Ballots.{is_ballot, new_ballot, value_limit, is_within, filling, can_fill, filled_with, message_limit};
 
 use proposal_core::Vote;
-use proposal_core::rsct_packet::{NoMemory, Text};
+use rsct_packet::{NoMemory, Text};
 use std::alloc::Global;
 use std::marker::Model;
 

@@ -11,8 +11,8 @@ use crate::ballot::Ballot;
 use crate::notice::{Callbacks, Made, Notice};
 use crate::told::Told;
 use crate::votes::{VoteItem, item_at, votes_word};
-use proposal_core::rsct_packet::{List, NoMemory};
 use proposal_core::{GroupState, Vote};
+use rsct_packet::{List, NoMemory};
 use std::alloc::Global;
 
 /// The phase that runs, 0 where nothing does.

@@ -11,8 +11,6 @@ mod votes;
 pub use ballot::{Ballot, Filled, MAX_MESSAGE, value_limit};
 pub use kinds::{BoxedClient, DaemonClient, ScriptClient, SteadyClient};
 pub use notice::{Callbacks, Made, Notice};
-pub use proposal_core;
-pub use proposal_core::{group_attr, rsct_packet};
 pub use texts::{hex_value, text_word};
 pub use told::{Told, Why};
 pub use votes::{VoteItem, vote_word, votes_word};

@@ -7,8 +7,8 @@ ghost use Rattle.client_callbacks.specs.Votes.{votes_word};
 
 use crate::ballot::Ballot;
 use crate::told::Told;
-use proposal_core::rsct_packet::{NoMemory, ProviderId, ViewId};
 use proposal_core::{Entry, GroupState};
+use rsct_packet::{NoMemory, ProviderId, ViewId};
 use std::alloc::Global;
 
 /// What a client is handed for its provider `p`: an entry of the group's list at this place of this view, the

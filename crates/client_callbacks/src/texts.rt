@@ -2,7 +2,7 @@
 ghost use Rattle.std.specs.Prelude.{◌≡◌, ◌<◌, OnOk, IfOk, IfSome};
 ghost use Rattle.client_callbacks.specs.Votes.{hex_value, hex_pair, with_byte, text_byte, text_end, text_of, text_word};
 
-use proposal_core::rsct_packet::{List, NoMemory};
+use rsct_packet::{List, NoMemory};
 use std::alloc::Global;
 
 /// How far the `%XX` of a byte has been read.

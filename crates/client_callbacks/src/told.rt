@@ -1,5 +1,5 @@
 //! What clients are told.
-use proposal_core::rsct_packet::{Members, Name, ProtoId, ProviderId, Providers, Text, ViewId};
+use rsct_packet::{Members, Name, ProtoId, ProviderId, Providers, Text, ViewId};
 
 /// Why a leader or an install refuses a request: the protocol that runs, the length of the source group's
 /// list, places and bytes of a full list, or the limit that was reached.

@@ -6,7 +6,7 @@ ghost use Rattle.client_callbacks.specs.Handed.{item_at};
 
 use crate::texts::text_word;
 use proposal_core::Vote;
-use proposal_core::rsct_packet::{List, NoMemory};
+use rsct_packet::{List, NoMemory};
 use std::alloc::Global;
 
 /// How a client votes in one phase: its vote, and the state value that it proposes, of any length.

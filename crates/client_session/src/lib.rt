@@ -5,6 +5,4 @@
 mod reads;
 mod sessions;
 
-pub use session_calls;
-pub use session_calls::{client_callbacks, session_state, subscribe_core};
 pub use sessions::Sessions;

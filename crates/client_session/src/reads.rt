@@ -1,21 +1,21 @@
 //! What a node reads of its sessions.
 ghost use Rattle.std.specs.Prelude.{◌≡◌, IfOk, is_some, find, slice_get, option_copied};
-ghost use Rattle.session_calls.specs.rsct_packet.Search.{place_where};
-ghost use Rattle.session_calls.specs.subscribe_core.Subs.{notes_of};
-ghost use Rattle.session_calls.specs.session_state.State.{is_session, is_named, provider_of, client_token, member_token, sub_token, client_name};
-ghost use Rattle.session_calls.specs.session_clients.Clients.{client_named};
+ghost use Rattle.rsct_packet.specs.Search.{place_where};
+ghost use Rattle.subscribe_core.specs.Subs.{notes_of};
+ghost use Rattle.session_state.specs.State.{is_session, is_named, provider_of, client_token, member_token, sub_token, client_name};
+ghost use Rattle.session_clients.specs.Clients.{client_named};
 
 use crate::sessions::Sessions;
-use session_calls::client_callbacks::Callbacks;
-use session_calls::proposal_core::GroupState;
-use session_calls::rsct_packet::{NoMemory, ProviderId};
-use session_calls::session_delivery::is_live;
-use session_calls::session_state::{KeptBallot, MemberToken, Provider, Request, Session};
-use session_calls::subscribe_core::{ClientToken, SubToken, Subscription, Tokens};
+use client_callbacks::Callbacks;
+use proposal_core::GroupState;
+use rsct_packet::{NoMemory, ProviderId};
 use session_calls::{client_token, member_token, sub_token};
+use session_delivery::is_live;
+use session_state::{KeptBallot, MemberToken, Provider, Request, Session};
 use std::alloc::Global;
+use subscribe_core::{ClientToken, SubToken, Subscription, Tokens};
 
-#[tactic(auto, using(crate::proofs::Below::place_search))]
+#[tactic(auto, using(rsct_packet::proofs::SearchLaws::place_search))]
 fn place(rows: &[Session], name: &[u8]) -> Option<usize>
     ensures { result ≡ place_where (is_named name.now) rows.now }
 {
@@ -115,7 +115,7 @@ impl<C: Callbacks> Sessions<C> {
     }
 
     /// The name of a live client.
-    #[tactic(auto, unfolding(crate::proofs::Below::client_name))]
+    #[tactic(auto, unfolding(session_state::specs::State::client_name))]
     pub fn client_name(&self, client: ClientToken) -> Option<&[u8]>
         ensures { option_copied result ≡ client_name self.now.state client }
     {

@@ -1,26 +1,26 @@
 //! The sessions of a node, with their clients.
 ghost use Rattle.std.specs.Prelude.{◌≡◌, ◌≤◌, ◌++◌, ◌∷◌, [], List, Option, false, ◌<◌, IsTrue, IfOk, OnOk, OnErr, map, option_copied, length};
-ghost use Rattle.session_calls.specs.proposal_core.Fold.{joiners_fit};
-ghost use Rattle.session_calls.specs.subscribe_core.Subs.{is_live};
-ghost use Rattle.session_calls.specs.client_callbacks.declared.ballot.Filled.{Filled};
-ghost use Rattle.session_calls.specs.client_callbacks.Handed.{Handed};
-ghost use Rattle.session_calls.specs.session_state.State.{no_sessions, client_place, place_of};
-ghost use Rattle.session_calls.specs.session_state.Calls.{Answers, AnswersAlways, inited, joined, left, expelled, state_changed, message_sent, attributes_changed, voted, subscribe_taken, unsubscribe_taken, goodbye_taken, removed_at};
-ghost use Rattle.session_calls.specs.session_state.HandOn.{hearers, casts_out, handed_on, takes_telling, take_telling, subscriber_of};
-ghost use Rattle.session_calls.specs.session_clients.Clients.{StandFor, is_at, KeepsAllBut, KeepsScripts};
-ghost use Rattle.session_calls.specs.session_clients.Notices.{notified, hears_at, told_lists, noted_lists, Fillings};
+ghost use Rattle.proposal_core.specs.Fold.{joiners_fit};
+ghost use Rattle.subscribe_core.specs.Subs.{is_live};
+ghost use Rattle.client_callbacks.specs.declared.ballot.Filled.{Filled};
+ghost use Rattle.client_callbacks.specs.Handed.{Handed};
+ghost use Rattle.session_state.specs.State.{no_sessions, client_place, place_of};
+ghost use Rattle.session_state.specs.Calls.{Answers, AnswersAlways, inited, joined, left, expelled, state_changed, message_sent, attributes_changed, voted, subscribe_taken, unsubscribe_taken, goodbye_taken, removed_at};
+ghost use Rattle.session_state.specs.HandOn.{hearers, casts_out, handed_on, takes_telling, take_telling, subscriber_of};
+ghost use Rattle.session_clients.specs.Clients.{StandFor, is_at, KeepsAllBut, KeepsScripts};
+ghost use Rattle.session_clients.specs.Notices.{notified, hears_at, told_lists, noted_lists, Fillings};
 
-use session_calls::client_callbacks::{Callbacks, Told, Why};
-use session_calls::group_attr::{Attrs, Phases};
-use session_calls::proposal_core::{Entry, GroupState, Vote};
-use session_calls::rsct_packet::{List, Name, NoMemory, ProviderId, ViewId};
-use session_calls::session_clients::{hand_entry_on, tell_at};
-use session_calls::session_delivery::{client_place, place_of, take_telling, takes_telling};
-use session_calls::session_state::{Casts, GsFault, Locals, MemberToken, NewEntry, SessionState};
-use session_calls::subscribe_core::{ClientToken, SubToken, Subs};
+use client_callbacks::{Callbacks, Told, Why};
+use group_attr::{Attrs, Phases};
+use proposal_core::{Entry, GroupState, Vote};
+use rsct_packet::{List, Name, NoMemory, ProviderId, ViewId};
 use session_calls::{close_session, has_subscription, open_session, subscriber_of};
+use session_clients::{hand_entry_on, tell_at};
+use session_delivery::{client_place, place_of, take_telling, takes_telling};
+use session_state::{Casts, GsFault, Locals, MemberToken, NewEntry, SessionState};
 use std::alloc::Global;
 use std::marker::Model;
+use subscribe_core::{ClientToken, SubToken, Subs};
 
 /// The sessions of a node: what it has of its clients, and the clients.
 #[derive(Drop)]
@@ -31,8 +31,8 @@ pub struct Sessions<C: Callbacks> {
 
 impl<C: Callbacks> Model for Sessions<C> {
     ghost use Rattle.std.specs.Prelude.{◌≡◌, IsTrue, length};
-    ghost use Rattle.session_calls.specs.client_callbacks.Ballots.{is_level};
-    ghost use Rattle.session_calls.specs.session_clients.Clients.{SessionsView};
+    ghost use Rattle.client_callbacks.specs.Ballots.{is_level};
+    ghost use Rattle.session_clients.specs.Clients.{SessionsView};
 
     ghost Value = { SessionsView C };
 
@@ -295,7 +295,7 @@ impl<C: Callbacks> Sessions<C> {
     /// and the request is its outstanding one, or it is dissolved; otherwise it changes nothing. The request is
     /// ended, and the provider is dropped where that was its join, or where it is dissolved. Every other client
     /// keeps its value, also where memory runs out.
-    #[tactic(auto, unfolding(crate::proofs::Below::take_telling, crate::proofs::Below::told_lists))]
+    #[tactic(auto, unfolding(session_state::specs::HandOn::take_telling, session_clients::specs::Notices::told_lists))]
     pub fn tell(&mut self, provider: ProviderId, request: u32, why: Why) -> Result<bool, NoMemory>
         ensures answer { IfOk result (λ b. b ≡ takes_telling self.old.state provider request why) }
         ensures untaken { IfOk result (λ b. b ≡ false → self.new ≡ self.old) }
@@ -323,7 +323,7 @@ impl<C: Callbacks> Sessions<C> {
 
     /// Tells the client of a subscription something. It answers true exactly where the subscription is live;
     /// otherwise it changes nothing. Every other client keeps its value, also where memory runs out.
-    #[tactic(auto, unfolding(crate::proofs::Below::noted_lists))]
+    #[tactic(auto, unfolding(session_clients::specs::Notices::noted_lists))]
     pub fn note(&mut self, subscription: SubToken, told: &Told) -> Result<bool, NoMemory>
         ensures answer { IfOk result (λ b. b ≡ is_live subscription self.old.state.subs) }
         ensures untaken { IfOk result (λ b. b ≡ false → self.new ≡ self.old) }

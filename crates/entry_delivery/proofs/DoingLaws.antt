@@ -6,23 +6,23 @@ use Rattle.std.specs.List.{fold}
 use Rattle.std.proofs.lemmas.List.{take_all}
 use Rattle.std.proofs.lemmas.List.Sums.{fold_more}
 use Rattle.std.proofs.lemmas.List.Elements.{filter-append}
-use Rattle.node_sending.specs.rsct_packet.Search.{place_where}
-use Rattle.node_sending.specs.proposal_core.declared.group_state.GroupState.{GroupState}
-use Rattle.node_sending.specs.subscribe_core.declared.subs.ClientToken.{ClientToken}
-use Rattle.node_sending.specs.client_callbacks.declared.votes.VoteItem.{VoteItem}
-use Rattle.node_sending.specs.client_callbacks.Handed.{Handed}
-use Rattle.node_sending.specs.session_state.declared.state.Session.{Session}
-use Rattle.node_sending.specs.session_state.declared.state.SessionState.{SessionState}
-use Rattle.node_sending.specs.session_state.State.{is_session, provider_of, place_of, outstanding, name_in, client_name}
-use Rattle.node_sending.specs.node_state.declared.happened.Happened.{Happened}
-use Rattle.node_sending.specs.node_state.declared.happened.Happened.TheVariants as happened
-use Rattle.node_sending.specs.node_state.declared.state.Core.{Core}
-use Rattle.node_sending.specs.node_state.HandOn.{Answering}
-use Rattle.node_sending.specs.session_state.Owners.{StaysOf, IsDropped, KeepsOwners}
-use Rattle.node_sending.specs.node_state.State.{state_of}
-use Rattle.node_sending.specs.node_state.Handed.{is_handed, handed_in, state_then, state_along, Along, Logged, logged_in}
-use Rattle.node_sending.proofs.node_state_laws.AlongLaws.{along_same, along_itself, along_then, logged_same, logged_both}
-use Rattle.node_sending.proofs.session_state_laws.OwnerLaws.{owners_themselves, owners_then}
+use Rattle.rsct_packet.specs.Search.{place_where}
+use Rattle.proposal_core.specs.declared.group_state.GroupState.{GroupState}
+use Rattle.subscribe_core.specs.declared.subs.ClientToken.{ClientToken}
+use Rattle.client_callbacks.specs.declared.votes.VoteItem.{VoteItem}
+use Rattle.client_callbacks.specs.Handed.{Handed}
+use Rattle.session_state.specs.declared.state.Session.{Session}
+use Rattle.session_state.specs.declared.state.SessionState.{SessionState}
+use Rattle.session_state.specs.State.{is_session, provider_of, place_of, outstanding, name_in, client_name}
+use Rattle.node_state.specs.declared.happened.Happened.{Happened}
+use Rattle.node_state.specs.declared.happened.Happened.TheVariants as happened
+use Rattle.node_state.specs.declared.state.Core.{Core}
+use Rattle.node_state.specs.HandOn.{Answering}
+use Rattle.session_state.specs.Owners.{StaysOf, IsDropped, KeepsOwners}
+use Rattle.node_state.specs.State.{state_of}
+use Rattle.node_state.specs.Handed.{is_handed, handed_in, state_then, state_along, Along, Logged, logged_in}
+use Rattle.node_state.proofs.AlongLaws.{along_same, along_itself, along_then, logged_same, logged_both}
+use Rattle.session_state.proofs.OwnerLaws.{owners_themselves, owners_then}
 use Rattle.entry_delivery.specs.Received.{Handing, IsFor, AreFor, told_by, logged, logged_by, given_to, after_handings, Receive}
 use Rattle.entry_delivery.specs.Doing.{Question, Agrees, Rise, AreFilled, Joins, IsNothing, Follows, Stated, Does, Ready}
 

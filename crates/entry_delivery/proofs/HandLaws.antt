@@ -4,39 +4,39 @@ use Rattle.std.specs.List.{fold, flat_map}
 use Rattle.std.specs.Option.{unwrap_or}
 use Rattle.std.specs.Prelude.{find}
 use Rattle.std.proofs.lemmas.List.Elements.{filter-append}
-use Rattle.node_sending.specs.rsct_packet.declared.ids.ProviderId.{ProviderId}
-use Rattle.node_sending.specs.rsct_packet.declared.ids.ProtoId.{ProtoId}
-use Rattle.node_sending.specs.rsct_packet.declared.ids.ViewId.{ViewId}
-use Rattle.node_sending.specs.rsct_packet.Providers.{among}
-use Rattle.node_sending.specs.proposal_core.declared.entry.Entry.{Entry}
-use Rattle.node_sending.specs.proposal_core.declared.group_state.GroupState.{GroupState}
-use Rattle.node_sending.specs.proposal_core.declared.group_state.Running.{Running}
-use Rattle.node_sending.specs.proposal_core.Fold.{joiners_in, voters, voters_at}
-use Rattle.node_sending.specs.subscribe_core.declared.subs.Subscription.{Subscription}
-use Rattle.node_sending.specs.subscribe_core.Subs.{SubsView, is_of_group, differs}
-use Rattle.node_sending.specs.client_callbacks.declared.ballot.Filled.{Filled}
-use Rattle.node_sending.specs.client_callbacks.declared.votes.VoteItem.{VoteItem}
-use Rattle.node_sending.specs.client_callbacks.declared.told.Told.TheVariants as told
-use Rattle.node_sending.specs.client_callbacks.Ballots.{BallotView}
-use Rattle.node_sending.specs.session_state.declared.casts.Cast.{Cast}
-use Rattle.node_sending.specs.session_state.declared.state.Session.{Session}
-use Rattle.node_sending.specs.session_state.declared.state.SessionState.{SessionState}
-use Rattle.node_sending.specs.session_state.declared.state.Provider.{Provider}
-use Rattle.node_sending.specs.session_state.State.{is_session, provider_of, name_in, client_name}
-use Rattle.node_sending.specs.session_state.Calls.{SameSessions}
-use Rattle.node_sending.specs.session_state.HandOn.{opens_phase, asks, hears, hearers_in, brought_by, cast_with, cast_of, casts_of, casts_out, hearers, beginners}
-use Rattle.node_sending.specs.session_state.HandOn as session
+use Rattle.rsct_packet.specs.declared.ids.ProviderId.{ProviderId}
+use Rattle.rsct_packet.specs.declared.ids.ProtoId.{ProtoId}
+use Rattle.rsct_packet.specs.declared.ids.ViewId.{ViewId}
+use Rattle.rsct_packet.specs.Providers.{among}
+use Rattle.proposal_core.specs.declared.entry.Entry.{Entry}
+use Rattle.proposal_core.specs.declared.group_state.GroupState.{GroupState}
+use Rattle.proposal_core.specs.declared.group_state.Running.{Running}
+use Rattle.proposal_core.specs.Fold.{joiners_in, voters, voters_at}
+use Rattle.subscribe_core.specs.declared.subs.Subscription.{Subscription}
+use Rattle.subscribe_core.specs.Subs.{SubsView, is_of_group, differs}
+use Rattle.client_callbacks.specs.declared.ballot.Filled.{Filled}
+use Rattle.client_callbacks.specs.declared.votes.VoteItem.{VoteItem}
+use Rattle.client_callbacks.specs.declared.told.Told.TheVariants as told
+use Rattle.client_callbacks.specs.Ballots.{BallotView}
+use Rattle.session_state.specs.declared.casts.Cast.{Cast}
+use Rattle.session_state.specs.declared.state.Session.{Session}
+use Rattle.session_state.specs.declared.state.SessionState.{SessionState}
+use Rattle.session_state.specs.declared.state.Provider.{Provider}
+use Rattle.session_state.specs.State.{is_session, provider_of, name_in, client_name}
+use Rattle.session_state.specs.Calls.{SameSessions}
+use Rattle.session_state.specs.HandOn.{opens_phase, asks, hears, hearers_in, brought_by, cast_with, cast_of, casts_of, casts_out, hearers, beginners}
+use Rattle.session_state.specs.HandOn as session
 use Rattle.session_clients.specs.Notices.{Fillings}
-use Rattle.node_sending.specs.node_state.declared.happened.Happened.{Happened}
-use Rattle.node_sending.specs.node_state.declared.happened.Happened.TheVariants as happened
-use Rattle.node_sending.specs.node_state.declared.packet.Body.{Body}
-use Rattle.node_sending.specs.node_state.declared.state.Core.{Core}
-use Rattle.node_sending.specs.node_state.State.{frozen, state_of, recorded_all, with_sessions}
-use Rattle.node_sending.specs.node_state.Sending.{send_on, sent, send_if_known}
-use Rattle.node_sending.specs.node_state.HandOn.{Answering, answer_if, records_of_notice, fills, cast_record, cast_records, heard, subscriber_name, note_of, notes, noted, ballot_sent, cast_sent_of, casts_sent, hand_on}
-use Rattle.node_sending.specs.session_state.Owners.{KeepsOwners}
-use Rattle.node_sending.specs.node_state.Handed.{is_handed, handed_in, state_along, Logged, logged_in}
-use Rattle.node_sending.proofs.node_state_laws.AlongLaws.{LeavesStates, leaves_both, along_records, logged_both}
+use Rattle.node_state.specs.declared.happened.Happened.{Happened}
+use Rattle.node_state.specs.declared.happened.Happened.TheVariants as happened
+use Rattle.node_state.specs.declared.packet.Body.{Body}
+use Rattle.node_state.specs.declared.state.Core.{Core}
+use Rattle.node_state.specs.State.{frozen, state_of, recorded_all, with_sessions}
+use Rattle.node_state.specs.Sending.{send_on, sent, send_if_known}
+use Rattle.node_state.specs.HandOn.{Answering, answer_if, records_of_notice, fills, cast_record, cast_records, heard, subscriber_name, note_of, notes, noted, ballot_sent, cast_sent_of, casts_sent, hand_on}
+use Rattle.session_state.specs.Owners.{KeepsOwners}
+use Rattle.node_state.specs.Handed.{is_handed, handed_in, state_along, Logged, logged_in}
+use Rattle.node_state.proofs.AlongLaws.{LeavesStates, leaves_both, along_records, logged_both}
 use Rattle.entry_delivery.specs.Received.{Handing, AreFor, told_by, logged_by}
 use Rattle.entry_delivery.specs.Telling.{heard_in, note_in, heard_handings, note_handing, noted_handings}
 use Rattle.entry_delivery.specs.Doing.{Joins, Question, Agrees, Rise, AreFilled, Does, Ready}

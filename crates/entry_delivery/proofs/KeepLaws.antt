@@ -1,17 +1,17 @@
 -- An entry that is handed on leaves the names of sessions and the subscriptions as they are.
 use Rattle.std.proofs.Common.{◌≡◌, ℕ, List, [], ◌∷◌, refl, ◌∙◌}
 use Rattle.std.specs.List.{fold}
-use Rattle.node_sending.specs.rsct_packet.declared.ids.ProviderId.{ProviderId}
-use Rattle.node_sending.specs.proposal_core.declared.entry.Entry.{Entry}
-use Rattle.node_sending.specs.proposal_core.declared.entry.Entry.TheVariants.{Once, Begin, Phase, Approve, Reject, Late}
-use Rattle.node_sending.specs.proposal_core.declared.proposal.Proposal.{Proposal}
-use Rattle.node_sending.specs.proposal_core.declared.proposal.Proposal.TheVariants.{Join, Leave, Fail, Expel, State, Message, Attributes, Reflect}
-use Rattle.node_sending.specs.proposal_core.declared.group_state.GroupState.{GroupState}
-use Rattle.node_sending.specs.session_state.declared.casts.Cast.{Cast}
-use Rattle.node_sending.specs.session_state.declared.state.Provider.{Provider}
-use Rattle.node_sending.specs.session_state.declared.state.SessionState.{SessionState}
-use Rattle.node_sending.specs.session_state.State.{with_provider, end_request, without_providers}
-use Rattle.node_sending.specs.session_state.HandOn.{kept_ended, kept_after, taking_part, part_taken, opened_after, open_phases, keep_casts, proposal_begun, requests_after, removed_from, heard}
+use Rattle.rsct_packet.specs.declared.ids.ProviderId.{ProviderId}
+use Rattle.proposal_core.specs.declared.entry.Entry.{Entry}
+use Rattle.proposal_core.specs.declared.entry.Entry.TheVariants.{Once, Begin, Phase, Approve, Reject, Late}
+use Rattle.proposal_core.specs.declared.proposal.Proposal.{Proposal}
+use Rattle.proposal_core.specs.declared.proposal.Proposal.TheVariants.{Join, Leave, Fail, Expel, State, Message, Attributes, Reflect}
+use Rattle.proposal_core.specs.declared.group_state.GroupState.{GroupState}
+use Rattle.session_state.specs.declared.casts.Cast.{Cast}
+use Rattle.session_state.specs.declared.state.Provider.{Provider}
+use Rattle.session_state.specs.declared.state.SessionState.{SessionState}
+use Rattle.session_state.specs.State.{with_provider, end_request, without_providers}
+use Rattle.session_state.specs.HandOn.{kept_ended, kept_after, taking_part, part_taken, opened_after, open_phases, keep_casts, proposal_begun, requests_after, removed_from, heard}
 
 pub record SameNames (s t : SessionState) : Type 0 where
   pub sessions : t.sessions ≡ s.sessions

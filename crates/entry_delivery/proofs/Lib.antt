@@ -1,4 +1,3 @@
-pub mod Below
 pub mod DoingLaws
 pub mod HandLaws
 pub mod KeepLaws

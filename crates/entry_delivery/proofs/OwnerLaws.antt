@@ -3,25 +3,25 @@ use Rattle.std.proofs.Common.{◌≡◌, ◌⊎◌, inl, inr, ℕ, Bool, true, f
 use Rattle.std.specs.Prelude.{find, if◌then◌else◌}
 use Rattle.std.specs.List.{fold}
 use Rattle.std.specs.Option.{option_map}
-use Rattle.node_sending.specs.rsct_packet.declared.ids.ProviderId.{ProviderId}
-use Rattle.node_sending.specs.rsct_packet.Providers.{same_provider, among}
-use Rattle.node_sending.specs.rsct_packet.Search.{edit_where, place_where}
-use Rattle.node_sending.specs.subscribe_core.declared.subs.ClientToken.{ClientToken}
-use Rattle.node_sending.specs.proposal_core.declared.entry.Entry.{Entry}
-use Rattle.node_sending.specs.proposal_core.declared.entry.Entry.TheVariants.{Once, Begin, Phase, Approve, Reject, Late}
-use Rattle.node_sending.specs.proposal_core.declared.proposal.Proposal.{Proposal}
-use Rattle.node_sending.specs.proposal_core.declared.proposal.Proposal.TheVariants.{Join, Leave, Fail, Expel, State, Message, Attributes, Reflect}
-use Rattle.node_sending.specs.proposal_core.declared.group_state.GroupState.{GroupState}
-use Rattle.node_sending.specs.client_callbacks.declared.told.Why.{Why}
-use Rattle.node_sending.specs.session_state.declared.casts.Cast.{Cast}
-use Rattle.node_sending.specs.session_state.declared.state.Provider.{Provider}
-use Rattle.node_sending.specs.session_state.declared.state.Request.{Request}
-use Rattle.node_sending.specs.session_state.declared.state.Session.{Session}
-use Rattle.node_sending.specs.session_state.declared.state.SessionState.{SessionState}
-use Rattle.node_sending.specs.session_state.State.{is_session, is_provider, is_asked_by, is_request, provider_of, place_for, place_of, outstanding, with_provider, end_request, without_providers}
-use Rattle.node_sending.specs.session_state.HandOn.{kept_ended, kept_after, taking_part, part_taken, asks, opened_after, open_phases, keep_casts, proposal_begun, requests_after, removed_from, heard, is_late, running_phase, is_dissolved, is_join_request, takes_telling, told_of, take_telling}
-use Rattle.node_sending.specs.session_state.Owners.{StaysOf, IsDropped, KeepsOwners}
-use Rattle.node_sending.proofs.session_state_laws.OwnerLaws.{owners_themselves, owners_then}
+use Rattle.rsct_packet.specs.declared.ids.ProviderId.{ProviderId}
+use Rattle.rsct_packet.specs.Providers.{same_provider, among}
+use Rattle.rsct_packet.specs.Search.{edit_where, place_where}
+use Rattle.subscribe_core.specs.declared.subs.ClientToken.{ClientToken}
+use Rattle.proposal_core.specs.declared.entry.Entry.{Entry}
+use Rattle.proposal_core.specs.declared.entry.Entry.TheVariants.{Once, Begin, Phase, Approve, Reject, Late}
+use Rattle.proposal_core.specs.declared.proposal.Proposal.{Proposal}
+use Rattle.proposal_core.specs.declared.proposal.Proposal.TheVariants.{Join, Leave, Fail, Expel, State, Message, Attributes, Reflect}
+use Rattle.proposal_core.specs.declared.group_state.GroupState.{GroupState}
+use Rattle.client_callbacks.specs.declared.told.Why.{Why}
+use Rattle.session_state.specs.declared.casts.Cast.{Cast}
+use Rattle.session_state.specs.declared.state.Provider.{Provider}
+use Rattle.session_state.specs.declared.state.Request.{Request}
+use Rattle.session_state.specs.declared.state.Session.{Session}
+use Rattle.session_state.specs.declared.state.SessionState.{SessionState}
+use Rattle.session_state.specs.State.{is_session, is_provider, is_asked_by, is_request, provider_of, place_for, place_of, outstanding, with_provider, end_request, without_providers}
+use Rattle.session_state.specs.HandOn.{kept_ended, kept_after, taking_part, part_taken, asks, opened_after, open_phases, keep_casts, proposal_begun, requests_after, removed_from, heard, is_late, running_phase, is_dissolved, is_join_request, takes_telling, told_of, take_telling}
+use Rattle.session_state.specs.Owners.{StaysOf, IsDropped, KeepsOwners}
+use Rattle.session_state.proofs.OwnerLaws.{owners_themselves, owners_then}
 
 -- ---- who is found
 

@@ -3,19 +3,19 @@ use Rattle.std.proofs.Common.{◌≡◌, ℕ, zero, suc, ◌+◌, ◌<◌, Bool,
 use Rattle.std.proofs.lemmas.List.Elements.{filter_more}
 use Rattle.std.proofs.lemmas.List.{map-append}
 use Rattle.std.specs.List.{fold}
-use Rattle.node_sending.specs.rsct_packet.declared.ids.ProviderId.{ProviderId}
-use Rattle.node_sending.specs.rsct_packet.declared.ids.ViewId.{ViewId}
-use Rattle.node_sending.specs.proposal_core.declared.entry.Entry.{Entry}
-use Rattle.node_sending.specs.proposal_core.declared.group_state.GroupState.{GroupState}
-use Rattle.node_sending.specs.proposal_core.Fold.{empty_state}
-use Rattle.node_sending.specs.client_callbacks.Handed.{Handed, Notified}
-use Rattle.node_sending.specs.session_state.declared.state.SessionState.{SessionState}
-use Rattle.node_sending.specs.session_state.State.{place_of}
+use Rattle.rsct_packet.specs.declared.ids.ProviderId.{ProviderId}
+use Rattle.rsct_packet.specs.declared.ids.ViewId.{ViewId}
+use Rattle.proposal_core.specs.declared.entry.Entry.{Entry}
+use Rattle.proposal_core.specs.declared.group_state.GroupState.{GroupState}
+use Rattle.proposal_core.specs.Fold.{empty_state}
+use Rattle.client_callbacks.specs.Handed.{Handed, Notified}
+use Rattle.session_state.specs.declared.state.SessionState.{SessionState}
+use Rattle.session_state.specs.State.{place_of}
 use Rattle.session_clients.specs.Clients.{StandFor, add_at, add_for}
 use Rattle.session_clients.specs.Notices.{notice_to, notified}
-use Rattle.node_sending.specs.node_state.declared.happened.Happened.{Happened}
-use Rattle.node_sending.specs.node_state.declared.happened.Happened.TheVariants as happened
-use Rattle.node_sending.specs.node_state.Handed.{Logged}
+use Rattle.node_state.specs.declared.happened.Happened.{Happened}
+use Rattle.node_state.specs.declared.happened.Happened.TheVariants as happened
+use Rattle.node_state.specs.Handed.{Logged}
 use Rattle.entry_delivery.specs.Received.{TellsWith, Tells, TellEach, TellAll, Handing, logged, given_at, given_to, after_handings, Receive}
 use Rattle.entry_delivery.specs.Telling.{heard_handings}
 

@@ -1,27 +1,27 @@
 -- The states of groups along the records of an entry that is handed on: none of these changes one.
 use Rattle.std.proofs.Common.{◌≡◌, ℕ, Bool, true, false, List, [], ◌∷◌, ◌++◌, map, filter, Option, Some, None, refl, sym, ap, ◌∙◌, append-nil}
 use Rattle.std.specs.List.{flat_map}
-use Rattle.node_sending.specs.rsct_packet.declared.ids.ProviderId.{ProviderId}
-use Rattle.node_sending.specs.rsct_packet.declared.ids.ProtoId.{ProtoId}
-use Rattle.node_sending.specs.rsct_packet.declared.ids.ViewId.{ViewId}
-use Rattle.node_sending.specs.proposal_core.declared.entry.Entry.{Entry}
-use Rattle.node_sending.specs.proposal_core.declared.group_state.GroupState.{GroupState}
-use Rattle.node_sending.specs.subscribe_core.declared.subs.Subscription.{Subscription}
-use Rattle.node_sending.specs.subscribe_core.Subs.{is_of_group, differs}
-use Rattle.node_sending.specs.client_callbacks.declared.ballot.Filled.{Filled}
-use Rattle.node_sending.specs.client_callbacks.declared.votes.VoteItem.{VoteItem}
-use Rattle.node_sending.specs.client_callbacks.Ballots.{BallotView}
-use Rattle.node_sending.specs.session_state.declared.casts.Cast.{Cast}
-use Rattle.node_sending.specs.session_state.declared.state.SessionState.{SessionState}
-use Rattle.node_sending.specs.session_state.HandOn.{cast_of, casts_of}
+use Rattle.rsct_packet.specs.declared.ids.ProviderId.{ProviderId}
+use Rattle.rsct_packet.specs.declared.ids.ProtoId.{ProtoId}
+use Rattle.rsct_packet.specs.declared.ids.ViewId.{ViewId}
+use Rattle.proposal_core.specs.declared.entry.Entry.{Entry}
+use Rattle.proposal_core.specs.declared.group_state.GroupState.{GroupState}
+use Rattle.subscribe_core.specs.declared.subs.Subscription.{Subscription}
+use Rattle.subscribe_core.specs.Subs.{is_of_group, differs}
+use Rattle.client_callbacks.specs.declared.ballot.Filled.{Filled}
+use Rattle.client_callbacks.specs.declared.votes.VoteItem.{VoteItem}
+use Rattle.client_callbacks.specs.Ballots.{BallotView}
+use Rattle.session_state.specs.declared.casts.Cast.{Cast}
+use Rattle.session_state.specs.declared.state.SessionState.{SessionState}
+use Rattle.session_state.specs.HandOn.{cast_of, casts_of}
 use Rattle.session_clients.specs.Notices.{Fillings}
-use Rattle.node_sending.specs.node_state.declared.happened.Happened.{Happened}
-use Rattle.node_sending.specs.node_state.declared.happened.Happened.TheVariants as happened
-use Rattle.node_sending.specs.node_state.declared.state.Core.{Core}
-use Rattle.node_sending.specs.node_state.State.{recorded_all, with_sessions}
-use Rattle.node_sending.specs.node_state.HandOn.{cast_record, cast_records, note_of, notes, noted}
-use Rattle.node_sending.specs.node_state.Handed.{Logged, logged_in}
-use Rattle.node_sending.proofs.node_state_laws.AlongLaws.{LeavesStates, leaves_both}
+use Rattle.node_state.specs.declared.happened.Happened.{Happened}
+use Rattle.node_state.specs.declared.happened.Happened.TheVariants as happened
+use Rattle.node_state.specs.declared.state.Core.{Core}
+use Rattle.node_state.specs.State.{recorded_all, with_sessions}
+use Rattle.node_state.specs.HandOn.{cast_record, cast_records, note_of, notes, noted}
+use Rattle.node_state.specs.Handed.{Logged, logged_in}
+use Rattle.node_state.proofs.AlongLaws.{LeavesStates, leaves_both}
 use Rattle.entry_delivery.specs.Received.{Handing, told_by, logged, logged_by}
 use Rattle.entry_delivery.specs.Telling.{heard_in, heard_handings, note_handing, noted_handings}
 

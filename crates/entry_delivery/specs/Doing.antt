@@ -1,23 +1,23 @@
 -- What a row does where clients answer. Each question that the row asks a client is listed with its answer, so
 -- that a row is what its definition gives for any answers that agree with these.
 use Rattle.std.specs.Prelude.{◌≡◌, ℕ, ◌≤◌, ◌+◌, ◌++◌, List, [], ◌∷◌, length, map, Option, IsTrue}
-use Rattle.node_sending.specs.rsct_packet.declared.ids.ProviderId.{ProviderId}
-use Rattle.node_sending.specs.proposal_core.declared.entry.Entry.{Entry}
-use Rattle.node_sending.specs.proposal_core.declared.group_state.GroupState.{GroupState}
-use Rattle.node_sending.specs.client_callbacks.declared.ballot.Filled.{Filled}
-use Rattle.node_sending.specs.client_callbacks.declared.votes.VoteItem.{VoteItem}
-use Rattle.node_sending.specs.client_callbacks.Ballots.{is_level}
-use Rattle.node_sending.specs.session_state.declared.state.Session.{Session}
-use Rattle.node_sending.specs.session_state.declared.state.SessionState.{SessionState}
-use Rattle.node_sending.specs.session_state.HandOn.{asks}
+use Rattle.rsct_packet.specs.declared.ids.ProviderId.{ProviderId}
+use Rattle.proposal_core.specs.declared.entry.Entry.{Entry}
+use Rattle.proposal_core.specs.declared.group_state.GroupState.{GroupState}
+use Rattle.client_callbacks.specs.declared.ballot.Filled.{Filled}
+use Rattle.client_callbacks.specs.declared.votes.VoteItem.{VoteItem}
+use Rattle.client_callbacks.specs.Ballots.{is_level}
+use Rattle.session_state.specs.declared.state.Session.{Session}
+use Rattle.session_state.specs.declared.state.SessionState.{SessionState}
+use Rattle.session_state.specs.HandOn.{asks}
 use Rattle.session_clients.specs.Notices.{Filling}
-use Rattle.node_sending.specs.node_state.declared.state.Core.{Core}
-use Rattle.node_sending.specs.node_state.HandOn.{Answering, answer_if}
-use Rattle.node_sending.specs.session_state.Owners.{KeepsOwners}
-use Rattle.node_sending.specs.node_state.declared.happened.Happened.{Happened}
-use Rattle.node_sending.specs.node_state.State.{InNameOrder, state_of}
-use Rattle.node_sending.specs.node_state.Handed.{handed_in, Along, logged_in}
-use Rattle.node_sending.specs.client_callbacks.Handed.{Handed}
+use Rattle.node_state.specs.declared.state.Core.{Core}
+use Rattle.node_state.specs.HandOn.{Answering, answer_if}
+use Rattle.session_state.specs.Owners.{KeepsOwners}
+use Rattle.node_state.specs.declared.happened.Happened.{Happened}
+use Rattle.node_state.specs.State.{InNameOrder, state_of}
+use Rattle.node_state.specs.Handed.{handed_in, Along, logged_in}
+use Rattle.client_callbacks.specs.Handed.{Handed}
 use Rattle.entry_delivery.specs.Received.{Handing, AreFor, Receive, told_by, logged_by}
 
 -- the client of p is handed a notice, before which so many records stand, and leaves its ballot like this

@@ -1,4 +1,3 @@
 pub mod Doing
 pub mod Telling
 pub mod Received
-pub use Rattle.session_clients.specs as session_clients

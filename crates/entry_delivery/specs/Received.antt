@@ -1,17 +1,17 @@
 -- What clients were handed and told, as the records of their node tell it.
 use Rattle.std.specs.Prelude.{◌≡◌, ℕ, zero, suc, List, [], ◌∷◌, ◌++◌, fold, Option, Some, None}
 use Rattle.std.specs.Option.{unwrap_or}
-use Rattle.node_sending.specs.proposal_core.declared.group_state.GroupState.{GroupState}
-use Rattle.node_sending.specs.subscribe_core.declared.subs.ClientToken.{ClientToken}
-use Rattle.node_sending.specs.client_callbacks.declared.told.Told.TheVariants as told
-use Rattle.node_sending.specs.client_callbacks.Handed.{Handed, Notified, Informed}
-use Rattle.node_sending.specs.session_state.declared.state.SessionState.{SessionState}
-use Rattle.node_sending.specs.session_state.State.{client_place, provider_of, place_of, outstanding, client_name}
+use Rattle.proposal_core.specs.declared.group_state.GroupState.{GroupState}
+use Rattle.subscribe_core.specs.declared.subs.ClientToken.{ClientToken}
+use Rattle.client_callbacks.specs.declared.told.Told.TheVariants as told
+use Rattle.client_callbacks.specs.Handed.{Handed, Notified, Informed}
+use Rattle.session_state.specs.declared.state.SessionState.{SessionState}
+use Rattle.session_state.specs.State.{client_place, provider_of, place_of, outstanding, client_name}
 use Rattle.session_clients.specs.Clients.{StandFor}
 use Rattle.session_clients.specs.Notices.{notice_to}
-use Rattle.node_sending.specs.node_state.declared.happened.Happened.{Happened}
-use Rattle.node_sending.specs.node_state.declared.happened.Happened.TheVariants as happened
-use Rattle.node_sending.specs.node_state.Handed.{Logged}
+use Rattle.node_state.specs.declared.happened.Happened.{Happened}
+use Rattle.node_state.specs.declared.happened.Happened.TheVariants as happened
+use Rattle.node_state.specs.Handed.{Logged}
 
 -- ---- what a record tells
 

@@ -1,20 +1,20 @@
 -- The records of an entry that is handed on, by what each of them names.
 use Rattle.std.specs.Prelude.{ℕ, true, false, List, [], ◌∷◌, map, filter, Option, Some}
-use Rattle.node_sending.specs.rsct_packet.declared.ids.ProviderId.{ProviderId}
-use Rattle.node_sending.specs.rsct_packet.declared.ids.ViewId.{ViewId}
-use Rattle.node_sending.specs.proposal_core.declared.entry.Entry.{Entry}
-use Rattle.node_sending.specs.proposal_core.declared.group_state.GroupState.{GroupState}
-use Rattle.node_sending.specs.proposal_core.Fold.{empty_state}
-use Rattle.node_sending.specs.subscribe_core.declared.subs.Subscription.{Subscription}
-use Rattle.node_sending.specs.subscribe_core.Subs.{is_of_group, differs}
-use Rattle.node_sending.specs.client_callbacks.declared.told.Told.TheVariants as told
-use Rattle.node_sending.specs.session_state.declared.casts.Cast.{Cast}
-use Rattle.node_sending.specs.session_state.declared.state.SessionState.{SessionState}
-use Rattle.node_sending.specs.session_state.State.{client_place, place_of}
-use Rattle.node_sending.specs.node_state.declared.happened.Happened.{Happened}
-use Rattle.node_sending.specs.node_state.declared.happened.Happened.TheVariants as happened
-use Rattle.node_sending.specs.node_state.declared.state.Core.{Core}
-use Rattle.node_sending.specs.node_state.HandOn.{cast_records, subscriber_name}
+use Rattle.rsct_packet.specs.declared.ids.ProviderId.{ProviderId}
+use Rattle.rsct_packet.specs.declared.ids.ViewId.{ViewId}
+use Rattle.proposal_core.specs.declared.entry.Entry.{Entry}
+use Rattle.proposal_core.specs.declared.group_state.GroupState.{GroupState}
+use Rattle.proposal_core.specs.Fold.{empty_state}
+use Rattle.subscribe_core.specs.declared.subs.Subscription.{Subscription}
+use Rattle.subscribe_core.specs.Subs.{is_of_group, differs}
+use Rattle.client_callbacks.specs.declared.told.Told.TheVariants as told
+use Rattle.session_state.specs.declared.casts.Cast.{Cast}
+use Rattle.session_state.specs.declared.state.SessionState.{SessionState}
+use Rattle.session_state.specs.State.{client_place, place_of}
+use Rattle.node_state.specs.declared.happened.Happened.{Happened}
+use Rattle.node_state.specs.declared.happened.Happened.TheVariants as happened
+use Rattle.node_state.specs.declared.state.Core.{Core}
+use Rattle.node_state.specs.HandOn.{cast_records, subscriber_name}
 use Rattle.entry_delivery.specs.Received.{Handing}
 
 -- a provider hears the entry at place i in view v, and its ballot is kept

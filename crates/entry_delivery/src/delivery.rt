@@ -2,30 +2,30 @@
 ghost use Rattle.std.specs.Prelude.{◌≡◌, [], OnOk, map, length, List, Option, option_copied};
 ghost use Rattle.session_clients.specs.Clients.{KeepsScripts};
 ghost use Rattle.std.specs.List.{fold, flat_map};
-ghost use Rattle.node_sending.specs.client_callbacks.declared.ballot.Filled.{Filled};
+ghost use Rattle.client_callbacks.specs.declared.ballot.Filled.{Filled};
 ghost use Rattle.session_clients.specs.Notices.{Fillings};
-ghost use Rattle.node_sending.specs.session_state.HandOn.{casts_out, hearers};
-ghost use Rattle.node_sending.specs.session_state.Calls.{SameSessions};
-ghost use Rattle.node_sending.specs.session_state.HandOn as session;
-ghost use Rattle.node_sending.specs.node_state.State.{state_of, recorded_all, with_sessions};
-ghost use Rattle.node_sending.specs.node_state.HandOn.{noted, ballot_sent, cast_sent_of, casts_sent, hand_on};
+ghost use Rattle.session_state.specs.HandOn.{casts_out, hearers};
+ghost use Rattle.session_state.specs.Calls.{SameSessions};
+ghost use Rattle.session_state.specs.HandOn as session;
+ghost use Rattle.node_state.specs.State.{state_of, recorded_all, with_sessions};
+ghost use Rattle.node_state.specs.HandOn.{noted, ballot_sent, cast_sent_of, casts_sent, hand_on};
 ghost use Rattle.entry_delivery.specs.Telling.{heard_in, heard_handings, noted_handings};
 ghost use Rattle.entry_delivery.specs.Received.{Receive};
 ghost use Rattle.entry_delivery.specs.Doing.{Ready, RowDoes};
 
 use crate::notes::{News, note_all, record_all_heard};
-use node_sending::client_callbacks::{Callbacks, Filled};
-use node_sending::node_state::Core;
-use node_sending::proposal_core::GroupState;
-use node_sending::rsct_packet::{List, Name, NoMemory, ProtoId, ProviderId};
-use node_sending::session_state::{Cast, Casts, NewEntry};
-use node_sending::subscribe_core::differ;
+use client_callbacks::{Callbacks, Filled};
 use node_sending::{is_frozen, send_vote};
+use node_state::Core;
+use proposal_core::GroupState;
+use rsct_packet::{List, Name, NoMemory, ProtoId, ProviderId};
 use session_clients::hand_entry_on;
+use session_state::{Cast, Casts, NewEntry};
 use std::alloc::Global;
+use subscribe_core::differ;
 
 /// Sends a ballot, where it is filled, to a leader that may be unknown.
-#[tactic(auto, unfolding(crate::proofs::Below::ballot_sent))]
+#[tactic(auto, unfolding(node_state::specs::HandOn::ballot_sent))]
 fn send_ballot(
     core: &mut Core,
     alloc: Global,
@@ -46,7 +46,7 @@ fn send_ballot(
 }
 
 /// Sends what a provider casts to a leader that may be unknown.
-#[tactic(auto, unfolding(crate::proofs::Below::cast_sent_of))]
+#[tactic(auto, unfolding(node_state::specs::HandOn::cast_sent_of))]
 fn send_cast(
     core: &mut Core,
     alloc: Global,
@@ -92,7 +92,7 @@ fn send_each_cast(
 }
 
 /// Sends what providers cast to a leader that may be unknown, where the node is not frozen.
-#[tactic(auto, unfolding(crate::proofs::Below::casts_sent))]
+#[tactic(auto, unfolding(node_state::specs::HandOn::casts_sent))]
 fn send_casts(
     core: &mut Core,
     alloc: Global,
@@ -109,7 +109,7 @@ fn send_casts(
 }
 
 /// Tells the subscribers of a group what it has become, where its members or its value differ.
-#[tactic(auto, unfolding(crate::proofs::Below::noted, crate::proofs::Below::notes, crate::proofs::Below::note_of, crate::proofs::Below::recorded_all, crate::specs::Telling::noted_handings), using(crate::proofs::DoingLaws::receive_nothing))]
+#[tactic(auto, unfolding(node_state::specs::HandOn::noted, node_state::specs::HandOn::notes, node_state::specs::HandOn::note_of, node_state::specs::State::recorded_all, crate::specs::Telling::noted_handings), using(crate::proofs::DoingLaws::receive_nothing))]
 fn note<C: Callbacks>(
     core: &mut Core,
     clients: &mut Vec<C>,
@@ -140,7 +140,7 @@ fn note<C: Callbacks>(
 }
 
 /// Hands an entry on to the clients of the providers that hear it, and records what they hear and cast.
-#[tactic(auto, unfolding(crate::proofs::Below::recorded_all, crate::proofs::Below::with_sessions))]
+#[tactic(auto, unfolding(node_state::specs::State::recorded_all, node_state::specs::State::with_sessions))]
 fn hand<C: Callbacks>(
     core: &mut Core,
     clients: &mut Vec<C>,

@@ -5,6 +5,3 @@ mod delivery;
 mod notes;
 
 pub use delivery::hand_on;
-pub use node_sending;
-pub use session_clients;
-pub use session_clients::session_delivery;

@@ -2,23 +2,23 @@
 ghost use Rattle.std.specs.Prelude.{◌≡◌, ◌++◌, ◌∷◌, [], OnOk, IfOk, map, filter, length, find, option_copied};
 ghost use Rattle.session_clients.specs.Clients.{KeepsScripts};
 ghost use Rattle.std.specs.List.{flat_map};
-ghost use Rattle.node_sending.specs.subscribe_core.Subs.{is_of_group};
-ghost use Rattle.node_sending.specs.session_state.State.{is_session};
-ghost use Rattle.node_sending.specs.client_callbacks.declared.told.Told.TheVariants as told;
-ghost use Rattle.node_sending.specs.node_state.declared.happened.Happened.TheVariants as happened;
-ghost use Rattle.node_sending.specs.node_state.HandOn.{cast_record, cast_records, subscriber_name};
+ghost use Rattle.subscribe_core.specs.Subs.{is_of_group};
+ghost use Rattle.session_state.specs.State.{is_session};
+ghost use Rattle.client_callbacks.specs.declared.told.Told.TheVariants as told;
+ghost use Rattle.node_state.specs.declared.happened.Happened.TheVariants as happened;
+ghost use Rattle.node_state.specs.HandOn.{cast_record, cast_records, subscriber_name};
 ghost use Rattle.entry_delivery.specs.Telling.{heard_in, note_in, note_handing};
 ghost use Rattle.entry_delivery.specs.Received.{Receive};
 
-use node_sending::client_callbacks::{Callbacks, Filled, Told};
-use node_sending::node_state::{Happened, Records};
-use node_sending::proposal_core::GroupState;
-use node_sending::rsct_packet::{List, Name, NoMemory, ProtoId, ProviderId, ViewId};
-use node_sending::session_state::{Cast, NewEntry, Session, SessionState};
-use node_sending::subscribe_core::{ClientToken, Subscription};
-use session_clients::session_delivery::client_place;
+use client_callbacks::{Callbacks, Filled, Told};
+use node_state::{Happened, Records};
+use proposal_core::GroupState;
+use rsct_packet::{List, Name, NoMemory, ProtoId, ProviderId, ViewId};
 use session_clients::tell_at;
+use session_delivery::client_place;
+use session_state::{Cast, NewEntry, Session, SessionState};
 use std::alloc::Global;
+use subscribe_core::{ClientToken, Subscription};
 
 /// What the subscribers of a group are told at a node in a view: what the group is, at a place of its list or at
 /// an install.
@@ -32,7 +32,7 @@ pub struct News<'a> {
 }
 
 /// Records a ballot that is filled.
-#[tactic(auto, unfolding(crate::proofs::Below::cast_record))]
+#[tactic(auto, unfolding(node_state::specs::HandOn::cast_record))]
 fn record_filled(
     alloc: Global,
     records: &mut Records,
@@ -61,7 +61,7 @@ fn record_filled(
 }
 
 /// Records what a provider casts.
-#[tactic(auto, unfolding(crate::proofs::Below::cast_records))]
+#[tactic(auto, unfolding(node_state::specs::HandOn::cast_records))]
 fn record_cast(alloc: Global, records: &mut Records, cast: &Cast) -> Result<(), NoMemory>
     ensures { OnOk result (records.new ≡ records.old ++ cast_records cast.now.p cast.now.cast) }
 {
@@ -135,7 +135,7 @@ fn session_of(rows: &[Session], client: ClientToken) -> Option<&Session>
 }
 
 /// The name of a subscription's client; no bytes where it has no session.
-#[tactic(auto, unfolding(crate::proofs::Below::subscriber_name, crate::proofs::Below::client_name))]
+#[tactic(auto, unfolding(node_state::specs::HandOn::subscriber_name, session_state::specs::State::client_name))]
 fn subscriber_name(
     alloc: Global,
     sessions: &SessionState,

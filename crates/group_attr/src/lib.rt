@@ -4,4 +4,3 @@
 mod attrs;
 
 pub use attrs::{AttrFault, Attrs, Batch, DefaultVote, HOST_MEMBERSHIP, MAX_LIMIT, Phases};
-pub use rsct_packet;

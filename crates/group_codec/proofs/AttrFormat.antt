@@ -5,23 +5,23 @@ use Rattle.std.specs.List.{list_all}
 use Rattle.std.specs.Option.{option_map}
 use Rattle.std.specs.Borrow.{Bor}
 use Rattle.std.proofs.lemmas.Bool.{leb-true}
-use Rattle.proposal_core.specs.rsct_packet.Reading.{Gives, part_at, made_at, guarded_at}
-use Rattle.proposal_core.specs.rsct_packet.Format.{IsFormat, IsVariant, Takes, OptionFits}
-use Rattle.proposal_core.specs.rsct_packet.Text.{IsName, is_name_of, name_byte}
-use Rattle.proposal_core.specs.rsct_packet.Fields.{u8_text}
-use Rattle.proposal_core.proofs.rsct_packet_laws.FormatLaws.{both_format, made_format, decoded_format, fits_format, keyed_format, keyed_of, or_variant, plain_variant, part_keyed, bind_some, then_some, u8_format, u16_format}
-use Rattle.proposal_core.proofs.rsct_packet_laws.FieldLaws.{and_true}
-use Rattle.proposal_core.proofs.group_attr_laws.Chosen.{chosen, not_chosen}
-use Rattle.proposal_core.specs.group_attr.declared.attrs.Phases.{Phases}
-use Rattle.proposal_core.specs.group_attr.declared.attrs.Phases.TheVariants.{One, Many}
-use Rattle.proposal_core.specs.group_attr.declared.attrs.Batch.{Batch}
-use Rattle.proposal_core.specs.group_attr.declared.attrs.Batch.TheVariants.{Neither, Joins, Failures, Both}
-use Rattle.proposal_core.specs.group_attr.declared.attrs.DefaultVote.{DefaultVote}
-use Rattle.proposal_core.specs.group_attr.declared.attrs.DefaultVote.TheVariants.{Approve, Reject}
-use Rattle.proposal_core.specs.group_attr.declared.attrs.Attrs.{Attrs}
+use Rattle.rsct_packet.specs.Reading.{Gives, part_at, made_at, guarded_at}
+use Rattle.rsct_packet.specs.Format.{IsFormat, IsVariant, Takes, OptionFits}
+use Rattle.rsct_packet.specs.Text.{IsName, is_name_of, name_byte}
+use Rattle.rsct_packet.specs.Fields.{u8_text}
+use Rattle.rsct_packet.proofs.FormatLaws.{both_format, made_format, decoded_format, fits_format, keyed_format, keyed_of, or_variant, plain_variant, part_keyed, bind_some, then_some, u8_format, u16_format}
+use Rattle.rsct_packet.proofs.FieldLaws.{and_true}
+use Rattle.group_attr.proofs.Chosen.{chosen, not_chosen}
+use Rattle.group_attr.specs.declared.attrs.Phases.{Phases}
+use Rattle.group_attr.specs.declared.attrs.Phases.TheVariants.{One, Many}
+use Rattle.group_attr.specs.declared.attrs.Batch.{Batch}
+use Rattle.group_attr.specs.declared.attrs.Batch.TheVariants.{Neither, Joins, Failures, Both}
+use Rattle.group_attr.specs.declared.attrs.DefaultVote.{DefaultVote}
+use Rattle.group_attr.specs.declared.attrs.DefaultVote.TheVariants.{Approve, Reject}
+use Rattle.group_attr.specs.declared.attrs.Attrs.{Attrs}
 use Rattle.group_codec.specs.declared.attrs.AttrsRef.{AttrsRef}
-use Rattle.proposal_core.specs.group_attr.Agree.{batch_number}
-use Rattle.proposal_core.specs.group_attr.Codec.{phases_number, phases_of, phases_at, batch_of, batch_at, default_number, default_of, default_at, dissolve_of, dissolve_at, source_key, source_body, source_part_at, source_at, source_text, attrs_of_parts, attrs_at, attrs_text, IsAttrs}
+use Rattle.group_attr.specs.Agree.{batch_number}
+use Rattle.group_attr.specs.Codec.{phases_number, phases_of, phases_at, batch_of, batch_at, default_number, default_of, default_at, dissolve_of, dissolve_at, source_key, source_body, source_part_at, source_at, source_text, attrs_of_parts, attrs_at, attrs_text, IsAttrs}
 use Rattle.group_codec.specs.InPlace.{attrs_in, attrs_of}
 
 phases_back : (k : ℕ) (y : Phases) → phases_of k ≡ Some y → phases_number y ≡ k

@@ -3,10 +3,10 @@ use Rattle.std.proofs.Common.{◌≡◌, ℕ, ◌<◌, List, [], ◌∷◌, ◌+
 use Rattle.std.specs.Prelude.{is_none, IfSome}
 use Rattle.std.specs.Int.{w8}
 use Rattle.std.proofs.lemmas.List.{append-nil}
-use Rattle.proposal_core.specs.rsct_packet.Format.{IsFormat, IsVariant, IsBytes, EachFits}
-use Rattle.proposal_core.specs.rsct_packet.Fields.{IsNode}
-use Rattle.proposal_core.proofs.rsct_packet_laws.FormatLaws.{both_format, made_format, guarded_format, fits_format, counted_format, optional_format, keyed_of, choice_format, or_variant, no_variant, made_variant, wide8, u16_format}
-use Rattle.proposal_core.proofs.rsct_packet_laws.FieldLaws.{bytes_format, proto_format, some_providers_format}
+use Rattle.rsct_packet.specs.Format.{IsFormat, IsVariant, IsBytes, EachFits}
+use Rattle.rsct_packet.specs.Fields.{IsNode}
+use Rattle.rsct_packet.proofs.FormatLaws.{both_format, made_format, guarded_format, fits_format, counted_format, optional_format, keyed_of, choice_format, or_variant, no_variant, made_variant, wide8, u16_format}
+use Rattle.rsct_packet.proofs.FieldLaws.{bytes_format, proto_format, some_providers_format}
 use Rattle.proposal_core.proofs.RowFormat.{row_format}
 use Rattle.proposal_core.specs.declared.entry.Row.{Row}
 use Rattle.proposal_core.specs.declared.entry.Closed.{Closed}

@@ -1,4 +1,3 @@
-pub mod Below
 pub mod AttrFormat
 pub mod ProposalFormat
 pub mod EntryFormat

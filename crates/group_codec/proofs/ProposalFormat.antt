@@ -5,12 +5,12 @@ use Rattle.std.specs.Int.{w8}
 use Rattle.std.specs.Option.{option_map}
 use Rattle.std.specs.Borrow.{Bor}
 use Rattle.std.proofs.lemmas.Bool.{leb-true}
-use Rattle.proposal_core.specs.rsct_packet.Format.{IsFormat, IsVariant, EachFits}
-use Rattle.proposal_core.specs.rsct_packet.Reading.{Gives}
-use Rattle.proposal_core.specs.rsct_packet.declared.ids.ProviderId.{ProviderId}
-use Rattle.proposal_core.specs.rsct_packet.Fields.{IsNode, IsProvider, IsProviders, IsSomeProviders}
-use Rattle.proposal_core.proofs.rsct_packet_laws.FormatLaws.{both_format, guarded_format, fits_format, counted_format, optional_format, keyed_of, choice_format, or_variant, no_variant, made_variant, wide8, u32_format}
-use Rattle.proposal_core.proofs.rsct_packet_laws.FieldLaws.{and_true, bytes_format, view_format, provider_format, some_providers_format}
+use Rattle.rsct_packet.specs.Format.{IsFormat, IsVariant, EachFits}
+use Rattle.rsct_packet.specs.Reading.{Gives}
+use Rattle.rsct_packet.specs.declared.ids.ProviderId.{ProviderId}
+use Rattle.rsct_packet.specs.Fields.{IsNode, IsProvider, IsProviders, IsSomeProviders}
+use Rattle.rsct_packet.proofs.FormatLaws.{both_format, guarded_format, fits_format, counted_format, optional_format, keyed_of, choice_format, or_variant, no_variant, made_variant, wide8, u32_format}
+use Rattle.rsct_packet.proofs.FieldLaws.{and_true, bytes_format, view_format, provider_format, some_providers_format}
 use Rattle.proposal_core.proofs.FailureFormat.{failure_format}
 use Rattle.group_codec.proofs.AttrFormat.{attrs_format, stands_gives}
 use Rattle.proposal_core.specs.declared.proposal.Failure.{Failure}

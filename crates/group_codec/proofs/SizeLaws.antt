@@ -2,13 +2,13 @@
 use Rattle.std.proofs.Common.{◌≡◌, ℕ, ◌+◌, ◌*◌, List, [], ◌∷◌, length, Option, Some, None, refl, arith, length-append}
 use Rattle.std.specs.Prelude.{flat_map}
 use Rattle.std.specs.Int.{w8}
-use Rattle.proposal_core.specs.rsct_packet.declared.ids.ProviderId.{ProviderId}
-use Rattle.proposal_core.specs.rsct_packet.declared.ids.ViewId.{ViewId}
-use Rattle.proposal_core.specs.rsct_packet.declared.ids.ProtoId.{ProtoId}
-use Rattle.proposal_core.specs.rsct_packet.Format.{counted_text, optional_text}
-use Rattle.proposal_core.specs.rsct_packet.Fields.{u8_text, u16_text, u32_text, bytes_text, view_text, provider_text, proto_text, providers_text}
-use Rattle.proposal_core.specs.group_attr.declared.attrs.Attrs.{Attrs}
-use Rattle.proposal_core.specs.group_attr.Codec.{attrs_text, source_text}
+use Rattle.rsct_packet.specs.declared.ids.ProviderId.{ProviderId}
+use Rattle.rsct_packet.specs.declared.ids.ViewId.{ViewId}
+use Rattle.rsct_packet.specs.declared.ids.ProtoId.{ProtoId}
+use Rattle.rsct_packet.specs.Format.{counted_text, optional_text}
+use Rattle.rsct_packet.specs.Fields.{u8_text, u16_text, u32_text, bytes_text, view_text, provider_text, proto_text, providers_text}
+use Rattle.group_attr.specs.declared.attrs.Attrs.{Attrs}
+use Rattle.group_attr.specs.Codec.{attrs_text, source_text}
 use Rattle.proposal_core.specs.declared.proposal.Failure.{Failure}
 use Rattle.proposal_core.specs.declared.proposal.Proposal.{Proposal}
 use Rattle.proposal_core.specs.declared.proposal.Proposal.TheVariants.{Join, Leave, Fail, Expel, State, Message, Attributes, Reflect}

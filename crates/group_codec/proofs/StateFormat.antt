@@ -3,9 +3,9 @@ use Rattle.std.proofs.Common.{◌≡◌, ℕ, ◌-◌, ◌≤◌, List, length, 
 use Rattle.std.specs.Prelude.{IsTrue, nat_le}
 use Rattle.std.proofs.lemmas.Bool.{leb-true, le-leb}
 use Rattle.std.proofs.lemmas.List.{take_at}
-use Rattle.proposal_core.specs.rsct_packet.Format.{IsFormat, IsBytes}
-use Rattle.proposal_core.proofs.rsct_packet_laws.FormatLaws.{both_format, made_format, guarded_format, fits_format, optional_format, u16_format}
-use Rattle.proposal_core.proofs.rsct_packet_laws.FieldLaws.{and_true, both_true, bytes_format, proto_format, providers_format}
+use Rattle.rsct_packet.specs.Format.{IsFormat, IsBytes}
+use Rattle.rsct_packet.proofs.FormatLaws.{both_format, made_format, guarded_format, fits_format, optional_format, u16_format}
+use Rattle.rsct_packet.proofs.FieldLaws.{and_true, both_true, bytes_format, proto_format, providers_format}
 use Rattle.group_codec.proofs.AttrFormat.{attrs_format}
 use Rattle.proposal_core.specs.declared.group_state.GroupState.{GroupState}
 use Rattle.proposal_core.specs.Fold.{joiners_fit}

@@ -4,17 +4,17 @@ use Rattle.std.specs.Prelude.{IsTrue, not, ◌||◌, ◌&&◌, ◌==◌, filter,
 use Rattle.std.specs.List.{list_all}
 use Rattle.std.proofs.lemmas.Bool.{leb-true, ltb-true}
 use Rattle.std.proofs.lemmas.List.{append-nil}
-use Rattle.proposal_core.specs.rsct_packet.declared.ids.ProviderId.{ProviderId}
-use Rattle.proposal_core.specs.rsct_packet.declared.ids.ViewId.{ViewId}
-use Rattle.proposal_core.specs.rsct_packet.declared.ids.ProtoId.{ProtoId}
-use Rattle.proposal_core.specs.rsct_packet.Ids.{same_proto}
-use Rattle.proposal_core.specs.rsct_packet.Providers.{same_provider, among, none_among, without_all}
-use Rattle.proposal_core.specs.rsct_packet.Format.{EachFits, OptionFits}
-use Rattle.proposal_core.specs.rsct_packet.Fields.{AreShort, IsU32, IsView, IsProto, IsProvider, IsProviders}
-use Rattle.proposal_core.proofs.rsct_packet_laws.FieldLaws.{and_true, both_true}
-use Rattle.proposal_core.proofs.rsct_packet_laws.ProviderLaws.{AreProviders-without_all, AreProviders-append}
-use Rattle.proposal_core.specs.group_attr.declared.attrs.Attrs.{Attrs}
-use Rattle.proposal_core.specs.group_attr.Codec.{IsAttrs}
+use Rattle.rsct_packet.specs.declared.ids.ProviderId.{ProviderId}
+use Rattle.rsct_packet.specs.declared.ids.ViewId.{ViewId}
+use Rattle.rsct_packet.specs.declared.ids.ProtoId.{ProtoId}
+use Rattle.rsct_packet.specs.Ids.{same_proto}
+use Rattle.rsct_packet.specs.Providers.{same_provider, among, none_among, without_all}
+use Rattle.rsct_packet.specs.Format.{EachFits, OptionFits}
+use Rattle.rsct_packet.specs.Fields.{AreShort, IsU32, IsView, IsProto, IsProvider, IsProviders}
+use Rattle.rsct_packet.proofs.FieldLaws.{and_true, both_true}
+use Rattle.rsct_packet.proofs.ProviderLaws.{AreProviders-without_all, AreProviders-append}
+use Rattle.group_attr.specs.declared.attrs.Attrs.{Attrs}
+use Rattle.group_attr.specs.Codec.{IsAttrs}
 use Rattle.proposal_core.specs.declared.proposal.Proposal.{Proposal}
 use Rattle.proposal_core.specs.declared.proposal.Proposal.TheVariants.{Join, Leave, Fail, Expel, State, Message, Attributes, Reflect}
 use Rattle.proposal_core.specs.declared.entry.Entry.{Entry}

@@ -2,17 +2,15 @@
 //! source phases, source limit, the byte 0 for a merge that dissolves, and the source's name or the byte 0.
 ghost use Rattle.std.specs.Prelude.{◌≡◌, ◌++◌, IfOk, OnOk, OnErr, option_copied};
 ghost use Rattle.std.specs.Option.{option_map};
-ghost use Rattle.proposal_core.specs.rsct_packet.Reading.{Gives};
-ghost use Rattle.proposal_core.specs.rsct_packet.Format.{IsFoundAt, IsOnlyAt, OptionFits};
-ghost use Rattle.proposal_core.specs.rsct_packet.Text.{IsName};
-ghost use Rattle.proposal_core.specs.group_attr.Agree.{batch_number};
-ghost use Rattle.proposal_core.specs.group_attr.Codec.{phases_number, default_number, source_text, phases_at, batch_at, default_at, dissolve_at, source_at, attrs_at, attrs_text, IsAttrs};
+ghost use Rattle.rsct_packet.specs.Reading.{Gives};
+ghost use Rattle.rsct_packet.specs.Format.{IsFoundAt, IsOnlyAt, OptionFits};
+ghost use Rattle.rsct_packet.specs.Text.{IsName};
+ghost use Rattle.group_attr.specs.Agree.{batch_number};
+ghost use Rattle.group_attr.specs.Codec.{phases_number, default_number, source_text, phases_at, batch_at, default_at, dissolve_at, source_at, attrs_at, attrs_text, IsAttrs};
 ghost use Rattle.group_codec.specs.InPlace.{attrs_in, attrs_of};
 
-use proposal_core::group_attr::{Attrs, Batch, DefaultVote, Phases};
-use proposal_core::rsct_packet::{
-    Name, NoMemory, is_name, known, put_name, put_u8, read_part, read_u8, read_u16,
-};
+use group_attr::{Attrs, Batch, DefaultVote, Phases};
+use rsct_packet::{Name, NoMemory, is_name, known, put_name, put_u8, read_part, read_u8, read_u16};
 use std::alloc::Global;
 
 /// Attributes as they stand in a datagram.
@@ -28,7 +26,7 @@ pub struct AttrsRef<'a> {
 }
 
 /// One byte: 1 for one phase, 2 for several; `None` where the front is neither.
-#[tactic(auto, unfolding(crate::proofs::Below::phases_at))]
+#[tactic(auto, unfolding(group_attr::specs::Codec::phases_at))]
 pub fn read_phases(bytes: &[u8]) -> Option<(Phases, &[u8])>
     ensures { Gives result (phases_at bytes.now) }
 {
@@ -40,7 +38,7 @@ pub fn read_phases(bytes: &[u8]) -> Option<(Phases, &[u8])>
     }
 }
 
-#[tactic(auto, unfolding(crate::proofs::Below::batch_at))]
+#[tactic(auto, unfolding(group_attr::specs::Codec::batch_at))]
 fn read_batch(bytes: &[u8]) -> Option<(Batch, &[u8])>
     ensures { Gives result (batch_at bytes.now) }
 {
@@ -54,7 +52,7 @@ fn read_batch(bytes: &[u8]) -> Option<(Batch, &[u8])>
     }
 }
 
-#[tactic(auto, unfolding(crate::proofs::Below::default_at))]
+#[tactic(auto, unfolding(group_attr::specs::Codec::default_at))]
 fn read_default(bytes: &[u8]) -> Option<(DefaultVote, &[u8])>
     ensures { Gives result (default_at bytes.now) }
 {
@@ -67,7 +65,7 @@ fn read_default(bytes: &[u8]) -> Option<(DefaultVote, &[u8])>
 }
 
 /// The byte for a merge that dissolves.
-#[tactic(auto, unfolding(crate::proofs::Below::dissolve_at))]
+#[tactic(auto, unfolding(group_attr::specs::Codec::dissolve_at))]
 fn read_dissolve(bytes: &[u8]) -> Option<((), &[u8])>
     ensures { Gives result (dissolve_at bytes.now) }
 {
@@ -79,7 +77,7 @@ fn read_dissolve(bytes: &[u8]) -> Option<((), &[u8])>
 }
 
 /// The byte 0 for no source, or its name.
-#[tactic(auto, unfolding(crate::proofs::Below::source_at))]
+#[tactic(auto, unfolding(group_attr::specs::Codec::source_at))]
 fn read_source(bytes: &[u8]) -> Option<(Option<&[u8]>, &[u8])>
     ensures { option_map (λ x. (option_copied x.0, x.1.now)) result ≡ source_at bytes.now }
 {
@@ -94,7 +92,7 @@ fn read_source(bytes: &[u8]) -> Option<(Option<&[u8]>, &[u8])>
     Some((Some(name), bytes))
 }
 
-#[tactic(auto, unfolding(crate::proofs::Below::attrs_at))]
+#[tactic(auto, unfolding(group_attr::specs::Codec::attrs_at))]
 fn attrs_front(bytes: &[u8]) -> Option<(AttrsRef<'_>, &[u8])>
     ensures { option_map (λ x. (attrs_in x.0, x.1.now)) result ≡ attrs_at bytes.now }
 {
@@ -120,7 +118,7 @@ fn attrs_front(bytes: &[u8]) -> Option<(AttrsRef<'_>, &[u8])>
 
 /// Attributes off the front of bytes, with the bytes after them. None exactly where the front is no spelling of
 /// attributes.
-#[tactic(auto, using(crate::proofs::Below::format_reads, crate::proofs::AttrFormat::attrs_gives, crate::proofs::AttrFormat::attrs_format))]
+#[tactic(auto, using(rsct_packet::proofs::FormatLaws::format_reads, crate::proofs::AttrFormat::attrs_gives, crate::proofs::AttrFormat::attrs_format))]
 pub fn read_attrs(bytes: &[u8]) -> Option<(AttrsRef<'_>, &[u8])>
     ensures value { option_map (λ x. (attrs_in x.0, x.1.now)) result ≡ attrs_at bytes.now }
     ensures found { IsFoundAt attrs_text IsAttrs (attrs_of result) bytes.now }
@@ -159,7 +157,7 @@ fn default_number(vote: DefaultVote) -> u8
     }
 }
 
-#[tactic(auto, unfolding(crate::proofs::Below::source_text, crate::proofs::Below::name_text))]
+#[tactic(auto, unfolding(group_attr::specs::Codec::source_text, rsct_packet::specs::Fields::name_text))]
 fn put_source(out: &mut Vec<u8>, source: &Option<Name>) -> Result<(), NoMemory>
     ensures ok { OnOk result (out.new.items ≡ out.old.items ++ source_text source.now) }
     ensures err { OnErr result (out.new.items ≡ out.old.items) }
@@ -171,7 +169,7 @@ fn put_source(out: &mut Vec<u8>, source: &Option<Name>) -> Result<(), NoMemory>
 }
 
 /// Takes the spelling of attributes to the end of `out`, and leaves `out` as before where memory has run out.
-#[tactic(auto, unfolding(crate::proofs::Below::attrs_text, crate::proofs::Below::u16_text))]
+#[tactic(auto, unfolding(group_attr::specs::Codec::attrs_text, rsct_packet::specs::Fields::u16_text))]
 pub fn put_attrs(out: &mut Vec<u8>, attrs: &Attrs) -> Result<(), NoMemory>
     ensures ok { OnOk result (out.new.items ≡ out.old.items ++ attrs_text attrs.now) }
     ensures err { OnErr result (out.new.items ≡ out.old.items) }

@@ -1,17 +1,17 @@
 //! How entries are spelled: a byte for the kind, and what the kind has.
 ghost use Rattle.std.specs.Prelude.{◌≡◌, ◌++◌, IfOk, IfSome, OnOk, OnErr};
 ghost use Rattle.std.specs.Option.{option_map};
-ghost use Rattle.proposal_core.specs.rsct_packet.Format.{IsBytes};
+ghost use Rattle.rsct_packet.specs.Format.{IsBytes};
 ghost use Rattle.proposal_core.specs.EntryCodec.{closed_at, closed_text, IsClosed, once_at, begin_at, phase_at, approve_at, reject_at, late_at, entry_front_at, entry_text, IsEntry, whole};
 ghost use Rattle.group_codec.specs.InPlace.{closed_in, entry_in};
 
 use crate::proposals::{ProposalRef, put_proposal, read_proposal};
-use proposal_core::rsct_packet::{
+use proposal_core::{Closed, Entry, Row, optional_bytes, optional_text_of};
+use rsct_packet::{
     Listed, NoMemory, ProtoId, ProviderId, Providers, known, put_list, put_optional_bytes,
     put_proto, put_providers, put_u8, put_u16, read_list, read_optional_bytes, read_proto,
     read_some_providers, read_u8, read_u16,
 };
-use proposal_core::{Closed, Entry, Row, optional_bytes, optional_text_of};
 use std::alloc::Global;
 
 /// How a phase closed, as it stands in a datagram.

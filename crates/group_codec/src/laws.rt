@@ -1,7 +1,7 @@
 //! Laws of spellings.
 ghost use Rattle.std.specs.Prelude.{◌≡◌, ℕ, IsTrue, length};
-ghost use Rattle.proposal_core.specs.rsct_packet.declared.ids.ViewId.{ViewId};
-ghost use Rattle.proposal_core.specs.rsct_packet.Fields.{IsU32, IsView};
+ghost use Rattle.rsct_packet.specs.declared.ids.ViewId.{ViewId};
+ghost use Rattle.rsct_packet.specs.Fields.{IsU32, IsView};
 ghost use Rattle.proposal_core.specs.declared.entry.Entry.{Entry};
 ghost use Rattle.proposal_core.specs.EntryCodec.{entry_text, IsEntry};
 ghost use Rattle.proposal_core.specs.Sizes.{entry_len};

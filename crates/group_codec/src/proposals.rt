@@ -1,20 +1,20 @@
 //! How proposals are spelled: a byte for the kind, and what the kind has.
 ghost use Rattle.std.specs.Prelude.{◌≡◌, ◌++◌, IfOk, OnOk, OnErr};
 ghost use Rattle.std.specs.Option.{option_map};
-ghost use Rattle.proposal_core.specs.rsct_packet.Reading.{Gives};
+ghost use Rattle.rsct_packet.specs.Reading.{Gives};
 ghost use Rattle.std.specs.List.{list_any};
-ghost use Rattle.proposal_core.specs.rsct_packet.Format.{IsFoundAt, IsOnlyAt};
-ghost use Rattle.proposal_core.specs.rsct_packet.Fields.{u8_text, u32_text, provider_text, IsNode};
+ghost use Rattle.rsct_packet.specs.Format.{IsFoundAt, IsOnlyAt};
+ghost use Rattle.rsct_packet.specs.Fields.{u8_text, u32_text, provider_text, IsNode};
 ghost use Rattle.proposal_core.specs.ProposalCodec.{same_failure, failures_differ, are_failures, fallen_at, join_at, leave_at, fail_at, expel_at, state_change_at, message_at, attributes_at, reflect_at, proposal_at, proposal_text, IsProposal};
 ghost use Rattle.group_codec.specs.InPlace.{proposal_in, proposal_of};
 
 use crate::attrs::{AttrsRef, put_attrs, read_attrs};
-use proposal_core::rsct_packet::{
+use proposal_core::{Failure, Proposal, is_same_failure, text_of};
+use rsct_packet::{
     Listed, NoMemory, ProviderId, Providers, ViewId, known, put_bytes, put_list, put_optional_u32,
     put_provider, put_providers, put_u8, put_u32, put_view, read_bytes, read_list,
     read_optional_u32, read_provider, read_some_providers, read_u8, read_u32, read_view,
 };
-use proposal_core::{Failure, Proposal, is_same_failure, text_of};
 use std::alloc::Global;
 
 /// A proposal as it stands in a datagram.
@@ -207,7 +207,7 @@ fn proposal_front(bytes: &[u8]) -> Option<(ProposalRef<'_>, &[u8])>
 
 /// A proposal off the front of bytes, with the bytes after it. None exactly where the front is no spelling of a
 /// proposal.
-#[tactic(auto, using(crate::proofs::Below::format_reads, crate::proofs::ProposalFormat::proposal_gives, crate::proofs::ProposalFormat::proposal_format))]
+#[tactic(auto, using(rsct_packet::proofs::FormatLaws::format_reads, crate::proofs::ProposalFormat::proposal_gives, crate::proofs::ProposalFormat::proposal_format))]
 pub fn read_proposal(bytes: &[u8]) -> Option<(ProposalRef<'_>, &[u8])>
     ensures value { option_map (λ x. (proposal_in x.0, x.1.now)) result ≡ proposal_at bytes.now }
     ensures found { IsFoundAt proposal_text IsProposal (proposal_of result) bytes.now }

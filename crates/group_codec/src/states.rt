@@ -3,21 +3,21 @@ ghost use Rattle.std.specs.Prelude.{◌≡◌, ◌++◌, ◌-◌, IfOk, OnOk, On
 ghost use Rattle.std.specs.Option.{option_map};
 ghost use Rattle.std.specs.List.{list_all};
 ghost use Rattle.std.specs.Int.{w16};
-ghost use Rattle.proposal_core.specs.rsct_packet.Reading.{Gives, number_at, guarded_at, optional_at};
-ghost use Rattle.proposal_core.specs.rsct_packet.Format.{IsFoundAt, IsOnlyAt, OptionFits, optional_text};
-ghost use Rattle.proposal_core.specs.rsct_packet.Providers.{among, none_among};
+ghost use Rattle.rsct_packet.specs.Reading.{Gives, number_at, guarded_at, optional_at};
+ghost use Rattle.rsct_packet.specs.Format.{IsFoundAt, IsOnlyAt, OptionFits, optional_text};
+ghost use Rattle.rsct_packet.specs.Providers.{among, none_among};
 ghost use Rattle.proposal_core.specs.Fold.{joiners_fit, joiners_in, present};
 ghost use Rattle.proposal_core.specs.StateCodec.{is_phase, running_at, running_text, IsRunning, is_sound, parts_at, state_at, state_text, IsState};
 ghost use Rattle.group_codec.specs.InPlace.{running_in, optional_running_in, parts_in};
 
 use crate::attrs::{AttrsRef, put_attrs, read_attrs};
 use crate::proposals::{ProposalRef, put_proposal, read_proposal};
-use proposal_core::rsct_packet::{
+use proposal_core::{GroupState, Running, optional_bytes, optional_text_of, text_of};
+use rsct_packet::{
     Listed, MAX_PROVIDERS, NoMemory, ProtoId, ProviderId, Providers, is_listed, known, put_bytes,
     put_optional_bytes, put_optional_proto, put_proto, put_providers, put_u8, put_u16, read_bytes,
     read_optional_bytes, read_optional_proto, read_proto, read_providers, read_u8, read_u16,
 };
-use proposal_core::{GroupState, Running, optional_bytes, optional_text_of, text_of};
 use std::alloc::Global;
 use std::marker::Model;
 
@@ -294,7 +294,7 @@ fn state_front(bytes: &[u8]) -> Option<(StateRef<'_>, &[u8])>
 
 /// A group state off the front of bytes, with the bytes after it. None exactly where the front is no spelling of a
 /// state.
-#[tactic(auto, using(crate::proofs::Below::format_reads, crate::proofs::StateFormat::state_format))]
+#[tactic(auto, using(rsct_packet::proofs::FormatLaws::format_reads, crate::proofs::StateFormat::state_format))]
 pub fn read_state(bytes: &[u8]) -> Option<(StateRef<'_>, &[u8])>
     ensures value { Gives result (state_at bytes.now) }
     ensures found { IsFoundAt state_text IsState result bytes.now }

@@ -2,34 +2,34 @@
 use Rattle.std.proofs.Common.{◌≡◌, ℕ, Bool, true, false, List, [], ◌++◌, length, get_or, Option, Some, None, refl, sym, ap, ◌∙◌, arith, length-append}
 use Rattle.std.specs.Prelude.{◌==◌, ◌||◌, ◌&&◌, not, nat_le, find}
 use Rattle.std.proofs.lemmas.List.Folds.{list_any-append}
-use Rattle.group_leading.specs.rsct_packet.declared.ids.ProviderId.{ProviderId}
-use Rattle.group_leading.specs.rsct_packet.Search.{front_len}
-use Rattle.group_leading.specs.group_attr.declared.attrs.Attrs.{Attrs}
-use Rattle.group_leading.specs.group_attr.declared.attrs.Phases.{Phases}
-use Rattle.group_leading.specs.group_attr.Agree.{agree}
-use Rattle.group_leading.specs.proposal_core.declared.proposal.Proposal.{Proposal}
-use Rattle.group_leading.specs.proposal_core.declared.proposal.Proposal.TheVariants.{Join, Leave, Fail, Expel, State, Message, Attributes, Reflect}
-use Rattle.group_leading.specs.proposal_core.Fold.{max_providers, present}
-use Rattle.group_leading.specs.batch_rules.Waiting.{WaitingView, same_instance, has_instance, max_waiting}
-use Rattle.group_leading.specs.batch_rules.Next.{added_as}
-use Rattle.group_leading.specs.batch_rules.declared.waiting.Added.TheVariants.{Queued}
-use Rattle.group_leading.specs.client_callbacks.declared.told.Why.{Why}
-use Rattle.group_leading.specs.client_callbacks.declared.votes.VoteItem.{VoteItem}
-use Rattle.group_leading.specs.client_callbacks.declared.told.Why.TheVariants as why
-use Rattle.group_leading.specs.node_state.declared.group.GroupRow.{GroupRow}
-use Rattle.group_leading.specs.node_state.declared.state.Core.{Core}
-use Rattle.group_leading.specs.node_state.State.{InNameOrder, row_of, row_found, with_led, led_of, state_of, has_name}
-use Rattle.group_leading.specs.node_state.Leading.{begins}
-use Rattle.group_leading.specs.node_state.HandOn.{Answering}
-use Rattle.group_leading.specs.node_state.Deciding.{keep_decision, refused, lacks_source, source_len, is_idle_empty, meant_attrs, join_refusal, wait_join, decide_join, other_refusal, decide_change, decided}
-use Rattle.group_leading.specs.node_groups.Places.{stops_at, row_opened}
-use Rattle.group_leading.specs.node_groups.Keeps.{Keeps}
-use Rattle.group_leading.proofs.node_groups_laws.KeepLaws.{keeps_then, keeps_as, led_keeps}
-use Rattle.group_leading.proofs.node_state_laws.NameOrder.{row_here}
-use Rattle.group_leading.proofs.node_groups_laws.RowLaws.{opened_row}
-use Rattle.group_leading.specs.entry_delivery.Received.{Handing}
-use Rattle.group_leading.specs.entry_delivery.Doing.{Does}
-use Rattle.group_leading.proofs.entry_delivery_laws.DoingLaws.{does_after, does_as}
+use Rattle.rsct_packet.specs.declared.ids.ProviderId.{ProviderId}
+use Rattle.rsct_packet.specs.Search.{front_len}
+use Rattle.group_attr.specs.declared.attrs.Attrs.{Attrs}
+use Rattle.group_attr.specs.declared.attrs.Phases.{Phases}
+use Rattle.group_attr.specs.Agree.{agree}
+use Rattle.proposal_core.specs.declared.proposal.Proposal.{Proposal}
+use Rattle.proposal_core.specs.declared.proposal.Proposal.TheVariants.{Join, Leave, Fail, Expel, State, Message, Attributes, Reflect}
+use Rattle.proposal_core.specs.Fold.{max_providers, present}
+use Rattle.batch_rules.specs.Waiting.{WaitingView, same_instance, has_instance, max_waiting}
+use Rattle.batch_rules.specs.Next.{added_as}
+use Rattle.batch_rules.specs.declared.waiting.Added.TheVariants.{Queued}
+use Rattle.client_callbacks.specs.declared.told.Why.{Why}
+use Rattle.client_callbacks.specs.declared.votes.VoteItem.{VoteItem}
+use Rattle.client_callbacks.specs.declared.told.Why.TheVariants as why
+use Rattle.node_state.specs.declared.group.GroupRow.{GroupRow}
+use Rattle.node_state.specs.declared.state.Core.{Core}
+use Rattle.node_state.specs.State.{InNameOrder, row_of, row_found, with_led, led_of, state_of, has_name}
+use Rattle.node_state.specs.Leading.{begins}
+use Rattle.node_state.specs.HandOn.{Answering}
+use Rattle.node_state.specs.Deciding.{keep_decision, refused, lacks_source, source_len, is_idle_empty, meant_attrs, join_refusal, wait_join, decide_join, other_refusal, decide_change, decided}
+use Rattle.node_groups.specs.Places.{stops_at, row_opened}
+use Rattle.node_groups.specs.Keeps.{Keeps}
+use Rattle.node_groups.proofs.KeepLaws.{keeps_then, keeps_as, led_keeps}
+use Rattle.node_state.proofs.NameOrder.{row_here}
+use Rattle.node_groups.proofs.RowLaws.{opened_row}
+use Rattle.entry_delivery.specs.Received.{Handing}
+use Rattle.entry_delivery.specs.Doing.{Does}
+use Rattle.entry_delivery.proofs.DoingLaws.{does_after, does_as}
 use Rattle.group_deciding.proofs.RefusingLaws.{decision_keeps}
 use Rattle.group_leading.proofs.WorkLaws.{keeps_follows, kept_does}
 

@@ -1,27 +1,27 @@
 -- What begins, by cases.
 use Rattle.std.proofs.Common.{◌≡◌, ℕ, zero, suc, ◌-◌, ◌<◌, ◌≤◌, Bool, true, false, List, [], ◌∷◌, length, get_or, drop, Option, Some, None, refl, sym, ap, ◌∙◌, arith}
 use Rattle.std.specs.Prelude.{fold, IsTrue, ◌↔◌}
-use Rattle.group_leading.specs.rsct_packet.declared.ids.ProviderId.{ProviderId}
-use Rattle.group_leading.specs.rsct_packet.declared.ids.ViewId.{ViewId}
-use Rattle.group_leading.specs.rsct_packet.Lists.{is_empty}
-use Rattle.group_leading.specs.group_attr.declared.attrs.Attrs.{Attrs}
-use Rattle.group_leading.specs.proposal_core.declared.proposal.Failure.{Failure}
-use Rattle.group_leading.specs.proposal_core.declared.proposal.Proposal.TheVariants.{Join, Fail, Reflect}
-use Rattle.group_leading.specs.proposal_core.declared.group_state.GroupState.{GroupState}
-use Rattle.group_leading.specs.batch_rules.Waiting.{batches_failures, chosen_of}
-use Rattle.group_leading.specs.source_target.declared.owed.Due.TheVariants as due
-use Rattle.group_leading.specs.source_target.Due as target
-use Rattle.group_leading.specs.client_callbacks.declared.votes.VoteItem.{VoteItem}
-use Rattle.group_leading.specs.node_state.declared.state.Core.{Core}
-use Rattle.group_leading.specs.node_state.State.{row_of, led_of, list_of, state_of, frozen}
-use Rattle.group_leading.specs.node_state.HandOn.{Answering}
-use Rattle.group_leading.specs.node_state.Leading.{begins}
-use Rattle.group_leading.specs.node_state.Deciding.{known_state}
-use Rattle.group_leading.specs.node_state.Ending.{Pass, quiet, begun_now, failures_begin, due_begins, source_begins, carried_len, joins_begin, or_due, or_joins, may_begin, first_begins, group_begins, one_pass, passes, most_begun, end_step}
-use Rattle.group_leading.specs.node_groups.Keeps.{Keeps}
-use Rattle.group_leading.specs.entry_delivery.Received.{Handing}
-use Rattle.group_leading.specs.entry_delivery.Doing.{Joins, IsNothing, Does}
-use Rattle.group_leading.proofs.entry_delivery_laws.DoingLaws.{joins_nothing, does_nothing, does_as}
+use Rattle.rsct_packet.specs.declared.ids.ProviderId.{ProviderId}
+use Rattle.rsct_packet.specs.declared.ids.ViewId.{ViewId}
+use Rattle.rsct_packet.specs.Lists.{is_empty}
+use Rattle.group_attr.specs.declared.attrs.Attrs.{Attrs}
+use Rattle.proposal_core.specs.declared.proposal.Failure.{Failure}
+use Rattle.proposal_core.specs.declared.proposal.Proposal.TheVariants.{Join, Fail, Reflect}
+use Rattle.proposal_core.specs.declared.group_state.GroupState.{GroupState}
+use Rattle.batch_rules.specs.Waiting.{batches_failures, chosen_of}
+use Rattle.source_target.specs.declared.owed.Due.TheVariants as due
+use Rattle.source_target.specs.Due as target
+use Rattle.client_callbacks.specs.declared.votes.VoteItem.{VoteItem}
+use Rattle.node_state.specs.declared.state.Core.{Core}
+use Rattle.node_state.specs.State.{row_of, led_of, list_of, state_of, frozen}
+use Rattle.node_state.specs.HandOn.{Answering}
+use Rattle.node_state.specs.Leading.{begins}
+use Rattle.node_state.specs.Deciding.{known_state}
+use Rattle.node_state.specs.Ending.{Pass, quiet, begun_now, failures_begin, due_begins, source_begins, carried_len, joins_begin, or_due, or_joins, may_begin, first_begins, group_begins, one_pass, passes, most_begun, end_step}
+use Rattle.node_groups.specs.Keeps.{Keeps}
+use Rattle.entry_delivery.specs.Received.{Handing}
+use Rattle.entry_delivery.specs.Doing.{Joins, IsNothing, Does}
+use Rattle.entry_delivery.proofs.DoingLaws.{joins_nothing, does_nothing, does_as}
 use Rattle.group_leading.proofs.WorkLaws.{keeps_follows}
 use Rattle.group_deciding.specs.Passing.{passed, DoesPass}
 use Rattle.group_deciding.specs.BeginFailures.{of_members, failures_chosen, failures_taken}

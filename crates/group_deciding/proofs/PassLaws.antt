@@ -1,12 +1,12 @@
 -- How passes that are done one after another come together.
 use Rattle.std.proofs.Common.{◌≡◌, Bool, true, List, [], ◌++◌, Option, refl, sym, ap, ◌∙◌, append_assoc}
-use Rattle.group_leading.specs.client_callbacks.declared.votes.VoteItem.{VoteItem}
-use Rattle.group_leading.specs.node_state.declared.state.Core.{Core}
-use Rattle.group_leading.specs.node_state.HandOn.{Answering}
-use Rattle.group_leading.specs.node_state.Ending.{Pass, begun_now}
-use Rattle.group_leading.specs.entry_delivery.Received.{Handing}
-use Rattle.group_leading.specs.entry_delivery.Doing.{Joins, Follows, Does}
-use Rattle.group_leading.proofs.entry_delivery_laws.DoingLaws.{does_then, does_after, does_as, does_weaker}
+use Rattle.client_callbacks.specs.declared.votes.VoteItem.{VoteItem}
+use Rattle.node_state.specs.declared.state.Core.{Core}
+use Rattle.node_state.specs.HandOn.{Answering}
+use Rattle.node_state.specs.Ending.{Pass, begun_now}
+use Rattle.entry_delivery.specs.Received.{Handing}
+use Rattle.entry_delivery.specs.Doing.{Joins, Follows, Does}
+use Rattle.entry_delivery.proofs.DoingLaws.{does_then, does_after, does_as, does_weaker}
 use Rattle.group_deciding.specs.Passing.{passed, AreThese, Before, DoesPass}
 
 -- what is handed is what it is

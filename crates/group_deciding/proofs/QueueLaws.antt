@@ -3,10 +3,10 @@ use Rattle.std.proofs.Common.{◌≡◌, ℕ, suc, Bool, true, false, cond, List
 use Rattle.std.specs.Prelude.{◌||◌, remove}
 use Rattle.std.specs.Option.{option_map}
 use Rattle.std.proofs.lemmas.List.Folds.{list_any-append}
-use Rattle.group_leading.specs.rsct_packet.declared.ids.ProviderId.{ProviderId}
-use Rattle.group_leading.specs.rsct_packet.Lists.{drop_where}
-use Rattle.group_leading.specs.rsct_packet.Search.{place_where}
-use Rattle.group_leading.specs.batch_rules.Waiting.{same_instance, has_instance}
+use Rattle.rsct_packet.specs.declared.ids.ProviderId.{ProviderId}
+use Rattle.rsct_packet.specs.Lists.{drop_where}
+use Rattle.rsct_packet.specs.Search.{place_where}
+use Rattle.batch_rules.specs.Waiting.{same_instance, has_instance}
 
 pub here_or_waits : (present joins : List ProviderId) (p : ProviderId) → (has_instance present p || has_instance joins p) ≡ has_instance (present ++ joins) p
 here_or_waits present joins p = sym (list_any-append (λ q. same_instance q p) present joins)

@@ -1,11 +1,11 @@
 -- What a refusal keeps.
 use Rattle.std.proofs.Common.{◌≡◌, ℕ, List, Option, Some}
-use Rattle.group_leading.specs.rsct_packet.declared.ids.ProviderId.{ProviderId}
-use Rattle.group_leading.specs.client_callbacks.declared.told.Why.{Why}
-use Rattle.group_leading.specs.node_state.declared.state.Core.{Core}
-use Rattle.group_leading.specs.node_state.Deciding.{keep_decision, refused}
-use Rattle.group_leading.specs.node_groups.Keeps.{Keeps}
-use Rattle.group_leading.proofs.node_groups_laws.KeepLaws.{keeps_then, keeps_as, led_keeps, sent_keeps}
+use Rattle.rsct_packet.specs.declared.ids.ProviderId.{ProviderId}
+use Rattle.client_callbacks.specs.declared.told.Why.{Why}
+use Rattle.node_state.specs.declared.state.Core.{Core}
+use Rattle.node_state.specs.Deciding.{keep_decision, refused}
+use Rattle.node_groups.specs.Keeps.{Keeps}
+use Rattle.node_groups.proofs.KeepLaws.{keeps_then, keeps_as, led_keeps, sent_keeps}
 
 pub decision_keeps : (s : Core) (g : List ℕ) (p : ProviderId) (r : ℕ) (y : Option Why) → Keeps s (keep_decision s g p r y)
 unfolding keep_decision

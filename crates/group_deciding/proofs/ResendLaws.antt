@@ -1,16 +1,16 @@
 -- Entries that are copied and sent one after another.
 use Rattle.std.proofs.Common.{◌≡◌, ℕ, zero, suc, ◌+◌, ◌-◌, ◌≤◌, nat_lt, false, List, [], ◌∷◌, ◌++◌, length, take, drop, Option, Some, None, refl, sym, ap, ◌∙◌, arith, length-append, add-zero}
 use Rattle.std.specs.Prelude.{fold, slice_get}
-use Rattle.group_leading.specs.proposal_core.declared.entry.Entry.{Entry}
-use Rattle.group_leading.specs.proposal_core.GroupView.{GroupView}
-use Rattle.group_leading.specs.proposal_core.Lists.{entry_at}
-use Rattle.group_leading.specs.node_state.declared.packet.Body.TheVariants as body
-use Rattle.group_leading.specs.node_state.declared.state.Core.{Core}
-use Rattle.group_leading.specs.node_state.State.{acked_by, least_acked, row_of}
-use Rattle.group_leading.specs.node_state.Sending.{sent}
-use Rattle.group_leading.specs.node_state.Ticks.{entries_sent, list_sent_again, sent_again}
-use Rattle.group_leading.specs.node_groups.Keeps.{Keeps}
-use Rattle.group_leading.proofs.node_groups_laws.KeepLaws.{keeps_itself, keeps_then, sent_keeps}
+use Rattle.proposal_core.specs.declared.entry.Entry.{Entry}
+use Rattle.proposal_core.specs.GroupView.{GroupView}
+use Rattle.proposal_core.specs.Lists.{entry_at}
+use Rattle.node_state.specs.declared.packet.Body.TheVariants as body
+use Rattle.node_state.specs.declared.state.Core.{Core}
+use Rattle.node_state.specs.State.{acked_by, least_acked, row_of}
+use Rattle.node_state.specs.Sending.{sent}
+use Rattle.node_state.specs.Ticks.{entries_sent, list_sent_again, sent_again}
+use Rattle.node_groups.specs.Keeps.{Keeps}
+use Rattle.node_groups.proofs.KeepLaws.{keeps_itself, keeps_then, sent_keeps}
 
 -- ---- copies
 

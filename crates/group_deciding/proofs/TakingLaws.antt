@@ -1,21 +1,21 @@
 -- What taking out of a group's queue keeps, and what refusals leave as it is.
 use Rattle.std.proofs.Common.{◌≡◌, ℕ, Bool, true, false, not, cond, List, [], ◌∷◌, length, Option, Some, None, refl, ap, ◌∙◌, subst, arith, ◌⊎◌, inl, inr}
 use Rattle.std.specs.Prelude.{filter, fold, ◌&&◌, ◌||◌, ◌≤◌}
-use Rattle.group_leading.specs.rsct_packet.declared.ids.ProviderId.{ProviderId}
-use Rattle.group_leading.specs.rsct_packet.Providers.{same_provider, among, differ, AreProviders}
-use Rattle.group_leading.specs.group_attr.declared.attrs.Attrs.{Attrs}
-use Rattle.group_leading.specs.proposal_core.declared.group_state.GroupState.{GroupState}
-use Rattle.group_leading.specs.batch_rules.Waiting.{WaitingView, next_joins, joins_left}
-use Rattle.group_leading.specs.client_callbacks.declared.told.Why.TheVariants.{NoSource}
-use Rattle.group_leading.specs.node_state.declared.group.GroupRow.{GroupRow}
-use Rattle.group_leading.specs.node_state.declared.state.Core.{Core}
-use Rattle.group_leading.specs.node_state.State.{InNameOrder, row_of, with_led, led_of, state_of}
-use Rattle.group_leading.specs.node_state.Leading.{with_waiting}
-use Rattle.group_leading.specs.node_state.Deciding.{refused, known_state, lacks_source, source_len}
-use Rattle.group_leading.specs.node_state.Ending.{attrs_for, source_refused}
-use Rattle.group_leading.specs.node_groups.Keeps.{Keeps}
-use Rattle.group_leading.proofs.node_groups_laws.KeepLaws.{keeps_itself, keeps_then, keeps_as, led_keeps}
-use Rattle.group_leading.proofs.node_state_laws.NameOrder.{cases_text, row_here, row_there}
+use Rattle.rsct_packet.specs.declared.ids.ProviderId.{ProviderId}
+use Rattle.rsct_packet.specs.Providers.{same_provider, among, differ, AreProviders}
+use Rattle.group_attr.specs.declared.attrs.Attrs.{Attrs}
+use Rattle.proposal_core.specs.declared.group_state.GroupState.{GroupState}
+use Rattle.batch_rules.specs.Waiting.{WaitingView, next_joins, joins_left}
+use Rattle.client_callbacks.specs.declared.told.Why.TheVariants.{NoSource}
+use Rattle.node_state.specs.declared.group.GroupRow.{GroupRow}
+use Rattle.node_state.specs.declared.state.Core.{Core}
+use Rattle.node_state.specs.State.{InNameOrder, row_of, with_led, led_of, state_of}
+use Rattle.node_state.specs.Leading.{with_waiting}
+use Rattle.node_state.specs.Deciding.{refused, known_state, lacks_source, source_len}
+use Rattle.node_state.specs.Ending.{attrs_for, source_refused}
+use Rattle.node_groups.specs.Keeps.{Keeps}
+use Rattle.node_groups.proofs.KeepLaws.{keeps_itself, keeps_then, keeps_as, led_keeps}
+use Rattle.node_state.proofs.NameOrder.{cases_text, row_here, row_there}
 use Rattle.group_deciding.proofs.RefusingLaws.{refused_keeps}
 use Rattle.group_deciding.specs.BeginJoins.{chosen_joins, chosen_attrs, sourced, unsourced, joins_chosen}
 

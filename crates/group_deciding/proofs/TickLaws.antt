@@ -2,21 +2,21 @@
 use Rattle.std.proofs.Common.{◌≡◌, ℕ, suc, ◌-◌, ◌<◌, ◌≤◌, Bool, true, false, ◌==◌, List, [], ◌∷◌, length, get_or, take, drop, Option, Some, None, refl, sym, ap, subst, arith}
 use Rattle.std.specs.Prelude.{fold, is_none, ◌&&◌}
 use Rattle.std.proofs.lemmas.List.{take_all}
-use Rattle.group_leading.specs.client_callbacks.declared.votes.VoteItem.{VoteItem}
-use Rattle.group_leading.specs.proposal_core.declared.entry.Entry.{Entry}
-use Rattle.group_leading.specs.proposal_core.declared.group_state.Running.{Running}
-use Rattle.group_leading.specs.proposal_core.GroupView.{GroupView}
-use Rattle.group_leading.specs.proposal_core.Lists.{state_in}
-use Rattle.group_leading.specs.vote_phases.Tally.{TallyView, expires}
-use Rattle.group_leading.specs.node_state.declared.state.Core.{Core}
-use Rattle.group_leading.specs.node_state.State.{fits_at_end, frozen, led_groups, led_of, list_of, others, row_of, state_of}
-use Rattle.group_leading.specs.node_state.HandOn.{Answering}
-use Rattle.group_leading.specs.node_state.Leading.{append_if_fits, with_tally, closes}
-use Rattle.group_leading.specs.node_state.Ticks.{announced, late_appended, ticked_in, tally_ticks, sent_again, tick_group, tick_led}
-use Rattle.group_leading.specs.entry_delivery.Received.{Handing}
-use Rattle.group_leading.specs.entry_delivery.Doing.{Joins, Does}
-use Rattle.group_leading.proofs.entry_delivery_laws.DoingLaws.{does_then, does_before, does_as, does_nothing}
-use Rattle.group_leading.specs.node_groups.Keeps.{Keeps}
+use Rattle.client_callbacks.specs.declared.votes.VoteItem.{VoteItem}
+use Rattle.proposal_core.specs.declared.entry.Entry.{Entry}
+use Rattle.proposal_core.specs.declared.group_state.Running.{Running}
+use Rattle.proposal_core.specs.GroupView.{GroupView}
+use Rattle.proposal_core.specs.Lists.{state_in}
+use Rattle.vote_phases.specs.Tally.{TallyView, expires}
+use Rattle.node_state.specs.declared.state.Core.{Core}
+use Rattle.node_state.specs.State.{fits_at_end, frozen, led_groups, led_of, list_of, others, row_of, state_of}
+use Rattle.node_state.specs.HandOn.{Answering}
+use Rattle.node_state.specs.Leading.{append_if_fits, with_tally, closes}
+use Rattle.node_state.specs.Ticks.{announced, late_appended, ticked_in, tally_ticks, sent_again, tick_group, tick_led}
+use Rattle.entry_delivery.specs.Received.{Handing}
+use Rattle.entry_delivery.specs.Doing.{Joins, Does}
+use Rattle.entry_delivery.proofs.DoingLaws.{does_then, does_before, does_as, does_nothing}
+use Rattle.node_groups.specs.Keeps.{Keeps}
 use Rattle.group_leading.proofs.WorkLaws.{keeps_follows}
 use Rattle.group_deciding.specs.LateVotes.{late_in, late_entry, appended_late}
 

@@ -1,12 +1,12 @@
 -- The parts of a beginning of waiting failures.
 use Rattle.std.specs.Prelude.{ℕ, List, filter}
-use Rattle.group_leading.specs.rsct_packet.declared.ids.ProviderId.{ProviderId}
-use Rattle.group_leading.specs.rsct_packet.Providers.{among}
-use Rattle.group_leading.specs.proposal_core.declared.proposal.Failure.{Failure}
-use Rattle.group_leading.specs.batch_rules.Waiting.{next_failures, failures_left}
-use Rattle.group_leading.specs.node_state.declared.state.Core.{Core}
-use Rattle.group_leading.specs.node_state.State.{led_of, state_of}
-use Rattle.group_leading.specs.node_state.Leading.{with_waiting}
+use Rattle.rsct_packet.specs.declared.ids.ProviderId.{ProviderId}
+use Rattle.rsct_packet.specs.Providers.{among}
+use Rattle.proposal_core.specs.declared.proposal.Failure.{Failure}
+use Rattle.batch_rules.specs.Waiting.{next_failures, failures_left}
+use Rattle.node_state.specs.declared.state.Core.{Core}
+use Rattle.node_state.specs.State.{led_of, state_of}
+use Rattle.node_state.specs.Leading.{with_waiting}
 
 -- the failures of those who are members still
 unfoldable pub of_members : List ProviderId → List Failure → List Failure

@@ -1,13 +1,13 @@
 -- The parts of a beginning of waiting joins.
 use Rattle.std.specs.Prelude.{ℕ, not, List, filter, Option}
-use Rattle.group_leading.specs.rsct_packet.declared.ids.ProviderId.{ProviderId}
-use Rattle.group_leading.specs.group_attr.declared.attrs.Attrs.{Attrs}
-use Rattle.group_leading.specs.batch_rules.Waiting.{next_joins, joins_left}
-use Rattle.group_leading.specs.node_state.declared.state.Core.{Core}
-use Rattle.group_leading.specs.node_state.State.{led_of, state_of}
-use Rattle.group_leading.specs.node_state.Leading.{with_waiting}
-use Rattle.group_leading.specs.node_state.Deciding.{lacks_source}
-use Rattle.group_leading.specs.node_state.Ending.{attrs_for, source_refused}
+use Rattle.rsct_packet.specs.declared.ids.ProviderId.{ProviderId}
+use Rattle.group_attr.specs.declared.attrs.Attrs.{Attrs}
+use Rattle.batch_rules.specs.Waiting.{next_joins, joins_left}
+use Rattle.node_state.specs.declared.state.Core.{Core}
+use Rattle.node_state.specs.State.{led_of, state_of}
+use Rattle.node_state.specs.Leading.{with_waiting}
+use Rattle.node_state.specs.Deciding.{lacks_source}
+use Rattle.node_state.specs.Ending.{attrs_for, source_refused}
 
 -- those who join next
 unfoldable pub chosen_joins : Core → List ℕ → List ProviderId

@@ -1,13 +1,13 @@
 -- The entry that announces who passes the time limit in a tick.
 use Rattle.std.specs.Prelude.{ℕ, Bool, true, false, ◌==◌, ◌&&◌, List, Option, Some, None}
-use Rattle.group_leading.specs.proposal_core.declared.entry.Entry.{Entry}
-use Rattle.group_leading.specs.proposal_core.declared.entry.Entry.TheVariants.{Late}
-use Rattle.group_leading.specs.proposal_core.declared.group_state.Running.{Running}
-use Rattle.group_leading.specs.vote_phases.Tally.{TallyView, expires, open_voters}
-use Rattle.group_leading.specs.node_state.declared.state.Core.{Core}
-use Rattle.group_leading.specs.node_state.State.{state_of, fits_at_end}
-use Rattle.group_leading.specs.node_state.HandOn.{Answering}
-use Rattle.group_leading.specs.node_state.Leading.{append_if_fits}
+use Rattle.proposal_core.specs.declared.entry.Entry.{Entry}
+use Rattle.proposal_core.specs.declared.entry.Entry.TheVariants.{Late}
+use Rattle.proposal_core.specs.declared.group_state.Running.{Running}
+use Rattle.vote_phases.specs.Tally.{TallyView, expires, open_voters}
+use Rattle.node_state.specs.declared.state.Core.{Core}
+use Rattle.node_state.specs.State.{state_of, fits_at_end}
+use Rattle.node_state.specs.HandOn.{Answering}
+use Rattle.node_state.specs.Leading.{append_if_fits}
 
 -- where one passes the limit, and something runs
 unfoldable pub late_in : TallyView → Bool → Option Running → Option Entry

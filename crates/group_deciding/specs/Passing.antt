@@ -1,12 +1,12 @@
 -- What a pass does where clients answer.
 use Rattle.std.specs.Prelude.{◌≡◌, ◌++◌, Bool, List, Option, map}
-use Rattle.group_leading.specs.client_callbacks.declared.votes.VoteItem.{VoteItem}
-use Rattle.group_leading.specs.client_callbacks.Handed.{Handed}
-use Rattle.group_leading.specs.node_state.declared.state.Core.{Core}
-use Rattle.group_leading.specs.node_state.HandOn.{Answering}
-use Rattle.group_leading.specs.node_state.Ending.{Pass}
-use Rattle.group_leading.specs.entry_delivery.Received.{Handing, Receive}
-use Rattle.group_leading.specs.entry_delivery.Doing.{Does}
+use Rattle.client_callbacks.specs.declared.votes.VoteItem.{VoteItem}
+use Rattle.client_callbacks.specs.Handed.{Handed}
+use Rattle.node_state.specs.declared.state.Core.{Core}
+use Rattle.node_state.specs.HandOn.{Answering}
+use Rattle.node_state.specs.Ending.{Pass}
+use Rattle.entry_delivery.specs.Received.{Handing, Receive}
+use Rattle.entry_delivery.specs.Doing.{Does}
 
 abbrev pub passed : Core → Bool → Pass
 passed s began = record { core = s; began = began }

@@ -1,27 +1,27 @@
 //! Deciding a request that is no join: it is refused, or it begins.
 ghost use Rattle.std.specs.Prelude.{◌≡◌, IfOk, OnOk, None, not};
-ghost use Rattle.group_leading.specs.session_clients.Clients.{KeepsScripts};
+ghost use Rattle.session_clients.specs.Clients.{KeepsScripts};
 ghost use Rattle.std.specs.List.{list_any};
-ghost use Rattle.group_leading.specs.rsct_packet.Providers.{among};
-ghost use Rattle.group_leading.specs.group_attr.Agree.{same_source};
-ghost use Rattle.group_leading.specs.entry_delivery.Doing.{Does, RowDoes};
+ghost use Rattle.rsct_packet.specs.Providers.{among};
+ghost use Rattle.group_attr.specs.Agree.{same_source};
+ghost use Rattle.entry_delivery.specs.Doing.{Does, RowDoes};
 ghost use Rattle.group_leading.specs.Working.{AtWork};
-ghost use Rattle.group_leading.specs.node_state.Leading.{begins};
-ghost use Rattle.group_leading.specs.node_state.Deciding.{keep_decision, expelled_by, has_other_source, is_no_member, collide_refusal, other_refusal, decide_change};
+ghost use Rattle.node_state.specs.Leading.{begins};
+ghost use Rattle.node_state.specs.Deciding.{keep_decision, expelled_by, has_other_source, is_no_member, collide_refusal, other_refusal, decide_change};
 
 use crate::limits::full_refusal;
 use crate::refusals::refuse;
+use client_callbacks::{Callbacks, Why};
+use group_attr::{Attrs, Phases};
 use group_leading::begin;
-use group_leading::client_callbacks::{Callbacks, Why};
-use group_leading::group_attr::{Attrs, Phases};
-use group_leading::node_groups::{gone_of, keep_decision, state_of};
-use group_leading::node_state::Core;
-use group_leading::proposal_core::{GroupState, Proposal, Running};
-use group_leading::rsct_packet::{Name, NoMemory, ProviderId, is_among};
+use node_groups::{gone_of, keep_decision, state_of};
+use node_state::Core;
+use proposal_core::{GroupState, Proposal, Running};
+use rsct_packet::{Name, NoMemory, ProviderId, is_among};
 use std::alloc::Global;
 
 /// Whom a proposal expels.
-#[tactic(auto, unfolding(crate::proofs::Below::expelled_by))]
+#[tactic(auto, unfolding(node_state::specs::Deciding::expelled_by))]
 fn expelled_by(proposal: &Proposal) -> &[ProviderId]
     ensures { result.now ≡ expelled_by proposal.now }
 {
@@ -43,7 +43,7 @@ fn is_same_source(first: &Option<Name>, second: &Option<Name>) -> bool
 }
 
 /// Does a proposal give the group another source?
-#[tactic(auto, unfolding(crate::proofs::Below::has_other_source))]
+#[tactic(auto, unfolding(node_state::specs::Deciding::has_other_source))]
 fn has_other_source(old: &Attrs, proposal: &Proposal) -> bool
     ensures { result ≡ has_other_source old.now proposal.now }
 {
@@ -61,7 +61,7 @@ fn has_stranger(members: &[ProviderId], providers: &[ProviderId]) -> bool
 }
 
 /// Is the requester no member, failed or gone, or is one of the expelled no member?
-#[tactic(auto, unfolding(crate::proofs::Below::is_no_member))]
+#[tactic(auto, unfolding(node_state::specs::Deciding::is_no_member))]
 fn is_no_member(
     state: &GroupState,
     gone: &[ProviderId],
@@ -78,7 +78,7 @@ fn is_no_member(
 }
 
 /// Why a request of a member is refused that may be made: a protocol runs, or the list is full.
-#[tactic(auto, unfolding(crate::proofs::Below::collide_refusal))]
+#[tactic(auto, unfolding(node_state::specs::Deciding::collide_refusal))]
 fn collide_refusal(core: &Core, group: &[u8], running: &Option<Running>) -> Option<Why>
     ensures { result ≡ collide_refusal core.now group.now running.now }
 {
@@ -90,7 +90,7 @@ fn collide_refusal(core: &Core, group: &[u8], running: &Option<Running>) -> Opti
 
 /// Why a request that is no join is refused: the first that holds of a requester or an expelled one who is no member,
 /// another source, a protocol that runs and a full list.
-#[tactic(auto, unfolding(crate::proofs::Below::other_refusal))]
+#[tactic(auto, unfolding(node_state::specs::Deciding::other_refusal))]
 fn other_refusal(
     core: &Core,
     alloc: Global,
@@ -134,7 +134,7 @@ fn grant<C: Callbacks>(
 }
 
 /// Decides a request that is no join: what is requested begins or is refused.
-#[tactic(auto, unfolding(crate::proofs::Below::decide_change))]
+#[tactic(auto, unfolding(node_state::specs::Deciding::decide_change))]
 pub(crate) fn decide_change<C: Callbacks>(
     core: &mut Core,
     clients: &mut Vec<C>,

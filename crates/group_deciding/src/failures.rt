@@ -1,20 +1,20 @@
 //! Waiting failures begin.
 ghost use Rattle.std.specs.Prelude.{◌≡◌, IfOk, OnOk};
-ghost use Rattle.group_leading.specs.session_clients.Clients.{KeepsScripts};
+ghost use Rattle.session_clients.specs.Clients.{KeepsScripts};
 ghost use Rattle.group_leading.specs.Working.{AtWork};
-ghost use Rattle.group_leading.specs.node_state.State.{InNameOrder, state_of};
-ghost use Rattle.group_leading.specs.node_state.Ending.{failures_begin};
-ghost use Rattle.group_leading.specs.node_groups.Keeps.{Keeps};
+ghost use Rattle.node_state.specs.State.{InNameOrder, state_of};
+ghost use Rattle.node_state.specs.Ending.{failures_begin};
+ghost use Rattle.node_groups.specs.Keeps.{Keeps};
 ghost use Rattle.group_deciding.specs.BeginFailures.{of_members, failures_chosen, failures_taken};
 ghost use Rattle.group_deciding.specs.Passing.{PassDoes};
 
 use crate::waiting::take_failures;
+use client_callbacks::Callbacks;
 use group_leading::begin;
-use group_leading::client_callbacks::Callbacks;
-use group_leading::node_groups::state_of;
-use group_leading::node_state::Core;
-use group_leading::proposal_core::{Failure, Fallen, GroupState, Proposal};
-use group_leading::rsct_packet::{List, Name, NoMemory, ProviderId, is_among};
+use node_groups::state_of;
+use node_state::Core;
+use proposal_core::{Failure, Fallen, GroupState, Proposal};
+use rsct_packet::{List, Name, NoMemory, ProviderId, is_among};
 use std::alloc::Global;
 
 /// The failures of those who are members still.

@@ -1,22 +1,22 @@
 //! Deciding a join: it is refused, or it waits.
 ghost use Rattle.std.specs.Prelude.{◌≡◌, [], IfOk, OnOk};
-ghost use Rattle.group_leading.specs.batch_rules.Next.{added_as};
-ghost use Rattle.group_leading.specs.batch_rules.declared.waiting.Added.TheVariants.{Queued};
-ghost use Rattle.group_leading.specs.proposal_core.Fold.{joins_of, joiners_in, present};
-ghost use Rattle.group_leading.specs.node_state.State.{InNameOrder, led_of, state_of};
-ghost use Rattle.group_leading.specs.node_state.Deciding.{is_idle_empty, meant_attrs, join_refusal, wait_join, decide_join};
-ghost use Rattle.group_leading.specs.node_groups.Keeps.{Keeps};
+ghost use Rattle.batch_rules.specs.Next.{added_as};
+ghost use Rattle.batch_rules.specs.declared.waiting.Added.TheVariants.{Queued};
+ghost use Rattle.proposal_core.specs.Fold.{joins_of, joiners_in, present};
+ghost use Rattle.node_state.specs.State.{InNameOrder, led_of, state_of};
+ghost use Rattle.node_state.specs.Deciding.{is_idle_empty, meant_attrs, join_refusal, wait_join, decide_join};
+ghost use Rattle.node_groups.specs.Keeps.{Keeps};
 
 use crate::limits::full_refusal;
 use crate::queue::{is_duplicate, queue_join};
 use crate::refusals::refuse;
 use crate::sources::{lacks_source, source_len};
-use group_leading::client_callbacks::Why;
-use group_leading::group_attr::Attrs;
-use group_leading::node_groups::{keep_decision, open, state_of, waiting_joins};
-use group_leading::node_state::Core;
-use group_leading::proposal_core::{GroupState, Proposal, Running};
-use group_leading::rsct_packet::{List, MAX_PROVIDERS, Name, NoMemory, ProviderId};
+use client_callbacks::Why;
+use group_attr::Attrs;
+use node_groups::{keep_decision, open, state_of, waiting_joins};
+use node_state::Core;
+use proposal_core::{GroupState, Proposal, Running};
+use rsct_packet::{List, MAX_PROVIDERS, Name, NoMemory, ProviderId};
 use std::alloc::Global;
 
 /// The providers of a join.
@@ -49,7 +49,7 @@ fn present(alloc: Global, state: &GroupState) -> Result<List<ProviderId>, NoMemo
 }
 
 /// Is nobody there, and does nothing run?
-#[tactic(auto, unfolding(crate::proofs::Below::is_idle_empty))]
+#[tactic(auto, unfolding(node_state::specs::Deciding::is_idle_empty))]
 fn is_idle_empty(state: &GroupState) -> bool
     ensures { result ≡ is_idle_empty state.now }
 {
@@ -57,7 +57,7 @@ fn is_idle_empty(state: &GroupState) -> bool
 }
 
 /// The source that is meant: in an empty idle group that of the request, else the group's own.
-#[tactic(auto, unfolding(crate::proofs::Below::meant_attrs))]
+#[tactic(auto, unfolding(node_state::specs::Deciding::meant_attrs))]
 fn meant_source<'a>(state: &'a GroupState, attrs: &'a Attrs, idle: bool) -> &'a Option<Name>
     ensures { result.now ≡ (meant_attrs state.now attrs.now idle).source }
 {
@@ -70,7 +70,7 @@ fn meant_source<'a>(state: &'a GroupState, attrs: &'a Attrs, idle: bool) -> &'a 
 
 /// Why a join is refused: the first that holds of bad attributes, a duplicate, a missing source, a full group and a
 /// full list.
-#[tactic(auto, unfolding(crate::proofs::Below::join_refusal, crate::proofs::Below::full_refusal), using(std::proofs::lemmas::Grind::common_steps))]
+#[tactic(auto, unfolding(node_state::specs::Deciding::join_refusal, node_state::specs::Deciding::full_refusal), using(std::proofs::lemmas::Grind::common_steps))]
 fn join_refusal(
     core: &Core,
     alloc: Global,
@@ -104,7 +104,7 @@ fn join_refusal(
 }
 
 /// A join waits, and this decision is kept.
-#[tactic(auto, unfolding(crate::proofs::Below::wait_join, crate::proofs::Below::with_led, crate::proofs::Below::with_row), using(crate::proofs::Below::row_edits, crate::proofs::DecidingLaws::still_free, std::proofs::lemmas::Grind::common_steps))]
+#[tactic(auto, unfolding(node_state::specs::Deciding::wait_join, node_state::specs::State::with_led, node_state::specs::State::with_row), using(node_groups::proofs::RowLaws::row_edits, crate::proofs::DecidingLaws::still_free, std::proofs::lemmas::Grind::common_steps))]
 fn wait_join(
     core: &mut Core,
     alloc: Global,
@@ -125,7 +125,7 @@ fn wait_join(
 }
 
 /// Decides a join: it waits or is refused.
-#[tactic(auto, unfolding(crate::proofs::Below::decide_join), using(crate::proofs::DecidingLaws::join_free, crate::proofs::DecidingLaws::waiting_keeps))]
+#[tactic(auto, unfolding(node_state::specs::Deciding::decide_join), using(crate::proofs::DecidingLaws::join_free, crate::proofs::DecidingLaws::waiting_keeps))]
 pub(crate) fn decide_join(
     core: &mut Core,
     alloc: Global,

@@ -1,23 +1,23 @@
 //! Waiting joins begin.
 ghost use Rattle.std.specs.Prelude.{◌≡◌, IfOk, OnOk};
-ghost use Rattle.group_leading.specs.session_clients.Clients.{KeepsScripts};
+ghost use Rattle.session_clients.specs.Clients.{KeepsScripts};
 ghost use Rattle.group_leading.specs.Working.{AtWork};
-ghost use Rattle.group_leading.specs.node_state.State.{InNameOrder, led_of, state_of};
-ghost use Rattle.group_leading.specs.node_state.Ending.{attrs_for, carried_len, source_refused, joins_begin};
-ghost use Rattle.group_leading.specs.node_groups.Keeps.{Keeps};
+ghost use Rattle.node_state.specs.State.{InNameOrder, led_of, state_of};
+ghost use Rattle.node_state.specs.Ending.{attrs_for, carried_len, source_refused, joins_begin};
+ghost use Rattle.node_groups.specs.Keeps.{Keeps};
 ghost use Rattle.group_deciding.specs.BeginJoins.{chosen_joins, chosen_attrs, sourced, unsourced, joins_chosen};
 ghost use Rattle.group_deciding.specs.Passing.{PassDoes};
 
 use crate::refusals::refuse;
 use crate::sources::{lacks_source, source_len};
 use crate::waiting::take_joins;
+use client_callbacks::{Callbacks, Why};
+use group_attr::Attrs;
 use group_leading::begin;
-use group_leading::client_callbacks::{Callbacks, Why};
-use group_leading::group_attr::Attrs;
-use group_leading::node_groups::{join_attrs_of, len_of, state_of};
-use group_leading::node_state::Core;
-use group_leading::proposal_core::{GroupState, Proposal};
-use group_leading::rsct_packet::{Name, NoMemory, ProviderId, Providers};
+use node_groups::{join_attrs_of, len_of, state_of};
+use node_state::Core;
+use proposal_core::{GroupState, Proposal};
+use rsct_packet::{Name, NoMemory, ProviderId, Providers};
 use std::alloc::Global;
 
 /// Those who join next, and the attributes that their join carries.
@@ -27,7 +27,7 @@ struct Joiners {
 }
 
 /// The attributes that a join carries: those of the first one's request where they are kept, else the group's own.
-#[tactic(auto, unfolding(crate::proofs::Below::attrs_for))]
+#[tactic(auto, unfolding(node_state::specs::Ending::attrs_for))]
 fn attrs_for(
     core: &Core,
     alloc: Global,
@@ -48,7 +48,7 @@ fn attrs_for(
 }
 
 /// The length of the source's list, which a join into a group with a source carries.
-#[tactic(auto, unfolding(crate::proofs::Below::carried_len))]
+#[tactic(auto, unfolding(node_state::specs::Ending::carried_len))]
 fn carried_len(core: &Core, source: &Option<Name>) -> Option<u32>
     ensures { result ≡ carried_len core.now source.now }
 {
@@ -97,7 +97,7 @@ fn unsourced(
 }
 
 /// Refuses joins for want of a source.
-#[tactic(auto, unfolding(crate::proofs::Below::source_refused), using(std::proofs::lemmas::List::Sums::fold_more))]
+#[tactic(auto, unfolding(node_state::specs::Ending::source_refused), using(std::proofs::lemmas::List::Sums::fold_more))]
 fn refuse_unsourced(
     core: &mut Core,
     alloc: Global,

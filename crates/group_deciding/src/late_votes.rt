@@ -1,19 +1,19 @@
 //! At level 2 an entry announces who passes the time limit in a tick.
 ghost use Rattle.std.specs.Prelude.{◌≡◌, IfOk, OnOk};
-ghost use Rattle.group_leading.specs.session_clients.Clients.{KeepsScripts};
-ghost use Rattle.group_leading.specs.entry_delivery.Doing.{RowDoes};
+ghost use Rattle.session_clients.specs.Clients.{KeepsScripts};
+ghost use Rattle.entry_delivery.specs.Doing.{RowDoes};
 ghost use Rattle.group_leading.specs.Working.{AtWork};
-ghost use Rattle.group_leading.specs.node_state.State.{led_of};
+ghost use Rattle.node_state.specs.State.{led_of};
 ghost use Rattle.group_deciding.specs.LateVotes.{late_in, late_entry, appended_late};
 
+use client_callbacks::Callbacks;
 use group_leading::append_if_fits;
-use group_leading::client_callbacks::Callbacks;
-use group_leading::node_groups::{list_of, tally_of};
-use group_leading::node_state::Core;
-use group_leading::proposal_core::{Entry, Running};
-use group_leading::rsct_packet::{Name, NoMemory};
-use group_leading::vote_phases::Tally;
+use node_groups::{list_of, tally_of};
+use node_state::Core;
+use proposal_core::{Entry, Running};
+use rsct_packet::{Name, NoMemory};
 use std::alloc::Global;
+use vote_phases::Tally;
 
 /// The entry that announces the voters of what runs who have not voted, if any pass the limit.
 #[tactic(auto, unfolding(crate::specs::LateVotes::late_in))]
@@ -39,7 +39,7 @@ fn late_in(
 }
 
 /// The entry that announces who passes the limit in this tick, if any do.
-#[tactic(auto, unfolding(crate::specs::LateVotes::late_entry, crate::proofs::Below::state_of, crate::proofs::Below::list_of), using(crate::proofs::TickLaws::late_missing, std::proofs::lemmas::Grind::common_steps))]
+#[tactic(auto, unfolding(crate::specs::LateVotes::late_entry, node_state::specs::State::state_of, node_state::specs::State::list_of), using(crate::proofs::TickLaws::late_missing, std::proofs::lemmas::Grind::common_steps))]
 fn late_entry(core: &Core, alloc: Global, group: &Name) -> Result<Option<Entry>, NoMemory>
     ensures { IfOk result
         (λ e. e ≡ late_entry core.now group.now (led_of core.now group.now).tally) }

@@ -1,19 +1,19 @@
 //! The part of a tick on what a node leads.
 ghost use Rattle.std.specs.Prelude.{◌≡◌, OnOk, false, fold, is_none};
-ghost use Rattle.group_leading.specs.session_clients.Clients.{KeepsScripts};
-ghost use Rattle.group_leading.specs.entry_delivery.Doing.{RowDoes};
+ghost use Rattle.session_clients.specs.Clients.{KeepsScripts};
+ghost use Rattle.entry_delivery.specs.Doing.{RowDoes};
 ghost use Rattle.group_leading.specs.Working.{AtWork};
-ghost use Rattle.group_leading.specs.node_state.State.{led_groups, led_of};
-ghost use Rattle.group_leading.specs.node_state.Ticks.{tally_ticks, tick_group, tick_led};
+ghost use Rattle.node_state.specs.State.{led_groups, led_of};
+ghost use Rattle.node_state.specs.Ticks.{tally_ticks, tick_group, tick_led};
 
 use crate::late_votes::announce;
 use crate::resends::send_to_others;
-use group_leading::client_callbacks::Callbacks;
+use client_callbacks::Callbacks;
 use group_leading::close;
-use group_leading::node_groups::{led_groups, tally_of, tick_tally};
-use group_leading::node_sending::is_frozen;
-use group_leading::node_state::Core;
-use group_leading::rsct_packet::{Name, NoMemory};
+use node_groups::{led_groups, tally_of, tick_tally};
+use node_sending::is_frozen;
+use node_state::Core;
+use rsct_packet::{Name, NoMemory};
 use std::alloc::Global;
 
 /// Is no phase of the group open?
@@ -121,7 +121,7 @@ fn tick_each_led<C: Callbacks>(
 }
 
 /// The part of a tick on what the node leads: tallies tick, and entries are sent again.
-#[tactic(auto, unfolding(crate::proofs::Below::tick_led))]
+#[tactic(auto, unfolding(node_state::specs::Ticks::tick_led))]
 pub fn tick_led<C: Callbacks>(
     core: &mut Core,
     clients: &mut Vec<C>,

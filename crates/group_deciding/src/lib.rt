@@ -19,10 +19,6 @@ mod sources;
 mod step_end;
 mod waiting;
 
-pub use group_leading;
-pub use group_leading::{
-    group_attr, node_groups, node_state, phase_closing, proposal_core, rsct_packet,
-};
 pub use leader_tick::tick_led;
 pub use limits::{full_refusal, is_at_limit};
 pub use refusals::{refuse, tell};

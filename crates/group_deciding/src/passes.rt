@@ -1,23 +1,23 @@
 //! A pass over the groups that the node leads.
 ghost use Rattle.std.specs.Prelude.{◌≡◌, IfOk, OnOk, fold, length};
-ghost use Rattle.group_leading.specs.session_clients.Clients.{KeepsScripts};
+ghost use Rattle.session_clients.specs.Clients.{KeepsScripts};
 ghost use Rattle.group_leading.specs.Working.{AtWork};
-ghost use Rattle.group_leading.specs.node_state.State.{row_of, list_of, led_of};
-ghost use Rattle.group_leading.specs.node_state.Ending.{quiet, failures_begin, or_due, or_joins, may_begin, first_begins, group_begins, one_pass};
+ghost use Rattle.node_state.specs.State.{row_of, list_of, led_of};
+ghost use Rattle.node_state.specs.Ending.{quiet, failures_begin, or_due, or_joins, may_begin, first_begins, group_begins, one_pass};
 ghost use Rattle.group_deciding.specs.Passing.{passed, PassDoes};
 
 use crate::failures::begin_failures;
 use crate::joins::begin_joins;
 use crate::limits::is_at_limit;
 use crate::source_dues::begin_due;
-use group_leading::client_callbacks::Callbacks;
-use group_leading::node_groups::{led_groups, list_of, waiting_failures, waiting_joins};
-use group_leading::node_state::Core;
-use group_leading::rsct_packet::{Name, NoMemory};
+use client_callbacks::Callbacks;
+use node_groups::{led_groups, list_of, waiting_failures, waiting_joins};
+use node_state::Core;
+use rsct_packet::{Name, NoMemory};
 use std::alloc::Global;
 
 /// Does nothing run in the group, and is its list below its limits?
-#[tactic(auto, unfolding(crate::proofs::Below::may_begin, crate::proofs::Below::list_of, crate::proofs::Below::is_at_limit))]
+#[tactic(auto, unfolding(node_state::specs::Ending::may_begin, node_state::specs::State::list_of, proposal_core::specs::Lists::is_at_limit))]
 fn may_begin(core: &Core, group: &[u8]) -> bool
     ensures { result ≡ may_begin (list_of core.now group.now) }
 {
@@ -28,7 +28,7 @@ fn may_begin(core: &Core, group: &[u8]) -> bool
 }
 
 /// The first begins of what is due of the group's source, and waiting joins. Has something begun?
-#[tactic(auto, unfolding(crate::proofs::Below::or_due, crate::proofs::Below::or_joins))]
+#[tactic(auto, unfolding(node_state::specs::Ending::or_due, node_state::specs::Ending::or_joins))]
 fn begin_due_or_joins<C: Callbacks>(
     core: &mut Core,
     clients: &mut Vec<C>,
@@ -50,7 +50,7 @@ fn begin_due_or_joins<C: Callbacks>(
 }
 
 /// The first begins of waiting failures, what is due of the group's source, and waiting joins. Has something begun?
-#[tactic(auto, unfolding(crate::proofs::Below::or_due, crate::proofs::Below::or_joins))]
+#[tactic(auto, unfolding(node_state::specs::Ending::or_due, node_state::specs::Ending::or_joins))]
 fn begin_waiting<C: Callbacks>(
     core: &mut Core,
     clients: &mut Vec<C>,
@@ -73,7 +73,7 @@ fn begin_waiting<C: Callbacks>(
 }
 
 /// What waits begins in a group where nothing runs and whose list is not full. Has something begun?
-#[tactic(auto, unfolding(crate::proofs::Below::first_begins, crate::proofs::Below::list_of, crate::proofs::Below::led_of))]
+#[tactic(auto, unfolding(node_state::specs::Ending::first_begins, node_state::specs::State::list_of, node_state::specs::State::led_of))]
 fn begin_first<C: Callbacks>(
     core: &mut Core,
     clients: &mut Vec<C>,
@@ -94,7 +94,7 @@ fn begin_first<C: Callbacks>(
 }
 
 /// What waits begins in a group, at most `most` times, until nothing begins. Has something begun, here or before?
-#[tactic(auto, unfolding(crate::proofs::Below::group_begins))]
+#[tactic(auto, unfolding(node_state::specs::Ending::group_begins))]
 fn begin_in_group<C: Callbacks>(
     core: &mut Core,
     clients: &mut Vec<C>,
@@ -146,7 +146,7 @@ fn begin_in_each<C: Callbacks>(
 
 /// Passes over the groups that the node leads, in name order, and in each, at most `most` times, what waits begins.
 /// Has something begun?
-#[tactic(auto, unfolding(crate::proofs::Below::one_pass))]
+#[tactic(auto, unfolding(node_state::specs::Ending::one_pass))]
 pub fn pass<C: Callbacks>(
     core: &mut Core,
     clients: &mut Vec<C>,

@@ -1,19 +1,19 @@
 //! The joins that wait in a group.
 ghost use Rattle.std.specs.Prelude.{◌≡◌, ◌++◌, [], OnOk};
-ghost use Rattle.group_leading.specs.rsct_packet.Lists.{drop_where};
-ghost use Rattle.group_leading.specs.rsct_packet.Search.{place_where};
-ghost use Rattle.group_leading.specs.batch_rules.Waiting.{has_instance, waits_join};
-ghost use Rattle.group_leading.specs.batch_rules.Next.{added_as};
-ghost use Rattle.group_leading.specs.batch_rules.declared.waiting.Added.TheVariants.{Queued};
-ghost use Rattle.group_leading.specs.node_state.State.{led_of};
-ghost use Rattle.group_leading.specs.node_state.Deciding.{keep_attrs};
-ghost use Rattle.group_leading.specs.node_groups.Places.{are_attrs_of};
+ghost use Rattle.rsct_packet.specs.Lists.{drop_where};
+ghost use Rattle.rsct_packet.specs.Search.{place_where};
+ghost use Rattle.batch_rules.specs.Waiting.{has_instance, waits_join};
+ghost use Rattle.batch_rules.specs.Next.{added_as};
+ghost use Rattle.batch_rules.specs.declared.waiting.Added.TheVariants.{Queued};
+ghost use Rattle.node_state.specs.State.{led_of};
+ghost use Rattle.node_state.specs.Deciding.{keep_attrs};
+ghost use Rattle.node_groups.specs.Places.{are_attrs_of};
 
-use group_leading::batch_rules::Waiting;
-use group_leading::group_attr::Attrs;
-use group_leading::node_groups::led_of;
-use group_leading::node_state::{Core, GroupRow, JoinAttrs};
-use group_leading::rsct_packet::{List, NoMemory, ProviderId};
+use batch_rules::Waiting;
+use group_attr::Attrs;
+use node_groups::led_of;
+use node_state::{Core, GroupRow, JoinAttrs};
+use rsct_packet::{List, NoMemory, ProviderId};
 use std::alloc::Global;
 
 /// Has one that is present, or one whose join waits in the group, the node and the instance number of the provider?
@@ -34,7 +34,7 @@ pub(crate) fn is_duplicate(
 }
 
 /// Where the attributes of the provider's join are kept.
-#[tactic(auto, using(crate::proofs::Below::place_search))]
+#[tactic(auto, using(rsct_packet::proofs::SearchLaws::place_search))]
 fn attrs_place(kept: &[JoinAttrs], provider: ProviderId) -> Option<usize>
     ensures { result ≡ place_where (are_attrs_of provider) kept.now }
 {
@@ -47,7 +47,7 @@ fn attrs_place(kept: &[JoinAttrs], provider: ProviderId) -> Option<usize>
 }
 
 /// The attributes of the provider's join are no longer kept.
-#[tactic(auto, using(crate::proofs::Below::place_is_in, crate::proofs::QueueLaws::removed_where, crate::proofs::QueueLaws::removed_nowhere, std::proofs::lemmas::Grind::common_steps))]
+#[tactic(auto, using(rsct_packet::proofs::SearchLaws::place_is_in, crate::proofs::QueueLaws::removed_where, crate::proofs::QueueLaws::removed_nowhere, std::proofs::lemmas::Grind::common_steps))]
 fn forget_attrs(kept: &mut List<JoinAttrs>, provider: ProviderId)
     ensures { kept.new ≡ drop_where (are_attrs_of provider) kept.old }
 {
@@ -58,7 +58,7 @@ fn forget_attrs(kept: &mut List<JoinAttrs>, provider: ProviderId)
 
 /// The attributes of a join are kept, in place of those of the provider's last one, where it is decided in an
 /// empty idle group.
-#[tactic(auto, unfolding(crate::proofs::Below::keep_attrs))]
+#[tactic(auto, unfolding(node_state::specs::Deciding::keep_attrs))]
 fn keep_attrs(
     kept: &mut List<JoinAttrs>,
     alloc: Global,

@@ -1,14 +1,14 @@
 //! Refusing a request.
 ghost use Rattle.std.specs.Prelude.{◌≡◌, OnOk, IfOk};
-ghost use Rattle.group_leading.specs.node_groups.Keeps.{Keeps};
-ghost use Rattle.group_leading.specs.node_state.Deciding.{refused};
-ghost use Rattle.group_leading.specs.node_state.declared.packet.Body.TheVariants as body;
+ghost use Rattle.node_groups.specs.Keeps.{Keeps};
+ghost use Rattle.node_state.specs.Deciding.{refused};
+ghost use Rattle.node_state.specs.declared.packet.Body.TheVariants as body;
 
-use group_leading::client_callbacks::Why;
-use group_leading::node_groups::keep_decision;
-use group_leading::node_sending::send;
-use group_leading::node_state::{Body, Core};
-use group_leading::rsct_packet::{Name, NoMemory, ProviderId, ViewId};
+use client_callbacks::Why;
+use node_groups::keep_decision;
+use node_sending::send;
+use node_state::{Body, Core};
+use rsct_packet::{Name, NoMemory, ProviderId, ViewId};
 use std::alloc::Global;
 
 /// The packet that tells a requester why its request is refused.
@@ -32,7 +32,7 @@ pub fn tell(
 }
 
 /// The refusal is kept, and sent to the requester's node.
-#[tactic(auto, unfolding(crate::proofs::Below::refused))]
+#[tactic(auto, unfolding(node_state::specs::Deciding::refused))]
 fn keep_and_tell(
     core: &mut Core,
     alloc: Global,

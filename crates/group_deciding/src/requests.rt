@@ -1,21 +1,21 @@
 //! A request.
 ghost use Rattle.std.specs.Prelude.{OnOk};
-ghost use Rattle.group_leading.specs.session_clients.Clients.{KeepsScripts};
-ghost use Rattle.group_leading.specs.entry_delivery.Doing.{RowDoes};
+ghost use Rattle.session_clients.specs.Clients.{KeepsScripts};
+ghost use Rattle.entry_delivery.specs.Doing.{RowDoes};
 ghost use Rattle.group_leading.specs.Working.{AtWork};
-ghost use Rattle.group_leading.specs.node_state.Deciding.{decided};
+ghost use Rattle.node_state.specs.Deciding.{decided};
 
 use crate::changes::decide_change;
 use crate::join_requests::decide_join;
-use group_leading::client_callbacks::Callbacks;
-use group_leading::group_attr::Phases;
-use group_leading::node_state::Core;
-use group_leading::proposal_core::Proposal;
-use group_leading::rsct_packet::{Name, NoMemory, ProviderId};
+use client_callbacks::Callbacks;
+use group_attr::Phases;
+use node_state::Core;
+use proposal_core::Proposal;
+use rsct_packet::{Name, NoMemory, ProviderId};
 use std::alloc::Global;
 
 /// Decides a request: a join waits or is refused, another proposal begins or is refused.
-#[tactic(auto, unfolding(crate::proofs::Below::decided))]
+#[tactic(auto, unfolding(node_state::specs::Deciding::decided))]
 pub fn decide<C: Callbacks>(
     core: &mut Core,
     clients: &mut Vec<C>,

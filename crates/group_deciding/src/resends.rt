@@ -1,14 +1,14 @@
 //! The entries of a group's list are sent again, from the acknowledged length on.
 ghost use Rattle.std.specs.Prelude.{◌≡◌, ◌+◌, ◌-◌, ◌^◌, ◌<◌, ◌≤◌, IfOk, OnOk, drop, fold, length, take};
-ghost use Rattle.group_leading.specs.node_groups.Keeps.{Keeps};
-ghost use Rattle.group_leading.specs.node_state.State.{others};
-ghost use Rattle.group_leading.specs.node_state.Ticks.{entries_sent, sent_again};
+ghost use Rattle.node_groups.specs.Keeps.{Keeps};
+ghost use Rattle.node_state.specs.State.{others};
+ghost use Rattle.node_state.specs.Ticks.{entries_sent, sent_again};
 
-use group_leading::node_groups::{acked_by, least_acked, row_of};
-use group_leading::node_sending::{others, send};
-use group_leading::node_state::{Body, Core};
-use group_leading::proposal_core::{Entry, GroupList};
-use group_leading::rsct_packet::{List, Name, NoMemory};
+use node_groups::{acked_by, least_acked, row_of};
+use node_sending::{others, send};
+use node_state::{Body, Core};
+use proposal_core::{Entry, GroupList};
+use rsct_packet::{List, Name, NoMemory};
 use std::alloc::Global;
 
 /// How many entries are sent to a member in one tick.
@@ -67,7 +67,7 @@ fn send_entries(
 }
 
 /// Sends up to 16 entries of the group to a member, from the length on that it acknowledged.
-#[tactic(auto, unfolding(crate::proofs::Below::sent_again, crate::proofs::Below::list_sent_again, crate::proofs::Below::row_of))]
+#[tactic(auto, unfolding(node_state::specs::Ticks::sent_again, node_state::specs::Ticks::list_sent_again, node_state::specs::State::row_of))]
 fn send_again(core: &mut Core, alloc: Global, group: &Name, to: u8) -> Result<(), NoMemory>
     ensures row { OnOk result (core.new ≡ sent_again group.now core.old to) }
     ensures keeps { OnOk result (Keeps core.old core.new) }

@@ -1,23 +1,23 @@
 //! What a group owes to its source begins.
 ghost use Rattle.std.specs.Prelude.{◌≡◌, IfOk, OnOk};
-ghost use Rattle.group_leading.specs.session_clients.Clients.{KeepsScripts};
-ghost use Rattle.group_leading.specs.batch_rules.Waiting.{batches_failures, chosen_of};
+ghost use Rattle.session_clients.specs.Clients.{KeepsScripts};
+ghost use Rattle.batch_rules.specs.Waiting.{batches_failures, chosen_of};
 ghost use Rattle.group_leading.specs.Working.{AtWork};
-ghost use Rattle.group_leading.specs.source_target.Due as target;
-ghost use Rattle.group_leading.specs.node_state.State.{state_of};
-ghost use Rattle.group_leading.specs.node_state.Deciding.{known_state};
-ghost use Rattle.group_leading.specs.node_state.Ending.{due_begins, source_begins};
+ghost use Rattle.source_target.specs.Due as target;
+ghost use Rattle.node_state.specs.State.{state_of};
+ghost use Rattle.node_state.specs.Deciding.{known_state};
+ghost use Rattle.node_state.specs.Ending.{due_begins, source_begins};
 ghost use Rattle.group_deciding.specs.Passing.{PassDoes};
 
 use crate::sources::known_state;
+use client_callbacks::Callbacks;
+use group_attr::Batch;
 use group_leading::begin;
-use group_leading::client_callbacks::Callbacks;
-use group_leading::group_attr::Batch;
-use group_leading::node_groups::state_of;
-use group_leading::node_state::Core;
-use group_leading::proposal_core::{Fallen, GroupState, Proposal};
-use group_leading::rsct_packet::{List, Name, NoMemory, Text};
-use group_leading::source_target::{Due, due};
+use node_groups::state_of;
+use node_state::Core;
+use proposal_core::{Fallen, GroupState, Proposal};
+use rsct_packet::{List, Name, NoMemory, Text};
+use source_target::{Due, due};
 use std::alloc::Global;
 
 /// All of them where failures are batched, else the first one.
@@ -43,7 +43,7 @@ fn value_of(core: &Core, alloc: Global, group: &[u8]) -> Result<Text, NoMemory>
 
 /// What a group in this state owes to its source `source` begins: a cast-out, of one provider where failures are not
 /// batched, or a reflection. Has something begun?
-#[tactic(auto, unfolding(crate::proofs::Below::due_begins))]
+#[tactic(auto, unfolding(node_state::specs::Ending::due_begins))]
 fn begin_owed<C: Callbacks>(
     core: &mut Core,
     clients: &mut Vec<C>,
@@ -90,7 +90,7 @@ fn begin_owed<C: Callbacks>(
 }
 
 /// What a group owes to its source, where it has one, begins. Has something begun?
-#[tactic(auto, unfolding(crate::proofs::Below::source_begins))]
+#[tactic(auto, unfolding(node_state::specs::Ending::source_begins))]
 pub fn begin_due<C: Callbacks>(
     core: &mut Core,
     clients: &mut Vec<C>,

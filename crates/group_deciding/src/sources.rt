@@ -1,15 +1,15 @@
 //! What a node knows of the group that is a group's source.
 ghost use Rattle.std.specs.Prelude.{◌≡◌, option_copied};
-ghost use Rattle.group_leading.specs.node_state.Deciding.{known_state, lacks_source, source_len};
+ghost use Rattle.node_state.specs.Deciding.{known_state, lacks_source, source_len};
 
-use group_leading::node_groups::{len_of, list_of};
-use group_leading::node_state::Core;
-use group_leading::proposal_core::GroupState;
-use group_leading::rsct_packet::Name;
-use group_leading::source_target::allowed;
+use node_groups::{len_of, list_of};
+use node_state::Core;
+use proposal_core::GroupState;
+use rsct_packet::Name;
+use source_target::allowed;
 
 /// The state of a group, where the node holds a list of it.
-#[tactic(auto, unfolding(crate::proofs::Below::known_state))]
+#[tactic(auto, unfolding(node_state::specs::Deciding::known_state))]
 pub fn known_state<'a>(core: &'a Core, group: &[u8]) -> Option<&'a GroupState>
     ensures { option_copied result ≡ known_state core.now group.now }
 {
@@ -20,7 +20,7 @@ pub fn known_state<'a>(core: &'a Core, group: &[u8]) -> Option<&'a GroupState>
 }
 
 /// Does no member of the source, where there is one, stand on the node?
-#[tactic(auto, unfolding(crate::proofs::Below::lacks_source))]
+#[tactic(auto, unfolding(node_state::specs::Deciding::lacks_source))]
 pub fn lacks_source(core: &Core, source: &Option<Name>, node: u8) -> bool
     ensures { result ≡ lacks_source core.now source.now node }
 {
@@ -31,7 +31,7 @@ pub fn lacks_source(core: &Core, source: &Option<Name>, node: u8) -> bool
 }
 
 /// How many entries the source's list has; 0 where there is no source.
-#[tactic(auto, unfolding(crate::proofs::Below::source_len))]
+#[tactic(auto, unfolding(node_state::specs::Deciding::source_len))]
 pub fn source_len(core: &Core, source: &Option<Name>) -> u32
     ensures { result ≡ source_len core.now source.now }
 {

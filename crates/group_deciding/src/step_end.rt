@@ -1,15 +1,15 @@
 //! The end of a step.
 ghost use Rattle.std.specs.Prelude.{◌≡◌, OnOk};
-ghost use Rattle.group_leading.specs.session_clients.Clients.{KeepsScripts};
-ghost use Rattle.group_leading.specs.entry_delivery.Doing.{RowDoes};
+ghost use Rattle.session_clients.specs.Clients.{KeepsScripts};
+ghost use Rattle.entry_delivery.specs.Doing.{RowDoes};
 ghost use Rattle.group_leading.specs.Working.{AtWork};
-ghost use Rattle.group_leading.specs.node_state.Ending.{passes, most_begun, end_step};
+ghost use Rattle.node_state.specs.Ending.{passes, most_begun, end_step};
 
 use crate::passes::pass;
-use group_leading::client_callbacks::Callbacks;
-use group_leading::node_sending::is_frozen;
-use group_leading::node_state::Core;
-use group_leading::rsct_packet::NoMemory;
+use client_callbacks::Callbacks;
+use node_sending::is_frozen;
+use node_state::Core;
+use rsct_packet::NoMemory;
 use std::alloc::Global;
 
 /// How many places a list has at most in which something begins.
@@ -17,7 +17,7 @@ const MAX_PLACES: u128 = 4096;
 
 /// How often something can begin: each time a list grows, and nothing begins in a full one. 128 bits hold that for
 /// any number of groups.
-#[tactic(auto, unfolding(crate::proofs::Below::most_begun))]
+#[tactic(auto, unfolding(node_state::specs::Ending::most_begun))]
 fn most_begun(core: &Core) -> u128
     ensures { result ≡ most_begun core.now }
 {
@@ -25,7 +25,7 @@ fn most_begun(core: &Core) -> u128
 }
 
 /// Passes over the groups, at most `left` times, until nothing begins.
-#[tactic(auto, unfolding(crate::proofs::Below::passes))]
+#[tactic(auto, unfolding(node_state::specs::Ending::passes))]
 fn repeat<C: Callbacks>(
     core: &mut Core,
     clients: &mut Vec<C>,
@@ -50,7 +50,7 @@ fn repeat<C: Callbacks>(
 
 /// Ends a step: in each group that the node leads, and where nothing runs, the first of waiting failures, what is due
 /// of its source, and waiting joins begins, again and again until nothing begins.
-#[tactic(auto, unfolding(crate::proofs::Below::end_step))]
+#[tactic(auto, unfolding(node_state::specs::Ending::end_step))]
 pub fn end_step<C: Callbacks>(
     core: &mut Core,
     clients: &mut Vec<C>,

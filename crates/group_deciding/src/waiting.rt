@@ -1,20 +1,20 @@
 //! What waits in a group, and is taken out to begin.
 ghost use Rattle.std.specs.Prelude.{◌≡◌, IfOk, OnOk};
-ghost use Rattle.group_leading.specs.rsct_packet.Providers.{AreProviders};
-ghost use Rattle.group_leading.specs.batch_rules.Waiting.{next_failures, failures_left, next_joins, joins_left};
-ghost use Rattle.group_leading.specs.node_state.State.{InNameOrder, led_of};
-ghost use Rattle.group_leading.specs.node_state.Leading.{with_waiting};
+ghost use Rattle.rsct_packet.specs.Providers.{AreProviders};
+ghost use Rattle.batch_rules.specs.Waiting.{next_failures, failures_left, next_joins, joins_left};
+ghost use Rattle.node_state.specs.State.{InNameOrder, led_of};
+ghost use Rattle.node_state.specs.Leading.{with_waiting};
 
 use arrayvec::ArrayVec;
-use group_leading::group_attr::Batch;
-use group_leading::node_groups::open;
-use group_leading::node_state::Core;
-use group_leading::proposal_core::Failure;
-use group_leading::rsct_packet::{Name, NoMemory, ProviderId};
+use group_attr::Batch;
+use node_groups::open;
+use node_state::Core;
+use proposal_core::Failure;
+use rsct_packet::{Name, NoMemory, ProviderId};
 use std::alloc::Global;
 
 /// Takes the failures that begin next out of the group's queue.
-#[tactic(auto, unfolding(crate::proofs::Below::with_waiting, crate::proofs::Below::with_led, crate::proofs::Below::with_row, crate::proofs::Below::led_of, crate::proofs::Below::row_of), using(crate::proofs::Below::row_edits, crate::proofs::Below::opened_row, std::proofs::lemmas::Grind::common_steps))]
+#[tactic(auto, unfolding(node_state::specs::Leading::with_waiting, node_state::specs::State::with_led, node_state::specs::State::with_row, node_state::specs::State::led_of, node_state::specs::State::row_of), using(node_groups::proofs::RowLaws::row_edits, node_groups::proofs::RowLaws::opened_row, std::proofs::lemmas::Grind::common_steps))]
 pub fn take_failures(
     core: &mut Core,
     alloc: Global,
@@ -32,7 +32,7 @@ pub fn take_failures(
 }
 
 /// Takes the joins that begin next out of the group's queue.
-#[tactic(auto, unfolding(crate::proofs::Below::with_waiting, crate::proofs::Below::with_led, crate::proofs::Below::with_row, crate::proofs::Below::led_of, crate::proofs::Below::row_of), using(crate::proofs::Below::row_edits, crate::proofs::Below::opened_row, std::proofs::lemmas::Grind::common_steps))]
+#[tactic(auto, unfolding(node_state::specs::Leading::with_waiting, node_state::specs::State::with_led, node_state::specs::State::with_row, node_state::specs::State::led_of, node_state::specs::State::row_of), using(node_groups::proofs::RowLaws::row_edits, node_groups::proofs::RowLaws::opened_row, std::proofs::lemmas::Grind::common_steps))]
 pub fn take_joins(
     core: &mut Core,
     alloc: Global,

@@ -1,15 +1,15 @@
 -- Some answers agree with those of the clients: the questions' places rise, so that no two stand at one place.
 use Rattle.std.proofs.Common.{◌≡◌, ℕ, ◌+◌, ◌≤◌, ◌==◌, Bool, true, false, cond, List, [], ◌∷◌, length, Option, None, refl, ap, ◌∙◌, arith, eq-eqb}
 use Rattle.std.proofs.lemmas.Bool.{ne_eqb}
-use Rattle.node_groups.specs.rsct_packet.declared.ids.ProviderId.{ProviderId}
-use Rattle.node_groups.specs.proposal_core.declared.entry.Entry.{Entry}
-use Rattle.node_groups.specs.proposal_core.declared.group_state.GroupState.{GroupState}
-use Rattle.node_groups.specs.client_callbacks.declared.ballot.Filled.{Filled}
-use Rattle.node_groups.specs.client_callbacks.declared.votes.VoteItem.{VoteItem}
-use Rattle.node_groups.specs.session_state.declared.state.SessionState.{SessionState}
-use Rattle.node_groups.specs.session_state.HandOn.{asks}
-use Rattle.node_groups.specs.node_state.declared.state.Core.{Core}
-use Rattle.node_groups.specs.node_state.HandOn.{Answering, answer_if}
+use Rattle.rsct_packet.specs.declared.ids.ProviderId.{ProviderId}
+use Rattle.proposal_core.specs.declared.entry.Entry.{Entry}
+use Rattle.proposal_core.specs.declared.group_state.GroupState.{GroupState}
+use Rattle.client_callbacks.specs.declared.ballot.Filled.{Filled}
+use Rattle.client_callbacks.specs.declared.votes.VoteItem.{VoteItem}
+use Rattle.session_state.specs.declared.state.SessionState.{SessionState}
+use Rattle.session_state.specs.HandOn.{asks}
+use Rattle.node_state.specs.declared.state.Core.{Core}
+use Rattle.node_state.specs.HandOn.{Answering, answer_if}
 use Rattle.entry_delivery.specs.Received.{Handing}
 use Rattle.entry_delivery.specs.Doing.{Question, Agrees, Rise, Does}
 

@@ -1,16 +1,16 @@
 -- What opening, closing and beginning do.
 use Rattle.std.proofs.Common.{◌≡◌, ℕ, zero, suc, ◌-◌, ◌<◌, Bool, true, false, ◌&&◌, List, [], Option, Some, None, refl, sym, ap, ◌∙◌, arith}
-use Rattle.node_groups.specs.proposal_core.declared.proposal.Proposal.{Proposal}
-use Rattle.node_groups.specs.proposal_core.declared.entry.Entry.{Entry}
-use Rattle.node_groups.specs.proposal_core.declared.entry.Entry.TheVariants.{Begin}
-use Rattle.node_groups.specs.proposal_core.declared.group_state.Running.{Running}
-use Rattle.node_groups.specs.vote_phases.Tally.{TallyView}
-use Rattle.node_groups.specs.client_callbacks.declared.votes.VoteItem.{VoteItem}
-use Rattle.node_groups.specs.node_state.declared.group.Led.{Led}
-use Rattle.node_groups.specs.node_state.declared.state.Core.{Core}
-use Rattle.node_groups.specs.node_state.State.{nothing_led, fits_at_end}
-use Rattle.node_groups.specs.node_state.HandOn.{Answering}
-use Rattle.node_groups.specs.node_state.Leading.{appended, tally_set, tally_opened, closing_entry, is_phase, closes_from, closes, begin_many}
+use Rattle.proposal_core.specs.declared.proposal.Proposal.{Proposal}
+use Rattle.proposal_core.specs.declared.entry.Entry.{Entry}
+use Rattle.proposal_core.specs.declared.entry.Entry.TheVariants.{Begin}
+use Rattle.proposal_core.specs.declared.group_state.Running.{Running}
+use Rattle.vote_phases.specs.Tally.{TallyView}
+use Rattle.client_callbacks.specs.declared.votes.VoteItem.{VoteItem}
+use Rattle.node_state.specs.declared.group.Led.{Led}
+use Rattle.node_state.specs.declared.state.Core.{Core}
+use Rattle.node_state.specs.State.{nothing_led, fits_at_end}
+use Rattle.node_state.specs.HandOn.{Answering}
+use Rattle.node_state.specs.Leading.{appended, tally_set, tally_opened, closing_entry, is_phase, closes_from, closes, begin_many}
 use Rattle.node_groups.specs.Keeps.{Keeps}
 use Rattle.entry_delivery.specs.Received.{Handing}
 use Rattle.entry_delivery.specs.Doing.{Joins, Does}

@@ -1,21 +1,21 @@
 -- Handing an entry on leaves the groups as they are.
 use Rattle.std.proofs.Common.{◌≡◌, ℕ, Bool, true, false, List, [], ◌∷◌, Option, Some, None, refl, sym, ap, ◌∙◌, subst}
 use Rattle.std.specs.List.{fold}
-use Rattle.node_groups.specs.rsct_packet.declared.ids.ProviderId.{ProviderId}
-use Rattle.node_groups.specs.rsct_packet.declared.ids.ProtoId.{ProtoId}
-use Rattle.node_groups.specs.proposal_core.declared.entry.Entry.{Entry}
-use Rattle.node_groups.specs.proposal_core.declared.group_state.GroupState.{GroupState}
-use Rattle.node_groups.specs.subscribe_core.Subs.{differs}
-use Rattle.node_groups.specs.client_callbacks.declared.ballot.Filled.{Filled}
-use Rattle.node_groups.specs.client_callbacks.declared.votes.VoteItem.{VoteItem}
-use Rattle.node_groups.specs.client_callbacks.Ballots.{BallotView}
-use Rattle.node_groups.specs.session_state.declared.casts.Cast.{Cast}
-use Rattle.node_groups.specs.node_state.declared.group.GroupRow.{GroupRow}
-use Rattle.node_groups.specs.node_state.declared.packet.Body.{Body}
-use Rattle.node_groups.specs.node_state.declared.state.Core.{Core}
-use Rattle.node_groups.specs.node_state.State.{InNameOrder, frozen, recorded_all, with_sessions}
-use Rattle.node_groups.specs.node_state.Sending.{send_on, sent, send_if_known}
-use Rattle.node_groups.specs.node_state.HandOn.{Answering, notes, noted, ballot_sent, cast_sent_of, casts_sent, hand_on}
+use Rattle.rsct_packet.specs.declared.ids.ProviderId.{ProviderId}
+use Rattle.rsct_packet.specs.declared.ids.ProtoId.{ProtoId}
+use Rattle.proposal_core.specs.declared.entry.Entry.{Entry}
+use Rattle.proposal_core.specs.declared.group_state.GroupState.{GroupState}
+use Rattle.subscribe_core.specs.Subs.{differs}
+use Rattle.client_callbacks.specs.declared.ballot.Filled.{Filled}
+use Rattle.client_callbacks.specs.declared.votes.VoteItem.{VoteItem}
+use Rattle.client_callbacks.specs.Ballots.{BallotView}
+use Rattle.session_state.specs.declared.casts.Cast.{Cast}
+use Rattle.node_state.specs.declared.group.GroupRow.{GroupRow}
+use Rattle.node_state.specs.declared.packet.Body.{Body}
+use Rattle.node_state.specs.declared.state.Core.{Core}
+use Rattle.node_state.specs.State.{InNameOrder, frozen, recorded_all, with_sessions}
+use Rattle.node_state.specs.Sending.{send_on, sent, send_if_known}
+use Rattle.node_state.specs.HandOn.{Answering, notes, noted, ballot_sent, cast_sent_of, casts_sent, hand_on}
 use Rattle.entry_delivery.specs.Received.{Handing}
 use Rattle.entry_delivery.specs.Doing.{Does}
 use Rattle.group_leading.proofs.AnswerLaws.{does_some}

@@ -2,19 +2,19 @@
 use Rattle.std.proofs.Common.{◌≡◌, ℕ, ◌+◌, ◌<◌, Bool, true, false, not, ◌++◌, List, [], ◌∷◌, length, get_or, take, filter, Option, refl, ap, ◌∙◌, append-nil}
 use Rattle.std.specs.List.{fold}
 use Rattle.std.proofs.lemmas.List.Elements.{filter_more}
-use Rattle.node_groups.specs.rsct_packet.declared.ids.ProviderId.{ProviderId}
-use Rattle.node_groups.specs.rsct_packet.Providers.{among}
-use Rattle.node_groups.specs.proposal_core.declared.entry.Entry.{Entry}
-use Rattle.node_groups.specs.proposal_core.declared.group_state.GroupState.{GroupState}
-use Rattle.node_groups.specs.client_callbacks.declared.votes.VoteItem.{VoteItem}
-use Rattle.node_groups.specs.node_state.declared.packet.Body.{Body}
-use Rattle.node_groups.specs.node_state.declared.packet.Body.TheVariants as body
-use Rattle.node_groups.specs.node_state.declared.state.Core.{Core}
-use Rattle.node_groups.specs.node_state.State.{led_of, state_of, len_of, leader_of, others, least_acked}
-use Rattle.node_groups.specs.node_state.Sending.{send_on, sent, send_all}
-use Rattle.node_groups.specs.node_state.HandOn.{hand_on}
-use Rattle.node_groups.specs.node_state.Leading.{put, put_and_hand, forget_least, with_waiting, wait_if, new_members_wait, appended, append_if_fits}
-use Rattle.node_groups.proofs.node_state_laws.AlongLaws.{state_as}
+use Rattle.rsct_packet.specs.declared.ids.ProviderId.{ProviderId}
+use Rattle.rsct_packet.specs.Providers.{among}
+use Rattle.proposal_core.specs.declared.entry.Entry.{Entry}
+use Rattle.proposal_core.specs.declared.group_state.GroupState.{GroupState}
+use Rattle.client_callbacks.specs.declared.votes.VoteItem.{VoteItem}
+use Rattle.node_state.specs.declared.packet.Body.{Body}
+use Rattle.node_state.specs.declared.packet.Body.TheVariants as body
+use Rattle.node_state.specs.declared.state.Core.{Core}
+use Rattle.node_state.specs.State.{led_of, state_of, len_of, leader_of, others, least_acked}
+use Rattle.node_state.specs.Sending.{send_on, sent, send_all}
+use Rattle.node_state.specs.HandOn.{hand_on}
+use Rattle.node_state.specs.Leading.{put, put_and_hand, forget_least, with_waiting, wait_if, new_members_wait, appended, append_if_fits}
+use Rattle.node_state.proofs.AlongLaws.{state_as}
 use Rattle.node_groups.specs.Keeps.{Keeps}
 use Rattle.node_groups.proofs.KeepLaws.{keeps_itself, keeps_then, keeps_as, led_keeps, sent_keeps}
 use Rattle.entry_delivery.specs.Received.{Handing}

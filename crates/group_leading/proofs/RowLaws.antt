@@ -3,10 +3,10 @@ use Rattle.std.proofs.Common.{◌≡◌, ℕ, List, [], ◌∷◌, length, Bool,
 use Rattle.std.specs.List.{fold}
 use Rattle.std.specs.Option.{option_copied}
 use Rattle.std.specs.Result.{OnOk}
-use Rattle.node_groups.specs.client_callbacks.declared.votes.VoteItem.{VoteItem}
-use Rattle.node_groups.specs.node_state.declared.state.Core.{Core}
-use Rattle.node_groups.specs.node_state.State.{set_leader, list_forgotten, forget_below}
-use Rattle.node_groups.specs.node_state.HandOn.{Answering}
+use Rattle.client_callbacks.specs.declared.votes.VoteItem.{VoteItem}
+use Rattle.node_state.specs.declared.state.Core.{Core}
+use Rattle.node_state.specs.State.{set_leader, list_forgotten, forget_below}
+use Rattle.node_state.specs.HandOn.{Answering}
 use Rattle.node_groups.specs.Keeps.{Stays, Keeps}
 use Rattle.node_groups.proofs.KeepLaws.{stays_itself, stays_then, stays_as, keeps_as, row_keeps, forgotten_state}
 use Rattle.entry_delivery.specs.Received.{Handing}

@@ -1,9 +1,9 @@
 -- A node stays at work through what asks no client.
 use Rattle.std.proofs.Common.{◌≡◌, List, [], length, Option, refl}
 use Rattle.std.specs.Prelude.{Result, Ok, Err, OnOk}
-use Rattle.node_groups.specs.client_callbacks.declared.votes.VoteItem.{VoteItem}
-use Rattle.node_groups.specs.node_state.declared.state.Core.{Core}
-use Rattle.node_groups.specs.node_state.HandOn.{Answering}
+use Rattle.client_callbacks.specs.declared.votes.VoteItem.{VoteItem}
+use Rattle.node_state.specs.declared.state.Core.{Core}
+use Rattle.node_state.specs.HandOn.{Answering}
 use Rattle.node_groups.specs.Keeps.{Keeps}
 use Rattle.entry_delivery.specs.Received.{Handing}
 use Rattle.entry_delivery.specs.Doing.{Follows, Ready, Does}

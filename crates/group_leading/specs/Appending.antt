@@ -1,13 +1,13 @@
 -- The parts of appending, behind the put.
 use Rattle.std.specs.Prelude.{ℕ, List}
-use Rattle.node_groups.specs.proposal_core.declared.entry.Entry.{Entry}
-use Rattle.node_groups.specs.proposal_core.declared.group_state.GroupState.{GroupState}
-use Rattle.node_groups.specs.node_state.declared.packet.Body.TheVariants as body
-use Rattle.node_groups.specs.node_state.declared.state.Core.{Core}
-use Rattle.node_groups.specs.node_state.State.{state_of, leader_of, others, least_acked}
-use Rattle.node_groups.specs.node_state.Sending.{send_all}
-use Rattle.node_groups.specs.node_state.HandOn.{Answering, hand_on}
-use Rattle.node_groups.specs.node_state.Leading.{forget_least, new_members_wait}
+use Rattle.proposal_core.specs.declared.entry.Entry.{Entry}
+use Rattle.proposal_core.specs.declared.group_state.GroupState.{GroupState}
+use Rattle.node_state.specs.declared.packet.Body.TheVariants as body
+use Rattle.node_state.specs.declared.state.Core.{Core}
+use Rattle.node_state.specs.State.{state_of, leader_of, others, least_acked}
+use Rattle.node_state.specs.Sending.{send_all}
+use Rattle.node_state.specs.HandOn.{Answering, hand_on}
+use Rattle.node_state.specs.Leading.{forget_least, new_members_wait}
 
 -- the entry at place i is sent to each other member, and handed on
 unfoldable pub sent_and_handed : Answering → Core → List ℕ → ℕ → GroupState → GroupState → Entry → Core

@@ -1,10 +1,10 @@
 -- Closing one phase.
 use Rattle.std.specs.Prelude.{ℕ, Bool, true, false, ◌&&◌, List, Option, Some, None}
-use Rattle.node_groups.specs.proposal_core.declared.entry.Entry.{Entry}
-use Rattle.node_groups.specs.node_state.declared.state.Core.{Core}
-use Rattle.node_groups.specs.node_state.State.{led_of, state_of, fits_at_end}
-use Rattle.node_groups.specs.node_state.HandOn.{Answering}
-use Rattle.node_groups.specs.node_state.Leading.{appended, tally_opened, tally_set, closing_entry, is_phase}
+use Rattle.proposal_core.specs.declared.entry.Entry.{Entry}
+use Rattle.node_state.specs.declared.state.Core.{Core}
+use Rattle.node_state.specs.State.{led_of, state_of, fits_at_end}
+use Rattle.node_state.specs.HandOn.{Answering}
+use Rattle.node_state.specs.Leading.{appended, tally_opened, tally_set, closing_entry, is_phase}
 
 -- the entry that closes the phase that runs, where its tally has an outcome
 abbrev pub next_closing : Core → List ℕ → Option Entry

@@ -1,9 +1,9 @@
 -- New members that failed or are gone.
 use Rattle.std.specs.Prelude.{ℕ, not, List, filter, fold}
-use Rattle.node_groups.specs.rsct_packet.declared.ids.ProviderId.{ProviderId}
-use Rattle.node_groups.specs.rsct_packet.Providers.{among}
-use Rattle.node_groups.specs.node_state.declared.state.Core.{Core}
-use Rattle.node_groups.specs.node_state.Leading.{wait_if}
+use Rattle.rsct_packet.specs.declared.ids.ProviderId.{ProviderId}
+use Rattle.rsct_packet.specs.Providers.{among}
+use Rattle.node_state.specs.declared.state.Core.{Core}
+use Rattle.node_state.specs.Leading.{wait_if}
 
 -- those of ps wait that were not there before and failed or are gone
 abbrev pub new_ones_wait : Core → List ℕ → List ProviderId → List ProviderId → List ProviderId → List ProviderId → Core

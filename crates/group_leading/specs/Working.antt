@@ -1,6 +1,6 @@
 -- What a node at work keeps through its rows.
-use Rattle.node_groups.specs.node_state.declared.state.Core.{Core}
-use Rattle.node_groups.specs.node_state.State.{InNameOrder}
+use Rattle.node_state.specs.declared.state.Core.{Core}
+use Rattle.node_state.specs.State.{InNameOrder}
 use Rattle.entry_delivery.specs.Doing.{Ready}
 use Rattle.std.specs.Prelude.{List}
 

@@ -1,29 +1,29 @@
 //! Appending to a list, and what follows.
 ghost use Rattle.std.specs.Prelude.{◌≡◌, OnOk, IsTrue};
-ghost use Rattle.entry_delivery.specs.session_clients.Clients.{KeepsScripts};
-ghost use Rattle.node_groups.specs.node_state.declared.packet.Body.TheVariants as body;
-ghost use Rattle.node_groups.specs.proposal_core.Fold.{joiners_fit};
-ghost use Rattle.node_groups.specs.node_state.State.{state_of, fits_at_end, others, least_acked};
-ghost use Rattle.node_groups.specs.node_state.Sending.{send_all};
-ghost use Rattle.node_groups.specs.node_state.Leading.{put_and_hand, appended, append_if_fits};
-ghost use Rattle.node_groups.specs.node_state.HandOn.{hand_on};
+ghost use Rattle.session_clients.specs.Clients.{KeepsScripts};
+ghost use Rattle.node_state.specs.declared.packet.Body.TheVariants as body;
+ghost use Rattle.proposal_core.specs.Fold.{joiners_fit};
+ghost use Rattle.node_state.specs.State.{state_of, fits_at_end, others, least_acked};
+ghost use Rattle.node_state.specs.Sending.{send_all};
+ghost use Rattle.node_state.specs.Leading.{put_and_hand, appended, append_if_fits};
+ghost use Rattle.node_state.specs.HandOn.{hand_on};
 ghost use Rattle.entry_delivery.specs.Doing.{RowDoes};
 ghost use Rattle.group_leading.specs.Appending.{sent_and_handed, append_finished};
 ghost use Rattle.group_leading.specs.Working.{AtWork};
 
 use crate::waiting_members::new_members_wait;
+use client_callbacks::Callbacks;
 use entry_delivery::hand_on;
-use entry_delivery::node_sending::{others, send_entry};
-use node_groups::client_callbacks::Callbacks;
-use node_groups::node_state::Core;
-use node_groups::proposal_core::{Entry, GroupState};
-use node_groups::rsct_packet::{Name, NoMemory};
-use node_groups::session_state::NewEntry;
 use node_groups::{fits_at_end, forget_least, leader_of, least_acked, len_of, put, state_of};
+use node_sending::{others, send_entry};
+use node_state::Core;
+use proposal_core::{Entry, GroupState};
+use rsct_packet::{Name, NoMemory};
+use session_state::NewEntry;
 use std::alloc::Global;
 
 /// Sends an entry to these nodes.
-#[tactic(auto, unfolding(crate::proofs::Below::send_all), using(std::proofs::lemmas::List::Sums::fold_more, crate::proofs::LeadLaws::sent_view, std::proofs::lemmas::Grind::common_steps))]
+#[tactic(auto, unfolding(node_state::specs::Sending::send_all), using(std::proofs::lemmas::List::Sums::fold_more, crate::proofs::LeadLaws::sent_view, std::proofs::lemmas::Grind::common_steps))]
 fn send_entry_to(
     core: &mut Core,
     alloc: Global,

@@ -1,22 +1,22 @@
 //! The tally of a phase, and what closes the phase.
 ghost use Rattle.std.specs.Prelude.{◌≡◌, ◌&&◌, OnOk, IfOk, IsTrue};
-ghost use Rattle.entry_delivery.specs.session_clients.Clients.{KeepsScripts};
-ghost use Rattle.node_groups.specs.node_state.State.{fits_at_end, led_of, state_of};
-ghost use Rattle.node_groups.specs.node_state.Leading.{tally_for, tally_opened, is_phase, closes_from, closes};
+ghost use Rattle.session_clients.specs.Clients.{KeepsScripts};
+ghost use Rattle.node_state.specs.State.{fits_at_end, led_of, state_of};
+ghost use Rattle.node_state.specs.Leading.{tally_for, tally_opened, is_phase, closes_from, closes};
 ghost use Rattle.entry_delivery.specs.Doing.{RowDoes};
 ghost use Rattle.node_groups.specs.Keeps.{Keeps};
 ghost use Rattle.group_leading.specs.Closing.{next_closing, goes_on, closed_with, closed_if, closed_where};
 ghost use Rattle.group_leading.specs.Working.{AtWork};
 
 use crate::entries::append;
-use node_groups::client_callbacks::Callbacks;
-use node_groups::node_state::Core;
-use node_groups::proposal_core::Entry;
-use node_groups::rsct_packet::{Name, NoMemory};
-use node_groups::vote_phases::Tally;
+use client_callbacks::Callbacks;
 use node_groups::{fits_at_end, gone_of, row_of, state_of};
+use node_state::Core;
 use phase_closing::{closing_entry, is_phase, tally_for};
+use proposal_core::Entry;
+use rsct_packet::{Name, NoMemory};
 use std::alloc::Global;
+use vote_phases::Tally;
 
 /// How many phases a protocol has at most.
 const MAX_PHASES: u8 = 200;
@@ -32,7 +32,7 @@ fn new_tally(core: &Core, alloc: Global, group: &Name) -> Result<Tally, NoMemory
 }
 
 /// Opens the tally of the phase that runs.
-#[tactic(auto, unfolding(crate::proofs::Below::tally_opened))]
+#[tactic(auto, unfolding(node_state::specs::Leading::tally_opened))]
 pub fn open_tally(core: &mut Core, alloc: Global, group: &Name) -> Result<(), NoMemory>
     ensures row { OnOk result (core.new ≡ tally_opened core.old group.now) }
     ensures keeps { OnOk result (Keeps core.old core.new) }
@@ -42,7 +42,7 @@ pub fn open_tally(core: &mut Core, alloc: Global, group: &Name) -> Result<(), No
 }
 
 /// The entry that closes the phase that runs, where its tally has an outcome.
-#[tactic(auto, unfolding(crate::proofs::Below::led_of, crate::proofs::Below::state_of, crate::proofs::Below::list_of, crate::proofs::Below::row_of), using(crate::proofs::CloseLaws::nothing_closes, crate::proofs::CloseLaws::nothing_led_closes))]
+#[tactic(auto, unfolding(node_state::specs::State::led_of, node_state::specs::State::state_of, node_state::specs::State::list_of, node_state::specs::State::row_of), using(crate::proofs::CloseLaws::nothing_closes, crate::proofs::CloseLaws::nothing_led_closes))]
 fn next_closing(core: &Core, alloc: Global, group: &Name) -> Result<Option<Entry>, NoMemory>
     ensures { IfOk result (λ e. e ≡ next_closing core.now group.now) }
 {
@@ -151,7 +151,7 @@ fn close_from<C: Callbacks>(
 }
 
 /// Closes the phase that runs where its tally has an outcome, and each next one that has an outcome at once.
-#[tactic(auto, unfolding(crate::proofs::Below::closes))]
+#[tactic(auto, unfolding(node_state::specs::Leading::closes))]
 pub fn close<C: Callbacks>(
     core: &mut Core,
     clients: &mut Vec<C>,

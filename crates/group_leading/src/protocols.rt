@@ -1,21 +1,21 @@
 //! How a proposal begins.
 ghost use Rattle.std.specs.Prelude.{◌≡◌, OnOk, IsTrue};
-ghost use Rattle.entry_delivery.specs.session_clients.Clients.{KeepsScripts};
-ghost use Rattle.node_groups.specs.proposal_core.declared.entry.Entry.TheVariants as entry_kinds;
-ghost use Rattle.node_groups.specs.proposal_core.declared.proposal.Proposal.{Proposal};
-ghost use Rattle.node_groups.specs.node_state.State.{fits_at_end};
-ghost use Rattle.node_groups.specs.node_state.Leading.{appended, append_if_fits, tally_opened, closes, begin_many, begins};
+ghost use Rattle.session_clients.specs.Clients.{KeepsScripts};
+ghost use Rattle.proposal_core.specs.declared.entry.Entry.TheVariants as entry_kinds;
+ghost use Rattle.proposal_core.specs.declared.proposal.Proposal.{Proposal};
+ghost use Rattle.node_state.specs.State.{fits_at_end};
+ghost use Rattle.node_state.specs.Leading.{appended, append_if_fits, tally_opened, closes, begin_many, begins};
 ghost use Rattle.entry_delivery.specs.Doing.{RowDoes};
 ghost use Rattle.group_leading.specs.Working.{AtWork};
 
 use crate::entries::{append, append_if_fits};
 use crate::phases::{close, open_tally};
-use node_groups::client_callbacks::Callbacks;
+use client_callbacks::Callbacks;
+use group_attr::Phases;
 use node_groups::fits_at_end;
-use node_groups::group_attr::Phases;
-use node_groups::node_state::Core;
-use node_groups::proposal_core::{Entry, Proposal};
-use node_groups::rsct_packet::{Name, NoMemory};
+use node_state::Core;
+use proposal_core::{Entry, Proposal};
+use rsct_packet::{Name, NoMemory};
 use std::alloc::Global;
 
 /// Appends the entry that opens a first phase, and opens the tally of that phase.
@@ -100,7 +100,7 @@ fn begin_once<C: Callbacks>(
 }
 
 /// Begins a proposal that fits: at once, or with a tally.
-#[tactic(auto, unfolding(crate::proofs::Below::begins))]
+#[tactic(auto, unfolding(node_state::specs::Leading::begins))]
 pub fn begin<C: Callbacks>(
     core: &mut Core,
     clients: &mut Vec<C>,

@@ -1,16 +1,16 @@
 //! New members that failed or are gone.
 ghost use Rattle.std.specs.Prelude.{◌≡◌, OnOk};
-ghost use Rattle.node_groups.specs.node_state.Leading.{wait_if, new_members_wait};
+ghost use Rattle.node_state.specs.Leading.{wait_if, new_members_wait};
 ghost use Rattle.group_leading.specs.Waiting.{new_ones_wait};
 
-use node_groups::node_state::Core;
-use node_groups::proposal_core::{Cause, GroupState};
-use node_groups::rsct_packet::{Name, NoMemory, ProviderId, is_among};
 use node_groups::{gone_of, wait_failure};
+use node_state::Core;
+use proposal_core::{Cause, GroupState};
+use rsct_packet::{Name, NoMemory, ProviderId, is_among};
 use std::alloc::Global;
 
 /// One who failed waits with that cause, also where it is gone.
-#[tactic(auto, unfolding(crate::proofs::Below::wait_if))]
+#[tactic(auto, unfolding(node_state::specs::Leading::wait_if))]
 fn wait_if(
     core: &mut Core,
     alloc: Global,
@@ -61,7 +61,7 @@ fn new_ones_wait(
 }
 
 /// A failed or gone joiner waits as a failure once it is a member.
-#[tactic(auto, unfolding(crate::proofs::Below::new_members_wait))]
+#[tactic(auto, unfolding(node_state::specs::Leading::new_members_wait))]
 pub fn new_members_wait(
     core: &mut Core,
     alloc: Global,

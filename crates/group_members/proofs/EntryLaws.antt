@@ -2,20 +2,20 @@
 use Rattle.std.proofs.Common.{◌≡◌, ℕ, Bool, true, false, List, Option, Some, refl, sym, ap, ◌∙◌}
 use Rattle.std.specs.Prelude.{nat_lt}
 use Rattle.std.proofs.lemmas.Bool.{eq-eqb, ne_eqb}
-use Rattle.group_leading.specs.proposal_core.declared.entry.Entry.{Entry}
-use Rattle.group_leading.specs.client_callbacks.declared.votes.VoteItem.{VoteItem}
-use Rattle.group_leading.specs.node_state.declared.packet.Body.TheVariants as body
-use Rattle.group_leading.specs.node_state.declared.state.Core.{Core}
-use Rattle.group_leading.specs.node_state.State.{len_of, holds, fits_at_end, forget_below, set_leader}
-use Rattle.group_leading.specs.node_state.Sending.{sent}
-use Rattle.group_leading.specs.node_state.HandOn.{Answering}
-use Rattle.group_leading.specs.node_state.Leading.{put_and_hand}
-use Rattle.group_leading.specs.node_state.Following.{entry_next, entry_elsewhere, take_entry}
-use Rattle.group_leading.specs.node_groups.Keeps.{Keeps}
-use Rattle.group_leading.proofs.node_groups_laws.KeepLaws.{keeps_itself, keeps_then, keeps_as, sent_keeps}
-use Rattle.group_leading.specs.entry_delivery.Received.{Handing}
-use Rattle.group_leading.specs.entry_delivery.Doing.{Does}
-use Rattle.group_leading.proofs.entry_delivery_laws.DoingLaws.{does_before}
+use Rattle.proposal_core.specs.declared.entry.Entry.{Entry}
+use Rattle.client_callbacks.specs.declared.votes.VoteItem.{VoteItem}
+use Rattle.node_state.specs.declared.packet.Body.TheVariants as body
+use Rattle.node_state.specs.declared.state.Core.{Core}
+use Rattle.node_state.specs.State.{len_of, holds, fits_at_end, forget_below, set_leader}
+use Rattle.node_state.specs.Sending.{sent}
+use Rattle.node_state.specs.HandOn.{Answering}
+use Rattle.node_state.specs.Leading.{put_and_hand}
+use Rattle.node_state.specs.Following.{entry_next, entry_elsewhere, take_entry}
+use Rattle.node_groups.specs.Keeps.{Keeps}
+use Rattle.node_groups.proofs.KeepLaws.{keeps_itself, keeps_then, keeps_as, sent_keeps}
+use Rattle.entry_delivery.specs.Received.{Handing}
+use Rattle.entry_delivery.specs.Doing.{Does}
+use Rattle.entry_delivery.proofs.DoingLaws.{does_before}
 use Rattle.group_leading.proofs.WorkLaws.{keeps_follows}
 use Rattle.group_leading.proofs.RowLaws.{leader_keeps, forgets_keep}
 

@@ -1,4 +1,3 @@
-pub mod Below
 pub mod NameLaws
 pub mod TellLaws
 pub mod EntryLaws

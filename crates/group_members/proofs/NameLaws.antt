@@ -2,19 +2,19 @@
 use Rattle.std.proofs.Common.{◌≡◌, ℕ, ◌==◌, Bool, true, false, List, Option, Some, None, refl, ap, arith}
 use Rattle.std.specs.List.{fold}
 use Rattle.std.proofs.lemmas.Bool.{ne_eqb}
-use Rattle.group_leading.specs.client_callbacks.declared.told.Why.TheVariants.{GroupsFull}
-use Rattle.group_leading.specs.session_state.declared.state.Request.{Request}
-use Rattle.group_leading.specs.name_server.declared.names.Leader.{Leader}
-use Rattle.group_leading.specs.name_server.Names.{answer_at, table_at, looked_up, lookup}
-use Rattle.group_leading.specs.node_state.declared.packet.Body.{Body}
-use Rattle.group_leading.specs.node_state.declared.state.Core.{Core}
-use Rattle.group_leading.specs.node_state.State.{with_row, set_leader}
-use Rattle.group_leading.specs.node_state.Sending.{sent, send_request}
-use Rattle.group_leading.specs.node_state.Following.{take_tell, requests_of, named, is_name_used, take_name}
-use Rattle.group_leading.specs.node_groups.Keeps.{Stays, Keeps}
-use Rattle.group_leading.proofs.session_state_laws.OwnerLaws.{owners_themselves}
-use Rattle.group_leading.proofs.node_state_laws.AlongLaws.{along_same}
-use Rattle.group_leading.proofs.node_groups_laws.KeepLaws.{keeps_then, keeps_as, sent_keeps}
+use Rattle.client_callbacks.specs.declared.told.Why.TheVariants.{GroupsFull}
+use Rattle.session_state.specs.declared.state.Request.{Request}
+use Rattle.name_server.specs.declared.names.Leader.{Leader}
+use Rattle.name_server.specs.Names.{answer_at, table_at, looked_up, lookup}
+use Rattle.node_state.specs.declared.packet.Body.{Body}
+use Rattle.node_state.specs.declared.state.Core.{Core}
+use Rattle.node_state.specs.State.{with_row, set_leader}
+use Rattle.node_state.specs.Sending.{sent, send_request}
+use Rattle.node_state.specs.Following.{take_tell, requests_of, named, is_name_used, take_name}
+use Rattle.node_groups.specs.Keeps.{Stays, Keeps}
+use Rattle.session_state.proofs.OwnerLaws.{owners_themselves}
+use Rattle.node_state.proofs.AlongLaws.{along_same}
+use Rattle.node_groups.proofs.KeepLaws.{keeps_then, keeps_as, sent_keeps}
 use Rattle.group_leading.proofs.RowLaws.{fold_stays}
 use Rattle.group_members.proofs.TellLaws.{tell_stays}
 

@@ -2,35 +2,35 @@
 use Rattle.std.proofs.Common.{◌≡◌, ℕ, Bool, true, false, ◌||◌, ◌&&◌, not, List, [], ◌∷◌, ◌++◌, filter, Option, Some, None, is_some, length-append, refl, sym, ap, subst, arith}
 use Rattle.std.specs.Prelude.{if◌then◌else◌}
 use Rattle.std.proofs.lemmas.List.Elements.{filter-append}
-use Rattle.group_leading.specs.rsct_packet.declared.ids.ProviderId.{ProviderId}
-use Rattle.group_leading.specs.rsct_packet.Providers.{among}
-use Rattle.group_leading.specs.client_callbacks.declared.told.Told.TheVariants as told
-use Rattle.group_leading.specs.client_callbacks.declared.told.Why.{Why}
-use Rattle.group_leading.specs.client_callbacks.declared.votes.VoteItem.{VoteItem}
-use Rattle.group_leading.specs.client_callbacks.Handed.{Handed, Informed}
-use Rattle.group_leading.specs.session_state.declared.state.Provider.{Provider}
-use Rattle.group_leading.specs.session_state.declared.state.Request.{Request}
-use Rattle.group_leading.specs.session_state.declared.state.SessionState.{SessionState}
-use Rattle.group_leading.specs.session_state.State.{provider_of, place_for, place_of, outstanding, without_providers}
-use Rattle.group_leading.specs.session_state.Calls.{SameSessions}
-use Rattle.group_leading.specs.session_state.HandOn.{is_numbered, is_dissolved, is_join_request, takes_telling, told_of, take_telling}
-use Rattle.group_leading.specs.session_clients.Clients.{StandFor, add_for}
-use Rattle.group_leading.specs.session_clients.Notices.{told_lists}
-use Rattle.group_leading.specs.node_state.declared.happened.Happened.{Happened}
-use Rattle.group_leading.specs.node_state.declared.happened.Happened.TheVariants as happened
-use Rattle.group_leading.specs.node_state.declared.state.Core.{Core}
-use Rattle.group_leading.specs.node_state.State.{recorded_all, recorded, with_sessions}
-use Rattle.group_leading.specs.node_state.Following.{told_if, take_tell}
-use Rattle.group_leading.specs.proposal_core.Fold.{empty_state}
-use Rattle.group_leading.proofs.node_state_laws.AlongLaws.{along_records}
-use Rattle.group_leading.specs.node_state.Handed.{is_handed}
-use Rattle.group_leading.specs.node_groups.Keeps.{Stays}
-use Rattle.group_leading.proofs.node_groups_laws.KeepLaws.{stays_itself}
-use Rattle.group_leading.specs.entry_delivery.Received.{Receive}
-use Rattle.group_leading.specs.entry_delivery.Doing.{Does}
-use Rattle.group_leading.proofs.entry_delivery_laws.DoingLaws.{receive_nothing, does_plain, follows_itself}
-use Rattle.group_leading.proofs.entry_delivery_laws.OwnerLaws.{telling_owners}
-use Rattle.group_leading.proofs.entry_delivery_laws.ReceiveLaws.{receive_one}
+use Rattle.rsct_packet.specs.declared.ids.ProviderId.{ProviderId}
+use Rattle.rsct_packet.specs.Providers.{among}
+use Rattle.client_callbacks.specs.declared.told.Told.TheVariants as told
+use Rattle.client_callbacks.specs.declared.told.Why.{Why}
+use Rattle.client_callbacks.specs.declared.votes.VoteItem.{VoteItem}
+use Rattle.client_callbacks.specs.Handed.{Handed, Informed}
+use Rattle.session_state.specs.declared.state.Provider.{Provider}
+use Rattle.session_state.specs.declared.state.Request.{Request}
+use Rattle.session_state.specs.declared.state.SessionState.{SessionState}
+use Rattle.session_state.specs.State.{provider_of, place_for, place_of, outstanding, without_providers}
+use Rattle.session_state.specs.Calls.{SameSessions}
+use Rattle.session_state.specs.HandOn.{is_numbered, is_dissolved, is_join_request, takes_telling, told_of, take_telling}
+use Rattle.session_clients.specs.Clients.{StandFor, add_for}
+use Rattle.session_clients.specs.Notices.{told_lists}
+use Rattle.node_state.specs.declared.happened.Happened.{Happened}
+use Rattle.node_state.specs.declared.happened.Happened.TheVariants as happened
+use Rattle.node_state.specs.declared.state.Core.{Core}
+use Rattle.node_state.specs.State.{recorded_all, recorded, with_sessions}
+use Rattle.node_state.specs.Following.{told_if, take_tell}
+use Rattle.proposal_core.specs.Fold.{empty_state}
+use Rattle.node_state.proofs.AlongLaws.{along_records}
+use Rattle.node_state.specs.Handed.{is_handed}
+use Rattle.node_groups.specs.Keeps.{Stays}
+use Rattle.node_groups.proofs.KeepLaws.{stays_itself}
+use Rattle.entry_delivery.specs.Received.{Receive}
+use Rattle.entry_delivery.specs.Doing.{Does}
+use Rattle.entry_delivery.proofs.DoingLaws.{receive_nothing, does_plain, follows_itself}
+use Rattle.entry_delivery.proofs.OwnerLaws.{telling_owners}
+use Rattle.entry_delivery.proofs.ReceiveLaws.{receive_one}
 use Rattle.node_owed.proofs.SendLaws.{groups_stay}
 
 -- ---- what is kept

@@ -1,20 +1,20 @@
 //! The entries that a leader sends to the members of its group.
 ghost use Rattle.std.specs.Prelude.{◌≡◌, OnOk, IsTrue, true, nat_lt};
-ghost use Rattle.group_leading.specs.session_clients.Clients.{KeepsScripts};
-ghost use Rattle.group_leading.specs.entry_delivery.Doing.{RowDoes};
+ghost use Rattle.session_clients.specs.Clients.{KeepsScripts};
+ghost use Rattle.entry_delivery.specs.Doing.{RowDoes};
 ghost use Rattle.group_leading.specs.Working.{AtWork};
-ghost use Rattle.group_leading.specs.node_state.declared.packet.Body.TheVariants as body;
-ghost use Rattle.group_leading.specs.node_state.State.{len_of, fits_at_end, forget_below, set_leader};
-ghost use Rattle.group_leading.specs.node_state.Sending.{sent};
-ghost use Rattle.group_leading.specs.node_state.Following.{entry_next, entry_elsewhere, take_entry};
+ghost use Rattle.node_state.specs.declared.packet.Body.TheVariants as body;
+ghost use Rattle.node_state.specs.State.{len_of, fits_at_end, forget_below, set_leader};
+ghost use Rattle.node_state.specs.Sending.{sent};
+ghost use Rattle.node_state.specs.Following.{entry_next, entry_elsewhere, take_entry};
 
-use group_leading::client_callbacks::Callbacks;
-use group_leading::node_groups::{fits_at_end, forget_below, holds, len_of, set_leader};
-use group_leading::node_sending::send;
-use group_leading::node_state::{Body, Core};
-use group_leading::proposal_core::Entry;
+use client_callbacks::Callbacks;
 use group_leading::put_and_hand;
-use group_leading::rsct_packet::{Name, NoMemory};
+use node_groups::{fits_at_end, forget_below, holds, len_of, set_leader};
+use node_sending::send;
+use node_state::{Body, Core};
+use proposal_core::Entry;
+use rsct_packet::{Name, NoMemory};
 use std::alloc::Global;
 
 /// Acknowledges the length of the list to a node.
@@ -70,7 +70,7 @@ fn put_next<C: Callbacks>(
 
 /// An entry that is held already is acknowledged, and one beyond the end is not; what all members hold is
 /// forgotten.
-#[tactic(auto, unfolding(crate::proofs::Below::entry_elsewhere))]
+#[tactic(auto, unfolding(node_state::specs::Following::entry_elsewhere))]
 fn pass_over(
     core: &mut Core,
     alloc: Global,

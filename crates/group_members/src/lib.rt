@@ -6,6 +6,5 @@ mod names;
 mod tells;
 
 pub use entries::take_entry;
-pub use group_leading::{client_callbacks, node_sending};
 pub use names::{send_name, take_lookup, take_name};
 pub use tells::take_tell;

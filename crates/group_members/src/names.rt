@@ -1,27 +1,27 @@
 //! Who leads a group: LOOKUP and NAME.
 ghost use Rattle.std.specs.Prelude.{◌≡◌, IfOk, OnOk, map, length};
-ghost use Rattle.group_leading.specs.session_clients.Clients.{KeepsScripts};
+ghost use Rattle.session_clients.specs.Clients.{KeepsScripts};
 ghost use Rattle.std.specs.List.{fold};
 ghost use Rattle.std.specs.Option.{unwrap_or};
-ghost use Rattle.group_leading.specs.client_callbacks.declared.told.Why.TheVariants.{GroupsFull};
-ghost use Rattle.group_leading.specs.session_state.declared.state.Request.{Request};
-ghost use Rattle.group_leading.specs.name_server.Names.{looked_up, lookup};
-ghost use Rattle.group_leading.specs.entry_delivery.Doing.{RowDoes};
-ghost use Rattle.group_leading.specs.node_groups.Keeps.{Keeps};
+ghost use Rattle.client_callbacks.specs.declared.told.Why.TheVariants.{GroupsFull};
+ghost use Rattle.session_state.specs.declared.state.Request.{Request};
+ghost use Rattle.name_server.specs.Names.{looked_up, lookup};
+ghost use Rattle.entry_delivery.specs.Doing.{RowDoes};
+ghost use Rattle.node_groups.specs.Keeps.{Keeps};
 ghost use Rattle.group_leading.specs.Working.{AtWork};
-ghost use Rattle.group_leading.specs.node_state.declared.packet.Body.TheVariants as body;
-ghost use Rattle.group_leading.specs.node_state.State.{set_leader};
-ghost use Rattle.group_leading.specs.node_state.Sending.{sent, send_request};
-ghost use Rattle.group_leading.specs.node_state.Following.{take_lookup, take_tell, requests_of, is_name_used, take_name};
+ghost use Rattle.node_state.specs.declared.packet.Body.TheVariants as body;
+ghost use Rattle.node_state.specs.State.{set_leader};
+ghost use Rattle.node_state.specs.Sending.{sent, send_request};
+ghost use Rattle.node_state.specs.Following.{take_lookup, take_tell, requests_of, is_name_used, take_name};
 
 use crate::tells::tell_each;
-use group_leading::client_callbacks::{Callbacks, Why};
-use group_leading::name_server::{NameFault, Names};
-use group_leading::node_groups::{leader_of, set_leader};
-use group_leading::node_sending::{coordinates, is_fixed, send};
-use group_leading::node_state::{Body, Core};
-use group_leading::rsct_packet::{Name, NoMemory, ProviderId};
+use client_callbacks::{Callbacks, Why};
+use name_server::{NameFault, Names};
+use node_groups::{leader_of, set_leader};
 use node_owed::send_requests_of;
+use node_sending::{coordinates, is_fixed, send};
+use node_state::{Body, Core};
+use rsct_packet::{Name, NoMemory, ProviderId};
 use std::alloc::Global;
 
 /// The leader by the table of names, where a new name is kept with the node that asks; 0 where the table is full.
@@ -57,7 +57,7 @@ pub fn send_name(
 }
 
 /// LOOKUP: the coordinator answers with the leader of the table of names, 0 where that is full.
-#[tactic(auto, unfolding(crate::proofs::Below::take_lookup))]
+#[tactic(auto, unfolding(node_state::specs::Following::take_lookup))]
 pub fn take_lookup(core: &mut Core, alloc: Global, from: u8, group: &Name) -> Result<(), NoMemory>
     ensures row { OnOk result (core.new ≡ take_lookup core.old from group.now) }
     ensures keeps { OnOk result (Keeps core.old core.new) }
@@ -70,7 +70,7 @@ pub fn take_lookup(core: &mut Core, alloc: Global, from: u8, group: &Name) -> Re
 }
 
 /// Is a leader news: where none is known, or where 0 says in mode fixed that no group more can be had?
-#[tactic(auto, unfolding(crate::proofs::Below::is_name_used))]
+#[tactic(auto, unfolding(node_state::specs::Following::is_name_used))]
 fn is_name_used(core: &Core, group: &[u8], leader: u8) -> bool
     ensures { result ≡ is_name_used core.now group.now leader }
 {
@@ -78,7 +78,7 @@ fn is_name_used(core: &Core, group: &[u8], leader: u8) -> bool
 }
 
 /// The numbers of the outstanding requests in a group, in their order, with their providers.
-#[tactic(auto, unfolding(crate::proofs::Below::requests_of))]
+#[tactic(auto, unfolding(node_state::specs::Following::requests_of))]
 fn requests_of(core: &Core, alloc: Global, group: &[u8]) -> Result<Vec<(ProviderId, u32)>, NoMemory>
     ensures { IfOk result (λ v. v.items ≡ map (λ (q : Request). (q.p, q.r))
         (requests_of core.now group.now)) }

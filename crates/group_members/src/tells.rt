@@ -1,21 +1,21 @@
 //! Telling clients that their requests are refused.
 ghost use Rattle.std.specs.Prelude.{◌≡◌, List, OnOk, length};
 ghost use Rattle.std.specs.List.{fold};
-ghost use Rattle.group_leading.specs.client_callbacks.Handed.{Handed};
-ghost use Rattle.group_leading.specs.session_state.State.{outstanding};
-ghost use Rattle.group_leading.specs.session_state.HandOn.{is_numbered, take_telling};
-ghost use Rattle.group_leading.specs.session_clients.Clients.{StandFor, KeepsScripts};
-ghost use Rattle.group_leading.specs.session_clients.Notices.{told_lists};
-ghost use Rattle.group_leading.specs.entry_delivery.Doing.{RowDoes};
+ghost use Rattle.client_callbacks.specs.Handed.{Handed};
+ghost use Rattle.session_state.specs.State.{outstanding};
+ghost use Rattle.session_state.specs.HandOn.{is_numbered, take_telling};
+ghost use Rattle.session_clients.specs.Clients.{StandFor, KeepsScripts};
+ghost use Rattle.session_clients.specs.Notices.{told_lists};
+ghost use Rattle.entry_delivery.specs.Doing.{RowDoes};
 ghost use Rattle.group_leading.specs.Working.{AtWork};
-ghost use Rattle.group_leading.specs.node_state.Following.{take_tell};
+ghost use Rattle.node_state.specs.Following.{take_tell};
 
-use group_leading::client_callbacks::{Callbacks, Told, Why};
-use group_leading::node_state::{Core, Happened};
-use group_leading::rsct_packet::{NoMemory, ProviderId};
-use group_leading::session_clients::tell_at;
-use group_leading::session_delivery::{outstanding, place_of, take_telling, takes_telling};
-use group_leading::session_state::SessionState;
+use client_callbacks::{Callbacks, Told, Why};
+use node_state::{Core, Happened};
+use rsct_packet::{NoMemory, ProviderId};
+use session_clients::tell_at;
+use session_delivery::{outstanding, place_of, take_telling, takes_telling};
+use session_state::SessionState;
 use std::alloc::Global;
 
 /// Is this the number of the provider's outstanding request?
@@ -29,7 +29,7 @@ fn is_outstanding(sessions: &SessionState, provider: ProviderId, request: u32) -
 }
 
 /// Tells the client of a live provider that its request is refused, which ends the request.
-#[tactic(auto, unfolding(crate::proofs::Below::take_telling, crate::proofs::Below::told_lists))]
+#[tactic(auto, unfolding(session_state::specs::HandOn::take_telling, session_clients::specs::Notices::told_lists))]
 fn tell_client<C: Callbacks>(
     sessions: &mut SessionState,
     clients: &mut Vec<C>,

@@ -1,12 +1,12 @@
 -- A length that is acknowledged changes nothing of sessions, and of groups only what is acknowledged and forgotten.
 use Rattle.std.proofs.Common.{◌≡◌, ℕ, List}
-use Rattle.group_deciding.specs.node_state.declared.state.Core.{Core}
-use Rattle.group_deciding.specs.node_state.State.{least_acked, with_led, acked_raised}
-use Rattle.group_deciding.specs.node_state.Leading.{forget_least}
-use Rattle.group_deciding.specs.node_state.Following.{acked}
-use Rattle.group_deciding.specs.node_groups.Keeps.{Keeps}
-use Rattle.group_deciding.proofs.node_groups_laws.KeepLaws.{keeps_then, keeps_as, led_keeps}
-use Rattle.group_deciding.proofs.group_leading_laws.RowLaws.{forgets_keep}
+use Rattle.node_state.specs.declared.state.Core.{Core}
+use Rattle.node_state.specs.State.{least_acked, with_led, acked_raised}
+use Rattle.node_state.specs.Leading.{forget_least}
+use Rattle.node_state.specs.Following.{acked}
+use Rattle.node_groups.specs.Keeps.{Keeps}
+use Rattle.node_groups.proofs.KeepLaws.{keeps_then, keeps_as, led_keeps}
+use Rattle.group_leading.proofs.RowLaws.{forgets_keep}
 
 -- ---- ACK
 

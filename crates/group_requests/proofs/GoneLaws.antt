@@ -3,30 +3,30 @@ use Rattle.std.proofs.Common.{◌≡◌, ℕ, ◌||◌, Bool, true, false, not, 
 use Rattle.std.specs.Prelude.{find}
 use Rattle.std.specs.Option.{option_map}
 use Rattle.std.specs.Str.{bytes_eq}
-use Rattle.group_deciding.specs.rsct_packet.Text.{name_lt}
-use Rattle.group_deciding.specs.rsct_packet.declared.ids.ProviderId.{ProviderId}
-use Rattle.group_deciding.specs.rsct_packet.Providers.{same_provider, among, without}
-use Rattle.group_deciding.specs.proposal_core.declared.proposal.Cause.TheVariants.{Gone}
-use Rattle.group_deciding.specs.proposal_core.Fold.{present}
-use Rattle.group_deciding.specs.vote_phases.Tally.{TallyView, tally_fail}
-use Rattle.group_deciding.specs.batch_rules.Waiting.{WaitingView, add_failure, drop_join}
-use Rattle.group_members.specs.client_callbacks.declared.votes.VoteItem.{VoteItem}
-use Rattle.group_deciding.specs.node_state.declared.group.GroupRow.{GroupRow}
-use Rattle.group_deciding.specs.node_state.declared.group.Led.{Led}
-use Rattle.group_deciding.specs.node_state.declared.state.Core.{Core}
-use Rattle.group_deciding.specs.node_state.State.{AllAfter, InNameOrder, row_found, row_of, rows_with, with_row, with_led, led_of, state_of, leads, has_name}
-use Rattle.group_deciding.specs.node_state.HandOn.{Answering}
-use Rattle.group_deciding.specs.node_state.Leading.{with_waiting, with_tally, closes}
-use Rattle.group_deciding.specs.node_state.Following.{tally_failed, wait_gone, marked, gone_present, gone_of, take_gone}
-use Rattle.group_deciding.specs.node_groups.Keeps.{Keeps}
-use Rattle.group_deciding.proofs.node_state_laws.NameOrder.{after_less, none_after}
-use Rattle.group_deciding.proofs.node_groups_laws.TallyLaws.{changed_in, same_rows}
-use Rattle.group_deciding.proofs.node_groups_laws.KeepLaws.{keeps_itself, keeps_as, led_keeps}
-use Rattle.group_deciding.specs.entry_delivery.Received.{Handing}
-use Rattle.group_deciding.specs.entry_delivery.Doing.{Does}
-use Rattle.group_deciding.proofs.entry_delivery_laws.DoingLaws.{does_as, does_before}
-use Rattle.group_deciding.proofs.group_leading_laws.WorkLaws.{keeps_follows}
-use Rattle.group_deciding.proofs.group_leading_laws.RowLaws.{does_row, does_behind}
+use Rattle.rsct_packet.specs.Text.{name_lt}
+use Rattle.rsct_packet.specs.declared.ids.ProviderId.{ProviderId}
+use Rattle.rsct_packet.specs.Providers.{same_provider, among, without}
+use Rattle.proposal_core.specs.declared.proposal.Cause.TheVariants.{Gone}
+use Rattle.proposal_core.specs.Fold.{present}
+use Rattle.vote_phases.specs.Tally.{TallyView, tally_fail}
+use Rattle.batch_rules.specs.Waiting.{WaitingView, add_failure, drop_join}
+use Rattle.client_callbacks.specs.declared.votes.VoteItem.{VoteItem}
+use Rattle.node_state.specs.declared.group.GroupRow.{GroupRow}
+use Rattle.node_state.specs.declared.group.Led.{Led}
+use Rattle.node_state.specs.declared.state.Core.{Core}
+use Rattle.node_state.specs.State.{AllAfter, InNameOrder, row_found, row_of, rows_with, with_row, with_led, led_of, state_of, leads, has_name}
+use Rattle.node_state.specs.HandOn.{Answering}
+use Rattle.node_state.specs.Leading.{with_waiting, with_tally, closes}
+use Rattle.node_state.specs.Following.{tally_failed, wait_gone, marked, gone_present, gone_of, take_gone}
+use Rattle.node_groups.specs.Keeps.{Keeps}
+use Rattle.node_state.proofs.NameOrder.{after_less, none_after}
+use Rattle.node_groups.proofs.TallyLaws.{changed_in, same_rows}
+use Rattle.node_groups.proofs.KeepLaws.{keeps_itself, keeps_as, led_keeps}
+use Rattle.entry_delivery.specs.Received.{Handing}
+use Rattle.entry_delivery.specs.Doing.{Does}
+use Rattle.entry_delivery.proofs.DoingLaws.{does_as, does_before}
+use Rattle.group_leading.proofs.WorkLaws.{keeps_follows}
+use Rattle.group_leading.proofs.RowLaws.{does_row, does_behind}
 
 waiting_keeps : (s : Core) (g : List ℕ) (change : WaitingView → WaitingView) → Keeps s (with_waiting s g change)
 unfolding with_waiting

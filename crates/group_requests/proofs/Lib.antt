@@ -1,4 +1,3 @@
-pub mod Below
 pub mod AckLaws
 pub mod GoneLaws
 pub mod VoteLaws

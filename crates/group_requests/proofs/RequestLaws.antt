@@ -2,24 +2,24 @@
 use Rattle.std.proofs.Common.{◌≡◌, ℕ, ◌<◌, ◌≤◌, ◌==◌, Bool, true, false, List, Option, Some, None, refl, sym, ap, ◌∙◌}
 use Rattle.std.specs.Prelude.{nat_lt}
 use Rattle.std.proofs.lemmas.Bool.{lt-ltb, le-ltb, eq-eqb, ne_eqb}
-use Rattle.group_deciding.specs.rsct_packet.declared.ids.ProviderId.{ProviderId}
-use Rattle.group_deciding.specs.group_attr.declared.attrs.Phases.{Phases}
-use Rattle.group_deciding.specs.proposal_core.declared.proposal.Proposal.{Proposal}
-use Rattle.group_members.specs.client_callbacks.declared.told.Why.{Why}
-use Rattle.group_members.specs.client_callbacks.declared.votes.VoteItem.{VoteItem}
-use Rattle.group_deciding.specs.node_state.declared.group.Decision.{Decision}
-use Rattle.group_deciding.specs.node_state.declared.packet.Body.TheVariants as body
-use Rattle.group_deciding.specs.node_state.declared.state.Core.{Core}
-use Rattle.group_deciding.specs.node_state.State.{led_of, set_leader, decision_of}
-use Rattle.group_deciding.specs.node_state.Sending.{sent}
-use Rattle.group_deciding.specs.node_state.HandOn.{Answering}
-use Rattle.group_deciding.specs.node_state.Deciding.{decided}
-use Rattle.group_deciding.specs.node_state.Following.{tell_again, decide_new, request_after, request_at, is_group_refused, take_request}
-use Rattle.group_deciding.specs.node_groups.Keeps.{Keeps}
-use Rattle.group_deciding.proofs.node_groups_laws.KeepLaws.{keeps_itself, sent_keeps}
-use Rattle.group_deciding.specs.entry_delivery.Received.{Handing}
-use Rattle.group_deciding.specs.entry_delivery.Doing.{Does}
-use Rattle.group_deciding.proofs.group_leading_laws.RowLaws.{leader_keeps, does_behind}
+use Rattle.rsct_packet.specs.declared.ids.ProviderId.{ProviderId}
+use Rattle.group_attr.specs.declared.attrs.Phases.{Phases}
+use Rattle.proposal_core.specs.declared.proposal.Proposal.{Proposal}
+use Rattle.client_callbacks.specs.declared.told.Why.{Why}
+use Rattle.client_callbacks.specs.declared.votes.VoteItem.{VoteItem}
+use Rattle.node_state.specs.declared.group.Decision.{Decision}
+use Rattle.node_state.specs.declared.packet.Body.TheVariants as body
+use Rattle.node_state.specs.declared.state.Core.{Core}
+use Rattle.node_state.specs.State.{led_of, set_leader, decision_of}
+use Rattle.node_state.specs.Sending.{sent}
+use Rattle.node_state.specs.HandOn.{Answering}
+use Rattle.node_state.specs.Deciding.{decided}
+use Rattle.node_state.specs.Following.{tell_again, decide_new, request_after, request_at, is_group_refused, take_request}
+use Rattle.node_groups.specs.Keeps.{Keeps}
+use Rattle.node_groups.proofs.KeepLaws.{keeps_itself, sent_keeps}
+use Rattle.entry_delivery.specs.Received.{Handing}
+use Rattle.entry_delivery.specs.Doing.{Does}
+use Rattle.group_leading.proofs.RowLaws.{leader_keeps, does_behind}
 
 pub again_keeps : (s : Core) (g : List ℕ) (p : ProviderId) (r : ℕ) (why : Option Why) → Keeps s (tell_again s g p r why)
 unfolding tell_again

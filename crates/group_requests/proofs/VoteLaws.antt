@@ -1,20 +1,20 @@
 -- What a vote does.
 use Rattle.std.proofs.Common.{◌≡◌, ℕ, ◌&&◌, true, false, List, Option, refl}
-use Rattle.group_deciding.specs.rsct_packet.declared.ids.ProviderId.{ProviderId}
-use Rattle.group_deciding.specs.rsct_packet.declared.ids.ProtoId.{ProtoId}
-use Rattle.group_deciding.specs.proposal_core.declared.entry.Vote.{Vote}
-use Rattle.group_deciding.specs.proposal_core.Fold.{runs}
-use Rattle.group_members.specs.client_callbacks.declared.votes.VoteItem.{VoteItem}
-use Rattle.group_deciding.specs.node_state.declared.state.Core.{Core}
-use Rattle.group_deciding.specs.node_state.State.{leads, state_of, with_led}
-use Rattle.group_deciding.specs.node_state.HandOn.{Answering}
-use Rattle.group_deciding.specs.node_state.Leading.{closes}
-use Rattle.group_deciding.specs.node_state.Following.{vote_cast, take_vote}
-use Rattle.group_deciding.proofs.node_groups_laws.KeepLaws.{led_keeps}
-use Rattle.group_deciding.specs.entry_delivery.Received.{Handing}
-use Rattle.group_deciding.specs.entry_delivery.Doing.{Does}
-use Rattle.group_deciding.proofs.entry_delivery_laws.DoingLaws.{does_as}
-use Rattle.group_deciding.proofs.group_leading_laws.RowLaws.{does_behind}
+use Rattle.rsct_packet.specs.declared.ids.ProviderId.{ProviderId}
+use Rattle.rsct_packet.specs.declared.ids.ProtoId.{ProtoId}
+use Rattle.proposal_core.specs.declared.entry.Vote.{Vote}
+use Rattle.proposal_core.specs.Fold.{runs}
+use Rattle.client_callbacks.specs.declared.votes.VoteItem.{VoteItem}
+use Rattle.node_state.specs.declared.state.Core.{Core}
+use Rattle.node_state.specs.State.{leads, state_of, with_led}
+use Rattle.node_state.specs.HandOn.{Answering}
+use Rattle.node_state.specs.Leading.{closes}
+use Rattle.node_state.specs.Following.{vote_cast, take_vote}
+use Rattle.node_groups.proofs.KeepLaws.{led_keeps}
+use Rattle.entry_delivery.specs.Received.{Handing}
+use Rattle.entry_delivery.specs.Doing.{Does}
+use Rattle.entry_delivery.proofs.DoingLaws.{does_as}
+use Rattle.group_leading.proofs.RowLaws.{does_behind}
 
 pub vote_unused : (f : Answering) (s : Core) (g : List ℕ) (proto : ProtoId) (phase : ℕ) (p : ProviderId) (v : Vote) (value message : Option (List ℕ)) → (leads s g && runs proto phase (state_of s g).running) ≡ false
     → s ≡ take_vote f s g proto phase p v value message

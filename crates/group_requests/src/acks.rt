@@ -1,15 +1,15 @@
 //! The lengths of a list that its members acknowledge.
 ghost use Rattle.std.specs.Prelude.{◌≡◌, OnOk};
-ghost use Rattle.group_deciding.specs.node_groups.Keeps.{Keeps};
-ghost use Rattle.group_deciding.specs.node_state.Following.{acked, take_ack};
+ghost use Rattle.node_groups.specs.Keeps.{Keeps};
+ghost use Rattle.node_state.specs.Following.{acked, take_ack};
 
-use group_deciding::node_groups::{forget_least, leads, len_of, note_acked};
-use group_deciding::node_state::Core;
-use group_deciding::rsct_packet::{Name, NoMemory};
+use node_groups::{forget_least, leads, len_of, note_acked};
+use node_state::Core;
+use rsct_packet::{Name, NoMemory};
 use std::alloc::Global;
 
 /// A member has acknowledged a length; what all members have is forgotten.
-#[tactic(auto, unfolding(crate::proofs::Below::acked))]
+#[tactic(auto, unfolding(node_state::specs::Following::acked))]
 fn note(core: &mut Core, alloc: Global, from: u8, group: &Name, len: u32) -> Result<(), NoMemory>
     ensures { OnOk result (core.new ≡ acked core.old from group.now len) }
 {
@@ -18,7 +18,7 @@ fn note(core: &mut Core, alloc: Global, from: u8, group: &Name, len: u32) -> Res
 }
 
 /// ACK: a length, up to that of a list that the node leads, is acknowledged.
-#[tactic(auto, unfolding(crate::proofs::Below::take_ack))]
+#[tactic(auto, unfolding(node_state::specs::Following::take_ack))]
 pub fn take_ack(
     core: &mut Core,
     alloc: Global,

@@ -1,23 +1,23 @@
 //! Providers that are gone.
 ghost use Rattle.std.specs.Prelude.{◌≡◌, OnOk, false};
-ghost use Rattle.group_deciding.specs.session_clients.Clients.{KeepsScripts};
-ghost use Rattle.group_deciding.specs.rsct_packet.Providers.{among};
-ghost use Rattle.group_deciding.specs.proposal_core.Fold.{joiners_in, present};
-ghost use Rattle.group_deciding.specs.entry_delivery.Doing.{RowDoes};
-ghost use Rattle.group_deciding.specs.node_groups.Keeps.{Keeps};
-ghost use Rattle.group_deciding.specs.group_leading.Working.{AtWork};
-ghost use Rattle.group_deciding.specs.node_state.State.{InNameOrder, led_of, state_of};
-ghost use Rattle.group_deciding.specs.node_state.HandOn.{Answering};
-ghost use Rattle.group_deciding.specs.node_state.Following.{tally_failed, wait_gone, gone_of, gone_present, take_gone};
+ghost use Rattle.session_clients.specs.Clients.{KeepsScripts};
+ghost use Rattle.rsct_packet.specs.Providers.{among};
+ghost use Rattle.proposal_core.specs.Fold.{joiners_in, present};
+ghost use Rattle.entry_delivery.specs.Doing.{RowDoes};
+ghost use Rattle.node_groups.specs.Keeps.{Keeps};
+ghost use Rattle.group_leading.specs.Working.{AtWork};
+ghost use Rattle.node_state.specs.State.{InNameOrder, led_of, state_of};
+ghost use Rattle.node_state.specs.HandOn.{Answering};
+ghost use Rattle.node_state.specs.Following.{tally_failed, wait_gone, gone_of, gone_present, take_gone};
 
-use group_deciding::group_leading::close;
-use group_deciding::node_groups::{
+use client_callbacks::Callbacks;
+use group_leading::close;
+use node_groups::{
     drop_join, fail_voter, held_state, leads, mark_gone, row_of, tally_of, wait_failure,
 };
-use group_deciding::node_state::Core;
-use group_deciding::proposal_core::{Cause, Proposal, Running};
-use group_deciding::rsct_packet::{Name, NoMemory, ProviderId, is_among};
-use group_members::client_callbacks::Callbacks;
+use node_state::Core;
+use proposal_core::{Cause, Proposal, Running};
+use rsct_packet::{Name, NoMemory, ProviderId, is_among};
 use std::alloc::Global;
 
 /// Is the provider a member of the group?
@@ -44,7 +44,7 @@ fn joiners(running: &Option<Running>) -> &[ProviderId]
 }
 
 /// Is the provider a member of the group, or a running joiner?
-#[tactic(auto, using(crate::proofs::Below::among_both))]
+#[tactic(auto, using(proposal_core::proofs::FoldLaws::among_both))]
 fn is_present(core: &Core, group: &[u8], provider: ProviderId) -> bool
     ensures { result ≡ among (present (state_of core.now group.now)) provider }
 {
@@ -80,7 +80,7 @@ fn fail_vote<C: Callbacks>(
 }
 
 /// A member waits as a failure.
-#[tactic(auto, unfolding(crate::proofs::Below::wait_gone))]
+#[tactic(auto, unfolding(node_state::specs::Following::wait_gone))]
 fn wait_gone(
     core: &mut Core,
     alloc: Global,

@@ -9,7 +9,5 @@ mod votes;
 
 pub use acks::take_ack;
 pub use goodbyes::take_gone;
-pub use group_deciding;
-pub use group_members;
 pub use requests::take_request;
 pub use votes::take_vote;

@@ -1,26 +1,26 @@
 //! Requests that come to the leader of a group.
 ghost use Rattle.std.specs.Prelude.{◌≡◌, OnOk};
-ghost use Rattle.group_deciding.specs.session_clients.Clients.{KeepsScripts};
-ghost use Rattle.group_deciding.specs.entry_delivery.Doing.{RowDoes};
-ghost use Rattle.group_deciding.specs.group_leading.Working.{AtWork};
-ghost use Rattle.group_deciding.specs.node_state.Following.{tell_again, decide_new, is_group_refused, take_request};
+ghost use Rattle.session_clients.specs.Clients.{KeepsScripts};
+ghost use Rattle.entry_delivery.specs.Doing.{RowDoes};
+ghost use Rattle.group_leading.specs.Working.{AtWork};
+ghost use Rattle.node_state.specs.Following.{tell_again, decide_new, is_group_refused, take_request};
 
-use group_deciding::group_attr::Phases;
-use group_deciding::node_groups::{decision_of, held_count, holds, set_leader};
-use group_deciding::node_state::Core;
-use group_deciding::proposal_core::Proposal;
-use group_deciding::rsct_packet::{Name, NoMemory, ProviderId};
+use client_callbacks::{Callbacks, Why};
+use group_attr::Phases;
 use group_deciding::{decide, tell};
-use group_members::client_callbacks::{Callbacks, Why};
-use group_members::node_sending::{is_fixed, send};
 use group_members::send_name;
+use node_groups::{decision_of, held_count, holds, set_leader};
+use node_sending::{is_fixed, send};
+use node_state::Core;
+use proposal_core::Proposal;
+use rsct_packet::{Name, NoMemory, ProviderId};
 use std::alloc::Global;
 
 /// How many groups a view has.
 const MAX_GROUPS: usize = 64;
 
 /// In mode fixed, is it a new group where as many lists are held as a view has groups?
-#[tactic(auto, unfolding(crate::proofs::Below::is_group_refused))]
+#[tactic(auto, unfolding(node_state::specs::Following::is_group_refused))]
 fn is_group_refused(core: &Core, group: &[u8]) -> bool
     ensures { result ≡ is_group_refused core.now group.now }
 {
@@ -28,7 +28,7 @@ fn is_group_refused(core: &Core, group: &[u8]) -> bool
 }
 
 /// Tells the node of a requester again why its request was refused, if it was.
-#[tactic(auto, unfolding(crate::proofs::Below::tell_again))]
+#[tactic(auto, unfolding(node_state::specs::Following::tell_again))]
 fn tell_again(
     core: &mut Core,
     alloc: Global,

@@ -1,18 +1,18 @@
 //! Ballots that come to the leader of a group.
 ghost use Rattle.std.specs.Prelude.{◌≡◌, ◌&&◌, IfOk, OnOk, option_copied};
-ghost use Rattle.group_deciding.specs.session_clients.Clients.{KeepsScripts};
-ghost use Rattle.group_deciding.specs.proposal_core.Fold.{runs};
-ghost use Rattle.group_deciding.specs.entry_delivery.Doing.{Does, RowDoes};
-ghost use Rattle.group_deciding.specs.group_leading.Working.{AtWork};
-ghost use Rattle.group_deciding.specs.node_state.State.{leads, state_of};
-ghost use Rattle.group_deciding.specs.node_state.Following.{take_vote};
+ghost use Rattle.session_clients.specs.Clients.{KeepsScripts};
+ghost use Rattle.proposal_core.specs.Fold.{runs};
+ghost use Rattle.entry_delivery.specs.Doing.{Does, RowDoes};
+ghost use Rattle.group_leading.specs.Working.{AtWork};
+ghost use Rattle.node_state.specs.State.{leads, state_of};
+ghost use Rattle.node_state.specs.Following.{take_vote};
 
-use group_deciding::group_leading::close;
-use group_deciding::node_groups::{cast_vote, is_running, leads};
-use group_deciding::node_state::Core;
-use group_deciding::proposal_core::Vote;
-use group_deciding::rsct_packet::{Name, NoMemory, ProtoId, ProviderId, Text};
-use group_members::client_callbacks::Callbacks;
+use client_callbacks::Callbacks;
+use group_leading::close;
+use node_groups::{cast_vote, is_running, leads};
+use node_state::Core;
+use proposal_core::Vote;
+use rsct_packet::{Name, NoMemory, ProtoId, ProviderId, Text};
 use std::alloc::Global;
 
 /// A copy of a text, or none.

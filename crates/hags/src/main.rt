@@ -2,7 +2,7 @@
 #![tactic(auto)]
 
 use hags_cli::hags;
-use hags_cli::hags_io::{StdSink, StdSource};
+use hags_io::{StdSink, StdSource};
 use std::process::ExitCode;
 use std::{env, io};
 

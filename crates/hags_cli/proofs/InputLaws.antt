@@ -1,7 +1,7 @@
 -- What the bytes taken so far say of the whole input.
 use Rattle.std.proofs.Common.{ℕ, ◌<◌, List, ◌++◌, length, Option, Some, None, ◌∙◌, ap, IfSome, append-nil}
 use Rattle.std.specs.Io.KnownBytes.{Consumes, IsAtEnd}
-use Rattle.script_reader.specs.world_model.Reading.{input_limit, script_of}
+use Rattle.world_model.specs.Reading.{input_limit, script_of}
 use Rattle.hags_cli.specs.Run.{ReadsAs}
 use Rattle.hags_cli.proofs.LongInputs.{long_reads}
 

@@ -1,13 +1,13 @@
 -- What stands behind the byte past the limit of an input changes nothing: the line that has that byte is bad.
 use Rattle.std.proofs.Common.{◌≡◌, ℕ, ◌+◌, ◌<◌, ◌≤◌, ◌==◌, nat_lt, Bool, true, false, List, [], ◌∷◌, ◌++◌, length, refl, sym, ◌∙◌, ap, arith, append_assoc, append-nil, length-append}
 use Rattle.std.proofs.lemmas.Bool.Decides.{nat_tests}
-use Rattle.script_reader.specs.rsct_packet.Lists.{is_empty}
-use Rattle.script_reader.specs.world_model.declared.script.LineWhy.{LineWhy}
-use Rattle.script_reader.specs.world_model.declared.script.LineWhy.TheVariants.{Long}
-use Rattle.script_reader.specs.world_model.declared.script.Script.{Script}
-use Rattle.script_reader.specs.world_model.Words.{split_on, push_head}
-use Rattle.script_reader.specs.world_model.Reading.{Reading, Read, Good, Bad, ScriptRead, IsScript, IsNone, read_line, nothing_read, input_limit, read_from, script_of}
-use Rattle.script_reader.proofs.script_words_laws.SplitLaws.{some_piece}
+use Rattle.rsct_packet.specs.Lists.{is_empty}
+use Rattle.world_model.specs.declared.script.LineWhy.{LineWhy}
+use Rattle.world_model.specs.declared.script.LineWhy.TheVariants.{Long}
+use Rattle.world_model.specs.declared.script.Script.{Script}
+use Rattle.world_model.specs.Words.{split_on, push_head}
+use Rattle.world_model.specs.Reading.{Reading, Read, Good, Bad, ScriptRead, IsScript, IsNone, read_line, nothing_read, input_limit, read_from, script_of}
+use Rattle.script_words.proofs.SplitLaws.{some_piece}
 use Rattle.script_reader.specs.declared.faults.LineFault.TheVariants as line_fault
 use Rattle.script_reader.proofs.ScriptLaws.{line_long, line_taken, line_fails, last_long}
 

@@ -2,16 +2,16 @@
 use Rattle.std.proofs.Common.{◌≡◌, ℕ, zero, suc, Bool, true, false, ◌≤◌, List, [], ◌++◌, length, Option, Some, None, IfSome, refl, sym, ◌∙◌, subst, inl, inr, arith, ◌⊎◌}
 use Rattle.std.specs.Prelude.{codes, decimal}
 use Rattle.std.specs.Io.KnownBytes.{Appends, Keeps, IsAtEnd}
-use Rattle.net_script.specs.hags_io.Edges.{GrowsByFront}
-use Rattle.script_reader.specs.node_state.declared.happened.Happened.{Happened}
-use Rattle.script_reader.specs.world_model.declared.script.LineWhy.{LineWhy}
-use Rattle.script_reader.specs.world_model.declared.script.Script.{Script}
-use Rattle.script_reader.specs.world_model.Reading.{IsScript, IsNone, input_limit, script_of}
-use Rattle.script_reader.specs.world_model.Play.{script_records, lines_text, why_text, written}
-use Rattle.script_reader.specs.world_model.Kept.{kept_past, kept_records, most_kept}
-use Rattle.net_script.specs.transcript.declared.kinds.Kinds.{Kinds}
-use Rattle.net_script.specs.transcript.Kinds.{all_kinds, kinds_text}
-use Rattle.net_script.proofs.transcript_laws.KindLaws.{all_lines}
+use Rattle.hags_io.specs.Edges.{GrowsByFront}
+use Rattle.node_state.specs.declared.happened.Happened.{Happened}
+use Rattle.world_model.specs.declared.script.LineWhy.{LineWhy}
+use Rattle.world_model.specs.declared.script.Script.{Script}
+use Rattle.world_model.specs.Reading.{IsScript, IsNone, input_limit, script_of}
+use Rattle.world_model.specs.Play.{script_records, lines_text, why_text, written}
+use Rattle.world_model.specs.Kept.{kept_past, kept_records, most_kept}
+use Rattle.transcript.specs.declared.kinds.Kinds.{Kinds}
+use Rattle.transcript.specs.Kinds.{all_kinds, kinds_text}
+use Rattle.transcript.proofs.KindLaws.{all_lines}
 use Rattle.net_script.specs.PlaySafe.{ScriptIsSafe, KeptRunIsSafe, MayPlay}
 use Rattle.net_script.proofs.PlaySafeLaws.{scripts_may_play}
 use Rattle.hags_cli.specs.declared.run_command.Ending.{Ending}

@@ -1,2 +1,1 @@
 pub mod Run
-pub use Rattle.script_reader.specs.client_callbacks as client_callbacks

@@ -2,12 +2,12 @@
 use Rattle.std.specs.Prelude.{◌≡◌, ℕ, Bool, false, ◌==◌, ◌&&◌, List, [], ◌∷◌, length, codes, Option, Some, None, ◌⊎◌, slice_get, IfSome, ◌++◌, if◌then◌else◌}
 use Rattle.std.specs.Str.{bytes_eq}
 use Rattle.std.specs.Io.KnownBytes.{Appends, Keeps}
-use Rattle.net_script.specs.hags_io.Edges.{GrowsByFront}
-use Rattle.script_reader.specs.world_model.declared.script.LineWhy.{LineWhy}
-use Rattle.script_reader.specs.world_model.declared.script.Script.{Script}
-use Rattle.script_reader.specs.world_model.Reading.{IsScript, IsNone, script_of}
-use Rattle.script_reader.specs.world_model.Play.{script_records, lines_text, written}
-use Rattle.script_reader.specs.world_model.Kept.{kept_past, kept_records, most_kept}
+use Rattle.hags_io.specs.Edges.{GrowsByFront}
+use Rattle.world_model.specs.declared.script.LineWhy.{LineWhy}
+use Rattle.world_model.specs.declared.script.Script.{Script}
+use Rattle.world_model.specs.Reading.{IsScript, IsNone, script_of}
+use Rattle.world_model.specs.Play.{script_records, lines_text, written}
+use Rattle.world_model.specs.Kept.{kept_past, kept_records, most_kept}
 use Rattle.net_script.specs.PlaySafe.{ScriptIsSafe, KeptRunIsSafe}
 use Rattle.hags_cli.specs.declared.run_command.Ending.{Ending}
 use Rattle.hags_cli.specs.declared.run_command.Ending.TheVariants as ending

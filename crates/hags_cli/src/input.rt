@@ -1,11 +1,11 @@
 //! The whole of an input.
 ghost use Rattle.std.specs.Prelude.{◌≡◌, ◌≤◌, length, IfOk, IfSome};
 ghost use Rattle.std.specs.Io.KnownBytes.{IsAtEnd};
-ghost use Rattle.net_script.specs.hags_io.Edges.{Rose};
+ghost use Rattle.hags_io.specs.Edges.{Rose};
 ghost use Rattle.hags_cli.specs.Run.{ReadsAs};
 ghost use Rattle.hags_cli.specs.declared.input.InputFault.TheVariants as input_fault;
 
-use net_script::hags_io::{Source, Taken};
+use hags_io::{Source, Taken};
 use script_reader::INPUT_LIMIT;
 use std::alloc::{AllocError, Global};
 

@@ -1,18 +1,18 @@
 //! The command `run`.
 ghost use Rattle.std.specs.Prelude.{◌≡◌, ◌≢◌, IfSome};
 ghost use Rattle.std.specs.Io.KnownBytes.{IsAtEnd, Keeps};
-ghost use Rattle.net_script.specs.hags_io.Edges.{Rose};
-ghost use Rattle.script_reader.specs.world_model.Reading.{script_of, IsNone};
+ghost use Rattle.hags_io.specs.Edges.{Rose};
+ghost use Rattle.world_model.specs.Reading.{script_of, IsNone};
 ghost use Rattle.hags_cli.specs.Run.{PlaysAll, PlaysPast, PlaysFront, MayHavePlayed, OnBadLine};
 
 use crate::input::{InputFault, read_input};
-use net_script::hags_io::{Sink, Source};
+use hags_io::{Sink, Source};
 use net_script::play;
-use net_script::play_state::PlayFault;
-use net_script::transcript::Kinds;
-use script_reader::world_model::LineWhy;
+use play_state::PlayFault;
 use script_reader::{ScriptFault, read_script};
 use std::alloc::Global;
+use transcript::Kinds;
+use world_model::LineWhy;
 
 /// How many bytes the packets of one run may have.
 pub const MOST_KEPT: u64 = 536_870_912;

@@ -1,13 +1,13 @@
 //! The call at the top, and its status.
 ghost use Rattle.std.specs.Prelude.{◌≡◌, ◌≢◌, ◌⊎◌, ◌≤◌, ◌==◌, map, IfSome, false, true, ◌↔◌, string_bytes};
 ghost use Rattle.std.specs.Io.KnownBytes.{IsAtEnd, Keeps};
-ghost use Rattle.net_script.specs.hags_io.Edges.{Rose, GrowsByFront};
+ghost use Rattle.hags_io.specs.Edges.{Rose, GrowsByFront};
 ghost use Rattle.hags_cli.specs.Run.{PlaysAll, PlaysPast, PlaysFront, IsOutside, SaysLine, SpellsScript, MayHavePlayed, status_of, said_of, ending_text, is_run};
 
 use crate::run_command::{Ending, run};
-use net_script::hags_io::{Put, Sink, Source};
-use net_script::transcript::fault_line;
+use hags_io::{Put, Sink, Source};
 use std::alloc::Global;
+use transcript::fault_line;
 
 const USAGE: &[u8] =
     b"hags: usage: hags run [--kinds LIST] / load N / daemon --node N [--inc I] [--turns T] / status WHAT --node N [--turns T]\n";

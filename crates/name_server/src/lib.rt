@@ -6,4 +6,3 @@ mod names;
 
 pub use asked::first_asker_stays;
 pub use names::{Leader, Leaders, MAX_NAMES, NameFault, Names};
-pub use rsct_packet;

@@ -3,16 +3,16 @@ use Rattle.std.proofs.Common.{◌≡◌, ℕ, List, [], ◌∷◌, ◌++◌, ◌
 use Rattle.std.specs.Prelude.{fold}
 use Rattle.std.proofs.lemmas.List.{append_assoc}
 use Rattle.std.proofs.lemmas.List.Sums.{fold-append}
-use Rattle.node_core.specs.rsct_packet.Lists.{reverse_onto}
-use Rattle.node_core.specs.rsct_packet.Mask.{nodes_of}
-use Rattle.node_core.specs.node_state.declared.config.Config.{Config}
-use Rattle.node_core.specs.node_state.declared.config.Mode.TheVariants.{Fixed, Asked, Rings}
-use Rattle.node_core.specs.node_state.declared.happened.Happened.{Happened}
-use Rattle.play_state.specs.world_model.Kept.{with_packet}
-use Rattle.play_state.specs.world_model.World.{empty_world, node_starts, world_of, world_new}
-use Rattle.play_state.specs.world_model.World as world
+use Rattle.rsct_packet.specs.Lists.{reverse_onto}
+use Rattle.rsct_packet.specs.Mask.{nodes_of}
+use Rattle.node_state.specs.declared.config.Config.{Config}
+use Rattle.node_state.specs.declared.config.Mode.TheVariants.{Fixed, Asked, Rings}
+use Rattle.node_state.specs.declared.happened.Happened.{Happened}
+use Rattle.world_model.specs.Kept.{with_packet}
+use Rattle.world_model.specs.World.{empty_world, node_starts, world_of, world_new}
+use Rattle.world_model.specs.World as world
 use Rattle.net_script.specs.declared.world.World.{World}
-use Rattle.world_safety.specs.world_laws.world_answers.Answers.{Items}
+use Rattle.world_laws.specs.world_answers.Answers.{Items}
 use Rattle.net_script.specs.Standing.{Stands, Goes, kept_empty}
 use Rattle.play_state.specs.Posting.{bytes_after}
 use Rattle.net_script.proofs.WorldLaws.{goes_nowhere}

@@ -5,38 +5,38 @@ use Rattle.std.specs.List.{list_any}
 use Rattle.std.specs.Option.{ForSome, unwrap_or}
 use Rattle.std.proofs.lemmas.Bool.{or_parts, eqb-false, eq-eqb}
 use Rattle.std.proofs.lemmas.List.{map-append}
-use Rattle.node_core.specs.client_callbacks.declared.votes.VoteItem.{VoteItem}
-use Rattle.node_core.specs.client_callbacks.Votes.{votes_word, votes_end, votes_byte, vote_item, with_item, is_word}
-use Rattle.node_core.specs.session_clients.Notices.{FillTheirScripts}
-use Rattle.node_core.specs.rsct_packet.Search.{place_where}
-use Rattle.node_core.specs.session_state.declared.fault.GsFault.{GsFault}
-use Rattle.node_core.specs.session_state.declared.fault.GsFault.TheVariants.{NoInit}
-use Rattle.node_core.specs.session_state.declared.state.Provider.{Provider}
-use Rattle.node_core.specs.session_state.declared.state.Session.{Session}
-use Rattle.node_core.specs.session_state.declared.state.SessionState.{SessionState}
-use Rattle.node_core.specs.session_state.State.{is_session, client_token, client_place}
-use Rattle.node_core.specs.session_state.Calls.{unless_fault, client_fault, init_fault, add_session, inited, removed_at, end_session, goodbye_taken}
-use Rattle.node_core.specs.node_calls.Calling.{clients_with, is_within_session}
-use Rattle.node_core.proofs.node_calls_laws.CallLaws.{gone_keeps, refused_place}
-use Rattle.node_core.specs.node_state.declared.call.CallLine.{CallLine}
-use Rattle.node_core.specs.node_state.declared.call.CallLine.TheVariants as call
-use Rattle.node_core.specs.node_state.declared.happened.Happened.{Happened}
-use Rattle.node_core.specs.node_state.declared.happened.Happened.TheVariants as happened
-use Rattle.node_core.specs.node_state.declared.state.Core.{Core}
-use Rattle.node_core.specs.node_state.State.{frozen, recorded, with_sessions}
-use Rattle.node_core.specs.node_state.HandOn.{Answering}
-use Rattle.node_core.specs.node_state.Calls.{caller_of, refuse_call, changed, send_gone, send_all_gone, goodbye_said, take_call}
-use Rattle.node_core.specs.node_state.Step.{Calls, at_work, stepped}
-use Rattle.node_core.specs.entry_delivery.Received.{Handing}
-use Rattle.node_core.specs.entry_delivery.Doing.{Does}
-use Rattle.node_core.proofs.group_leading_laws.AnswerLaws.{does_some}
+use Rattle.client_callbacks.specs.declared.votes.VoteItem.{VoteItem}
+use Rattle.client_callbacks.specs.Votes.{votes_word, votes_end, votes_byte, vote_item, with_item, is_word}
+use Rattle.session_clients.specs.Notices.{FillTheirScripts}
+use Rattle.rsct_packet.specs.Search.{place_where}
+use Rattle.session_state.specs.declared.fault.GsFault.{GsFault}
+use Rattle.session_state.specs.declared.fault.GsFault.TheVariants.{NoInit}
+use Rattle.session_state.specs.declared.state.Provider.{Provider}
+use Rattle.session_state.specs.declared.state.Session.{Session}
+use Rattle.session_state.specs.declared.state.SessionState.{SessionState}
+use Rattle.session_state.specs.State.{is_session, client_token, client_place}
+use Rattle.session_state.specs.Calls.{unless_fault, client_fault, init_fault, add_session, inited, removed_at, end_session, goodbye_taken}
+use Rattle.node_calls.specs.Calling.{clients_with, is_within_session}
+use Rattle.node_calls.proofs.CallLaws.{gone_keeps, refused_place}
+use Rattle.node_state.specs.declared.call.CallLine.{CallLine}
+use Rattle.node_state.specs.declared.call.CallLine.TheVariants as call
+use Rattle.node_state.specs.declared.happened.Happened.{Happened}
+use Rattle.node_state.specs.declared.happened.Happened.TheVariants as happened
+use Rattle.node_state.specs.declared.state.Core.{Core}
+use Rattle.node_state.specs.State.{frozen, recorded, with_sessions}
+use Rattle.node_state.specs.HandOn.{Answering}
+use Rattle.node_state.specs.Calls.{caller_of, refuse_call, changed, send_gone, send_all_gone, goodbye_said, take_call}
+use Rattle.node_state.specs.Step.{Calls, at_work, stepped}
+use Rattle.entry_delivery.specs.Received.{Handing}
+use Rattle.entry_delivery.specs.Doing.{Does}
+use Rattle.group_leading.proofs.AnswerLaws.{does_some}
 use Rattle.node_core.specs.Node.{NodeView}
-use Rattle.play_state.specs.world_model.World.{Script, by_scripts, is_node, node_at, traced, after_step, steps, script_of, scripts_after, calls_if}
-use Rattle.play_state.specs.world_model.World as world
+use Rattle.world_model.specs.World.{Script, by_scripts, is_node, node_at, traced, after_step, steps, script_of, scripts_after, calls_if}
+use Rattle.world_model.specs.World as world
 use Rattle.net_script.specs.declared.steps.Left.{Left}
 use Rattle.net_script.specs.declared.world.World.{World}
-use Rattle.world_safety.specs.world_laws.world_answers.Answers.{step_by, calls_by_if}
-use Rattle.world_safety.specs.world_laws.world_answers.Answers.{Items, AllWorded}
+use Rattle.world_laws.specs.world_answers.Answers.{step_by, calls_by_if}
+use Rattle.world_laws.specs.world_answers.Answers.{Items, AllWorded}
 use Rattle.net_script.specs.Standing.{is_me, silent_or, votes_by, votes_in, NodesStand, Leaves, StepDone, StepsAs, StepsNode, StepsSome, StepsIn, with_scripts, CallDone, Goes, Passes, Comes, Settled}
 use Rattle.play_state.specs.Posting.{bytes_after}
 use Rattle.net_script.proofs.NodeLaws.{steps_by}

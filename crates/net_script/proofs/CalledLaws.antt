@@ -2,38 +2,38 @@
 use Rattle.std.proofs.Common.{◌≡◌, ℕ, Bool, true, false, List, [], ◌∷◌, Option, Some, None, Result, Ok, Err, IsTrue, refl, sym, ap, ◌∙◌}
 use Rattle.std.specs.Prelude.{find, fold, if◌then◌else◌}
 use Rattle.std.specs.List.{last_or}
-use Rattle.node_core.specs.group_attr.declared.attrs.Attrs.{Attrs}
-use Rattle.node_core.specs.group_attr.declared.attrs.Phases.{Phases}
-use Rattle.node_core.specs.proposal_core.declared.entry.Vote.{Vote}
-use Rattle.node_core.specs.proposal_core.declared.proposal.Proposal.{Proposal}
-use Rattle.node_core.specs.proposal_core.declared.proposal.Proposal.TheVariants.{Attributes}
-use Rattle.node_core.specs.client_callbacks.declared.ballot.Filled.{Filled}
-use Rattle.node_core.specs.session_state.declared.fault.Field.TheVariants as field
-use Rattle.node_core.specs.session_state.declared.fault.GsFault.{GsFault}
-use Rattle.node_core.specs.session_state.declared.fault.GsFault.TheVariants as fault
-use Rattle.node_core.specs.session_state.declared.state.KeptBallot.{KeptBallot}
-use Rattle.node_core.specs.session_state.declared.state.MemberToken.{MemberToken}
-use Rattle.node_core.specs.session_state.declared.state.OpenPhase.{OpenPhase}
-use Rattle.node_core.specs.session_state.declared.state.Provider.{Provider}
-use Rattle.node_core.specs.session_state.declared.state.Request.{Request}
-use Rattle.node_core.specs.session_state.declared.state.SessionState.{SessionState}
-use Rattle.node_core.specs.session_state.State.{is_member_of, client_token}
-use Rattle.node_core.specs.session_state.Calls.{is_empty, unless_fault, ask_fault, asked, member_asks, if_session, request_made, member_changes, attributes_changed, vote_in, member_votes, voted, joined, join_fault, join_asked, left, expelled, state_changed, message_sent, subscribe_taken, unsubscribe_taken}
-use Rattle.node_core.specs.node_state.declared.call.CallLine.{CallLine}
-use Rattle.node_core.specs.node_state.declared.call.CallLine.TheVariants as call
-use Rattle.node_core.specs.node_state.declared.happened.Happened.TheVariants as happened
-use Rattle.node_core.specs.node_state.declared.packet.Body.{Body}
-use Rattle.node_core.specs.node_state.declared.state.Core.{Core}
-use Rattle.node_core.specs.node_state.State.{frozen, leader_of, with_sessions, recorded}
-use Rattle.node_core.specs.node_state.Sending.{send_if_known, send_request_to, send_request, send_kept_to, send_kept}
-use Rattle.node_core.specs.node_state.Calls.{caller, refuse_call, changed, ask_last, proposed, record_ballot, ballot_sent_if, cast_last, give_ballot, send_gone, send_all_gone, goodbye_said, take_call}
-use Rattle.node_core.specs.node_state.Step.{NodeEvent, Ticks, Asks, Given, Calls, at_work}
-use Rattle.node_core.specs.node_state.Step as step
-use Rattle.node_core.specs.node_state.Handed.{handed_in, Along}
-use Rattle.node_core.proofs.node_state_laws.AlongLaws.{along_same, along_itself, along_then}
-use Rattle.node_core.specs.node_groups.Keeps.{Keeps}
-use Rattle.node_core.proofs.node_groups_laws.KeepLaws.{keeps_itself, record_keeps, sent_keeps}
-use Rattle.node_core.specs.node_calls.Calling.{is_within_session}
+use Rattle.group_attr.specs.declared.attrs.Attrs.{Attrs}
+use Rattle.group_attr.specs.declared.attrs.Phases.{Phases}
+use Rattle.proposal_core.specs.declared.entry.Vote.{Vote}
+use Rattle.proposal_core.specs.declared.proposal.Proposal.{Proposal}
+use Rattle.proposal_core.specs.declared.proposal.Proposal.TheVariants.{Attributes}
+use Rattle.client_callbacks.specs.declared.ballot.Filled.{Filled}
+use Rattle.session_state.specs.declared.fault.Field.TheVariants as field
+use Rattle.session_state.specs.declared.fault.GsFault.{GsFault}
+use Rattle.session_state.specs.declared.fault.GsFault.TheVariants as fault
+use Rattle.session_state.specs.declared.state.KeptBallot.{KeptBallot}
+use Rattle.session_state.specs.declared.state.MemberToken.{MemberToken}
+use Rattle.session_state.specs.declared.state.OpenPhase.{OpenPhase}
+use Rattle.session_state.specs.declared.state.Provider.{Provider}
+use Rattle.session_state.specs.declared.state.Request.{Request}
+use Rattle.session_state.specs.declared.state.SessionState.{SessionState}
+use Rattle.session_state.specs.State.{is_member_of, client_token}
+use Rattle.session_state.specs.Calls.{is_empty, unless_fault, ask_fault, asked, member_asks, if_session, request_made, member_changes, attributes_changed, vote_in, member_votes, voted, joined, join_fault, join_asked, left, expelled, state_changed, message_sent, subscribe_taken, unsubscribe_taken}
+use Rattle.node_state.specs.declared.call.CallLine.{CallLine}
+use Rattle.node_state.specs.declared.call.CallLine.TheVariants as call
+use Rattle.node_state.specs.declared.happened.Happened.TheVariants as happened
+use Rattle.node_state.specs.declared.packet.Body.{Body}
+use Rattle.node_state.specs.declared.state.Core.{Core}
+use Rattle.node_state.specs.State.{frozen, leader_of, with_sessions, recorded}
+use Rattle.node_state.specs.Sending.{send_if_known, send_request_to, send_request, send_kept_to, send_kept}
+use Rattle.node_state.specs.Calls.{caller, refuse_call, changed, ask_last, proposed, record_ballot, ballot_sent_if, cast_last, give_ballot, send_gone, send_all_gone, goodbye_said, take_call}
+use Rattle.node_state.specs.Step.{NodeEvent, Ticks, Asks, Given, Calls, at_work}
+use Rattle.node_state.specs.Step as step
+use Rattle.node_state.specs.Handed.{handed_in, Along}
+use Rattle.node_state.proofs.AlongLaws.{along_same, along_itself, along_then}
+use Rattle.node_groups.specs.Keeps.{Keeps}
+use Rattle.node_groups.proofs.KeepLaws.{keeps_itself, record_keeps, sent_keeps}
+use Rattle.node_calls.specs.Calling.{is_within_session}
 use Rattle.node_core.specs.Event.{called}
 
 -- the same sessions, nothing more is handed, and the states of groups are as the records tell

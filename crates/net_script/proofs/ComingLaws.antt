@@ -1,27 +1,27 @@
 -- Nodes that start, stop and are shown.
 use Rattle.std.proofs.Common.{◌≡◌, ℕ, ◌+◌, ◌==◌, true, false, List, [], ◌∷◌, ◌++◌, map, Option, Some, None, refl, sym, ap, ◌∙◌, subst}
 use Rattle.std.specs.Prelude.{find, is_some, flat_map}
-use Rattle.node_core.specs.rsct_packet.Ids.{last_u32}
-use Rattle.node_core.specs.rsct_packet.Lists.{drop_where}
-use Rattle.node_core.specs.rsct_packet.Search.{insert_before}
-use Rattle.node_core.specs.packet_bodies.declared.body.What.{What}
-use Rattle.node_core.specs.packet_bodies.declared.body.What.TheVariants.{Hats, Hagsns, Hagsgr, Hagsvote}
-use Rattle.node_core.specs.node_state.declared.config.Config.{Config}
-use Rattle.node_core.specs.proposal_core.declared.group_state.Running.{Running}
-use Rattle.node_core.specs.proposal_core.Lists.{state_in}
-use Rattle.node_core.specs.node_state.declared.group.GroupRow.{GroupRow}
-use Rattle.node_core.specs.node_state.declared.happened.Happened.{Happened}
-use Rattle.node_core.specs.node_state.declared.happened.Happened.TheVariants as happened
-use Rattle.node_core.specs.node_state.declared.state.Core.{Core}
-use Rattle.node_core.specs.node_state.State.{with_sessions, held_rows, frozen, leader_in, leads_in}
-use Rattle.node_core.specs.node_state.Applying.{level_set}
-use Rattle.node_core.specs.node_state.Status.{status_of, view_line, group_line, vote_line, vote_lines}
-use Rattle.node_core.specs.node_state.Step.{at_work, started}
+use Rattle.rsct_packet.specs.Ids.{last_u32}
+use Rattle.rsct_packet.specs.Lists.{drop_where}
+use Rattle.rsct_packet.specs.Search.{insert_before}
+use Rattle.packet_bodies.specs.declared.body.What.{What}
+use Rattle.packet_bodies.specs.declared.body.What.TheVariants.{Hats, Hagsns, Hagsgr, Hagsvote}
+use Rattle.node_state.specs.declared.config.Config.{Config}
+use Rattle.proposal_core.specs.declared.group_state.Running.{Running}
+use Rattle.proposal_core.specs.Lists.{state_in}
+use Rattle.node_state.specs.declared.group.GroupRow.{GroupRow}
+use Rattle.node_state.specs.declared.happened.Happened.{Happened}
+use Rattle.node_state.specs.declared.happened.Happened.TheVariants as happened
+use Rattle.node_state.specs.declared.state.Core.{Core}
+use Rattle.node_state.specs.State.{with_sessions, held_rows, frozen, leader_in, leads_in}
+use Rattle.node_state.specs.Applying.{level_set}
+use Rattle.node_state.specs.Status.{status_of, view_line, group_line, vote_line, vote_lines}
+use Rattle.node_state.specs.Step.{at_work, started}
 use Rattle.node_core.specs.Node.{NodeView}
-use Rattle.play_state.specs.world_model.World.{is_node, node_at, traced, inc_in, starts_with, started_at, starts_if, node_starts, stops_if, shows_if}
-use Rattle.play_state.specs.world_model.World as world
+use Rattle.world_model.specs.World.{is_node, node_at, traced, inc_in, starts_with, started_at, starts_if, node_starts, stops_if, shows_if}
+use Rattle.world_model.specs.World as world
 use Rattle.net_script.specs.declared.world.World.{World}
-use Rattle.world_safety.specs.world_laws.world_answers.Answers.{Items}
+use Rattle.world_laws.specs.world_answers.Answers.{Items}
 use Rattle.net_script.specs.Standing.{is_me, comes_before, NodeStands, NodesStand, Stands, Goes}
 use Rattle.play_state.specs.Starts.{is_start, started_in}
 use Rattle.net_script.proofs.NodeLaws.{StandsAt, node_before, same_me, stands_first, stands_inserted, stands_dropped, stands_found, stands_none}

@@ -1,19 +1,19 @@
 -- Before the first event no client is there.
 use Rattle.std.proofs.Common.{◌≡◌, ℕ, ◌+◌, ◌==◌, Bool, true, false, cond, List, [], ◌∷◌, ◌++◌, map, ◌⊎◌, inl, inr, Option, Some, None, refl, sym, ap, ◌∙◌, subst}
 use Rattle.std.specs.Prelude.{fold}
-use Rattle.node_core.specs.rsct_packet.Ids.{last_u32}
-use Rattle.node_core.specs.rsct_packet.Mask.{nodes_of}
-use Rattle.node_core.specs.rsct_packet.Search.{insert_before}
-use Rattle.node_core.specs.client_callbacks.Handed.{Handed}
-use Rattle.node_core.specs.node_state.declared.config.Config.{Config}
-use Rattle.node_core.specs.node_state.declared.config.Mode.TheVariants.{Fixed, Asked, Rings}
-use Rattle.node_core.specs.node_state.declared.happened.Happened.{Happened}
-use Rattle.node_core.specs.node_state.Step.{started}
-use Rattle.node_core.specs.node_state.Handed.{handed_in}
-use Rattle.play_state.specs.world_model.declared.event.Event.TheVariants as event
-use Rattle.play_state.specs.world_model.World.{node_at, traced, started_at, starts_if, node_starts, empty_world, world_of, world_new}
-use Rattle.play_state.specs.world_model.World as world
-use Rattle.world_safety.specs.world_laws.world_answers.Answers.{Items}
+use Rattle.rsct_packet.specs.Ids.{last_u32}
+use Rattle.rsct_packet.specs.Mask.{nodes_of}
+use Rattle.rsct_packet.specs.Search.{insert_before}
+use Rattle.client_callbacks.specs.Handed.{Handed}
+use Rattle.node_state.specs.declared.config.Config.{Config}
+use Rattle.node_state.specs.declared.config.Mode.TheVariants.{Fixed, Asked, Rings}
+use Rattle.node_state.specs.declared.happened.Happened.{Happened}
+use Rattle.node_state.specs.Step.{started}
+use Rattle.node_state.specs.Handed.{handed_in}
+use Rattle.world_model.specs.declared.event.Event.TheVariants as event
+use Rattle.world_model.specs.World.{node_at, traced, started_at, starts_if, node_starts, empty_world, world_of, world_new}
+use Rattle.world_model.specs.World as world
+use Rattle.world_laws.specs.world_answers.Answers.{Items}
 use Rattle.net_script.specs.declared.world.World.{World}
 use Rattle.net_script.specs.Standing.{Stands, Goes, kept_empty}
 use Rattle.net_script.specs.Hands.{ClientLogs, Logs, LogsStand, logs_begun, logs_started, last_start, empty_logs, Hears}

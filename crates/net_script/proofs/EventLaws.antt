@@ -3,22 +3,22 @@ use Rattle.std.proofs.Common.{◌≡◌, ℕ, List, [], ◌∷◌, ◌++◌, Opt
 use Rattle.std.specs.Io.KnownBytes.{Appends}
 use Rattle.std.proofs.KnownBytes.{Appends-nil}
 use Rattle.hags_io.specs.Edges.{GrowsByFront}
-use Rattle.node_core.specs.rsct_packet.Lists.{reverse_onto}
-use Rattle.node_core.specs.client_callbacks.Handed.{Handed}
-use Rattle.node_core.specs.node_state.declared.happened.Happened.{Happened}
-use Rattle.node_core.specs.node_state.declared.packet.Packet.{Packet}
-use Rattle.play_state.specs.world_model.declared.event.Event.{Event}
-use Rattle.play_state.specs.world_model.World.{World, happens}
-use Rattle.world_safety.specs.world_laws.world_runs.Runs.{SameRun, Recorded}
-use Rattle.world_safety.proofs.world_laws_laws.world_answers.Limits.{one_runs, one_ends, tells_of_runs}
-use Rattle.world_safety.proofs.world_laws_laws.world_answers.Waits.{same_goes}
-use Rattle.world_safety.proofs.world_laws_laws.world_answers.Adding.{event_adds}
-use Rattle.world_safety.proofs.world_laws_laws.world_answers.Going.{event_goes}
+use Rattle.rsct_packet.specs.Lists.{reverse_onto}
+use Rattle.client_callbacks.specs.Handed.{Handed}
+use Rattle.node_state.specs.declared.happened.Happened.{Happened}
+use Rattle.node_state.specs.declared.packet.Packet.{Packet}
+use Rattle.world_model.specs.declared.event.Event.{Event}
+use Rattle.world_model.specs.World.{World, happens}
+use Rattle.world_laws.specs.world_runs.Runs.{SameRun, Recorded}
+use Rattle.world_laws.proofs.world_answers.Limits.{one_runs, one_ends, tells_of_runs}
+use Rattle.world_laws.proofs.world_answers.Waits.{same_goes}
+use Rattle.world_laws.proofs.world_answers.Adding.{event_adds}
+use Rattle.world_laws.proofs.world_answers.Going.{event_goes}
 use Rattle.play_state.specs.declared.world_fault.WorldFault.{WorldFault}
 use Rattle.play_state.specs.declared.world_fault.WorldFault.TheVariants as world_fault
-use Rattle.node_core.specs.node_state.HandOn.{Answering}
-use Rattle.world_safety.specs.world_laws.world_answers.Answers.{Items, Answered, happens_by, goes_on}
-use Rattle.world_safety.specs.world_laws.world_answers.Plays.{AnsweredPlay, with_answers, PlaysEvent}
+use Rattle.node_state.specs.HandOn.{Answering}
+use Rattle.world_laws.specs.world_answers.Answers.{Items, Answered, happens_by, goes_on}
+use Rattle.world_laws.specs.world_answers.Plays.{AnsweredPlay, with_answers, PlaysEvent}
 use Rattle.net_script.specs.declared.world.World as kept
 use Rattle.net_script.specs.Standing.{Holds, Goes, Passes, Comes}
 use Rattle.net_script.specs.Hands.{Hears}

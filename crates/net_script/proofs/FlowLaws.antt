@@ -2,17 +2,17 @@
 use Rattle.std.proofs.Common.{◌≡◌, ℕ, suc, ◌+◌, ◌-◌, ◌<◌, ◌≤◌, ◌&&◌, not, Bool, true, false, List, [], ◌∷◌, map, drop, Option, Some, None, Result, Ok, Err, refl, sym, ◌∙◌, ap, subst, arith}
 use Rattle.std.specs.Prelude.{find, is_some}
 use Rattle.std.specs.List.{list_any}
-use Rattle.node_core.specs.client_callbacks.Handed.{Handed}
-use Rattle.play_state.specs.world_model.declared.event.Event.TheVariants as event
-use Rattle.play_state.specs.world_model.World.{World, Sent, node_at, is_node}
-use Rattle.play_state.specs.world_model.Play.{is_cut_of, is_cut}
-use Rattle.play_state.specs.world_packets.declared.waiting.Waiting.{Waiting}
-use Rattle.play_state.specs.world_packets.Packets.{waits_as, first_of}
-use Rattle.world_safety.specs.world_laws.world_answers.Answers.{Items}
-use Rattle.world_safety.specs.world_laws.world_answers.Plays.{AnsweredPlay, in_that_world, PlaysEvent, TakesPacket, PlaysFlow}
-use Rattle.world_safety.proofs.world_laws_laws.world_answers.Adding.{flow_adds}
-use Rattle.world_safety.proofs.world_laws_laws.world_answers.Going.{flow_goes, flow_none}
-use Rattle.world_safety.proofs.world_laws_laws.world_answers.Going as going
+use Rattle.client_callbacks.specs.Handed.{Handed}
+use Rattle.world_model.specs.declared.event.Event.TheVariants as event
+use Rattle.world_model.specs.World.{World, Sent, node_at, is_node}
+use Rattle.world_model.specs.Play.{is_cut_of, is_cut}
+use Rattle.world_packets.specs.declared.waiting.Waiting.{Waiting}
+use Rattle.world_packets.specs.Packets.{waits_as, first_of}
+use Rattle.world_laws.specs.world_answers.Answers.{Items}
+use Rattle.world_laws.specs.world_answers.Plays.{AnsweredPlay, in_that_world, PlaysEvent, TakesPacket, PlaysFlow}
+use Rattle.world_laws.proofs.world_answers.Adding.{flow_adds}
+use Rattle.world_laws.proofs.world_answers.Going.{flow_goes, flow_none}
+use Rattle.world_laws.proofs.world_answers.Going as going
 use Rattle.net_script.specs.Standing.{is_me}
 use Rattle.net_script.proofs.NodeLaws.{stands_found}
 use Rattle.transcript.specs.declared.kinds.Kinds.{Kinds}

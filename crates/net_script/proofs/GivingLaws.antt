@@ -1,23 +1,23 @@
 -- Packets that are given to nodes.
 use Rattle.std.proofs.Common.{◌≡◌, ℕ, ◌&&◌, Bool, true, false, List, [], ◌∷◌, map, Option, Some, None, refl, sym, ap, ◌∙◌, subst}
 use Rattle.std.specs.Prelude.{find, is_some}
-use Rattle.node_core.specs.rsct_packet.Lists.{drop_where}
-use Rattle.node_core.specs.rsct_packet.Packet.{packet_at, front_at}
-use Rattle.node_core.specs.node_state.declared.happened.Happened.{Happened}
-use Rattle.node_core.specs.node_state.declared.packet.Packet.{Packet}
-use Rattle.node_core.specs.node_state.Bytes.{packet_of, event_in, event_of}
-use Rattle.node_core.specs.node_state.declared.state.Core.{Core}
-use Rattle.node_core.specs.node_state.HandOn.{Answering}
-use Rattle.node_core.specs.node_state.Step.{NodeEvent, Given, Garbage, stepped}
+use Rattle.rsct_packet.specs.Lists.{drop_where}
+use Rattle.rsct_packet.specs.Packet.{packet_at, front_at}
+use Rattle.node_state.specs.declared.happened.Happened.{Happened}
+use Rattle.node_state.specs.declared.packet.Packet.{Packet}
+use Rattle.node_state.specs.Bytes.{packet_of, event_in, event_of}
+use Rattle.node_state.specs.declared.state.Core.{Core}
+use Rattle.node_state.specs.HandOn.{Answering}
+use Rattle.node_state.specs.Step.{NodeEvent, Given, Garbage, stepped}
 use Rattle.node_core.specs.Node.{NodeView}
-use Rattle.play_state.specs.world_model.World.{by_scripts, is_node, node_at, is_pair, kth_in, kth_between, is_sent, handled, after_step, steps, delivers_if, delivers}
-use Rattle.play_state.specs.world_model.World as world
-use Rattle.play_state.specs.world_packets.declared.waiting.Waiting.{Waiting}
-use Rattle.play_state.specs.world_packets.Packets.{world_pairs, find_pair, waits_as, is_waiting}
+use Rattle.world_model.specs.World.{by_scripts, is_node, node_at, is_pair, kth_in, kth_between, is_sent, handled, after_step, steps, delivers_if, delivers}
+use Rattle.world_model.specs.World as world
+use Rattle.world_packets.specs.declared.waiting.Waiting.{Waiting}
+use Rattle.world_packets.specs.Packets.{world_pairs, find_pair, waits_as, is_waiting}
 use Rattle.net_script.specs.declared.steps.Left.{Left}
 use Rattle.net_script.specs.declared.world.World.{World}
-use Rattle.world_safety.specs.world_laws.world_answers.Answers.{step_by, delivers_by_if}
-use Rattle.world_safety.specs.world_laws.world_answers.Answers.{Items, AllWorded}
+use Rattle.world_laws.specs.world_answers.Answers.{step_by, delivers_by_if}
+use Rattle.world_laws.specs.world_answers.Answers.{Items, AllWorded}
 use Rattle.net_script.specs.Standing.{is_me, NodesStand, Stands, Holds, StepsNode, StepsSome, Goes, Passes, Comes, Settled}
 use Rattle.play_state.specs.Posting.{bytes_after}
 use Rattle.net_script.proofs.NodeLaws.{stands_found}

@@ -1,26 +1,26 @@
 -- What a step of a node hands to its clients.
 use Rattle.std.proofs.Common.{◌≡◌, ℕ, zero, suc, List, [], ◌∷◌, ◌++◌, Option, Some, None, Result, Ok, Err, IsTrue, refl, sym, ap, ◌∙◌, subst}
 use Rattle.std.specs.Prelude.{remove}
-use Rattle.node_core.specs.client_callbacks.Handed.{Handed}
-use Rattle.node_core.specs.client_callbacks.declared.votes.VoteItem.{VoteItem}
-use Rattle.node_core.specs.session_clients.Clients.{StandFor}
-use Rattle.node_core.specs.session_state.declared.fault.GsFault.{GsFault}
-use Rattle.node_core.specs.session_state.declared.state.SessionState.{SessionState}
-use Rattle.node_core.specs.session_state.Calls.{removed_at}
-use Rattle.node_core.specs.node_calls.Calling.{clients_with}
-use Rattle.node_core.specs.node_state.declared.call.CallLine.TheVariants as call
-use Rattle.node_core.specs.node_state.declared.happened.Happened.{Happened}
-use Rattle.node_core.specs.node_state.declared.packet.Packet.{Packet}
-use Rattle.node_core.specs.node_state.declared.state.Core.{Core}
-use Rattle.node_core.specs.node_state.Bytes.{packet_of, event_in, event_of}
-use Rattle.node_core.specs.node_state.HandOn.{Answering}
-use Rattle.node_core.specs.node_state.Step.{NodeEvent, Calls, at_work}
-use Rattle.node_core.specs.node_state.State.{InNameOrder, state_of}
-use Rattle.node_core.specs.node_state.Handed.{handed_in, Along, Logged, logged_in}
-use Rattle.node_core.proofs.node_state_laws.AlongLaws.{state_as, along_then, logged_same}
-use Rattle.node_core.specs.entry_delivery.Received.{TellAll, WereHanded, AreFor, told_by, after_handings, Receive}
-use Rattle.node_core.specs.entry_delivery.Doing.{Does}
-use Rattle.node_core.proofs.entry_delivery_laws.DoingLaws.{stated_after}
+use Rattle.client_callbacks.specs.Handed.{Handed}
+use Rattle.client_callbacks.specs.declared.votes.VoteItem.{VoteItem}
+use Rattle.session_clients.specs.Clients.{StandFor}
+use Rattle.session_state.specs.declared.fault.GsFault.{GsFault}
+use Rattle.session_state.specs.declared.state.SessionState.{SessionState}
+use Rattle.session_state.specs.Calls.{removed_at}
+use Rattle.node_calls.specs.Calling.{clients_with}
+use Rattle.node_state.specs.declared.call.CallLine.TheVariants as call
+use Rattle.node_state.specs.declared.happened.Happened.{Happened}
+use Rattle.node_state.specs.declared.packet.Packet.{Packet}
+use Rattle.node_state.specs.declared.state.Core.{Core}
+use Rattle.node_state.specs.Bytes.{packet_of, event_in, event_of}
+use Rattle.node_state.specs.HandOn.{Answering}
+use Rattle.node_state.specs.Step.{NodeEvent, Calls, at_work}
+use Rattle.node_state.specs.State.{InNameOrder, state_of}
+use Rattle.node_state.specs.Handed.{handed_in, Along, Logged, logged_in}
+use Rattle.node_state.proofs.AlongLaws.{state_as, along_then, logged_same}
+use Rattle.entry_delivery.specs.Received.{TellAll, WereHanded, AreFor, told_by, after_handings, Receive}
+use Rattle.entry_delivery.specs.Doing.{Does}
+use Rattle.entry_delivery.proofs.DoingLaws.{stated_after}
 use Rattle.node_core.specs.declared.events.NodeEvent.TheVariants as event
 use Rattle.node_core.specs.declared.events.NodeEvent as events
 use Rattle.node_core.specs.Event.{called, is_taken}

@@ -1,29 +1,29 @@
 -- What events of a world hand to clients.
 use Rattle.std.proofs.Common.{◌≡◌, ℕ, ◌==◌, ◌&&◌, true, false, List, [], ◌∷◌, ◌++◌, map, append-nil, set, get_or, Option, Some, None, refl, sym, ap, ◌∙◌, subst}
 use Rattle.std.specs.Prelude.{find, is_some}
-use Rattle.node_core.specs.rsct_packet.Ids.{last_u32}
-use Rattle.node_core.specs.rsct_packet.Lists.{drop_where}
-use Rattle.node_core.specs.rsct_packet.Search.{place_where, insert_before}
-use Rattle.node_core.specs.client_callbacks.Handed.{Handed}
-use Rattle.node_core.specs.session_state.declared.fault.GsFault.TheVariants.{NoInit}
-use Rattle.node_core.specs.view_state.Views.{views_new}
-use Rattle.node_core.specs.node_state.declared.call.CallLine.{CallLine}
-use Rattle.node_core.specs.node_state.declared.config.Config.{Config}
-use Rattle.node_core.specs.node_state.declared.happened.Happened.{Happened}
-use Rattle.node_core.specs.node_state.declared.happened.Happened.TheVariants as happened
-use Rattle.node_core.specs.node_state.declared.packet.Packet.{Packet}
-use Rattle.node_core.specs.node_state.Applying.{level_set}
-use Rattle.node_core.specs.node_state.Calls.{caller_of}
-use Rattle.node_core.specs.node_state.HandOn.{Answering}
-use Rattle.node_core.specs.node_state.State.{with_sessions}
-use Rattle.node_core.specs.node_state.Step.{NodeEvent, Given, Calls, own_rings, first_view, first_members, ring_record, started}
-use Rattle.node_core.specs.node_state.Handed.{is_handed, handed_in, Logged}
-use Rattle.node_core.specs.entry_delivery.Received.{WereHanded}
+use Rattle.rsct_packet.specs.Ids.{last_u32}
+use Rattle.rsct_packet.specs.Lists.{drop_where}
+use Rattle.rsct_packet.specs.Search.{place_where, insert_before}
+use Rattle.client_callbacks.specs.Handed.{Handed}
+use Rattle.session_state.specs.declared.fault.GsFault.TheVariants.{NoInit}
+use Rattle.view_state.specs.Views.{views_new}
+use Rattle.node_state.specs.declared.call.CallLine.{CallLine}
+use Rattle.node_state.specs.declared.config.Config.{Config}
+use Rattle.node_state.specs.declared.happened.Happened.{Happened}
+use Rattle.node_state.specs.declared.happened.Happened.TheVariants as happened
+use Rattle.node_state.specs.declared.packet.Packet.{Packet}
+use Rattle.node_state.specs.Applying.{level_set}
+use Rattle.node_state.specs.Calls.{caller_of}
+use Rattle.node_state.specs.HandOn.{Answering}
+use Rattle.node_state.specs.State.{with_sessions}
+use Rattle.node_state.specs.Step.{NodeEvent, Given, Calls, own_rings, first_view, first_members, ring_record, started}
+use Rattle.node_state.specs.Handed.{is_handed, handed_in, Logged}
+use Rattle.entry_delivery.specs.Received.{WereHanded}
 use Rattle.node_core.specs.Node.{NodeView}
-use Rattle.play_state.specs.world_model.World.{Script, is_node, node_at, kth_in, kth_between}
-use Rattle.play_state.specs.world_model.World as world
-use Rattle.play_state.specs.world_packets.Packets.{world_pairs, find_pair}
-use Rattle.world_safety.specs.world_laws.world_answers.Answers.{Items}
+use Rattle.world_model.specs.World.{Script, is_node, node_at, kth_in, kth_between}
+use Rattle.world_model.specs.World as world
+use Rattle.world_packets.specs.Packets.{world_pairs, find_pair}
+use Rattle.world_laws.specs.world_answers.Answers.{Items}
 use Rattle.net_script.specs.declared.steps.Left.{Left}
 use Rattle.net_script.specs.declared.world.World.{World}
 use Rattle.net_script.specs.Standing.{is_me, comes_before, NodeStands, NodesStand, StepDone, Stands, Settled}

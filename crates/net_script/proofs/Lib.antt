@@ -1,4 +1,3 @@
-pub mod Below
 pub mod VoteLaws
 pub mod NodeLaws
 pub mod CalledLaws
@@ -25,4 +24,3 @@ pub mod PlaySafeLaws
 pub mod SafePlays
 pub mod PlayLaws
 pub mod WordedLaws
-pub use Rattle.transcript.proofs as transcript_laws

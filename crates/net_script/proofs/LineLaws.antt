@@ -1,15 +1,15 @@
 -- Lines that are no plain events.
 use Rattle.std.proofs.Common.{◌≡◌, ℕ, not, List, Option, refl, ◌∙◌, ap}
 use Rattle.std.specs.Prelude.{filter}
-use Rattle.node_core.specs.client_callbacks.Handed.{Handed}
-use Rattle.play_state.specs.world_model.declared.script.Line.{Line}
-use Rattle.play_state.specs.world_model.World.{World}
-use Rattle.play_state.specs.world_model.Play.{Cut, drops}
-use Rattle.play_state.specs.world_packets.Packets.{waits_as, is_between}
-use Rattle.world_safety.specs.world_laws.world_answers.Answers.{Items}
-use Rattle.world_safety.specs.world_laws.world_answers.Plays.{AnsweredPlay, in_that_world, PlaysLine}
-use Rattle.world_safety.proofs.world_laws_laws.world_answers.Adding.{line_adds}
-use Rattle.world_safety.proofs.world_laws_laws.world_answers.Going.{line_goes}
+use Rattle.client_callbacks.specs.Handed.{Handed}
+use Rattle.world_model.specs.declared.script.Line.{Line}
+use Rattle.world_model.specs.World.{World}
+use Rattle.world_model.specs.Play.{Cut, drops}
+use Rattle.world_packets.specs.Packets.{waits_as, is_between}
+use Rattle.world_laws.specs.world_answers.Answers.{Items}
+use Rattle.world_laws.specs.world_answers.Plays.{AnsweredPlay, in_that_world, PlaysLine}
+use Rattle.world_laws.proofs.world_answers.Adding.{line_adds}
+use Rattle.world_laws.proofs.world_answers.Going.{line_goes}
 use Rattle.transcript.specs.declared.kinds.Kinds.{Kinds}
 use Rattle.net_script.specs.declared.stage.Stage.{Stage}
 use Rattle.net_script.specs.Stage.{At, Went, Broke}

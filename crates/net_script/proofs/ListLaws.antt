@@ -1,11 +1,11 @@
 -- A list of things to play, one after another: ticks or lines.
 use Rattle.std.proofs.Common.{◌≡◌, ℕ, ◌+◌, ◌<◌, ◌≤◌, List, length, drop, get_or, Option, Ok, Err, refl, sym, subst}
-use Rattle.node_core.specs.client_callbacks.Handed.{Handed}
-use Rattle.play_state.specs.world_model.World.{World}
-use Rattle.world_safety.specs.world_laws.world_answers.Answers.{Items}
-use Rattle.world_safety.specs.world_laws.world_answers.Plays.{AnsweredPlay, PlaysEach}
-use Rattle.world_safety.proofs.world_laws_laws.world_answers.Adding.{Adds, each_adds}
-use Rattle.world_safety.proofs.world_laws_laws.world_answers.Going.{each_goes}
+use Rattle.client_callbacks.specs.Handed.{Handed}
+use Rattle.world_model.specs.World.{World}
+use Rattle.world_laws.specs.world_answers.Answers.{Items}
+use Rattle.world_laws.specs.world_answers.Plays.{AnsweredPlay, PlaysEach}
+use Rattle.world_laws.proofs.world_answers.Adding.{Adds, each_adds}
+use Rattle.world_laws.proofs.world_answers.Going.{each_goes}
 use Rattle.transcript.specs.declared.kinds.Kinds.{Kinds}
 use Rattle.net_script.specs.declared.stage.Stage.{Stage}
 use Rattle.play_state.specs.declared.play_fault.PlayFault.{PlayFault}

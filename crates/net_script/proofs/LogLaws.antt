@@ -3,11 +3,11 @@ use Rattle.std.proofs.Common.{◌≡◌, ℕ, suc, Bool, true, false, cond, ◌=
 use Rattle.std.specs.Prelude.{nat_lt}
 use Rattle.std.specs.Option.{option_map}
 use Rattle.std.proofs.lemmas.Bool.{eqb-true}
-use Rattle.node_core.specs.rsct_packet.Lists.{drop_where}
-use Rattle.node_core.specs.rsct_packet.Search.{place_where, insert_before}
-use Rattle.node_core.specs.client_callbacks.Handed.{Handed}
-use Rattle.node_core.specs.node_state.Handed.{Logged}
-use Rattle.node_core.specs.entry_delivery.Received.{WereHanded}
+use Rattle.rsct_packet.specs.Lists.{drop_where}
+use Rattle.rsct_packet.specs.Search.{place_where, insert_before}
+use Rattle.client_callbacks.specs.Handed.{Handed}
+use Rattle.node_state.specs.Handed.{Logged}
+use Rattle.entry_delivery.specs.Received.{WereHanded}
 use Rattle.node_core.specs.Node.{NodeView}
 use Rattle.net_script.specs.Standing.{is_me, comes_before}
 use Rattle.net_script.specs.Hands.{ClientLogs, Logs, is_log, logs_of, logs_with, LogsStand, logs_begun}

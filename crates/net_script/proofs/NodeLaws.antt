@@ -3,15 +3,15 @@ use Rattle.std.proofs.Common.{◌≡◌, ℕ, suc, Bool, true, false, cond, ◌=
 use Rattle.std.specs.Prelude.{find, is_some, nat_lt}
 use Rattle.std.specs.Option.{option_map}
 use Rattle.std.proofs.lemmas.Bool.{eqb-true}
-use Rattle.node_core.specs.rsct_packet.Lists.{drop_where}
-use Rattle.node_core.specs.rsct_packet.Search.{place_where, insert_before}
-use Rattle.node_core.specs.node_state.declared.state.Core.{Core}
-use Rattle.node_core.specs.node_state.HandOn.{Answering}
-use Rattle.node_core.specs.node_state.Step.{NodeEvent}
+use Rattle.rsct_packet.specs.Lists.{drop_where}
+use Rattle.rsct_packet.specs.Search.{place_where, insert_before}
+use Rattle.node_state.specs.declared.state.Core.{Core}
+use Rattle.node_state.specs.HandOn.{Answering}
+use Rattle.node_state.specs.Step.{NodeEvent}
 use Rattle.node_core.specs.Node.{NodeView}
-use Rattle.play_state.specs.world_model.World.{Script, is_node, nodes_with}
-use Rattle.play_state.specs.world_model.World as world
-use Rattle.world_safety.specs.world_laws.world_answers.Answers.{Items}
+use Rattle.world_model.specs.World.{Script, is_node, nodes_with}
+use Rattle.world_model.specs.World as world
+use Rattle.world_laws.specs.world_answers.Answers.{Items}
 use Rattle.net_script.specs.Standing.{is_me, comes_before, NodeStands, NodesStand, StepDone, StepsAs, StepsNode, StepsIn}
 use Rattle.net_script.specs.declared.steps.Left.{Left}
 

@@ -1,13 +1,13 @@
 -- What the events of a run hand to clients, part by part.
 use Rattle.std.proofs.Common.{◌≡◌, List, [], ◌∷◌, ◌++◌, fold, sym, subst}
-use Rattle.node_core.specs.client_callbacks.Handed.{Handed}
-use Rattle.node_core.specs.node_state.declared.happened.Happened.{Happened}
+use Rattle.client_callbacks.specs.Handed.{Handed}
+use Rattle.node_state.specs.declared.happened.Happened.{Happened}
 use Rattle.node_core.specs.Node.{NodeView}
-use Rattle.play_state.specs.world_model.declared.event.Event.{Event}
-use Rattle.play_state.specs.world_model.declared.event.Event.TheVariants as event
-use Rattle.play_state.specs.world_model.World.{World, Sent, node_at, kth_between}
-use Rattle.world_safety.specs.world_laws.world_runs.Runs.{SameRun}
-use Rattle.world_safety.specs.world_laws.world_answers.Answers.{Answered, goes_on}
+use Rattle.world_model.specs.declared.event.Event.{Event}
+use Rattle.world_model.specs.declared.event.Event.TheVariants as event
+use Rattle.world_model.specs.World.{World, Sent, node_at, kth_between}
+use Rattle.world_laws.specs.world_runs.Runs.{SameRun}
+use Rattle.world_laws.specs.world_answers.Answers.{Answered, goes_on}
 use Rattle.net_script.specs.Hands.{Logs, EventHands, RunHands}
 use Rattle.net_script.specs.Stage.{RunHears}
 

@@ -5,23 +5,23 @@ use Rattle.std.specs.Io.KnownBytes.{Appends}
 use Rattle.std.proofs.KnownBytes.{Appends-nil, Appends-trans}
 use Rattle.hags_io.specs.Edges.{GrowsByFront}
 use Rattle.hags_io.proofs.ByteLaws.{front_on}
-use Rattle.node_core.specs.rsct_packet.Lists.{reverse_onto}
-use Rattle.node_core.specs.client_callbacks.Handed.{Handed}
-use Rattle.node_core.specs.node_state.declared.happened.Happened.{Happened}
-use Rattle.node_core.specs.node_state.declared.config.Config.{Config}
-use Rattle.play_state.specs.world_model.declared.script.Line.{Line}
-use Rattle.play_state.specs.world_model.declared.script.Script.{Script}
-use Rattle.play_state.specs.world_model.World.{World, empty_world, world_new}
-use Rattle.play_state.specs.world_model.Kept.{Bytes, Ended}
-use Rattle.world_safety.specs.world_laws.world_runs.Runs.{Recorded}
-use Rattle.world_safety.proofs.world_laws_laws.world_runs.Backwards.{reversed, reversed_back}
-use Rattle.world_safety.proofs.world_laws_laws.world_runs.Whole.{new_sends_nothing}
-use Rattle.world_safety.specs.world_laws.world_answers.Answers.{Items, Answered}
-use Rattle.world_safety.specs.world_laws.world_answers.Plays.{AnsweredPlay, starting, PlaysLines}
-use Rattle.world_safety.specs.world_laws.world_answers.Limits.{answered_within, answered_in, limited, AnsweredRuns, AnsweredEnds, AnsweredTells, Grew}
-use Rattle.world_safety.proofs.world_laws_laws.world_answers.Adding.{lines_add}
-use Rattle.world_safety.proofs.world_laws_laws.world_answers.Going.{lines_go}
-use Rattle.world_safety.proofs.world_laws_laws.world_answers.Limits.{tells_none}
+use Rattle.rsct_packet.specs.Lists.{reverse_onto}
+use Rattle.client_callbacks.specs.Handed.{Handed}
+use Rattle.node_state.specs.declared.happened.Happened.{Happened}
+use Rattle.node_state.specs.declared.config.Config.{Config}
+use Rattle.world_model.specs.declared.script.Line.{Line}
+use Rattle.world_model.specs.declared.script.Script.{Script}
+use Rattle.world_model.specs.World.{World, empty_world, world_new}
+use Rattle.world_model.specs.Kept.{Bytes, Ended}
+use Rattle.world_laws.specs.world_runs.Runs.{Recorded}
+use Rattle.world_laws.proofs.world_runs.Backwards.{reversed, reversed_back}
+use Rattle.world_laws.proofs.world_runs.Whole.{new_sends_nothing}
+use Rattle.world_laws.specs.world_answers.Answers.{Items, Answered}
+use Rattle.world_laws.specs.world_answers.Plays.{AnsweredPlay, starting, PlaysLines}
+use Rattle.world_laws.specs.world_answers.Limits.{answered_within, answered_in, limited, AnsweredRuns, AnsweredEnds, AnsweredTells, Grew}
+use Rattle.world_laws.proofs.world_answers.Adding.{lines_add}
+use Rattle.world_laws.proofs.world_answers.Going.{lines_go}
+use Rattle.world_laws.proofs.world_answers.Limits.{tells_none}
 use Rattle.net_script.specs.declared.world.World as kept
 use Rattle.net_script.specs.Standing.{Goes, kept_empty}
 use Rattle.play_state.specs.Posting.{bytes_after}

@@ -1,15 +1,15 @@
 -- Rounds of ticks and flows.
 use Rattle.std.proofs.Common.{◌≡◌, ℕ, suc, ◌+◌, ◌-◌, ◌<◌, ◌≤◌, List, [], ◌∷◌, map, Option, Result, Ok, Err, refl, ◌∙◌, ap, subst, arith}
-use Rattle.node_core.specs.client_callbacks.Handed.{Handed}
+use Rattle.client_callbacks.specs.Handed.{Handed}
 use Rattle.node_core.specs.Node.{NodeView}
-use Rattle.play_state.specs.world_model.World.{World}
-use Rattle.play_state.specs.world_model.World as world
-use Rattle.play_state.specs.world_model.declared.event.Event.TheVariants as event
-use Rattle.play_state.specs.world_model.Play.{flow_limit}
-use Rattle.world_safety.specs.world_laws.world_answers.Answers.{Items}
-use Rattle.world_safety.specs.world_laws.world_answers.Plays.{AnsweredPlay, PlaysEach, PlaysFlow, PlaysTick, PlaysTicks, PlaysRounds}
-use Rattle.world_safety.proofs.world_laws_laws.world_answers.Adding.{event_adds, flow_adds, rounds_add}
-use Rattle.world_safety.proofs.world_laws_laws.world_answers.Going.{tick_goes, flow_goes, rounds_go, rounds_next, rounds_over}
+use Rattle.world_model.specs.World.{World}
+use Rattle.world_model.specs.World as world
+use Rattle.world_model.specs.declared.event.Event.TheVariants as event
+use Rattle.world_model.specs.Play.{flow_limit}
+use Rattle.world_laws.specs.world_answers.Answers.{Items}
+use Rattle.world_laws.specs.world_answers.Plays.{AnsweredPlay, PlaysEach, PlaysFlow, PlaysTick, PlaysTicks, PlaysRounds}
+use Rattle.world_laws.proofs.world_answers.Adding.{event_adds, flow_adds, rounds_add}
+use Rattle.world_laws.proofs.world_answers.Going.{tick_goes, flow_goes, rounds_go, rounds_next, rounds_over}
 use Rattle.net_script.specs.Standing.{NodesStand, number_in}
 use Rattle.net_script.proofs.NodeLaws.{same_me}
 use Rattle.transcript.specs.declared.kinds.Kinds.{Kinds}

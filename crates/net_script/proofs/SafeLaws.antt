@@ -1,25 +1,25 @@
 -- From what an event makes of a world to the safe run with it.
 use Rattle.std.proofs.Common.{◌≡◌, List, [], ◌∷◌, ◌++◌, Option, refl, sym, ap, ◌∙◌, subst, ℕ}
 use Rattle.std.proofs.lemmas.List.Sums.{fold-append}
-use Rattle.node_core.specs.rsct_packet.Lists.{reverse_onto}
-use Rattle.node_core.specs.node_state.declared.config.Config.{Config}
-use Rattle.node_core.specs.node_state.declared.happened.Happened.{Happened}
-use Rattle.play_state.specs.world_model.declared.event.Event.{Event}
-use Rattle.play_state.specs.world_model.World.{empty_world, happens, world_new, world_after, records_of}
-use Rattle.play_state.specs.world_model.World as world
-use Rattle.world_safety.specs.world_laws.world_runs.Runs.{SameRun}
-use Rattle.world_safety.proofs.world_laws_laws.world_runs.Backwards.{reversed_back}
-use Rattle.world_safety.proofs.world_laws_laws.world_runs.Queue.{same_happens}
-use Rattle.world_safety.specs.world_laws.world_answers.Answers.{Answered, events_in, happens_by, goes_on, answered_after, answered_records}
+use Rattle.rsct_packet.specs.Lists.{reverse_onto}
+use Rattle.node_state.specs.declared.config.Config.{Config}
+use Rattle.node_state.specs.declared.happened.Happened.{Happened}
+use Rattle.world_model.specs.declared.event.Event.{Event}
+use Rattle.world_model.specs.World.{empty_world, happens, world_new, world_after, records_of}
+use Rattle.world_model.specs.World as world
+use Rattle.world_laws.specs.world_runs.Runs.{SameRun}
+use Rattle.world_laws.proofs.world_runs.Backwards.{reversed_back}
+use Rattle.world_laws.proofs.world_runs.Queue.{same_happens}
+use Rattle.world_laws.specs.world_answers.Answers.{Answered, events_in, happens_by, goes_on, answered_after, answered_records}
 use Rattle.world_safety.specs.Events.{MayHappen, AllMayHappen}
 use Rattle.world_safety.specs.Scripts.{IsSafe, IsSafeRun}
-use Rattle.world_safety.proofs.world_laws_laws.world_answers.Waits.{same_goes}
+use Rattle.world_laws.proofs.world_answers.Waits.{same_goes}
 use Rattle.world_safety.proofs.Turned.{onto_more}
 use Rattle.world_safety.proofs.Scripts.{events_are_safe}
 pub use Rattle.world_safety.proofs.Scripts.{every_answer_is_safe, every_play_is_safe, every_kept_play_is_safe}
 pub use Rattle.world_safety.proofs.Lined.{scripts_may_play}
 use Rattle.net_script.specs.declared.world.World.{World}
-use Rattle.world_safety.specs.world_laws.world_answers.Answers.{Items}
+use Rattle.world_laws.specs.world_answers.Answers.{Items}
 use Rattle.net_script.specs.Standing.{Goes, Comes, kept_empty}
 use Rattle.net_script.specs.Safe.{SafeOn, AnswersSafely, GoesSafely}
 use Rattle.net_script.proofs.WorldLaws.{as_worded}

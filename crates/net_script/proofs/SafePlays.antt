@@ -1,22 +1,22 @@
 -- A play of lines that may happen is a safe run, whatever its clients answer.
 use Rattle.std.proofs.Common.{◌≡◌, ℕ, zero, suc, Bool, true, false, List, [], ◌∷◌, ◌++◌, fold, Option, Some, None, refl, sym, ◌∙◌, ap, subst}
 use Rattle.std.specs.Prelude.{is_some}
-use Rattle.node_core.specs.rsct_packet.Lists.{reverse_onto}
-use Rattle.node_core.specs.node_state.declared.config.Config.{Config}
-use Rattle.play_state.specs.world_model.declared.event.Event.{Event}
-use Rattle.play_state.specs.world_model.declared.event.Event.TheVariants as event
-use Rattle.play_state.specs.world_model.declared.script.Line.{Line}
-use Rattle.play_state.specs.world_model.declared.script.Line.TheVariants as line
-use Rattle.play_state.specs.world_model.declared.script.Script.{Script}
-use Rattle.play_state.specs.world_model.World.{Sent, World, node_at, world_new}
-use Rattle.play_state.specs.world_model.Kept.{Bytes, with_packet, sent_since, Ended}
-use Rattle.play_state.specs.world_model.Play.{is_cut, flow_limit}
-use Rattle.world_safety.specs.world_laws.world_runs.Runs.{SameRun}
-use Rattle.world_safety.proofs.world_laws_laws.world_runs.Backwards.{reversed_back}
-use Rattle.world_safety.specs.world_laws.world_answers.Answers.{Items, Answered, events_in, goes_on, answered_after, answered_records}
-use Rattle.world_safety.specs.world_laws.world_answers.Plays.{AnsweredPlay, starting, PlaysEvent, PlaysEach, TakesPacket, TakesNext, PlaysFlow, PlaysTick, numbers_up, PlaysRounds, PlaysLine, PlaysLines}
-use Rattle.world_safety.specs.world_laws.world_answers.Limits.{answered_within, answered_in, limited}
-use Rattle.world_safety.proofs.world_laws_laws.world_answers.Adding.{lines_add}
+use Rattle.rsct_packet.specs.Lists.{reverse_onto}
+use Rattle.node_state.specs.declared.config.Config.{Config}
+use Rattle.world_model.specs.declared.event.Event.{Event}
+use Rattle.world_model.specs.declared.event.Event.TheVariants as event
+use Rattle.world_model.specs.declared.script.Line.{Line}
+use Rattle.world_model.specs.declared.script.Line.TheVariants as line
+use Rattle.world_model.specs.declared.script.Script.{Script}
+use Rattle.world_model.specs.World.{Sent, World, node_at, world_new}
+use Rattle.world_model.specs.Kept.{Bytes, with_packet, sent_since, Ended}
+use Rattle.world_model.specs.Play.{is_cut, flow_limit}
+use Rattle.world_laws.specs.world_runs.Runs.{SameRun}
+use Rattle.world_laws.proofs.world_runs.Backwards.{reversed_back}
+use Rattle.world_laws.specs.world_answers.Answers.{Items, Answered, events_in, goes_on, answered_after, answered_records}
+use Rattle.world_laws.specs.world_answers.Plays.{AnsweredPlay, starting, PlaysEvent, PlaysEach, TakesPacket, TakesNext, PlaysFlow, PlaysTick, numbers_up, PlaysRounds, PlaysLine, PlaysLines}
+use Rattle.world_laws.specs.world_answers.Limits.{answered_within, answered_in, limited}
+use Rattle.world_laws.proofs.world_answers.Adding.{lines_add}
 use Rattle.net_script.specs.Safe.{MayHappen, AllMayHappen, IsSafe, LineMay, LinesMay, MayPlay}
 use Rattle.net_script.proofs.SafeLaws.{every_answer_is_safe}
 use Rattle.net_script.specs.Ends.{records_in, FrontIsSafe}

@@ -6,15 +6,15 @@ use Rattle.std.specs.Io.KnownBytes.{Appends}
 use Rattle.std.proofs.KnownBytes.{Appends-nil, Appends-trans}
 use Rattle.hags_io.specs.Edges.{GrowsByFront}
 use Rattle.hags_io.proofs.ByteLaws.{front_on}
-use Rattle.node_core.specs.client_callbacks.Handed.{Handed}
-use Rattle.node_core.specs.node_state.declared.happened.Happened.{Happened}
-use Rattle.play_state.specs.world_model.World.{World}
-use Rattle.world_safety.proofs.world_laws_laws.world_answers.Limits.{runs_none, runs_then, runs_end, ends_on, tells_then, tells_on, tells_none}
-use Rattle.world_safety.proofs.world_laws_laws.world_runs.Traces.{recorded_then}
-use Rattle.world_safety.proofs.world_laws_laws.world_answers.Adding.{grew_then}
-use Rattle.world_safety.specs.world_laws.world_answers.Answers.{Items, Answered, goes_on}
-use Rattle.world_safety.specs.world_laws.world_answers.Plays.{AnsweredPlay}
-use Rattle.world_safety.specs.world_laws.world_answers.Limits.{AnsweredRuns, AnsweredEnds, AnsweredTells, Grew}
+use Rattle.client_callbacks.specs.Handed.{Handed}
+use Rattle.node_state.specs.declared.happened.Happened.{Happened}
+use Rattle.world_model.specs.World.{World}
+use Rattle.world_laws.proofs.world_answers.Limits.{runs_none, runs_then, runs_end, ends_on, tells_then, tells_on, tells_none}
+use Rattle.world_laws.proofs.world_runs.Traces.{recorded_then}
+use Rattle.world_laws.proofs.world_answers.Adding.{grew_then}
+use Rattle.world_laws.specs.world_answers.Answers.{Items, Answered, goes_on}
+use Rattle.world_laws.specs.world_answers.Plays.{AnsweredPlay}
+use Rattle.world_laws.specs.world_answers.Limits.{AnsweredRuns, AnsweredEnds, AnsweredTells, Grew}
 use Rattle.net_script.specs.Hands.{LogsStand}
 use Rattle.transcript.specs.declared.kinds.Kinds.{Kinds}
 use Rattle.transcript.specs.Kinds.{kinds_text}

@@ -1,19 +1,19 @@
 -- Steps of nodes, whatever their clients answer.
 use Rattle.std.proofs.Common.{◌≡◌, List, [], ◌∷◌, map, Option, Some, IsTrue, refl, sym, ap, ◌∙◌, subst}
-use Rattle.node_core.specs.session_state.declared.state.Session.{Session}
-use Rattle.node_core.specs.session_clients.Notices.{FillTheirScripts}
-use Rattle.node_core.specs.node_state.declared.state.Core.{Core}
-use Rattle.node_core.specs.node_state.HandOn.{Answering}
-use Rattle.node_core.specs.node_state.Step.{NodeEvent, at_work, event_row, stepped}
-use Rattle.node_core.specs.entry_delivery.Received.{Handing}
-use Rattle.node_core.specs.entry_delivery.Doing.{Does}
-use Rattle.node_core.proofs.group_leading_laws.AnswerLaws.{does_some}
+use Rattle.session_state.specs.declared.state.Session.{Session}
+use Rattle.session_clients.specs.Notices.{FillTheirScripts}
+use Rattle.node_state.specs.declared.state.Core.{Core}
+use Rattle.node_state.specs.HandOn.{Answering}
+use Rattle.node_state.specs.Step.{NodeEvent, at_work, event_row, stepped}
+use Rattle.entry_delivery.specs.Received.{Handing}
+use Rattle.entry_delivery.specs.Doing.{Does}
+use Rattle.group_leading.proofs.AnswerLaws.{does_some}
 use Rattle.node_core.specs.Event.{called}
 use Rattle.node_core.specs.Node.{NodeView}
-use Rattle.play_state.specs.world_model.World.{Script, by_scripts}
-use Rattle.play_state.specs.world_model.World as world
+use Rattle.world_model.specs.World.{Script, by_scripts}
+use Rattle.world_model.specs.World as world
 use Rattle.net_script.specs.declared.steps.Left.{Left}
-use Rattle.world_safety.specs.world_laws.world_answers.Answers.{Items, AllWorded}
+use Rattle.world_laws.specs.world_answers.Answers.{Items, AllWorded}
 use Rattle.net_script.specs.Standing.{votes_by, votes_in, NodeStands, Leaves, StepDone, StepsAs}
 use Rattle.net_script.proofs.CalledLaws.{is_within, called_lives}
 use Rattle.net_script.proofs.VoteLaws.{scripts_agree}

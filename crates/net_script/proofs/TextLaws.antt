@@ -8,8 +8,8 @@ use Rattle.std.specs.Io.KnownBytes.{Appends}
 use Rattle.std.proofs.KnownBytes.{Appends-nil, Appends-trans}
 use Rattle.hags_io.specs.Edges.{GrowsByFront}
 use Rattle.hags_io.proofs.ByteLaws.{front_on}
-use Rattle.node_core.specs.node_state.declared.happened.Happened.{Happened}
-use Rattle.play_state.specs.world_model.Text.{line_of}
+use Rattle.node_state.specs.declared.happened.Happened.{Happened}
+use Rattle.world_model.specs.Text.{line_of}
 use Rattle.transcript.specs.declared.kinds.Kinds.{Kinds}
 use Rattle.transcript.specs.Kinds.{shows, kinds_text}
 

@@ -3,21 +3,21 @@ use Rattle.std.proofs.Common.{◌≡◌, ℕ, zero, suc, Bool, true, false, List
 use Rattle.std.specs.Prelude.{slice_get}
 use Rattle.std.specs.Option.{option_map, option_flatten}
 use Rattle.std.proofs.lemmas.Option.{slice_get-map}
-use Rattle.node_core.specs.proposal_core.declared.entry.Entry.{Entry}
-use Rattle.node_core.specs.proposal_core.declared.group_state.GroupState.{GroupState}
-use Rattle.node_core.specs.rsct_packet.declared.ids.ProviderId.{ProviderId}
-use Rattle.node_core.specs.client_callbacks.declared.ballot.Filled.{Filled}
-use Rattle.node_core.specs.client_callbacks.declared.votes.VoteItem.{VoteItem}
-use Rattle.node_core.specs.client_callbacks.Ballots.{BallotView, new_ballot}
-use Rattle.node_core.specs.client_callbacks.Handed.{item_at, filled_by, voted_by}
-use Rattle.node_core.specs.session_state.declared.state.Session.{Session}
-use Rattle.node_core.specs.session_state.declared.state.SessionState.{SessionState}
-use Rattle.node_core.specs.session_state.State.{place_of}
-use Rattle.node_core.specs.session_state.HandOn.{asks}
-use Rattle.node_core.specs.session_clients.Notices.{AreScripted, Filling, FillTheirScripts, script_for, filled_in, scripted}
-use Rattle.node_core.specs.node_state.HandOn.{answer_if}
-use Rattle.node_core.specs.entry_delivery.Doing.{Question, AnswersAs, Agrees, AreFilled}
-use Rattle.play_state.specs.world_model.World.{Script, items_in, session_at, items_of, by_scripts}
+use Rattle.proposal_core.specs.declared.entry.Entry.{Entry}
+use Rattle.proposal_core.specs.declared.group_state.GroupState.{GroupState}
+use Rattle.rsct_packet.specs.declared.ids.ProviderId.{ProviderId}
+use Rattle.client_callbacks.specs.declared.ballot.Filled.{Filled}
+use Rattle.client_callbacks.specs.declared.votes.VoteItem.{VoteItem}
+use Rattle.client_callbacks.specs.Ballots.{BallotView, new_ballot}
+use Rattle.client_callbacks.specs.Handed.{item_at, filled_by, voted_by}
+use Rattle.session_state.specs.declared.state.Session.{Session}
+use Rattle.session_state.specs.declared.state.SessionState.{SessionState}
+use Rattle.session_state.specs.State.{place_of}
+use Rattle.session_state.specs.HandOn.{asks}
+use Rattle.session_clients.specs.Notices.{AreScripted, Filling, FillTheirScripts, script_for, filled_in, scripted}
+use Rattle.node_state.specs.HandOn.{answer_if}
+use Rattle.entry_delivery.specs.Doing.{Question, AnswersAs, Agrees, AreFilled}
+use Rattle.world_model.specs.World.{Script, items_in, session_at, items_of, by_scripts}
 use Rattle.net_script.specs.Standing.{silent_or, votes_by, votes_in}
 
 -- without items nothing is filled

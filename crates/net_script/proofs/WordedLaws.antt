@@ -3,20 +3,20 @@ use Rattle.std.proofs.Common.{◌≡◌, ℕ, Bool, true, false, List, [], ◌�
 use Rattle.std.specs.Io.KnownBytes.{Appends}
 use Rattle.std.proofs.KnownBytes.{Appends-nil}
 use Rattle.hags_io.specs.Edges.{GrowsByFront}
-use Rattle.node_core.specs.rsct_packet.Lists.{reverse_onto}
-use Rattle.node_core.specs.client_callbacks.Handed.{Handed}
-use Rattle.node_core.specs.node_state.declared.config.Config.{Config}
-use Rattle.play_state.specs.world_model.declared.script.Line.{Line}
-use Rattle.play_state.specs.world_model.declared.script.Script.{Script}
-use Rattle.play_state.specs.world_model.World.{World, world_new}
-use Rattle.play_state.specs.world_model.Play.{Played, events_of, played, played_records, script_records}
-use Rattle.play_state.specs.world_model.Kept.{Ended, runs_from, runs_within, ended, kept_past, kept_records}
-use Rattle.world_safety.specs.world_laws.world_answers.Answers.{Items, AllWorded, Answered, events_in}
-use Rattle.world_safety.specs.world_laws.world_answers.Plays.{AnsweredPlay, starting, PlaysLines}
-use Rattle.world_safety.specs.world_laws.world_answers.Limits.{answered_in, limited, WordedFrom}
-use Rattle.world_safety.proofs.world_laws_laws.world_answers.Adding.{lines_add}
-use Rattle.world_safety.proofs.world_laws_laws.world_answers.Limits.{within_worded}
-use Rattle.world_safety.proofs.world_laws_laws.world_answers.Worded.{lines_same, worded_plays_are_one}
+use Rattle.rsct_packet.specs.Lists.{reverse_onto}
+use Rattle.client_callbacks.specs.Handed.{Handed}
+use Rattle.node_state.specs.declared.config.Config.{Config}
+use Rattle.world_model.specs.declared.script.Line.{Line}
+use Rattle.world_model.specs.declared.script.Script.{Script}
+use Rattle.world_model.specs.World.{World, world_new}
+use Rattle.world_model.specs.Play.{Played, events_of, played, played_records, script_records}
+use Rattle.world_model.specs.Kept.{Ended, runs_from, runs_within, ended, kept_past, kept_records}
+use Rattle.world_laws.specs.world_answers.Answers.{Items, AllWorded, Answered, events_in}
+use Rattle.world_laws.specs.world_answers.Plays.{AnsweredPlay, starting, PlaysLines}
+use Rattle.world_laws.specs.world_answers.Limits.{answered_in, limited, WordedFrom}
+use Rattle.world_laws.proofs.world_answers.Adding.{lines_add}
+use Rattle.world_laws.proofs.world_answers.Limits.{within_worded}
+use Rattle.world_laws.proofs.world_answers.Worded.{lines_same, worded_plays_are_one}
 use Rattle.transcript.specs.declared.kinds.Kinds.{Kinds}
 use Rattle.transcript.specs.Kinds.{kinds_text}
 use Rattle.net_script.specs.declared.world.World as kept

@@ -1,17 +1,17 @@
 -- What happens in a world, by what its functions leave.
 use Rattle.std.proofs.Common.{◌≡◌, ℕ, List, [], ◌++◌, map, append-nil, Option, Some, None, refl, sym, ap, ◌∙◌, subst}
 use Rattle.std.specs.Prelude.{fold, find}
-use Rattle.node_core.specs.node_state.declared.happened.Happened.{Happened}
-use Rattle.node_core.specs.node_state.declared.state.Core.{Core}
-use Rattle.node_core.specs.node_state.HandOn.{Answering}
-use Rattle.node_core.specs.node_state.Step.{NodeEvent, stepped}
+use Rattle.node_state.specs.declared.happened.Happened.{Happened}
+use Rattle.node_state.specs.declared.state.Core.{Core}
+use Rattle.node_state.specs.HandOn.{Answering}
+use Rattle.node_state.specs.Step.{NodeEvent, stepped}
 use Rattle.node_core.specs.Node.{NodeView}
-use Rattle.play_state.specs.world_model.World.{Script, by_scripts, is_node, node_at, nodes_with, posted, traced, after_step, steps, steps_if, node_steps}
-use Rattle.play_state.specs.world_model.World as world
+use Rattle.world_model.specs.World.{Script, by_scripts, is_node, node_at, nodes_with, posted, traced, after_step, steps, steps_if, node_steps}
+use Rattle.world_model.specs.World as world
 use Rattle.net_script.specs.declared.steps.Left.{Left}
 use Rattle.net_script.specs.declared.world.World.{World}
-use Rattle.world_safety.specs.world_laws.world_answers.Answers.{step_by, step_by_if}
-use Rattle.world_safety.specs.world_laws.world_answers.Answers.{Items, AllWorded}
+use Rattle.world_laws.specs.world_answers.Answers.{step_by, step_by_if}
+use Rattle.world_laws.specs.world_answers.Answers.{Items, AllWorded}
 use Rattle.net_script.specs.Standing.{NodesStand, Stands, Holds, StepsNode, StepsSome, Goes, Passes, Comes, Settled}
 use Rattle.play_state.specs.Posting.{PacketsStand, bytes_after}
 use Rattle.play_state.specs.Starts.{started_in}

@@ -2,15 +2,15 @@
 use Rattle.std.specs.Prelude.{◌≡◌, ℕ, List, [], ◌++◌, Option, Some, None, Result, Ok, Err}
 use Rattle.std.specs.Io.KnownBytes.{Appends}
 use Rattle.hags_io.specs.Edges.{GrowsByFront}
-use Rattle.node_core.specs.rsct_packet.Lists.{reverse_onto}
-use Rattle.node_core.specs.client_callbacks.Handed.{Handed}
-use Rattle.node_core.specs.node_state.declared.config.Config.{Config}
-use Rattle.node_core.specs.node_state.declared.happened.Happened.{Happened}
-use Rattle.play_state.specs.world_model.declared.script.Script.{Script}
-use Rattle.play_state.specs.world_model.World.{world_new}
-use Rattle.world_safety.specs.world_laws.world_answers.Answers.{Items, Answered}
-use Rattle.world_safety.specs.world_laws.world_answers.Plays.{AnsweredPlay, starting, PlaysLines}
-use Rattle.world_safety.specs.world_laws.world_answers.Limits.{answered_in, limited}
+use Rattle.rsct_packet.specs.Lists.{reverse_onto}
+use Rattle.client_callbacks.specs.Handed.{Handed}
+use Rattle.node_state.specs.declared.config.Config.{Config}
+use Rattle.node_state.specs.declared.happened.Happened.{Happened}
+use Rattle.world_model.specs.declared.script.Script.{Script}
+use Rattle.world_model.specs.World.{world_new}
+use Rattle.world_laws.specs.world_answers.Answers.{Items, Answered}
+use Rattle.world_laws.specs.world_answers.Plays.{AnsweredPlay, starting, PlaysLines}
+use Rattle.world_laws.specs.world_answers.Limits.{answered_in, limited}
 use Rattle.net_script.specs.Safe.{IsSafe, MayPlay}
 use Rattle.net_script.specs.declared.world.World.{World}
 use Rattle.net_script.specs.Standing.{Stands}

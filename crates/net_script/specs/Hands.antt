@@ -1,29 +1,29 @@
 -- What the events of a run hand to clients, as its records tell it: a log for each client of each node that is up.
 use Rattle.std.specs.Prelude.{◌≡◌, ◌==◌, ◌++◌, ℕ, Bool, true, false, List, [], ◌∷◌, map, find, nat_lt, Option, Some, None}
-use Rattle.node_core.specs.rsct_packet.Lists.{drop_where, reverse_onto}
-use Rattle.node_core.specs.rsct_packet.Search.{insert_before}
-use Rattle.node_core.specs.client_callbacks.Handed.{Handed}
-use Rattle.node_core.specs.session_state.State.{client_token, client_place}
-use Rattle.node_core.specs.session_state.Calls.{inited, removed_at}
-use Rattle.node_core.specs.node_state.declared.call.CallLine.{CallLine}
-use Rattle.node_core.specs.node_state.declared.call.CallLine.TheVariants as call
-use Rattle.node_core.specs.node_state.declared.happened.Happened.{Happened}
-use Rattle.node_core.specs.node_state.declared.packet.Packet.{Packet}
-use Rattle.node_core.specs.node_state.declared.state.Core.{Core}
-use Rattle.node_core.specs.rsct_packet.Ids.{last_u32}
-use Rattle.node_core.specs.node_state.Step.{NodeEvent, Ticks, Asks, Given, Calls, at_work}
-use Rattle.node_core.specs.node_state.Step as step
-use Rattle.node_core.specs.node_state.State.{state_of}
-use Rattle.node_core.specs.node_state.Handed.{handed_in, Logged, logged_in}
-use Rattle.node_core.specs.node_calls.Calling.{clients_with}
-use Rattle.node_core.specs.entry_delivery.Received.{WereHanded, Handing, AreFor, told_by, logged_by, after_handings}
+use Rattle.rsct_packet.specs.Lists.{drop_where, reverse_onto}
+use Rattle.rsct_packet.specs.Search.{insert_before}
+use Rattle.client_callbacks.specs.Handed.{Handed}
+use Rattle.session_state.specs.State.{client_token, client_place}
+use Rattle.session_state.specs.Calls.{inited, removed_at}
+use Rattle.node_state.specs.declared.call.CallLine.{CallLine}
+use Rattle.node_state.specs.declared.call.CallLine.TheVariants as call
+use Rattle.node_state.specs.declared.happened.Happened.{Happened}
+use Rattle.node_state.specs.declared.packet.Packet.{Packet}
+use Rattle.node_state.specs.declared.state.Core.{Core}
+use Rattle.rsct_packet.specs.Ids.{last_u32}
+use Rattle.node_state.specs.Step.{NodeEvent, Ticks, Asks, Given, Calls, at_work}
+use Rattle.node_state.specs.Step as step
+use Rattle.node_state.specs.State.{state_of}
+use Rattle.node_state.specs.Handed.{handed_in, Logged, logged_in}
+use Rattle.node_calls.specs.Calling.{clients_with}
+use Rattle.entry_delivery.specs.Received.{WereHanded, Handing, AreFor, told_by, logged_by, after_handings}
 use Rattle.node_core.specs.Node.{NodeView}
 use Rattle.node_core.specs.Event.{called}
-use Rattle.play_state.specs.world_model.declared.event.Event.{Event}
-use Rattle.play_state.specs.world_model.declared.event.Event.TheVariants as event
-use Rattle.play_state.specs.world_model.World.{inc_in, node_at, kth_between}
-use Rattle.play_state.specs.world_model.World as world
-use Rattle.world_safety.specs.world_laws.world_answers.Answers.{Items, Answered, goes_on}
+use Rattle.world_model.specs.declared.event.Event.{Event}
+use Rattle.world_model.specs.declared.event.Event.TheVariants as event
+use Rattle.world_model.specs.World.{inc_in, node_at, kth_between}
+use Rattle.world_model.specs.World as world
+use Rattle.world_laws.specs.world_answers.Answers.{Items, Answered, goes_on}
 use Rattle.net_script.specs.declared.world.World.{World}
 use Rattle.net_script.specs.declared.steps.Left.{Left}
 use Rattle.net_script.specs.Standing.{NodesStand, Stands}

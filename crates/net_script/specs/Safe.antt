@@ -1,18 +1,18 @@
 -- The safe runs that worlds as they are kept stand at the end of.
 use Rattle.std.specs.Prelude.{◌≡◌, List, [], ◌∷◌, ◌++◌, Option}
-use Rattle.node_core.specs.node_state.declared.config.Config.{Config}
-use Rattle.node_core.specs.node_state.declared.happened.Happened.{Happened}
-use Rattle.node_core.specs.node_state.HandOn.{Answering}
-use Rattle.play_state.specs.world_model.declared.event.Event.{Event}
-use Rattle.play_state.specs.world_model.World.{world_after, records_of}
-use Rattle.play_state.specs.world_model.World as world
-use Rattle.world_safety.specs.world_laws.world_runs.Runs.{SameRun}
-use Rattle.world_safety.specs.world_laws.world_answers.Answers.{Answered, events_in, answered_after, answered_records}
+use Rattle.node_state.specs.declared.config.Config.{Config}
+use Rattle.node_state.specs.declared.happened.Happened.{Happened}
+use Rattle.node_state.specs.HandOn.{Answering}
+use Rattle.world_model.specs.declared.event.Event.{Event}
+use Rattle.world_model.specs.World.{world_after, records_of}
+use Rattle.world_model.specs.World as world
+use Rattle.world_laws.specs.world_runs.Runs.{SameRun}
+use Rattle.world_laws.specs.world_answers.Answers.{Answered, events_in, answered_after, answered_records}
 pub use Rattle.world_safety.specs.Events.{MayHappen, AllMayHappen}
 pub use Rattle.world_safety.specs.Scripts.{IsSafe, IsSafeRun, ScriptIsSafe, KeptRunIsSafe}
 pub use Rattle.world_safety.specs.Plays.{LineMay, LinesMay, MayPlay}
 use Rattle.net_script.specs.declared.world.World.{World}
-use Rattle.world_safety.specs.world_laws.world_answers.Answers.{Items, AllWorded}
+use Rattle.world_laws.specs.world_answers.Answers.{Items, AllWorded}
 use Rattle.net_script.specs.Standing.{Stands}
 
 -- the world stands for this one, but for what waits there

@@ -2,14 +2,14 @@
 use Rattle.std.specs.Prelude.{◌≡◌, ℕ, List, fold, Option, Result, Ok, Err}
 use Rattle.std.specs.Io.KnownBytes.{Appends}
 use Rattle.hags_io.specs.Edges.{GrowsByFront}
-use Rattle.node_core.specs.client_callbacks.Handed.{Handed}
-use Rattle.node_core.specs.node_state.declared.happened.Happened.{Happened}
+use Rattle.client_callbacks.specs.Handed.{Handed}
+use Rattle.node_state.specs.declared.happened.Happened.{Happened}
 use Rattle.node_core.specs.Node.{NodeView}
-use Rattle.play_state.specs.world_model.World.{World}
-use Rattle.world_safety.specs.world_laws.world_runs.Runs.{SameRun, Recorded}
-use Rattle.world_safety.specs.world_laws.world_answers.Answers.{Items, Answered, goes_on}
-use Rattle.world_safety.specs.world_laws.world_answers.Plays.{AnsweredPlay}
-use Rattle.world_safety.specs.world_laws.world_answers.Limits.{AnsweredRuns, AnsweredEnds, AnsweredTells, Grew}
+use Rattle.world_model.specs.World.{World}
+use Rattle.world_laws.specs.world_runs.Runs.{SameRun, Recorded}
+use Rattle.world_laws.specs.world_answers.Answers.{Items, Answered, goes_on}
+use Rattle.world_laws.specs.world_answers.Plays.{AnsweredPlay}
+use Rattle.world_laws.specs.world_answers.Limits.{AnsweredRuns, AnsweredEnds, AnsweredTells, Grew}
 use Rattle.net_script.specs.Standing.{Stands}
 use Rattle.net_script.specs.Hands.{Logs, LogsStand, RunHands}
 use Rattle.transcript.specs.declared.kinds.Kinds.{Kinds}

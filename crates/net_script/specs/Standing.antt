@@ -2,21 +2,21 @@
 -- sent, and what each client's votes word says. Its clients are of any kind that is made of votes words: `script` says
 -- by which items one votes, and `said` by which one votes that is made of the items of a word.
 use Rattle.std.specs.Prelude.{◌≡◌, ℕ, ◌==◌, Bool, List, [], ◌∷◌, ◌++◌, map, fold, find, nat_lt, Option, Some, None}
-use Rattle.node_core.specs.rsct_packet.Lists.{reverse_onto}
-use Rattle.node_core.specs.session_state.declared.state.Session.{Session}
-use Rattle.node_core.specs.node_state.declared.call.CallLine.{CallLine}
-use Rattle.node_core.specs.node_state.declared.config.Config.{Config}
-use Rattle.node_core.specs.node_state.declared.happened.Happened.{Happened}
-use Rattle.node_core.specs.node_state.declared.packet.Packet.{Packet}
-use Rattle.node_core.specs.node_state.HandOn.{Answering}
-use Rattle.node_core.specs.node_state.Step.{NodeEvent, Calls, at_work, stepped}
+use Rattle.rsct_packet.specs.Lists.{reverse_onto}
+use Rattle.session_state.specs.declared.state.Session.{Session}
+use Rattle.node_state.specs.declared.call.CallLine.{CallLine}
+use Rattle.node_state.specs.declared.config.Config.{Config}
+use Rattle.node_state.specs.declared.happened.Happened.{Happened}
+use Rattle.node_state.specs.declared.packet.Packet.{Packet}
+use Rattle.node_state.specs.HandOn.{Answering}
+use Rattle.node_state.specs.Step.{NodeEvent, Calls, at_work, stepped}
 use Rattle.node_core.specs.Node.{NodeView}
-use Rattle.play_state.specs.world_model.World.{Script, items_in, scripts_after}
-use Rattle.play_state.specs.world_model.World as world
-use Rattle.play_state.specs.world_model.Kept.{Bytes, with_packet}
-use Rattle.play_state.specs.world_packets.Packets.{Kept, world_pairs, waits_as}
-use Rattle.node_core.specs.node_state.declared.state.Core.{Core}
-use Rattle.world_safety.specs.world_laws.world_answers.Answers.{Items, AllWorded}
+use Rattle.world_model.specs.World.{Script, items_in, scripts_after}
+use Rattle.world_model.specs.World as world
+use Rattle.world_model.specs.Kept.{Bytes, with_packet}
+use Rattle.world_packets.specs.Packets.{Kept, world_pairs, waits_as}
+use Rattle.node_state.specs.declared.state.Core.{Core}
+use Rattle.world_laws.specs.world_answers.Answers.{Items, AllWorded}
 use Rattle.play_state.specs.declared.starts.Started.{Started}
 use Rattle.play_state.specs.Starts.{started_in}
 use Rattle.play_state.specs.Posting.{PacketsStand, bytes_after}

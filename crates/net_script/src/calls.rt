@@ -2,31 +2,31 @@
 ghost use Rattle.std.specs.Prelude.{◌≡◌, ℕ, ◌+◌, ◌++◌, ◌∷◌, [], IfOk, OnOk, IsErrOf};
 ghost use Rattle.std.specs.List.{list_any};
 ghost use Rattle.std.specs.Option.{ForSome, unwrap_or};
-ghost use Rattle.node_core.specs.client_callbacks.Votes.{votes_word};
-ghost use Rattle.node_core.specs.session_state.State.{is_session};
-ghost use Rattle.node_core.specs.node_state.declared.call.CallLine.TheVariants as call;
-ghost use Rattle.node_core.specs.node_state.declared.happened.Happened.TheVariants as happened;
-ghost use Rattle.node_core.specs.session_state.declared.fault.GsFault.TheVariants as fault;
-ghost use Rattle.node_core.specs.node_state.Calls.{caller_of};
-ghost use Rattle.node_core.specs.node_state.Step.{Calls};
-ghost use Rattle.play_state.specs.world_model.World.{node_at, calls_if};
-ghost use Rattle.world_safety.specs.world_laws.world_answers.Answers.{calls_by_if};
+ghost use Rattle.client_callbacks.specs.Votes.{votes_word};
+ghost use Rattle.session_state.specs.State.{is_session};
+ghost use Rattle.node_state.specs.declared.call.CallLine.TheVariants as call;
+ghost use Rattle.node_state.specs.declared.happened.Happened.TheVariants as happened;
+ghost use Rattle.session_state.specs.declared.fault.GsFault.TheVariants as fault;
+ghost use Rattle.node_state.specs.Calls.{caller_of};
+ghost use Rattle.node_state.specs.Step.{Calls};
+ghost use Rattle.world_model.specs.World.{node_at, calls_if};
+ghost use Rattle.world_laws.specs.world_answers.Answers.{calls_by_if};
 ghost use Rattle.net_script.specs.Standing.{silent_or, CallDone, Goes, Passes, Comes};
 ghost use Rattle.net_script.specs.Hands.{NodeHands, StepHears, HearsAs};
 
 use crate::steps::{Left, leave, step_node};
 use crate::world::World;
-use node_core::client_callbacks::{Callbacks, Made, votes_word};
-use node_core::node_state::{CallLine, Happened, Records};
-use node_core::rsct_packet::{List, NoMemory};
-use node_core::session_clients::scripted_clients_fill_their_scripts;
-use node_core::session_state::GsFault;
+use client_callbacks::{Callbacks, Made, votes_word};
 use node_core::{Node, NodeEvent};
+use node_state::{CallLine, Happened, Records};
 use play_state::WorldFault;
+use rsct_packet::{List, NoMemory};
+use session_clients::scripted_clients_fill_their_scripts;
+use session_state::GsFault;
 use std::alloc::Global;
 
 /// The name of the client that calls.
-#[tactic(auto, unfolding(crate::proofs::Below::caller_of))]
+#[tactic(auto, unfolding(node_state::specs::Calls::caller_of))]
 fn caller_of(call: &CallLine) -> &[u8]
     ensures { result.now ≡ caller_of call.now }
 {

@@ -1,16 +1,16 @@
 //! Packets that are given to nodes.
 ghost use Rattle.std.specs.Prelude.{◌≡◌, ℕ, OnOk, IsErrOf, is_some, find, ◌&&◌};
-ghost use Rattle.play_state.specs.world_model.declared.event.Event.TheVariants as event;
-ghost use Rattle.play_state.specs.world_model.World.{node_at, kth_in, kth_between, delivers};
-ghost use Rattle.world_safety.specs.world_laws.world_answers.Answers.{delivers_by_if};
-ghost use Rattle.play_state.specs.world_packets.Packets.{world_pairs, find_pair};
+ghost use Rattle.world_model.specs.declared.event.Event.TheVariants as event;
+ghost use Rattle.world_model.specs.World.{node_at, kth_in, kth_between, delivers};
+ghost use Rattle.world_laws.specs.world_answers.Answers.{delivers_by_if};
+ghost use Rattle.world_packets.specs.Packets.{world_pairs, find_pair};
 ghost use Rattle.net_script.specs.Standing.{is_me, Goes, Passes, Comes};
 ghost use Rattle.net_script.specs.Hands.{Hears};
 
 use crate::world::World;
+use client_callbacks::Made;
 use node_core::NodeEvent;
-use node_core::client_callbacks::Made;
-use node_core::node_state::Records;
+use node_state::Records;
 use play_state::WorldFault;
 use std::alloc::Global;
 

@@ -1,19 +1,19 @@
 //! What happens, in one call.
 ghost use Rattle.std.specs.Prelude.{◌≡◌, ℕ, OnOk, IsErrOf};
-ghost use Rattle.node_core.specs.node_state.Step.{Garbage};
-ghost use Rattle.play_state.specs.world_model.World.{node_at, node_steps, happens};
-ghost use Rattle.world_safety.specs.world_laws.world_answers.Answers.{step_by_if, happens_by};
+ghost use Rattle.node_state.specs.Step.{Garbage};
+ghost use Rattle.world_model.specs.World.{node_at, node_steps, happens};
+ghost use Rattle.world_laws.specs.world_answers.Answers.{step_by_if, happens_by};
 ghost use Rattle.net_script.specs.Standing.{Goes, Passes, Comes};
 ghost use Rattle.net_script.specs.Hands.{NodeHands, HearsAs, Hears};
 ghost use Rattle.net_script.specs.Safe.{AnswersSafely, GoesSafely};
 
 use crate::world::World;
+use client_callbacks::Made;
 use node_core::NodeEvent;
-use node_core::client_callbacks::Made;
-use node_core::node_state::Records;
+use node_state::Records;
 use play_state::WorldFault;
-use play_state::world_model::Event;
 use std::alloc::Global;
+use world_model::Event;
 
 impl<C: Made> World<C> {
     /// A node is given bytes that are no packet.
@@ -33,7 +33,7 @@ impl<C: Made> World<C> {
     }
 
     /// A plain event happens, each kind by its own call.
-    #[tactic(auto, unfolding(crate::proofs::Below::happens, crate::proofs::Below::happens_by))]
+    #[tactic(auto, unfolding(world_model::specs::World::happens, world_laws::specs::world_answers::Answers::happens_by))]
     fn happen(&mut self, alloc: Global, event: &Event, out: &mut Records) -> Result<(), WorldFault>
         ensures goes { OnOk result (Comes C.script C.script_of self.old
             (Goes C.script C.script_of self.old self.new out.old out.new)

@@ -2,23 +2,23 @@
 ghost use Rattle.std.specs.Prelude.{◌≡◌, ◌≤◌, ◌∷◌, ◌&&◌, not, List, is_some, find};
 ghost use Rattle.std.specs.List.{list_any};
 ghost use Rattle.hags_io.specs.Edges.{Rose};
-ghost use Rattle.play_state.specs.world_model.World.{Sent, node_at};
-ghost use Rattle.play_state.specs.world_model.World as world;
-ghost use Rattle.play_state.specs.world_model.Play.{is_cut_of, is_cut, flow_limit};
-ghost use Rattle.world_safety.specs.world_laws.world_answers.Plays.{AnsweredPlay, TakesPacket, PlaysFlow};
-ghost use Rattle.play_state.specs.world_packets.Packets.{waits_as};
+ghost use Rattle.world_model.specs.World.{Sent, node_at};
+ghost use Rattle.world_model.specs.World as world;
+ghost use Rattle.world_model.specs.Play.{is_cut_of, is_cut, flow_limit};
+ghost use Rattle.world_laws.specs.world_answers.Plays.{AnsweredPlay, TakesPacket, PlaysFlow};
+ghost use Rattle.world_packets.specs.Packets.{waits_as};
 ghost use Rattle.net_script.specs.Standing.{is_me};
 ghost use Rattle.net_script.specs.Stage.{At, LeadsTo};
 
 use crate::plain_events::play_event;
 use crate::stage::Stage;
+use client_callbacks::Made;
 use hags_io::Sink;
-use node_core::client_callbacks::Made;
 use play_state::PlayFault;
-use play_state::world_model::Event;
-use play_state::world_packets::Waiting;
 use std::alloc::Global;
 use transcript::Kinds;
+use world_model::Event;
+use world_packets::Waiting;
 
 /// How many packets one flow takes at most.
 pub const FLOW_LIMIT: u32 = 100_000;

@@ -19,10 +19,7 @@ mod steps;
 mod world;
 
 pub use flow::FLOW_LIMIT;
-pub use hags_io;
 pub use nodes::Nodes;
-pub use play_state;
 pub use script::{play, play_as};
 pub use stage::Stage;
-pub use transcript;
 pub use world::World;

@@ -1,17 +1,17 @@
 //! Nodes that start, stop and are shown.
 ghost use Rattle.std.specs.Prelude.{OnOk};
-ghost use Rattle.play_state.specs.world_model.declared.event.Event.TheVariants as event;
-ghost use Rattle.play_state.specs.world_model.World.{node_at, node_starts, started_at, stops_if, shows_if};
-ghost use Rattle.play_state.specs.world_model.World as world;
+ghost use Rattle.world_model.specs.declared.event.Event.TheVariants as event;
+ghost use Rattle.world_model.specs.World.{node_at, node_starts, started_at, stops_if, shows_if};
+ghost use Rattle.world_model.specs.World as world;
 ghost use Rattle.net_script.specs.Standing.{Stands, Goes};
 ghost use Rattle.net_script.specs.Hands.{BeginHands, HearsAs, Hears};
 
 use crate::world::World;
+use client_callbacks::Made;
 use node_core::Node;
-use node_core::client_callbacks::Made;
-use node_core::node_state::{Happened, Records, What};
-use node_core::node_text::record_status;
-use node_core::rsct_packet::NoMemory;
+use node_state::{Happened, Records, What};
+use node_text::record_status;
+use rsct_packet::NoMemory;
 use std::alloc::Global;
 
 impl<C: Made> World<C> {

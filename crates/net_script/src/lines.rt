@@ -1,20 +1,20 @@
 //! The lines of a script.
 ghost use Rattle.std.specs.Prelude.{◌≡◌, ◌≤◌};
 ghost use Rattle.hags_io.specs.Edges.{Rose};
-ghost use Rattle.play_state.specs.world_model.World as world;
-ghost use Rattle.world_safety.specs.world_laws.world_answers.Plays.{AnsweredPlay, PlaysLine, PlaysLines};
+ghost use Rattle.world_model.specs.World as world;
+ghost use Rattle.world_laws.specs.world_answers.Plays.{AnsweredPlay, PlaysLine, PlaysLines};
 ghost use Rattle.net_script.specs.Stage.{At, LeadsTo};
 
 use crate::flow::flow;
 use crate::plain_events::play_event;
 use crate::rounds::run;
 use crate::stage::Stage;
+use client_callbacks::Made;
 use hags_io::Sink;
-use node_core::client_callbacks::Made;
 use play_state::PlayFault;
-use play_state::world_model::Line;
 use std::alloc::Global;
 use transcript::Kinds;
+use world_model::Line;
 
 /// A line is played.
 fn play_line<C: Made, K: Sink>(

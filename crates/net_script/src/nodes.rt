@@ -1,18 +1,18 @@
 //! The nodes of a world that are up, ascending.
 ghost use Rattle.std.specs.Prelude.{◌≡◌, ◌<◌, ◌≤◌, [], length, IfSome, IfOk, OnOk, IsTrue, find, is_some, option_copied, map};
-ghost use Rattle.node_core.specs.rsct_packet.Search.{place_where, front_len, insert_before};
-ghost use Rattle.node_core.specs.rsct_packet.Lists.{drop_where};
-ghost use Rattle.node_core.specs.node_state.Step.{Calls};
+ghost use Rattle.rsct_packet.specs.Search.{place_where, front_len, insert_before};
+ghost use Rattle.rsct_packet.specs.Lists.{drop_where};
+ghost use Rattle.node_state.specs.Step.{Calls};
 ghost use Rattle.node_core.specs.Event.{event_in, is_taken};
 ghost use Rattle.net_script.specs.Standing.{is_me, comes_before, number_in, StepsIn, with_scripts};
 ghost use Rattle.net_script.specs.Hands.{NodesHear};
 
 use crate::calls::call_node;
 use crate::steps::{Left, step_node};
-use node_core::client_callbacks::{Callbacks, Made};
-use node_core::node_state::CallLine;
-use node_core::rsct_packet::NoMemory;
+use client_callbacks::{Callbacks, Made};
 use node_core::{Node, NodeEvent};
+use node_state::CallLine;
+use rsct_packet::NoMemory;
 use std::alloc::Global;
 use std::marker::Model;
 
@@ -32,7 +32,7 @@ impl<C: Callbacks> Model for Nodes<C> {
 }
 
 /// Where a node stands among those that are up.
-#[tactic(auto, using(crate::proofs::Below::place_search))]
+#[tactic(auto, using(rsct_packet::proofs::SearchLaws::place_search))]
 fn place_alone<C: Callbacks>(nodes: &[Node<C>], node: u8) -> Option<usize>
     ensures { result ≡ place_where (is_me node) nodes.now }
 {
@@ -44,7 +44,7 @@ fn place_alone<C: Callbacks>(nodes: &[Node<C>], node: u8) -> Option<usize>
     None
 }
 
-#[tactic(auto, using(crate::proofs::Below::place_is_in))]
+#[tactic(auto, using(rsct_packet::proofs::SearchLaws::place_is_in))]
 fn place_of<C: Callbacks>(nodes: &[Node<C>], node: u8) -> Option<usize>
     ensures value { result ≡ place_where (is_me node) nodes.now }
     ensures within { IfSome result (λ i. i < length nodes.now) }
@@ -60,7 +60,7 @@ fn comes_before<C: Callbacks>(number: u8, node: &Node<C>) -> bool
 }
 
 /// How many nodes stand before a number.
-#[tactic(auto, using(crate::proofs::Below::front_search, crate::proofs::Below::front_is_in))]
+#[tactic(auto, using(rsct_packet::proofs::SearchLaws::front_search, rsct_packet::proofs::SearchLaws::front_is_in))]
 fn front<C: Callbacks>(nodes: &[Node<C>], node: u8) -> usize
     ensures value { result ≡ front_len (comes_before node) nodes.now }
     ensures within { result ≤ length nodes.now }
@@ -110,7 +110,7 @@ impl<C: Callbacks> Nodes<C> {
     }
 
     /// A node that starts stands before those of greater numbers.
-    #[tactic(auto, using(crate::proofs::Below::insert_at_front))]
+    #[tactic(auto, using(rsct_packet::proofs::SearchLaws::insert_at_front))]
     pub fn insert(&mut self, number: u8, node: Node<C>) -> Result<(), NoMemory>
         ensures { OnOk result (self.new ≡ insert_before (comes_before number) node self.old) }
     {
@@ -120,7 +120,7 @@ impl<C: Callbacks> Nodes<C> {
     }
 
     /// A node stops; answers whether it was up.
-    #[tactic(auto, using(crate::proofs::Below::removed_at_place, crate::proofs::Below::none_removed))]
+    #[tactic(auto, using(world_packets::proofs::WaitLaws::removed_at_place, world_packets::proofs::WaitLaws::none_removed))]
     pub fn remove(&mut self, node: u8) -> bool
         ensures up { result ≡ is_some (find (is_me node) self.old) }
         ensures left { self.new ≡ drop_where (is_me node) self.old }

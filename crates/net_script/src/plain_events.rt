@@ -1,20 +1,20 @@
 //! A plain event of a play.
 ghost use Rattle.std.specs.Prelude.{◌≡◌, ◌≤◌};
 ghost use Rattle.hags_io.specs.Edges.{Rose};
-ghost use Rattle.play_state.specs.world_model.World as world;
-ghost use Rattle.world_safety.specs.world_laws.world_answers.Plays.{AnsweredPlay, PlaysEvent};
+ghost use Rattle.world_model.specs.World as world;
+ghost use Rattle.world_laws.specs.world_answers.Plays.{AnsweredPlay, PlaysEvent};
 ghost use Rattle.net_script.specs.Stage.{At, LeadsTo};
 
 use crate::records::write_records;
 use crate::stage::Stage;
+use client_callbacks::Made;
 use hags_io::Sink;
-use node_core::client_callbacks::Made;
-use node_core::node_state::Records;
-use node_core::rsct_packet::List;
+use node_state::Records;
 use play_state::PlayFault;
-use play_state::world_model::Event;
+use rsct_packet::List;
 use std::alloc::Global;
 use transcript::Kinds;
+use world_model::Event;
 
 /// A plain event happens, and what it records is written.
 pub fn play_event<C: Made, K: Sink>(

@@ -2,11 +2,11 @@
 ghost use Rattle.std.specs.Prelude.{◌≡◌, ◌≤◌, ◌∷◌, [], OnOk};
 ghost use Rattle.std.specs.Io.KnownBytes.{Appends};
 ghost use Rattle.hags_io.specs.Edges.{GrowsByFront, Rose};
-ghost use Rattle.play_state.specs.world_model.Text.{line_of};
+ghost use Rattle.world_model.specs.Text.{line_of};
 ghost use Rattle.transcript.specs.Kinds.{kinds_text};
 
 use hags_io::{Put, Sink};
-use node_core::node_state::Happened;
+use node_state::Happened;
 use play_state::PutFault;
 use std::alloc::Global;
 use transcript::{Kinds, line_of};

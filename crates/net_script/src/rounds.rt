@@ -1,19 +1,19 @@
 //! Rounds: every node ticks, and then all flows.
 ghost use Rattle.std.specs.Prelude.{◌≡◌, ◌≤◌};
 ghost use Rattle.hags_io.specs.Edges.{Rose};
-ghost use Rattle.play_state.specs.world_model.World as world;
-ghost use Rattle.world_safety.specs.world_laws.world_answers.Plays.{AnsweredPlay, PlaysEach, PlaysTick, PlaysTicks, PlaysRounds};
+ghost use Rattle.world_model.specs.World as world;
+ghost use Rattle.world_laws.specs.world_answers.Plays.{AnsweredPlay, PlaysEach, PlaysTick, PlaysTicks, PlaysRounds};
 ghost use Rattle.net_script.specs.Stage.{At, LeadsTo};
 
 use crate::flow::flow;
 use crate::plain_events::play_event;
 use crate::stage::Stage;
+use client_callbacks::Made;
 use hags_io::Sink;
-use node_core::client_callbacks::Made;
 use play_state::PlayFault;
-use play_state::world_model::Event;
 use std::alloc::Global;
 use transcript::Kinds;
+use world_model::Event;
 
 /// These nodes tick, in this order.
 fn tick_each<C: Made, K: Sink>(

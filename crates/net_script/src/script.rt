@@ -2,9 +2,9 @@
 ghost use Rattle.std.specs.Prelude.{◌≡◌, ◌≤◌, ℕ, OnOk, IfOk, IsErrOf, Some, None, true, false};
 ghost use Rattle.std.specs.Io.KnownBytes.{Appends};
 ghost use Rattle.hags_io.specs.Edges.{GrowsByFront, Rose};
-ghost use Rattle.play_state.specs.world_model.World.{world_new};
-ghost use Rattle.play_state.specs.world_model.Play.{script_records};
-ghost use Rattle.play_state.specs.world_model.Kept.{kept_past, kept_records};
+ghost use Rattle.world_model.specs.World.{world_new};
+ghost use Rattle.world_model.specs.Play.{script_records};
+ghost use Rattle.world_model.specs.Kept.{kept_past, kept_records};
 ghost use Rattle.transcript.specs.Kinds.{kinds_text};
 ghost use Rattle.net_script.specs.Safe.{ScriptIsSafe, KeptRunIsSafe, MayPlay};
 ghost use Rattle.net_script.specs.Standing.{Stands};
@@ -14,14 +14,14 @@ use crate::World;
 use crate::lines::play_lines;
 use crate::records::write_records;
 use crate::stage::Stage;
+use client_callbacks::{Made, ScriptClient};
 use hags_io::Sink;
-use node_core::client_callbacks::{Made, ScriptClient};
-use node_core::node_state::Records;
-use node_core::rsct_packet::List;
-use play_state::world_model::Script;
+use node_state::Records;
 use play_state::{Cuts, PlayFault};
+use rsct_packet::List;
 use std::alloc::Global;
 use transcript::Kinds;
+use world_model::Script;
 
 /// Plays a script that has begun, and gives the world at its end.
 fn play_begun<C: Made, K: Sink>(

@@ -1,7 +1,7 @@
 //! What a play has.
 
 use crate::World;
-use node_core::client_callbacks::{Callbacks, ScriptClient};
+use client_callbacks::{Callbacks, ScriptClient};
 use play_state::Cuts;
 
 /// The world that a script is played in, and which nodes are cut off from each other.

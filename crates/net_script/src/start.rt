@@ -1,8 +1,8 @@
 //! How a world begins.
 ghost use Rattle.std.specs.Prelude.{◌≡◌, [], IfOk, OnOk};
 ghost use Rattle.std.specs.List.{fold};
-ghost use Rattle.play_state.specs.world_model.World.{empty_world, node_starts, world_new};
-ghost use Rattle.play_state.specs.world_model.World as world;
+ghost use Rattle.world_model.specs.World.{empty_world, node_starts, world_new};
+ghost use Rattle.world_model.specs.World as world;
 ghost use Rattle.net_script.specs.Standing.{Stands, Goes, kept_empty};
 ghost use Rattle.net_script.specs.Hands.{LogsStand, empty_logs};
 ghost use Rattle.net_script.specs.Safe.{SafeOn};
@@ -10,12 +10,12 @@ ghost use Rattle.world_safety.specs.Scripts.{IsSafeRun};
 
 use crate::nodes::Nodes;
 use crate::world::World;
-use node_core::client_callbacks::Made;
-use node_core::node_state::{Config, Mode, Records};
-use node_core::rsct_packet::NoMemory;
+use client_callbacks::Made;
+use node_state::{Config, Mode, Records};
 use play_state::Starts;
-use play_state::world_packets::WorldPackets;
+use rsct_packet::NoMemory;
 use std::alloc::Global;
+use world_packets::WorldPackets;
 
 impl<C: Made> World<C> {
     /// No node has started.

@@ -4,11 +4,11 @@ ghost use Rattle.node_core.specs.Event.{event_in, is_taken};
 ghost use Rattle.net_script.specs.Standing.{Leaves, StepsAs};
 ghost use Rattle.net_script.specs.Hands.{StepHears};
 
-use node_core::client_callbacks::{Callbacks, Made};
-use node_core::node_state::{Packets, Records};
-use node_core::rsct_packet::NoMemory;
-use node_core::session_clients::scripted_clients_fill_their_scripts;
+use client_callbacks::{Callbacks, Made};
 use node_core::{Node, NodeEvent};
+use node_state::{Packets, Records};
+use rsct_packet::NoMemory;
+use session_clients::scripted_clients_fill_their_scripts;
 use std::alloc::Global;
 
 /// What a step sends and records.

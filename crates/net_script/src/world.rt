@@ -1,20 +1,20 @@
 //! What happens in a world.
 ghost use Rattle.std.specs.Prelude.{◌≡◌, ℕ, OnOk, IsErrOf, IsTrue, Some};
 ghost use Rattle.node_core.specs.Event.{event_in, is_taken};
-ghost use Rattle.play_state.specs.world_model.World.{node_at, node_steps};
-ghost use Rattle.world_safety.specs.world_laws.world_answers.Answers.{step_by_if};
+ghost use Rattle.world_model.specs.World.{node_at, node_steps};
+ghost use Rattle.world_laws.specs.world_answers.Answers.{step_by_if};
 ghost use Rattle.net_script.specs.Standing.{Goes, Passes, Comes, Settled};
 ghost use Rattle.play_state.specs.Posting.{bytes_after};
 ghost use Rattle.net_script.specs.Hands.{NodeHands, HearsAs};
 
 use crate::nodes::Nodes;
 use crate::steps::Left;
+use client_callbacks::{Callbacks, Made, ScriptClient};
 use node_core::NodeEvent;
-use node_core::client_callbacks::{Callbacks, Made, ScriptClient};
-use node_core::node_state::{Config, Records};
-use play_state::world_packets::WorldPackets;
+use node_state::{Config, Records};
 use play_state::{Starts, WorldFault, post_all};
 use std::alloc::Global;
+use world_packets::WorldPackets;
 
 /// A world: the nodes that are up, all packets that they ever sent, and how many bytes those have, which may be as
 /// many as the limit says. Its clients are of any kind that is made of votes words.

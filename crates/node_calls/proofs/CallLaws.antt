@@ -3,25 +3,25 @@ use Rattle.std.proofs.Common.{◌≡◌, ℕ, suc, ◌-◌, Bool, true, false, c
 use Rattle.std.specs.Prelude.{slice_get, not, ◌||◌}
 use Rattle.std.specs.List.{last_or, list_any}
 use Rattle.std.specs.Option.{option_map}
-use Rattle.group_leading.specs.rsct_packet.Search.{place_where}
-use Rattle.group_leading.specs.subscribe_core.declared.subs.ClientToken.{ClientToken}
-use Rattle.group_leading.specs.client_callbacks.declared.ballot.Filled.{Filled}
-use Rattle.group_leading.specs.session_state.declared.fault.GsFault.{GsFault}
-use Rattle.group_leading.specs.session_state.declared.fault.GsFault.TheVariants as fault
-use Rattle.group_leading.specs.session_state.declared.state.KeptBallot.{KeptBallot}
-use Rattle.group_leading.specs.session_state.declared.state.Provider.{Provider}
-use Rattle.group_leading.specs.session_state.declared.state.Session.{Session}
-use Rattle.group_leading.specs.session_state.declared.state.SessionState.{SessionState}
-use Rattle.group_leading.specs.session_state.State.{is_session, client_place}
-use Rattle.group_leading.specs.session_state.Calls.{Answers, AnswersAlways, SameSessions, is_empty, or_fault, fault_if, unless_fault, no_session_fault, client_fault, end_session, goodbye_taken}
-use Rattle.group_leading.specs.node_state.declared.happened.Happened.{Happened}
-use Rattle.group_leading.specs.node_state.declared.packet.Body.{Body}
-use Rattle.group_leading.specs.node_state.declared.state.Core.{Core}
-use Rattle.group_leading.specs.node_state.State.{recorded, with_sessions, leader_of}
-use Rattle.group_leading.specs.node_state.Sending.{send_on, sent, send_if_known}
-use Rattle.group_leading.specs.node_state.Calls.{refuse_call, changed, ask_last, proposed, cast_last, give_ballot, record_ballot, send_gone, send_all_gone, goodbye_said}
-use Rattle.group_leading.specs.node_groups.Keeps.{Stays}
-use Rattle.group_leading.proofs.node_groups_laws.KeepLaws.{stays_itself, stays_as, record_stays}
+use Rattle.rsct_packet.specs.Search.{place_where}
+use Rattle.subscribe_core.specs.declared.subs.ClientToken.{ClientToken}
+use Rattle.client_callbacks.specs.declared.ballot.Filled.{Filled}
+use Rattle.session_state.specs.declared.fault.GsFault.{GsFault}
+use Rattle.session_state.specs.declared.fault.GsFault.TheVariants as fault
+use Rattle.session_state.specs.declared.state.KeptBallot.{KeptBallot}
+use Rattle.session_state.specs.declared.state.Provider.{Provider}
+use Rattle.session_state.specs.declared.state.Session.{Session}
+use Rattle.session_state.specs.declared.state.SessionState.{SessionState}
+use Rattle.session_state.specs.State.{is_session, client_place}
+use Rattle.session_state.specs.Calls.{Answers, AnswersAlways, SameSessions, is_empty, or_fault, fault_if, unless_fault, no_session_fault, client_fault, end_session, goodbye_taken}
+use Rattle.node_state.specs.declared.happened.Happened.{Happened}
+use Rattle.node_state.specs.declared.packet.Body.{Body}
+use Rattle.node_state.specs.declared.state.Core.{Core}
+use Rattle.node_state.specs.State.{recorded, with_sessions, leader_of}
+use Rattle.node_state.specs.Sending.{send_on, sent, send_if_known}
+use Rattle.node_state.specs.Calls.{refuse_call, changed, ask_last, proposed, cast_last, give_ballot, record_ballot, send_gone, send_all_gone, goodbye_said}
+use Rattle.node_groups.specs.Keeps.{Stays}
+use Rattle.node_groups.proofs.KeepLaws.{stays_itself, stays_as, record_stays}
 
 -- ---- what is kept
 

@@ -1,9 +1,9 @@
 -- What a call leaves of the clients of a node.
 use Rattle.std.specs.Prelude.{Bool, true, false, List, [], ◌∷◌, ◌++◌, Result, Ok, Err}
-use Rattle.group_leading.specs.session_state.declared.fault.GsFault.{GsFault}
-use Rattle.group_leading.specs.session_state.declared.state.SessionState.{SessionState}
-use Rattle.group_leading.specs.node_state.declared.call.CallLine.{CallLine}
-use Rattle.group_leading.specs.node_state.declared.call.CallLine.TheVariants as call
+use Rattle.session_state.specs.declared.fault.GsFault.{GsFault}
+use Rattle.session_state.specs.declared.state.SessionState.{SessionState}
+use Rattle.node_state.specs.declared.call.CallLine.{CallLine}
+use Rattle.node_state.specs.declared.call.CallLine.TheVariants as call
 
 -- a session that begins has its client behind all others
 abbrev pub clients_with : {A : Type 0} → A → List A → Result SessionState GsFault → List A

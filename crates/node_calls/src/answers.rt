@@ -1,19 +1,19 @@
 //! What a call leaves that changes nothing but the sessions, or that is refused.
 ghost use Rattle.std.specs.Prelude.{◌≡◌, OnOk, Result};
-ghost use Rattle.group_leading.specs.session_state.declared.state.SessionState.{SessionState};
-ghost use Rattle.group_leading.specs.session_state.Calls.{Answers, SameSessions};
-ghost use Rattle.group_leading.specs.node_state.declared.state.Core.{Core};
-ghost use Rattle.group_leading.specs.node_state.Calls.{refuse_call, changed};
-ghost use Rattle.group_leading.specs.node_state.State.{with_sessions};
-ghost use Rattle.group_leading.specs.node_groups.Keeps.{Stays};
+ghost use Rattle.session_state.specs.declared.state.SessionState.{SessionState};
+ghost use Rattle.session_state.specs.Calls.{Answers, SameSessions};
+ghost use Rattle.node_state.specs.declared.state.Core.{Core};
+ghost use Rattle.node_state.specs.Calls.{refuse_call, changed};
+ghost use Rattle.node_state.specs.State.{with_sessions};
+ghost use Rattle.node_groups.specs.Keeps.{Stays};
 
-use group_leading::node_state::{Core, Happened};
-use group_leading::rsct_packet::{List, NoMemory};
-use group_leading::session_state::GsFault;
+use node_state::{Core, Happened};
+use rsct_packet::{List, NoMemory};
+use session_state::GsFault;
 use std::alloc::Global;
 
 /// Records that a call is refused. Want of memory is no refusal, and is handed on.
-#[tactic(auto, unfolding(crate::proofs::Below::refuse_call, crate::proofs::Below::recorded), using(crate::proofs::CallLaws::refused_keeps))]
+#[tactic(auto, unfolding(node_state::specs::Calls::refuse_call, node_state::specs::State::recorded), using(crate::proofs::CallLaws::refused_keeps))]
 pub fn refuse(core: &mut Core, alloc: Global, client: &[u8], fault: GsFault) -> Result<(), NoMemory>
     ensures row { OnOk result (core.new ≡ refuse_call core.old client.now fault) }
     ensures refusal { OnOk result (¬ (fault ≡ GsFault.NoMemory)) }

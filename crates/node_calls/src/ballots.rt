@@ -1,24 +1,24 @@
 //! Calls that vote: the ballot that they fill is recorded and sent.
 ghost use Rattle.std.specs.Prelude.{◌≡◌, None, OnOk, Result};
 ghost use Rattle.std.specs.List.{last_or};
-ghost use Rattle.group_leading.specs.session_state.declared.fault.GsFault.{GsFault};
-ghost use Rattle.group_leading.specs.session_state.declared.state.SessionState.{SessionState};
-ghost use Rattle.group_leading.specs.session_state.Calls.{Answers, SameSessions};
-ghost use Rattle.group_leading.specs.node_state.declared.state.Core.{Core};
-ghost use Rattle.group_leading.specs.node_state.Calls.{record_ballot, give_ballot, cast_last};
-ghost use Rattle.group_leading.specs.node_state.State.{with_sessions};
-ghost use Rattle.group_leading.specs.node_groups.Keeps.{Stays};
+ghost use Rattle.session_state.specs.declared.fault.GsFault.{GsFault};
+ghost use Rattle.session_state.specs.declared.state.SessionState.{SessionState};
+ghost use Rattle.session_state.specs.Calls.{Answers, SameSessions};
+ghost use Rattle.node_state.specs.declared.state.Core.{Core};
+ghost use Rattle.node_state.specs.Calls.{record_ballot, give_ballot, cast_last};
+ghost use Rattle.node_state.specs.State.{with_sessions};
+ghost use Rattle.node_groups.specs.Keeps.{Stays};
 
 use crate::answers::refuse;
-use group_leading::node_sending::is_frozen;
-use group_leading::node_state::{Core, Happened};
-use group_leading::rsct_packet::NoMemory;
-use group_leading::session_state::{GsFault, KeptBallot};
 use node_owed::{copy_kept, send_kept};
+use node_sending::is_frozen;
+use node_state::{Core, Happened};
+use rsct_packet::NoMemory;
+use session_state::{GsFault, KeptBallot};
 use std::alloc::Global;
 
 /// Records a kept ballot, where it is filled.
-#[tactic(auto, unfolding(crate::proofs::Below::record_ballot, crate::proofs::Below::recorded), using(crate::proofs::CallLaws::ballot_recorded_keeps))]
+#[tactic(auto, unfolding(node_state::specs::Calls::record_ballot, node_state::specs::State::recorded), using(crate::proofs::CallLaws::ballot_recorded_keeps))]
 fn record_ballot(core: &mut Core, alloc: Global, kept: &KeptBallot) -> Result<(), NoMemory>
     ensures row { OnOk result (core.new ≡ record_ballot core.old kept.now kept.now.ballot.filled) }
     ensures keeps { OnOk result (Stays core.old core.new) }
@@ -40,7 +40,7 @@ fn record_ballot(core: &mut Core, alloc: Global, kept: &KeptBallot) -> Result<()
 }
 
 /// Records the ballot that was kept last, and sends it where the node is not frozen.
-#[tactic(auto, unfolding(crate::proofs::Below::cast_last, crate::proofs::Below::ballot_sent_if), using(crate::proofs::CallLaws::last_there))]
+#[tactic(auto, unfolding(node_state::specs::Calls::cast_last, node_state::specs::Calls::ballot_sent_if), using(crate::proofs::CallLaws::last_there))]
 fn cast_last(core: &mut Core, alloc: Global) -> Result<(), NoMemory>
     ensures row { OnOk result (core.new ≡ cast_last core.old
         (last_or None core.old.sessions.kept)) }

@@ -1,28 +1,28 @@
 //! The calls of a client in its session.
 ghost use Rattle.std.specs.Prelude.{◌≡◌, OnOk, IsTrue, option_copied};
-ghost use Rattle.group_leading.specs.client_callbacks.Ballots.{is_level};
-ghost use Rattle.group_leading.specs.session_state.State.{client_token};
-ghost use Rattle.group_leading.specs.session_state.Calls.{joined, left, expelled, state_changed, message_sent, attributes_changed, voted, subscribe_taken, unsubscribe_taken};
-ghost use Rattle.group_leading.specs.node_state.State.{holds};
-ghost use Rattle.group_leading.specs.node_state.Calls.{caller, subscriber, changed, proposed, give_ballot, take_call};
-ghost use Rattle.group_leading.specs.node_groups.Keeps.{Stays};
+ghost use Rattle.client_callbacks.specs.Ballots.{is_level};
+ghost use Rattle.session_state.specs.State.{client_token};
+ghost use Rattle.session_state.specs.Calls.{joined, left, expelled, state_changed, message_sent, attributes_changed, voted, subscribe_taken, unsubscribe_taken};
+ghost use Rattle.node_state.specs.State.{holds};
+ghost use Rattle.node_state.specs.Calls.{caller, subscriber, changed, proposed, give_ballot, take_call};
+ghost use Rattle.node_groups.specs.Keeps.{Stays};
 ghost use Rattle.node_calls.specs.Calling.{is_within_session};
 
 use crate::answers::change;
 use crate::ballots::give_ballot;
 use crate::requests::propose;
-use group_leading::group_attr::{Attrs, Phases};
-use group_leading::node_groups::holds;
-use group_leading::node_state::{CallLine, Core};
-use group_leading::proposal_core::Vote;
-use group_leading::rsct_packet::{List, NoMemory, ProviderId};
-use group_leading::session_state::{MemberToken, SessionState};
-use group_leading::subscribe_core::SubToken;
+use group_attr::{Attrs, Phases};
+use node_groups::holds;
+use node_state::{CallLine, Core};
+use proposal_core::Vote;
+use rsct_packet::{List, NoMemory, ProviderId};
 use session_calls::{client_token, member_token, sub_token};
+use session_state::{MemberToken, SessionState};
 use std::alloc::Global;
+use subscribe_core::SubToken;
 
 /// The token of the provider that calls; 0 where there is none.
-#[tactic(auto, unfolding(crate::proofs::Below::caller))]
+#[tactic(auto, unfolding(node_state::specs::Calls::caller))]
 fn caller(sessions: &SessionState, client: &[u8], group: &[u8]) -> MemberToken
     ensures { result ≡ caller sessions.now client.now group.now }
 {
@@ -30,7 +30,7 @@ fn caller(sessions: &SessionState, client: &[u8], group: &[u8]) -> MemberToken
 }
 
 /// The token of the subscription that a call is about; 0 where there is none.
-#[tactic(auto, unfolding(crate::proofs::Below::subscriber))]
+#[tactic(auto, unfolding(node_state::specs::Calls::subscriber))]
 fn subscriber(sessions: &SessionState, client: &[u8], group: &[u8]) -> SubToken
     ensures { result ≡ subscriber sessions.now client.now group.now }
 {
@@ -198,7 +198,7 @@ fn unsubscribe(core: &mut Core, alloc: Global, client: &[u8], group: &[u8]) -> R
 }
 
 /// A call of a client in its session.
-#[tactic(auto, unfolding(crate::proofs::Below::take_call))]
+#[tactic(auto, unfolding(node_state::specs::Calls::take_call))]
 pub fn take_call(core: &mut Core, alloc: Global, call: &CallLine) -> Result<(), NoMemory>
     requires within { IsTrue (is_within_session call.now) }
     requires level { IsTrue (is_level core.old.sessions.level) }

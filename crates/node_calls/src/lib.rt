@@ -8,6 +8,4 @@ mod requests;
 mod sessions;
 
 pub use calls::take_call;
-pub use group_leading::session_clients;
-pub use node_owed;
 pub use sessions::{take_goodbye, take_init};

@@ -1,24 +1,24 @@
 //! Calls that propose: the request that they make is recorded and sent.
 ghost use Rattle.std.specs.Prelude.{◌≡◌, None, OnOk, Result};
 ghost use Rattle.std.specs.List.{last_or};
-ghost use Rattle.group_leading.specs.session_state.declared.fault.GsFault.{GsFault};
-ghost use Rattle.group_leading.specs.session_state.declared.state.SessionState.{SessionState};
-ghost use Rattle.group_leading.specs.session_state.Calls.{Answers, SameSessions};
-ghost use Rattle.group_leading.specs.node_state.declared.happened.Happened.TheVariants as happened;
-ghost use Rattle.group_leading.specs.node_state.declared.state.Core.{Core};
-ghost use Rattle.group_leading.specs.node_state.Calls.{ask_last, proposed};
-ghost use Rattle.group_leading.specs.node_state.State.{recorded, with_sessions};
-ghost use Rattle.group_leading.specs.node_groups.Keeps.{Stays};
+ghost use Rattle.session_state.specs.declared.fault.GsFault.{GsFault};
+ghost use Rattle.session_state.specs.declared.state.SessionState.{SessionState};
+ghost use Rattle.session_state.specs.Calls.{Answers, SameSessions};
+ghost use Rattle.node_state.specs.declared.happened.Happened.TheVariants as happened;
+ghost use Rattle.node_state.specs.declared.state.Core.{Core};
+ghost use Rattle.node_state.specs.Calls.{ask_last, proposed};
+ghost use Rattle.node_state.specs.State.{recorded, with_sessions};
+ghost use Rattle.node_groups.specs.Keeps.{Stays};
 
 use crate::answers::refuse;
-use group_leading::node_state::{Core, Happened};
-use group_leading::rsct_packet::NoMemory;
-use group_leading::session_state::{GsFault, Request};
 use node_owed::{copy_request, send_request};
+use node_state::{Core, Happened};
+use rsct_packet::NoMemory;
+use session_state::{GsFault, Request};
 use std::alloc::Global;
 
 /// Records that a request is taken.
-#[tactic(auto, unfolding(crate::proofs::Below::recorded), using(crate::proofs::CallLaws::recorded_keeps))]
+#[tactic(auto, unfolding(node_state::specs::State::recorded), using(crate::proofs::CallLaws::recorded_keeps))]
 fn record_asked(core: &mut Core, alloc: Global, request: &Request) -> Result<(), NoMemory>
     ensures row { OnOk result (core.new ≡ recorded core.old
         (happened.Asked request.now.p request.now.r request.now.group request.now.proposal)) }
@@ -33,7 +33,7 @@ fn record_asked(core: &mut Core, alloc: Global, request: &Request) -> Result<(),
 }
 
 /// Records the outstanding request that was made last, and sends it.
-#[tactic(auto, unfolding(crate::proofs::Below::ask_last), using(crate::proofs::CallLaws::last_there))]
+#[tactic(auto, unfolding(node_state::specs::Calls::ask_last), using(crate::proofs::CallLaws::last_there))]
 fn ask_last(core: &mut Core, alloc: Global) -> Result<(), NoMemory>
     ensures row { OnOk result (core.new ≡ ask_last core.old
         (last_or None core.old.sessions.requests)) }

@@ -1,24 +1,24 @@
 //! Calls that begin and end a session.
 ghost use Rattle.std.specs.Prelude.{◌≡◌, ◌≤◌, OnOk, IfOk, length, filter};
 ghost use Rattle.std.specs.List.{fold};
-ghost use Rattle.group_leading.specs.session_state.Calls.{inited, removed_at};
-ghost use Rattle.group_leading.specs.session_state.State.{client_token, client_place, is_client_of};
-ghost use Rattle.group_leading.specs.node_state.declared.call.CallLine.TheVariants as call;
-ghost use Rattle.group_leading.specs.node_state.Calls.{changed, send_gone, send_all_gone, take_call};
-ghost use Rattle.group_leading.specs.node_groups.Keeps.{Stays};
+ghost use Rattle.session_state.specs.Calls.{inited, removed_at};
+ghost use Rattle.session_state.specs.State.{client_token, client_place, is_client_of};
+ghost use Rattle.node_state.specs.declared.call.CallLine.TheVariants as call;
+ghost use Rattle.node_state.specs.Calls.{changed, send_gone, send_all_gone, take_call};
+ghost use Rattle.node_groups.specs.Keeps.{Stays};
 ghost use Rattle.group_leading.specs.Working.{AtWork};
 ghost use Rattle.node_calls.specs.Calling.{clients_with};
 
 use crate::answers::refuse;
-use group_leading::client_callbacks::Callbacks;
-use group_leading::node_groups::leader_of;
-use group_leading::node_sending::{is_frozen, send_if_known};
-use group_leading::node_state::{Body, Core};
-use group_leading::rsct_packet::{List, NoMemory};
-use group_leading::session_state::Provider;
-use group_leading::subscribe_core::ClientToken;
+use client_callbacks::Callbacks;
+use node_groups::leader_of;
+use node_sending::{is_frozen, send_if_known};
+use node_state::{Body, Core};
+use rsct_packet::{List, NoMemory};
 use session_calls::{client_token, close_session, open_session};
+use session_state::Provider;
 use std::alloc::Global;
+use subscribe_core::ClientToken;
 
 /// A client begins its session, with the object that is handed its notices; or it is refused.
 pub fn take_init<C: Callbacks>(
@@ -73,7 +73,7 @@ fn providers_of(
 }
 
 /// Tells the leader of a provider's group that the provider is gone.
-#[tactic(auto, unfolding(crate::proofs::Below::send_gone), using(crate::proofs::CallLaws::gone_keeps))]
+#[tactic(auto, unfolding(node_state::specs::Calls::send_gone), using(crate::proofs::CallLaws::gone_keeps))]
 fn send_gone(core: &mut Core, alloc: Global, provider: &Provider) -> Result<(), NoMemory>
     ensures row { OnOk result (core.new ≡ send_gone core.old provider.now) }
     ensures keeps { OnOk result (Stays core.old core.new) }
@@ -88,7 +88,7 @@ fn send_gone(core: &mut Core, alloc: Global, provider: &Provider) -> Result<(), 
 }
 
 /// Tells it of each of these.
-#[tactic(auto, using(std::proofs::lemmas::List::Sums::fold_more, crate::proofs::Below::stays_itself, crate::proofs::Below::stays_then))]
+#[tactic(auto, using(std::proofs::lemmas::List::Sums::fold_more, node_groups::proofs::KeepLaws::stays_itself, node_groups::proofs::KeepLaws::stays_then))]
 fn send_each_gone(core: &mut Core, alloc: Global, ended: &[Provider]) -> Result<(), NoMemory>
     ensures row { OnOk result (core.new ≡ fold send_gone core.old ended.now) }
     ensures keeps { OnOk result (Stays core.old core.new) }
@@ -100,7 +100,7 @@ fn send_each_gone(core: &mut Core, alloc: Global, ended: &[Provider]) -> Result<
 }
 
 /// Tells it of each of these, where the node is not frozen.
-#[tactic(auto, unfolding(crate::proofs::Below::send_all_gone), using(crate::proofs::Below::stays_itself))]
+#[tactic(auto, unfolding(node_state::specs::Calls::send_all_gone), using(node_groups::proofs::KeepLaws::stays_itself))]
 fn send_all_gone(core: &mut Core, alloc: Global, ended: &[Provider]) -> Result<(), NoMemory>
     ensures row { OnOk result (core.new ≡ send_all_gone core.old ended.now) }
     ensures keeps { OnOk result (Stays core.old core.new) }

@@ -2,34 +2,34 @@
 use Rattle.std.proofs.Common.{◌≡◌, ℕ, Bool, true, false, cond, List, [], length, Option, Some, None, refl, sym, subst}
 use Rattle.std.specs.Prelude.{IfSome, if◌then◌else◌, ◌==◌}
 use Rattle.std.specs.Option.{option_map}
-use Rattle.packet_codec.specs.rsct_packet.Lists.{is_empty}
-use Rattle.packet_codec.specs.rsct_packet.Reading.{◌>>=◌, both_at, made_at, decoded_at, guarded_at}
-use Rattle.packet_codec.specs.rsct_packet.Format.{IsBytes, IsFormat}
-use Rattle.packet_codec.specs.rsct_packet.Packet.{PacketView, head_at, packet_at}
-use Rattle.packet_codec.proofs.rsct_packet_laws.FormatLaws.{bind_some, then_some, both_format, optional_format, u8_format, u16_format, u32_format}
-use Rattle.packet_codec.proofs.rsct_packet_laws.FieldLaws.{bytes_format, provider_format, proto_format}
-use Rattle.packet_codec.proofs.rsct_packet_laws.PacketLaws.{head_format}
-use Rattle.packet_codec.specs.packet_bodies.declared.body.Death.{Death}
-use Rattle.packet_codec.specs.packet_bodies.declared.body.Prepare.{Prepare}
-use Rattle.packet_codec.specs.packet_bodies.declared.body.Refuse.{Refuse}
-use Rattle.packet_codec.specs.packet_bodies.declared.body.Leader.{Leader}
-use Rattle.packet_codec.specs.packet_bodies.declared.body.Ack.{Ack}
-use Rattle.packet_codec.specs.packet_bodies.declared.body.Gone.{Gone}
-use Rattle.packet_codec.specs.packet_bodies.declared.body.Query.{Query}
-use Rattle.packet_codec.specs.packet_bodies.Group.{GroupIn, ReplyIn, reply_at}
-use Rattle.packet_codec.specs.packet_bodies.Body.{whole_of}
-use Rattle.packet_codec.proofs.packet_bodies_laws.BodyLaws.{group_format, leader_format, ack_format, gone_format}
-use Rattle.packet_codec.proofs.group_codec_laws.AttrFormat.{phases_format}
-use Rattle.packet_codec.proofs.group_codec_laws.ProposalFormat.{proposal_format}
-use Rattle.packet_codec.proofs.group_codec_laws.EntryFormat.{entry_format}
-use Rattle.packet_codec.specs.adapter_ring.declared.packet.RingPacket.TheVariants as ring
-use Rattle.node_views.specs.view_state.declared.packet.ViewPacket.TheVariants as view
-use Rattle.packet_codec.specs.node_state.declared.packet.Body.{Body}
-use Rattle.packet_codec.specs.node_state.declared.packet.Body.TheVariants as body
-use Rattle.packet_codec.specs.node_state.declared.packet.Packet.{Packet}
-use Rattle.packet_codec.specs.node_state.Bodies.{is_request, request_of_parts, request_at, tell_of_parts, tell_at, entry_of_parts, entry_at, vote_of, vote_of_parts, vote_at, ring_body, ring_mask_body, body_front_at, body_at}
-use Rattle.packet_codec.specs.node_state.Bytes.{with_body, packet_of}
-use Rattle.packet_codec.specs.node_state.Bytes as spelling
+use Rattle.rsct_packet.specs.Lists.{is_empty}
+use Rattle.rsct_packet.specs.Reading.{◌>>=◌, both_at, made_at, decoded_at, guarded_at}
+use Rattle.rsct_packet.specs.Format.{IsBytes, IsFormat}
+use Rattle.rsct_packet.specs.Packet.{PacketView, head_at, packet_at}
+use Rattle.rsct_packet.proofs.FormatLaws.{bind_some, then_some, both_format, optional_format, u8_format, u16_format, u32_format}
+use Rattle.rsct_packet.proofs.FieldLaws.{bytes_format, provider_format, proto_format}
+use Rattle.rsct_packet.proofs.PacketLaws.{head_format}
+use Rattle.packet_bodies.specs.declared.body.Death.{Death}
+use Rattle.packet_bodies.specs.declared.body.Prepare.{Prepare}
+use Rattle.packet_bodies.specs.declared.body.Refuse.{Refuse}
+use Rattle.packet_bodies.specs.declared.body.Leader.{Leader}
+use Rattle.packet_bodies.specs.declared.body.Ack.{Ack}
+use Rattle.packet_bodies.specs.declared.body.Gone.{Gone}
+use Rattle.packet_bodies.specs.declared.body.Query.{Query}
+use Rattle.packet_bodies.specs.Group.{GroupIn, ReplyIn, reply_at}
+use Rattle.packet_bodies.specs.Body.{whole_of}
+use Rattle.packet_bodies.proofs.BodyLaws.{group_format, leader_format, ack_format, gone_format}
+use Rattle.group_codec.proofs.AttrFormat.{phases_format}
+use Rattle.group_codec.proofs.ProposalFormat.{proposal_format}
+use Rattle.group_codec.proofs.EntryFormat.{entry_format}
+use Rattle.adapter_ring.specs.declared.packet.RingPacket.TheVariants as ring
+use Rattle.view_state.specs.declared.packet.ViewPacket.TheVariants as view
+use Rattle.node_state.specs.declared.packet.Body.{Body}
+use Rattle.node_state.specs.declared.packet.Body.TheVariants as body
+use Rattle.node_state.specs.declared.packet.Packet.{Packet}
+use Rattle.node_state.specs.Bodies.{is_request, request_of_parts, request_at, tell_of_parts, tell_at, entry_of_parts, entry_at, vote_of, vote_of_parts, vote_at, ring_body, ring_mask_body, body_front_at, body_at}
+use Rattle.node_state.specs.Bytes.{with_body, packet_of}
+use Rattle.node_state.specs.Bytes as spelling
 use Rattle.packet_codec.specs.declared.packet.PacketRef.{PacketRef}
 use Rattle.packet_codec.specs.InPlace.{packet_in}
 use Rattle.node_core.specs.Parts.{HasParts}

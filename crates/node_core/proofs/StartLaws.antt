@@ -1,15 +1,15 @@
 -- A node that starts is at work.
 use Rattle.std.proofs.Common.{◌≡◌, ℕ, Bool, true, false, List, [], refl, sym, ap, ◌∙◌}
 use Rattle.std.specs.Prelude.{IsTrue}
-use Rattle.packet_codec.specs.rsct_packet.declared.ids.Member.{Member}
-use Rattle.packet_codec.specs.client_callbacks.Ballots.{is_level}
-use Rattle.packet_codec.specs.node_state.declared.config.Config.{Config}
-use Rattle.packet_codec.specs.node_state.declared.state.Core.{Core}
-use Rattle.packet_codec.specs.node_state.Settings.{level_if, view_level}
-use Rattle.packet_codec.specs.node_state.State.{with_sessions}
-use Rattle.packet_codec.specs.node_state.Applying.{level_set}
-use Rattle.packet_codec.specs.node_state.Step.{started}
-use Rattle.node_calls.specs.group_leading.Working.{AtWork}
+use Rattle.rsct_packet.specs.declared.ids.Member.{Member}
+use Rattle.client_callbacks.specs.Ballots.{is_level}
+use Rattle.node_state.specs.declared.config.Config.{Config}
+use Rattle.node_state.specs.declared.state.Core.{Core}
+use Rattle.node_state.specs.Settings.{level_if, view_level}
+use Rattle.node_state.specs.State.{with_sessions}
+use Rattle.node_state.specs.Applying.{level_set}
+use Rattle.node_state.specs.Step.{started}
+use Rattle.group_leading.specs.Working.{AtWork}
 
 level_there : (b : Bool) → IsTrue (is_level (level_if b))
 unfolding level_if

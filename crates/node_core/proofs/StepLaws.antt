@@ -1,28 +1,28 @@
 -- How the parts of an event come together.
 use Rattle.std.proofs.Common.{◌≡◌, ℕ, ◌==◌, Bool, true, false, List, [], Option, Some, None, refl, sym, ap, subst, arith, ne_eqb}
 use Rattle.std.proofs.lemmas.Bool.Decides.{nat_tests}
-use Rattle.packet_codec.specs.rsct_packet.declared.mask.Mask.{Mask}
-use Rattle.packet_codec.specs.client_callbacks.declared.votes.VoteItem.{VoteItem}
-use Rattle.packet_codec.specs.session_state.declared.state.SessionState.{SessionState}
-use Rattle.packet_codec.specs.node_state.declared.call.CallLine.{CallLine}
-use Rattle.packet_codec.specs.node_state.declared.packet.Body.{Body}
-use Rattle.packet_codec.specs.node_state.declared.packet.Packet.{Packet}
-use Rattle.packet_codec.specs.node_state.declared.state.Core.{Core}
-use Rattle.packet_codec.specs.node_state.HandOn.{Answering}
-use Rattle.packet_codec.specs.node_state.Sending.{send_on}
-use Rattle.packet_codec.specs.node_state.Ticks.{tick_rings, tick_views, tick_owed, tick_led, tick_row}
-use Rattle.packet_codec.specs.node_state.Ending.{end_step}
-use Rattle.packet_codec.specs.node_state.Calls.{take_call}
-use Rattle.packet_codec.specs.node_state.Bytes.{event_in}
-use Rattle.packet_codec.specs.node_state.Step.{Asks, Calls, take_order, take_body, packet_row, used_if, event_row, at_work, stepped}
-use Rattle.node_calls.specs.entry_delivery.Received.{Handing}
-use Rattle.node_calls.specs.entry_delivery.Doing.{Joins, Does}
-use Rattle.node_calls.proofs.entry_delivery_laws.DoingLaws.{does_then, does_plain, does_nothing, does_after, does_before, does_as, ready_same}
-use Rattle.packet_codec.proofs.session_state_laws.OwnerLaws.{owners_themselves}
-use Rattle.packet_codec.proofs.node_state_laws.AlongLaws.{along_same}
-use Rattle.node_text.specs.node_groups.Keeps.{Keeps}
-use Rattle.node_calls.specs.group_leading.Working.{AtWork}
-use Rattle.node_calls.proofs.group_leading_laws.WorkLaws.{keeps_follows}
+use Rattle.rsct_packet.specs.declared.mask.Mask.{Mask}
+use Rattle.client_callbacks.specs.declared.votes.VoteItem.{VoteItem}
+use Rattle.session_state.specs.declared.state.SessionState.{SessionState}
+use Rattle.node_state.specs.declared.call.CallLine.{CallLine}
+use Rattle.node_state.specs.declared.packet.Body.{Body}
+use Rattle.node_state.specs.declared.packet.Packet.{Packet}
+use Rattle.node_state.specs.declared.state.Core.{Core}
+use Rattle.node_state.specs.HandOn.{Answering}
+use Rattle.node_state.specs.Sending.{send_on}
+use Rattle.node_state.specs.Ticks.{tick_rings, tick_views, tick_owed, tick_led, tick_row}
+use Rattle.node_state.specs.Ending.{end_step}
+use Rattle.node_state.specs.Calls.{take_call}
+use Rattle.node_state.specs.Bytes.{event_in}
+use Rattle.node_state.specs.Step.{Asks, Calls, take_order, take_body, packet_row, used_if, event_row, at_work, stepped}
+use Rattle.entry_delivery.specs.Received.{Handing}
+use Rattle.entry_delivery.specs.Doing.{Joins, Does}
+use Rattle.entry_delivery.proofs.DoingLaws.{does_then, does_plain, does_nothing, does_after, does_before, does_as, ready_same}
+use Rattle.session_state.proofs.OwnerLaws.{owners_themselves}
+use Rattle.node_state.proofs.AlongLaws.{along_same}
+use Rattle.node_groups.specs.Keeps.{Keeps}
+use Rattle.group_leading.specs.Working.{AtWork}
+use Rattle.group_leading.proofs.WorkLaws.{keeps_follows}
 use Rattle.node_core.specs.Event.{called, datagram_row}
 
 abbrev Scripts : Type 0

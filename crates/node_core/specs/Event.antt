@@ -1,12 +1,12 @@
 -- What happens to a node, in the words of its step.
 use Rattle.std.specs.Prelude.{Bool, true, Option, Some, None}
-use Rattle.packet_codec.specs.node_state.declared.packet.Packet.{Packet}
-use Rattle.packet_codec.specs.node_state.declared.state.Core.{Core}
-use Rattle.packet_codec.specs.node_state.HandOn.{Answering}
-use Rattle.packet_codec.specs.node_state.Bytes.{event_of}
-use Rattle.packet_codec.specs.node_state.Calls.{take_call}
-use Rattle.packet_codec.specs.node_state.Step.{Ticks, Asks, Calls, packet_row}
-use Rattle.packet_codec.specs.node_state.Step as step
+use Rattle.node_state.specs.declared.packet.Packet.{Packet}
+use Rattle.node_state.specs.declared.state.Core.{Core}
+use Rattle.node_state.specs.HandOn.{Answering}
+use Rattle.node_state.specs.Bytes.{event_of}
+use Rattle.node_state.specs.Calls.{take_call}
+use Rattle.node_state.specs.Step.{Ticks, Asks, Calls, packet_row}
+use Rattle.node_state.specs.Step as step
 use Rattle.node_calls.specs.Calling.{is_within_session}
 use Rattle.node_core.specs.declared.events.NodeEvent.{NodeEvent}
 use Rattle.node_core.specs.declared.events.NodeEvent.TheVariants as event

@@ -1,6 +1,6 @@
 -- A node as its callers see it.
 use Rattle.std.specs.Prelude.{Bool, List}
-use Rattle.packet_codec.specs.node_state.declared.state.Core.{Core}
+use Rattle.node_state.specs.declared.state.Core.{Core}
 
 -- its state, its clients in the order of their sessions, and whether it has halted
 pub record NodeView (C : Type 0) : Type 0 where

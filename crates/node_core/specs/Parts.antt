@@ -1,12 +1,12 @@
 -- The parts of a packet that a node keeps copies of.
 use Rattle.std.specs.Prelude.{◌≡◌}
-use Rattle.packet_codec.specs.rsct_packet.Text.{IsName}
-use Rattle.packet_codec.specs.rsct_packet.Format.{OptionFits}
-use Rattle.packet_codec.specs.rsct_packet.Fields.{AreShort}
-use Rattle.node_views.specs.proposal_core.ProposalCodec.{IsProposal}
-use Rattle.node_views.specs.proposal_core.EntryCodec.{IsEntry}
-use Rattle.packet_codec.specs.node_state.declared.packet.Body.{Body}
-use Rattle.packet_codec.specs.node_state.declared.packet.Body.TheVariants as body
+use Rattle.rsct_packet.specs.Text.{IsName}
+use Rattle.rsct_packet.specs.Format.{OptionFits}
+use Rattle.rsct_packet.specs.Fields.{AreShort}
+use Rattle.proposal_core.specs.ProposalCodec.{IsProposal}
+use Rattle.proposal_core.specs.EntryCodec.{IsEntry}
+use Rattle.node_state.specs.declared.packet.Body.{Body}
+use Rattle.node_state.specs.declared.packet.Body.TheVariants as body
 
 -- the parts of a body that was read are those of packets
 abbrev pub HasParts : Body → Type 0

@@ -1,24 +1,24 @@
 //! What happens to a node, and what it makes of it.
 ghost use Rattle.std.specs.Prelude.{◌≡◌, OnOk, IsTrue};
-ghost use Rattle.node_calls.specs.session_clients.Clients.{KeepsScripts};
-ghost use Rattle.node_calls.specs.entry_delivery.Doing.{RowDoes};
-ghost use Rattle.node_calls.specs.group_leading.Working.{AtWork};
-ghost use Rattle.packet_codec.specs.node_state.Bytes.{event_of};
-ghost use Rattle.packet_codec.specs.node_state.Ticks.{tick_row};
-ghost use Rattle.packet_codec.specs.node_state.Calls.{take_call};
-ghost use Rattle.packet_codec.specs.node_state.Step.{Asks, Calls, at_work, event_row, stepped};
+ghost use Rattle.session_clients.specs.Clients.{KeepsScripts};
+ghost use Rattle.entry_delivery.specs.Doing.{RowDoes};
+ghost use Rattle.group_leading.specs.Working.{AtWork};
+ghost use Rattle.node_state.specs.Bytes.{event_of};
+ghost use Rattle.node_state.specs.Ticks.{tick_row};
+ghost use Rattle.node_state.specs.Calls.{take_call};
+ghost use Rattle.node_state.specs.Step.{Asks, Calls, at_work, event_row, stepped};
 ghost use Rattle.node_calls.specs.Calling.{is_within_session};
 ghost use Rattle.node_core.specs.Event.{called, event_in, is_taken};
 
 use crate::packets::take_datagram;
-use group_requests::group_deciding::{end_step, tick_led};
-use node_calls::node_owed::tick_owed;
+use client_callbacks::Callbacks;
+use group_deciding::{end_step, tick_led};
 use node_calls::take_call;
-use node_views::node_rings::tick_rings;
+use node_owed::tick_owed;
+use node_rings::tick_rings;
+use node_state::{CallLine, Core};
 use node_views::{take_order, tick_views};
-use packet_codec::client_callbacks::Callbacks;
-use packet_codec::node_state::{CallLine, Core};
-use packet_codec::rsct_packet::{List, Mask, NoMemory};
+use rsct_packet::{List, Mask, NoMemory};
 use std::alloc::Global;
 
 /// What happens to a node: a tick, an order to ask for a view of these nodes, a datagram, or a call of a client in
@@ -41,7 +41,7 @@ pub fn clear(core: &mut Core, alloc: Global)
 }
 
 /// A tick: the rings, the views, what is owed, what the node leads, and the end of the step.
-#[tactic(auto, using(crate::proofs::Below::work_kept))]
+#[tactic(auto, using(group_leading::proofs::WorkLaws::work_kept))]
 fn tick<C: Callbacks>(core: &mut Core, clients: &mut Vec<C>, alloc: Global) -> Result<(), NoMemory>
     requires work { AtWork core.old clients.old.items }
     ensures work { OnOk result (AtWork core.new clients.new.items) }
@@ -91,7 +91,7 @@ fn receive<C: Callbacks>(
 }
 
 /// A call of a client in its session, and the end of the step.
-#[tactic(auto, using(crate::proofs::Below::work_kept))]
+#[tactic(auto, using(group_leading::proofs::WorkLaws::work_kept))]
 fn answer<C: Callbacks>(
     core: &mut Core,
     clients: &mut Vec<C>,
@@ -133,7 +133,7 @@ fn take_cleared<C: Callbacks>(
 }
 
 /// An event happens to a node.
-#[tactic(auto, unfolding(crate::proofs::Below::stepped), using(crate::proofs::StepLaws::work_cleared))]
+#[tactic(auto, unfolding(node_state::specs::Step::stepped), using(crate::proofs::StepLaws::work_cleared))]
 pub fn take_event<C: Callbacks>(
     core: &mut Core,
     clients: &mut Vec<C>,

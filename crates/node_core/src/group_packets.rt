@@ -1,32 +1,32 @@
 //! The packets of the groups of a view: each is used in its view alone.
 ghost use Rattle.std.specs.Prelude.{◌≡◌, IfOk, OnOk, option_copied};
-ghost use Rattle.node_calls.specs.session_clients.Clients.{KeepsScripts};
-ghost use Rattle.packet_codec.specs.rsct_packet.Text.{IsName};
-ghost use Rattle.packet_codec.specs.rsct_packet.Ids.{is_member};
-ghost use Rattle.packet_codec.specs.rsct_packet.Format.{OptionFits};
-ghost use Rattle.packet_codec.specs.rsct_packet.Fields.{AreShort};
-ghost use Rattle.node_views.specs.proposal_core.ProposalCodec.{IsProposal};
-ghost use Rattle.packet_codec.specs.group_codec.InPlace.{proposal_in};
-ghost use Rattle.node_views.specs.proposal_core.EntryCodec.{IsEntry};
-ghost use Rattle.packet_codec.specs.group_codec.InPlace.{entry_in};
-ghost use Rattle.node_calls.specs.entry_delivery.Doing.{RowDoes};
-ghost use Rattle.node_text.specs.node_groups.Keeps.{Keeps};
-ghost use Rattle.node_calls.specs.group_leading.Working.{AtWork};
-ghost use Rattle.packet_codec.specs.node_state.Following.{take_lookup, take_name, take_request, take_tell, take_entry, take_ack, take_vote, take_gone};
-ghost use Rattle.packet_codec.specs.node_state.Step.{is_used, used_if};
+ghost use Rattle.session_clients.specs.Clients.{KeepsScripts};
+ghost use Rattle.rsct_packet.specs.Text.{IsName};
+ghost use Rattle.rsct_packet.specs.Ids.{is_member};
+ghost use Rattle.rsct_packet.specs.Format.{OptionFits};
+ghost use Rattle.rsct_packet.specs.Fields.{AreShort};
+ghost use Rattle.proposal_core.specs.ProposalCodec.{IsProposal};
+ghost use Rattle.group_codec.specs.InPlace.{proposal_in};
+ghost use Rattle.proposal_core.specs.EntryCodec.{IsEntry};
+ghost use Rattle.group_codec.specs.InPlace.{entry_in};
+ghost use Rattle.entry_delivery.specs.Doing.{RowDoes};
+ghost use Rattle.node_groups.specs.Keeps.{Keeps};
+ghost use Rattle.group_leading.specs.Working.{AtWork};
+ghost use Rattle.node_state.specs.Following.{take_lookup, take_name, take_request, take_tell, take_entry, take_ack, take_vote, take_gone};
+ghost use Rattle.node_state.specs.Step.{is_used, used_if};
 ghost use Rattle.packet_codec.specs.InPlace.{packet_in};
 
-use group_requests::group_members::{take_entry, take_lookup, take_name, take_tell};
+use client_callbacks::{Callbacks, Why};
+use group_attr::Phases;
+use group_codec::{EntryRef, ProposalRef};
+use group_members::{take_entry, take_lookup, take_name, take_tell};
 use group_requests::{take_ack, take_gone, take_request, take_vote};
-use node_start::node_sending::is_frozen;
-use node_views::group_attr::Phases;
-use node_views::proposal_core::{Vote, optional_text_of};
+use node_sending::is_frozen;
+use node_state::Core;
+use packet_bodies::{Ack, Gone, GroupRef, Leader};
 use packet_codec::PacketRef;
-use packet_codec::client_callbacks::{Callbacks, Why};
-use packet_codec::group_codec::{EntryRef, ProposalRef};
-use packet_codec::node_state::Core;
-use packet_codec::packet_bodies::{Ack, Gone, GroupRef, Leader};
-use packet_codec::rsct_packet::{Member, Name, NoMemory, ProtoId, ProviderId, ViewId};
+use proposal_core::{Vote, optional_text_of};
+use rsct_packet::{Member, Name, NoMemory, ProtoId, ProviderId, ViewId};
 use std::alloc::Global;
 
 /// Is the node a member, in this incarnation?
@@ -37,7 +37,7 @@ fn is_member(members: &[Member], node: u8, inc: u32) -> bool
 }
 
 /// Is a packet of this view used?
-#[tactic(auto, unfolding(crate::proofs::Below::is_used))]
+#[tactic(auto, unfolding(node_state::specs::Step::is_used))]
 fn is_used(core: &Core, packet: &PacketRef<'_>, view: ViewId) -> bool
     ensures { result ≡ is_used core.now (packet_in packet.now) view }
 {
@@ -57,7 +57,7 @@ fn name_of(alloc: Global, group: &GroupRef<'_>) -> Result<Name, NoMemory>
 }
 
 /// LOOKUP.
-#[tactic(auto, unfolding(crate::proofs::Below::used_if), using(crate::proofs::Below::keeps_itself))]
+#[tactic(auto, unfolding(node_state::specs::Step::used_if), using(node_groups::proofs::KeepLaws::keeps_itself))]
 pub fn take_lookup_packet(
     core: &mut Core,
     alloc: Global,
@@ -203,7 +203,7 @@ pub fn take_entry_packet<C: Callbacks>(
 }
 
 /// ACK.
-#[tactic(auto, unfolding(crate::proofs::Below::used_if), using(crate::proofs::Below::keeps_itself))]
+#[tactic(auto, unfolding(node_state::specs::Step::used_if), using(node_groups::proofs::KeepLaws::keeps_itself))]
 pub fn take_ack_packet(
     core: &mut Core,
     alloc: Global,

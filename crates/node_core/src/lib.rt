@@ -10,6 +10,3 @@ mod view_packets;
 
 pub use events::NodeEvent;
 pub use node::{Node, StepFault};
-pub use node_calls::session_clients;
-pub use node_text;
-pub use packet_codec::{client_callbacks, node_state, rsct_packet, session_state};

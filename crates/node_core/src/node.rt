@@ -1,23 +1,23 @@
 //! A node that runs: its state, its clients, and whether it has halted.
 ghost use Rattle.std.specs.Prelude.{◌≡◌, ◌↔◌, ℕ, [], List, false, map, IfOk, OnOk, IsErrOf, IsTrue};
-ghost use Rattle.node_calls.specs.session_clients.Clients.{KeepsScripts};
-ghost use Rattle.packet_codec.specs.session_state.State.{client_token, client_place};
-ghost use Rattle.packet_codec.specs.session_state.Calls.{inited, removed_at};
+ghost use Rattle.session_clients.specs.Clients.{KeepsScripts};
+ghost use Rattle.session_state.specs.State.{client_token, client_place};
+ghost use Rattle.session_state.specs.Calls.{inited, removed_at};
 ghost use Rattle.node_calls.specs.Calling.{clients_with};
-ghost use Rattle.node_calls.specs.entry_delivery.Received.{Receive};
-ghost use Rattle.node_calls.specs.entry_delivery.Doing.{Does, RowDoes};
-ghost use Rattle.packet_codec.specs.node_state.declared.call.CallLine.TheVariants as call;
-ghost use Rattle.packet_codec.specs.node_state.Calls.{take_call};
-ghost use Rattle.packet_codec.specs.node_state.State.{InNameOrder};
-ghost use Rattle.packet_codec.specs.node_state.Step.{Calls, at_work, started, stepped};
+ghost use Rattle.entry_delivery.specs.Received.{Receive};
+ghost use Rattle.entry_delivery.specs.Doing.{Does, RowDoes};
+ghost use Rattle.node_state.specs.declared.call.CallLine.TheVariants as call;
+ghost use Rattle.node_state.specs.Calls.{take_call};
+ghost use Rattle.node_state.specs.State.{InNameOrder};
+ghost use Rattle.node_state.specs.Step.{Calls, at_work, started, stepped};
 ghost use Rattle.node_core.specs.Event.{called, event_in, is_taken};
 
 use crate::events::{NodeEvent, take_event};
 use crate::sessions::{close_session, open_session};
+use client_callbacks::Callbacks;
 use node_start::start_core;
-use packet_codec::client_callbacks::Callbacks;
-use packet_codec::node_state::{Config, Core, Packets, Records};
-use packet_codec::rsct_packet::{List, NoMemory};
+use node_state::{Config, Core, Packets, Records};
+use rsct_packet::{List, NoMemory};
 use std::alloc::Global;
 use std::marker::Model;
 use std::mem;
@@ -43,7 +43,7 @@ pub struct Node<C: Callbacks> {
 
 impl<C: Callbacks> Model for Node<C> {
     ghost use Rattle.std.specs.Prelude.{◌≡◌, false};
-    ghost use Rattle.node_calls.specs.group_leading.Working.{AtWork};
+    ghost use Rattle.group_leading.specs.Working.{AtWork};
     ghost use Rattle.node_core.specs.Node.{NodeView};
 
     ghost Value = { NodeView C };

@@ -1,15 +1,15 @@
 //! The table of packets: what a node makes of each.
 ghost use Rattle.std.specs.Prelude.{◌≡◌, IfSome, OnOk, option_map};
-ghost use Rattle.node_calls.specs.session_clients.Clients.{KeepsScripts};
-ghost use Rattle.node_calls.specs.entry_delivery.Doing.{RowDoes};
-ghost use Rattle.node_calls.specs.group_leading.Working.{AtWork};
-ghost use Rattle.node_text.specs.node_groups.Keeps.{Keeps};
-ghost use Rattle.packet_codec.specs.node_state.declared.packet.Body.TheVariants as body;
-ghost use Rattle.packet_codec.specs.node_state.Bytes.{packet_of};
-ghost use Rattle.packet_codec.specs.node_state.Sending.{send_on};
-ghost use Rattle.packet_codec.specs.node_state.Status.{status_text};
-ghost use Rattle.packet_codec.specs.node_state.Step.{take_body, packet_row};
-ghost use Rattle.packet_codec.specs.node_state.Ticks.{take_report};
+ghost use Rattle.session_clients.specs.Clients.{KeepsScripts};
+ghost use Rattle.entry_delivery.specs.Doing.{RowDoes};
+ghost use Rattle.group_leading.specs.Working.{AtWork};
+ghost use Rattle.node_groups.specs.Keeps.{Keeps};
+ghost use Rattle.node_state.specs.declared.packet.Body.TheVariants as body;
+ghost use Rattle.node_state.specs.Bytes.{packet_of};
+ghost use Rattle.node_state.specs.Sending.{send_on};
+ghost use Rattle.node_state.specs.Status.{status_text};
+ghost use Rattle.node_state.specs.Step.{take_body, packet_row};
+ghost use Rattle.node_state.specs.Ticks.{take_report};
 ghost use Rattle.packet_codec.specs.InPlace.{packet_in};
 ghost use Rattle.node_core.specs.Event.{datagram_row};
 ghost use Rattle.node_core.specs.Parts.{HasParts};
@@ -19,14 +19,14 @@ use crate::group_packets::{
     take_request_packet, take_tell_packet, take_vote_packet,
 };
 use crate::view_packets::{take_answer, take_install, take_prepare, take_refuse, take_taken};
-use node_start::node_sending::send_on;
+use client_callbacks::Callbacks;
+use node_rings::{take_report, take_ring_packet};
+use node_sending::send_on;
+use node_state::{Body, Core, ReportRow};
 use node_text::status_text;
-use node_views::node_rings::{take_report, take_ring_packet};
-use packet_codec::client_callbacks::Callbacks;
-use packet_codec::node_state::{Body, Core, ReportRow};
-use packet_codec::packet_bodies::Query;
-use packet_codec::rsct_packet::{Listed, NoMemory};
+use packet_bodies::Query;
 use packet_codec::{BodyRef, PacketRef};
+use rsct_packet::{Listed, NoMemory};
 use std::alloc::Global;
 
 /// REPORT.
@@ -63,7 +63,7 @@ fn take_query(
 }
 
 /// A packet for this node.
-#[tactic(auto, unfolding(crate::proofs::Below::take_body), using(crate::proofs::StepLaws::plain_does, crate::proofs::Below::work_kept))]
+#[tactic(auto, unfolding(node_state::specs::Step::take_body), using(crate::proofs::StepLaws::plain_does, group_leading::proofs::WorkLaws::work_kept))]
 fn take_body<C: Callbacks>(
     core: &mut Core,
     clients: &mut Vec<C>,
@@ -141,7 +141,7 @@ fn take_body<C: Callbacks>(
 }
 
 /// A packet: one for another node is dropped.
-#[tactic(auto, unfolding(crate::proofs::Below::packet_row))]
+#[tactic(auto, unfolding(node_state::specs::Step::packet_row))]
 fn take_packet<C: Callbacks>(
     core: &mut Core,
     clients: &mut Vec<C>,

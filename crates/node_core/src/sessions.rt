@@ -1,22 +1,22 @@
 //! Sessions that begin and end at a node.
 ghost use Rattle.std.specs.Prelude.{ℕ, List, OnOk, map};
-ghost use Rattle.node_calls.specs.session_clients.Clients.{KeepsScripts};
-ghost use Rattle.packet_codec.specs.session_state.State.{client_token, client_place};
-ghost use Rattle.packet_codec.specs.session_state.Calls.{inited, removed_at};
+ghost use Rattle.session_clients.specs.Clients.{KeepsScripts};
+ghost use Rattle.session_state.specs.State.{client_token, client_place};
+ghost use Rattle.session_state.specs.Calls.{inited, removed_at};
 ghost use Rattle.node_calls.specs.Calling.{clients_with};
-ghost use Rattle.node_calls.specs.entry_delivery.Received.{Receive};
-ghost use Rattle.node_calls.specs.entry_delivery.Doing.{Does};
-ghost use Rattle.node_calls.specs.group_leading.Working.{AtWork};
-ghost use Rattle.packet_codec.specs.node_state.declared.call.CallLine.TheVariants as call;
-ghost use Rattle.packet_codec.specs.node_state.Calls.{take_call};
-ghost use Rattle.packet_codec.specs.node_state.Step.{Calls, at_work, stepped};
+ghost use Rattle.entry_delivery.specs.Received.{Receive};
+ghost use Rattle.entry_delivery.specs.Doing.{Does};
+ghost use Rattle.group_leading.specs.Working.{AtWork};
+ghost use Rattle.node_state.specs.declared.call.CallLine.TheVariants as call;
+ghost use Rattle.node_state.specs.Calls.{take_call};
+ghost use Rattle.node_state.specs.Step.{Calls, at_work, stepped};
 
 use crate::events::clear;
-use group_requests::group_deciding::end_step;
+use client_callbacks::Callbacks;
+use group_deciding::end_step;
 use node_calls::{take_goodbye, take_init};
-use packet_codec::client_callbacks::Callbacks;
-use packet_codec::node_state::Core;
-use packet_codec::rsct_packet::NoMemory;
+use node_state::Core;
+use rsct_packet::NoMemory;
 use std::alloc::Global;
 
 /// A client begins its session, or is refused; and the end of the step.

@@ -1,23 +1,23 @@
 //! The packets of views that are to be.
 ghost use Rattle.std.specs.Prelude.{OnOk};
-ghost use Rattle.node_calls.specs.session_clients.Clients.{KeepsScripts};
-ghost use Rattle.packet_codec.specs.view_exchange.SourcesInPlace.{install_in};
-ghost use Rattle.node_views.specs.view_state.declared.packet.ViewPacket.TheVariants as view_packet;
-ghost use Rattle.node_calls.specs.entry_delivery.Doing.{RowDoes};
-ghost use Rattle.node_calls.specs.group_leading.Working.{AtWork};
-ghost use Rattle.packet_codec.specs.node_state.Step.{view_row};
+ghost use Rattle.session_clients.specs.Clients.{KeepsScripts};
+ghost use Rattle.view_exchange.specs.SourcesInPlace.{install_in};
+ghost use Rattle.view_state.specs.declared.packet.ViewPacket.TheVariants as view_packet;
+ghost use Rattle.entry_delivery.specs.Doing.{RowDoes};
+ghost use Rattle.group_leading.specs.Working.{AtWork};
+ghost use Rattle.node_state.specs.Step.{view_row};
 
+use client_callbacks::Callbacks;
+use node_state::Core;
 use node_views::take_view;
-use node_views::view_core::ViewEvent;
 use packet_codec::PacketRef;
-use packet_codec::client_callbacks::Callbacks;
-use packet_codec::node_state::Core;
-use packet_codec::rsct_packet::{Mask, NoMemory, ViewId};
-use packet_codec::view_exchange::{AnswerRef, InstallRef};
+use rsct_packet::{Mask, NoMemory, ViewId};
 use std::alloc::Global;
+use view_core::ViewEvent;
+use view_exchange::{AnswerRef, InstallRef};
 
 /// PREPARE.
-#[tactic(auto, unfolding(crate::proofs::Below::view_row, crate::proofs::Below::view_stepped, crate::proofs::Below::view_row_of_steps))]
+#[tactic(auto, unfolding(node_state::specs::Step::view_row, view_core::specs::Steps::view_stepped, view_core::specs::Steps::view_row))]
 pub fn take_prepare<C: Callbacks>(
     core: &mut Core,
     clients: &mut Vec<C>,
@@ -43,7 +43,7 @@ pub fn take_prepare<C: Callbacks>(
 }
 
 /// ANSWER.
-#[tactic(auto, unfolding(crate::proofs::Below::view_row, crate::proofs::Below::view_stepped, crate::proofs::Below::view_row_of_steps))]
+#[tactic(auto, unfolding(node_state::specs::Step::view_row, view_core::specs::Steps::view_stepped, view_core::specs::Steps::view_row))]
 pub fn take_answer<C: Callbacks>(
     core: &mut Core,
     clients: &mut Vec<C>,
@@ -72,7 +72,7 @@ pub fn take_answer<C: Callbacks>(
 }
 
 /// REFUSE.
-#[tactic(auto, unfolding(crate::proofs::Below::view_row, crate::proofs::Below::view_stepped, crate::proofs::Below::view_row_of_steps))]
+#[tactic(auto, unfolding(node_state::specs::Step::view_row, view_core::specs::Steps::view_stepped, view_core::specs::Steps::view_row))]
 pub fn take_refuse<C: Callbacks>(
     core: &mut Core,
     clients: &mut Vec<C>,
@@ -92,7 +92,7 @@ pub fn take_refuse<C: Callbacks>(
 }
 
 /// INSTALL.
-#[tactic(auto, unfolding(crate::proofs::Below::view_row, crate::proofs::Below::view_stepped, crate::proofs::Below::view_row_of_steps))]
+#[tactic(auto, unfolding(node_state::specs::Step::view_row, view_core::specs::Steps::view_stepped, view_core::specs::Steps::view_row))]
 pub fn take_install<C: Callbacks>(
     core: &mut Core,
     clients: &mut Vec<C>,
@@ -112,7 +112,7 @@ pub fn take_install<C: Callbacks>(
 }
 
 /// TAKEN.
-#[tactic(auto, unfolding(crate::proofs::Below::view_row, crate::proofs::Below::view_stepped, crate::proofs::Below::view_row_of_steps))]
+#[tactic(auto, unfolding(node_state::specs::Step::view_row, view_core::specs::Steps::view_stepped, view_core::specs::Steps::view_row))]
 pub fn take_taken<C: Callbacks>(
     core: &mut Core,
     clients: &mut Vec<C>,

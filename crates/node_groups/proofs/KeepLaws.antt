@@ -3,11 +3,11 @@ use Rattle.std.proofs.Common.{◌≡◌, ◌⊎◌, inl, inr, ℕ, ◌-◌, Bool
 use Rattle.std.specs.Prelude.{drop, nat_le, if◌then◌else◌}
 use Rattle.std.specs.Str.{bytes_eq}
 use Rattle.std.proofs.lemmas.List.Elements.{filter-append}
-use Rattle.node_state.specs.proposal_core.declared.entry.Entry.{Entry}
-use Rattle.node_state.specs.proposal_core.Fold.{after}
-use Rattle.node_state.specs.proposal_core.GroupView.{GroupView}
-use Rattle.node_state.specs.proposal_core.Lists.{list_or_new, state_in, with_entry, forgotten}
-use Rattle.node_state.proofs.session_state_laws.OwnerLaws.{owners_themselves, owners_then}
+use Rattle.proposal_core.specs.declared.entry.Entry.{Entry}
+use Rattle.proposal_core.specs.Fold.{after}
+use Rattle.proposal_core.specs.GroupView.{GroupView}
+use Rattle.proposal_core.specs.Lists.{list_or_new, state_in, with_entry, forgotten}
+use Rattle.session_state.proofs.OwnerLaws.{owners_themselves, owners_then}
 use Rattle.node_state.specs.declared.group.GroupRow.{GroupRow}
 use Rattle.node_state.specs.declared.group.Led.{Led}
 use Rattle.node_state.specs.declared.happened.Happened.{Happened}

@@ -2,8 +2,8 @@
 use Rattle.std.proofs.Common.{◌≡◌, ℕ, suc, ◌==◌, Bool, true, false, cond, ◌++◌, List, [], ◌∷◌, get_or, set, Option, Some, None, refl, sym, ap, ◌∙◌, max, min, arith}
 use Rattle.std.specs.Prelude.{find, fold}
 use Rattle.std.specs.Option.{option_map}
-use Rattle.node_state.specs.rsct_packet.declared.ids.Member.{Member}
-use Rattle.node_state.specs.rsct_packet.Search.{place_where}
+use Rattle.rsct_packet.specs.declared.ids.Member.{Member}
+use Rattle.rsct_packet.specs.Search.{place_where}
 use Rattle.node_state.specs.declared.group.Acked.{Acked}
 use Rattle.node_state.specs.declared.group.Decision.{Decision}
 use Rattle.node_state.specs.declared.state.Core.{Core}

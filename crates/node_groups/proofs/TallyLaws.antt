@@ -2,8 +2,8 @@
 use Rattle.std.proofs.Common.{◌≡◌, ℕ, Bool, true, false, cond, List, [], ◌∷◌, Option, Some, None, refl, ap, ◌∙◌}
 use Rattle.std.specs.Prelude.{find}
 use Rattle.std.specs.Str.{bytes_eq}
-use Rattle.node_state.specs.rsct_packet.Text.{name_lt}
-use Rattle.node_state.specs.vote_phases.Tally.{TallyView}
+use Rattle.rsct_packet.specs.Text.{name_lt}
+use Rattle.vote_phases.specs.Tally.{TallyView}
 use Rattle.node_state.specs.declared.group.GroupRow.{GroupRow}
 use Rattle.node_state.specs.declared.state.Core.{Core}
 use Rattle.node_state.specs.State.{AllAfter, InNameOrder, new_row, row_found, row_of, rows_with, with_row, with_led, led_of, has_name}

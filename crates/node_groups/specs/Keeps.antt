@@ -1,8 +1,8 @@
 -- What a change keeps.
 use Rattle.std.specs.Prelude.{◌≡◌, ◌≤◌, length}
-use Rattle.node_state.specs.session_state.Calls.{SameSessions}
+use Rattle.session_state.specs.Calls.{SameSessions}
 use Rattle.node_state.specs.declared.state.Core.{Core}
-use Rattle.node_state.specs.session_state.Owners.{KeepsOwners}
+use Rattle.session_state.specs.Owners.{KeepsOwners}
 use Rattle.node_state.specs.Handed.{handed_in, Along}
 use Rattle.node_state.specs.State.{InNameOrder}
 

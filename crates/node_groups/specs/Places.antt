@@ -1,9 +1,9 @@
 -- Where the row of a group stands among rows in name order.
 use Rattle.std.specs.Prelude.{ℕ, Bool, false, ◌==◌, ◌||◌, List, map, filter, Option, Some, None}
 use Rattle.std.specs.Str.{bytes_eq}
-use Rattle.node_state.specs.rsct_packet.declared.ids.ProviderId.{ProviderId}
-use Rattle.node_state.specs.rsct_packet.Providers.{same_provider}
-use Rattle.node_state.specs.rsct_packet.Text.{name_lt}
+use Rattle.rsct_packet.specs.declared.ids.ProviderId.{ProviderId}
+use Rattle.rsct_packet.specs.Providers.{same_provider}
+use Rattle.rsct_packet.specs.Text.{name_lt}
 use Rattle.node_state.specs.declared.group.Acked.{Acked}
 use Rattle.node_state.specs.declared.group.Decision.{Decision}
 use Rattle.node_state.specs.declared.group.GroupRow.{GroupRow}

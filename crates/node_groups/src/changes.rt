@@ -1,25 +1,25 @@
 //! What a node changes in its groups.
 ghost use Rattle.std.specs.Prelude.{◌≡◌, OnOk, IfOk, IsTrue, Some};
-ghost use Rattle.node_state.specs.batch_rules.Waiting.{add_failure, drop_join};
-ghost use Rattle.node_state.specs.proposal_core.Lists.{list_or_new, with_entry};
+ghost use Rattle.batch_rules.specs.Waiting.{add_failure, drop_join};
+ghost use Rattle.proposal_core.specs.Lists.{list_or_new, with_entry};
 ghost use Rattle.node_state.specs.declared.happened.Happened.TheVariants as happened;
 ghost use Rattle.node_state.specs.State.{InNameOrder, len_of, fits_at_end, recorded, with_row, forget_below, led_of, set_leader, with_led, acked_raised};
 ghost use Rattle.node_state.specs.Leading.{put, forget_least, with_waiting, with_tally, tally_set};
 ghost use Rattle.node_state.specs.Following.{marked, vote_cast};
 ghost use Rattle.node_state.specs.Ticks.{ticked_in};
 ghost use Rattle.std.specs.Option.{option_map};
-ghost use Rattle.node_state.specs.vote_phases.Tally.{tally_fail};
+ghost use Rattle.vote_phases.specs.Tally.{tally_fail};
 ghost use Rattle.node_state.specs.Deciding.{keep_decision};
 ghost use Rattle.node_groups.specs.Keeps.{Keeps};
 
 use crate::edits;
 use crate::reads::{least_acked, len_of};
-use node_state::client_callbacks::Why;
-use node_state::proposal_core::{Cause, Entry, Vote};
-use node_state::rsct_packet::{Name, NoMemory, ProviderId, Text};
-use node_state::vote_phases::Tally;
+use client_callbacks::Why;
 use node_state::{Core, Decision, Happened};
+use proposal_core::{Cause, Entry, Vote};
+use rsct_packet::{Name, NoMemory, ProviderId, Text};
 use std::alloc::Global;
+use vote_phases::Tally;
 
 /// The record of an entry that is put at this place.
 fn put_record(

@@ -1,21 +1,21 @@
 //! Changes of one row in the table of groups.
 ghost use Rattle.std.specs.Prelude.{◌≡◌, [], OnOk, IsTrue, Some, find};
-ghost use Rattle.node_state.specs.proposal_core.Lists.{list_or_new, entry_fits, with_entry};
-ghost use Rattle.node_state.specs.batch_rules.Waiting.{add_failure, drop_join};
+ghost use Rattle.proposal_core.specs.Lists.{list_or_new, entry_fits, with_entry};
+ghost use Rattle.batch_rules.specs.Waiting.{add_failure, drop_join};
 ghost use Rattle.node_state.specs.State.{InNameOrder, row_found, rows_with, list_forgotten, acked_raised, decisions_with};
 ghost use Rattle.node_state.specs.Following.{marked, vote_cast};
 ghost use Rattle.node_state.specs.Ticks.{ticked_in};
 ghost use Rattle.std.specs.Option.{option_map};
-ghost use Rattle.node_state.specs.vote_phases.Tally.{tally_fail};
+ghost use Rattle.vote_phases.specs.Tally.{tally_fail};
 ghost use Rattle.node_state.specs.State.{has_name};
 
 use crate::places::open;
 use crate::row;
-use node_state::proposal_core::{Cause, Entry, Vote};
-use node_state::rsct_packet::{Name, NoMemory, ProviderId, Text, ViewId};
-use node_state::vote_phases::Tally;
 use node_state::{Decision, Groups};
+use proposal_core::{Cause, Entry, Vote};
+use rsct_packet::{Name, NoMemory, ProviderId, Text, ViewId};
 use std::alloc::Global;
+use vote_phases::Tally;
 
 /// Puts an entry that fits at the end of the group's list.
 #[tactic(auto, using(crate::proofs::RowLaws::row_edits, crate::proofs::RowLaws::opened_row, std::proofs::lemmas::Grind::common_steps))]

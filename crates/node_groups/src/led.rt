@@ -1,15 +1,15 @@
 //! What is read of what the leader of a group keeps.
 ghost use Rattle.std.specs.Prelude.{◌≡◌, ◌≤◌, length, find, IfOk, option_copied};
-ghost use Rattle.node_state.specs.rsct_packet.Providers.{among};
+ghost use Rattle.rsct_packet.specs.Providers.{among};
 ghost use Rattle.node_state.specs.State.{led_of, decision_of};
 ghost use Rattle.node_groups.specs.Places.{are_attrs_of, led_or_nothing};
 
 use crate::places::row_of;
 use crate::tables::decision_on;
-use node_state::rsct_packet::{List, NoMemory, ProviderId, is_among};
-use node_state::vote_phases::Tally;
 use node_state::{Core, Decision, JoinAttrs, Led};
+use rsct_packet::{List, NoMemory, ProviderId, is_among};
 use std::alloc::Global;
+use vote_phases::Tally;
 
 /// What the node keeps of a group as its leader, where the group has a row.
 #[tactic(auto, unfolding(node_state::specs::State::led_of, node_state::specs::State::row_of))]

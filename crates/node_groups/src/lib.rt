@@ -17,12 +17,6 @@ pub use changes::{
 pub use led::{
     decision_of, gone_of, is_gone, join_attrs_of, led_of, tally_of, waiting_failures, waiting_joins,
 };
-pub use node_state;
-pub use node_state::{
-    adapter_ring, batch_rules, client_callbacks, group_attr, name_server, node_reach,
-    proposal_core, rsct_packet, session_state, source_target, subscribe_core, view_state,
-    vote_phases,
-};
 pub use places::{open, row_of};
 pub use reads::{
     acked_by, fits_at_end, held_count, holds, leader_in, leader_of, leads, leads_in, least_acked,

@@ -1,12 +1,12 @@
 //! Where the rows of groups stand, in the order of their names.
 ghost use Rattle.std.specs.Prelude.{◌≡◌, ◌≤◌, length, IfOk, OnOk, find, slice_get, option_copied};
-ghost use Rattle.node_state.specs.rsct_packet.Search.{front_len};
+ghost use Rattle.rsct_packet.specs.Search.{front_len};
 ghost use Rattle.node_state.specs.State.{has_name};
 ghost use Rattle.node_groups.specs.Places.{stops_at, is_row_of, row_opened};
 
 use crate::row::new_row;
-use node_state::rsct_packet::{Name, NoMemory};
 use node_state::{GroupRow, Groups};
+use rsct_packet::{Name, NoMemory};
 use std::alloc::Global;
 
 /// Has the row this name, or does it come after it?
@@ -17,7 +17,7 @@ fn stops_at(name: &[u8], row: &GroupRow) -> bool
 }
 
 /// How many rows stand before a name.
-#[tactic(auto, using(crate::proofs::Below::front_search, crate::proofs::Below::front_is_in))]
+#[tactic(auto, using(rsct_packet::proofs::SearchLaws::front_search, rsct_packet::proofs::SearchLaws::front_is_in))]
 fn front(rows: &[GroupRow], name: &[u8]) -> usize
     ensures value { result ≡ front_len (stops_at name.now) rows.now }
     ensures within { result ≤ length rows.now }

@@ -1,19 +1,19 @@
 //! What is read of a node's groups.
 ghost use Rattle.std.specs.Prelude.{◌≡◌, IfOk, IsTrue, is_some, length, min, option_copied};
 ghost use Rattle.std.specs.List.{count_by, fold};
-ghost use Rattle.node_state.specs.rsct_packet.declared.ids.Member.{Member};
+ghost use Rattle.rsct_packet.specs.declared.ids.Member.{Member};
 ghost use Rattle.node_state.specs.declared.group.GroupRow.{GroupRow};
-ghost use Rattle.node_state.specs.proposal_core.Fold.{joiners_fit};
-ghost use Rattle.node_state.specs.proposal_core.Lists.{len_in};
+ghost use Rattle.proposal_core.specs.Fold.{joiners_fit};
+ghost use Rattle.proposal_core.specs.Lists.{len_in};
 ghost use Rattle.node_state.specs.State.{leader_by, leader_in, leader_of, row_of, leads_in, leads, led_groups, acked_by, least_acked, state_of, holds, held_rows, len_of, fits_at_end};
 ghost use Rattle.node_groups.specs.Places.{names_led};
 
 use crate::places::row_of;
 use crate::row;
 use crate::tables::acked_len;
-use node_state::proposal_core::{Entry, GroupList, GroupState};
-use node_state::rsct_packet::{Name, NoMemory};
 use node_state::{Core, GroupRow, Mode};
+use proposal_core::{Entry, GroupList, GroupState};
+use rsct_packet::{Name, NoMemory};
 use std::alloc::Global;
 
 /// In mode fixed the coordinator leads, else whoever is known.
@@ -138,7 +138,7 @@ pub fn least_acked(core: &Core, group: &[u8]) -> u32
 }
 
 /// The state of the group.
-#[tactic(auto, unfolding(node_state::specs::State::state_of, node_state::specs::State::list_of, node_state::specs::State::row_of, crate::proofs::Below::joiners_fit, crate::proofs::Below::joiners_fit_at))]
+#[tactic(auto, unfolding(node_state::specs::State::state_of, node_state::specs::State::list_of, node_state::specs::State::row_of, proposal_core::specs::Fold::joiners_fit, proposal_core::specs::Fold::joiners_fit_at))]
 pub fn state_of(core: &Core, alloc: Global, group: &[u8]) -> Result<GroupState, NoMemory>
     ensures value { IfOk result (λ st. st ≡ state_of core.now group.now) }
     ensures joiners { IfOk result (λ st. IsTrue (joiners_fit st)) }

@@ -1,21 +1,21 @@
 //! The row of a group.
 ghost use Rattle.std.specs.Prelude.{◌≡◌, [], IfOk, OnOk, IsTrue, Some, None};
-ghost use Rattle.node_state.specs.batch_rules.Waiting.{add_failure, drop_join};
-ghost use Rattle.node_state.specs.proposal_core.Fold.{joiners_fit};
-ghost use Rattle.node_state.specs.proposal_core.Lists.{list_or_new, state_in, len_in, entry_fits, with_entry};
+ghost use Rattle.batch_rules.specs.Waiting.{add_failure, drop_join};
+ghost use Rattle.proposal_core.specs.Fold.{joiners_fit};
+ghost use Rattle.proposal_core.specs.Lists.{list_or_new, state_in, len_in, entry_fits, with_entry};
 ghost use Rattle.node_state.specs.State.{nothing_led, new_row, list_forgotten, acked_raised, decisions_with};
 ghost use Rattle.node_state.specs.Following.{marked, given_with, vote_cast};
 ghost use Rattle.node_state.specs.Ticks.{ticked_in};
 ghost use Rattle.std.specs.Option.{option_map};
-ghost use Rattle.node_state.specs.vote_phases.Tally.{tally_fail};
+ghost use Rattle.vote_phases.specs.Tally.{tally_fail};
 
 use crate::tables::{self, raise_acked};
-use node_state::batch_rules::Waiting;
-use node_state::proposal_core::{Cause, Entry, GroupList, GroupState, Vote};
-use node_state::rsct_packet::{List, Name, NoMemory, ProviderId, Text, ViewId, is_among};
-use node_state::vote_phases::{Cast, Tally};
+use batch_rules::Waiting;
 use node_state::{Decision, Given, GroupRow, Led, Table};
+use proposal_core::{Cause, Entry, GroupList, GroupState, Vote};
+use rsct_packet::{List, Name, NoMemory, ProviderId, Text, ViewId, is_among};
 use std::alloc::Global;
+use vote_phases::{Cast, Tally};
 
 /// The provider is marked, once.
 #[tactic(auto, unfolding(node_state::specs::Following::marked))]
@@ -29,7 +29,7 @@ fn mark(list: &mut List<ProviderId>, provider: ProviderId) -> Result<(), NoMemor
 }
 
 /// The list of a group that has none yet.
-#[tactic(auto, unfolding(crate::proofs::Below::joiners_fit, crate::proofs::Below::joiners_fit_at))]
+#[tactic(auto, unfolding(proposal_core::specs::Fold::joiners_fit, proposal_core::specs::Fold::joiners_fit_at))]
 pub fn new_list(alloc: Global) -> GroupList
     ensures { result ≡ list_or_new None }
 {
@@ -37,7 +37,7 @@ pub fn new_list(alloc: Global) -> GroupList
 }
 
 /// Does the entry fit at the end of a new list?
-#[tactic(auto, unfolding(crate::proofs::Below::entry_fits))]
+#[tactic(auto, unfolding(proposal_core::specs::Lists::entry_fits))]
 pub fn fits_in_new(alloc: Global, entry: &Entry) -> bool
     ensures { result ≡ entry_fits (list_or_new None) entry.now }
 {
@@ -87,7 +87,7 @@ pub fn len(row: &GroupRow) -> u32
 }
 
 /// The state at the end of the list.
-#[tactic(auto, unfolding(crate::proofs::Below::joiners_fit, crate::proofs::Below::joiners_fit_at))]
+#[tactic(auto, unfolding(proposal_core::specs::Fold::joiners_fit, proposal_core::specs::Fold::joiners_fit_at))]
 pub fn state(row: &GroupRow, alloc: Global) -> Result<GroupState, NoMemory>
     ensures value { IfOk result (λ st. st ≡ state_in row.now.list) }
     ensures joiners { IfOk result (λ st. IsTrue (joiners_fit st)) }
@@ -99,7 +99,7 @@ pub fn state(row: &GroupRow, alloc: Global) -> Result<GroupState, NoMemory>
 }
 
 /// Does the entry fit at the end of the list?
-#[tactic(auto, unfolding(crate::proofs::Below::entry_fits))]
+#[tactic(auto, unfolding(proposal_core::specs::Lists::entry_fits))]
 pub fn fits_at_end(row: &GroupRow, alloc: Global, entry: &Entry) -> bool
     ensures { result ≡ entry_fits (list_or_new row.now.list) entry.now }
 {
@@ -110,7 +110,7 @@ pub fn fits_at_end(row: &GroupRow, alloc: Global, entry: &Entry) -> bool
 }
 
 /// A new list of this entry alone, which fits there.
-#[tactic(auto, unfolding(crate::proofs::Below::entry_fits))]
+#[tactic(auto, unfolding(proposal_core::specs::Lists::entry_fits))]
 fn list_of_one(alloc: Global, view: ViewId, entry: Entry) -> Result<GroupList, NoMemory>
     requires { IsTrue (entry_fits (list_or_new None) entry) }
     ensures { IfOk result (λ list. list ≡ with_entry (list_or_new None) view entry) }
@@ -121,7 +121,7 @@ fn list_of_one(alloc: Global, view: ViewId, entry: Entry) -> Result<GroupList, N
 }
 
 /// Puts an entry that fits at the end of the list.
-#[tactic(auto, unfolding(crate::proofs::Below::entry_fits))]
+#[tactic(auto, unfolding(proposal_core::specs::Lists::entry_fits))]
 pub fn put(row: &mut GroupRow, alloc: Global, view: ViewId, entry: Entry) -> Result<(), NoMemory>
     requires { IsTrue (entry_fits (list_or_new row.old.list) entry) }
     ensures { OnOk result (row.new ≡ record (row.old) {
@@ -139,7 +139,7 @@ pub fn put(row: &mut GroupRow, alloc: Global, view: ViewId, entry: Entry) -> Res
 }
 
 /// Lets the entries below a place go, where the list has that place.
-#[tactic(auto, unfolding(crate::proofs::Below::forgotten))]
+#[tactic(auto, unfolding(proposal_core::specs::Lists::forgotten))]
 pub fn forget_below(row: &mut GroupRow, place: u32)
     ensures { row.new ≡ record (row.old) { list = list_forgotten place row.old.list } }
 {

@@ -1,12 +1,12 @@
 //! What runs in a group.
 ghost use Rattle.std.specs.Prelude.{◌≡◌, IfNone, IfSome};
-ghost use Rattle.node_state.specs.proposal_core.Fold.{empty_state, runs};
+ghost use Rattle.proposal_core.specs.Fold.{empty_state, runs};
 ghost use Rattle.node_state.specs.State.{state_of};
 
 use crate::reads::list_of;
 use node_state::Core;
-use node_state::proposal_core::{GroupState, Running};
-use node_state::rsct_packet::ProtoId;
+use proposal_core::{GroupState, Running};
+use rsct_packet::ProtoId;
 
 /// The state at the end of the group's list, where the node holds one; else the state is empty.
 #[tactic(auto, unfolding(node_state::specs::State::state_of, node_state::specs::State::list_of))]
@@ -21,7 +21,7 @@ pub fn held_state<'a>(core: &'a Core, group: &[u8]) -> Option<&'a GroupState>
 }
 
 /// Is it this phase of this protocol that runs?
-#[tactic(auto, unfolding(crate::proofs::Below::runs))]
+#[tactic(auto, unfolding(proposal_core::specs::Fold::runs))]
 fn runs(running: &Option<Running>, proto: ProtoId, phase: u16) -> bool
     ensures { result ≡ runs proto phase running.now }
 {
@@ -32,7 +32,7 @@ fn runs(running: &Option<Running>, proto: ProtoId, phase: u16) -> bool
 }
 
 /// Does this phase of this protocol run in the group?
-#[tactic(auto, unfolding(crate::proofs::Below::runs))]
+#[tactic(auto, unfolding(proposal_core::specs::Fold::runs))]
 pub fn is_running(core: &Core, group: &[u8], proto: ProtoId, phase: u16) -> bool
     ensures { result ≡ runs proto phase (state_of core.now group.now).running }
 {

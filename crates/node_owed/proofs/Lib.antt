@@ -1,3 +1,2 @@
-pub mod Below
 pub mod SendLaws
 pub mod LossLaws

@@ -1,16 +1,16 @@
 -- Who is lost is told of, row by row.
 use Rattle.std.proofs.Common.{◌≡◌, ℕ, zero, suc, ◌+◌, ◌<◌, Bool, true, false, cond, List, [], ◌∷◌, length, take, Option, Some, None, refl, ◌∙◌, arith}
 use Rattle.std.specs.Prelude.{filter, fold, is_some, slice_get}
-use Rattle.node_groups.specs.rsct_packet.declared.ids.ProviderId.{ProviderId}
-use Rattle.node_groups.specs.proposal_core.Fold.{present}
-use Rattle.node_groups.specs.proposal_core.Lists.{state_in}
-use Rattle.node_groups.specs.node_state.declared.group.GroupRow.{GroupRow}
-use Rattle.node_groups.specs.node_state.declared.packet.Body.{Body}
-use Rattle.node_groups.specs.node_state.declared.packet.Body.TheVariants as body
-use Rattle.node_groups.specs.node_state.declared.state.Core.{Core}
-use Rattle.node_groups.specs.node_state.State.{leader_of}
-use Rattle.node_groups.specs.node_state.Sending.{send_on, sent, send_if_known}
-use Rattle.node_groups.specs.node_state.Ticks.{is_lost, lost_told}
+use Rattle.rsct_packet.specs.declared.ids.ProviderId.{ProviderId}
+use Rattle.proposal_core.specs.Fold.{present}
+use Rattle.proposal_core.specs.Lists.{state_in}
+use Rattle.node_state.specs.declared.group.GroupRow.{GroupRow}
+use Rattle.node_state.specs.declared.packet.Body.{Body}
+use Rattle.node_state.specs.declared.packet.Body.TheVariants as body
+use Rattle.node_state.specs.declared.state.Core.{Core}
+use Rattle.node_state.specs.State.{leader_of}
+use Rattle.node_state.specs.Sending.{send_on, sent, send_if_known}
+use Rattle.node_state.specs.Ticks.{is_lost, lost_told}
 use Rattle.node_groups.specs.Keeps.{Keeps}
 use Rattle.node_groups.proofs.KeepLaws.{keeps_itself, keeps_then, sent_keeps}
 use Rattle.node_owed.specs.Losses.{told_if, told_at}

@@ -2,18 +2,18 @@
 use Rattle.std.proofs.Common.{◌≡◌, ℕ, ◌≤◌, Bool, true, false, List, [], ◌∷◌, filter, length, Option, Some, None, refl, sym, ap, ◌∙◌, subst, arith}
 use Rattle.std.specs.List.{fold}
 use Rattle.std.specs.Str.{bytes_eq}
-use Rattle.node_groups.specs.client_callbacks.declared.ballot.Filled.{Filled}
-use Rattle.node_groups.specs.session_state.declared.state.Request.{Request}
-use Rattle.node_groups.specs.session_state.declared.state.KeptBallot.{KeptBallot}
-use Rattle.node_groups.specs.node_state.declared.packet.Body.{Body}
-use Rattle.node_groups.specs.node_state.declared.state.Core.{Core}
-use Rattle.node_groups.specs.node_state.State.{InNameOrder, row_of, list_of, state_of, frozen, leader_in, leader_of}
-use Rattle.node_groups.specs.node_state.Sending.{ring_network, network_to, level_for, domain_at, packet_on, send_on, sent, send_if_known, send_request_to, send_request, send_requests, vote_of, send_kept_to, send_kept, kept_sent_if, kept_sent_again, send_votes_again}
-use Rattle.node_groups.specs.node_state.Following.{requests_of}
-use Rattle.node_groups.specs.session_state.Calls.{SameSessions}
+use Rattle.client_callbacks.specs.declared.ballot.Filled.{Filled}
+use Rattle.session_state.specs.declared.state.Request.{Request}
+use Rattle.session_state.specs.declared.state.KeptBallot.{KeptBallot}
+use Rattle.node_state.specs.declared.packet.Body.{Body}
+use Rattle.node_state.specs.declared.state.Core.{Core}
+use Rattle.node_state.specs.State.{InNameOrder, row_of, list_of, state_of, frozen, leader_in, leader_of}
+use Rattle.node_state.specs.Sending.{ring_network, network_to, level_for, domain_at, packet_on, send_on, sent, send_if_known, send_request_to, send_request, send_requests, vote_of, send_kept_to, send_kept, kept_sent_if, kept_sent_again, send_votes_again}
+use Rattle.node_state.specs.Following.{requests_of}
+use Rattle.session_state.specs.Calls.{SameSessions}
 use Rattle.node_groups.specs.Keeps.{Stays, Keeps}
-use Rattle.node_groups.proofs.session_state_laws.OwnerLaws.{owners_themselves}
-use Rattle.node_groups.proofs.node_state_laws.AlongLaws.{along_same}
+use Rattle.session_state.proofs.OwnerLaws.{owners_themselves}
+use Rattle.node_state.proofs.AlongLaws.{along_same}
 use Rattle.node_groups.proofs.KeepLaws.{keeps_as}
 
 -- ---- what sends alone

@@ -1,8 +1,8 @@
 -- Telling who is lost, row by row.
 use Rattle.std.specs.Prelude.{Bool, true, false, Option, Some, None, is_some}
-use Rattle.node_groups.specs.node_state.declared.group.GroupRow.{GroupRow}
-use Rattle.node_groups.specs.node_state.declared.state.Core.{Core}
-use Rattle.node_groups.specs.node_state.Ticks.{lost_told}
+use Rattle.node_state.specs.declared.group.GroupRow.{GroupRow}
+use Rattle.node_state.specs.declared.state.Core.{Core}
+use Rattle.node_state.specs.Ticks.{lost_told}
 
 abbrev pub told_if : Core → GroupRow → Bool → Core
 told_if s row false = s

@@ -2,13 +2,13 @@
 ghost use Rattle.std.specs.Prelude.{◌≡◌, IfOk, OnOk};
 ghost use Rattle.std.specs.List.{fold};
 ghost use Rattle.node_groups.specs.Keeps.{Keeps};
-ghost use Rattle.node_groups.specs.node_state.Sending.{send_kept, kept_sent_again, send_votes_again};
+ghost use Rattle.node_state.specs.Sending.{send_kept, kept_sent_again, send_votes_again};
 
-use node_groups::node_state::Core;
-use node_groups::rsct_packet::{List, NoMemory};
-use node_groups::session_state::KeptBallot;
 use node_groups::{is_running, leader_of};
 use node_sending::send_kept_to;
+use node_state::Core;
+use rsct_packet::{List, NoMemory};
+use session_state::KeptBallot;
 use std::alloc::Global;
 use std::mem;
 
@@ -26,7 +26,7 @@ pub fn copy_kept(alloc: Global, kept: &KeptBallot) -> Result<KeptBallot, NoMemor
 }
 
 /// Sends a kept ballot that is filled to the leader of its group, where that is known.
-#[tactic(auto, unfolding(crate::proofs::Below::send_kept))]
+#[tactic(auto, unfolding(node_state::specs::Sending::send_kept))]
 pub fn send_kept(core: &mut Core, alloc: Global, kept: &KeptBallot) -> Result<(), NoMemory>
     ensures row { OnOk result (core.new ≡ send_kept core.old kept.now) }
     ensures keeps { OnOk result (Keeps core.old core.new) }
@@ -36,7 +36,7 @@ pub fn send_kept(core: &mut Core, alloc: Global, kept: &KeptBallot) -> Result<()
 }
 
 /// Sends a kept ballot where its phase runs.
-#[tactic(auto, unfolding(crate::proofs::Below::kept_sent_again, crate::proofs::Below::kept_sent_if))]
+#[tactic(auto, unfolding(node_state::specs::Sending::kept_sent_again, node_state::specs::Sending::kept_sent_if))]
 fn send_again(core: &mut Core, alloc: Global, kept: &KeptBallot) -> Result<(), NoMemory>
     ensures { OnOk result (core.new ≡ kept_sent_again core.old kept.now) }
 {

@@ -1,25 +1,25 @@
 //! The part of a tick on what is owed.
 ghost use Rattle.std.specs.Prelude.{◌≡◌, OnOk, IfOk, filter, fold, slice_get};
-ghost use Rattle.node_groups.specs.proposal_core.Fold.{joiners_in, present};
+ghost use Rattle.proposal_core.specs.Fold.{joiners_in, present};
 ghost use Rattle.node_groups.specs.Keeps.{Keeps};
-ghost use Rattle.node_groups.specs.node_state.declared.packet.Body.TheVariants as body;
-ghost use Rattle.node_groups.specs.node_state.State.{held_rows, leader_of};
-ghost use Rattle.node_groups.specs.node_state.Sending.{send_if_known};
-ghost use Rattle.node_groups.specs.node_state.Ticks.{is_lost, lost_told, tick_owed};
+ghost use Rattle.node_state.specs.declared.packet.Body.TheVariants as body;
+ghost use Rattle.node_state.specs.State.{held_rows, leader_of};
+ghost use Rattle.node_state.specs.Sending.{send_if_known};
+ghost use Rattle.node_state.specs.Ticks.{is_lost, lost_told, tick_owed};
 ghost use Rattle.node_owed.specs.Losses.{told_at};
 
 use crate::ballots::send_votes_again;
 use crate::requests::send_requests;
 use node_groups::leader_of;
-use node_groups::node_state::{Body, Core};
-use node_groups::proposal_core::{GroupState, Proposal, Running};
-use node_groups::rsct_packet::{Name, NoMemory, ProviderId};
 use node_sending::{is_frozen, send_if_known};
+use node_state::{Body, Core};
+use proposal_core::{GroupState, Proposal, Running};
+use rsct_packet::{Name, NoMemory, ProviderId};
 use session_delivery::is_live;
 use std::alloc::Global;
 
 /// Is the provider of the own incarnation, and no live one of it?
-#[tactic(auto, unfolding(crate::proofs::Below::is_lost))]
+#[tactic(auto, unfolding(node_state::specs::Ticks::is_lost))]
 fn is_lost(core: &Core, provider: ProviderId) -> bool
     ensures { result ≡ is_lost core.now provider }
 {
@@ -89,7 +89,7 @@ fn tell_gone(
 }
 
 /// Tells who is lost of the group of a row, where the node holds its list.
-#[tactic(auto, unfolding(crate::specs::Losses::told_at, crate::proofs::Below::lost_told))]
+#[tactic(auto, unfolding(crate::specs::Losses::told_at, node_state::specs::Ticks::lost_told))]
 fn tell_at(core: &mut Core, alloc: Global, place: usize) -> Result<(), NoMemory>
     ensures { OnOk result (core.new ≡ told_at core.old (slice_get core.old.groups place)) }
 {
@@ -105,7 +105,7 @@ fn tell_at(core: &mut Core, alloc: Global, place: usize) -> Result<(), NoMemory>
 }
 
 /// Tells who is lost, group by group.
-#[tactic(auto, unfolding(crate::proofs::Below::held_rows), using(crate::proofs::LossLaws::told_more, crate::proofs::LossLaws::told_groups, std::proofs::lemmas::Grind::common_steps))]
+#[tactic(auto, unfolding(node_state::specs::State::held_rows), using(crate::proofs::LossLaws::told_more, crate::proofs::LossLaws::told_groups, std::proofs::lemmas::Grind::common_steps))]
 fn tell_lost(core: &mut Core, alloc: Global) -> Result<(), NoMemory>
     ensures row { OnOk result (core.new ≡ fold lost_told core.old (held_rows core.old)) }
     ensures keeps { OnOk result (Keeps core.old core.new) }
@@ -117,7 +117,7 @@ fn tell_lost(core: &mut Core, alloc: Global) -> Result<(), NoMemory>
 }
 
 /// The part of a tick on what is owed: requests, then GONE for those who are lost, then votes are sent again.
-#[tactic(auto, unfolding(crate::proofs::Below::tick_owed))]
+#[tactic(auto, unfolding(node_state::specs::Ticks::tick_owed))]
 pub fn tick_owed(core: &mut Core, alloc: Global) -> Result<(), NoMemory>
     ensures row { OnOk result (core.new ≡ tick_owed core.old) }
     ensures keeps { OnOk result (Keeps core.old core.new) }

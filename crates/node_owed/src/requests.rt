@@ -2,16 +2,16 @@
 ghost use Rattle.std.specs.Prelude.{◌≡◌, IfOk, OnOk, filter};
 ghost use Rattle.std.specs.List.{fold};
 ghost use Rattle.std.specs.Str.{bytes_eq};
-ghost use Rattle.node_groups.specs.session_state.declared.state.Request.{Request};
+ghost use Rattle.session_state.specs.declared.state.Request.{Request};
 ghost use Rattle.node_groups.specs.Keeps.{Keeps};
-ghost use Rattle.node_groups.specs.node_state.Sending.{send_request, send_requests};
-ghost use Rattle.node_groups.specs.node_state.Following.{requests_of};
+ghost use Rattle.node_state.specs.Sending.{send_request, send_requests};
+ghost use Rattle.node_state.specs.Following.{requests_of};
 
 use node_groups::leader_of;
-use node_groups::node_state::Core;
-use node_groups::rsct_packet::{List, NoMemory};
-use node_groups::session_state::Request;
 use node_sending::{is_frozen, send_request_to};
+use node_state::Core;
+use rsct_packet::{List, NoMemory};
+use session_state::Request;
 use std::alloc::Global;
 use std::mem;
 
@@ -29,7 +29,7 @@ pub fn copy_request(alloc: Global, request: &Request) -> Result<Request, NoMemor
 }
 
 /// Sends an outstanding request to the leader of its group, or looks the name up; nothing where the node is frozen.
-#[tactic(auto, unfolding(crate::proofs::Below::send_request))]
+#[tactic(auto, unfolding(node_state::specs::Sending::send_request))]
 pub fn send_request(core: &mut Core, alloc: Global, request: &Request) -> Result<(), NoMemory>
     ensures row { OnOk result (core.new ≡ send_request core.old request.now) }
     ensures keeps { OnOk result (Keeps core.old core.new) }

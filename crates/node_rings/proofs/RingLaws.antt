@@ -2,22 +2,22 @@
 use Rattle.std.proofs.Common.{◌≡◌, ℕ, suc, ◌+◌, ◌<◌, ◌≤◌, ◌==◌, nat_lt, Bool, true, false, not, List, [], ◌∷◌, ◌++◌, length, take, drop, Option, Some, None, refl, ap, arith, cond}
 use Rattle.std.specs.Prelude.{fold}
 use Rattle.std.specs.List.{position, position_or_len}
-use Rattle.node_groups.specs.adapter_ring.declared.ring.Ring.{Ring}
-use Rattle.node_groups.specs.adapter_ring.declared.ring.RingSet.{RingSet}
-use Rattle.node_groups.specs.adapter_ring.declared.work.RingWork.{RingWork}
-use Rattle.node_groups.specs.adapter_ring.declared.packet.RingSend.{RingSend}
-use Rattle.node_groups.specs.adapter_ring.declared.packet.RingEvent.TheVariants as ring_event
-use Rattle.node_groups.specs.adapter_ring.Rings.{ring_step}
-use Rattle.node_groups.specs.node_reach.declared.reach.Reach.{Reach}
-use Rattle.node_groups.specs.node_state.declared.packet.Body.{Body}
-use Rattle.node_groups.specs.node_state.declared.packet.Body.TheVariants as body
-use Rattle.node_groups.specs.node_state.declared.state.Core.{Core}
-use Rattle.node_groups.specs.node_state.Sending.{send_on, sent, send_all}
-use Rattle.node_groups.specs.node_state.Ticks.{ring_put, set_records, ring_taken}
-use Rattle.node_groups.specs.node_state.Handed.{handed_in}
+use Rattle.adapter_ring.specs.declared.ring.Ring.{Ring}
+use Rattle.adapter_ring.specs.declared.ring.RingSet.{RingSet}
+use Rattle.adapter_ring.specs.declared.work.RingWork.{RingWork}
+use Rattle.adapter_ring.specs.declared.packet.RingSend.{RingSend}
+use Rattle.adapter_ring.specs.declared.packet.RingEvent.TheVariants as ring_event
+use Rattle.adapter_ring.specs.Rings.{ring_step}
+use Rattle.node_reach.specs.declared.reach.Reach.{Reach}
+use Rattle.node_state.specs.declared.packet.Body.{Body}
+use Rattle.node_state.specs.declared.packet.Body.TheVariants as body
+use Rattle.node_state.specs.declared.state.Core.{Core}
+use Rattle.node_state.specs.Sending.{send_on, sent, send_all}
+use Rattle.node_state.specs.Ticks.{ring_put, set_records, ring_taken}
+use Rattle.node_state.specs.Handed.{handed_in}
 use Rattle.node_groups.specs.Keeps.{Keeps}
-use Rattle.node_groups.proofs.session_state_laws.OwnerLaws.{owners_themselves}
-use Rattle.node_groups.proofs.node_state_laws.AlongLaws.{LeavesStates, along_same}
+use Rattle.session_state.proofs.OwnerLaws.{owners_themselves}
+use Rattle.node_state.proofs.AlongLaws.{LeavesStates, along_same}
 use Rattle.node_groups.proofs.KeepLaws.{keeps_itself, keeps_then, records_keep}
 
 -- ---- the place of a ring

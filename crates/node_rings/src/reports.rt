@@ -1,20 +1,20 @@
 //! The rows of nodes: they are taken, and sent to all nodes of the rings.
 ghost use Rattle.std.specs.Prelude.{◌≡◌, ◌++◌, ◌==◌, IfOk, OnOk, filter, flat_map, fold, not};
-ghost use Rattle.node_groups.specs.rsct_packet.Mask.{nodes_of};
-ghost use Rattle.node_groups.specs.node_reach.Reach.{row_of};
+ghost use Rattle.rsct_packet.specs.Mask.{nodes_of};
+ghost use Rattle.node_reach.specs.Reach.{row_of};
 ghost use Rattle.node_groups.specs.Keeps.{Keeps};
-ghost use Rattle.node_groups.specs.node_state.declared.packet.Body.TheVariants as body;
-ghost use Rattle.node_groups.specs.node_state.Sending.{send_all};
-ghost use Rattle.node_groups.specs.node_state.Ticks.{report_of, take_report, send_report, row_listed, row_reported};
+ghost use Rattle.node_state.specs.declared.packet.Body.TheVariants as body;
+ghost use Rattle.node_state.specs.Sending.{send_all};
+ghost use Rattle.node_state.specs.Ticks.{report_of, take_report, send_report, row_listed, row_reported};
 
-use node_groups::node_reach::{Reach, ReachRow};
-use node_groups::node_state::{Body, Core, Report, ReportRow};
-use node_groups::rsct_packet::{List, Mask, NODES, NoMemory};
+use node_reach::{Reach, ReachRow};
 use node_sending::send;
+use node_state::{Body, Core, Report, ReportRow};
+use rsct_packet::{List, Mask, NODES, NoMemory};
 use std::alloc::Global;
 
 /// Takes each row.
-#[tactic(auto, unfolding(crate::proofs::Below::row_reported), using(std::proofs::lemmas::List::Sums::fold_more))]
+#[tactic(auto, unfolding(node_state::specs::Ticks::row_reported), using(std::proofs::lemmas::List::Sums::fold_more))]
 fn take_rows(reach: &mut Reach, rows: &[ReportRow])
     ensures { reach.new ≡ fold row_reported reach.old rows.now }
 {
@@ -24,7 +24,7 @@ fn take_rows(reach: &mut Reach, rows: &[ReportRow])
 }
 
 /// REPORT: each row is taken.
-#[tactic(auto, unfolding(crate::proofs::Below::take_report))]
+#[tactic(auto, unfolding(node_state::specs::Ticks::take_report))]
 pub fn take_report(core: &mut Core, rows: &[ReportRow])
     ensures row { core.new ≡ take_report core.old rows.now }
     ensures keeps { Keeps core.old core.new }
@@ -33,7 +33,7 @@ pub fn take_report(core: &mut Core, rows: &[ReportRow])
 }
 
 /// Puts the kept row of a node, where there is one, at the end.
-#[tactic(auto, unfolding(crate::proofs::Below::row_listed))]
+#[tactic(auto, unfolding(node_state::specs::Ticks::row_listed))]
 fn push_row(rows: &mut Report, node: u8, row: Option<ReachRow>) -> Result<(), NoMemory>
     ensures { OnOk result (rows.new ≡ rows.old ++ row_listed node row) }
 {
@@ -61,7 +61,7 @@ fn rows_of(alloc: Global, reach: &Reach, nodes: &[u8]) -> Result<Report, NoMemor
 }
 
 /// All kept rows, nodes ascending.
-#[tactic(auto, unfolding(crate::proofs::Below::report_of))]
+#[tactic(auto, unfolding(node_state::specs::Ticks::report_of))]
 fn report_of(alloc: Global, reach: &Reach) -> Result<Report, NoMemory>
     ensures { IfOk result (λ l. l ≡ report_of reach.now) }
 {
@@ -69,7 +69,7 @@ fn report_of(alloc: Global, reach: &Reach) -> Result<Report, NoMemory>
 }
 
 /// The nodes of a set but for one, ascending.
-#[tactic(auto, unfolding(crate::proofs::Below::nodes_of))]
+#[tactic(auto, unfolding(rsct_packet::specs::Mask::nodes_of))]
 fn others_in(alloc: Global, me: u8, mask: Mask) -> Result<Vec<u8>, NoMemory>
     ensures { IfOk result (λ v. v.items ≡ filter (λ n. not (n == me)) (nodes_of mask)) }
 {
@@ -84,7 +84,7 @@ fn others_in(alloc: Global, me: u8, mask: Mask) -> Result<Vec<u8>, NoMemory>
 }
 
 /// Sends these rows to each of these nodes.
-#[tactic(auto, unfolding(crate::proofs::Below::send_all), using(std::proofs::lemmas::List::Sums::fold_more))]
+#[tactic(auto, unfolding(node_state::specs::Sending::send_all), using(std::proofs::lemmas::List::Sums::fold_more))]
 fn send_rows(
     core: &mut Core,
     alloc: Global,
@@ -101,7 +101,7 @@ fn send_rows(
 }
 
 /// The own row becomes these nodes, and all rows go to the others of them.
-#[tactic(auto, unfolding(crate::proofs::Below::send_report))]
+#[tactic(auto, unfolding(node_state::specs::Ticks::send_report))]
 pub fn send_report(core: &mut Core, alloc: Global, mask: Mask) -> Result<(), NoMemory>
     ensures row { OnOk result (core.new ≡ send_report core.old mask) }
     ensures keeps { OnOk result (Keeps core.old core.new) }

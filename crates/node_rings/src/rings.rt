@@ -1,19 +1,19 @@
 //! What the steps of a node's rings leave.
 ghost use Rattle.std.specs.Prelude.{◌≡◌, ◌==◌, ◌<◌, IfOk, IfSome, OnOk, find, fold, length, option_copied};
 ghost use Rattle.std.specs.List.{position};
-ghost use Rattle.node_groups.specs.adapter_ring.declared.ring.Ring.{Ring};
-ghost use Rattle.node_groups.specs.adapter_ring.declared.packet.RingSend.{RingSend};
-ghost use Rattle.node_groups.specs.adapter_ring.Rings.{ring_step};
+ghost use Rattle.adapter_ring.specs.declared.ring.Ring.{Ring};
+ghost use Rattle.adapter_ring.specs.declared.packet.RingSend.{RingSend};
+ghost use Rattle.adapter_ring.specs.Rings.{ring_step};
 ghost use Rattle.node_groups.specs.Keeps.{Keeps};
-ghost use Rattle.node_groups.specs.node_state.declared.packet.Body.TheVariants as body;
-ghost use Rattle.node_groups.specs.node_state.State.{recorded_all};
-ghost use Rattle.node_groups.specs.node_state.Sending.{send_on};
-ghost use Rattle.node_groups.specs.node_state.Ticks.{ring_put, ring_row, ring_taken, set_records};
+ghost use Rattle.node_state.specs.declared.packet.Body.TheVariants as body;
+ghost use Rattle.node_state.specs.State.{recorded_all};
+ghost use Rattle.node_state.specs.Sending.{send_on};
+ghost use Rattle.node_state.specs.Ticks.{ring_put, ring_row, ring_taken, set_records};
 
-use node_groups::adapter_ring::{Ring, RingEvent, RingOut, RingPacket, RingSend, RingSet};
-use node_groups::node_state::{Body, Core, Happened, Rings};
-use node_groups::rsct_packet::{List, NoMemory};
+use adapter_ring::{Ring, RingEvent, RingOut, RingPacket, RingSend, RingSet};
 use node_sending::send_on;
+use node_state::{Body, Core, Happened, Rings};
+use rsct_packet::{List, NoMemory};
 use std::alloc::Global;
 
 /// Where the first ring of a network stands.
@@ -51,7 +51,7 @@ fn send_each(core: &mut Core, sends: &[RingSend]) -> Result<(), NoMemory>
 }
 
 /// Records that the ring of a network is set.
-#[tactic(auto, unfolding(crate::proofs::Below::recorded_all, crate::proofs::Below::set_records))]
+#[tactic(auto, unfolding(node_state::specs::State::recorded_all, node_state::specs::Ticks::set_records))]
 fn record_set(core: &mut Core, node: u8, network: u8, set: Option<RingSet>) -> Result<(), NoMemory>
     ensures { OnOk result (core.new ≡ recorded_all core.old (set_records node network set)) }
 {
@@ -68,7 +68,7 @@ fn record_set(core: &mut Core, node: u8, network: u8, set: Option<RingSet>) -> R
 }
 
 /// Takes what a ring's step leaves: the ring itself, what it sends, and the ring that it was set to.
-#[tactic(auto, unfolding(crate::proofs::Below::ring_taken))]
+#[tactic(auto, unfolding(node_state::specs::Ticks::ring_taken))]
 fn take_step(core: &mut Core, alloc: Global, ring: &Ring, out: &RingOut) -> Result<(), NoMemory>
     ensures { OnOk result (core.new ≡ ring_taken core.old
         (record { ring = ring.now; sends = out.now.sends; set = out.now.set })) }
@@ -97,7 +97,7 @@ fn ring_of(rings: &[Ring], network: u8) -> Option<Ring>
 }
 
 /// A packet of a ring goes to the ring of its network.
-#[tactic(auto, unfolding(crate::proofs::Below::ring_row, crate::proofs::Below::ring_row_of))]
+#[tactic(auto, unfolding(node_state::specs::Ticks::ring_row, node_state::specs::Ticks::ring_row_of))]
 pub fn take_ring_packet(
     core: &mut Core,
     alloc: Global,

@@ -1,17 +1,17 @@
 //! The part of a tick on rings.
 ghost use Rattle.std.specs.Prelude.{◌≡◌, OnOk, fold};
-ghost use Rattle.node_groups.specs.adapter_ring.declared.ring.Ring.{Ring};
-ghost use Rattle.node_groups.specs.adapter_ring.declared.packet.RingEvent.TheVariants as ring_event;
-ghost use Rattle.node_groups.specs.adapter_ring.Rings.{ring_step};
+ghost use Rattle.adapter_ring.specs.declared.ring.Ring.{Ring};
+ghost use Rattle.adapter_ring.specs.declared.packet.RingEvent.TheVariants as ring_event;
+ghost use Rattle.adapter_ring.specs.Rings.{ring_step};
 ghost use Rattle.node_groups.specs.Keeps.{Keeps};
-ghost use Rattle.node_groups.specs.node_state.Ticks.{ring_taken, tick_rings, rings_tick, rings_union};
+ghost use Rattle.node_state.specs.Ticks.{ring_taken, tick_rings, rings_tick, rings_union};
 
 use crate::reports::send_report;
 use crate::rings::step;
-use node_groups::adapter_ring::{Ring, RingEvent};
-use node_groups::node_state::Core;
-use node_groups::rsct_packet::{List, Mask, NoMemory};
+use adapter_ring::{Ring, RingEvent};
 use node_sending::is_rings;
+use node_state::Core;
+use rsct_packet::{List, Mask, NoMemory};
 use std::alloc::Global;
 
 /// Each of these rings ticks.
@@ -27,7 +27,7 @@ fn tick_each(core: &mut Core, alloc: Global, rings: &[Ring]) -> Result<(), NoMem
 }
 
 /// The nodes of the rings.
-#[tactic(auto, unfolding(crate::proofs::Below::rings_union))]
+#[tactic(auto, unfolding(node_state::specs::Ticks::rings_union))]
 fn union_of(rings: &[Ring]) -> Mask
     ensures { result ≡ rings_union rings.now }
 {
@@ -37,7 +37,7 @@ fn union_of(rings: &[Ring]) -> Mask
 }
 
 /// The rings tick in network order, and all rows go to the nodes of their union.
-#[tactic(auto, unfolding(crate::proofs::Below::rings_tick))]
+#[tactic(auto, unfolding(node_state::specs::Ticks::rings_tick))]
 fn tick_all(core: &mut Core, alloc: Global) -> Result<(), NoMemory>
     ensures row { OnOk result (core.new ≡ rings_tick core.old) }
     ensures keeps { OnOk result (Keeps core.old core.new) }
@@ -50,7 +50,7 @@ fn tick_all(core: &mut Core, alloc: Global) -> Result<(), NoMemory>
 
 /// The part of a tick on rings, in mode rings: they tick in network order, and all rows go to the nodes of their
 /// union.
-#[tactic(auto, unfolding(crate::proofs::Below::tick_rings))]
+#[tactic(auto, unfolding(node_state::specs::Ticks::tick_rings))]
 pub fn tick_rings(core: &mut Core, alloc: Global) -> Result<(), NoMemory>
     ensures row { OnOk result (core.new ≡ tick_rings core.old) }
     ensures keeps { OnOk result (Keeps core.old core.new) }

@@ -2,18 +2,18 @@
 ghost use Rattle.std.specs.Prelude.{◌≡◌, filter, map};
 ghost use Rattle.std.specs.List.{list_any};
 ghost use Rattle.std.specs.Cmp.Lexicographic.{pointwise};
-ghost use Rattle.node_groups.specs.rsct_packet.Ids.{same_member};
-ghost use Rattle.node_groups.specs.rsct_packet.Mask.{has_node};
-ghost use Rattle.node_groups.specs.proposal_core.Lists.{list_or_new};
-ghost use Rattle.node_groups.specs.node_reach.Reach.{row_of};
-ghost use Rattle.node_groups.specs.node_state.declared.group.GroupRow.{GroupRow};
-ghost use Rattle.node_groups.specs.node_state.Ticks.{inc_in, reached, is_long, is_due, is_first, ring_ask_for, ring_ask};
+ghost use Rattle.rsct_packet.specs.Ids.{same_member};
+ghost use Rattle.rsct_packet.specs.Mask.{has_node};
+ghost use Rattle.proposal_core.specs.Lists.{list_or_new};
+ghost use Rattle.node_reach.specs.Reach.{row_of};
+ghost use Rattle.node_state.specs.declared.group.GroupRow.{GroupRow};
+ghost use Rattle.node_state.specs.Ticks.{inc_in, reached, is_long, is_due, is_first, ring_ask_for, ring_ask};
 
-use node_groups::node_reach::{Reach, ReachRow};
-use node_groups::node_state::{Core, GroupRow};
-use node_groups::rsct_packet::{Mask, Member, NODES};
-use node_groups::view_state::RingAsk;
+use node_reach::{Reach, ReachRow};
 use node_sending::is_rings;
+use node_state::{Core, GroupRow};
+use rsct_packet::{Mask, Member, NODES};
+use view_state::RingAsk;
 
 /// The incarnation of a row; 0 where there is none.
 fn inc_in(row: Option<ReachRow>) -> u32
@@ -54,7 +54,7 @@ fn are_reached(reach: &Reach, nodes: Mask, numbers: &[u8], members: &[Member]) -
 }
 
 /// Are the members just the nodes reached, in the incarnations of their rows?
-#[tactic(auto, unfolding(crate::proofs::Below::reached, crate::proofs::Below::nodes_of))]
+#[tactic(auto, unfolding(node_state::specs::Ticks::reached, rsct_packet::specs::Mask::nodes_of))]
 fn are_members(core: &Core, nodes: Mask) -> bool
     ensures { result ≡ pointwise same_member core.now.views.members (reached core.now nodes) }
 {
@@ -62,7 +62,7 @@ fn are_members(core: &Core, nodes: Mask) -> bool
 }
 
 /// Has the group's list become long, by its places or its bytes?
-#[tactic(auto, unfolding(crate::proofs::Below::is_long))]
+#[tactic(auto, unfolding(node_state::specs::Ticks::is_long))]
 fn is_long(row: &GroupRow) -> bool
     ensures { result ≡ is_long (list_or_new row.now.list) }
 {
@@ -79,7 +79,7 @@ fn is_one_long(rows: &[GroupRow]) -> bool
 }
 
 /// Is a next view due: are others reached than the members, or is a list long?
-#[tactic(auto, unfolding(crate::proofs::Below::is_due))]
+#[tactic(auto, unfolding(node_state::specs::Ticks::is_due))]
 fn is_due(core: &Core, nodes: Mask) -> bool
     ensures { result ≡ is_due core.now nodes }
 {
@@ -95,7 +95,7 @@ fn is_first(node: u8, first: Option<u8>) -> bool
     }
 }
 
-#[tactic(auto, unfolding(crate::proofs::Below::ring_ask_for, crate::proofs::Below::least_node))]
+#[tactic(auto, unfolding(node_state::specs::Ticks::ring_ask_for, node_state::specs::Settings::least_node))]
 fn ask_for(core: &Core, nodes: Mask) -> RingAsk
     ensures { result ≡ ring_ask_for core.now nodes }
 {
@@ -107,7 +107,7 @@ fn ask_for(core: &Core, nodes: Mask) -> RingAsk
 }
 
 /// What the rings say of a next view; nothing in the other modes.
-#[tactic(auto, unfolding(crate::proofs::Below::ring_ask))]
+#[tactic(auto, unfolding(node_state::specs::Ticks::ring_ask))]
 pub fn ring_ask(core: &Core) -> Option<RingAsk>
     ensures { result ≡ ring_ask core.now }
 {

@@ -4,10 +4,10 @@ ghost use Rattle.node_state.specs.Sending.{send_if_known, vote_of, send_request_
 ghost use Rattle.node_state.specs.declared.packet.Body.TheVariants as body;
 
 use crate::packets::{send, send_if_known};
-use node_state::client_callbacks::Filled;
-use node_state::rsct_packet::{Name, NoMemory, ProtoId, ProviderId, ViewId};
-use node_state::session_state::{KeptBallot, Request};
+use client_callbacks::Filled;
 use node_state::{Body, Core};
+use rsct_packet::{Name, NoMemory, ProtoId, ProviderId, ViewId};
+use session_state::{KeptBallot, Request};
 use std::alloc::Global;
 
 /// The packet of a ballot that is filled.

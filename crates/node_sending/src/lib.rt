@@ -7,11 +7,6 @@ mod settings;
 mod views;
 
 pub use ballots::{send_kept_to, send_request_to, send_vote};
-pub use node_state;
-pub use node_state::{
-    adapter_ring, batch_rules, client_callbacks, group_attr, name_server, node_reach,
-    proposal_core, rsct_packet, session_state, subscribe_core, view_state, vote_phases,
-};
 pub use packets::{send, send_entry, send_if_known, send_on};
 pub use settings::{
     address, has_adapter, is_fixed, is_rings, shared_network, speaks_two, view_level,

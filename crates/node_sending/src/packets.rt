@@ -4,10 +4,10 @@ ghost use Rattle.node_state.specs.Sending.{joins_nodes, ring_network, network_to
 ghost use Rattle.node_state.specs.declared.packet.Body.TheVariants as body;
 
 use crate::settings::{is_rings, shared_network};
-use node_state::adapter_ring::Ring;
-use node_state::proposal_core::Entry;
-use node_state::rsct_packet::{Name, NoMemory};
+use adapter_ring::Ring;
 use node_state::{Body, Core, Packet};
+use proposal_core::Entry;
+use rsct_packet::{Name, NoMemory};
 use std::alloc::Global;
 
 /// Do both nodes stand in the ring?

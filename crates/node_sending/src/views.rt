@@ -1,14 +1,14 @@
 //! What a node's views say of it.
 ghost use Rattle.std.specs.Prelude.{◌≡◌, IfOk};
-ghost use Rattle.node_state.specs.view_state.Views.{others_of};
+ghost use Rattle.view_state.specs.Views.{others_of};
 ghost use Rattle.node_state.specs.State.{frozen, coordinates, others};
 
 use node_state::Core;
-use node_state::rsct_packet::{Member, NoMemory};
+use rsct_packet::{Member, NoMemory};
 use std::alloc::Global;
 
 /// Has the node promised another view than the one that it is in?
-#[tactic(auto, unfolding(node_state::specs::State::frozen, crate::proofs::Below::is_frozen))]
+#[tactic(auto, unfolding(node_state::specs::State::frozen, view_state::specs::Views::is_frozen))]
 pub fn is_frozen(core: &Core) -> bool
     ensures { result ≡ frozen core.now }
 {
@@ -16,7 +16,7 @@ pub fn is_frozen(core: &Core) -> bool
 }
 
 /// Is the node the coordinator of its view?
-#[tactic(auto, unfolding(node_state::specs::State::coordinates, crate::proofs::Below::is_coordinator))]
+#[tactic(auto, unfolding(node_state::specs::State::coordinates, view_state::specs::Views::is_coordinator))]
 pub fn coordinates(core: &Core) -> bool
     ensures { result ≡ coordinates core.now }
 {
@@ -24,7 +24,7 @@ pub fn coordinates(core: &Core) -> bool
 }
 
 /// The members' nodes but for one.
-#[tactic(auto, unfolding(crate::proofs::Below::others_of))]
+#[tactic(auto, unfolding(view_state::specs::Views::others_of))]
 fn others_of(alloc: Global, me: u8, members: &[Member]) -> Result<Vec<u8>, NoMemory>
     ensures { IfOk result (λ v. v.items ≡ others_of me members.now) }
 {

@@ -3,5 +3,4 @@
 
 mod start;
 
-pub use node_sending;
 pub use start::start_core;

@@ -1,28 +1,28 @@
 //! How a node starts.
 ghost use Rattle.std.specs.Prelude.{◌≡◌, ◌++◌, ◌∷◌, [], map, IfOk, OnOk, if◌then◌else◌, Some, None};
 ghost use Rattle.std.specs.Option.{unwrap_or};
-ghost use Rattle.node_sending.specs.rsct_packet.Mask.{nodes_of};
-ghost use Rattle.node_sending.specs.session_state.declared.state.SessionState.{SessionState};
-ghost use Rattle.node_sending.specs.session_state.State.{no_sessions};
-ghost use Rattle.node_sending.specs.node_state.declared.happened.Happened.TheVariants as happened;
-ghost use Rattle.node_sending.specs.node_state.Settings.{has_adapter, least_node, networks, networks_of};
-ghost use Rattle.node_sending.specs.node_state.Step.{own_ring, own_rings, first_view, first_members, ring_record, started};
+ghost use Rattle.rsct_packet.specs.Mask.{nodes_of};
+ghost use Rattle.session_state.specs.declared.state.SessionState.{SessionState};
+ghost use Rattle.session_state.specs.State.{no_sessions};
+ghost use Rattle.node_state.specs.declared.happened.Happened.TheVariants as happened;
+ghost use Rattle.node_state.specs.Settings.{has_adapter, least_node, networks, networks_of};
+ghost use Rattle.node_state.specs.Step.{own_ring, own_rings, first_view, first_members, ring_record, started};
 
-use node_sending::adapter_ring::{Ring, RingSettings};
-use node_sending::name_server::Names;
-use node_sending::node_reach::Reach;
-use node_sending::node_state::{Config, Core, Happened, Mode, Records, Rings, Table};
-use node_sending::rsct_packet::{List, Mask, Member, Members, NODES, NoMemory, ViewId};
-use node_sending::session_state::{Locals, SessionState};
-use node_sending::subscribe_core::Subs;
-use node_sending::view_state::Views;
+use adapter_ring::{Ring, RingSettings};
+use name_server::Names;
+use node_reach::Reach;
 use node_sending::{address, view_level};
+use node_state::{Config, Core, Happened, Mode, Records, Rings, Table};
+use rsct_packet::{List, Mask, Member, Members, NODES, NoMemory, ViewId};
+use session_state::{Locals, SessionState};
 use std::alloc::Global;
+use subscribe_core::Subs;
+use view_state::Views;
 
 const NETWORKS: [u8; 4] = [1, 2, 3, 4];
 
 /// In mode fixed the view of all nodes, else of the node alone.
-#[tactic(auto, unfolding(crate::proofs::Below::first_view, crate::proofs::Below::least_node))]
+#[tactic(auto, unfolding(node_state::specs::Step::first_view, node_state::specs::Settings::least_node))]
 fn first_view(config: &Config, me: u8, inc: u32) -> ViewId
     ensures { result ≡ first_view config.now config.now.mode me inc }
 {
@@ -70,7 +70,7 @@ fn alone(alloc: Global, me: u8, inc: u32) -> Result<Members, NoMemory>
 }
 
 /// The members of the first view.
-#[tactic(auto, unfolding(crate::proofs::Below::first_members))]
+#[tactic(auto, unfolding(node_state::specs::Step::first_members))]
 fn first_members(alloc: Global, config: &Config, me: u8, inc: u32) -> Result<Members, NoMemory>
     ensures { IfOk result (λ ms. ms ≡ first_members config.now config.now.mode me inc) }
 {
@@ -82,7 +82,7 @@ fn first_members(alloc: Global, config: &Config, me: u8, inc: u32) -> Result<Mem
 }
 
 /// The ring of the node's adapter on a network, where it has one there.
-#[tactic(auto, unfolding(crate::proofs::Below::own_ring, crate::proofs::Below::has_adapter, crate::proofs::Below::address_at, crate::proofs::Below::addresses_on))]
+#[tactic(auto, unfolding(node_state::specs::Step::own_ring, node_state::specs::Settings::has_adapter, node_state::specs::Settings::address_at, node_state::specs::Settings::addresses_on))]
 fn ring_on(config: &Config, me: u8, inc: u32, network: u8) -> Option<Ring>
     ensures { result ≡ (if has_adapter config.now me network then Some
         (own_ring config.now me inc network) else None) }
@@ -106,7 +106,7 @@ fn ring_on(config: &Config, me: u8, inc: u32, network: u8) -> Option<Ring>
 }
 
 /// A ring for each adapter of the node, in network order.
-#[tactic(auto, unfolding(crate::proofs::Below::networks_of), using(std::proofs::lemmas::List::map_more, std::proofs::lemmas::List::Elements::filter_more, std::proofs::lemmas::Grind::common_steps))]
+#[tactic(auto, unfolding(node_state::specs::Settings::networks_of), using(std::proofs::lemmas::List::map_more, std::proofs::lemmas::List::Elements::filter_more, std::proofs::lemmas::Grind::common_steps))]
 fn adapter_rings(alloc: Global, config: &Config, me: u8, inc: u32) -> Result<Rings, NoMemory>
     ensures { IfOk result (λ rs. rs ≡ map (own_ring config.now me inc)
         (networks_of config.now me)) }
@@ -121,7 +121,7 @@ fn adapter_rings(alloc: Global, config: &Config, me: u8, inc: u32) -> Result<Rin
 }
 
 /// The rings of the node, which it has in mode rings alone.
-#[tactic(auto, unfolding(crate::proofs::Below::own_rings))]
+#[tactic(auto, unfolding(node_state::specs::Step::own_rings))]
 fn own_rings(alloc: Global, config: &Config, me: u8, inc: u32) -> Result<Rings, NoMemory>
     ensures { IfOk result (λ rs. rs ≡ own_rings config.now config.now.mode me inc) }
 {
@@ -133,7 +133,7 @@ fn own_rings(alloc: Global, config: &Config, me: u8, inc: u32) -> Result<Rings, 
 }
 
 /// The record of a ring.
-#[tactic(auto, unfolding(crate::proofs::Below::ring_record))]
+#[tactic(auto, unfolding(node_state::specs::Step::ring_record))]
 fn ring_record(me: u8, ring: &Ring) -> Happened
     ensures { result ≡ ring_record me ring.now }
 {
@@ -199,7 +199,7 @@ fn no_sessions(alloc: Global, me: u8, inc: u32, level: u8) -> SessionState
 }
 
 /// The state of a node that starts, with what it records.
-#[tactic(auto, unfolding(crate::proofs::Below::started, crate::proofs::Below::with_sessions, crate::proofs::Below::level_set))]
+#[tactic(auto, unfolding(node_state::specs::Step::started, node_state::specs::State::with_sessions, node_state::specs::Applying::level_set))]
 pub fn start_core(alloc: Global, config: Config, me: u8, inc: u32) -> Result<Core, NoMemory>
     ensures { IfOk result (λ s. s ≡ started config me inc) }
 {

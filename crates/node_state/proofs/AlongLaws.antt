@@ -1,6 +1,6 @@
 -- The states of groups along the records of one change and of the next.
 use Rattle.std.proofs.Common.{◌≡◌, ℕ, List, [], ◌∷◌, ◌++◌, refl, sym, ap, ◌∙◌, append_assoc, append-nil}
-use Rattle.session_state.specs.proposal_core.declared.group_state.GroupState.{GroupState}
+use Rattle.proposal_core.specs.declared.group_state.GroupState.{GroupState}
 use Rattle.node_state.specs.declared.happened.Happened.{Happened}
 use Rattle.node_state.specs.declared.happened.Happened.TheVariants as happened
 use Rattle.node_state.specs.declared.state.Core.{Core}

@@ -1,23 +1,23 @@
 -- Entering a view.
 use Rattle.std.specs.Prelude.{ℕ, Bool, true, false, not, ◌==◌, ◌&&◌, List, [], ◌∷◌, map, filter, fold, flat_map, Option, Some, None, is_some}
 use Rattle.std.specs.Str.{bytes_eq}
-use Rattle.session_state.specs.rsct_packet.declared.ids.ProviderId.{ProviderId}
-use Rattle.session_state.specs.rsct_packet.declared.ids.ViewId.{ViewId}
-use Rattle.session_state.specs.rsct_packet.declared.ids.Member.{Member}
-use Rattle.session_state.specs.rsct_packet.Ids.{same_view}
-use Rattle.session_state.specs.rsct_packet.Providers.{among}
-use Rattle.session_state.specs.group_attr.Attrs.{host_membership}
-use Rattle.session_state.specs.proposal_core.declared.proposal.Cause.TheVariants.{Died}
-use Rattle.session_state.specs.proposal_core.declared.entry.Entry.{Entry}
-use Rattle.session_state.specs.proposal_core.declared.group_state.GroupState.{GroupState}
-use Rattle.session_state.specs.proposal_core.Fold.{present}
-use Rattle.session_state.specs.proposal_core.GroupView.{GroupView, new_list}
-use Rattle.session_state.specs.proposal_core.Lists.{list_or_new, state_in}
+use Rattle.rsct_packet.specs.declared.ids.ProviderId.{ProviderId}
+use Rattle.rsct_packet.specs.declared.ids.ViewId.{ViewId}
+use Rattle.rsct_packet.specs.declared.ids.Member.{Member}
+use Rattle.rsct_packet.specs.Ids.{same_view}
+use Rattle.rsct_packet.specs.Providers.{among}
+use Rattle.group_attr.specs.Attrs.{host_membership}
+use Rattle.proposal_core.specs.declared.proposal.Cause.TheVariants.{Died}
+use Rattle.proposal_core.specs.declared.entry.Entry.{Entry}
+use Rattle.proposal_core.specs.declared.group_state.GroupState.{GroupState}
+use Rattle.proposal_core.specs.Fold.{present}
+use Rattle.proposal_core.specs.GroupView.{GroupView, new_list}
+use Rattle.proposal_core.specs.Lists.{list_or_new, state_in}
 use Rattle.batch_rules.specs.Waiting.{add_failure}
 use Rattle.name_server.specs.declared.names.Leader.{Leader}
-use Rattle.session_state.specs.subscribe_core.declared.subs.Subscription.{Subscription}
-use Rattle.session_state.specs.client_callbacks.declared.told.Told.TheVariants as told
-use Rattle.session_state.specs.client_callbacks.declared.told.Why.TheVariants.{Dissolved}
+use Rattle.subscribe_core.specs.declared.subs.Subscription.{Subscription}
+use Rattle.client_callbacks.specs.declared.told.Told.TheVariants as told
+use Rattle.client_callbacks.specs.declared.told.Why.TheVariants.{Dissolved}
 use Rattle.session_state.specs.declared.state.Provider.{Provider}
 use Rattle.session_state.specs.declared.state.Request.{Request}
 use Rattle.session_state.specs.declared.state.SessionState.{SessionState}

@@ -2,14 +2,14 @@
 use Rattle.std.specs.Prelude.{ℕ, Bool, true, false, ◌==◌, List, [], ◌++◌, Option, Some, None, if◌then◌else◌}
 use Rattle.std.specs.Option.{option_map}
 use Rattle.std.specs.Int.{w8, w16, w32}
-use Rattle.session_state.specs.rsct_packet.declared.ids.ProtoId.{ProtoId}
-use Rattle.session_state.specs.rsct_packet.declared.ids.ProviderId.{ProviderId}
-use Rattle.session_state.specs.rsct_packet.declared.ids.RingId.{RingId}
-use Rattle.session_state.specs.rsct_packet.declared.ids.ViewId.{ViewId}
-use Rattle.session_state.specs.rsct_packet.declared.mask.Mask.{Mask}
-use Rattle.session_state.specs.rsct_packet.Reading.{number_at, both_at, made_at, decoded_at, guarded_at, keyed_at, optional_at}
-use Rattle.session_state.specs.rsct_packet.Format.{optional_text}
-use Rattle.session_state.specs.rsct_packet.Fields.{u8_text, u16_text, u32_text, bytes_at, bytes_text, mask_at, mask_text, ring_at, ring_text, view_at, view_text, provider_at, provider_text, proto_at, proto_text}
+use Rattle.rsct_packet.specs.declared.ids.ProtoId.{ProtoId}
+use Rattle.rsct_packet.specs.declared.ids.ProviderId.{ProviderId}
+use Rattle.rsct_packet.specs.declared.ids.RingId.{RingId}
+use Rattle.rsct_packet.specs.declared.ids.ViewId.{ViewId}
+use Rattle.rsct_packet.specs.declared.mask.Mask.{Mask}
+use Rattle.rsct_packet.specs.Reading.{number_at, both_at, made_at, decoded_at, guarded_at, keyed_at, optional_at}
+use Rattle.rsct_packet.specs.Format.{optional_text}
+use Rattle.rsct_packet.specs.Fields.{u8_text, u16_text, u32_text, bytes_at, bytes_text, mask_at, mask_text, ring_at, ring_text, view_at, view_text, provider_at, provider_text, proto_at, proto_text}
 use Rattle.packet_bodies.specs.declared.body.RingMask.{RingMask}
 use Rattle.packet_bodies.specs.declared.body.Death.{Death}
 use Rattle.packet_bodies.specs.declared.body.Prepare.{Prepare}
@@ -20,21 +20,21 @@ use Rattle.packet_bodies.specs.declared.body.Gone.{Gone}
 use Rattle.packet_bodies.specs.declared.body.Query.{Query}
 use Rattle.packet_bodies.specs.Group.{GroupIn, group_at, group_text, reply_at}
 use Rattle.packet_bodies.specs.Body.{whole_of, ring_mask_at, death_at, report_at, report_text, prepare_at, refuse_at, leader_at, ack_at, gone_at, query_at, what_code}
-use Rattle.session_state.specs.group_attr.declared.attrs.Phases.{Phases}
-use Rattle.session_state.specs.group_attr.declared.attrs.Phases.TheVariants.{One, Many}
-use Rattle.session_state.specs.group_attr.Codec.{phases_at, phases_number}
-use Rattle.session_state.specs.proposal_core.declared.proposal.Proposal.{Proposal}
-use Rattle.session_state.specs.proposal_core.declared.proposal.Proposal.TheVariants.{Join}
-use Rattle.session_state.specs.proposal_core.declared.entry.Entry.{Entry}
-use Rattle.session_state.specs.proposal_core.declared.entry.Vote.{Vote}
-use Rattle.session_state.specs.proposal_core.declared.entry.Vote.TheVariants as vote
-use Rattle.session_state.specs.proposal_core.ProposalCodec.{proposal_at, proposal_text}
-use Rattle.session_state.specs.proposal_core.EntryCodec.{entry_front_at, entry_text}
+use Rattle.group_attr.specs.declared.attrs.Phases.{Phases}
+use Rattle.group_attr.specs.declared.attrs.Phases.TheVariants.{One, Many}
+use Rattle.group_attr.specs.Codec.{phases_at, phases_number}
+use Rattle.proposal_core.specs.declared.proposal.Proposal.{Proposal}
+use Rattle.proposal_core.specs.declared.proposal.Proposal.TheVariants.{Join}
+use Rattle.proposal_core.specs.declared.entry.Entry.{Entry}
+use Rattle.proposal_core.specs.declared.entry.Vote.{Vote}
+use Rattle.proposal_core.specs.declared.entry.Vote.TheVariants as vote
+use Rattle.proposal_core.specs.ProposalCodec.{proposal_at, proposal_text}
+use Rattle.proposal_core.specs.EntryCodec.{entry_front_at, entry_text}
 use Rattle.view_state.specs.Codec.{answer_at, answer_text, install_at, install_text}
 use Rattle.adapter_ring.specs.declared.packet.RingPacket.{RingPacket}
 use Rattle.adapter_ring.specs.declared.packet.RingPacket.TheVariants as ring
-use Rattle.session_state.specs.client_callbacks.declared.told.Why.{Why}
-use Rattle.session_state.specs.client_callbacks.declared.told.Why.TheVariants as why
+use Rattle.client_callbacks.specs.declared.told.Why.{Why}
+use Rattle.client_callbacks.specs.declared.told.Why.TheVariants as why
 use Rattle.view_state.specs.declared.packet.ViewPacket.{ViewPacket}
 use Rattle.view_state.specs.declared.packet.ViewPacket.TheVariants as packet
 use Rattle.node_state.specs.declared.packet.Body.{Body}

@@ -1,8 +1,8 @@
 -- Packets as bytes.
 use Rattle.std.specs.Prelude.{ℕ, Bool, List, ◌++◌, length, Option, Some, None, is_some}
 use Rattle.std.specs.Option.{option_map}
-use Rattle.session_state.specs.rsct_packet.declared.packet.Head.{Head}
-use Rattle.session_state.specs.rsct_packet.Packet.{PacketView, packet_at, head_text}
+use Rattle.rsct_packet.specs.declared.packet.Head.{Head}
+use Rattle.rsct_packet.specs.Packet.{PacketView, packet_at, head_text}
 use Rattle.node_state.specs.declared.packet.Body.{Body}
 use Rattle.node_state.specs.declared.packet.Packet.{Packet}
 use Rattle.node_state.specs.Bodies.{kind_of, body_at, body_text}

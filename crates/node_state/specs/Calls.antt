@@ -1,8 +1,8 @@
 -- The calls of clients, at their node.
 use Rattle.std.specs.Prelude.{ℕ, Bool, true, false, List, filter, fold, Option, Some, None, Result, Ok, Err}
 use Rattle.std.specs.List.{last_or}
-use Rattle.session_state.specs.subscribe_core.declared.subs.SubToken.{SubToken}
-use Rattle.session_state.specs.client_callbacks.declared.ballot.Filled.{Filled}
+use Rattle.subscribe_core.specs.declared.subs.SubToken.{SubToken}
+use Rattle.client_callbacks.specs.declared.ballot.Filled.{Filled}
 use Rattle.session_state.specs.declared.fault.GsFault.{GsFault}
 use Rattle.session_state.specs.declared.state.MemberToken.{MemberToken}
 use Rattle.session_state.specs.declared.state.Provider.{Provider}

@@ -2,22 +2,22 @@
 use Rattle.std.specs.Prelude.{ℕ, Bool, true, false, not, ◌&&◌, ◌||◌, ◌++◌, List, [], ◌∷◌, length, Option, Some, None, nat_le, is_none}
 use Rattle.std.specs.Option.{option_map}
 use Rattle.std.specs.List.{list_any}
-use Rattle.session_state.specs.rsct_packet.declared.ids.ProviderId.{ProviderId}
-use Rattle.session_state.specs.rsct_packet.Lists.{is_empty, drop_where}
-use Rattle.session_state.specs.rsct_packet.Providers.{same_provider, among}
-use Rattle.session_state.specs.group_attr.declared.attrs.Attrs.{Attrs}
-use Rattle.session_state.specs.group_attr.declared.attrs.Phases.{Phases}
-use Rattle.session_state.specs.group_attr.Agree.{agree, same_source}
-use Rattle.session_state.specs.proposal_core.declared.proposal.Proposal.{Proposal}
-use Rattle.session_state.specs.proposal_core.declared.proposal.Proposal.TheVariants.{Join, Expel, Attributes}
-use Rattle.session_state.specs.proposal_core.declared.group_state.GroupState.{GroupState}
-use Rattle.session_state.specs.proposal_core.declared.group_state.Running.{Running}
-use Rattle.session_state.specs.proposal_core.Fold.{max_providers, present}
-use Rattle.session_state.specs.proposal_core.Lists.{is_at_limit}
+use Rattle.rsct_packet.specs.declared.ids.ProviderId.{ProviderId}
+use Rattle.rsct_packet.specs.Lists.{is_empty, drop_where}
+use Rattle.rsct_packet.specs.Providers.{same_provider, among}
+use Rattle.group_attr.specs.declared.attrs.Attrs.{Attrs}
+use Rattle.group_attr.specs.declared.attrs.Phases.{Phases}
+use Rattle.group_attr.specs.Agree.{agree, same_source}
+use Rattle.proposal_core.specs.declared.proposal.Proposal.{Proposal}
+use Rattle.proposal_core.specs.declared.proposal.Proposal.TheVariants.{Join, Expel, Attributes}
+use Rattle.proposal_core.specs.declared.group_state.GroupState.{GroupState}
+use Rattle.proposal_core.specs.declared.group_state.Running.{Running}
+use Rattle.proposal_core.specs.Fold.{max_providers, present}
+use Rattle.proposal_core.specs.Lists.{is_at_limit}
 use Rattle.batch_rules.specs.Waiting.{has_instance, waits_join}
 use Rattle.source_target.specs.Due.{allowed}
-use Rattle.session_state.specs.client_callbacks.declared.told.Why.{Why}
-use Rattle.session_state.specs.client_callbacks.declared.told.Why.TheVariants as why
+use Rattle.client_callbacks.specs.declared.told.Why.{Why}
+use Rattle.client_callbacks.specs.declared.told.Why.TheVariants as why
 use Rattle.node_state.specs.declared.group.JoinAttrs.{JoinAttrs}
 use Rattle.node_state.specs.declared.packet.Body.TheVariants as body
 use Rattle.node_state.specs.declared.state.Core.{Core}

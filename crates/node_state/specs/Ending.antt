@@ -1,20 +1,20 @@
 -- The end of every step: what waits begins.
 use Rattle.std.specs.Prelude.{ℕ, zero, suc, Bool, true, false, not, ◌&&◌, ◌*◌, List, [], ◌∷◌, filter, find, fold, length, Option, Some, None, is_none}
 use Rattle.std.specs.Option.{option_map}
-use Rattle.session_state.specs.rsct_packet.declared.ids.ProviderId.{ProviderId}
-use Rattle.session_state.specs.rsct_packet.Lists.{is_empty}
-use Rattle.session_state.specs.rsct_packet.Providers.{same_provider, among}
-use Rattle.session_state.specs.group_attr.declared.attrs.Attrs.{Attrs}
-use Rattle.session_state.specs.proposal_core.declared.proposal.Failure.{Failure}
-use Rattle.session_state.specs.proposal_core.declared.proposal.Proposal.TheVariants.{Join, Fail, Reflect}
-use Rattle.session_state.specs.proposal_core.declared.group_state.GroupState.{GroupState}
-use Rattle.session_state.specs.proposal_core.Lists.{max_places, list_or_new, is_at_limit}
-use Rattle.session_state.specs.proposal_core.GroupView.{GroupView}
+use Rattle.rsct_packet.specs.declared.ids.ProviderId.{ProviderId}
+use Rattle.rsct_packet.specs.Lists.{is_empty}
+use Rattle.rsct_packet.specs.Providers.{same_provider, among}
+use Rattle.group_attr.specs.declared.attrs.Attrs.{Attrs}
+use Rattle.proposal_core.specs.declared.proposal.Failure.{Failure}
+use Rattle.proposal_core.specs.declared.proposal.Proposal.TheVariants.{Join, Fail, Reflect}
+use Rattle.proposal_core.specs.declared.group_state.GroupState.{GroupState}
+use Rattle.proposal_core.specs.Lists.{max_places, list_or_new, is_at_limit}
+use Rattle.proposal_core.specs.GroupView.{GroupView}
 use Rattle.batch_rules.specs.Waiting.{batches_failures, chosen_of, next_failures, failures_left, next_joins, joins_left}
 use Rattle.source_target.specs.declared.Due.{Due}
 use Rattle.source_target.specs.declared.Due.TheVariants as due
 use Rattle.source_target.specs.Due as target
-use Rattle.session_state.specs.client_callbacks.declared.told.Why.TheVariants.{NoSource}
+use Rattle.client_callbacks.specs.declared.told.Why.TheVariants.{NoSource}
 use Rattle.node_state.specs.declared.group.GroupRow.{GroupRow}
 use Rattle.node_state.specs.declared.group.JoinAttrs.{JoinAttrs}
 use Rattle.node_state.specs.declared.state.Core.{Core}

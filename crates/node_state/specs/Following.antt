@@ -2,22 +2,22 @@
 use Rattle.std.specs.Prelude.{ℕ, Bool, true, false, not, ◌==◌, ◌&&◌, ◌||◌, ◌++◌, List, [], ◌∷◌, filter, fold, length, Option, Some, None, nat_le, nat_lt, is_none}
 use Rattle.std.specs.Option.{unwrap_or}
 use Rattle.std.specs.Str.{bytes_eq}
-use Rattle.session_state.specs.rsct_packet.declared.ids.ProviderId.{ProviderId}
-use Rattle.session_state.specs.rsct_packet.declared.ids.ProtoId.{ProtoId}
-use Rattle.session_state.specs.rsct_packet.Providers.{among}
-use Rattle.session_state.specs.group_attr.declared.attrs.Phases.{Phases}
-use Rattle.session_state.specs.proposal_core.declared.proposal.Cause.TheVariants.{Gone}
-use Rattle.session_state.specs.proposal_core.declared.proposal.Proposal.{Proposal}
-use Rattle.session_state.specs.proposal_core.declared.entry.Vote.{Vote}
-use Rattle.session_state.specs.proposal_core.declared.entry.Entry.{Entry}
-use Rattle.session_state.specs.proposal_core.Fold.{runs, present}
+use Rattle.rsct_packet.specs.declared.ids.ProviderId.{ProviderId}
+use Rattle.rsct_packet.specs.declared.ids.ProtoId.{ProtoId}
+use Rattle.rsct_packet.specs.Providers.{among}
+use Rattle.group_attr.specs.declared.attrs.Phases.{Phases}
+use Rattle.proposal_core.specs.declared.proposal.Cause.TheVariants.{Gone}
+use Rattle.proposal_core.specs.declared.proposal.Proposal.{Proposal}
+use Rattle.proposal_core.specs.declared.entry.Vote.{Vote}
+use Rattle.proposal_core.specs.declared.entry.Entry.{Entry}
+use Rattle.proposal_core.specs.Fold.{runs, present}
 use Rattle.vote_phases.specs.declared.tally.Cast.{Cast}
 use Rattle.vote_phases.specs.declared.tally.Cast.TheVariants.{Recorded}
 use Rattle.vote_phases.specs.Tally.{TallyView, tally_cast, tally_fail, cast_answer}
 use Rattle.batch_rules.specs.Waiting.{add_failure, drop_join}
 use Rattle.name_server.specs.Names as names
-use Rattle.session_state.specs.client_callbacks.declared.told.Why.{Why}
-use Rattle.session_state.specs.client_callbacks.declared.told.Why.TheVariants.{GroupsFull}
+use Rattle.client_callbacks.specs.declared.told.Why.{Why}
+use Rattle.client_callbacks.specs.declared.told.Why.TheVariants.{GroupsFull}
 use Rattle.session_state.specs.declared.state.Request.{Request}
 use Rattle.session_state.specs.State.{outstanding}
 use Rattle.session_state.specs.HandOn.{is_numbered, take_telling}

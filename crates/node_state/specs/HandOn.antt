@@ -1,15 +1,15 @@
 -- Handing an entry on to the clients of a node.
 use Rattle.std.specs.Prelude.{ℕ, Bool, true, false, ◌+◌, List, [], ◌∷◌, map, filter, fold, length, Option, Some, None, flat_map}
 use Rattle.std.specs.Option.{unwrap_or}
-use Rattle.session_state.specs.rsct_packet.declared.ids.ProviderId.{ProviderId}
-use Rattle.session_state.specs.rsct_packet.declared.ids.ProtoId.{ProtoId}
-use Rattle.session_state.specs.proposal_core.declared.entry.Entry.{Entry}
-use Rattle.session_state.specs.proposal_core.declared.group_state.GroupState.{GroupState}
-use Rattle.session_state.specs.subscribe_core.declared.subs.Subscription.{Subscription}
-use Rattle.session_state.specs.subscribe_core.Subs.{is_of_group, differs}
-use Rattle.session_state.specs.client_callbacks.declared.ballot.Filled.{Filled}
-use Rattle.session_state.specs.client_callbacks.declared.told.Told.TheVariants as told
-use Rattle.session_state.specs.client_callbacks.Ballots.{BallotView}
+use Rattle.rsct_packet.specs.declared.ids.ProviderId.{ProviderId}
+use Rattle.rsct_packet.specs.declared.ids.ProtoId.{ProtoId}
+use Rattle.proposal_core.specs.declared.entry.Entry.{Entry}
+use Rattle.proposal_core.specs.declared.group_state.GroupState.{GroupState}
+use Rattle.subscribe_core.specs.declared.subs.Subscription.{Subscription}
+use Rattle.subscribe_core.specs.Subs.{is_of_group, differs}
+use Rattle.client_callbacks.specs.declared.ballot.Filled.{Filled}
+use Rattle.client_callbacks.specs.declared.told.Told.TheVariants as told
+use Rattle.client_callbacks.specs.Ballots.{BallotView}
 use Rattle.session_state.specs.declared.casts.Cast.{Cast}
 use Rattle.session_state.specs.declared.state.SessionState.{SessionState}
 use Rattle.session_state.specs.State.{client_name}

@@ -1,23 +1,23 @@
 -- What the leader of a group does: it appends, opens phases and closes them, and begins protocols.
 use Rattle.std.specs.Prelude.{ℕ, zero, suc, Bool, true, false, not, ◌||◌, List, [], ◌∷◌, filter, fold, find, Option, Some, None, nat_le}
 use Rattle.std.specs.Option.{option_or}
-use Rattle.session_state.specs.rsct_packet.declared.ids.ProviderId.{ProviderId}
-use Rattle.session_state.specs.rsct_packet.Providers.{same_provider, among}
-use Rattle.session_state.specs.group_attr.declared.attrs.Attrs.{Attrs}
-use Rattle.session_state.specs.group_attr.declared.attrs.Phases.{Phases}
-use Rattle.session_state.specs.group_attr.declared.attrs.Phases.TheVariants.{One, Many}
-use Rattle.session_state.specs.proposal_core.declared.proposal.Cause.TheVariants.{Died, Gone}
-use Rattle.session_state.specs.proposal_core.declared.proposal.Proposal.{Proposal}
-use Rattle.session_state.specs.proposal_core.declared.proposal.Proposal.TheVariants as proposal
-use Rattle.session_state.specs.proposal_core.declared.entry.Vote.{Vote}
-use Rattle.session_state.specs.proposal_core.declared.entry.Vote.TheVariants as vote
-use Rattle.session_state.specs.proposal_core.declared.entry.Closed.{Closed}
-use Rattle.session_state.specs.proposal_core.declared.entry.Entry.{Entry}
-use Rattle.session_state.specs.proposal_core.declared.entry.Entry.TheVariants.{Once, Begin, Phase, Approve, Reject}
-use Rattle.session_state.specs.proposal_core.declared.group_state.GroupState.{GroupState}
-use Rattle.session_state.specs.proposal_core.declared.group_state.Running.{Running}
-use Rattle.session_state.specs.proposal_core.Fold.{max_phases, voters}
-use Rattle.session_state.specs.proposal_core.Lists.{list_or_new, with_entry}
+use Rattle.rsct_packet.specs.declared.ids.ProviderId.{ProviderId}
+use Rattle.rsct_packet.specs.Providers.{same_provider, among}
+use Rattle.group_attr.specs.declared.attrs.Attrs.{Attrs}
+use Rattle.group_attr.specs.declared.attrs.Phases.{Phases}
+use Rattle.group_attr.specs.declared.attrs.Phases.TheVariants.{One, Many}
+use Rattle.proposal_core.specs.declared.proposal.Cause.TheVariants.{Died, Gone}
+use Rattle.proposal_core.specs.declared.proposal.Proposal.{Proposal}
+use Rattle.proposal_core.specs.declared.proposal.Proposal.TheVariants as proposal
+use Rattle.proposal_core.specs.declared.entry.Vote.{Vote}
+use Rattle.proposal_core.specs.declared.entry.Vote.TheVariants as vote
+use Rattle.proposal_core.specs.declared.entry.Closed.{Closed}
+use Rattle.proposal_core.specs.declared.entry.Entry.{Entry}
+use Rattle.proposal_core.specs.declared.entry.Entry.TheVariants.{Once, Begin, Phase, Approve, Reject}
+use Rattle.proposal_core.specs.declared.group_state.GroupState.{GroupState}
+use Rattle.proposal_core.specs.declared.group_state.Running.{Running}
+use Rattle.proposal_core.specs.Fold.{max_phases, voters}
+use Rattle.proposal_core.specs.Lists.{list_or_new, with_entry}
 use Rattle.vote_phases.specs.declared.voter.Voter.{Voter}
 use Rattle.vote_phases.specs.Tally.{TallyView, tally_new, tally_fail, rows_of, outcome}
 use Rattle.batch_rules.specs.Waiting.{WaitingView, add_failure}

@@ -1,19 +1,19 @@
 -- Opens every word of a node's step, for computations.
 use Rattle.std.specs.Fmt.{digits}
-use Rattle.session_state.specs.rsct_packet.Ids.{risen}
-use Rattle.session_state.specs.rsct_packet.Mask.{mask_opens}
-use Rattle.session_state.specs.group_attr.Attrs.{is_bad_source, first_fault}
-use Rattle.session_state.specs.group_attr.Agree.{agree}
-use Rattle.session_state.specs.proposal_core.Fold.{fold_opens}
-use Rattle.session_state.specs.proposal_core.Sizes.{sizes_opens}
-use Rattle.session_state.specs.proposal_core.Lists.{lists_opens}
-use Rattle.adapter_ring.specs.ring_commit.Gather.{gather_opens}
+use Rattle.rsct_packet.specs.Ids.{risen}
+use Rattle.rsct_packet.specs.Mask.{mask_opens}
+use Rattle.group_attr.specs.Attrs.{is_bad_source, first_fault}
+use Rattle.group_attr.specs.Agree.{agree}
+use Rattle.proposal_core.specs.Fold.{fold_opens}
+use Rattle.proposal_core.specs.Sizes.{sizes_opens}
+use Rattle.proposal_core.specs.Lists.{lists_opens}
+use Rattle.ring_commit.specs.Gather.{gather_opens}
 use Rattle.adapter_ring.specs.Addresses.{addresses_opens}
 use Rattle.adapter_ring.specs.Rings.{rings_opens}
 use Rattle.node_reach.specs.Reach.{reach_opens}
 use Rattle.source_target.specs.Due.{due_opens}
-use Rattle.session_state.specs.client_callbacks.Ballots.{ballots_opens}
-use Rattle.session_state.specs.client_callbacks.Handed.{handed_opens}
+use Rattle.client_callbacks.specs.Ballots.{ballots_opens}
+use Rattle.client_callbacks.specs.Handed.{handed_opens}
 use Rattle.session_state.specs.State.{state_opens as sessions_open}
 use Rattle.session_state.specs.Calls.{calls_opens}
 use Rattle.session_state.specs.HandOn.{handon_opens}
@@ -38,15 +38,15 @@ use Rattle.node_state.specs.Calls.{node_calls_opens}
 use Rattle.node_state.specs.Step.{step_opens}
 use Rattle.node_state.specs.Bodies.{bodies_opens}
 use Rattle.node_state.specs.Bytes.{bytes_opens}
-use Rattle.session_state.specs.rsct_packet.Reading.{many_at}
-use Rattle.session_state.specs.rsct_packet.Fields.{u16_text, u32_text, bytes_text, bytes_at, name_text, name_at, mask_text, mask_at, view_text, view_at, ring_text, ring_at, provider_text, provider_at, proto_text, proto_at, member_text, member_at, providers_text, providers_at, some_providers_at}
-use Rattle.session_state.specs.rsct_packet.Packet.{is_head, is_front, front_at, front_text, head_text, packet_at}
+use Rattle.rsct_packet.specs.Reading.{many_at}
+use Rattle.rsct_packet.specs.Fields.{u16_text, u32_text, bytes_text, bytes_at, name_text, name_at, mask_text, mask_at, view_text, view_at, ring_text, ring_at, provider_text, provider_at, proto_text, proto_at, member_text, member_at, providers_text, providers_at, some_providers_at}
+use Rattle.rsct_packet.specs.Packet.{is_head, is_front, front_at, front_text, head_text, packet_at}
 use Rattle.packet_bodies.specs.Group.{group_text, group_at, reply_at}
 use Rattle.packet_bodies.specs.Body.{ring_mask_at, death_at, report_row_text, report_row_at, report_text, report_at, prepare_at, refuse_at, leader_at, ack_at, gone_at, what_at, query_at}
-use Rattle.session_state.specs.group_attr.Codec.{phases_at, batch_at, default_at, dissolve_at, source_at, source_text, attrs_at, attrs_text}
-use Rattle.session_state.specs.proposal_core.ProposalCodec.{cause_at, fallen_at, fallen_text, join_at, leave_at, fail_at, expel_at, state_change_at, message_at, attributes_at, reflect_at, proposal_at, proposal_text}
-use Rattle.session_state.specs.proposal_core.EntryCodec.{row_vote_at, closed_at, closed_text, once_at, begin_at, phase_at, approve_at, reject_at, late_at, entry_front_at, entry_text}
-use Rattle.session_state.specs.proposal_core.StateCodec.{running_at, running_text, failed_are_present, parts_at, state_at, state_text}
+use Rattle.group_attr.specs.Codec.{phases_at, batch_at, default_at, dissolve_at, source_at, source_text, attrs_at, attrs_text}
+use Rattle.proposal_core.specs.ProposalCodec.{cause_at, fallen_at, fallen_text, join_at, leave_at, fail_at, expel_at, state_change_at, message_at, attributes_at, reflect_at, proposal_at, proposal_text}
+use Rattle.proposal_core.specs.EntryCodec.{row_vote_at, closed_at, closed_text, once_at, begin_at, phase_at, approve_at, reject_at, late_at, entry_front_at, entry_text}
+use Rattle.proposal_core.specs.StateCodec.{running_at, running_text, failed_are_present, parts_at, state_at, state_text}
 
 -- the words of spellings
 unfoldable pub spelling_opens : Unit {0}

@@ -1,13 +1,13 @@
 -- What a node sends.
 use Rattle.std.specs.Prelude.{ℕ, Bool, true, false, ◌==◌, ◌&&◌, ◌++◌, List, [], ◌∷◌, fold, find, Option, Some, None}
 use Rattle.std.specs.Option.{unwrap_or, option_map}
-use Rattle.session_state.specs.rsct_packet.declared.ids.ProtoId.{ProtoId}
-use Rattle.session_state.specs.rsct_packet.declared.ids.ProviderId.{ProviderId}
-use Rattle.session_state.specs.rsct_packet.Mask.{has_node}
-use Rattle.session_state.specs.proposal_core.declared.entry.Vote.{Vote}
-use Rattle.session_state.specs.proposal_core.Fold.{runs}
+use Rattle.rsct_packet.specs.declared.ids.ProtoId.{ProtoId}
+use Rattle.rsct_packet.specs.declared.ids.ProviderId.{ProviderId}
+use Rattle.rsct_packet.specs.Mask.{has_node}
+use Rattle.proposal_core.specs.declared.entry.Vote.{Vote}
+use Rattle.proposal_core.specs.Fold.{runs}
 use Rattle.adapter_ring.specs.declared.ring.Ring.{Ring}
-use Rattle.session_state.specs.client_callbacks.declared.ballot.Filled.{Filled}
+use Rattle.client_callbacks.specs.declared.ballot.Filled.{Filled}
 use Rattle.session_state.specs.declared.state.Request.{Request}
 use Rattle.session_state.specs.declared.state.KeptBallot.{KeptBallot}
 use Rattle.node_state.specs.declared.packet.Body.{Body}

@@ -2,14 +2,14 @@
 use Rattle.std.specs.Prelude.{◌≡◌, ℕ, Bool, true, false, ◌==◌, List, [], ◌∷◌, ◌++◌, map, filter, find, max, min, Option, Some, None, is_some}
 use Rattle.std.specs.List.{fold}
 use Rattle.std.specs.Str.{bytes_eq}
-use Rattle.session_state.specs.rsct_packet.declared.ids.ProviderId.{ProviderId}
-use Rattle.session_state.specs.rsct_packet.declared.ids.Member.{Member}
-use Rattle.session_state.specs.rsct_packet.Providers.{same_provider}
-use Rattle.session_state.specs.rsct_packet.Text.{name_lt}
-use Rattle.session_state.specs.proposal_core.declared.entry.Entry.{Entry}
-use Rattle.session_state.specs.proposal_core.declared.group_state.GroupState.{GroupState}
-use Rattle.session_state.specs.proposal_core.GroupView.{GroupView}
-use Rattle.session_state.specs.proposal_core.Lists.{list_or_new, len_in, entry_fits, forgotten}
+use Rattle.rsct_packet.specs.declared.ids.ProviderId.{ProviderId}
+use Rattle.rsct_packet.specs.declared.ids.Member.{Member}
+use Rattle.rsct_packet.specs.Providers.{same_provider}
+use Rattle.rsct_packet.specs.Text.{name_lt}
+use Rattle.proposal_core.specs.declared.entry.Entry.{Entry}
+use Rattle.proposal_core.specs.declared.group_state.GroupState.{GroupState}
+use Rattle.proposal_core.specs.GroupView.{GroupView}
+use Rattle.proposal_core.specs.Lists.{list_or_new, len_in, entry_fits, forgotten}
 use Rattle.batch_rules.specs.Waiting.{nothing_waits}
 use Rattle.session_state.specs.declared.state.SessionState.{SessionState}
 use Rattle.view_state.specs.Views.{is_frozen, is_coordinator, others_of}

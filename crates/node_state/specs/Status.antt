@@ -1,9 +1,9 @@
 -- The lines of a status.
 use Rattle.std.specs.Prelude.{ℕ, Bool, true, false, ◌++◌, List, [], ◌∷◌, map, flat_map, Option, Some, None, codes, decimal}
-use Rattle.session_state.specs.rsct_packet.Mask.{nodes_of}
-use Rattle.session_state.specs.proposal_core.declared.group_state.Running.{Running}
-use Rattle.session_state.specs.proposal_core.GroupView.{GroupView}
-use Rattle.session_state.specs.proposal_core.Lists.{list_or_new, state_in}
+use Rattle.rsct_packet.specs.Mask.{nodes_of}
+use Rattle.proposal_core.specs.declared.group_state.Running.{Running}
+use Rattle.proposal_core.specs.GroupView.{GroupView}
+use Rattle.proposal_core.specs.Lists.{list_or_new, state_in}
 use Rattle.adapter_ring.specs.declared.ring.Ring.{Ring}
 use Rattle.adapter_ring.specs.Rings.{neighbour}
 use Rattle.vote_phases.specs.Tally.{TallyView, open_voters}

@@ -1,11 +1,11 @@
 -- The step of a node.
 use Rattle.std.specs.Prelude.{ℕ, Bool, true, false, not, ◌==◌, ◌&&◌, ◌||◌, ◌++◌, List, [], ◌∷◌, map}
 use Rattle.std.specs.Option.{unwrap_or}
-use Rattle.session_state.specs.rsct_packet.declared.mask.Mask.{Mask}
-use Rattle.session_state.specs.rsct_packet.declared.ids.ViewId.{ViewId}
-use Rattle.session_state.specs.rsct_packet.declared.ids.Member.{Member}
-use Rattle.session_state.specs.rsct_packet.Ids.{same_view, is_member}
-use Rattle.session_state.specs.rsct_packet.Mask.{nodes_of}
+use Rattle.rsct_packet.specs.declared.mask.Mask.{Mask}
+use Rattle.rsct_packet.specs.declared.ids.ViewId.{ViewId}
+use Rattle.rsct_packet.specs.declared.ids.Member.{Member}
+use Rattle.rsct_packet.specs.Ids.{same_view, is_member}
+use Rattle.rsct_packet.specs.Mask.{nodes_of}
 use Rattle.adapter_ring.specs.declared.ring.Ring.{Ring}
 use Rattle.adapter_ring.specs.Rings.{ring_new, neighbour}
 use Rattle.node_reach.specs.Reach.{reach_new}

@@ -2,17 +2,17 @@
 use Rattle.std.specs.Prelude.{ℕ, Bool, true, false, not, ◌==◌, ◌&&◌, ◌||◌, ◌+◌, ◌-◌, List, [], ◌∷◌, map, filter, find, fold, flat_map, take, drop, Option, Some, None, nat_le, is_none}
 use Rattle.std.specs.List.{list_any}
 use Rattle.std.specs.Cmp.Lexicographic.{pointwise}
-use Rattle.session_state.specs.rsct_packet.declared.mask.Mask.{Mask}
-use Rattle.session_state.specs.rsct_packet.declared.ids.ProviderId.{ProviderId}
-use Rattle.session_state.specs.rsct_packet.declared.ids.Member.{Member}
-use Rattle.session_state.specs.rsct_packet.Ids.{same_member}
-use Rattle.session_state.specs.rsct_packet.Mask.{no_nodes, union_of, nodes_of, node_numbers}
-use Rattle.session_state.specs.proposal_core.declared.entry.Entry.{Entry}
-use Rattle.session_state.specs.proposal_core.declared.entry.Entry.TheVariants.{Late}
-use Rattle.session_state.specs.proposal_core.declared.group_state.Running.{Running}
-use Rattle.session_state.specs.proposal_core.Fold.{present}
-use Rattle.session_state.specs.proposal_core.GroupView.{GroupView}
-use Rattle.session_state.specs.proposal_core.Lists.{list_or_new, state_in}
+use Rattle.rsct_packet.specs.declared.mask.Mask.{Mask}
+use Rattle.rsct_packet.specs.declared.ids.ProviderId.{ProviderId}
+use Rattle.rsct_packet.specs.declared.ids.Member.{Member}
+use Rattle.rsct_packet.specs.Ids.{same_member}
+use Rattle.rsct_packet.specs.Mask.{no_nodes, union_of, nodes_of, node_numbers}
+use Rattle.proposal_core.specs.declared.entry.Entry.{Entry}
+use Rattle.proposal_core.specs.declared.entry.Entry.TheVariants.{Late}
+use Rattle.proposal_core.specs.declared.group_state.Running.{Running}
+use Rattle.proposal_core.specs.Fold.{present}
+use Rattle.proposal_core.specs.GroupView.{GroupView}
+use Rattle.proposal_core.specs.Lists.{list_or_new, state_in}
 use Rattle.adapter_ring.specs.declared.ring.Ring.{Ring}
 use Rattle.adapter_ring.specs.declared.ring.RingSet.{RingSet}
 use Rattle.adapter_ring.specs.declared.packet.RingSend.{RingSend}

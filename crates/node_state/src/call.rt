@@ -1,7 +1,7 @@
 //! Calls of clients.
-use session_state::group_attr::{Attrs, Phases};
-use session_state::proposal_core::Vote;
-use session_state::rsct_packet::{List, ProviderId};
+use group_attr::{Attrs, Phases};
+use proposal_core::Vote;
+use rsct_packet::{List, ProviderId};
 
 /// A call of a client, which names the client, and the group in place of the provider or the subscription. The
 /// name of a client, the name of a group and a text are bytes of any number: the session refuses what is too

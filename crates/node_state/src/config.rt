@@ -1,5 +1,5 @@
 //! The settings of a domain.
-use session_state::rsct_packet::Mask;
+use rsct_packet::Mask;
 
 /// Where views come from: one view of all nodes for good, orders to ask, or the heartbeat rings.
 #[derive(Clone, Copy, Debug, PartialEq, Eq)]

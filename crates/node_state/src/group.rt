@@ -1,9 +1,9 @@
 //! What a node has of each group.
 use batch_rules::Waiting;
-use session_state::client_callbacks::Why;
-use session_state::group_attr::Attrs;
-use session_state::proposal_core::GroupList;
-use session_state::rsct_packet::{List, Name, ProviderId, Text};
+use client_callbacks::Why;
+use group_attr::Attrs;
+use proposal_core::GroupList;
+use rsct_packet::{List, Name, ProviderId, Text};
 use std::marker::Model;
 use vote_phases::Tally;
 

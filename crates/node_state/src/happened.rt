@@ -1,10 +1,10 @@
 //! The records of a run.
-use session_state::GsFault;
-use session_state::client_callbacks::{Told, Why};
-use session_state::proposal_core::{Entry, GroupState, Proposal, Vote};
-use session_state::rsct_packet::{
+use client_callbacks::{Told, Why};
+use proposal_core::{Entry, GroupState, Proposal, Vote};
+use rsct_packet::{
     List, Mask, Members, Name, ProtoId, ProviderId, Providers, RingId, Text, ViewId,
 };
+use session_state::GsFault;
 
 /// A record: one thing that happened at a node, in the order in which it happened.
 pub enum Happened {

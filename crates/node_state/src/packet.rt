@@ -1,10 +1,10 @@
 //! The packets of daemons, as values.
 use adapter_ring::RingPacket;
+use client_callbacks::Why;
+use group_attr::Phases;
 use packet_bodies::{ReportRow, What};
-use session_state::client_callbacks::Why;
-use session_state::group_attr::Phases;
-use session_state::proposal_core::{Entry, Proposal, Vote};
-use session_state::rsct_packet::{List, Name, ProtoId, ProviderId, Text, ViewId};
+use proposal_core::{Entry, Proposal, Vote};
+use rsct_packet::{List, Name, ProtoId, ProviderId, Text, ViewId};
 use view_state::ViewPacket;
 
 /// Rows with nodes ascending.

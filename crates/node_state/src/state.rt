@@ -6,8 +6,8 @@ use crate::packet::Packets;
 use adapter_ring::Ring;
 use name_server::Names;
 use node_reach::Reach;
+use rsct_packet::List;
 use session_state::SessionState;
-use session_state::rsct_packet::List;
 use view_state::Views;
 
 /// The rings of a node's adapters, ascending by network.

@@ -3,10 +3,10 @@ use Rattle.std.proofs.Common.{◌≡◌, ℕ, ◌+◌, ◌<◌, Bool, cond, List
 use Rattle.std.specs.Prelude.{filter, flat_map, is_some}
 use Rattle.std.proofs.lemmas.List.Concat.{flat_map-append}
 use Rattle.std.proofs.lemmas.List.Elements.{filter_more}
-use Rattle.node_groups.specs.proposal_core.Lists.{state_in}
-use Rattle.node_groups.specs.node_state.declared.group.GroupRow.{GroupRow}
-use Rattle.node_groups.specs.node_state.declared.state.Core.{Core}
-use Rattle.node_groups.specs.node_state.Status.{vote_lines}
+use Rattle.proposal_core.specs.Lists.{state_in}
+use Rattle.node_state.specs.declared.group.GroupRow.{GroupRow}
+use Rattle.node_state.specs.declared.state.Core.{Core}
+use Rattle.node_state.specs.Status.{vote_lines}
 
 abbrev is_held : GroupRow → Bool
 is_held row = is_some row.list

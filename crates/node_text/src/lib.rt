@@ -5,9 +5,6 @@ mod lines;
 mod status;
 mod words;
 
-pub use node_groups::{
-    client_callbacks, group_attr, node_state, proposal_core, rsct_packet, session_state,
-};
 pub use status::{record_status, status_text};
 pub use words::{
     kind_of, put_count_word, put_counted, put_escaped, put_labelled, put_mask_word, put_members,

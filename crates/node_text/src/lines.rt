@@ -1,24 +1,24 @@
 //! The line of a ring, of the view, of a group, and of a protocol that runs.
 ghost use Rattle.std.specs.Prelude.{◌≡◌, ◌++◌, IfOk, OnOk, Some};
-ghost use Rattle.node_groups.specs.node_state.Wording.{word};
-ghost use Rattle.node_groups.specs.node_state.Status.{ring_line, yes_or_no, view_line, leader_text, list_line, group_line, waiting_text, vote_line};
+ghost use Rattle.node_state.specs.Wording.{word};
+ghost use Rattle.node_state.specs.Status.{ring_line, yes_or_no, view_line, leader_text, list_line, group_line, waiting_text, vote_line};
 
 use crate::words::{
     kind_of, put_escaped, put_mask_word, put_members_word, put_number, put_number_word,
     put_proto_word, put_providers, put_providers_word, put_ring_word, put_text, put_view_word,
     put_word,
 };
-use node_groups::adapter_ring::Ring;
-use node_groups::node_state::{Core, GroupRow};
-use node_groups::proposal_core::{GroupList, Running};
-use node_groups::rsct_packet::{List, Name, NoMemory};
-use node_groups::vote_phases::Tally;
+use adapter_ring::Ring;
 use node_groups::{leader_in, leads_in};
 use node_sending::is_frozen;
+use node_state::{Core, GroupRow};
+use proposal_core::{GroupList, Running};
+use rsct_packet::{List, Name, NoMemory};
 use std::alloc::Global;
+use vote_phases::Tally;
 
 /// The line of a ring.
-#[tactic(auto, unfolding(crate::proofs::Below::ring_line))]
+#[tactic(auto, unfolding(node_state::specs::Status::ring_line))]
 pub fn ring_line(alloc: Global, ring: &Ring) -> Result<List<u8>, NoMemory>
     ensures { IfOk result (λ l. l ≡ ring_line ring.now) }
 {
@@ -33,7 +33,7 @@ pub fn ring_line(alloc: Global, ring: &Ring) -> Result<List<u8>, NoMemory>
     List::of(alloc, out.as_slice())
 }
 
-#[tactic(auto, unfolding(crate::proofs::Below::yes_or_no))]
+#[tactic(auto, unfolding(node_state::specs::Status::yes_or_no))]
 fn yes_or_no(answer: bool) -> &'static [u8]
     ensures { result.now ≡ yes_or_no answer }
 {
@@ -41,7 +41,7 @@ fn yes_or_no(answer: bool) -> &'static [u8]
 }
 
 /// The line of the node's view.
-#[tactic(auto, unfolding(crate::proofs::Below::view_line))]
+#[tactic(auto, unfolding(node_state::specs::Status::view_line))]
 pub fn view_line(core: &Core, alloc: Global) -> Result<List<u8>, NoMemory>
     ensures { IfOk result (λ l. l ≡ view_line core.now) }
 {
@@ -58,7 +58,7 @@ pub fn view_line(core: &Core, alloc: Global) -> Result<List<u8>, NoMemory>
 }
 
 /// The leader, `?` where it is unknown, and a space.
-#[tactic(auto, unfolding(crate::proofs::Below::leader_text, crate::proofs::Below::word))]
+#[tactic(auto, unfolding(node_state::specs::Status::leader_text, node_state::specs::Wording::word))]
 fn put_leader_word(alloc: Global, out: &mut Vec<u8>, leader: Option<u8>) -> Result<(), NoMemory>
     ensures { OnOk result (out.new.items ≡ out.old.items ++ word (leader_text leader)) }
 {
@@ -68,7 +68,7 @@ fn put_leader_word(alloc: Global, out: &mut Vec<u8>, leader: Option<u8>) -> Resu
     }
 }
 
-#[tactic(auto, unfolding(crate::proofs::Below::list_line))]
+#[tactic(auto, unfolding(node_state::specs::Status::list_line))]
 fn list_line(
     alloc: Global,
     group: &Name,
@@ -93,7 +93,7 @@ fn list_line(
 }
 
 /// The line of a group, whose list the node holds.
-#[tactic(auto, unfolding(crate::proofs::Below::group_line))]
+#[tactic(auto, unfolding(node_state::specs::Status::group_line))]
 pub fn group_line(
     core: &Core,
     alloc: Global,
@@ -107,7 +107,7 @@ pub fn group_line(
 }
 
 /// The voters whose vote the phase waits for, `?` where another node leads.
-#[tactic(auto, unfolding(crate::proofs::Below::waiting_text))]
+#[tactic(auto, unfolding(node_state::specs::Status::waiting_text))]
 fn put_waiting(
     alloc: Global,
     out: &mut Vec<u8>,
@@ -129,7 +129,7 @@ fn put_waiting(
 }
 
 /// The line of a group's protocol that runs.
-#[tactic(auto, unfolding(crate::proofs::Below::vote_line))]
+#[tactic(auto, unfolding(node_state::specs::Status::vote_line))]
 pub fn vote_line(
     core: &Core,
     alloc: Global,

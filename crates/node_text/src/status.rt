@@ -1,15 +1,15 @@
 //! The lines that a status has, as a reply carries them and as they are recorded.
 ghost use Rattle.std.specs.Prelude.{◌≡◌, ◌++◌, ◌∷◌, [], IfOk, OnOk, codes, filter, flat_map, is_some, map};
-ghost use Rattle.node_groups.specs.proposal_core.Lists.{state_in};
-ghost use Rattle.node_groups.specs.node_state.declared.happened.Happened.TheVariants as happened;
-ghost use Rattle.node_groups.specs.node_state.State.{held_rows};
-ghost use Rattle.node_groups.specs.node_state.Status.{ring_line, view_line, group_line, vote_lines, status_of, status_text};
+ghost use Rattle.proposal_core.specs.Lists.{state_in};
+ghost use Rattle.node_state.specs.declared.happened.Happened.TheVariants as happened;
+ghost use Rattle.node_state.specs.State.{held_rows};
+ghost use Rattle.node_state.specs.Status.{ring_line, view_line, group_line, vote_lines, status_of, status_text};
 
 use crate::lines;
 use crate::words::put_text;
-use node_groups::adapter_ring::Ring;
-use node_groups::node_state::{Core, GroupRow, Happened, Records, What};
-use node_groups::rsct_packet::{List, NoMemory};
+use adapter_ring::Ring;
+use node_state::{Core, GroupRow, Happened, Records, What};
+use rsct_packet::{List, NoMemory};
 use std::alloc::Global;
 
 /// A line for each ring.
@@ -34,7 +34,7 @@ fn view_lines(core: &Core, alloc: Global) -> Result<List<List<u8>>, NoMemory>
 }
 
 /// A line for each group whose list the node holds.
-#[tactic(auto, unfolding(crate::proofs::Below::held_rows), using(std::proofs::lemmas::List::map_more, std::proofs::lemmas::List::Elements::filter_more, std::proofs::lemmas::Grind::common_steps))]
+#[tactic(auto, unfolding(node_state::specs::State::held_rows), using(std::proofs::lemmas::List::map_more, std::proofs::lemmas::List::Elements::filter_more, std::proofs::lemmas::Grind::common_steps))]
 fn group_lines(core: &Core, alloc: Global) -> Result<List<List<u8>>, NoMemory>
     ensures { IfOk result (λ ls. ls ≡ map (group_line core.now) (held_rows core.now)) }
 {
@@ -48,7 +48,7 @@ fn group_lines(core: &Core, alloc: Global) -> Result<List<List<u8>>, NoMemory>
 }
 
 /// The line of the protocol that runs in the group of a row, if one does, and the node holds its list.
-#[tactic(auto, unfolding(crate::proofs::Below::vote_lines))]
+#[tactic(auto, unfolding(node_state::specs::Status::vote_lines))]
 fn push_vote_line(
     core: &Core,
     alloc: Global,
@@ -81,7 +81,7 @@ fn vote_lines(core: &Core, alloc: Global, rows: &[GroupRow]) -> Result<List<List
 }
 
 /// The lines of a status.
-#[tactic(auto, unfolding(crate::proofs::Below::status_of, crate::proofs::Below::held_rows))]
+#[tactic(auto, unfolding(node_state::specs::Status::status_of, node_state::specs::State::held_rows))]
 fn status_of(core: &Core, alloc: Global, what: What) -> Result<List<List<u8>>, NoMemory>
     ensures { IfOk result (λ ls. ls ≡ status_of core.now what) }
 {
@@ -107,7 +107,7 @@ fn text_of(alloc: Global, ls: &[List<u8>]) -> Result<Vec<u8>, NoMemory>
 }
 
 /// The text of a status, as a reply carries it.
-#[tactic(auto, unfolding(crate::proofs::Below::status_text))]
+#[tactic(auto, unfolding(node_state::specs::Status::status_text))]
 pub fn status_text(core: &Core, alloc: Global, what: What) -> Result<List<u8>, NoMemory>
     ensures { IfOk result (λ t. t ≡ status_text core.now what) }
 {

@@ -1,10 +1,10 @@
 //! How ids, values and kinds are written.
 ghost use Rattle.std.specs.Prelude.{◌≡◌, ◌++◌, ◌<◌, OnOk, codes, flat_map, decimal};
-ghost use Rattle.node_groups.specs.rsct_packet.Mask.{nodes_of};
-ghost use Rattle.node_groups.specs.node_state.Wording.{word, view_text, provider_text, ring_text, proto_text, member_text, joined, nodes_text, members_text, providers_text, hex_digit, byte_text, escaped, value_text, kind_text};
+ghost use Rattle.rsct_packet.specs.Mask.{nodes_of};
+ghost use Rattle.node_state.specs.Wording.{word, view_text, provider_text, ring_text, proto_text, member_text, joined, nodes_text, members_text, providers_text, hex_digit, byte_text, escaped, value_text, kind_text};
 
-use node_groups::proposal_core::Proposal;
-use node_groups::rsct_packet::{Mask, Member, NoMemory, ProtoId, ProviderId, RingId, ViewId};
+use proposal_core::Proposal;
+use rsct_packet::{Mask, Member, NoMemory, ProtoId, ProviderId, RingId, ViewId};
 use std::alloc::Global;
 
 /// These bytes at the end; and likewise below.
@@ -23,7 +23,7 @@ pub fn put_number(alloc: Global, out: &mut Vec<u8>, number: u32) -> Result<(), N
 }
 
 /// These bytes and a space.
-#[tactic(auto, unfolding(crate::proofs::Below::word))]
+#[tactic(auto, unfolding(node_state::specs::Wording::word))]
 pub fn put_word(out: &mut Vec<u8>, bytes: &[u8]) -> Result<(), NoMemory>
     ensures { OnOk result (out.new.items ≡ out.old.items ++ word bytes.now) }
 {
@@ -31,7 +31,7 @@ pub fn put_word(out: &mut Vec<u8>, bytes: &[u8]) -> Result<(), NoMemory>
     put_text(out, b" ")
 }
 
-#[tactic(auto, unfolding(crate::proofs::Below::word))]
+#[tactic(auto, unfolding(node_state::specs::Wording::word))]
 pub fn put_number_word(alloc: Global, out: &mut Vec<u8>, number: u32) -> Result<(), NoMemory>
     ensures { OnOk result (out.new.items ≡ out.old.items ++ word (decimal number)) }
 {
@@ -40,7 +40,7 @@ pub fn put_number_word(alloc: Global, out: &mut Vec<u8>, number: u32) -> Result<
 }
 
 /// A count and a space.
-#[tactic(auto, unfolding(crate::proofs::Below::word))]
+#[tactic(auto, unfolding(node_state::specs::Wording::word))]
 pub fn put_count_word(alloc: Global, out: &mut Vec<u8>, count: usize) -> Result<(), NoMemory>
     ensures { OnOk result (out.new.items ≡ out.old.items ++ word (decimal count)) }
 {
@@ -77,7 +77,7 @@ fn put_number_dot(alloc: Global, out: &mut Vec<u8>, number: u32) -> Result<(), N
     put_text(out, b".")
 }
 
-#[tactic(auto, unfolding(crate::proofs::Below::view_text))]
+#[tactic(auto, unfolding(node_state::specs::Wording::view_text))]
 pub fn put_view(alloc: Global, out: &mut Vec<u8>, view: ViewId) -> Result<(), NoMemory>
     ensures { OnOk result (out.new.items ≡ out.old.items ++ view_text view) }
 {
@@ -86,7 +86,7 @@ pub fn put_view(alloc: Global, out: &mut Vec<u8>, view: ViewId) -> Result<(), No
     put_number(alloc, out, view.inc)
 }
 
-#[tactic(auto, unfolding(crate::proofs::Below::word))]
+#[tactic(auto, unfolding(node_state::specs::Wording::word))]
 pub fn put_view_word(alloc: Global, out: &mut Vec<u8>, view: ViewId) -> Result<(), NoMemory>
     ensures { OnOk result (out.new.items ≡ out.old.items ++ word (view_text view)) }
 {
@@ -94,7 +94,7 @@ pub fn put_view_word(alloc: Global, out: &mut Vec<u8>, view: ViewId) -> Result<(
     put_text(out, b" ")
 }
 
-#[tactic(auto, unfolding(crate::proofs::Below::provider_text))]
+#[tactic(auto, unfolding(node_state::specs::Wording::provider_text))]
 pub fn put_provider(alloc: Global, out: &mut Vec<u8>, provider: ProviderId) -> Result<(), NoMemory>
     ensures { OnOk result (out.new.items ≡ out.old.items ++ provider_text provider) }
 {
@@ -104,7 +104,7 @@ pub fn put_provider(alloc: Global, out: &mut Vec<u8>, provider: ProviderId) -> R
     put_number(alloc, out, provider.join)
 }
 
-#[tactic(auto, unfolding(crate::proofs::Below::word))]
+#[tactic(auto, unfolding(node_state::specs::Wording::word))]
 pub fn put_provider_word(
     alloc: Global,
     out: &mut Vec<u8>,
@@ -116,7 +116,7 @@ pub fn put_provider_word(
     put_text(out, b" ")
 }
 
-#[tactic(auto, unfolding(crate::proofs::Below::ring_text, crate::proofs::Below::word))]
+#[tactic(auto, unfolding(node_state::specs::Wording::ring_text, node_state::specs::Wording::word))]
 pub fn put_ring_word(alloc: Global, out: &mut Vec<u8>, ring: RingId) -> Result<(), NoMemory>
     ensures { OnOk result (out.new.items ≡ out.old.items ++ word (ring_text ring)) }
 {
@@ -125,7 +125,7 @@ pub fn put_ring_word(alloc: Global, out: &mut Vec<u8>, ring: RingId) -> Result<(
     put_number_word(alloc, out, ring.number)
 }
 
-#[tactic(auto, unfolding(crate::proofs::Below::proto_text))]
+#[tactic(auto, unfolding(node_state::specs::Wording::proto_text))]
 pub fn put_proto(alloc: Global, out: &mut Vec<u8>, proto: ProtoId) -> Result<(), NoMemory>
     ensures { OnOk result (out.new.items ≡ out.old.items ++ proto_text proto) }
 {
@@ -134,7 +134,7 @@ pub fn put_proto(alloc: Global, out: &mut Vec<u8>, proto: ProtoId) -> Result<(),
     put_number(alloc, out, proto.place)
 }
 
-#[tactic(auto, unfolding(crate::proofs::Below::word))]
+#[tactic(auto, unfolding(node_state::specs::Wording::word))]
 pub fn put_proto_word(alloc: Global, out: &mut Vec<u8>, proto: ProtoId) -> Result<(), NoMemory>
     ensures { OnOk result (out.new.items ≡ out.old.items ++ word (proto_text proto)) }
 {
@@ -142,7 +142,7 @@ pub fn put_proto_word(alloc: Global, out: &mut Vec<u8>, proto: ProtoId) -> Resul
     put_text(out, b" ")
 }
 
-#[tactic(auto, unfolding(crate::proofs::Below::member_text))]
+#[tactic(auto, unfolding(node_state::specs::Wording::member_text))]
 fn put_member(alloc: Global, out: &mut Vec<u8>, member: Member) -> Result<(), NoMemory>
     ensures { OnOk result (out.new.items ≡ out.old.items ++ member_text member) }
 {
@@ -163,7 +163,7 @@ fn put_more_nodes(alloc: Global, out: &mut Vec<u8>, nodes: &[u8]) -> Result<(), 
 }
 
 /// Nodes between commas, `-` for none.
-#[tactic(auto, unfolding(crate::proofs::Below::nodes_text, crate::proofs::Below::joined))]
+#[tactic(auto, unfolding(node_state::specs::Wording::nodes_text, node_state::specs::Wording::joined))]
 fn put_nodes(alloc: Global, out: &mut Vec<u8>, nodes: &[u8]) -> Result<(), NoMemory>
     ensures { OnOk result (out.new.items ≡ out.old.items ++ nodes_text nodes.now) }
 {
@@ -177,7 +177,7 @@ fn put_nodes(alloc: Global, out: &mut Vec<u8>, nodes: &[u8]) -> Result<(), NoMem
 }
 
 /// The nodes of a set, ascending, and a space.
-#[tactic(auto, unfolding(crate::proofs::Below::word))]
+#[tactic(auto, unfolding(node_state::specs::Wording::word))]
 pub fn put_mask_word(alloc: Global, out: &mut Vec<u8>, nodes: Mask) -> Result<(), NoMemory>
     ensures { OnOk result (out.new.items ≡ out.old.items ++ word (nodes_text (nodes_of nodes))) }
 {
@@ -199,7 +199,7 @@ fn put_more_members(alloc: Global, out: &mut Vec<u8>, members: &[Member]) -> Res
 }
 
 /// Members of a view between commas, `-` for none.
-#[tactic(auto, unfolding(crate::proofs::Below::members_text, crate::proofs::Below::joined))]
+#[tactic(auto, unfolding(node_state::specs::Wording::members_text, node_state::specs::Wording::joined))]
 pub fn put_members(alloc: Global, out: &mut Vec<u8>, members: &[Member]) -> Result<(), NoMemory>
     ensures { OnOk result (out.new.items ≡ out.old.items ++ members_text members.now) }
 {
@@ -212,7 +212,7 @@ pub fn put_members(alloc: Global, out: &mut Vec<u8>, members: &[Member]) -> Resu
     }
 }
 
-#[tactic(auto, unfolding(crate::proofs::Below::word))]
+#[tactic(auto, unfolding(node_state::specs::Wording::word))]
 pub fn put_members_word(
     alloc: Global,
     out: &mut Vec<u8>,
@@ -241,7 +241,7 @@ fn put_more_providers(
 }
 
 /// Providers between commas, `-` for none.
-#[tactic(auto, unfolding(crate::proofs::Below::providers_text, crate::proofs::Below::joined))]
+#[tactic(auto, unfolding(node_state::specs::Wording::providers_text, node_state::specs::Wording::joined))]
 pub fn put_providers(
     alloc: Global,
     out: &mut Vec<u8>,
@@ -258,7 +258,7 @@ pub fn put_providers(
     }
 }
 
-#[tactic(auto, unfolding(crate::proofs::Below::word))]
+#[tactic(auto, unfolding(node_state::specs::Wording::word))]
 pub fn put_providers_word(
     alloc: Global,
     out: &mut Vec<u8>,
@@ -271,7 +271,7 @@ pub fn put_providers_word(
 }
 
 /// A digit of a number below 16.
-#[tactic(auto, unfolding(crate::proofs::Below::hex_digit))]
+#[tactic(auto, unfolding(node_state::specs::Wording::hex_digit))]
 fn hex_digit(value: u8) -> u8
     requires { value < 16 }
     ensures { result ≡ hex_digit value }
@@ -280,7 +280,7 @@ fn hex_digit(value: u8) -> u8
 }
 
 /// A byte of a value: itself, or `%` and two digits.
-#[tactic(auto, unfolding(crate::proofs::Below::byte_text))]
+#[tactic(auto, unfolding(node_state::specs::Wording::byte_text))]
 fn put_byte(out: &mut Vec<u8>, byte: u8) -> Result<(), NoMemory>
     ensures { OnOk result (out.new.items ≡ out.old.items ++ byte_text byte) }
 {
@@ -294,7 +294,7 @@ fn put_byte(out: &mut Vec<u8>, byte: u8) -> Result<(), NoMemory>
     Ok(())
 }
 
-#[tactic(auto, unfolding(crate::proofs::Below::escaped))]
+#[tactic(auto, unfolding(node_state::specs::Wording::escaped))]
 pub fn put_escaped(out: &mut Vec<u8>, bytes: &[u8]) -> Result<(), NoMemory>
     ensures { OnOk result (out.new.items ≡ out.old.items ++ escaped bytes.now) }
 {
@@ -304,7 +304,7 @@ pub fn put_escaped(out: &mut Vec<u8>, bytes: &[u8]) -> Result<(), NoMemory>
     Ok(())
 }
 
-#[tactic(auto, unfolding(crate::proofs::Below::value_text))]
+#[tactic(auto, unfolding(node_state::specs::Wording::value_text))]
 pub fn put_value(out: &mut Vec<u8>, bytes: &[u8]) -> Result<(), NoMemory>
     ensures { OnOk result (out.new.items ≡ out.old.items ++ value_text bytes.now) }
 {
@@ -313,7 +313,7 @@ pub fn put_value(out: &mut Vec<u8>, bytes: &[u8]) -> Result<(), NoMemory>
 }
 
 /// The word of a proposal's kind.
-#[tactic(auto, unfolding(crate::proofs::Below::kind_text))]
+#[tactic(auto, unfolding(node_state::specs::Wording::kind_text))]
 pub fn kind_of(proposal: &Proposal) -> &'static [u8]
     ensures { result.now ≡ kind_text proposal.now }
 {

@@ -5,22 +5,22 @@ use Rattle.std.specs.List.{list_all}
 use Rattle.std.proofs.lemmas.Bool.Decides.{nat_tests}
 use Rattle.std.proofs.lemmas.List.{take_more, take_all}
 use Rattle.std.proofs.lemmas.Option.{slice_get_within, get_or_from_slice_get}
-use Rattle.group_leading.specs.rsct_packet.Format.{EachFits}
-use Rattle.group_leading.specs.rsct_packet.Lists.{best_of}
-use Rattle.group_leading.proofs.rsct_packet_laws.FieldLaws.{and_true}
-use Rattle.group_leading.specs.rsct_packet.declared.ids.ProviderId.{ProviderId}
-use Rattle.group_leading.specs.proposal_core.declared.proposal.Proposal.{Proposal}
-use Rattle.group_leading.specs.proposal_core.declared.proposal.Proposal.TheVariants.{Join, Leave, Fail, Expel, State, Message, Attributes, Reflect}
-use Rattle.group_leading.specs.proposal_core.declared.group_state.GroupState.{GroupState}
-use Rattle.group_leading.specs.proposal_core.declared.group_state.Running.{Running}
-use Rattle.group_leading.specs.proposal_core.Fold.{can_begin, joiners_fit, joiners_fit_at}
-use Rattle.group_leading.specs.view_state.declared.install.Part.{Part}
-use Rattle.group_leading.specs.view_state.declared.install.Source.{Source}
-use Rattle.group_leading.specs.view_state.declared.install.Install.{Install}
-use Rattle.group_leading.specs.view_state.declared.install.Base.{Base}
-use Rattle.group_leading.specs.view_state.Parts.{part_len}
-use Rattle.group_leading.specs.view_state.Tails.{IsTail, AreTails, HasTails}
-use Rattle.group_leading.specs.view_state.Bases.{Candidate, candidates, beats, base_from, base_of_best, base_of, names_in, bases_for, bases_of}
+use Rattle.rsct_packet.specs.Format.{EachFits}
+use Rattle.rsct_packet.specs.Lists.{best_of}
+use Rattle.rsct_packet.proofs.FieldLaws.{and_true}
+use Rattle.rsct_packet.specs.declared.ids.ProviderId.{ProviderId}
+use Rattle.proposal_core.specs.declared.proposal.Proposal.{Proposal}
+use Rattle.proposal_core.specs.declared.proposal.Proposal.TheVariants.{Join, Leave, Fail, Expel, State, Message, Attributes, Reflect}
+use Rattle.proposal_core.specs.declared.group_state.GroupState.{GroupState}
+use Rattle.proposal_core.specs.declared.group_state.Running.{Running}
+use Rattle.proposal_core.specs.Fold.{can_begin, joiners_fit, joiners_fit_at}
+use Rattle.view_state.specs.declared.install.Part.{Part}
+use Rattle.view_state.specs.declared.install.Source.{Source}
+use Rattle.view_state.specs.declared.install.Install.{Install}
+use Rattle.view_state.specs.declared.install.Base.{Base}
+use Rattle.view_state.specs.Parts.{part_len}
+use Rattle.view_state.specs.Tails.{IsTail, AreTails, HasTails}
+use Rattle.view_state.specs.Bases.{Candidate, candidates, beats, base_from, base_of_best, base_of, names_in, bases_for, bases_of}
 use Rattle.view_bases.specs.Names.{group_at}
 use Rattle.view_bases.proofs.Bases.{winner_is_tail}
 use Rattle.node_views.specs.Carried.{is_tail, are_tails, IsSound}

@@ -3,18 +3,18 @@ use Rattle.std.proofs.Common.{◌≡◌, ℕ, List, [], ◌∷◌, Option, Some,
 use Rattle.std.specs.Prelude.{map, fold, IsTrue}
 use Rattle.std.specs.List.{list_any}
 use Rattle.std.specs.Str.{bytes_eq}
-use Rattle.group_leading.specs.rsct_packet.Text.{name_lt}
-use Rattle.group_leading.specs.rsct_packet.Lists.{best_of}
-use Rattle.group_leading.specs.name_server.Names.{names_differ}
-use Rattle.group_leading.specs.view_state.declared.install.Part.{Part}
-use Rattle.group_leading.specs.view_state.declared.install.Source.{Source}
-use Rattle.group_leading.specs.view_state.declared.install.Install.{Install}
-use Rattle.group_leading.specs.view_state.declared.install.Base.{Base}
-use Rattle.group_leading.specs.view_state.Bases.{Candidate, candidates, beats, base_from, base_of_best, base_of, with_name, names_in, bases_for, bases_of}
-use Rattle.group_leading.specs.node_state.declared.group.GroupRow.{GroupRow}
-use Rattle.group_leading.specs.node_state.State.{AllAfter, InNameOrder, new_row}
-use Rattle.group_leading.specs.node_state.Applying.{base_row, base_leader}
-use Rattle.group_leading.proofs.node_state_laws.NameOrder.{text_same, text_self, text_other, name_lt_total, lt_self, after_less}
+use Rattle.rsct_packet.specs.Text.{name_lt}
+use Rattle.rsct_packet.specs.Lists.{best_of}
+use Rattle.name_server.specs.Names.{names_differ}
+use Rattle.view_state.specs.declared.install.Part.{Part}
+use Rattle.view_state.specs.declared.install.Source.{Source}
+use Rattle.view_state.specs.declared.install.Install.{Install}
+use Rattle.view_state.specs.declared.install.Base.{Base}
+use Rattle.view_state.specs.Bases.{Candidate, candidates, beats, base_from, base_of_best, base_of, with_name, names_in, bases_for, bases_of}
+use Rattle.node_state.specs.declared.group.GroupRow.{GroupRow}
+use Rattle.node_state.specs.State.{AllAfter, InNameOrder, new_row}
+use Rattle.node_state.specs.Applying.{base_row, base_leader}
+use Rattle.node_state.proofs.NameOrder.{text_same, text_self, text_other, name_lt_total, lt_self, after_less}
 
 abbrev rows_of : List (List ℕ) → List GroupRow
 rows_of ns = map new_row ns

@@ -1,12 +1,12 @@
 -- How what the lists lack is gathered, and then put.
 use Rattle.std.proofs.Common.{◌≡◌, ℕ, ◌+◌, ◌<◌, ◌≤◌, List, [], ◌∷◌, ◌++◌, length, drop, get_or, map, Option, Some, None, refl, sym, ap, ◌∙◌, append_assoc, drop-cons, add-one}
 use Rattle.std.proofs.lemmas.List.{append-nil, map-append, at_drop_all}
-use Rattle.group_leading.specs.proposal_core.declared.entry.Entry.{Entry}
-use Rattle.group_leading.specs.view_state.declared.install.Part.{Part}
-use Rattle.group_leading.specs.view_state.Cut.{lacking_of}
-use Rattle.group_leading.specs.node_state.declared.state.Core.{Core}
-use Rattle.group_leading.specs.node_state.State.{list_of}
-use Rattle.group_leading.specs.node_state.Applying.{Lacking, lacking_in}
+use Rattle.proposal_core.specs.declared.entry.Entry.{Entry}
+use Rattle.view_state.specs.declared.install.Part.{Part}
+use Rattle.view_state.specs.Cut.{lacking_of}
+use Rattle.node_state.specs.declared.state.Core.{Core}
+use Rattle.node_state.specs.State.{list_of}
+use Rattle.node_state.specs.Applying.{Lacking, lacking_in}
 use Rattle.node_views.specs.declared.missing_entries.Missing.{Missing}
 use Rattle.node_views.specs.Filling.{lacking_at, with_more}
 

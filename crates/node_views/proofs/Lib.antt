@@ -1,4 +1,3 @@
-pub mod Below
 pub mod BaseLaws
 pub mod BaseOrder
 pub mod FillLaws

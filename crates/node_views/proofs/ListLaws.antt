@@ -6,11 +6,11 @@ use Rattle.std.proofs.lemmas.List.{take_more, take_all, map-append, length-map}
 use Rattle.std.proofs.lemmas.List.Elements.{filter-append}
 use Rattle.std.proofs.lemmas.List.Sums.{length-filter}
 use Rattle.std.proofs.lemmas.Option.{slice_get_within, get_or_from_slice_get}
-use Rattle.group_leading.specs.proposal_core.declared.entry.Entry.{Entry}
-use Rattle.group_leading.specs.proposal_core.GroupView.{GroupView}
-use Rattle.group_leading.specs.proposal_core.Lists.{list_or_new, entry_at}
-use Rattle.group_leading.specs.node_state.declared.group.GroupRow.{GroupRow}
-use Rattle.group_leading.specs.node_state.Applying.{part_of_list}
+use Rattle.proposal_core.specs.declared.entry.Entry.{Entry}
+use Rattle.proposal_core.specs.GroupView.{GroupView}
+use Rattle.proposal_core.specs.Lists.{list_or_new, entry_at}
+use Rattle.node_state.specs.declared.group.GroupRow.{GroupRow}
+use Rattle.node_state.specs.Applying.{part_of_list}
 use Rattle.node_views.specs.Carried.{parts_of_rows}
 
 -- ---- entries

@@ -4,21 +4,21 @@ use Rattle.std.specs.List.{fold}
 use Rattle.std.proofs.lemmas.List.{take_more, take_all}
 use Rattle.std.proofs.lemmas.List.Elements.{filter-append}
 use Rattle.std.proofs.lemmas.List.Sums.{fold-append}
-use Rattle.group_leading.specs.rsct_packet.declared.ids.ProviderId.{ProviderId}
-use Rattle.group_leading.specs.rsct_packet.declared.ids.ViewId.{ViewId}
-use Rattle.group_leading.specs.proposal_core.Fold.{joiners_in}
-use Rattle.group_leading.specs.proposal_core.GroupView.{GroupView}
-use Rattle.group_leading.specs.client_callbacks.declared.votes.VoteItem.{VoteItem}
-use Rattle.group_leading.specs.session_state.State.{provider_of}
-use Rattle.group_leading.specs.view_state.declared.install.Base.{Base}
-use Rattle.group_leading.specs.view_state.Bases.{base_named}
-use Rattle.group_leading.specs.node_state.declared.group.GroupRow.{GroupRow}
-use Rattle.group_leading.specs.node_state.declared.state.Core.{Core}
-use Rattle.group_leading.specs.node_state.HandOn.{Answering}
-use Rattle.group_leading.specs.node_state.Applying.{dissolved_if, group_dissolved, sides_dissolved}
-use Rattle.group_leading.specs.entry_delivery.Received.{Handing}
-use Rattle.group_leading.specs.entry_delivery.Doing.{Joins, Does}
-use Rattle.group_leading.proofs.entry_delivery_laws.DoingLaws.{does_then, does_nothing, does_as}
+use Rattle.rsct_packet.specs.declared.ids.ProviderId.{ProviderId}
+use Rattle.rsct_packet.specs.declared.ids.ViewId.{ViewId}
+use Rattle.proposal_core.specs.Fold.{joiners_in}
+use Rattle.proposal_core.specs.GroupView.{GroupView}
+use Rattle.client_callbacks.specs.declared.votes.VoteItem.{VoteItem}
+use Rattle.session_state.specs.State.{provider_of}
+use Rattle.view_state.specs.declared.install.Base.{Base}
+use Rattle.view_state.specs.Bases.{base_named}
+use Rattle.node_state.specs.declared.group.GroupRow.{GroupRow}
+use Rattle.node_state.specs.declared.state.Core.{Core}
+use Rattle.node_state.specs.HandOn.{Answering}
+use Rattle.node_state.specs.Applying.{dissolved_if, group_dissolved, sides_dissolved}
+use Rattle.entry_delivery.specs.Received.{Handing}
+use Rattle.entry_delivery.specs.Doing.{Joins, Does}
+use Rattle.entry_delivery.proofs.DoingLaws.{does_then, does_nothing, does_as}
 
 abbrev held : List GroupRow → List GroupRow
 held rows = filter (λ (row : GroupRow). is_some row.list) rows

@@ -6,41 +6,41 @@ use Rattle.std.proofs.lemmas.Bool.Decides.{nat_tests}
 use Rattle.std.proofs.lemmas.List.{take_more}
 use Rattle.std.proofs.lemmas.Grind.{flat_map-append}
 use Rattle.std.proofs.lemmas.List.Elements.{filter-append}
-use Rattle.group_leading.specs.rsct_packet.declared.ids.Member.{Member}
-use Rattle.group_leading.specs.rsct_packet.declared.ids.ProviderId.{ProviderId}
-use Rattle.group_leading.specs.rsct_packet.declared.ids.ViewId.{ViewId}
-use Rattle.group_leading.specs.rsct_packet.Providers.{same_provider}
-use Rattle.group_leading.proofs.rsct_packet_laws.HasLaws.{find_has, find_none}
-use Rattle.group_leading.specs.group_attr.Attrs.{host_membership}
-use Rattle.group_leading.specs.proposal_core.declared.group_state.GroupState.{GroupState}
-use Rattle.group_leading.specs.proposal_core.Fold.{empty_state}
-use Rattle.group_leading.specs.subscribe_core.declared.subs.Subscription.{Subscription}
-use Rattle.group_leading.specs.client_callbacks.declared.told.Told.TheVariants as told
-use Rattle.group_leading.specs.client_callbacks.declared.told.Why.TheVariants.{Dissolved}
-use Rattle.group_leading.specs.client_callbacks.declared.votes.VoteItem.{VoteItem}
-use Rattle.group_leading.specs.client_callbacks.Handed.{Handed}
-use Rattle.group_leading.specs.session_state.declared.state.Provider.{Provider}
-use Rattle.group_leading.specs.session_state.declared.state.SessionState.{SessionState}
-use Rattle.group_leading.specs.session_state.State.{is_provider, provider_of, place_for, place_of, outstanding, client_place}
-use Rattle.group_leading.specs.session_state.Calls.{SameSessions}
-use Rattle.group_leading.specs.session_state.HandOn.{is_numbered, takes_telling}
-use Rattle.group_leading.specs.view_state.declared.install.Base.{Base}
-use Rattle.group_leading.specs.view_state.Bases.{base_named}
-use Rattle.group_leading.specs.node_state.declared.happened.Happened.{Happened}
-use Rattle.group_leading.specs.node_state.declared.happened.Happened.TheVariants as happened
-use Rattle.group_leading.specs.node_state.declared.state.Core.{Core}
-use Rattle.group_leading.specs.node_state.State.{state_of, recorded, recorded_all, with_sessions}
-use Rattle.group_leading.specs.node_state.HandOn.{subscriber_name, note_of}
-use Rattle.group_leading.specs.node_state.Applying.{is_in_base, number_of, dissolved, dissolved_if, base_note, entering_note, entering_noted}
-use Rattle.group_leading.specs.session_state.Owners.{KeepsOwners}
-use Rattle.group_leading.specs.node_state.Handed.{is_handed, handed_in, Along, Logged, logged_in}
-use Rattle.group_leading.proofs.node_state_laws.AlongLaws.{LeavesStates, leaves_both, along_records}
-use Rattle.group_leading.specs.node_groups.Keeps.{Stays}
-use Rattle.group_leading.proofs.session_state_laws.OwnerLaws.{owners_themselves}
-use Rattle.group_leading.specs.entry_delivery.Received.{Handing, AreFor, told_by, logged_by, after_handings, Receive}
-use Rattle.group_leading.specs.entry_delivery.Doing.{Stated, Does}
-use Rattle.group_leading.proofs.entry_delivery_laws.DoingLaws.{does_nothing, does_as, receive_then}
-use Rattle.group_leading.proofs.entry_delivery_laws.OwnerLaws.{telling_owners}
+use Rattle.rsct_packet.specs.declared.ids.Member.{Member}
+use Rattle.rsct_packet.specs.declared.ids.ProviderId.{ProviderId}
+use Rattle.rsct_packet.specs.declared.ids.ViewId.{ViewId}
+use Rattle.rsct_packet.specs.Providers.{same_provider}
+use Rattle.rsct_packet.proofs.HasLaws.{find_has, find_none}
+use Rattle.group_attr.specs.Attrs.{host_membership}
+use Rattle.proposal_core.specs.declared.group_state.GroupState.{GroupState}
+use Rattle.proposal_core.specs.Fold.{empty_state}
+use Rattle.subscribe_core.specs.declared.subs.Subscription.{Subscription}
+use Rattle.client_callbacks.specs.declared.told.Told.TheVariants as told
+use Rattle.client_callbacks.specs.declared.told.Why.TheVariants.{Dissolved}
+use Rattle.client_callbacks.specs.declared.votes.VoteItem.{VoteItem}
+use Rattle.client_callbacks.specs.Handed.{Handed}
+use Rattle.session_state.specs.declared.state.Provider.{Provider}
+use Rattle.session_state.specs.declared.state.SessionState.{SessionState}
+use Rattle.session_state.specs.State.{is_provider, provider_of, place_for, place_of, outstanding, client_place}
+use Rattle.session_state.specs.Calls.{SameSessions}
+use Rattle.session_state.specs.HandOn.{is_numbered, takes_telling}
+use Rattle.view_state.specs.declared.install.Base.{Base}
+use Rattle.view_state.specs.Bases.{base_named}
+use Rattle.node_state.specs.declared.happened.Happened.{Happened}
+use Rattle.node_state.specs.declared.happened.Happened.TheVariants as happened
+use Rattle.node_state.specs.declared.state.Core.{Core}
+use Rattle.node_state.specs.State.{state_of, recorded, recorded_all, with_sessions}
+use Rattle.node_state.specs.HandOn.{subscriber_name, note_of}
+use Rattle.node_state.specs.Applying.{is_in_base, number_of, dissolved, dissolved_if, base_note, entering_note, entering_noted}
+use Rattle.session_state.specs.Owners.{KeepsOwners}
+use Rattle.node_state.specs.Handed.{is_handed, handed_in, Along, Logged, logged_in}
+use Rattle.node_state.proofs.AlongLaws.{LeavesStates, leaves_both, along_records}
+use Rattle.node_groups.specs.Keeps.{Stays}
+use Rattle.session_state.proofs.OwnerLaws.{owners_themselves}
+use Rattle.entry_delivery.specs.Received.{Handing, AreFor, told_by, logged_by, after_handings, Receive}
+use Rattle.entry_delivery.specs.Doing.{Stated, Does}
+use Rattle.entry_delivery.proofs.DoingLaws.{does_nothing, does_as, receive_then}
+use Rattle.entry_delivery.proofs.OwnerLaws.{telling_owners}
 use Rattle.node_views.specs.Arriving.{note_at, notes_at, handed_at, note_handings}
 
 -- ---- what is kept

@@ -5,52 +5,52 @@ use Rattle.std.specs.Str.{bytes_eq}
 use Rattle.std.specs.List.{fold}
 use Rattle.std.proofs.lemmas.List.Elements.{filter-append}
 use Rattle.std.proofs.lemmas.List.Folds.{fold-map}
-use Rattle.group_leading.specs.rsct_packet.declared.ids.Member.{Member}
-use Rattle.group_leading.specs.rsct_packet.declared.ids.ProviderId.{ProviderId}
-use Rattle.group_leading.specs.rsct_packet.declared.mask.Mask.{Mask}
-use Rattle.group_leading.specs.rsct_packet.Providers.{among}
-use Rattle.group_leading.specs.proposal_core.declared.group_state.GroupState.{GroupState}
-use Rattle.group_leading.specs.proposal_core.Fold.{empty_state}
-use Rattle.group_leading.specs.proposal_core.Lists.{state_in}
-use Rattle.group_leading.specs.client_callbacks.declared.votes.VoteItem.{VoteItem}
-use Rattle.group_leading.specs.client_callbacks.Ballots.{is_level}
-use Rattle.group_leading.specs.session_state.declared.state.SessionState.{SessionState}
-use Rattle.group_leading.specs.session_state.State.{provider_of, place_of, outstanding}
-use Rattle.group_leading.specs.view_state.declared.install.Install.{Install}
-use Rattle.group_leading.specs.view_state.declared.install.Base.{Base}
-use Rattle.group_leading.specs.view_state.Bases.{bases_of}
-use Rattle.group_leading.specs.view_state.declared.packet.ViewSend.{ViewSend}
+use Rattle.rsct_packet.specs.declared.ids.Member.{Member}
+use Rattle.rsct_packet.specs.declared.ids.ProviderId.{ProviderId}
+use Rattle.rsct_packet.specs.declared.mask.Mask.{Mask}
+use Rattle.rsct_packet.specs.Providers.{among}
+use Rattle.proposal_core.specs.declared.group_state.GroupState.{GroupState}
+use Rattle.proposal_core.specs.Fold.{empty_state}
+use Rattle.proposal_core.specs.Lists.{state_in}
+use Rattle.client_callbacks.specs.declared.votes.VoteItem.{VoteItem}
+use Rattle.client_callbacks.specs.Ballots.{is_level}
+use Rattle.session_state.specs.declared.state.SessionState.{SessionState}
+use Rattle.session_state.specs.State.{provider_of, place_of, outstanding}
+use Rattle.view_state.specs.declared.install.Install.{Install}
+use Rattle.view_state.specs.declared.install.Base.{Base}
+use Rattle.view_state.specs.Bases.{bases_of}
+use Rattle.view_state.specs.declared.packet.ViewSend.{ViewSend}
 use Rattle.view_core.specs.declared.step.ViewEvent.TheVariants as event
-use Rattle.group_leading.specs.view_state.declared.views.RingAsk.{RingAsk}
-use Rattle.group_leading.specs.view_state.declared.views.ViewWork.{ViewWork}
-use Rattle.group_leading.specs.view_state.Views.{views_at_work, views_entered, ask_row}
+use Rattle.view_state.specs.declared.views.RingAsk.{RingAsk}
+use Rattle.view_state.specs.declared.views.ViewWork.{ViewWork}
+use Rattle.view_state.specs.Views.{views_at_work, views_entered, ask_row}
 use Rattle.view_core.specs.Steps.{view_row, view_stepped}
-use Rattle.group_leading.specs.node_state.declared.config.Config.{Config}
-use Rattle.group_leading.specs.node_state.declared.group.GroupRow.{GroupRow}
-use Rattle.group_leading.specs.node_state.declared.happened.Happened.{Happened}
-use Rattle.group_leading.specs.node_state.declared.happened.Happened.TheVariants as happened
-use Rattle.group_leading.specs.node_state.declared.packet.Body.TheVariants as body
-use Rattle.group_leading.specs.node_state.declared.state.Core.{Core}
-use Rattle.group_leading.specs.node_state.Settings.{is_fixed, level_if, view_level}
-use Rattle.group_leading.specs.node_state.State.{AllAfter, InNameOrder, row_found, row_of, list_of, state_of, held_rows, led_groups, recorded_all, has_name}
-use Rattle.group_leading.specs.node_state.Sending.{sent}
-use Rattle.group_leading.specs.node_state.HandOn.{Answering}
-use Rattle.group_leading.specs.node_state.Leading.{tally_opened, closes}
-use Rattle.group_leading.specs.node_state.Applying.{Lacking, own_parts, lacking, fill_lists, level_set, base_row, base_leader, base_record, view_entered, sides_dissolved, entering_noted, taken_sent, owed_sent, wait_failed, phase_reopened, lead, lead_groups, entered, entered_if, apply_install, views_taken}
-use Rattle.group_leading.specs.node_state.Step.{take_order}
-use Rattle.group_leading.specs.node_state.Ticks.{ring_ask, tick_views}
-use Rattle.group_leading.specs.session_state.Owners.{KeepsOwners}
-use Rattle.group_leading.specs.node_state.Handed.{is_handed, handed_in, state_along}
-use Rattle.group_leading.proofs.node_state_laws.AlongLaws.{along_same}
-use Rattle.group_leading.proofs.node_state_laws.NameOrder.{text_same, none_after}
-use Rattle.group_leading.specs.node_groups.Keeps.{Stays, Keeps}
-use Rattle.group_leading.proofs.session_state_laws.OwnerLaws.{owners_themselves}
-use Rattle.group_leading.proofs.node_groups_laws.KeepLaws.{keeps_itself, keeps_then, keeps_stays, keeps_as, stays_then, sent_keeps}
+use Rattle.node_state.specs.declared.config.Config.{Config}
+use Rattle.node_state.specs.declared.group.GroupRow.{GroupRow}
+use Rattle.node_state.specs.declared.happened.Happened.{Happened}
+use Rattle.node_state.specs.declared.happened.Happened.TheVariants as happened
+use Rattle.node_state.specs.declared.packet.Body.TheVariants as body
+use Rattle.node_state.specs.declared.state.Core.{Core}
+use Rattle.node_state.specs.Settings.{is_fixed, level_if, view_level}
+use Rattle.node_state.specs.State.{AllAfter, InNameOrder, row_found, row_of, list_of, state_of, held_rows, led_groups, recorded_all, has_name}
+use Rattle.node_state.specs.Sending.{sent}
+use Rattle.node_state.specs.HandOn.{Answering}
+use Rattle.node_state.specs.Leading.{tally_opened, closes}
+use Rattle.node_state.specs.Applying.{Lacking, own_parts, lacking, fill_lists, level_set, base_row, base_leader, base_record, view_entered, sides_dissolved, entering_noted, taken_sent, owed_sent, wait_failed, phase_reopened, lead, lead_groups, entered, entered_if, apply_install, views_taken}
+use Rattle.node_state.specs.Step.{take_order}
+use Rattle.node_state.specs.Ticks.{ring_ask, tick_views}
+use Rattle.session_state.specs.Owners.{KeepsOwners}
+use Rattle.node_state.specs.Handed.{is_handed, handed_in, state_along}
+use Rattle.node_state.proofs.AlongLaws.{along_same}
+use Rattle.node_state.proofs.NameOrder.{text_same, none_after}
+use Rattle.node_groups.specs.Keeps.{Stays, Keeps}
+use Rattle.session_state.proofs.OwnerLaws.{owners_themselves}
+use Rattle.node_groups.proofs.KeepLaws.{keeps_itself, keeps_then, keeps_stays, keeps_as, stays_then, sent_keeps}
 use Rattle.group_leading.specs.Working.{AtWork}
 use Rattle.group_leading.proofs.WorkLaws.{keeps_follows, work_kept}
-use Rattle.group_leading.specs.entry_delivery.Received.{Handing}
-use Rattle.group_leading.specs.entry_delivery.Doing.{Joins, Follows, Does}
-use Rattle.group_leading.proofs.entry_delivery_laws.DoingLaws.{does_then, does_plain, does_nothing, does_after, does_before, does_as, ready_same}
+use Rattle.entry_delivery.specs.Received.{Handing}
+use Rattle.entry_delivery.specs.Doing.{Joins, Follows, Does}
+use Rattle.entry_delivery.proofs.DoingLaws.{does_then, does_plain, does_nothing, does_after, does_before, does_as, ready_same}
 use Rattle.node_views.specs.declared.missing_entries.Missing.{Missing}
 use Rattle.node_views.specs.Filling.{lacking_at, list_filled, filled_if}
 use Rattle.node_views.specs.Arriving.{views_sent, arrived}

@@ -1,28 +1,28 @@
 -- What a node does at an install that no client answers, and what it is told.
 use Rattle.std.specs.Prelude.{ℕ, true, false, List, [], ◌∷◌, fold, map, Option, Some, None}
 use Rattle.std.specs.Str.{bytes_eq}
-use Rattle.group_leading.specs.rsct_packet.declared.ids.ViewId.{ViewId}
-use Rattle.group_leading.specs.rsct_packet.declared.ids.Member.{Member}
-use Rattle.group_leading.specs.group_attr.Attrs.{host_membership}
-use Rattle.group_leading.specs.proposal_core.Fold.{empty_state}
-use Rattle.group_leading.specs.subscribe_core.declared.subs.Subscription.{Subscription}
-use Rattle.group_leading.specs.client_callbacks.declared.told.Told.TheVariants as told
-use Rattle.group_leading.specs.session_state.declared.state.SessionState.{SessionState}
-use Rattle.group_leading.specs.session_state.State.{client_place}
-use Rattle.group_leading.specs.view_state.declared.install.Install.{Install}
-use Rattle.group_leading.specs.view_state.declared.install.Base.{Base}
-use Rattle.group_leading.specs.view_state.Bases.{base_named}
-use Rattle.group_leading.specs.view_state.declared.packet.ViewSend.{ViewSend}
-use Rattle.group_leading.specs.view_state.declared.views.ViewWork.{ViewWork}
-use Rattle.group_leading.specs.node_state.declared.happened.Happened.{Happened}
-use Rattle.group_leading.specs.node_state.declared.happened.Happened.TheVariants as happened
-use Rattle.group_leading.specs.node_state.declared.packet.Body.TheVariants as body
-use Rattle.group_leading.specs.node_state.declared.state.Core.{Core}
-use Rattle.group_leading.specs.node_state.State.{held_rows}
-use Rattle.group_leading.specs.node_state.Sending.{sent}
-use Rattle.group_leading.specs.node_state.HandOn.{subscriber_name}
-use Rattle.group_leading.specs.node_state.Applying.{view_entered, sides_dissolved, entering_noted, taken_sent, owed_sent}
-use Rattle.group_leading.specs.entry_delivery.Received.{Handing}
+use Rattle.rsct_packet.specs.declared.ids.ViewId.{ViewId}
+use Rattle.rsct_packet.specs.declared.ids.Member.{Member}
+use Rattle.group_attr.specs.Attrs.{host_membership}
+use Rattle.proposal_core.specs.Fold.{empty_state}
+use Rattle.subscribe_core.specs.declared.subs.Subscription.{Subscription}
+use Rattle.client_callbacks.specs.declared.told.Told.TheVariants as told
+use Rattle.session_state.specs.declared.state.SessionState.{SessionState}
+use Rattle.session_state.specs.State.{client_place}
+use Rattle.view_state.specs.declared.install.Install.{Install}
+use Rattle.view_state.specs.declared.install.Base.{Base}
+use Rattle.view_state.specs.Bases.{base_named}
+use Rattle.view_state.specs.declared.packet.ViewSend.{ViewSend}
+use Rattle.view_state.specs.declared.views.ViewWork.{ViewWork}
+use Rattle.node_state.specs.declared.happened.Happened.{Happened}
+use Rattle.node_state.specs.declared.happened.Happened.TheVariants as happened
+use Rattle.node_state.specs.declared.packet.Body.TheVariants as body
+use Rattle.node_state.specs.declared.state.Core.{Core}
+use Rattle.node_state.specs.State.{held_rows}
+use Rattle.node_state.specs.Sending.{sent}
+use Rattle.node_state.specs.HandOn.{subscriber_name}
+use Rattle.node_state.specs.Applying.{view_entered, sides_dissolved, entering_noted, taken_sent, owed_sent}
+use Rattle.entry_delivery.specs.Received.{Handing}
 
 -- an event of views is taken: its state stands, and what it sends is sent
 unfoldable pub views_sent : Core → ViewWork → Core

@@ -1,14 +1,14 @@
 -- What an install carries, as it is tested; and the lists of a node's rows, as an answer carries them.
 use Rattle.std.specs.Prelude.{◌^◌, Bool, ◌&&◌, List, map, filter, nat_lt, is_some, IsTrue}
 use Rattle.std.specs.List.{list_all}
-use Rattle.group_leading.specs.proposal_core.Fold.{joiners_fit}
-use Rattle.group_leading.specs.proposal_core.Lists.{list_or_new}
-use Rattle.group_leading.specs.view_state.declared.install.Part.{Part}
-use Rattle.group_leading.specs.view_state.declared.install.Source.{Source}
-use Rattle.group_leading.specs.view_state.declared.install.Base.{Base}
-use Rattle.group_leading.specs.view_state.Parts.{part_len}
-use Rattle.group_leading.specs.node_state.declared.group.GroupRow.{GroupRow}
-use Rattle.group_leading.specs.node_state.Applying.{part_of_list}
+use Rattle.proposal_core.specs.Fold.{joiners_fit}
+use Rattle.proposal_core.specs.Lists.{list_or_new}
+use Rattle.view_state.specs.declared.install.Part.{Part}
+use Rattle.view_state.specs.declared.install.Source.{Source}
+use Rattle.view_state.specs.declared.install.Base.{Base}
+use Rattle.view_state.specs.Parts.{part_len}
+use Rattle.node_state.specs.declared.group.GroupRow.{GroupRow}
+use Rattle.node_state.specs.Applying.{part_of_list}
 
 -- its places are counted in 32 bits, and its running joiners fit its members
 abbrev pub is_tail : Part → Bool

@@ -1,23 +1,23 @@
 //! What the groups begin with in the view of an install.
 ghost use Rattle.std.specs.Prelude.{◌≡◌, ◌++◌, ◌∷◌, [], OnOk, IfOk, IsTrue, map};
 ghost use Rattle.std.specs.List.{list_all};
-ghost use Rattle.group_leading.specs.rsct_packet.Format.{EachFits};
-ghost use Rattle.group_leading.specs.proposal_core.Fold.{joiners_fit};
-ghost use Rattle.group_leading.specs.view_state.Tails.{HasTails};
-ghost use Rattle.group_leading.specs.view_state.Bases.{bases_for, bases_of};
-ghost use Rattle.group_leading.specs.node_state.Applying.{base_row, base_leader};
+ghost use Rattle.rsct_packet.specs.Format.{EachFits};
+ghost use Rattle.proposal_core.specs.Fold.{joiners_fit};
+ghost use Rattle.view_state.specs.Tails.{HasTails};
+ghost use Rattle.view_state.specs.Bases.{bases_for, bases_of};
+ghost use Rattle.node_state.specs.Applying.{base_row, base_leader};
 ghost use Rattle.node_views.specs.Carried.{is_tail, are_tails, IsSound};
 
-use group_leading::name_server::{Leader, Leaders};
-use group_leading::node_groups::new_row;
-use group_leading::node_state::{GroupRow, Groups, Table};
-use group_leading::proposal_core::{GroupList, GroupState, Proposal};
-use group_leading::rsct_packet::{List, MAX_PROVIDERS, NoMemory, is_none_among};
-use group_leading::view_state::{Base, Install, Part, Source};
+use name_server::{Leader, Leaders};
+use node_groups::new_row;
+use node_state::{GroupRow, Groups, Table};
+use proposal_core::{GroupList, GroupState, Proposal};
+use rsct_packet::{List, MAX_PROVIDERS, NoMemory, is_none_among};
 use std::alloc::Global;
+use view_state::{Base, Install, Part, Source};
 
 /// Are the running joiners no members, and with the members at most 64?
-#[tactic(auto, unfolding(crate::proofs::Below::joiners_fit, crate::proofs::Below::joiners_fit_at, crate::proofs::Below::can_begin))]
+#[tactic(auto, unfolding(proposal_core::specs::Fold::joiners_fit, proposal_core::specs::Fold::joiners_fit_at, proposal_core::specs::Fold::can_begin))]
 fn do_joiners_fit(state: &GroupState) -> bool
     ensures { result ≡ joiners_fit state.now }
 {
@@ -61,7 +61,7 @@ fn has_tails(install: &Install) -> bool
 }
 
 /// Adds the base of a group, where somebody brings anything of it.
-#[tactic(auto, unfolding(crate::proofs::Below::bases_for))]
+#[tactic(auto, unfolding(view_state::specs::Bases::bases_for))]
 fn push_base(
     alloc: Global,
     bases: &mut List<Base>,
@@ -107,7 +107,7 @@ pub(crate) fn bases_of(alloc: Global, install: &Install) -> Result<List<Base>, N
 }
 
 /// The row of a group that begins from its base.
-#[tactic(auto, unfolding(crate::proofs::Below::base_row))]
+#[tactic(auto, unfolding(node_state::specs::Applying::base_row))]
 fn base_row(alloc: Global, base: &Base) -> Result<GroupRow, NoMemory>
     requires { IsSound base.now }
     ensures { IfOk result (λ row. row ≡ base_row base.now) }
@@ -131,7 +131,7 @@ pub(crate) fn base_rows(alloc: Global, bases: &[Base]) -> Result<Groups, NoMemor
     Ok(Table { rows })
 }
 
-#[tactic(auto, unfolding(crate::proofs::Below::base_leader))]
+#[tactic(auto, unfolding(node_state::specs::Applying::base_leader))]
 fn base_leader(alloc: Global, base: &Base) -> Result<Leader, NoMemory>
     ensures { IfOk result (λ leader. leader ≡ base_leader base.now) }
 {

@@ -1,29 +1,29 @@
 //! Providers that do not live in the base of their group are dissolved.
 ghost use Rattle.std.specs.Prelude.{◌≡◌, ◌&&◌, ◌∷◌, [], not, length, OnOk, filter, find, is_some, option_copied};
-ghost use Rattle.group_leading.specs.session_clients.Clients.{KeepsScripts};
+ghost use Rattle.session_clients.specs.Clients.{KeepsScripts};
 ghost use Rattle.std.specs.List.{fold};
 ghost use Rattle.std.specs.Str.{bytes_eq};
-ghost use Rattle.group_leading.specs.proposal_core.Fold.{joiners_in};
-ghost use Rattle.group_leading.specs.client_callbacks.declared.told.Why.TheVariants as why;
-ghost use Rattle.group_leading.specs.session_state.HandOn.{take_telling};
-ghost use Rattle.group_leading.specs.session_state.State.{provider_of, place_of, outstanding, is_asked_by};
-ghost use Rattle.group_leading.specs.view_state.Bases.{base_named};
-ghost use Rattle.group_leading.specs.node_groups.Keeps.{Stays};
-ghost use Rattle.group_leading.specs.entry_delivery.Received.{Receive};
-ghost use Rattle.group_leading.specs.entry_delivery.Doing.{Does, RowDoes};
-ghost use Rattle.group_leading.specs.node_state.declared.happened.Happened.TheVariants as happened;
+ghost use Rattle.proposal_core.specs.Fold.{joiners_in};
+ghost use Rattle.client_callbacks.specs.declared.told.Why.TheVariants as why;
+ghost use Rattle.session_state.specs.HandOn.{take_telling};
+ghost use Rattle.session_state.specs.State.{provider_of, place_of, outstanding, is_asked_by};
+ghost use Rattle.view_state.specs.Bases.{base_named};
+ghost use Rattle.node_groups.specs.Keeps.{Stays};
+ghost use Rattle.entry_delivery.specs.Received.{Receive};
+ghost use Rattle.entry_delivery.specs.Doing.{Does, RowDoes};
+ghost use Rattle.node_state.specs.declared.happened.Happened.TheVariants as happened;
 ghost use Rattle.node_views.specs.Arriving.{handed_at};
-ghost use Rattle.group_leading.specs.session_state.Calls.{SameSessions};
-ghost use Rattle.group_leading.specs.node_state.Applying.{is_in_base, number_of, dissolved, dissolved_if, group_dissolved, sides_dissolved};
+ghost use Rattle.session_state.specs.Calls.{SameSessions};
+ghost use Rattle.node_state.specs.Applying.{is_in_base, number_of, dissolved, dissolved_if, group_dissolved, sides_dissolved};
 
-use group_leading::client_callbacks::{Callbacks, Told, Why};
-use group_leading::node_state::{Core, GroupRow, Happened};
-use group_leading::proposal_core::{Proposal, Running};
-use group_leading::rsct_packet::{Name, NoMemory, ProviderId, ViewId, is_among};
-use group_leading::session_clients::tell_at;
-use group_leading::session_delivery::{place_of, take_telling, takes_telling};
-use group_leading::session_state::{Provider, Request, SessionState};
-use group_leading::view_state::Base;
+use client_callbacks::{Callbacks, Told, Why};
+use node_state::{Core, GroupRow, Happened};
+use proposal_core::{Proposal, Running};
+use rsct_packet::{Name, NoMemory, ProviderId, ViewId, is_among};
+use session_clients::tell_at;
+use session_delivery::{place_of, take_telling, takes_telling};
+use session_state::{Provider, Request, SessionState};
+use view_state::Base;
 
 /// The running joiners.
 fn joiners_in(running: &Option<Running>) -> &[ProviderId]
@@ -39,7 +39,7 @@ fn joiners_in(running: &Option<Running>) -> &[ProviderId]
 }
 
 /// The base of a group, where it has one.
-#[tactic(auto, unfolding(crate::proofs::Below::base_named))]
+#[tactic(auto, unfolding(view_state::specs::Bases::base_named))]
 pub(crate) fn base_named<'a>(bases: &'a [Base], group: &[u8]) -> Option<&'a Base>
     ensures { option_copied result ≡ base_named bases.now group.now }
 {
@@ -47,7 +47,7 @@ pub(crate) fn base_named<'a>(bases: &'a [Base], group: &[u8]) -> Option<&'a Base
 }
 
 /// Does the provider live in the base, which comes from the old view?
-#[tactic(auto, unfolding(crate::proofs::Below::is_in_base), using(crate::proofs::Below::among_both))]
+#[tactic(auto, unfolding(node_state::specs::Applying::is_in_base), using(proposal_core::proofs::FoldLaws::among_both))]
 fn is_in_base(old: ViewId, provider: ProviderId, base: Option<&Base>) -> bool
     ensures { result ≡ is_in_base old provider (option_copied base.entry) }
 {
@@ -79,7 +79,7 @@ fn request_of(requests: &[Request], provider: ProviderId) -> Option<&Request>
 }
 
 /// The number of the provider's outstanding request; 0 where it has none.
-#[tactic(auto, unfolding(crate::proofs::Below::outstanding))]
+#[tactic(auto, unfolding(session_state::specs::State::outstanding))]
 fn number_of(sessions: &SessionState, provider: ProviderId) -> u32
     ensures { result ≡ number_of (outstanding sessions.now provider) }
 {
@@ -90,7 +90,7 @@ fn number_of(sessions: &SessionState, provider: ProviderId) -> u32
 }
 
 /// Tells the client of a provider that it is dissolved, and drops the provider.
-#[tactic(auto, unfolding(crate::proofs::Below::take_telling))]
+#[tactic(auto, unfolding(session_state::specs::HandOn::take_telling))]
 fn tell_dissolved<C: Callbacks>(
     sessions: &mut SessionState,
     clients: &mut Vec<C>,
@@ -125,7 +125,7 @@ fn tell_dissolved<C: Callbacks>(
 }
 
 /// Dissolves a provider, and records it.
-#[tactic(auto, unfolding(crate::proofs::Below::dissolved, crate::proofs::Below::recorded, crate::proofs::Below::with_sessions), using(crate::proofs::ToldLaws::told_stays))]
+#[tactic(auto, unfolding(node_state::specs::Applying::dissolved, node_state::specs::State::recorded, node_state::specs::State::with_sessions), using(crate::proofs::ToldLaws::told_stays))]
 fn dissolve<C: Callbacks>(
     core: &mut Core,
     clients: &mut Vec<C>,
@@ -150,7 +150,7 @@ fn dissolve<C: Callbacks>(
 }
 
 /// Dissolves a provider that takes part in the group and does not live in its base.
-#[tactic(auto, using(crate::proofs::Below::stays_itself))]
+#[tactic(auto, using(node_groups::proofs::KeepLaws::stays_itself))]
 fn dissolve_if<C: Callbacks>(
     core: &mut Core,
     clients: &mut Vec<C>,
@@ -204,7 +204,7 @@ fn dissolve_each<C: Callbacks>(
 }
 
 /// Dissolves those of a group's list, members and then running joiners, that do not live in the group's base.
-#[tactic(auto, using(crate::proofs::Below::stays_itself, crate::proofs::Below::stays_then))]
+#[tactic(auto, using(node_groups::proofs::KeepLaws::stays_itself, node_groups::proofs::KeepLaws::stays_then))]
 fn dissolve_group<C: Callbacks>(
     core: &mut Core,
     clients: &mut Vec<C>,

@@ -1,15 +1,15 @@
 //! How the view of an install is entered.
 ghost use Rattle.std.specs.Prelude.{◌≡◌, ◌++◌, ◌∷◌, OnOk, IfOk, IsTrue, Some, map};
-ghost use Rattle.group_leading.specs.session_clients.Clients.{KeepsScripts};
-ghost use Rattle.group_leading.specs.rsct_packet.Format.{EachFits};
-ghost use Rattle.group_leading.specs.name_server.Names.{names_differ};
-ghost use Rattle.group_leading.specs.view_state.Bases.{bases_of};
-ghost use Rattle.group_leading.specs.entry_delivery.Doing.{RowDoes};
-ghost use Rattle.group_leading.specs.node_groups.Keeps.{Keeps};
+ghost use Rattle.session_clients.specs.Clients.{KeepsScripts};
+ghost use Rattle.rsct_packet.specs.Format.{EachFits};
+ghost use Rattle.name_server.specs.Names.{names_differ};
+ghost use Rattle.view_state.specs.Bases.{bases_of};
+ghost use Rattle.entry_delivery.specs.Doing.{RowDoes};
+ghost use Rattle.node_groups.specs.Keeps.{Keeps};
 ghost use Rattle.group_leading.specs.Working.{AtWork};
-ghost use Rattle.group_leading.specs.node_state.State.{InNameOrder, recorded_all};
-ghost use Rattle.group_leading.specs.node_state.Applying.{base_row, base_leader, base_record, view_entered, taken_sent, owed_sent, lead_groups, apply_install};
-ghost use Rattle.group_leading.specs.node_state.declared.happened.Happened.TheVariants as happened;
+ghost use Rattle.node_state.specs.State.{InNameOrder, recorded_all};
+ghost use Rattle.node_state.specs.Applying.{base_row, base_leader, base_record, view_entered, taken_sent, owed_sent, lead_groups, apply_install};
+ghost use Rattle.node_state.specs.declared.happened.Happened.TheVariants as happened;
 ghost use Rattle.node_views.specs.Carried.{IsSound};
 ghost use Rattle.node_views.specs.Arriving.{base_at, arrived};
 
@@ -18,15 +18,15 @@ use crate::dissolved::dissolve_sides;
 use crate::led_groups::lead_groups;
 use crate::missing_entries::fill;
 use crate::notes::note_bases;
-use group_leading::client_callbacks::Callbacks;
-use group_leading::name_server::Names;
-use group_leading::node_sending::{send, view_level};
-use group_leading::node_state::{Body, Core, Groups, Happened, Records};
-use group_leading::rsct_packet::{List, NoMemory, ViewId};
-use group_leading::view_state::{Base, Install, ViewPacket};
+use client_callbacks::Callbacks;
+use name_server::Names;
 use node_owed::{send_requests, send_votes_again};
+use node_sending::{send, view_level};
+use node_state::{Body, Core, Groups, Happened, Records};
+use rsct_packet::{List, NoMemory, ViewId};
 use std::alloc::Global;
 use std::mem;
+use view_state::{Base, Install, ViewPacket};
 
 /// The record of a base at a node in a view.
 fn base_record(alloc: Global, node: u8, view: ViewId, base: &Base) -> Result<Happened, NoMemory>
@@ -60,7 +60,7 @@ fn record_bases(
 }
 
 /// Records that the node enters its view, and the bases.
-#[tactic(auto, unfolding(crate::proofs::Below::recorded_all, crate::proofs::Below::base_record), using(std::proofs::lemmas::Grind::common_steps))]
+#[tactic(auto, unfolding(node_state::specs::State::recorded_all, node_state::specs::Applying::base_record), using(std::proofs::lemmas::Grind::common_steps))]
 fn record_entry(core: &mut Core, alloc: Global, bases: &[Base]) -> Result<(), NoMemory>
     ensures { OnOk result (core.new ≡ recorded_all core.old
         (happened.In core.old.views.me core.old.views.view core.old.views.members
@@ -76,7 +76,7 @@ fn record_entry(core: &mut Core, alloc: Global, bases: &[Base]) -> Result<(), No
 }
 
 /// Enters the view: lists, leaders, names and what was led start anew. It gives the rows of the old view.
-#[tactic(auto, unfolding(crate::proofs::Below::view_entered, crate::proofs::Below::level_set, crate::proofs::Below::views_entered))]
+#[tactic(auto, unfolding(node_state::specs::Applying::view_entered, node_state::specs::Applying::level_set, view_state::specs::Views::views_entered))]
 fn start_anew(
     core: &mut Core,
     alloc: Global,
@@ -98,7 +98,7 @@ fn start_anew(
 }
 
 /// TAKEN to the coordinator, if it is another node.
-#[tactic(auto, unfolding(crate::proofs::Below::taken_sent), using(crate::proofs::Below::sent_keeps, crate::proofs::Below::keeps_itself))]
+#[tactic(auto, unfolding(node_state::specs::Applying::taken_sent), using(node_groups::proofs::KeepLaws::sent_keeps, node_groups::proofs::KeepLaws::keeps_itself))]
 fn send_taken(core: &mut Core) -> Result<(), NoMemory>
     ensures row { OnOk result (core.new ≡ taken_sent core.old) }
     ensures keeps { OnOk result (Keeps core.old core.new) }
@@ -112,7 +112,7 @@ fn send_taken(core: &mut Core) -> Result<(), NoMemory>
 }
 
 /// Outstanding requests and kept ballots are sent.
-#[tactic(auto, unfolding(crate::proofs::Below::owed_sent), using(crate::proofs::Below::keeps_then))]
+#[tactic(auto, unfolding(node_state::specs::Applying::owed_sent), using(node_groups::proofs::KeepLaws::keeps_then))]
 fn send_owed(core: &mut Core, alloc: Global) -> Result<(), NoMemory>
     ensures row { OnOk result (core.new ≡ owed_sent core.old) }
     ensures keeps { OnOk result (Keeps core.old core.new) }

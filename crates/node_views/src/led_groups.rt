@@ -1,24 +1,24 @@
 //! The groups that the node leads in the view that it enters.
 ghost use Rattle.std.specs.Prelude.{◌≡◌, OnOk, IfOk, filter};
-ghost use Rattle.group_leading.specs.session_clients.Clients.{KeepsScripts};
+ghost use Rattle.session_clients.specs.Clients.{KeepsScripts};
 ghost use Rattle.std.specs.List.{fold};
-ghost use Rattle.group_leading.specs.rsct_packet.Providers.{among};
-ghost use Rattle.group_leading.specs.entry_delivery.Doing.{RowDoes};
+ghost use Rattle.rsct_packet.specs.Providers.{among};
+ghost use Rattle.entry_delivery.specs.Doing.{RowDoes};
 ghost use Rattle.group_leading.specs.Working.{AtWork};
-ghost use Rattle.group_leading.specs.node_groups.Keeps.{Keeps};
-ghost use Rattle.group_leading.specs.node_state.State.{state_of};
-ghost use Rattle.group_leading.specs.node_state.Applying.{wait_failed, phase_reopened, lead, lead_groups};
+ghost use Rattle.node_groups.specs.Keeps.{Keeps};
+ghost use Rattle.node_state.specs.State.{state_of};
+ghost use Rattle.node_state.specs.Applying.{wait_failed, phase_reopened, lead, lead_groups};
 
-use group_leading::client_callbacks::Callbacks;
-use group_leading::node_groups::{led_groups, state_of, wait_failure};
-use group_leading::node_state::Core;
-use group_leading::proposal_core::{Cause, GroupState};
-use group_leading::rsct_packet::{Name, NoMemory, ProviderId, is_among};
+use client_callbacks::Callbacks;
 use group_leading::{close, open_tally};
+use node_groups::{led_groups, state_of, wait_failure};
+use node_state::Core;
+use proposal_core::{Cause, GroupState};
+use rsct_packet::{Name, NoMemory, ProviderId, is_among};
 use std::alloc::Global;
 
 /// These failed members wait.
-#[tactic(auto, unfolding(crate::proofs::Below::wait_failed), using(std::proofs::lemmas::List::Sums::fold_more, crate::proofs::Below::keeps_itself, crate::proofs::Below::keeps_then))]
+#[tactic(auto, unfolding(node_state::specs::Applying::wait_failed), using(std::proofs::lemmas::List::Sums::fold_more, node_groups::proofs::KeepLaws::keeps_itself, node_groups::proofs::KeepLaws::keeps_then))]
 fn wait_failed(
     core: &mut Core,
     alloc: Global,

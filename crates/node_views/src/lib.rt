@@ -10,7 +10,4 @@ mod notes;
 mod own_lists;
 mod packets;
 
-pub use group_leading::{group_attr, proposal_core};
-pub use node_rings;
 pub use packets::{take_order, take_view, tick_views};
-pub use view_core;

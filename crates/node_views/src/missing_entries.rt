@@ -1,24 +1,24 @@
 //! What the node's lists lack of those that an install carries of its old view.
 ghost use Rattle.std.specs.Prelude.{◌≡◌, OnOk, IfOk, None, map, is_some, option_copied};
-ghost use Rattle.group_leading.specs.session_clients.Clients.{KeepsScripts};
-ghost use Rattle.group_leading.specs.entry_delivery.Doing.{RowDoes};
+ghost use Rattle.session_clients.specs.Clients.{KeepsScripts};
+ghost use Rattle.entry_delivery.specs.Doing.{RowDoes};
 ghost use Rattle.group_leading.specs.Working.{AtWork};
-ghost use Rattle.group_leading.specs.view_state.Bases.{source_at};
-ghost use Rattle.group_leading.specs.view_state.Cut.{lacking_of};
-ghost use Rattle.group_leading.specs.node_state.State.{list_of};
-ghost use Rattle.group_leading.specs.node_state.Leading.{put_and_hand};
-ghost use Rattle.group_leading.specs.node_state.Applying.{lacking_in, lacking, fill_lists};
+ghost use Rattle.view_state.specs.Bases.{source_at};
+ghost use Rattle.view_state.specs.Cut.{lacking_of};
+ghost use Rattle.node_state.specs.State.{list_of};
+ghost use Rattle.node_state.specs.Leading.{put_and_hand};
+ghost use Rattle.node_state.specs.Applying.{lacking_in, lacking, fill_lists};
 ghost use Rattle.node_views.specs.Filling.{lacking_at, all_lacking, list_filled, filled_if};
 
-use group_leading::client_callbacks::Callbacks;
-use group_leading::node_groups::{fits_at_end, list_of, new_list};
-use group_leading::node_state::Core;
-use group_leading::proposal_core::Entry;
+use client_callbacks::Callbacks;
 use group_leading::put_and_hand;
-use group_leading::rsct_packet::{Name, NoMemory, ViewId};
-use group_leading::view_state::{Install, Part, Source};
+use node_groups::{fits_at_end, list_of, new_list};
+use node_state::Core;
+use proposal_core::Entry;
+use rsct_packet::{Name, NoMemory, ViewId};
 use std::alloc::Global;
 use view_bases::lacking_of;
+use view_state::{Install, Part, Source};
 
 /// The entries that the list of a group lacks, as they stand in an install.
 #[derive(Clone, Copy)]
@@ -28,7 +28,7 @@ pub(crate) struct Missing<'a> {
 }
 
 /// What the group's list lacks up to the length of a part; none where it does not go on to the part.
-#[tactic(auto, unfolding(crate::proofs::Below::list_of))]
+#[tactic(auto, unfolding(node_state::specs::State::list_of))]
 fn missing_of<'a>(
     core: &Core,
     alloc: Global,
@@ -66,7 +66,7 @@ fn missing_in<'a>(
 }
 
 /// What an install carries of an old view.
-#[tactic(auto, unfolding(crate::proofs::Below::source_at))]
+#[tactic(auto, unfolding(view_state::specs::Bases::source_at))]
 fn source_of(sources: &[Source], view: ViewId) -> Option<&Source>
     ensures { option_copied result ≡ source_at sources.now view }
 {
@@ -74,7 +74,7 @@ fn source_of(sources: &[Source], view: ViewId) -> Option<&Source>
 }
 
 /// What the lists lack of those that the install carries of the node's view; none where one does not go on to it.
-#[tactic(auto, unfolding(crate::proofs::Below::lacking, crate::proofs::Below::lacking_in, crate::proofs::Below::parts_from))]
+#[tactic(auto, unfolding(node_state::specs::Applying::lacking, node_state::specs::Applying::lacking_in, view_state::specs::Bases::parts_from))]
 fn all_missing<'a>(
     core: &Core,
     alloc: Global,

@@ -1,29 +1,29 @@
 //! What subscribers are told at an install.
 ghost use Rattle.std.specs.Prelude.{◌≡◌, ◌++◌, ◌∷◌, [], OnOk, IfOk, None, find, length, map, option_copied};
-ghost use Rattle.group_leading.specs.session_clients.Clients.{KeepsScripts};
+ghost use Rattle.session_clients.specs.Clients.{KeepsScripts};
 ghost use Rattle.std.specs.List.{flat_map};
-ghost use Rattle.group_leading.specs.session_state.State.{is_session, client_place};
-ghost use Rattle.group_leading.specs.client_callbacks.declared.told.Told.TheVariants as told;
-ghost use Rattle.group_leading.specs.node_state.declared.happened.Happened.TheVariants as happened;
-ghost use Rattle.group_leading.specs.node_state.HandOn.{subscriber_name};
-ghost use Rattle.group_leading.specs.view_state.Bases.{base_named};
-ghost use Rattle.group_leading.specs.node_state.Applying.{entering_noted};
-ghost use Rattle.group_leading.specs.node_groups.Keeps.{Stays};
-ghost use Rattle.group_leading.specs.entry_delivery.Received.{Receive};
-ghost use Rattle.group_leading.specs.entry_delivery.Doing.{RowDoes};
+ghost use Rattle.session_state.specs.State.{is_session, client_place};
+ghost use Rattle.client_callbacks.specs.declared.told.Told.TheVariants as told;
+ghost use Rattle.node_state.specs.declared.happened.Happened.TheVariants as happened;
+ghost use Rattle.node_state.specs.HandOn.{subscriber_name};
+ghost use Rattle.view_state.specs.Bases.{base_named};
+ghost use Rattle.node_state.specs.Applying.{entering_noted};
+ghost use Rattle.node_groups.specs.Keeps.{Stays};
+ghost use Rattle.entry_delivery.specs.Received.{Receive};
+ghost use Rattle.entry_delivery.specs.Doing.{RowDoes};
 ghost use Rattle.node_views.specs.Arriving.{note_at, notes_at, handed_at, note_handings};
 
 use crate::dissolved::base_named;
-use group_leading::client_callbacks::{Callbacks, Told};
-use group_leading::group_attr::HOST_MEMBERSHIP;
-use group_leading::node_state::{Core, Happened, Records};
-use group_leading::rsct_packet::{List, Members, NoMemory, ViewId};
-use group_leading::session_clients::tell_at;
-use group_leading::session_delivery::client_place;
-use group_leading::session_state::{Session, SessionState};
-use group_leading::subscribe_core::{ClientToken, Subscription};
-use group_leading::view_state::Base;
+use client_callbacks::{Callbacks, Told};
+use group_attr::HOST_MEMBERSHIP;
+use node_state::{Core, Happened, Records};
+use rsct_packet::{List, Members, NoMemory, ViewId};
+use session_clients::tell_at;
+use session_delivery::client_place;
+use session_state::{Session, SessionState};
 use std::alloc::Global;
+use subscribe_core::{ClientToken, Subscription};
+use view_state::Base;
 
 /// What is told at a node of the view that it enters: its members, and what the groups begin with.
 #[derive(Clone, Copy)]
@@ -41,7 +41,7 @@ fn session_of(rows: &[Session], client: ClientToken) -> Option<&Session>
 }
 
 /// The name of a subscription's client; no bytes where it has no session.
-#[tactic(auto, unfolding(crate::proofs::Below::subscriber_name, crate::proofs::Below::client_name))]
+#[tactic(auto, unfolding(node_state::specs::HandOn::subscriber_name, session_state::specs::State::client_name))]
 fn subscriber_name(
     alloc: Global,
     sessions: &SessionState,
@@ -206,7 +206,7 @@ fn tell_all<C: Callbacks>(
 }
 
 /// Tells the clients of subscriptions who the hosts of the view are and what their groups begin with, oldest first.
-#[tactic(auto, unfolding(crate::proofs::Below::recorded_all), using(crate::proofs::ToldLaws::noted_stays))]
+#[tactic(auto, unfolding(node_state::specs::State::recorded_all), using(crate::proofs::ToldLaws::noted_stays))]
 pub(crate) fn note_bases<C: Callbacks>(
     core: &mut Core,
     clients: &mut Vec<C>,

@@ -1,15 +1,15 @@
 //! The node's own lists, as an answer carries them.
 ghost use Rattle.std.specs.Prelude.{◌≡◌, ◌∷◌, ◌++◌, [], count_by, is_some, IfOk, OnOk};
-ghost use Rattle.group_leading.specs.node_state.declared.group.GroupRow.{GroupRow};
-ghost use Rattle.group_leading.specs.node_state.Applying.{part_of_list};
+ghost use Rattle.node_state.specs.declared.group.GroupRow.{GroupRow};
+ghost use Rattle.node_state.specs.Applying.{part_of_list};
 ghost use Rattle.node_views.specs.Carried.{parts_of_rows};
 
-use group_leading::node_state::GroupRow;
-use group_leading::proposal_core::{Entry, GroupList};
-use group_leading::rsct_packet::{List, NoMemory};
-use group_leading::view_state::{Part, Parts};
+use node_state::GroupRow;
+use proposal_core::{Entry, GroupList};
+use rsct_packet::{List, NoMemory};
 use std::alloc::Global;
 use view_core::OwnLists;
+use view_state::{Part, Parts};
 
 /// The lists that stand in the rows of groups, read in place.
 #[derive(Drop)]
@@ -18,7 +18,7 @@ pub(crate) struct RowLists<'a> {
 }
 
 /// A copy of the entries that a list holds.
-#[tactic(auto, unfolding(crate::proofs::Below::entry_at), using(crate::proofs::ListLaws::entries_begin, crate::proofs::ListLaws::entry_more, crate::proofs::ListLaws::entries_end, std::proofs::lemmas::Grind::common_steps))]
+#[tactic(auto, unfolding(proposal_core::specs::Lists::entry_at), using(crate::proofs::ListLaws::entries_begin, crate::proofs::ListLaws::entry_more, crate::proofs::ListLaws::entries_end, std::proofs::lemmas::Grind::common_steps))]
 fn entries_of(alloc: Global, list: &GroupList) -> Result<List<Entry>, NoMemory>
     ensures { IfOk result (λ l. l ≡ list.now.entries) }
 {
@@ -34,7 +34,7 @@ fn entries_of(alloc: Global, list: &GroupList) -> Result<List<Entry>, NoMemory>
 }
 
 /// A list of a group, as an answer carries it.
-#[tactic(auto, unfolding(crate::proofs::Below::part_of_list))]
+#[tactic(auto, unfolding(node_state::specs::Applying::part_of_list))]
 fn part_of(alloc: Global, row: &GroupRow, list: &GroupList) -> Result<Part, NoMemory>
     ensures { IfOk result (λ p. p ≡ part_of_list row.now list.now) }
 {

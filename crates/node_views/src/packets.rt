@@ -1,28 +1,28 @@
 //! What the rows of views make of a node.
 ghost use Rattle.std.specs.Prelude.{◌≡◌, OnOk, IfOk};
-ghost use Rattle.group_leading.specs.session_clients.Clients.{KeepsScripts};
+ghost use Rattle.session_clients.specs.Clients.{KeepsScripts};
 ghost use Rattle.std.specs.List.{fold};
-ghost use Rattle.group_leading.specs.entry_delivery.Doing.{RowDoes};
+ghost use Rattle.entry_delivery.specs.Doing.{RowDoes};
 ghost use Rattle.group_leading.specs.Working.{AtWork};
 ghost use Rattle.view_core.specs.Steps.{view_stepped};
-ghost use Rattle.group_leading.specs.view_state.declared.packet.ViewSend.{ViewSend};
-ghost use Rattle.group_leading.specs.node_state.declared.packet.Body.TheVariants as body;
-ghost use Rattle.group_leading.specs.node_state.Sending.{sent};
-ghost use Rattle.group_leading.specs.node_state.Applying.{own_parts, views_taken};
-ghost use Rattle.group_leading.specs.node_state.Step.{take_order};
-ghost use Rattle.group_leading.specs.node_state.Ticks.{tick_views};
+ghost use Rattle.view_state.specs.declared.packet.ViewSend.{ViewSend};
+ghost use Rattle.node_state.specs.declared.packet.Body.TheVariants as body;
+ghost use Rattle.node_state.specs.Sending.{sent};
+ghost use Rattle.node_state.specs.Applying.{own_parts, views_taken};
+ghost use Rattle.node_state.specs.Step.{take_order};
+ghost use Rattle.node_state.specs.Ticks.{tick_views};
 ghost use Rattle.node_views.specs.Arriving.{views_sent};
 
 use crate::entry::apply;
 use crate::own_lists::RowLists;
-use group_leading::client_callbacks::Callbacks;
-use group_leading::node_sending::{is_fixed, send};
-use group_leading::node_state::{Body, Core};
-use group_leading::rsct_packet::{Mask, NoMemory};
-use group_leading::view_state::{Install, ViewSend, ViewSends};
+use client_callbacks::Callbacks;
 use node_rings::ring_ask;
+use node_sending::{is_fixed, send};
+use node_state::{Body, Core};
+use rsct_packet::{Mask, NoMemory};
 use std::alloc::Global;
 use view_core::{ViewEvent, ViewOut};
+use view_state::{Install, ViewSend, ViewSends};
 
 /// Sends what an event of views sends.
 #[tactic(auto, using(std::proofs::lemmas::Grind::common_steps))]
@@ -37,7 +37,7 @@ fn send_each(core: &mut Core, sends: ViewSends) -> Result<(), NoMemory>
 }
 
 /// Takes an event of views, and gives the install that is to be applied.
-#[tactic(auto, unfolding(crate::specs::Arriving::views_sent, crate::proofs::Below::own_parts, crate::proofs::Below::held_rows))]
+#[tactic(auto, unfolding(crate::specs::Arriving::views_sent, node_state::specs::Applying::own_parts, node_state::specs::State::held_rows))]
 fn step(core: &mut Core, alloc: Global, event: ViewEvent<'_>) -> Result<Option<Install>, NoMemory>
     ensures install { IfOk result (λ o. o ≡ (view_stepped core.old.views event.entry
         (own_parts core.old)).install) }

@@ -2,8 +2,8 @@
 //! with none it does so a thousand times and prints the counts alone.
 #![tactic(auto)]
 
-use packet_bodies::rsct_packet::{Head, NoMemory, Packet, ViewId, write_head2};
 use packet_bodies::{Ack, GroupRef, put_ack, read_ack};
+use rsct_packet::{Head, NoMemory, Packet, ViewId, write_head2};
 use std::time::Instant;
 use std::{env, io};
 
@@ -15,7 +15,7 @@ const BODY: u32 = 16;
 const COPIED: u32 = 0;
 
 /// An ACK of the group `db` at this length, at level 2 in domain 1.
-#[tactic(auto, unfolding(crate::proofs::Below::is_head))]
+#[tactic(auto, unfolding(rsct_packet::specs::Packet::is_head))]
 fn write(out: &mut Vec<u8>, len: u32) -> Result<(), NoMemory> {
     out.clear();
     let head = Head {

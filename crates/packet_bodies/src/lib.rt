@@ -13,7 +13,6 @@ pub use body::{
 };
 pub use group::{GroupRef, put_group, read_group};
 pub use reply::{Reply, put_reply, read_reply};
-pub use rsct_packet;
 pub use writing::{
     put_ack, put_death, put_gone, put_leader, put_prepare, put_query, put_refuse, put_report,
     put_ring_mask,

@@ -3,36 +3,36 @@ use Rattle.std.proofs.Common.{◌≡◌, ℕ, ◌<◌, ◌≤◌, Bool, true, fa
 use Rattle.std.specs.Prelude.{IsTrue, ◌&&◌, ◌==◌, nat_le}
 use Rattle.std.specs.Option.{option_map}
 use Rattle.std.specs.Int.{w8, w32}
-use Rattle.node_state.specs.rsct_packet.declared.ids.ProviderId.{ProviderId}
-use Rattle.node_state.specs.rsct_packet.Reading.{both_at, made_at, decoded_at, number_at, optional_at}
-use Rattle.node_state.specs.rsct_packet.Format.{IsFormat, IsVariant}
-use Rattle.node_state.specs.rsct_packet.Fields.{u8_text, u32_text, IsU32, IsProvider, provider_at, provider_text}
-use Rattle.node_state.specs.rsct_packet.Packet.{is_kind, is_network, is_sender, is_level, is_head, is_front, PacketView, IsPacket, packet_text}
-use Rattle.node_state.proofs.rsct_packet_laws.FormatLaws.{both_format, decoded_format, fits_format, optional_format, choice_format, keyed_of, or_variant, no_variant, made_variant, plain_variant, u8_format, u16_format, u32_format}
+use Rattle.rsct_packet.specs.declared.ids.ProviderId.{ProviderId}
+use Rattle.rsct_packet.specs.Reading.{both_at, made_at, decoded_at, number_at, optional_at}
+use Rattle.rsct_packet.specs.Format.{IsFormat, IsVariant}
+use Rattle.rsct_packet.specs.Fields.{u8_text, u32_text, IsU32, IsProvider, provider_at, provider_text}
+use Rattle.rsct_packet.specs.Packet.{is_kind, is_network, is_sender, is_level, is_head, is_front, PacketView, IsPacket, packet_text}
+use Rattle.rsct_packet.proofs.FormatLaws.{both_format, decoded_format, fits_format, optional_format, choice_format, keyed_of, or_variant, no_variant, made_variant, plain_variant, u8_format, u16_format, u32_format}
 use Rattle.std.proofs.lemmas.Bool.{leb-true}
-use Rattle.node_state.proofs.rsct_packet_laws.FieldLaws.{and_true, bytes_format, mask_format, ring_format, view_format, provider_format, proto_format}
-use Rattle.node_state.proofs.rsct_packet_laws.PacketLaws.{packet_again}
-use Rattle.node_state.specs.packet_bodies.declared.body.Query.{Query}
-use Rattle.node_state.specs.packet_bodies.Group.{GroupIn, IsGroup, group_at, group_text, reply_at}
-use Rattle.node_state.specs.packet_bodies.Body.{whole_of, query_at, query_text, what_code, ring_mask_text, death_text, prepare_text, refuse_text, leader_text, ack_text, gone_text}
-use Rattle.node_state.proofs.packet_bodies_laws.BodyLaws.{ring_mask_format, death_format, report_format, prepare_format, refuse_format, group_format, leader_format, ack_format, gone_format, query_format}
-use Rattle.node_state.specs.group_attr.declared.attrs.Phases.{Phases}
-use Rattle.node_state.specs.group_attr.Codec.{phases_at, phases_number}
-use Rattle.view_exchange.proofs.group_codec_laws.AttrFormat.{phases_format}
-use Rattle.node_state.proofs.group_attr_laws.Chosen.{chosen, not_chosen}
-use Rattle.node_state.specs.proposal_core.declared.entry.Vote.{Vote}
-use Rattle.node_state.specs.proposal_core.declared.entry.Vote.TheVariants as vote
-use Rattle.node_state.specs.proposal_core.declared.proposal.Proposal.{Proposal}
-use Rattle.node_state.specs.proposal_core.ProposalCodec.{proposal_at, proposal_text, IsProposal}
-use Rattle.view_exchange.proofs.group_codec_laws.ProposalFormat.{proposal_format}
-use Rattle.view_exchange.proofs.group_codec_laws.EntryFormat.{entry_format}
+use Rattle.rsct_packet.proofs.FieldLaws.{and_true, bytes_format, mask_format, ring_format, view_format, provider_format, proto_format}
+use Rattle.rsct_packet.proofs.PacketLaws.{packet_again}
+use Rattle.packet_bodies.specs.declared.body.Query.{Query}
+use Rattle.packet_bodies.specs.Group.{GroupIn, IsGroup, group_at, group_text, reply_at}
+use Rattle.packet_bodies.specs.Body.{whole_of, query_at, query_text, what_code, ring_mask_text, death_text, prepare_text, refuse_text, leader_text, ack_text, gone_text}
+use Rattle.packet_bodies.proofs.BodyLaws.{ring_mask_format, death_format, report_format, prepare_format, refuse_format, group_format, leader_format, ack_format, gone_format, query_format}
+use Rattle.group_attr.specs.declared.attrs.Phases.{Phases}
+use Rattle.group_attr.specs.Codec.{phases_at, phases_number}
+use Rattle.group_codec.proofs.AttrFormat.{phases_format}
+use Rattle.group_attr.proofs.Chosen.{chosen, not_chosen}
+use Rattle.proposal_core.specs.declared.entry.Vote.{Vote}
+use Rattle.proposal_core.specs.declared.entry.Vote.TheVariants as vote
+use Rattle.proposal_core.specs.declared.proposal.Proposal.{Proposal}
+use Rattle.proposal_core.specs.ProposalCodec.{proposal_at, proposal_text, IsProposal}
+use Rattle.group_codec.proofs.ProposalFormat.{proposal_format}
+use Rattle.group_codec.proofs.EntryFormat.{entry_format}
 use Rattle.view_exchange.proofs.Formats.{answer_format, install_format}
-use Rattle.node_state.specs.adapter_ring.declared.packet.RingPacket.{RingPacket}
-use Rattle.node_state.specs.adapter_ring.declared.packet.RingPacket.TheVariants as ring
-use Rattle.node_state.specs.client_callbacks.declared.told.Why.{Why}
-use Rattle.node_state.specs.client_callbacks.declared.told.Why.TheVariants as why
-use Rattle.node_state.specs.view_state.declared.packet.ViewPacket.{ViewPacket}
-use Rattle.node_state.specs.view_state.declared.packet.ViewPacket.TheVariants as view
+use Rattle.adapter_ring.specs.declared.packet.RingPacket.{RingPacket}
+use Rattle.adapter_ring.specs.declared.packet.RingPacket.TheVariants as ring
+use Rattle.client_callbacks.specs.declared.told.Why.{Why}
+use Rattle.client_callbacks.specs.declared.told.Why.TheVariants as why
+use Rattle.view_state.specs.declared.packet.ViewPacket.{ViewPacket}
+use Rattle.view_state.specs.declared.packet.ViewPacket.TheVariants as view
 use Rattle.node_state.specs.declared.packet.Body.{Body}
 use Rattle.node_state.specs.declared.packet.Body.TheVariants as body
 use Rattle.node_state.specs.declared.packet.Packet.{Packet}

@@ -2,12 +2,12 @@
 use Rattle.std.proofs.Common.{◌≡◌, ℕ, List, [], ◌∷◌, ◌++◌, Option, Some, None, refl, sym, ap, ◌∙◌, append-nil}
 use Rattle.std.specs.Option.{option_map}
 use Rattle.std.specs.Int.{w32}
-use Rattle.node_state.specs.rsct_packet.Reading.{◌>>=◌, number_at, both_at, made_at}
-use Rattle.node_state.specs.rsct_packet.Format.{IsFormat}
-use Rattle.node_state.specs.proposal_core.declared.entry.Entry.{Entry}
-use Rattle.node_state.specs.proposal_core.EntryCodec.{whole, entry_front_at}
-use Rattle.node_state.specs.packet_bodies.Group.{GroupIn, group_at}
-use Rattle.node_state.specs.packet_bodies.Body.{whole_of}
+use Rattle.rsct_packet.specs.Reading.{◌>>=◌, number_at, both_at, made_at}
+use Rattle.rsct_packet.specs.Format.{IsFormat}
+use Rattle.proposal_core.specs.declared.entry.Entry.{Entry}
+use Rattle.proposal_core.specs.EntryCodec.{whole, entry_front_at}
+use Rattle.packet_bodies.specs.Group.{GroupIn, group_at}
+use Rattle.packet_bodies.specs.Body.{whole_of}
 use Rattle.node_state.specs.declared.packet.Body.TheVariants as body
 use Rattle.node_state.specs.Bodies.{entry_of_parts, entry_at}
 

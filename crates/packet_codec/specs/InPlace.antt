@@ -1,9 +1,9 @@
 -- The packet that a packet in place stands for.
 use Rattle.std.specs.Prelude.{option_copied}
-use Rattle.view_exchange.specs.group_codec.InPlace.{proposal_in}
-use Rattle.view_exchange.specs.group_codec.InPlace.{entry_in}
+use Rattle.group_codec.specs.InPlace.{proposal_in}
+use Rattle.group_codec.specs.InPlace.{entry_in}
 use Rattle.view_exchange.specs.SourcesInPlace.{install_in}
-use Rattle.node_state.specs.view_state.declared.packet.ViewPacket.TheVariants as view
+use Rattle.view_state.specs.declared.packet.ViewPacket.TheVariants as view
 use Rattle.node_state.specs.declared.packet.Body.{Body}
 use Rattle.node_state.specs.declared.packet.Body.TheVariants as body
 use Rattle.node_state.specs.declared.packet.Packet.{Packet}

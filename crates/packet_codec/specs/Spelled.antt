@@ -1,19 +1,19 @@
 -- Which packets have a spelling.
 use Rattle.std.specs.Prelude.{◌==◌, length, IsTrue}
-use Rattle.node_state.specs.rsct_packet.Format.{OptionFits}
-use Rattle.node_state.specs.rsct_packet.Fields.{IsU16, IsU32, IsMask, IsRing, IsView, IsProvider, IsProto, AreShort}
-use Rattle.node_state.specs.rsct_packet.Packet.{is_head, is_level, DomainFits}
-use Rattle.node_state.specs.packet_bodies.Group.{IsGroup}
-use Rattle.node_state.specs.packet_bodies.Body.{IsRingMask, IsDeath, IsReport, IsPrepare, IsRefuse, IsLeader, IsAck, IsGone}
-use Rattle.node_state.specs.proposal_core.ProposalCodec.{IsProposal}
-use Rattle.node_state.specs.proposal_core.EntryCodec.{IsEntry}
-use Rattle.node_state.specs.view_state.Codec.{IsAnswer, IsInstall}
-use Rattle.node_state.specs.adapter_ring.declared.packet.RingPacket.{RingPacket}
-use Rattle.node_state.specs.adapter_ring.declared.packet.RingPacket.TheVariants as ring
-use Rattle.node_state.specs.client_callbacks.declared.told.Why.{Why}
-use Rattle.node_state.specs.client_callbacks.declared.told.Why.TheVariants as why
-use Rattle.node_state.specs.view_state.declared.packet.ViewPacket.{ViewPacket}
-use Rattle.node_state.specs.view_state.declared.packet.ViewPacket.TheVariants as view
+use Rattle.rsct_packet.specs.Format.{OptionFits}
+use Rattle.rsct_packet.specs.Fields.{IsU16, IsU32, IsMask, IsRing, IsView, IsProvider, IsProto, AreShort}
+use Rattle.rsct_packet.specs.Packet.{is_head, is_level, DomainFits}
+use Rattle.packet_bodies.specs.Group.{IsGroup}
+use Rattle.packet_bodies.specs.Body.{IsRingMask, IsDeath, IsReport, IsPrepare, IsRefuse, IsLeader, IsAck, IsGone}
+use Rattle.proposal_core.specs.ProposalCodec.{IsProposal}
+use Rattle.proposal_core.specs.EntryCodec.{IsEntry}
+use Rattle.view_state.specs.Codec.{IsAnswer, IsInstall}
+use Rattle.adapter_ring.specs.declared.packet.RingPacket.{RingPacket}
+use Rattle.adapter_ring.specs.declared.packet.RingPacket.TheVariants as ring
+use Rattle.client_callbacks.specs.declared.told.Why.{Why}
+use Rattle.client_callbacks.specs.declared.told.Why.TheVariants as why
+use Rattle.view_state.specs.declared.packet.ViewPacket.{ViewPacket}
+use Rattle.view_state.specs.declared.packet.ViewPacket.TheVariants as view
 use Rattle.node_state.specs.declared.packet.Body.{Body}
 use Rattle.node_state.specs.declared.packet.Body.TheVariants as body
 use Rattle.node_state.specs.declared.packet.Packet.{Packet}

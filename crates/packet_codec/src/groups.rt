@@ -1,20 +1,18 @@
 //! The bodies of a view's groups.
 ghost use Rattle.std.specs.Prelude.{◌≡◌, Option, option_map, option_copied};
-ghost use Rattle.node_state.specs.rsct_packet.Reading.{Gives};
+ghost use Rattle.rsct_packet.specs.Reading.{Gives};
 ghost use Rattle.node_state.specs.Bodies.{body_at, has_phases, request_at, why_at, why_data_at, tell_at, vote_of, vote_at};
-ghost use Rattle.node_state.specs.packet_bodies.Body.{whole_of};
+ghost use Rattle.packet_bodies.specs.Body.{whole_of};
 ghost use Rattle.packet_codec.specs.InPlace.{body_in};
-ghost use Rattle.view_exchange.specs.group_codec.InPlace.{proposal_in};
+ghost use Rattle.group_codec.specs.InPlace.{proposal_in};
 
 use crate::packet::BodyRef;
-use node_state::client_callbacks::Why;
-use node_state::group_attr::Phases;
-use node_state::packet_bodies::{read_ack, read_gone, read_group, read_leader, read_lookup};
-use node_state::proposal_core::{Entry, Vote};
-use node_state::rsct_packet::{
-    read_optional_bytes, read_proto, read_provider, read_u8, read_u16, read_u32,
-};
-use view_exchange::group_codec::{ProposalRef, read_entry, read_phases, read_proposal};
+use client_callbacks::Why;
+use group_attr::Phases;
+use group_codec::{ProposalRef, read_entry, read_phases, read_proposal};
+use packet_bodies::{read_ack, read_gone, read_group, read_leader, read_lookup};
+use proposal_core::{Entry, Vote};
+use rsct_packet::{read_optional_bytes, read_proto, read_provider, read_u8, read_u16, read_u32};
 
 /// What was read, where nothing is left after it.
 fn whole<'a>(read: Option<(BodyRef<'a>, &'a [u8])>) -> Option<BodyRef<'a>>

@@ -13,10 +13,6 @@ mod writable_packets;
 mod writing;
 
 pub use laws::packets_are_read_again;
-pub use node_state;
-pub use node_state::{adapter_ring, client_callbacks, packet_bodies, rsct_packet, session_state};
 pub use packet::{BodyRef, PacketRef};
-pub use view_exchange;
-pub use view_exchange::group_codec;
 pub use writable_packets::is_writable;
 pub use writing::{head_of, write_packet};

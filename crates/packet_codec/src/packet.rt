@@ -12,13 +12,13 @@ use crate::rings::{
     query_body, reply_body, report_body,
 };
 use crate::views::{answer_body, install_body, prepare_body, refuse_body, taken_body};
-use node_state::adapter_ring::RingPacket;
-use node_state::client_callbacks::Why;
-use node_state::group_attr::Phases;
-use node_state::packet_bodies::{Ack, Gone, GroupRef, Leader, Query, Reply, ReportRow};
-use node_state::proposal_core::Vote;
-use node_state::rsct_packet::{Listed, Mask, Packet, ProtoId, ProviderId, ViewId};
-use view_exchange::group_codec::{EntryRef, ProposalRef};
+use adapter_ring::RingPacket;
+use client_callbacks::Why;
+use group_attr::Phases;
+use group_codec::{EntryRef, ProposalRef};
+use packet_bodies::{Ack, Gone, GroupRef, Leader, Query, Reply, ReportRow};
+use proposal_core::Vote;
+use rsct_packet::{Listed, Mask, Packet, ProtoId, ProviderId, ViewId};
 use view_exchange::{AnswerRef, InstallRef};
 
 /// What a packet says, where it stands: lists, texts and entries are parts of the datagram.

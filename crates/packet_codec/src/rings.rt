@@ -4,8 +4,8 @@ ghost use Rattle.node_state.specs.Bodies.{body_at};
 ghost use Rattle.packet_codec.specs.InPlace.{body_in};
 
 use crate::packet::BodyRef;
-use node_state::adapter_ring::RingPacket;
-use node_state::packet_bodies::{
+use adapter_ring::RingPacket;
+use packet_bodies::{
     read_death, read_mask_body, read_query, read_reply, read_report, read_ring_body, read_ring_mask,
 };
 

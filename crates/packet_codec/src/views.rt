@@ -4,8 +4,8 @@ ghost use Rattle.node_state.specs.Bodies.{body_at};
 ghost use Rattle.packet_codec.specs.InPlace.{body_in};
 
 use crate::packet::BodyRef;
-use node_state::packet_bodies::{read_prepare, read_refuse, read_view_body};
-use node_state::rsct_packet::read_view;
+use packet_bodies::{read_prepare, read_refuse, read_view_body};
+use rsct_packet::read_view;
 use view_exchange::{AnswerRef, InstallRef};
 
 #[tactic(auto, unfolding(node_state::specs::Bodies::body_at), using(crate::proofs::WholeLaws::whole_made))]

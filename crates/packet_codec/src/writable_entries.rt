@@ -1,21 +1,21 @@
 //! Proposals and entries that have a spelling.
 ghost use Rattle.std.specs.Prelude.{◌≡◌, ◌<◌, ◌^◌, IsTrue, length};
 ghost use Rattle.std.specs.List.{list_any};
-ghost use Rattle.node_state.specs.rsct_packet.Format.{EachFits, OptionFits};
-ghost use Rattle.node_state.specs.rsct_packet.Fields.{IsProto, IsU16, IsU32};
-ghost use Rattle.node_state.specs.rsct_packet.Text.{IsName};
-ghost use Rattle.node_state.specs.proposal_core.declared.proposal.Proposal.TheVariants.{Join};
-ghost use Rattle.node_state.specs.group_attr.Codec.{IsAttrs};
-ghost use Rattle.node_state.specs.proposal_core.ProposalCodec.{same_failure, failures_differ, are_failures, IsFailure, IsFallen, IsProposal};
-ghost use Rattle.node_state.specs.view_state.Codec.{IsSizedEntry};
-ghost use Rattle.node_state.specs.proposal_core.EntryCodec.{IsRow, IsClosed, IsEntry, entry_text};
+ghost use Rattle.rsct_packet.specs.Format.{EachFits, OptionFits};
+ghost use Rattle.rsct_packet.specs.Fields.{IsProto, IsU16, IsU32};
+ghost use Rattle.rsct_packet.specs.Text.{IsName};
+ghost use Rattle.proposal_core.specs.declared.proposal.Proposal.TheVariants.{Join};
+ghost use Rattle.group_attr.specs.Codec.{IsAttrs};
+ghost use Rattle.proposal_core.specs.ProposalCodec.{same_failure, failures_differ, are_failures, IsFailure, IsFallen, IsProposal};
+ghost use Rattle.view_state.specs.Codec.{IsSizedEntry};
+ghost use Rattle.proposal_core.specs.EntryCodec.{IsRow, IsClosed, IsEntry, entry_text};
 
 use crate::writable_ids::{
     are_some_providers, is_optional_text, is_place, is_proto, is_provider, is_request, is_text,
 };
-use node_state::group_attr::Attrs;
-use node_state::proposal_core::{Closed, Entry, Failure, Proposal, Row};
-use node_state::rsct_packet::{Name, ProtoId, Providers};
+use group_attr::Attrs;
+use proposal_core::{Closed, Entry, Failure, Proposal, Row};
+use rsct_packet::{Name, ProtoId, Providers};
 
 /// How many failures an entry has at most.
 const MAX_FAILURES: usize = 64;
@@ -169,7 +169,7 @@ pub fn is_entry(entry: &Entry) -> bool
 }
 
 /// Has the entry a spelling whose length 32 bits can count?
-#[tactic(auto, using(crate::proofs::Below::entry_length))]
+#[tactic(auto, using(group_codec::proofs::SizeLaws::entry_length))]
 pub fn is_sized_entry(entry: &Entry) -> bool
     ensures { IsTrue result → IsSizedEntry entry.now }
 {

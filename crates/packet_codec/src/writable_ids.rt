@@ -1,9 +1,9 @@
 //! Ids that have a spelling.
 ghost use Rattle.std.specs.Prelude.{◌≡◌, IsTrue};
-ghost use Rattle.node_state.specs.rsct_packet.Format.{EachFits, OptionFits};
-ghost use Rattle.node_state.specs.rsct_packet.Fields.{AreShort, IsMember, IsProto, IsProvider, IsProviders, IsRing, IsSomeProviders, IsMask, IsU32, IsView};
+ghost use Rattle.rsct_packet.specs.Format.{EachFits, OptionFits};
+ghost use Rattle.rsct_packet.specs.Fields.{AreShort, IsMember, IsProto, IsProvider, IsProviders, IsRing, IsSomeProviders, IsMask, IsU32, IsView};
 
-use node_state::rsct_packet::{
+use rsct_packet::{
     MAX_TEXT, Mask, Member, ProtoId, ProviderId, Providers, RingId, Text, ViewId, is_node_number,
 };
 

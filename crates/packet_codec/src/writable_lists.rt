@@ -1,22 +1,20 @@
 //! States, lists and installs that have a spelling.
 ghost use Rattle.std.specs.Prelude.{◌≡◌, IsTrue, length, option_copied};
 ghost use Rattle.std.specs.List.{list_all};
-ghost use Rattle.node_state.specs.rsct_packet.Format.{EachFits, OptionFits};
-ghost use Rattle.node_state.specs.rsct_packet.Fields.{IsMember, IsProto, AreShort};
-ghost use Rattle.node_state.specs.proposal_core.Fold.{present, joiners_fit};
-ghost use Rattle.node_state.specs.rsct_packet.Providers.{among};
-ghost use Rattle.node_state.specs.proposal_core.StateCodec.{IsRunning, IsState, failed_are_present};
-ghost use Rattle.node_state.specs.view_state.Codec.{is_after, names_ascend, IsSizedEntry, IsPart, IsParts, views_ascend, is_after_view, IsSource, has_member, comes_from, comes_once, each_comes_once, members_ascend, IsInstall};
+ghost use Rattle.rsct_packet.specs.Format.{EachFits, OptionFits};
+ghost use Rattle.rsct_packet.specs.Fields.{IsMember, IsProto, AreShort};
+ghost use Rattle.proposal_core.specs.Fold.{present, joiners_fit};
+ghost use Rattle.rsct_packet.specs.Providers.{among};
+ghost use Rattle.proposal_core.specs.StateCodec.{IsRunning, IsState, failed_are_present};
+ghost use Rattle.view_state.specs.Codec.{is_after, names_ascend, IsSizedEntry, IsPart, IsParts, views_ascend, is_after_view, IsSource, has_member, comes_from, comes_once, each_comes_once, members_ascend, IsInstall};
 
 use crate::writable_entries::{are_attrs, is_proposal, is_sized_entry};
 use crate::writable_ids::{
     are_providers, is_mask, is_member, is_optional_text, is_proto, is_text, is_view,
 };
-use node_state::proposal_core::{Entry, GroupState, Proposal, Running};
-use node_state::rsct_packet::{
-    MAX_PROVIDERS, Member, ProtoId, ProviderId, ViewId, is_among, is_none_among,
-};
-use node_state::view_state::{Install, Part, Source};
+use proposal_core::{Entry, GroupState, Proposal, Running};
+use rsct_packet::{MAX_PROVIDERS, Member, ProtoId, ProviderId, ViewId, is_among, is_none_among};
+use view_state::{Install, Part, Source};
 
 /// How many parts, members or sources a list has at most.
 const MAX_PARTS: usize = 255;
@@ -63,7 +61,7 @@ fn is_optional_running(run: &Option<Running>) -> bool
 }
 
 /// Are the running joiners no members, and with the members at most 64?
-#[tactic(auto, unfolding(crate::proofs::Below::joiners_fit, crate::proofs::Below::joiners_fit_at, crate::proofs::Below::can_begin))]
+#[tactic(auto, unfolding(proposal_core::specs::Fold::joiners_fit, proposal_core::specs::Fold::joiners_fit_at, proposal_core::specs::Fold::can_begin))]
 fn do_joiners_fit(state: &GroupState) -> bool
     ensures { result ≡ joiners_fit state.now }
 {
@@ -81,7 +79,7 @@ fn do_joiners_fit(state: &GroupState) -> bool
 }
 
 /// Is the provider a member or a running joiner?
-#[tactic(auto, unfolding(crate::proofs::Below::present))]
+#[tactic(auto, unfolding(proposal_core::specs::Fold::present))]
 fn is_present(state: &GroupState, provider: ProviderId) -> bool
     ensures { result ≡ among (present state.now) provider }
 {
@@ -98,7 +96,7 @@ fn is_present(state: &GroupState, provider: ProviderId) -> bool
 }
 
 /// Are the failed members or running joiners?
-#[tactic(auto, unfolding(crate::proofs::Below::failed_are_present))]
+#[tactic(auto, unfolding(proposal_core::specs::StateCodec::failed_are_present))]
 fn are_failed_present(state: &GroupState) -> bool
     ensures { result ≡ failed_are_present state.now }
 {
@@ -281,7 +279,7 @@ fn comes_once(members: &[Member], sources: &[Source], node: u8) -> bool
     does_come(has_member(members, node), sources, node)
 }
 
-#[tactic(auto, unfolding(crate::proofs::Below::each_comes_once))]
+#[tactic(auto, unfolding(view_state::specs::Codec::each_comes_once))]
 fn does_each_come_once(members: &[Member], sources: &[Source]) -> bool
     ensures { result ≡ each_comes_once members.now sources.now }
 {

@@ -1,10 +1,10 @@
 //! Packets that have a spelling.
 ghost use Rattle.std.specs.Prelude.{◌≡◌, ◌==◌, IsTrue};
-ghost use Rattle.node_state.specs.rsct_packet.Fields.{AreShort, IsProto, IsProvider, IsU16};
-ghost use Rattle.node_state.specs.rsct_packet.Format.{EachFits, OptionFits};
-ghost use Rattle.node_state.specs.rsct_packet.Packet.{is_level, DomainFits};
-ghost use Rattle.node_state.specs.packet_bodies.Group.{IsGroup};
-ghost use Rattle.node_state.specs.packet_bodies.Body.{are_report_rows, IsReportRow, IsReport};
+ghost use Rattle.rsct_packet.specs.Fields.{AreShort, IsProto, IsProvider, IsU16};
+ghost use Rattle.rsct_packet.specs.Format.{EachFits, OptionFits};
+ghost use Rattle.rsct_packet.specs.Packet.{is_level, DomainFits};
+ghost use Rattle.packet_bodies.specs.Group.{IsGroup};
+ghost use Rattle.packet_bodies.specs.Body.{are_report_rows, IsReportRow, IsReport};
 ghost use Rattle.node_state.specs.Bodies.{has_phases};
 ghost use Rattle.packet_codec.specs.Spelled.{IsRingBody, IsViewBody, IsWhy, IsBody, IsWritable};
 
@@ -15,15 +15,15 @@ use crate::writable_ids::{
 };
 use crate::writable_lists::{are_parts, is_install};
 use crate::writing::head_of;
-use node_state::adapter_ring::RingPacket;
-use node_state::client_callbacks::Why;
-use node_state::group_attr::Phases;
-use node_state::proposal_core::Proposal;
-use node_state::rsct_packet::{
+use adapter_ring::RingPacket;
+use client_callbacks::Why;
+use group_attr::Phases;
+use node_state::{Body, Packet, ReportRow};
+use proposal_core::Proposal;
+use rsct_packet::{
     Name, ProtoId, ProviderId, Text, ViewId, is_group_kind, is_head, is_node_number,
 };
-use node_state::view_state::ViewPacket;
-use node_state::{Body, Packet, ReportRow};
+use view_state::ViewPacket;
 
 /// How many nodes there are.
 const LAST_NODE: u8 = 32;

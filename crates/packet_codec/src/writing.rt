@@ -1,34 +1,34 @@
 //! Writing packets: each is taken to the end of `out` by its one spelling.
 ghost use Rattle.std.specs.Prelude.{◌≡◌, ◌++◌, OnOk, OnErr, IfOk};
-ghost use Rattle.node_state.specs.rsct_packet.Fields.{u8_text, u16_text, u32_text, provider_text, proto_text, bytes_text, AreShort, IsNode};
-ghost use Rattle.node_state.specs.group_attr.Codec.{phases_number};
-ghost use Rattle.node_state.specs.proposal_core.ProposalCodec.{proposal_text, IsProposal};
-ghost use Rattle.node_state.specs.proposal_core.EntryCodec.{entry_text, IsEntry};
-ghost use Rattle.node_state.specs.rsct_packet.Format.{OptionFits, optional_text};
+ghost use Rattle.rsct_packet.specs.Fields.{u8_text, u16_text, u32_text, provider_text, proto_text, bytes_text, AreShort, IsNode};
+ghost use Rattle.group_attr.specs.Codec.{phases_number};
+ghost use Rattle.proposal_core.specs.ProposalCodec.{proposal_text, IsProposal};
+ghost use Rattle.proposal_core.specs.EntryCodec.{entry_text, IsEntry};
+ghost use Rattle.rsct_packet.specs.Format.{OptionFits, optional_text};
 ghost use Rattle.node_state.specs.Bodies.{why_code, why_data_text, vote_number, kind_of, ring_kind, view_kind, ring_body_text, view_body_text, named_text, body_text};
 ghost use Rattle.node_state.specs.Bytes.{head_of, bytes_of};
 ghost use Rattle.packet_codec.specs.Spelled.{IsRingBody, IsViewBody, IsWhy, IsBody, IsWritable, IsSpelled};
 
-use node_state::adapter_ring::RingPacket;
-use node_state::client_callbacks::Why;
-use node_state::group_attr::Phases;
-use node_state::packet_bodies::{
+use adapter_ring::RingPacket;
+use client_callbacks::Why;
+use group_attr::Phases;
+use group_codec::{phases_number, put_entry, put_proposal};
+use node_state::{Body, Packet};
+use packet_bodies::{
     Ack, Death, Gone, GroupRef, Leader, Prepare, Query, Refuse, RingMask, put_ack, put_death,
     put_gone, put_group, put_leader, put_prepare, put_query, put_refuse, put_reply, put_report,
     put_ring_mask,
 };
-use node_state::proposal_core::{Entry, Proposal, Vote, optional_bytes};
-use node_state::rsct_packet::{
+use proposal_core::{Entry, Proposal, Vote, optional_bytes};
+use rsct_packet::{
     Head, Name, NoMemory, ProtoId, ProviderId, Text, ViewId, put_mask, put_optional_bytes,
     put_proto, put_provider, put_ring, put_u8, put_u16, put_u32, put_view, write_head, write_head2,
 };
-use node_state::view_state::ViewPacket;
-use node_state::{Body, Packet};
 use std::alloc::Global;
-use view_exchange::group_codec::{phases_number, put_entry, put_proposal};
 use view_exchange::{put_answer, put_install};
+use view_state::ViewPacket;
 
-#[tactic(auto, unfolding(crate::proofs::Below::ring_mask_text, crate::proofs::Below::death_text))]
+#[tactic(auto, unfolding(packet_bodies::specs::Body::ring_mask_text, packet_bodies::specs::Body::death_text))]
 fn put_ring_packet(out: &mut Vec<u8>, packet: RingPacket) -> Result<(), NoMemory>
     requires { IsRingBody packet }
     ensures { OnOk result (out.new.items ≡ out.old.items ++ ring_body_text packet) }
@@ -44,7 +44,7 @@ fn put_ring_packet(out: &mut Vec<u8>, packet: RingPacket) -> Result<(), NoMemory
     }
 }
 
-#[tactic(auto, unfolding(crate::proofs::Below::prepare_text, crate::proofs::Below::refuse_text))]
+#[tactic(auto, unfolding(packet_bodies::specs::Body::prepare_text, packet_bodies::specs::Body::refuse_text))]
 fn put_view_packet(alloc: Global, out: &mut Vec<u8>, packet: &ViewPacket) -> Result<(), NoMemory>
     requires { IsViewBody packet.now }
     ensures { OnOk result (out.new.items ≡ out.old.items ++ view_body_text packet.now) }
@@ -216,7 +216,7 @@ fn put_voter(
 }
 
 /// The body of a packet.
-#[tactic(auto, unfolding(node_state::specs::Bodies::body_text, crate::proofs::Below::leader_text, crate::proofs::Below::ack_text, crate::proofs::Below::gone_text, crate::proofs::Below::query_text, crate::proofs::Below::reply_text))]
+#[tactic(auto, unfolding(node_state::specs::Bodies::body_text, packet_bodies::specs::Body::leader_text, packet_bodies::specs::Body::ack_text, packet_bodies::specs::Body::gone_text, packet_bodies::specs::Body::query_text, packet_bodies::specs::Group::reply_text))]
 fn put_body(alloc: Global, out: &mut Vec<u8>, body: &Body) -> Result<(), NoMemory>
     requires { IsBody body.now }
     ensures { OnOk result (out.new.items ≡ out.old.items ++ body_text body.now) }

@@ -1,13 +1,13 @@
 -- A heartbeat has a spelling.
 use Rattle.std.proofs.Common.{◌≡◌, refl, arith}
 use Rattle.std.specs.Prelude.{length}
-use Rattle.packet_codec.specs.rsct_packet.declared.ids.RingId.{RingId}
-use Rattle.packet_codec.specs.rsct_packet.Fields.{ring_text, u32_text}
-use Rattle.packet_codec.specs.rsct_packet.Packet.{is_head}
-use Rattle.packet_codec.specs.adapter_ring.declared.packet.RingPacket.TheVariants as ring
-use Rattle.packet_codec.specs.node_state.declared.packet.Body.TheVariants as body
-use Rattle.packet_codec.specs.node_state.declared.packet.Packet.{Packet}
-use Rattle.packet_codec.specs.node_state.Bodies.{body_text}
+use Rattle.rsct_packet.specs.declared.ids.RingId.{RingId}
+use Rattle.rsct_packet.specs.Fields.{ring_text, u32_text}
+use Rattle.rsct_packet.specs.Packet.{is_head}
+use Rattle.adapter_ring.specs.declared.packet.RingPacket.TheVariants as ring
+use Rattle.node_state.specs.declared.packet.Body.TheVariants as body
+use Rattle.node_state.specs.declared.packet.Packet.{Packet}
+use Rattle.node_state.specs.Bodies.{body_text}
 use Rattle.packet_codec.specs.Spelled.{IsSpelled}
 
 abbrev pub a_ring : RingId

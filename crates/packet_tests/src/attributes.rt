@@ -1,9 +1,9 @@
 //! Attributes: which are taken, and what is spelled.
-use packet_codec::group_codec::{put_attrs, read_attrs};
-use packet_codec::rsct_packet::Name;
+use group_attr::{AttrFault, Attrs, Batch, DefaultVote, Phases};
+use group_codec::{put_attrs, read_attrs};
+use rsct_packet::Name;
 use std::alloc::Global;
 use std::process::Abort;
-use view_bases::group_attr::{AttrFault, Attrs, Batch, DefaultVote, Phases};
 
 /// The spelling of the attributes of the test.
 const SPELLED: [u8; 12] = [2, 1, 3, 1, 44, 1, 0, 7, 0, 2, 100, 98];

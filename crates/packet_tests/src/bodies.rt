@@ -1,11 +1,11 @@
 //! Bodies of packets: bytes that were composed by hand.
-use packet_codec::packet_bodies::{
+use packet_bodies::{
     Ack, Death, Gone, GroupRef, Leader, Prepare, Query, Refuse, ReportRow, RingMask, What, put_ack,
     put_death, put_gone, put_group, put_leader, put_prepare, put_query, put_refuse, put_reply,
     put_report, put_ring_mask, read_ack, read_death, read_gone, read_leader, read_lookup,
     read_prepare, read_query, read_refuse, read_reply, read_report, read_ring_body, read_ring_mask,
 };
-use packet_codec::rsct_packet::{Mask, NoMemory, ProviderId, RingId, ViewId, put_ring};
+use rsct_packet::{Mask, NoMemory, ProviderId, RingId, ViewId, put_ring};
 use std::alloc::Global;
 
 const RING: RingId = RingId {

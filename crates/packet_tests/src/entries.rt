@@ -1,13 +1,13 @@
 //! The spelling of a proposal and of an entry of each kind, and the calls that take memory.
-ghost use Rattle.packet_codec.specs.rsct_packet.Fields.{AreShort};
-ghost use Rattle.view_bases.specs.proposal_core.ProposalCodec.{IsProposal};
-ghost use Rattle.view_bases.specs.proposal_core.EntryCodec.{IsEntry};
+ghost use Rattle.rsct_packet.specs.Fields.{AreShort};
+ghost use Rattle.proposal_core.specs.ProposalCodec.{IsProposal};
+ghost use Rattle.proposal_core.specs.EntryCodec.{IsEntry};
 
-use packet_codec::group_codec::{put_entry, put_proposal, read_entry, read_proposal};
-use packet_codec::rsct_packet::Text;
+use group_codec::{put_entry, put_proposal, read_entry, read_proposal};
+use proposal_core::{Entry, Proposal, copy_text, optional_bytes, optional_text_of};
+use rsct_packet::Text;
 use std::alloc::Global;
 use std::process::Abort;
-use view_bases::proposal_core::{Entry, Proposal, copy_text, optional_bytes, optional_text_of};
 
 // 1.1.1.1 joins with empty attributes, at length 7 of the source's list
 const JOIN: [u8; 28] = [

@@ -1,10 +1,10 @@
 //! Answers, installs and bases.
 use crate::samples::{FIRST, INSTALL, SECOND};
-use packet_codec::rsct_packet::{List, Mask, NoMemory};
-use packet_codec::view_exchange::{AnswerRef, add_answer, put_install, read_install};
+use rsct_packet::{List, Mask, NoMemory};
 use std::alloc::Global;
 use std::process::Abort;
-use view_bases::view_state::{Answer, Base, Exchange, Install};
+use view_exchange::{AnswerRef, add_answer, put_install, read_install};
+use view_state::{Answer, Base, Exchange, Install};
 
 /// From 1.1.1; one part, `db`, from its start on. Its state has the member 1.1.7.1, the empty value and one-phase
 /// attributes, and its one entry is a leave of that, decided at once, behind its length.

@@ -1,5 +1,5 @@
 //! Heads, fields and writers: that memory which is there is used, and bytes that were written elsewhere.
-use packet_codec::rsct_packet::{
+use rsct_packet::{
     Head, List, Mask, Member, Name, NoMemory, Packet, ProtoId, ProviderId, Providers, RingId, Text,
     ViewId, put_bytes, put_mask, put_member, put_name, put_optional_bytes, put_optional_proto,
     put_optional_u32, put_proto, put_provider, put_providers, put_ring, put_u8, put_u16, put_u32,
@@ -124,7 +124,7 @@ fn kinds_14_to_21_have_two_levels(rt: HostRuntime) {
 }
 
 /// Is the head of level 2 written as it was elsewhere?
-#[tactic(auto, unfolding(crate::proofs::Below::is_head))]
+#[tactic(auto, unfolding(rsct_packet::specs::Packet::is_head))]
 fn is_written_at_level_2(alloc: Global, kind: u8) -> Result<bool, NoMemory> {
     if kind < 14 || kind > 21 {
         return Ok(false);
@@ -149,7 +149,7 @@ fn heads_of_level_2_are_written(rt: HostRuntime) {
 }
 
 #[test]
-#[tactic(auto, unfolding(crate::proofs::Below::is_head))]
+#[tactic(auto, unfolding(rsct_packet::specs::Packet::is_head))]
 fn a_heartbeat_is_written(rt: HostRuntime) {
     let mut bytes = Vec::new(rt.alloc());
     write_head(&mut bytes, &HEAD, 9).expect(&rt, "memory");

@@ -1,12 +1,12 @@
 //! The spellings of states, and the calls that take memory.
-ghost use Rattle.view_bases.specs.proposal_core.StateCodec.{IsState};
+ghost use Rattle.proposal_core.specs.StateCodec.{IsState};
 
 use crate::entries::entry_of;
-use packet_codec::group_codec::{put_state, read_state};
-use packet_codec::rsct_packet::{ProviderId, ViewId};
+use group_codec::{put_state, read_state};
+use proposal_core::{Entry, GroupList, GroupState};
+use rsct_packet::{ProviderId, ViewId};
 use std::alloc::Global;
 use std::process::Abort;
-use view_bases::proposal_core::{Entry, GroupList, GroupState};
 
 const VIEW: ViewId = ViewId {
     number: 1,
@@ -58,7 +58,7 @@ const APPROVE: [u8; 31] = [
 ];
 
 /// The list of a group that nobody has joined.
-#[tactic(auto, unfolding(crate::proofs::Below::joiners_fit, crate::proofs::Below::joiners_fit_at))]
+#[tactic(auto, unfolding(proposal_core::specs::Fold::joiners_fit, proposal_core::specs::Fold::joiners_fit_at))]
 fn new_list(alloc: Global) -> GroupList {
     GroupList::new(alloc, GroupState::empty(alloc))
 }
@@ -103,7 +103,7 @@ fn states_are_spelled_and_read(rt: HostRuntime) {
 }
 
 /// The state of a group after its first entry.
-#[tactic(auto, unfolding(crate::proofs::Below::joiners_fit, crate::proofs::Below::joiners_fit_at))]
+#[tactic(auto, unfolding(proposal_core::specs::Fold::joiners_fit, proposal_core::specs::Fold::joiners_fit_at))]
 fn first_state(rt: &impl Abort, alloc: Global, entry: &Entry) -> GroupState {
     let mut s = GroupState::empty(alloc);
     assert!(rt; s.fits(entry));

@@ -1,8 +1,8 @@
 //! Whole packets: that memory which is there is used, and bytes composed by hand.
-use packet_codec::adapter_ring::RingPacket;
-use packet_codec::node_state::{Body, Packet};
-use packet_codec::rsct_packet::RingId;
+use adapter_ring::RingPacket;
+use node_state::{Body, Packet};
 use packet_codec::{BodyRef, PacketRef, write_packet};
+use rsct_packet::RingId;
 
 /// The heartbeat of node 2 to node 1 on network 1, in the ring `3.1.3`.
 const HEARTBEAT: [u8; 25] = [

@@ -1,5 +1,5 @@
 //! Views and bytes that the tests share.
-use packet_codec::rsct_packet::ViewId;
+use rsct_packet::ViewId;
 
 /// 1.1.1
 pub const FIRST: ViewId = ViewId {

@@ -2,14 +2,14 @@
 ghost use Rattle.std.specs.Prelude.{[]};
 
 use crate::samples::{FIRST, INSTALL, SECOND};
-use packet_codec::rsct_packet::{List, Mask, Member, NoMemory, ViewId};
-use packet_codec::view_exchange::{AnswerRef, read_install};
+use proposal_core::{GroupList, GroupState};
+use rsct_packet::{List, Mask, Member, NoMemory, ViewId};
 use std::alloc::Global;
 use std::process::Abort;
-use view_bases::proposal_core::{GroupList, GroupState};
-use view_bases::view_state::{Install, Parts, ViewPacket, Views};
 use view_bases::{group_at, lacking_of};
 use view_core::{OwnLists, ViewEvent, ViewOut, take_event};
+use view_exchange::{AnswerRef, read_install};
+use view_state::{Install, Parts, ViewPacket, Views};
 
 /// A node without lists.
 struct Nothing;
@@ -196,7 +196,7 @@ fn an_install_goes_out_until_it_is_taken(rt: HostRuntime) {
 }
 
 /// The list of a group that nobody has joined.
-#[tactic(auto, unfolding(crate::proofs::Below::joiners_fit, crate::proofs::Below::joiners_fit_at))]
+#[tactic(auto, unfolding(proposal_core::specs::Fold::joiners_fit, proposal_core::specs::Fold::joiners_fit_at))]
 fn new_list(alloc: Global) -> GroupList {
     GroupList::new(alloc, GroupState::empty(alloc))
 }

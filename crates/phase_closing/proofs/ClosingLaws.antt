@@ -4,10 +4,10 @@ use Rattle.std.specs.Prelude.{find}
 use Rattle.std.specs.Option.{option_or}
 use Rattle.std.proofs.Math.Seq.{take-suc}
 use Rattle.std.proofs.lemmas.List.{append-nil, at_drop_all}
-use Rattle.node_state.specs.rsct_packet.Providers.{same_provider}
-use Rattle.node_state.specs.proposal_core.declared.entry.Row.{Row}
-use Rattle.node_state.specs.vote_phases.declared.voter.Voter.{Voter}
-use Rattle.node_state.specs.vote_phases.Tally.{row_in, row_or, rows_of}
+use Rattle.rsct_packet.specs.Providers.{same_provider}
+use Rattle.proposal_core.specs.declared.entry.Row.{Row}
+use Rattle.vote_phases.specs.declared.voter.Voter.{Voter}
+use Rattle.vote_phases.specs.Tally.{row_in, row_or, rows_of}
 use Rattle.node_state.specs.declared.group.Given.{Given}
 use Rattle.node_state.specs.Leading.{carried_in, first_carried}
 

@@ -1,17 +1,17 @@
 //! The entry that closes a phase.
 ghost use Rattle.std.specs.Prelude.{◌≡◌, IfOk, Some, find, nat_le, option_copied};
-ghost use Rattle.node_state.specs.rsct_packet.Providers.{same_provider};
-ghost use Rattle.node_state.specs.proposal_core.Fold.{max_phases};
-ghost use Rattle.node_state.specs.vote_phases.Tally.{row_in, rows_of};
+ghost use Rattle.rsct_packet.specs.Providers.{same_provider};
+ghost use Rattle.proposal_core.specs.Fold.{max_phases};
+ghost use Rattle.vote_phases.specs.Tally.{row_in, rows_of};
 ghost use Rattle.node_state.specs.declared.group.Given.{Given};
 ghost use Rattle.node_state.specs.Leading.{carried_in, first_carried, value_of, closed_by, closing, closing_entry, is_phase};
 ghost use Rattle.phase_closing.specs.Parts.{part_of};
 
-use node_state::proposal_core::{Closed, Entry, Row, Rows, Running, Vote};
-use node_state::rsct_packet::{List, NoMemory, ProviderId, Text};
-use node_state::vote_phases::{Tally, Voter};
 use node_state::{Given, Led};
+use proposal_core::{Closed, Entry, Row, Rows, Running, Vote};
+use rsct_packet::{List, NoMemory, ProviderId, Text};
 use std::alloc::Global;
+use vote_phases::{Tally, Voter};
 
 /// The last phase of a protocol.
 const LAST_PHASE: u16 = 200;

@@ -1,14 +1,14 @@
 //! The tally of a phase.
 ghost use Rattle.std.specs.Prelude.{◌≡◌, IfOk, IsTrue};
 ghost use Rattle.std.specs.List.{fold};
-ghost use Rattle.node_state.specs.proposal_core.Fold.{joiners_fit};
+ghost use Rattle.proposal_core.specs.Fold.{joiners_fit};
 ghost use Rattle.node_state.specs.Leading.{limit_for, limit_of, fails_if, tally_for};
 
-use node_state::group_attr::Attrs;
-use node_state::proposal_core::{GroupState, Proposal, Running};
-use node_state::rsct_packet::{NoMemory, ProviderId, is_among};
-use node_state::vote_phases::Tally;
+use group_attr::Attrs;
+use proposal_core::{GroupState, Proposal, Running};
+use rsct_packet::{NoMemory, ProviderId, is_among};
 use std::alloc::Global;
+use vote_phases::Tally;
 
 /// The time limit of a proposal's phases, in ticks; 0 for none.
 #[tactic(auto, unfolding(node_state::specs::Leading::limit_for))]

@@ -2,7 +2,7 @@
 use Rattle.std.proofs.Common.{◌≡◌, Bool, true, false, cond, ◌||◌, List, [], ◌∷◌, map, refl, ap}
 use Rattle.std.specs.Prelude.{filter}
 use Rattle.std.specs.List.{list_any}
-use Rattle.world_packets.specs.world_model.Play.{Cut}
+use Rattle.world_model.specs.Play.{Cut}
 use Rattle.play_state.specs.declared.cuts.Cut as declared
 use Rattle.play_state.specs.Cuts.{cut_in}
 

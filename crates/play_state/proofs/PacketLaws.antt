@@ -2,12 +2,12 @@
 use Rattle.std.proofs.Common.{◌≡◌, ℕ, ◌+◌, ◌<◌, ◌≤◌, Bool, true, false, List, [], ◌∷◌, ◌++◌, map, Some, None, refl, sym, ap, ◌∙◌, arith}
 use Rattle.std.specs.Prelude.{fold, nat_lt}
 use Rattle.std.proofs.lemmas.Bool.{ltb-true, ltb-false}
-use Rattle.world_packets.specs.rsct_packet.Lists.{reverse_onto}
-use Rattle.world_packets.specs.node_state.declared.packet.Packet.{Packet}
-use Rattle.world_packets.specs.node_state.Bytes.{packet_len}
-use Rattle.world_packets.specs.world_model.World.{pairs_with, count_between, posted}
-use Rattle.world_packets.specs.world_model.World as world
-use Rattle.world_packets.specs.world_model.Kept.{Bytes, passed_if, with_packet}
+use Rattle.rsct_packet.specs.Lists.{reverse_onto}
+use Rattle.node_state.specs.declared.packet.Packet.{Packet}
+use Rattle.node_state.specs.Bytes.{packet_len}
+use Rattle.world_model.specs.World.{pairs_with, count_between, posted}
+use Rattle.world_model.specs.World as world
+use Rattle.world_model.specs.Kept.{Bytes, passed_if, with_packet}
 use Rattle.world_packets.specs.Packets.{Kept, world_pairs, waits_as, waits_next}
 use Rattle.play_state.specs.Posting.{bytes_after, PacketsStand}
 

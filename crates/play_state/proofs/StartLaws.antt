@@ -2,9 +2,9 @@
 use Rattle.std.proofs.Common.{◌≡◌, ℕ, suc, Bool, true, false, cond, List, [], ◌∷◌, ◌++◌, map, set, Option, Some, None, refl, ap}
 use Rattle.std.specs.Prelude.{find}
 use Rattle.std.specs.Option.{option_map}
-use Rattle.world_packets.specs.rsct_packet.Search.{place_where}
-use Rattle.world_packets.specs.world_model.World.{inc_in, starts_with}
-use Rattle.world_packets.specs.world_model.World as world
+use Rattle.rsct_packet.specs.Search.{place_where}
+use Rattle.world_model.specs.World.{inc_in, starts_with}
+use Rattle.world_model.specs.World as world
 use Rattle.play_state.specs.declared.starts.Started.{Started}
 use Rattle.play_state.specs.Starts.{is_start_of, is_start, started_in}
 

@@ -1,7 +1,7 @@
 -- Cuts as they are kept, and those of the definitions.
 use Rattle.std.specs.Prelude.{ℕ, Bool, not, Option, min, max}
 use Rattle.std.specs.List.{list_any}
-use Rattle.world_packets.specs.world_model.Play.{Cut, is_cut_of, networks_in}
+use Rattle.world_model.specs.Play.{Cut, is_cut_of, networks_in}
 use Rattle.play_state.specs.declared.cuts.Cut as declared
 
 abbrev pub cut_in : declared.Cut → Cut

@@ -1,8 +1,8 @@
 -- Packets that are sent in a world: those that are kept, and how many bytes they have.
 use Rattle.std.specs.Prelude.{◌≡◌, ℕ, List, map, fold, None}
-use Rattle.world_packets.specs.node_state.declared.packet.Packet.{Packet}
-use Rattle.world_packets.specs.world_model.World as world
-use Rattle.world_packets.specs.world_model.Kept.{Bytes, with_packet}
+use Rattle.node_state.specs.declared.packet.Packet.{Packet}
+use Rattle.world_model.specs.World as world
+use Rattle.world_model.specs.Kept.{Bytes, with_packet}
 use Rattle.world_packets.specs.Packets.{Kept, world_pairs, waits_as}
 
 -- the packets that are kept stand for all that were sent and for those that wait

@@ -1,6 +1,6 @@
 -- In which incarnations nodes started last, as it is kept and as the definitions have it.
 use Rattle.std.specs.Prelude.{ℕ, ◌==◌, Bool}
-use Rattle.world_packets.specs.world_model.World as world
+use Rattle.world_model.specs.World as world
 use Rattle.play_state.specs.declared.starts.Started.{Started}
 
 abbrev pub is_start_of : ℕ → Started → Bool

@@ -1,12 +1,12 @@
 //! Which nodes are cut off from each other.
 ghost use Rattle.std.specs.Prelude.{◌≡◌, [], ◌∷◌, ◌++◌, map, OnOk, filter};
 ghost use Rattle.std.specs.List.{list_any};
-ghost use Rattle.world_packets.specs.world_model.Play.{is_cut_of, networks_in, healed, with_cuts};
+ghost use Rattle.world_model.specs.Play.{is_cut_of, networks_in, healed, with_cuts};
 ghost use Rattle.play_state.specs.Cuts.{cut_in, cut_on, is_other};
 
+use rsct_packet::NoMemory;
 use std::alloc::Global;
 use std::marker::Model;
-use world_packets::rsct_packet::NoMemory;
 
 /// Two nodes that are cut off from each other on a network, the lesser one first.
 #[derive(Clone, Copy, Debug, PartialEq, Eq)]
@@ -24,7 +24,7 @@ pub struct Cuts {
 
 impl Model for Cuts {
     ghost use Rattle.std.specs.Prelude.{List, map};
-    ghost use Rattle.world_packets.specs.world_model.Play.{Cut};
+    ghost use Rattle.world_model.specs.Play.{Cut};
     ghost use Rattle.play_state.specs.Cuts.{cut_in};
 
     ghost Value = { List Cut };
@@ -35,7 +35,7 @@ impl Model for Cuts {
 const NETWORKS: [u8; 4] = [1, 2, 3, 4];
 
 /// Is it the cut of these two nodes on this network?
-#[tactic(auto, unfolding(crate::proofs::Below::is_cut_of))]
+#[tactic(auto, unfolding(world_model::specs::Play::is_cut_of))]
 fn is_cut_of(cut: Cut, first: u8, second: u8, network: u8) -> bool
     ensures { result ≡ is_cut_of first second network (cut_in cut) }
 {
@@ -43,7 +43,7 @@ fn is_cut_of(cut: Cut, first: u8, second: u8, network: u8) -> bool
 }
 
 /// Is it a cut of these two nodes on this network, or on any where none is named?
-#[tactic(auto, unfolding(crate::proofs::Below::networks_in))]
+#[tactic(auto, unfolding(world_model::specs::Play::networks_in))]
 fn is_cut_among(cut: Cut, first: u8, second: u8, network: Option<u8>) -> bool
     ensures { result ≡ list_any (λ k. is_cut_of first second k (cut_in cut)) (networks_in network) }
 {
@@ -111,7 +111,7 @@ impl Cuts {
     }
 
     /// Two nodes are cut off from each other, on the network or on all.
-    #[tactic(auto, unfolding(crate::proofs::Below::with_cuts, crate::proofs::Below::networks_in))]
+    #[tactic(auto, unfolding(world_model::specs::Play::with_cuts, world_model::specs::Play::networks_in))]
     pub fn cut(&mut self, first: u8, second: u8, network: Option<u8>) -> Result<(), NoMemory>
         ensures { OnOk result (self.new ≡ with_cuts self.old first second (networks_in network)) }
     {

@@ -13,5 +13,3 @@ pub use play_fault::{PlayFault, PutFault};
 pub use sent_bytes::post_all;
 pub use starts::{Started, Starts};
 pub use world_fault::WorldFault;
-pub use world_packets;
-pub use world_packets::world_model;

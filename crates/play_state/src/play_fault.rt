@@ -5,8 +5,8 @@ ghost use Rattle.play_state.specs.declared.play_fault.PutFault.TheVariants as pu
 ghost use Rattle.play_state.specs.declared.play_fault.PlayFault.TheVariants as play_fault;
 
 use crate::world_fault::WorldFault;
+use rsct_packet::NoMemory;
 use thiserror::Error;
-use world_packets::rsct_packet::NoMemory;
 
 /// Why a play ended early: the packets sent passed its limit, with this many bytes; the sink failed; or memory has
 /// run out.

@@ -1,15 +1,15 @@
 //! Packets that are sent, and how many bytes they have.
 ghost use Rattle.std.specs.Prelude.{◌≡◌, ◌+◌, ◌<◌, ◌≤◌, ℕ, OnOk, IsErrOf, Some, None};
 ghost use Rattle.std.specs.List.{fold};
-ghost use Rattle.world_packets.specs.world_model.World.{posted};
-ghost use Rattle.world_packets.specs.world_model.World as world;
-ghost use Rattle.world_packets.specs.world_model.Kept.{with_packet};
+ghost use Rattle.world_model.specs.World.{posted};
+ghost use Rattle.world_model.specs.World as world;
+ghost use Rattle.world_model.specs.Kept.{with_packet};
 ghost use Rattle.play_state.specs.Posting.{PacketsStand, bytes_after};
 
 use crate::world_fault::WorldFault;
+use node_state::Packet;
 use std::alloc::Global;
 use world_packets::WorldPackets;
-use world_packets::node_state::Packet;
 
 /// Counts the bytes of a packet, which may not pass the limit.
 #[tactic(auto, using(crate::proofs::PacketLaws::within_next, crate::proofs::PacketLaws::passes_next))]

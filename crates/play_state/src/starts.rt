@@ -1,12 +1,12 @@
 //! In which incarnations nodes started last.
 ghost use Rattle.std.specs.Prelude.{◌≡◌, [], map, find, OnOk, option_copied};
-ghost use Rattle.world_packets.specs.rsct_packet.Search.{place_where};
-ghost use Rattle.world_packets.specs.world_model.World.{inc_in, starts_with};
+ghost use Rattle.rsct_packet.specs.Search.{place_where};
+ghost use Rattle.world_model.specs.World.{inc_in, starts_with};
 ghost use Rattle.play_state.specs.Starts.{started_in, is_start_of, is_start};
 
+use rsct_packet::NoMemory;
 use std::alloc::Global;
 use std::marker::Model;
-use world_packets::rsct_packet::NoMemory;
 
 /// The incarnation in which a node started last.
 #[derive(Clone, Copy, Debug, PartialEq, Eq)]
@@ -36,7 +36,7 @@ fn start_of(starts: &[Started], node: u8) -> Option<&Started>
     starts.iter().find(|x| x.node == node)
 }
 
-#[tactic(auto, using(crate::proofs::Below::place_search))]
+#[tactic(auto, using(rsct_packet::proofs::SearchLaws::place_search))]
 fn place_of(starts: &[Started], node: u8) -> Option<usize>
     ensures { result ≡ place_where (is_start_of node) starts.now }
 {
@@ -70,7 +70,7 @@ impl Starts {
     }
 
     /// Notes that a node started in an incarnation.
-    #[tactic(auto, using(crate::proofs::StartLaws::noted_again, crate::proofs::StartLaws::noted_first, crate::proofs::Below::place_is_in, std::proofs::lemmas::Grind::common_steps))]
+    #[tactic(auto, using(crate::proofs::StartLaws::noted_again, crate::proofs::StartLaws::noted_first, rsct_packet::proofs::SearchLaws::place_is_in, std::proofs::lemmas::Grind::common_steps))]
     pub fn note(&mut self, node: u8, inc: u32) -> Result<(), NoMemory>
         ensures { OnOk result (map started_in self.new
             ≡ starts_with (map started_in self.old) node inc) }

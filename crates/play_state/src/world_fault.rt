@@ -2,7 +2,7 @@
 ghost use Rattle.std.specs.Prelude.{◌≡◌};
 ghost use Rattle.play_state.specs.declared.world_fault.WorldFault.TheVariants as fault;
 
-use world_packets::rsct_packet::NoMemory;
+use rsct_packet::NoMemory;
 
 /// Why what happens was not played: memory has run out, or the packets of the play have passed its limit, with this
 /// many bytes.

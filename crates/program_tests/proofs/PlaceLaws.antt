@@ -1,7 +1,7 @@
 -- One thing more that a client was handed.
 use Rattle.std.proofs.Common.{◌≡◌, ℕ, List, [], ◌∷◌, ◌++◌, refl, ap}
-use Rattle.hags_cli.specs.client_callbacks.declared.told.Told.{Told}
-use Rattle.hags_cli.specs.client_callbacks.Handed.{Handed, NoticeView, Notified, Informed}
+use Rattle.client_callbacks.specs.declared.told.Told.{Told}
+use Rattle.client_callbacks.specs.Handed.{Handed, NoticeView, Notified, Informed}
 use Rattle.program_tests.specs.Clients.{places_heard}
 
 pub heard_more : (hs : List Handed) (n : NoticeView) → places_heard (hs ++ Notified n ∷ []) ≡ places_heard hs ++ n.place ∷ []

@@ -1,6 +1,6 @@
 -- What clients of the tests keep of what they were handed.
 use Rattle.std.specs.Prelude.{ℕ, List, [], ◌∷◌}
-use Rattle.hags_cli.specs.client_callbacks.Handed.{Handed, Notified, Informed}
+use Rattle.client_callbacks.specs.Handed.{Handed, Notified, Informed}
 
 -- the places of the entries that were heard
 abbrev pub places_heard : List Handed → List ℕ

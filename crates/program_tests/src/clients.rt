@@ -2,15 +2,15 @@
 ghost use Rattle.std.specs.Prelude.{◌≡◌, None};
 ghost use Rattle.program_tests.specs.Clients.{places_heard};
 
-use hags_cli::client_callbacks::{Ballot, Callbacks, Made, Notice, Told, votes_word};
-use hags_cli::hags_io::MemSink;
-use hags_cli::net_script::{World, play_as};
-use hags_cli::proposal_core::Vote;
-use hags_cli::rsct_packet::{List, NoMemory};
-use hags_cli::script_reader::read_script;
-use hags_cli::transcript::Kinds;
+use client_callbacks::{Ballot, Callbacks, Made, Notice, Told, votes_word};
+use hags_io::MemSink;
+use net_script::{World, play_as};
+use proposal_core::Vote;
+use rsct_packet::{List, NoMemory};
+use script_reader::read_script;
 use std::alloc::Global;
 use std::test::Fail;
+use transcript::Kinds;
 
 /// A client that approves where a vote is asked for first, and rejects from then on, whatever its votes word says. It
 /// keeps the places that it heard.

@@ -1,10 +1,10 @@
 //! A play whose packets pass the limit.
-use hags_cli::hags_io::MemSink;
-use hags_cli::net_script::play;
-use hags_cli::play_state::PlayFault;
-use hags_cli::script_reader::read_script;
-use hags_cli::transcript::Kinds;
+use hags_io::MemSink;
+use net_script::play;
+use play_state::PlayFault;
+use script_reader::read_script;
 use std::test::Fail;
+use transcript::Kinds;
 
 const ONE_JOIN: &[u8] = b"mode fixed\nnode 1\nbegin\nclient 1 a A\njoin a db 7\nflow\n";
 

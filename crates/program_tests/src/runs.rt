@@ -1,6 +1,6 @@
 //! Runs of the whole program over sources and sinks in memory, with their statuses and faults.
 use hags_cli::hags;
-use hags_cli::hags_io::{MemSink, MemSource};
+use hags_io::{MemSink, MemSource};
 use std::alloc::{AllocError, Global};
 use std::test::Fail;
 

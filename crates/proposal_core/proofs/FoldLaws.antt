@@ -3,11 +3,11 @@ use Rattle.std.proofs.Common.{◌≡◌, ℕ, ◌+◌, ◌<◌, Bool, true, fals
 use Rattle.std.specs.Prelude.{IsTrue, ◌&&◌, ◌||◌, ◌++◌}
 use Rattle.std.proofs.lemmas.List.{take_more, map-append}
 use Rattle.std.proofs.lemmas.List.Folds.{list_any-append}
-use Rattle.group_attr.specs.rsct_packet.declared.ids.ProviderId.{ProviderId}
-use Rattle.group_attr.specs.rsct_packet.Providers.{same_provider, among, without_all}
-use Rattle.group_attr.proofs.rsct_packet_laws.ProviderLaws.{without_all-append}
+use Rattle.rsct_packet.specs.declared.ids.ProviderId.{ProviderId}
+use Rattle.rsct_packet.specs.Providers.{same_provider, among, without_all}
+use Rattle.rsct_packet.proofs.ProviderLaws.{without_all-append}
 use Rattle.proposal_core.specs.declared.proposal.Failure.{Failure}
-use Rattle.group_attr.specs.rsct_packet.declared.ids.ViewId.{ViewId}
+use Rattle.rsct_packet.specs.declared.ids.ViewId.{ViewId}
 use Rattle.group_attr.specs.declared.attrs.Attrs.{Attrs}
 use Rattle.proposal_core.specs.declared.proposal.Proposal.{Proposal}
 use Rattle.proposal_core.specs.declared.proposal.Proposal.TheVariants.{Join, Leave, Fail, Expel, State, Message, Attributes, Reflect}

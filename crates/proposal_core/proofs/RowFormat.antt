@@ -1,9 +1,9 @@
 -- What is read as a row is spelled so, and what is spelled so is read.
 use Rattle.std.proofs.Common.{◌≡◌, ℕ, ◌<◌, Some, refl, arith, eqb-true}
-use Rattle.group_attr.specs.rsct_packet.Format.{IsFormat}
-use Rattle.group_attr.specs.rsct_packet.Fields.{u8_text}
-use Rattle.group_attr.proofs.rsct_packet_laws.FormatLaws.{both_format, made_format, decoded_format, fits_format, u8_format}
-use Rattle.group_attr.proofs.rsct_packet_laws.FieldLaws.{provider_format}
+use Rattle.rsct_packet.specs.Format.{IsFormat}
+use Rattle.rsct_packet.specs.Fields.{u8_text}
+use Rattle.rsct_packet.proofs.FormatLaws.{both_format, made_format, decoded_format, fits_format, u8_format}
+use Rattle.rsct_packet.proofs.FieldLaws.{provider_format}
 use Rattle.group_attr.proofs.Chosen.{chosen, not_chosen}
 use Rattle.group_attr.specs.declared.attrs.DefaultVote.TheVariants as default_vote
 use Rattle.proposal_core.specs.declared.entry.Vote.TheVariants as vote

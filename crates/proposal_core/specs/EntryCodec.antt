@@ -1,11 +1,11 @@
 -- How entries are spelled.
 use Rattle.std.specs.Prelude.{ℕ, ◌==◌, IsTrue, is_none, List, [], ◌∷◌, ◌++◌, length, Option, Some, None, if◌then◌else◌}
 use Rattle.std.specs.Int.{w8, w16}
-use Rattle.group_attr.specs.rsct_packet.declared.ids.ProviderId.{ProviderId}
-use Rattle.group_attr.specs.rsct_packet.declared.ids.ProtoId.{ProtoId}
-use Rattle.group_attr.specs.rsct_packet.Reading.{number_at, both_at, made_at, decoded_at, guarded_at, keyed_at, counted_at, optional_at}
-use Rattle.group_attr.specs.rsct_packet.Format.{EachFits, OptionFits, counted_text, optional_text}
-use Rattle.group_attr.specs.rsct_packet.Fields.{u8_text, u16_text, bytes_at, bytes_text, AreShort, IsU8, IsU16, provider_at, provider_text, IsProvider, proto_at, proto_text, IsProto, some_providers_at, providers_text, IsSomeProviders}
+use Rattle.rsct_packet.specs.declared.ids.ProviderId.{ProviderId}
+use Rattle.rsct_packet.specs.declared.ids.ProtoId.{ProtoId}
+use Rattle.rsct_packet.specs.Reading.{number_at, both_at, made_at, decoded_at, guarded_at, keyed_at, counted_at, optional_at}
+use Rattle.rsct_packet.specs.Format.{EachFits, OptionFits, counted_text, optional_text}
+use Rattle.rsct_packet.specs.Fields.{u8_text, u16_text, bytes_at, bytes_text, AreShort, IsU8, IsU16, provider_at, provider_text, IsProvider, proto_at, proto_text, IsProto, some_providers_at, providers_text, IsSomeProviders}
 use Rattle.group_attr.specs.declared.attrs.DefaultVote.TheVariants as default_vote
 use Rattle.proposal_core.specs.declared.entry.Vote.TheVariants as vote
 use Rattle.proposal_core.specs.declared.entry.RowVote.{RowVote}

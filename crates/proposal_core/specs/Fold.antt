@@ -1,10 +1,10 @@
 -- What entries make of a group's state.
 use Rattle.std.specs.Prelude.{ℕ, Bool, true, false, ◌==◌, ◌&&◌, ◌+◌, ◌++◌, List, [], ◌∷◌, length, map, Option, Some, None, nat_lt, nat_le, is_none, if◌then◌else◌}
-use Rattle.group_attr.specs.rsct_packet.declared.ids.ProviderId.{ProviderId}
-use Rattle.group_attr.specs.rsct_packet.declared.ids.ViewId.{ViewId}
-use Rattle.group_attr.specs.rsct_packet.declared.ids.ProtoId.{ProtoId}
-use Rattle.group_attr.specs.rsct_packet.Ids.{same_proto}
-use Rattle.group_attr.specs.rsct_packet.Providers.{none_among, without_all}
+use Rattle.rsct_packet.specs.declared.ids.ProviderId.{ProviderId}
+use Rattle.rsct_packet.specs.declared.ids.ViewId.{ViewId}
+use Rattle.rsct_packet.specs.declared.ids.ProtoId.{ProtoId}
+use Rattle.rsct_packet.specs.Ids.{same_proto}
+use Rattle.rsct_packet.specs.Providers.{none_among, without_all}
 use Rattle.group_attr.specs.declared.attrs.Attrs.{Attrs}
 use Rattle.group_attr.specs.Attrs.{empty_attrs}
 use Rattle.proposal_core.specs.declared.proposal.Failure.{Failure}

@@ -1,6 +1,6 @@
 -- What a list is after any calls of put and forget_below.
 use Rattle.std.specs.Prelude.{◌≡◌, ℕ, suc, ◌≤◌, IsTrue, List, [], ◌∷◌, length, map, drop, sum_by, None, nat_lt, slice_get, if◌then◌else◌}
-use Rattle.group_attr.specs.rsct_packet.declared.ids.ViewId.{ViewId}
+use Rattle.rsct_packet.specs.declared.ids.ViewId.{ViewId}
 use Rattle.proposal_core.specs.declared.entry.Entry.{Entry}
 use Rattle.proposal_core.specs.declared.group_state.GroupState.{GroupState}
 use Rattle.proposal_core.specs.Fold.{fits, after}

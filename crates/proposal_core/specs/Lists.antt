@@ -1,7 +1,7 @@
 -- Groups' lists: what they hold, and what entries make of them.
 use Rattle.std.specs.Prelude.{ℕ, Bool, ◌&&◌, ◌||◌, ◌+◌, ◌-◌, ◌++◌, [], ◌∷◌, drop, max, Option, Some, None, nat_le, nat_lt, slice_get, if◌then◌else◌}
-use Rattle.group_attr.specs.rsct_packet.declared.ids.ViewId.{ViewId}
-use Rattle.group_attr.specs.rsct_packet.Ids.{last_u32}
+use Rattle.rsct_packet.specs.declared.ids.ViewId.{ViewId}
+use Rattle.rsct_packet.specs.Ids.{last_u32}
 use Rattle.proposal_core.specs.declared.entry.Entry.{Entry}
 use Rattle.proposal_core.specs.declared.group_state.GroupState.{GroupState}
 use Rattle.proposal_core.specs.Fold.{empty_state, fits, after}

@@ -2,11 +2,11 @@
 use Rattle.std.specs.Prelude.{ℕ, ◌≤◌, Bool, true, not, ◌==◌, ◌&&◌, nat_le, IsTrue, List, [], ◌∷◌, ◌++◌, length, Option, Some, None, if◌then◌else◌}
 use Rattle.std.specs.Int.{w8, w32}
 use Rattle.std.specs.List.{list_any}
-use Rattle.group_attr.specs.rsct_packet.declared.ids.ProviderId.{ProviderId}
-use Rattle.group_attr.specs.rsct_packet.Providers.{same_provider}
-use Rattle.group_attr.specs.rsct_packet.Reading.{number_at, both_at, made_at, decoded_at, guarded_at, keyed_at, counted_at, optional_at}
-use Rattle.group_attr.specs.rsct_packet.Format.{EachFits, OptionFits, counted_text, optional_text}
-use Rattle.group_attr.specs.rsct_packet.Fields.{u8_text, u32_text, bytes_at, bytes_text, AreShort, IsU32, view_at, view_text, IsView, provider_at, provider_text, IsProvider, some_providers_at, providers_text, IsSomeProviders}
+use Rattle.rsct_packet.specs.declared.ids.ProviderId.{ProviderId}
+use Rattle.rsct_packet.specs.Providers.{same_provider}
+use Rattle.rsct_packet.specs.Reading.{number_at, both_at, made_at, decoded_at, guarded_at, keyed_at, counted_at, optional_at}
+use Rattle.rsct_packet.specs.Format.{EachFits, OptionFits, counted_text, optional_text}
+use Rattle.rsct_packet.specs.Fields.{u8_text, u32_text, bytes_at, bytes_text, AreShort, IsU32, view_at, view_text, IsView, provider_at, provider_text, IsProvider, some_providers_at, providers_text, IsSomeProviders}
 use Rattle.group_attr.specs.Codec.{attrs_at, attrs_text, IsAttrs}
 use Rattle.proposal_core.specs.declared.proposal.Cause.{Cause}
 use Rattle.proposal_core.specs.declared.proposal.Cause.TheVariants.{Died, Gone, Cast}

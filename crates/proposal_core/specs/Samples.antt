@@ -1,8 +1,8 @@
 -- Entries and states for the worked examples of the fold.
 use Rattle.std.specs.Prelude.{ℕ, List, [], map, Option, None}
-use Rattle.group_attr.specs.rsct_packet.declared.ids.ProviderId.{ProviderId}
-use Rattle.group_attr.specs.rsct_packet.declared.ids.ViewId.{ViewId}
-use Rattle.group_attr.specs.rsct_packet.declared.ids.ProtoId.{ProtoId}
+use Rattle.rsct_packet.specs.declared.ids.ProviderId.{ProviderId}
+use Rattle.rsct_packet.specs.declared.ids.ViewId.{ViewId}
+use Rattle.rsct_packet.specs.declared.ids.ProtoId.{ProtoId}
 use Rattle.group_attr.specs.Attrs.{empty_attrs}
 use Rattle.proposal_core.specs.declared.proposal.Proposal.TheVariants.{Join}
 use Rattle.proposal_core.specs.declared.entry.Closed.{Closed}

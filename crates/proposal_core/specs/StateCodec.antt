@@ -2,12 +2,12 @@
 use Rattle.std.specs.Prelude.{ℕ, ◌≤◌, Bool, ◌&&◌, nat_le, IsTrue, List, ◌++◌, Option}
 use Rattle.std.specs.Int.{w16}
 use Rattle.std.specs.List.{list_all}
-use Rattle.group_attr.specs.rsct_packet.declared.ids.ProviderId.{ProviderId}
-use Rattle.group_attr.specs.rsct_packet.declared.ids.ProtoId.{ProtoId}
-use Rattle.group_attr.specs.rsct_packet.Providers.{among}
-use Rattle.group_attr.specs.rsct_packet.Reading.{number_at, both_at, made_at, guarded_at, optional_at}
-use Rattle.group_attr.specs.rsct_packet.Format.{OptionFits, optional_text}
-use Rattle.group_attr.specs.rsct_packet.Fields.{u16_text, bytes_at, bytes_text, AreShort, proto_at, proto_text, IsProto, providers_at, providers_text, IsProviders}
+use Rattle.rsct_packet.specs.declared.ids.ProviderId.{ProviderId}
+use Rattle.rsct_packet.specs.declared.ids.ProtoId.{ProtoId}
+use Rattle.rsct_packet.specs.Providers.{among}
+use Rattle.rsct_packet.specs.Reading.{number_at, both_at, made_at, guarded_at, optional_at}
+use Rattle.rsct_packet.specs.Format.{OptionFits, optional_text}
+use Rattle.rsct_packet.specs.Fields.{u16_text, bytes_at, bytes_text, AreShort, proto_at, proto_text, IsProto, providers_at, providers_text, IsProviders}
 use Rattle.group_attr.specs.declared.attrs.Attrs.{Attrs}
 use Rattle.group_attr.specs.Codec.{attrs_at, attrs_text, IsAttrs}
 use Rattle.proposal_core.specs.declared.proposal.Proposal.{Proposal}

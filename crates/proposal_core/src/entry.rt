@@ -4,7 +4,7 @@ ghost use Rattle.std.specs.Prelude.{◌≡◌, IfOk};
 use crate::proposal::Proposal;
 use crate::texts::copy_text;
 use group_attr::DefaultVote;
-use group_attr::rsct_packet::{List, NoMemory, ProtoId, ProviderId, Providers, Text};
+use rsct_packet::{List, NoMemory, ProtoId, ProviderId, Providers, Text};
 use std::alloc::Global;
 
 /// A vote in a phase.

@@ -1,12 +1,10 @@
 //! How a failure is spelled: the provider, and a byte for the cause.
 ghost use Rattle.std.specs.Prelude.{◌≡◌};
-ghost use Rattle.group_attr.specs.rsct_packet.Reading.{Gives};
+ghost use Rattle.rsct_packet.specs.Reading.{Gives};
 ghost use Rattle.proposal_core.specs.ProposalCodec.{cause_number, cause_at, failure_at, same_failure};
 
 use crate::proposal::{Cause, Failure};
-use group_attr::rsct_packet::{
-    Item, NoMemory, known, put_provider, put_u8, read_provider, read_u8,
-};
+use rsct_packet::{Item, NoMemory, known, put_provider, put_u8, read_provider, read_u8};
 
 fn cause_number(cause: Cause) -> u8
     ensures { result ≡ cause_number cause }
@@ -40,7 +38,7 @@ fn read_failure(bytes: &[u8]) -> Option<(Failure, &[u8])>
 }
 
 impl Item for Failure {
-    ghost use Rattle.group_attr.specs.rsct_packet.Fields.{IsNode};
+    ghost use Rattle.rsct_packet.specs.Fields.{IsNode};
     ghost use Rattle.proposal_core.specs.ProposalCodec.{failure_at, failure_text, IsFailure};
 
     ghost read_at = { failure_at };
@@ -51,7 +49,7 @@ impl Item for Failure {
 
     ghost can_put = { λ x. IsNode x.p.node };
 
-    #[tactic(auto, using(crate::proofs::Below::format_reads, crate::proofs::FailureFormat::failure_format))]
+    #[tactic(auto, using(rsct_packet::proofs::FormatLaws::format_reads, crate::proofs::FailureFormat::failure_format))]
     fn read(bytes: &[u8]) -> Option<(Failure, &[u8])> {
         read_failure(known(bytes))
     }

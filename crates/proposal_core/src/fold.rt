@@ -1,7 +1,7 @@
 //! What entries make of a group's state. What an entry brings is copied and room is taken before the state
 //! changes, so that want of memory leaves it as it was.
 ghost use Rattle.std.specs.Prelude.{◌≡◌, ◌∷◌, [], ◌<◌, length, IfOk, IfSome, OnOk, OnErr, IsTrue, take};
-ghost use Rattle.group_attr.specs.rsct_packet.Providers.{without_all};
+ghost use Rattle.rsct_packet.specs.Providers.{without_all};
 ghost use Rattle.proposal_core.specs.Fold.{fallen_of, without, can_begin, runs, fits, joiners_fit, effect, first_value, begun, take_value, approve, take_rejection, reject, next_phase, apply, replace_proposed, first_attrs, take_attrs, advance, apply_once};
 
 use crate::entry::{Closed, Entry};
@@ -9,7 +9,7 @@ use crate::group_state::{GroupState, Running};
 use crate::proposal::{Failure, Proposal};
 use crate::texts::copy_text;
 use group_attr::Attrs;
-use group_attr::rsct_packet::{
+use rsct_packet::{
     MAX_PROVIDERS, NoMemory, ProtoId, ProviderId, Providers, Text, ViewId, is_none_among,
 };
 use std::alloc::Global;

@@ -6,7 +6,7 @@ ghost use Rattle.proposal_core.specs.Lists.{has_room, with_entry, forgotten, ent
 
 use crate::entry::Entry;
 use crate::group_state::GroupState;
-use group_attr::rsct_packet::{NoMemory, ViewId};
+use rsct_packet::{NoMemory, ViewId};
 use std::alloc::Global;
 use std::collections::VecDeque;
 use std::marker::Model;

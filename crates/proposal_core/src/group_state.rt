@@ -6,7 +6,7 @@ use crate::fold::take_off_fallen;
 use crate::proposal::Proposal;
 use crate::texts::copy_text;
 use group_attr::Attrs;
-use group_attr::rsct_packet::{NoMemory, ProtoId, Providers, Text};
+use rsct_packet::{NoMemory, ProtoId, Providers, Text};
 use std::alloc::Global;
 
 /// A protocol that runs: its phase is from 1 to 200, and `proposed` is the value that its approval sets.

@@ -16,8 +16,6 @@ mod texts;
 
 pub use entry::{Closed, Entry, Row, RowVote, Rows, Vote};
 pub use failures::is_same_failure;
-pub use group_attr;
-pub use group_attr::rsct_packet;
 pub use group_list::GroupList;
 pub use group_state::{GroupState, Running};
 pub use laws::lists_are_folds;

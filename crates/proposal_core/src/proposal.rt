@@ -2,7 +2,7 @@
 ghost use Rattle.std.specs.Prelude.{◌≡◌, IfOk};
 
 use group_attr::Attrs;
-use group_attr::rsct_packet::{List, NoMemory, ProviderId, Providers, Text, ViewId};
+use rsct_packet::{List, NoMemory, ProviderId, Providers, Text, ViewId};
 use std::alloc::Global;
 
 /// Why a failure leave removes a provider: its node died, its client said goodbye, or its node has no

@@ -1,13 +1,11 @@
 //! How a row is spelled: the voter, and a byte for what stands for it.
 ghost use Rattle.std.specs.Prelude.{◌≡◌};
-ghost use Rattle.group_attr.specs.rsct_packet.Reading.{Gives};
+ghost use Rattle.rsct_packet.specs.Reading.{Gives};
 ghost use Rattle.proposal_core.specs.EntryCodec.{row_vote_number, row_vote_at, row_at};
 
 use crate::entry::{Row, RowVote, Vote};
 use group_attr::DefaultVote;
-use group_attr::rsct_packet::{
-    Item, NoMemory, known, put_provider, put_u8, read_provider, read_u8,
-};
+use rsct_packet::{Item, NoMemory, known, put_provider, put_u8, read_provider, read_u8};
 
 fn row_vote_number(vote: RowVote) -> u8
     ensures { result ≡ row_vote_number vote }
@@ -49,7 +47,7 @@ fn read_row(bytes: &[u8]) -> Option<(Row, &[u8])>
 }
 
 impl Item for Row {
-    ghost use Rattle.group_attr.specs.rsct_packet.Fields.{IsNode};
+    ghost use Rattle.rsct_packet.specs.Fields.{IsNode};
     ghost use Rattle.proposal_core.specs.EntryCodec.{row_at, row_text, IsRow};
 
     ghost read_at = { row_at };
@@ -60,7 +58,7 @@ impl Item for Row {
 
     ghost can_put = { λ x. IsNode x.p.node };
 
-    #[tactic(auto, using(crate::proofs::Below::format_reads, crate::proofs::RowFormat::row_format))]
+    #[tactic(auto, using(rsct_packet::proofs::FormatLaws::format_reads, crate::proofs::RowFormat::row_format))]
     fn read(bytes: &[u8]) -> Option<(Row, &[u8])> {
         read_row(known(bytes))
     }

@@ -5,7 +5,7 @@ ghost use Rattle.proposal_core.specs.Sizes.{attrs_len, text_option_len, proposal
 use crate::entry::{Closed, Entry};
 use crate::proposal::Proposal;
 use group_attr::Attrs;
-use group_attr::rsct_packet::Text;
+use rsct_packet::Text;
 
 fn text_len(text: &Text) -> u32
     ensures value { result ≡ 2 + length text.now }

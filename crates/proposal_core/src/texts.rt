@@ -1,9 +1,9 @@
 //! Texts that may be absent, and those of bytes.
 ghost use Rattle.std.specs.Prelude.{◌≡◌, IfOk, option_copied};
-ghost use Rattle.group_attr.specs.rsct_packet.Fields.{AreShort};
-ghost use Rattle.group_attr.specs.rsct_packet.Format.{OptionFits};
+ghost use Rattle.rsct_packet.specs.Fields.{AreShort};
+ghost use Rattle.rsct_packet.specs.Format.{OptionFits};
 
-use group_attr::rsct_packet::{NoMemory, Text};
+use rsct_packet::{NoMemory, Text};
 use std::alloc::Global;
 
 /// An equal text, or none.

@@ -1,2 +1,1 @@
 pub mod AckLaws
-pub use Rattle.rsct_packet.proofs as rsct_packet_laws

@@ -6,4 +6,3 @@ mod laws;
 
 pub use gather::Gather;
 pub use laws::closes_with_the_acknowledged;
-pub use rsct_packet;

@@ -1,7 +1,7 @@
 //! Votes, defaults and the outcome of a phase.
-use batch_rules::group_attr::DefaultVote;
-use batch_rules::proposal_core::{RowVote, Vote};
-use name_server::rsct_packet::{NoMemory, ProviderId};
+use group_attr::DefaultVote;
+use proposal_core::{RowVote, Vote};
+use rsct_packet::{NoMemory, ProviderId};
 use std::alloc::Global;
 use vote_phases::{Cast, Tally};
 

@@ -1,8 +1,8 @@
 //! What waits, and what begins next.
-use batch_rules::group_attr::Batch;
-use batch_rules::proposal_core::Cause;
 use batch_rules::{Added, Chosen, Waiting};
-use name_server::rsct_packet::ProviderId;
+use group_attr::Batch;
+use proposal_core::Cause;
+use rsct_packet::ProviderId;
 
 fn provider(node: u8) -> ProviderId {
     ProviderId {

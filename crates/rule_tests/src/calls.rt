@@ -1,15 +1,15 @@
 //! The calls of sessions whose clients always approve, with no clause: so the proof of a test that makes them sees
 //! types alone.
 use crate::hand::{first_provider, join_db, new_list};
-use batch_rules::group_attr::{Attrs, Phases};
-use batch_rules::proposal_core::Proposal;
+use client_callbacks::{SteadyClient, Why};
 use client_session::Sessions;
-use client_session::client_callbacks::{SteadyClient, Why};
-use client_session::session_state::{GsFault, MemberToken};
-use client_session::subscribe_core::ClientToken;
-use name_server::rsct_packet::{List, NoMemory, ProviderId};
+use group_attr::{Attrs, Phases};
+use proposal_core::Proposal;
+use rsct_packet::{List, NoMemory, ProviderId};
+use session_state::{GsFault, MemberToken};
 use std::alloc::Global;
 use std::process::Abort;
+use subscribe_core::ClientToken;
 
 /// Sessions of clients that always approve.
 pub type Steady = Sessions<SteadyClient>;

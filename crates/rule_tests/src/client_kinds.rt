@@ -1,12 +1,12 @@
 //! What no clause says: that the calls succeed where there is memory, and what each kind of client does.
 ghost use Rattle.std.specs.Prelude.{None};
 
-use batch_rules::proposal_core::{Entry, GroupState, Vote};
-use client_session::client_callbacks::{
+use client_callbacks::{
     Ballot, BoxedClient, Callbacks, DaemonClient, Made, Notice, ScriptClient, SteadyClient, Told,
     VoteItem, text_word, vote_word, votes_word,
 };
-use name_server::rsct_packet::{List, NoMemory, ProtoId, ProviderId, Providers, ViewId};
+use proposal_core::{Entry, GroupState, Vote};
+use rsct_packet::{List, NoMemory, ProtoId, ProviderId, Providers, ViewId};
 use std::alloc::Global;
 use std::process::Abort;
 

@@ -1,8 +1,8 @@
 //! The sessions of clients: each fault, beside the neighbour that is taken.
 use crate::calls::{Steady, answered, goodbye, init, join, letters, refused, taken};
 use crate::hand::sessions;
-use batch_rules::group_attr::Attrs;
-use client_session::session_state::{Field, GsFault};
+use group_attr::Attrs;
+use session_state::{Field, GsFault};
 use std::alloc::Global;
 
 /// A session with a name of so many bytes.

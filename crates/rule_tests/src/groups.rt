@@ -1,8 +1,8 @@
 //! Joins: each fault, beside the neighbour that is taken.
 use crate::calls::{Steady, answered, init, join, letters, refused};
 use crate::hand::sessions;
-use batch_rules::group_attr::{AttrFault, Attrs, HOST_MEMBERSHIP};
-use client_session::session_state::{Field, GsFault};
+use group_attr::{AttrFault, Attrs, HOST_MEMBERSHIP};
+use session_state::{Field, GsFault};
 use std::alloc::Global;
 
 /// The client joins a group with a name of so many bytes.

@@ -1,13 +1,13 @@
 //! Handing the entries of the group `db` on, with no clause.
-use batch_rules::group_attr::Attrs;
-use batch_rules::proposal_core::{Entry, GroupList, GroupState, Proposal};
+use client_callbacks::Callbacks;
 use client_session::Sessions;
-use client_session::client_callbacks::Callbacks;
-use client_session::session_state::{Casts, MemberToken};
-use client_session::subscribe_core::ClientToken;
-use name_server::rsct_packet::{List, Name, ProviderId, Providers, Text, ViewId};
+use group_attr::Attrs;
+use proposal_core::{Entry, GroupList, GroupState, Proposal};
+use rsct_packet::{List, Name, ProviderId, Providers, Text, ViewId};
+use session_state::{Casts, MemberToken};
 use std::alloc::Global;
 use std::process::Abort;
+use subscribe_core::ClientToken;
 
 const VIEW: ViewId = ViewId {
     number: 1,
@@ -21,7 +21,7 @@ pub fn sessions<C: Callbacks>(alloc: Global) -> Sessions<C> {
 }
 
 /// The list of a group that nobody has joined.
-#[tactic(auto, unfolding(crate::proofs::Below::joiners_fit, crate::proofs::Below::joiners_fit_at))]
+#[tactic(auto, unfolding(proposal_core::specs::Fold::joiners_fit, proposal_core::specs::Fold::joiners_fit_at))]
 pub fn new_list(alloc: Global) -> GroupList {
     GroupList::new(alloc, GroupState::empty(alloc))
 }

@@ -1,11 +1,11 @@
 //! The last numbers, which no test reaches by the calls of sessions alone.
 use crate::calls::{answered, refused};
-use batch_rules::group_attr::Attrs;
-use client_session::session_calls::{add_session, check_init};
-use client_session::session_state::{GsFault, Locals, SessionState};
-use client_session::subscribe_core::{ClientToken, Subs};
-use name_server::rsct_packet::List;
+use group_attr::Attrs;
+use rsct_packet::List;
+use session_calls::{add_session, check_init};
+use session_state::{GsFault, Locals, SessionState};
 use std::alloc::Global;
+use subscribe_core::{ClientToken, Subs};
 
 /// The state of a node of which one client's and one request's number are left.
 fn nearly_spent(alloc: Global) -> SessionState {
@@ -33,7 +33,7 @@ fn add(alloc: Global, sessions: &mut SessionState, name: &[u8]) -> Result<u32, G
 /// The client of the last number joins a group, and the provider's number is answered.
 fn join(alloc: Global, sessions: &mut SessionState, group: &[u8]) -> Result<u32, GsFault> {
     let t = ClientToken { n: u32::MAX };
-    let m = client_session::session_calls::join(sessions, alloc, t, group, 7, Attrs::empty())?;
+    let m = session_calls::join(sessions, alloc, t, group, 7, Attrs::empty())?;
     Ok(m.n)
 }
 

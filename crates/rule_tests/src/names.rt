@@ -1,6 +1,6 @@
 //! Who leads a group.
-use name_server::rsct_packet::{List, Name};
 use name_server::{Leader, Leaders, Names};
+use rsct_packet::{List, Name};
 use std::alloc::Global;
 use std::process::Abort;
 

@@ -4,10 +4,10 @@ use crate::calls::{
     leave, member, refused, send_message, taken,
 };
 use crate::hand::sessions;
-use batch_rules::group_attr::{AttrFault, Attrs};
-use batch_rules::proposal_core::Proposal;
-use client_session::session_state::{Field, GsFault};
-use name_server::rsct_packet::{List, NoMemory, ProviderId};
+use group_attr::{AttrFault, Attrs};
+use proposal_core::Proposal;
+use rsct_packet::{List, NoMemory, ProviderId};
+use session_state::{Field, GsFault};
 use std::alloc::Global;
 
 /// How many bytes the value or the message of the oldest request has.

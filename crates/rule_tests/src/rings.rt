@@ -1,6 +1,6 @@
 //! Two rings become one.
 use adapter_ring::{Ring, RingEvent, RingOut, RingPacket, RingSend, RingSet, RingSettings};
-use name_server::rsct_packet::{Mask, NoMemory, RingId};
+use rsct_packet::{Mask, NoMemory, RingId};
 use std::alloc::Global;
 
 const SETTINGS: RingSettings = RingSettings {

@@ -1,6 +1,6 @@
 //! What is due to a target of a source.
-use batch_rules::proposal_core::GroupState;
-use name_server::rsct_packet::{ProtoId, ProviderId, Providers, ViewId};
+use proposal_core::GroupState;
+use rsct_packet::{ProtoId, ProviderId, Providers, ViewId};
 use source_target::{Due, allowed, due};
 use std::alloc::Global;
 use std::process::Abort;

@@ -1,9 +1,9 @@
 //! The subscriptions of a group, which of them are noted, and which are refused.
-use batch_rules::proposal_core::GroupState;
-use client_session::subscribe_core::{ClientToken, SubFault, SubToken, Subs};
-use name_server::rsct_packet::{List, Text};
+use proposal_core::GroupState;
+use rsct_packet::{List, Text};
 use std::alloc::Global;
 use std::process::Abort;
+use subscribe_core::{ClientToken, SubFault, SubToken, Subs};
 
 /// Subscribes a client to a group, and answers the subscription's number.
 fn add(

@@ -1,13 +1,13 @@
 //! Subscriptions: each fault, beside the neighbour that is taken, and what is noted.
 use crate::calls::{Steady, answered, init, letters, refused, taken};
 use crate::hand::{sessions, value};
-use batch_rules::proposal_core::GroupState;
-use client_session::client_callbacks::{Told, Why};
-use client_session::session_state::{Field, GsFault};
-use client_session::subscribe_core::{ClientToken, SubToken};
-use name_server::rsct_packet::ProviderId;
+use client_callbacks::{Told, Why};
+use proposal_core::GroupState;
+use rsct_packet::ProviderId;
+use session_state::{Field, GsFault};
 use std::alloc::Global;
 use std::process::Abort;
+use subscribe_core::{ClientToken, SubToken};
 
 /// Subscribes the client to a group.
 fn ask(alloc: Global, steady: &mut Steady, group: &[u8], known: bool) -> Result<SubToken, GsFault> {

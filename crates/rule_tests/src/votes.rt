@@ -3,13 +3,13 @@ ghost use Rattle.std.specs.Prelude.{None};
 
 use crate::calls::{letters, refused, taken};
 use crate::hand::{hand_on, join_db, new_list, sessions, value};
-use batch_rules::proposal_core::{Entry, GroupList, Proposal, Vote};
-use client_session::Sessions;
-use client_session::client_callbacks::{
+use client_callbacks::{
     Ballot, BoxedClient, Callbacks, DaemonClient, Made, Notice, ScriptClient, Told,
 };
-use client_session::session_state::{Casts, Field, GsFault, MemberToken};
-use name_server::rsct_packet::{NoMemory, ProviderId};
+use client_session::Sessions;
+use proposal_core::{Entry, GroupList, Proposal, Vote};
+use rsct_packet::{NoMemory, ProviderId};
+use session_state::{Casts, Field, GsFault, MemberToken};
 use std::alloc::Global;
 use std::process::Abort;
 

@@ -1,12 +1,12 @@
 -- Bases: one for all nodes that enter a view, made of what its members brought.
 use Rattle.std.proofs.Common.{refl, Some, None, Option, ◌≡◌, ℕ, ◌<◌, ◌⊎◌, List, ◌∷◌, length, drop, Bool, true, false, sym, ap, ◌∙◌, subst, inl, inr, arith}
 use Rattle.std.specs.Prelude.{◌&&◌, not, ◌==◌}
-use Rattle.world_model.specs.rsct_packet.declared.ids.ViewId.{ViewId}
-use Rattle.world_model.specs.rsct_packet.declared.ids.Member.{Member}
-use Rattle.world_model.specs.rsct_packet.declared.ids.ProviderId.{ProviderId}
-use Rattle.world_model.specs.proposal_core.declared.entry.Entry.{Entry}
-use Rattle.world_model.specs.proposal_core.declared.group_state.GroupState.{GroupState}
-use Rattle.world_model.specs.rsct_packet.Search.{Has}
+use Rattle.rsct_packet.specs.declared.ids.ViewId.{ViewId}
+use Rattle.rsct_packet.specs.declared.ids.Member.{Member}
+use Rattle.rsct_packet.specs.declared.ids.ProviderId.{ProviderId}
+use Rattle.proposal_core.specs.declared.entry.Entry.{Entry}
+use Rattle.proposal_core.specs.declared.group_state.GroupState.{GroupState}
+use Rattle.rsct_packet.specs.Search.{Has}
 use Rattle.run_safety.specs.Past.{fold_from}
 use Rattle.run_safety.specs.ViewOrder.{is_same, Le}
 use Rattle.run_safety.specs.Group.{member, Standing, Reply, members_of, Origin, Packet, Answer, Install, In, Based, Line, Noted, kept, puts_from}
@@ -20,8 +20,8 @@ use Rattle.run_safety.proofs.Lines.{has_entered, note_entered, kept_entered}
 use Rattle.run_safety.proofs.Tests.{found_in, any_has, has_any, has_filter, has_front, same_self}
 use Rattle.std.specs.Prelude.{find, filter}
 use Rattle.std.proofs.lemmas.Bool.{and_parts, eqb-true, not-true}
-use Rattle.world_model.specs.rsct_packet.Providers.{among, same_provider}
-use Rattle.world_model.specs.proposal_core.Fold.{present}
+use Rattle.rsct_packet.specs.Providers.{among, same_provider}
+use Rattle.proposal_core.specs.Fold.{present}
 use Rattle.run_safety.proofs.Tracks.{was_many}
 
 pub record BasesOk (ps : List Packet) (all : List Line) (bases : Bases) : Type 0 where

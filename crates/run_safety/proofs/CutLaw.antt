@@ -1,9 +1,9 @@
 -- The cut is the longest list that a member held, and each that comes along has it.
 use Rattle.std.proofs.Common.{◌≤◌, ◌≡◌, ℕ, ◌⊎◌, List, [], length, sym, ap, ◌∙◌, subst, inl, inr, arith, length-append}
-use Rattle.world_model.specs.rsct_packet.declared.ids.ViewId.{ViewId}
-use Rattle.world_model.specs.rsct_packet.declared.ids.Member.{Member}
-use Rattle.world_model.specs.proposal_core.declared.entry.Entry.{Entry}
-use Rattle.world_model.specs.rsct_packet.Search.{Has}
+use Rattle.rsct_packet.specs.declared.ids.ViewId.{ViewId}
+use Rattle.rsct_packet.specs.declared.ids.Member.{Member}
+use Rattle.proposal_core.specs.declared.entry.Entry.{Entry}
+use Rattle.rsct_packet.specs.Search.{Has}
 use Rattle.run_safety.specs.Group.{member, Standing, Reply, members_of, Packet, Answer, Install, Record, In}
 use Rattle.run_safety.specs.GroupLists.{held, From, SameLists, IsCut, CutHolds, SameMembers}
 use Rattle.run_safety.specs.Moves.{Opening, Born, Leads, Longest}

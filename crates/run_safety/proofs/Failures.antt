@@ -2,14 +2,14 @@
 use Rattle.std.proofs.Common.{◌≡◌, ℕ, List, [], ◌∷◌, Option, Some, None, Bool, true, false, refl, sym, ap, ◌∙◌, subst, arith}
 use Rattle.std.specs.Prelude.{not, ◌&&◌, ◌||◌, cond}
 use Rattle.std.proofs.lemmas.Bool.Decides.{nat_tests}
-use Rattle.world_model.specs.rsct_packet.declared.ids.ViewId.{ViewId}
-use Rattle.world_model.specs.rsct_packet.declared.ids.ProviderId.{ProviderId}
-use Rattle.world_model.specs.rsct_packet.Providers.{among, same_provider, without_all}
-use Rattle.world_model.specs.proposal_core.declared.proposal.Failure.{Failure}
-use Rattle.world_model.specs.proposal_core.declared.proposal.Proposal.TheVariants.{Fail}
-use Rattle.world_model.specs.proposal_core.declared.group_state.GroupState.{GroupState}
-use Rattle.world_model.specs.proposal_core.declared.group_state.Running.{Running}
-use Rattle.world_model.specs.proposal_core.Fold.{fallen_of, without, effect, replace_proposed, take_value, approve, take_rejection, reject, apply}
+use Rattle.rsct_packet.specs.declared.ids.ViewId.{ViewId}
+use Rattle.rsct_packet.specs.declared.ids.ProviderId.{ProviderId}
+use Rattle.rsct_packet.specs.Providers.{among, same_provider, without_all}
+use Rattle.proposal_core.specs.declared.proposal.Failure.{Failure}
+use Rattle.proposal_core.specs.declared.proposal.Proposal.TheVariants.{Fail}
+use Rattle.proposal_core.specs.declared.group_state.GroupState.{GroupState}
+use Rattle.proposal_core.specs.declared.group_state.Running.{Running}
+use Rattle.proposal_core.specs.Fold.{fallen_of, without, effect, replace_proposed, take_value, approve, take_rejection, reject, apply}
 use Rattle.run_safety.specs.Failures.{FailureLeavesTakeTheFallen}
 
 same_is : (a b : ProviderId) → same_provider a b ≡ true → a ≡ b

@@ -26,8 +26,3 @@ pub mod Shows
 pub mod SightLaws
 pub mod RunTallyLaw
 pub mod Failures
-pub use Rattle.world_model.proofs.adapter_ring_laws as adapter_ring_laws
-pub use Rattle.world_model.proofs.node_state_laws as node_state_laws
-pub use Rattle.world_model.proofs.proposal_core_laws as proposal_core_laws
-pub use Rattle.world_model.proofs.rsct_packet_laws as rsct_packet_laws
-pub use Rattle.world_model.proofs.view_state_laws as view_state_laws

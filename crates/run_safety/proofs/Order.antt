@@ -1,7 +1,7 @@
 -- The order of views is a total order.
 use Rattle.std.proofs.Common.{refl, ◌≡◌, ◌<◌, ◌⊎◌, Bool, true, false, subst, inl, inr, arith}
 use Rattle.std.proofs.lemmas.Bool.Decides.{nat_tests}
-use Rattle.world_model.specs.rsct_packet.declared.ids.ViewId.{ViewId}
+use Rattle.rsct_packet.specs.declared.ids.ViewId.{ViewId}
 use Rattle.run_safety.specs.ViewOrder.{is_before, is_same, Lt, Le}
 
 -- what the test says, in numbers

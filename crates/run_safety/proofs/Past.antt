@@ -1,9 +1,9 @@
 -- What the records say of the past, and that each move keeps it. It stands on the invariant of the views.
 use Rattle.std.proofs.Common.{refl, Some, ◌≡◌, ℕ, ◌+◌, ◌<◌, ◌⊎◌, List, [], ◌∷◌, ◌++◌, length, false, sym, ap, ◌∙◌, subst, inl, inr, arith, length-append}
-use Rattle.world_model.specs.rsct_packet.declared.ids.ViewId.{ViewId}
-use Rattle.world_model.specs.rsct_packet.declared.ids.Member.{Member}
-use Rattle.world_model.specs.proposal_core.declared.entry.Entry.{Entry}
-use Rattle.world_model.specs.rsct_packet.Search.{Has}
+use Rattle.rsct_packet.specs.declared.ids.ViewId.{ViewId}
+use Rattle.rsct_packet.specs.declared.ids.Member.{Member}
+use Rattle.proposal_core.specs.declared.entry.Entry.{Entry}
+use Rattle.rsct_packet.specs.Search.{Has}
 use Rattle.run_safety.specs.ViewOrder.{Lt, Le}
 use Rattle.run_safety.specs.Group.{member, Standing, Reply, members_of, Packet, Answer, Install, Record, In, Put, Begins}
 use Rattle.run_safety.specs.GroupLists.{puts_of, held, InOrder, WasIn, From}

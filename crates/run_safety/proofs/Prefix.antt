@@ -2,7 +2,7 @@
 use Rattle.std.proofs.Common.{refl, Some, ◌≤◌, ◌≡◌, ℕ, zero, suc, List, [], ◌∷◌, ◌++◌, length, drop, sym, ap, ◌∙◌, subst, arith, append_assoc}
 use Rattle.std.specs.Prelude.{slice_get}
 use Rattle.std.proofs.lemmas.List.{append-nil}
-use Rattle.world_model.specs.proposal_core.declared.entry.Entry.{Entry}
+use Rattle.proposal_core.specs.declared.entry.Entry.{Entry}
 
 pub record IsPrefix (xs ys : List Entry) : Type 0 where
   pub rest : List Entry

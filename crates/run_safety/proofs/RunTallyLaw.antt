@@ -1,5 +1,5 @@
 -- What holds of the tallies of each group's lines holds of the run's records.
-use Rattle.world_model.specs.proposal_core.declared.entry.Entry.TheVariants.{Approve}
+use Rattle.proposal_core.specs.declared.entry.Entry.TheVariants.{Approve}
 use Rattle.run_safety.specs.RunTallies.{GroupsCloseByTally}
 use Rattle.run_safety.proofs.SightLaws.{put_seen}
 use Rattle.run_safety.proofs.TallyLaw.{all_approve}

@@ -3,11 +3,11 @@ use Rattle.std.proofs.Common.{refl, ◌≡◌, ℕ, ◌⊎◌, List, [], ◌∷�
 use Rattle.std.specs.Prelude.{if◌then◌else◌}
 use Rattle.std.specs.Str.{bytes_eq}
 use Rattle.std.proofs.lemmas.Slice.Eq.{bytes_eq-Decides}
-use Rattle.world_model.specs.rsct_packet.declared.ids.ViewId.{ViewId}
-use Rattle.world_model.specs.proposal_core.declared.entry.Entry.{Entry}
-use Rattle.world_model.specs.node_state.declared.happened.Happened.{Happened}
-use Rattle.world_model.specs.node_state.declared.happened.Happened.TheVariants as happened
-use Rattle.world_model.specs.rsct_packet.Search.{Has}
+use Rattle.rsct_packet.specs.declared.ids.ViewId.{ViewId}
+use Rattle.proposal_core.specs.declared.entry.Entry.{Entry}
+use Rattle.node_state.specs.declared.happened.Happened.{Happened}
+use Rattle.node_state.specs.declared.happened.Happened.TheVariants as happened
+use Rattle.rsct_packet.specs.Search.{Has}
 use Rattle.run_safety.specs.Past.{History, earlier, records_of}
 use Rattle.run_safety.specs.Group.{Line, Kept, Noted, Record, Put, kept}
 use Rattle.run_safety.specs.SafeGroups.{GroupsGiveOneList}

@@ -2,15 +2,15 @@
 use Rattle.std.proofs.Common.{refl, Some, ◌≡◌, ℕ, ◌⊎◌, ◌≤◌, ◌<◌, List, [], ◌∷◌, ◌++◌, length, take, Bool, true, false, sym, ap, ◌∙◌, subst, ⊎_elim, arith}
 use Rattle.std.specs.Prelude.{slice_get, if◌then◌else◌}
 use Rattle.std.proofs.lemmas.List.{take_at}
-use Rattle.world_model.specs.rsct_packet.declared.ids.ViewId.{ViewId}
-use Rattle.world_model.specs.rsct_packet.Search.{Has}
-use Rattle.world_model.specs.proposal_core.declared.entry.Vote.{Vote}
-use Rattle.world_model.specs.proposal_core.declared.entry.Vote.TheVariants as vote
-use Rattle.world_model.specs.proposal_core.declared.entry.Row.{Row}
-use Rattle.world_model.specs.proposal_core.declared.entry.Entry.{Entry}
-use Rattle.world_model.specs.proposal_core.declared.entry.Entry.TheVariants.{Approve}
-use Rattle.world_model.specs.proposal_core.Fold.{fits}
-use Rattle.world_model.specs.vote_phases.Tally.{vote_of_row, is_reject, is_continue, any_stands, tally_of}
+use Rattle.rsct_packet.specs.declared.ids.ViewId.{ViewId}
+use Rattle.rsct_packet.specs.Search.{Has}
+use Rattle.proposal_core.specs.declared.entry.Vote.{Vote}
+use Rattle.proposal_core.specs.declared.entry.Vote.TheVariants as vote
+use Rattle.proposal_core.specs.declared.entry.Row.{Row}
+use Rattle.proposal_core.specs.declared.entry.Entry.{Entry}
+use Rattle.proposal_core.specs.declared.entry.Entry.TheVariants.{Approve}
+use Rattle.proposal_core.specs.Fold.{fits}
+use Rattle.vote_phases.specs.Tally.{vote_of_row, is_reject, is_continue, any_stands, tally_of}
 use Rattle.run_safety.specs.Group.{Record}
 use Rattle.run_safety.specs.Past.{fold_from}
 use Rattle.run_safety.specs.Bases.{Bases, base_state, state_of_list}

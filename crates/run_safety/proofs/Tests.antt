@@ -3,9 +3,9 @@ use Rattle.std.proofs.Common.{refl, Some, ◌≡◌, List, [], ◌∷◌, ◌++�
 use Rattle.std.specs.Prelude.{◌||◌, find, filter}
 use Rattle.std.specs.List.{list_any}
 use Rattle.std.proofs.lemmas.Bool.Decides.{nat_tests}
-use Rattle.world_model.specs.rsct_packet.declared.ids.ProviderId.{ProviderId}
-use Rattle.world_model.specs.rsct_packet.Providers.{same_provider}
-use Rattle.world_model.specs.rsct_packet.Search.{Has}
+use Rattle.rsct_packet.specs.declared.ids.ProviderId.{ProviderId}
+use Rattle.rsct_packet.specs.Providers.{same_provider}
+use Rattle.rsct_packet.specs.Search.{Has}
 
 -- what a test finds is there and passes it
 pub found_in : {A : Type 0} (t : A → Bool) (xs : List A) (x : A) → find t xs ≡ Some x → Has x xs × (t x ≡ true)

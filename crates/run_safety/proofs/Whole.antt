@@ -1,12 +1,12 @@
 -- All parts together, and that each move keeps them.
 use Rattle.std.proofs.Common.{refl, Some, None, ◌≤◌, ◌≡◌, ℕ, ◌<◌, ◌⊎◌, List, [], ◌∷◌, length, sym, ap, ◌∙◌, subst, inl, inr, arith}
 use Rattle.std.specs.Prelude.{slice_get}
-use Rattle.world_model.specs.rsct_packet.declared.ids.ViewId.{ViewId}
-use Rattle.world_model.specs.rsct_packet.declared.ids.Member.{Member}
-use Rattle.world_model.specs.rsct_packet.declared.ids.ProviderId.{ProviderId}
-use Rattle.world_model.specs.proposal_core.declared.entry.Entry.{Entry}
-use Rattle.world_model.specs.proposal_core.declared.proposal.Proposal.{Proposal}
-use Rattle.world_model.specs.rsct_packet.Search.{Has}
+use Rattle.rsct_packet.specs.declared.ids.ViewId.{ViewId}
+use Rattle.rsct_packet.specs.declared.ids.Member.{Member}
+use Rattle.rsct_packet.specs.declared.ids.ProviderId.{ProviderId}
+use Rattle.proposal_core.specs.declared.entry.Entry.{Entry}
+use Rattle.proposal_core.specs.declared.proposal.Proposal.{Proposal}
+use Rattle.rsct_packet.specs.Search.{Has}
 use Rattle.run_safety.specs.ViewOrder.{Lt, Le}
 use Rattle.run_safety.specs.Group.{member, Standing, Origin, Packet, Answer, Install, Append, Request, Refusal, Ack, Stable, Record, In, Put, Begins, Note, Based, Heard, Asked, Told, Line, Kept, Noted, kept}
 use Rattle.run_safety.specs.GroupLists.{puts_of}

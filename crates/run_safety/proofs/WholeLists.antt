@@ -1,13 +1,13 @@
 -- Appends, starts and the entering of views keep all parts.
 use Rattle.std.proofs.Common.{refl, Some, None, Option, ◌≤◌, ◌≡◌, ℕ, ◌+◌, ◌<◌, ◌⊎◌, List, [], ◌∷◌, ◌++◌, length, drop, Bool, true, false, sym, ap, ◌∙◌, subst, inl, inr, ⊎_elim, arith}
 use Rattle.std.specs.Prelude.{not, if◌then◌else◌, slice_get}
-use Rattle.world_model.specs.rsct_packet.declared.ids.ViewId.{ViewId}
-use Rattle.world_model.specs.rsct_packet.declared.ids.Member.{Member}
-use Rattle.world_model.specs.rsct_packet.declared.ids.ProviderId.{ProviderId}
-use Rattle.world_model.specs.proposal_core.declared.entry.Entry.{Entry}
-use Rattle.world_model.specs.proposal_core.declared.proposal.Proposal.{Proposal}
-use Rattle.world_model.specs.proposal_core.Fold.{fits}
-use Rattle.world_model.specs.rsct_packet.Search.{Has}
+use Rattle.rsct_packet.specs.declared.ids.ViewId.{ViewId}
+use Rattle.rsct_packet.specs.declared.ids.Member.{Member}
+use Rattle.rsct_packet.specs.declared.ids.ProviderId.{ProviderId}
+use Rattle.proposal_core.specs.declared.entry.Entry.{Entry}
+use Rattle.proposal_core.specs.declared.proposal.Proposal.{Proposal}
+use Rattle.proposal_core.specs.Fold.{fits}
+use Rattle.rsct_packet.specs.Search.{Has}
 use Rattle.run_safety.specs.ViewOrder.{is_same, Lt}
 use Rattle.run_safety.specs.Group.{member, Standing, Reply, members_of, Origin, Packet, Install, Append, Request, Refusal, Ack, Stable, Record, In, Put, Note, Based, Heard, Told, Line, Kept, Noted, kept, lines_from, puts_from}
 use Rattle.run_safety.specs.GroupLists.{puts_of}
@@ -22,7 +22,7 @@ use Rattle.run_safety.proofs.Tracks.{put_many, has_many}
 use Rattle.run_safety.proofs.Appends.{Extends, extends_grows}
 use Rattle.run_safety.proofs.Past.{reply_member, born_number}
 use Rattle.std.specs.Prelude.{find}
-use Rattle.world_model.specs.rsct_packet.Providers.{among}
+use Rattle.rsct_packet.specs.Providers.{among}
 use Rattle.run_safety.proofs.Moves.{Good, move_lead, move_follow, move_start, move_enter, move_name}
 use Rattle.run_safety.proofs.Founds.{move_found, found_unled, gave_front, within, own_front}
 use Rattle.run_safety.proofs.PastIn.{start_unled}

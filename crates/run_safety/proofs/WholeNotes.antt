@@ -1,12 +1,12 @@
 -- Requests, refusals and what providers hear keep all parts.
 use Rattle.std.proofs.Common.{refl, Some, None, ◌≡◌, ℕ, ◌+◌, ◌<◌, ◌⊎◌, List, [], ◌∷◌, take, sym, ap, ◌∙◌, subst, inl, inr, arith}
 use Rattle.std.specs.Prelude.{slice_get}
-use Rattle.world_model.specs.rsct_packet.declared.ids.ViewId.{ViewId}
-use Rattle.world_model.specs.rsct_packet.declared.ids.ProviderId.{ProviderId}
-use Rattle.world_model.specs.proposal_core.declared.entry.Entry.{Entry}
-use Rattle.world_model.specs.proposal_core.declared.proposal.Proposal.{Proposal}
-use Rattle.world_model.specs.proposal_core.declared.group_state.GroupState.{GroupState}
-use Rattle.world_model.specs.rsct_packet.Search.{Has}
+use Rattle.rsct_packet.specs.declared.ids.ViewId.{ViewId}
+use Rattle.rsct_packet.specs.declared.ids.ProviderId.{ProviderId}
+use Rattle.proposal_core.specs.declared.entry.Entry.{Entry}
+use Rattle.proposal_core.specs.declared.proposal.Proposal.{Proposal}
+use Rattle.proposal_core.specs.declared.group_state.GroupState.{GroupState}
+use Rattle.rsct_packet.specs.Search.{Has}
 use Rattle.run_safety.specs.ViewOrder.{Le}
 use Rattle.run_safety.specs.Group.{member, Standing, Origin, Packet, Request, Refusal, Record, In, Put, Note, Based, Heard, Asked, Told, Line, Noted, kept}
 use Rattle.run_safety.specs.GroupLists.{puts_of, WasIn}

@@ -1,14 +1,14 @@
 -- Bases: what a group begins with in a new view, and who leads it.
 use Rattle.std.specs.Prelude.{ℕ, ◌<◌, ◌≡◌, ◌⊎◌, Bool, true, false, ◌&&◌, ◌||◌, not, ◌==◌, List, length, filter, find, Option, Some, None, is_some}
 use Rattle.std.specs.List.{list_any}
-use Rattle.world_model.specs.rsct_packet.declared.ids.ViewId.{ViewId}
-use Rattle.world_model.specs.rsct_packet.declared.ids.ProviderId.{ProviderId}
-use Rattle.world_model.specs.rsct_packet.declared.ids.Member.{Member}
-use Rattle.world_model.specs.rsct_packet.Providers.{among}
-use Rattle.world_model.specs.proposal_core.declared.entry.Entry.{Entry}
-use Rattle.world_model.specs.proposal_core.declared.group_state.GroupState.{GroupState}
-use Rattle.world_model.specs.proposal_core.Fold.{empty_state, present}
-use Rattle.world_model.specs.rsct_packet.Search.{Has}
+use Rattle.rsct_packet.specs.declared.ids.ViewId.{ViewId}
+use Rattle.rsct_packet.specs.declared.ids.ProviderId.{ProviderId}
+use Rattle.rsct_packet.specs.declared.ids.Member.{Member}
+use Rattle.rsct_packet.specs.Providers.{among}
+use Rattle.proposal_core.specs.declared.entry.Entry.{Entry}
+use Rattle.proposal_core.specs.declared.group_state.GroupState.{GroupState}
+use Rattle.proposal_core.specs.Fold.{empty_state, present}
+use Rattle.rsct_packet.specs.Search.{Has}
 use Rattle.run_safety.specs.Past.{fold_from}
 use Rattle.run_safety.specs.ViewOrder.{is_same, Le}
 use Rattle.run_safety.specs.Group.{member, Reply, Origin}

@@ -1,16 +1,16 @@
 -- What a failure leave does to the members, whichever way it ends.
 use Rattle.std.specs.Prelude.{◌≡◌, ℕ, not, ◌&&◌, List, Some}
-use Rattle.world_model.specs.rsct_packet.declared.ids.ViewId.{ViewId}
-use Rattle.world_model.specs.rsct_packet.declared.ids.ProviderId.{ProviderId}
-use Rattle.world_model.specs.rsct_packet.Providers.{among}
-use Rattle.world_model.specs.proposal_core.declared.proposal.Failure.{Failure}
-use Rattle.world_model.specs.proposal_core.declared.proposal.Proposal.TheVariants.{Fail}
-use Rattle.world_model.specs.proposal_core.declared.entry.Closed.{Closed}
-use Rattle.world_model.specs.proposal_core.declared.entry.Entry.{Entry}
-use Rattle.world_model.specs.proposal_core.declared.entry.Entry.TheVariants.{Approve, Reject}
-use Rattle.world_model.specs.proposal_core.declared.group_state.GroupState.{GroupState}
-use Rattle.world_model.specs.proposal_core.declared.group_state.Running.{Running}
-use Rattle.world_model.specs.proposal_core.Fold.{fallen_of, apply}
+use Rattle.rsct_packet.specs.declared.ids.ViewId.{ViewId}
+use Rattle.rsct_packet.specs.declared.ids.ProviderId.{ProviderId}
+use Rattle.rsct_packet.specs.Providers.{among}
+use Rattle.proposal_core.specs.declared.proposal.Failure.{Failure}
+use Rattle.proposal_core.specs.declared.proposal.Proposal.TheVariants.{Fail}
+use Rattle.proposal_core.specs.declared.entry.Closed.{Closed}
+use Rattle.proposal_core.specs.declared.entry.Entry.{Entry}
+use Rattle.proposal_core.specs.declared.entry.Entry.TheVariants.{Approve, Reject}
+use Rattle.proposal_core.specs.declared.group_state.GroupState.{GroupState}
+use Rattle.proposal_core.specs.declared.group_state.Running.{Running}
+use Rattle.proposal_core.specs.Fold.{fallen_of, apply}
 
 -- the members after the entry are those before it that the failure leave does not name
 abbrev pub TakesTheFallen : GroupState → List Failure → ViewId → ℕ → Entry → Type 0

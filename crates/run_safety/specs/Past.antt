@@ -2,13 +2,13 @@
 -- latest record first.
 use Rattle.std.specs.Prelude.{◌≡◌, ℕ, ◌+◌, Bool, ◌&&◌, ◌==◌, ◌⊎◌, List, [], ◌∷◌, ◌++◌, reverse, map, flat_map, take, Option, Some, None, if◌then◌else◌}
 use Rattle.std.specs.Str.{bytes_eq}
-use Rattle.world_model.specs.rsct_packet.declared.ids.ViewId.{ViewId}
-use Rattle.world_model.specs.rsct_packet.Ids.{same_view}
-use Rattle.world_model.specs.proposal_core.declared.entry.Entry.{Entry}
-use Rattle.world_model.specs.proposal_core.declared.group_state.GroupState.{GroupState}
-use Rattle.world_model.specs.proposal_core.Fold.{empty_state, after}
-use Rattle.world_model.specs.node_state.declared.happened.Happened.{Happened}
-use Rattle.world_model.specs.node_state.declared.happened.Happened.TheVariants.{Up, Down, In, Base, Put}
+use Rattle.rsct_packet.specs.declared.ids.ViewId.{ViewId}
+use Rattle.rsct_packet.specs.Ids.{same_view}
+use Rattle.proposal_core.specs.declared.entry.Entry.{Entry}
+use Rattle.proposal_core.specs.declared.group_state.GroupState.{GroupState}
+use Rattle.proposal_core.specs.Fold.{empty_state, after}
+use Rattle.node_state.specs.declared.happened.Happened.{Happened}
+use Rattle.node_state.specs.declared.happened.Happened.TheVariants.{Up, Down, In, Base, Put}
 use Rattle.world_model.specs.Run.{Happening, Run}
 
 abbrev pub History : Type 0

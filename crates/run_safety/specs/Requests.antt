@@ -1,12 +1,12 @@
 -- The requests that entries begin.
 use Rattle.std.specs.Prelude.{ℕ, ◌≡◌, ◌⊎◌, List, [], ◌∷◌, map, Option, Some, None, IsTrue}
-use Rattle.world_model.specs.rsct_packet.declared.ids.ProviderId.{ProviderId}
-use Rattle.world_model.specs.rsct_packet.Providers.{among}
-use Rattle.world_model.specs.proposal_core.declared.entry.Entry.{Entry}
-use Rattle.world_model.specs.proposal_core.declared.entry.Entry.TheVariants.{Once, Begin}
-use Rattle.world_model.specs.proposal_core.declared.proposal.Proposal.{Proposal}
-use Rattle.world_model.specs.proposal_core.declared.proposal.Proposal.TheVariants.{Join, Leave, Expel, State, Message, Attributes}
-use Rattle.world_model.specs.proposal_core.Fold.{joins_of}
+use Rattle.rsct_packet.specs.declared.ids.ProviderId.{ProviderId}
+use Rattle.rsct_packet.specs.Providers.{among}
+use Rattle.proposal_core.specs.declared.entry.Entry.{Entry}
+use Rattle.proposal_core.specs.declared.entry.Entry.TheVariants.{Once, Begin}
+use Rattle.proposal_core.specs.declared.proposal.Proposal.{Proposal}
+use Rattle.proposal_core.specs.declared.proposal.Proposal.TheVariants.{Join, Leave, Expel, State, Message, Attributes}
+use Rattle.proposal_core.specs.Fold.{joins_of}
 
 -- the requests that a proposal carries: a join those of each provider that it names
 abbrev pub requests_of : Proposal → List (ProviderId × ℕ)

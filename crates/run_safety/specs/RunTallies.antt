@@ -1,14 +1,14 @@
 -- What a run's own records say of tallies, where what each group sees of it is safe.
 use Rattle.std.specs.Prelude.{ℕ, ◌≡◌, List}
-use Rattle.world_model.specs.rsct_packet.declared.ids.ViewId.{ViewId}
-use Rattle.world_model.specs.rsct_packet.Search.{Has}
-use Rattle.world_model.specs.proposal_core.declared.entry.Vote.TheVariants as vote
-use Rattle.world_model.specs.proposal_core.declared.entry.Row.{Row}
-use Rattle.world_model.specs.proposal_core.declared.entry.Closed.{Closed}
-use Rattle.world_model.specs.proposal_core.declared.entry.Entry.{Entry}
-use Rattle.world_model.specs.proposal_core.declared.entry.Entry.TheVariants.{Approve}
-use Rattle.world_model.specs.vote_phases.Tally.{vote_of_row}
-use Rattle.world_model.specs.node_state.declared.happened.Happened.TheVariants as happened
+use Rattle.rsct_packet.specs.declared.ids.ViewId.{ViewId}
+use Rattle.rsct_packet.specs.Search.{Has}
+use Rattle.proposal_core.specs.declared.entry.Vote.TheVariants as vote
+use Rattle.proposal_core.specs.declared.entry.Row.{Row}
+use Rattle.proposal_core.specs.declared.entry.Closed.{Closed}
+use Rattle.proposal_core.specs.declared.entry.Entry.{Entry}
+use Rattle.proposal_core.specs.declared.entry.Entry.TheVariants.{Approve}
+use Rattle.vote_phases.specs.Tally.{vote_of_row}
+use Rattle.node_state.specs.declared.happened.Happened.TheVariants as happened
 use Rattle.run_safety.specs.Past.{History, records_of}
 use Rattle.run_safety.specs.Tallies.{IsTallied}
 use Rattle.run_safety.specs.Moves.{Opening}

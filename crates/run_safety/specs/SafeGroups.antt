@@ -1,9 +1,9 @@
 -- What holds of each group in a safe run of many nodes and views.
 use Rattle.std.specs.Prelude.{ℕ, List}
-use Rattle.world_model.specs.rsct_packet.declared.ids.ViewId.{ViewId}
-use Rattle.world_model.specs.rsct_packet.declared.ids.Member.{Member}
-use Rattle.world_model.specs.proposal_core.declared.entry.Entry.{Entry}
-use Rattle.world_model.specs.rsct_packet.Search.{Has}
+use Rattle.rsct_packet.specs.declared.ids.ViewId.{ViewId}
+use Rattle.rsct_packet.specs.declared.ids.Member.{Member}
+use Rattle.proposal_core.specs.declared.entry.Entry.{Entry}
+use Rattle.rsct_packet.specs.Search.{Has}
 use Rattle.run_safety.specs.Past.{History}
 use Rattle.run_safety.specs.SafeLists.{OneEntry}
 use Rattle.run_safety.specs.Group.{Standing, Reply, Origin, Packet, Line, Noted, Based, kept}

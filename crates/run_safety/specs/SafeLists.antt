@@ -1,12 +1,12 @@
 -- One list: the lists of a view's nodes are fronts of one list per group, and the views of a node rise.
 use Rattle.std.specs.Prelude.{◌≡◌, ℕ, Bool, true, List, length, Option, Some, None, IsTrue}
-use Rattle.world_model.specs.rsct_packet.declared.ids.ViewId.{ViewId}
-use Rattle.world_model.specs.rsct_packet.Ids.{view_lt, is_member}
-use Rattle.world_model.specs.proposal_core.declared.entry.Entry.{Entry}
-use Rattle.world_model.specs.proposal_core.Fold.{fits}
-use Rattle.world_model.specs.node_state.declared.happened.Happened.{Happened}
-use Rattle.world_model.specs.node_state.declared.happened.Happened.TheVariants.{In, Put}
-use Rattle.world_model.specs.rsct_packet.Search.{Has}
+use Rattle.rsct_packet.specs.declared.ids.ViewId.{ViewId}
+use Rattle.rsct_packet.specs.Ids.{view_lt, is_member}
+use Rattle.proposal_core.specs.declared.entry.Entry.{Entry}
+use Rattle.proposal_core.specs.Fold.{fits}
+use Rattle.node_state.specs.declared.happened.Happened.{Happened}
+use Rattle.node_state.specs.declared.happened.Happened.TheVariants.{In, Put}
+use Rattle.rsct_packet.specs.Search.{Has}
 use Rattle.run_safety.specs.Past.{History, records_of, EachRecord, earlier, view_now, inc_now, puts_of, state_now}
 
 -- two entries at one place of one view's list of one group are the same

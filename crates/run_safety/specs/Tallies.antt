@@ -1,14 +1,14 @@
 -- What the entries that close a phase say of their rows, and that entries fit what is before them.
 use Rattle.std.specs.Prelude.{ℕ, ◌≤◌, ◌<◌, ◌≡◌, ◌⊎◌, true, List, length, take}
-use Rattle.world_model.specs.rsct_packet.declared.ids.ViewId.{ViewId}
-use Rattle.world_model.specs.rsct_packet.Search.{Has}
-use Rattle.world_model.specs.proposal_core.declared.entry.Vote.TheVariants as vote
-use Rattle.world_model.specs.proposal_core.declared.entry.Row.{Row}
-use Rattle.world_model.specs.proposal_core.declared.entry.Closed.{Closed}
-use Rattle.world_model.specs.proposal_core.declared.entry.Entry.{Entry}
-use Rattle.world_model.specs.proposal_core.declared.entry.Entry.TheVariants.{Once, Begin, Phase, Approve, Reject, Late}
-use Rattle.world_model.specs.proposal_core.Fold.{max_phases, fits}
-use Rattle.world_model.specs.vote_phases.Tally.{vote_of_row, tally_of}
+use Rattle.rsct_packet.specs.declared.ids.ViewId.{ViewId}
+use Rattle.rsct_packet.specs.Search.{Has}
+use Rattle.proposal_core.specs.declared.entry.Vote.TheVariants as vote
+use Rattle.proposal_core.specs.declared.entry.Row.{Row}
+use Rattle.proposal_core.specs.declared.entry.Closed.{Closed}
+use Rattle.proposal_core.specs.declared.entry.Entry.{Entry}
+use Rattle.proposal_core.specs.declared.entry.Entry.TheVariants.{Once, Begin, Phase, Approve, Reject, Late}
+use Rattle.proposal_core.specs.Fold.{max_phases, fits}
+use Rattle.vote_phases.specs.Tally.{vote_of_row, tally_of}
 use Rattle.run_safety.specs.Group.{Record, Put}
 use Rattle.run_safety.specs.GroupLists.{puts_of}
 use Rattle.run_safety.specs.Bases.{Bases, state_of_list}

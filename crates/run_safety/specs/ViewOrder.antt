@@ -1,7 +1,7 @@
 -- The order of views, for proofs: nobody looks into it beyond its laws.
 use Rattle.std.specs.Prelude.{◌≡◌, Bool, true, false}
-use Rattle.world_model.specs.rsct_packet.declared.ids.ViewId.{ViewId}
-use Rattle.world_model.specs.rsct_packet.Ids.{view_lt, same_view}
+use Rattle.rsct_packet.specs.declared.ids.ViewId.{ViewId}
+use Rattle.rsct_packet.specs.Ids.{view_lt, same_view}
 
 unfoldable pub is_before : ViewId → ViewId → Bool
 is_before a b = view_lt a b

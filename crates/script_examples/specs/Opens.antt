@@ -1,6 +1,6 @@
 -- Opens every word of a run, for computations.
-use Rattle.world_model.specs.client_callbacks.Votes.{votes_opens}
-use Rattle.world_model.specs.node_state.Opens.{node_opens}
+use Rattle.client_callbacks.specs.Votes.{votes_opens}
+use Rattle.node_state.specs.Opens.{node_opens}
 use Rattle.world_model.specs.Text.{text_opens}
 use Rattle.world_model.specs.Words.{words_opens}
 use Rattle.world_model.specs.Lines.{lines_opens}

@@ -2,17 +2,17 @@
 use Rattle.std.specs.Prelude.{ℕ, Bool, List, [], ◌∷◌, map, codes, slice_set}
 use Rattle.std.specs.Option.{unwrap_or}
 use Rattle.std.specs.List.{list_any, list_all}
-use Rattle.world_model.specs.rsct_packet.declared.ids.ViewId.{ViewId}
-use Rattle.world_model.specs.adapter_ring.declared.packet.RingPacket.TheVariants.{Heartbeat}
-use Rattle.world_model.specs.node_state.declared.config.Config.{Config}
-use Rattle.world_model.specs.node_state.declared.config.Mode.TheVariants.{Fixed}
-use Rattle.world_model.specs.node_state.declared.happened.Happened.{Happened}
-use Rattle.world_model.specs.node_state.declared.packet.Body.TheVariants as body
-use Rattle.world_model.specs.node_state.declared.packet.Packet.{Packet}
-use Rattle.world_model.specs.packet_bodies.declared.body.What.TheVariants.{Hagsns}
-use Rattle.world_model.specs.node_state.declared.state.Core.{Core}
-use Rattle.world_model.specs.node_state.Step.{Given, started, stepped}
-use Rattle.world_model.specs.node_state.Bytes.{is_packet}
+use Rattle.rsct_packet.specs.declared.ids.ViewId.{ViewId}
+use Rattle.adapter_ring.specs.declared.packet.RingPacket.TheVariants.{Heartbeat}
+use Rattle.node_state.specs.declared.config.Config.{Config}
+use Rattle.node_state.specs.declared.config.Mode.TheVariants.{Fixed}
+use Rattle.node_state.specs.declared.happened.Happened.{Happened}
+use Rattle.node_state.specs.declared.packet.Body.TheVariants as body
+use Rattle.node_state.specs.declared.packet.Packet.{Packet}
+use Rattle.packet_bodies.specs.declared.body.What.TheVariants.{Hagsns}
+use Rattle.node_state.specs.declared.state.Core.{Core}
+use Rattle.node_state.specs.Step.{Given, started, stepped}
+use Rattle.node_state.specs.Bytes.{is_packet}
 use Rattle.world_model.specs.Words.{hex_word}
 use Rattle.world_model.specs.World.{by_scripts}
 use Rattle.world_model.specs.Load.{settings_of}

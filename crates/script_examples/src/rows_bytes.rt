@@ -1,6 +1,6 @@
 //! Packets as bytes, and how many of them a run may keep. Each function is a law.
 ghost use Rattle.std.specs.Prelude.{◌≡◌, ◌∷◌, [], Some, None, true, false, codes, ◌++◌};
-ghost use Rattle.world_model.specs.node_state.Bytes.{packet_of, bytes_of};
+ghost use Rattle.node_state.specs.Bytes.{packet_of, bytes_of};
 ghost use Rattle.world_model.specs.Play.{transcript};
 ghost use Rattle.world_model.specs.Kept.{kept_of, kept_text, most_kept};
 ghost use Rattle.script_examples.specs.Samples.{hex, heartbeat, all_packets, any_packet, any_prefix, packets, no_packets, plain_join, join_at_two, cut_rings};

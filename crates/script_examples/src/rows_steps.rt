@@ -1,6 +1,6 @@
 //! Single steps and long runs. Each function is a law.
 ghost use Rattle.std.specs.Prelude.{◌≡◌, ◌∷◌, [], codes};
-ghost use Rattle.world_model.specs.node_state.declared.config.Mode.TheVariants.{Fixed};
+ghost use Rattle.node_state.specs.declared.config.Mode.TheVariants.{Fixed};
 ghost use Rattle.world_model.specs.Load.{load_text, messages, settings_of};
 ghost use Rattle.world_model.specs.Play.{lines_text, played_records};
 ghost use Rattle.script_examples.specs.Samples.{lookup_in, name_packet, question, answer, sends_at, records_at};

@@ -1,7 +1,7 @@
 -- What was read stands in its order at last.
 use Rattle.std.proofs.Common.{◌≡◌, List, [], ◌∷◌, refl}
 use Rattle.std.specs.List.{fold}
-use Rattle.node_sending.specs.rsct_packet.Lists.{reverse_onto}
+use Rattle.rsct_packet.specs.Lists.{reverse_onto}
 use Rattle.script_reader.specs.Clients.{newest_first}
 
 back_onto : {X : Type 0} (ys xs : List X) → reverse_onto (fold (λ zs x. x ∷ zs) ys xs) [] ≡ reverse_onto ys xs

@@ -1,9 +1,9 @@
 -- What each form of a line says is what the grammar says.
 use Rattle.std.proofs.Common.{◌≡◌, ℕ, List, [], ◌∷◌, Option, Some, None, Result, refl, sym, ◌∙◌, ap, subst}
 use Rattle.std.specs.Option.{option_map, ok_or}
-use Rattle.node_sending.specs.rsct_packet.Ids.{last_u32}
-use Rattle.script_words.specs.world_model.Words.{◌>>=◌, when_true, number_word, hex_word, node_word, network_word, what_word}
-use Rattle.script_words.specs.world_model.Lines.{Head, Said, says_one, says_event, says_two, says_call, said, HMode, HNode, HAdapter, HHb, HPort, HLevel, HDomain, HBegin, HStart, HStop, HAsk, HTick, HRun, HDeliver, HDrop, HFlow, HCut, HHeal, HGarbage, HShow, HClient, HJoin, HLeave, HExpel, HState, HMessage, HAttrs, HVote, HSubscribe, HUnsubscribe, HGoodbye}
+use Rattle.rsct_packet.specs.Ids.{last_u32}
+use Rattle.world_model.specs.Words.{◌>>=◌, when_true, number_word, hex_word, node_word, network_word, what_word}
+use Rattle.world_model.specs.Lines.{Head, Said, says_one, says_event, says_two, says_call, said, HMode, HNode, HAdapter, HHb, HPort, HLevel, HDomain, HBegin, HStart, HStop, HAsk, HTick, HRun, HDeliver, HDrop, HFlow, HCut, HHeal, HGarbage, HShow, HClient, HJoin, HLeave, HExpel, HState, HMessage, HAttrs, HVote, HSubscribe, HUnsubscribe, HGoodbye}
 use Rattle.script_words.specs.declared.faults.WordFault.{WordFault}
 use Rattle.script_words.specs.declared.faults.WordFault.TheVariants as word_fault
 use Rattle.script_words.specs.declared.heads.Head.{Head as LineHead}

@@ -1,9 +1,9 @@
 -- A script is read line by line.
 use Rattle.std.proofs.Common.{◌≡◌, ℕ, ◌+◌, ◌<◌, ◌≤◌, nat_lt, Bool, true, false, List, [], ◌∷◌, length, refl, sym, ◌∙◌, ap, arith}
 use Rattle.std.proofs.lemmas.Bool.{le-ltb, lt-ltb}
-use Rattle.node_sending.specs.rsct_packet.Lists.{is_empty}
-use Rattle.script_words.specs.world_model.declared.script.LineWhy.TheVariants.{Long}
-use Rattle.script_words.specs.world_model.Reading.{Reading, Read, Good, Bad, ScriptRead, IsNone, read_line, finished, input_limit, read_from}
+use Rattle.rsct_packet.specs.Lists.{is_empty}
+use Rattle.world_model.specs.declared.script.LineWhy.TheVariants.{Long}
+use Rattle.world_model.specs.Reading.{Reading, Read, Good, Bad, ScriptRead, IsNone, read_line, finished, input_limit, read_from}
 use Rattle.script_reader.specs.declared.faults.LineFault.{LineFault}
 use Rattle.script_reader.specs.declared.faults.LineFault.TheVariants as line_fault
 use Rattle.script_reader.specs.Faults.{fault_at}

@@ -1,7 +1,7 @@
 -- Lists whose newest stands first, kept with the newest last.
 use Rattle.std.specs.Prelude.{List, [], ◌∷◌}
 use Rattle.std.specs.List.{fold}
-use Rattle.script_words.specs.world_model.Reading.{Client}
+use Rattle.world_model.specs.Reading.{Client}
 use Rattle.script_reader.specs.declared.clients.Named.{Named}
 
 -- each of them, the newest first

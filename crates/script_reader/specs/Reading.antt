@@ -1,7 +1,7 @@
 -- What has been read, as the grammar sees it.
 use Rattle.std.specs.Prelude.{◌≡◌, Result, Ok, Err}
-use Rattle.script_words.specs.world_model.declared.script.Script.{Script}
-use Rattle.script_words.specs.world_model.Reading.{Reading, Read, Good, Bad, ScriptRead, IsScript, IsNone}
+use Rattle.world_model.specs.declared.script.Script.{Script}
+use Rattle.world_model.specs.Reading.{Reading, Read, Good, Bad, ScriptRead, IsScript, IsNone}
 use Rattle.script_reader.specs.declared.progress.ReadSoFar.{ReadSoFar}
 use Rattle.script_reader.specs.declared.faults.LineFault.{LineFault}
 use Rattle.script_reader.specs.declared.faults.LineFault.TheVariants as line_fault

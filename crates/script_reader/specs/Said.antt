@@ -1,15 +1,15 @@
 -- What each form of a line says, word after word.
 use Rattle.std.specs.Prelude.{◌≡◌, ℕ, List, [], ◌∷◌, Option, Some, None, Result, Ok, Err, fold}
-use Rattle.node_sending.specs.rsct_packet.Ids.{last_u32}
-use Rattle.node_sending.specs.rsct_packet.Lists.{is_empty}
-use Rattle.node_sending.specs.rsct_packet.Mask.{no_nodes, with_node}
-use Rattle.node_sending.specs.client_callbacks.Votes.{text_word, vote_word}
-use Rattle.node_sending.specs.node_state.declared.call.CallLine.TheVariants as call
-use Rattle.node_sending.specs.node_state.Calls.{caller_of}
-use Rattle.script_words.specs.world_model.declared.event.Event.TheVariants as event
-use Rattle.script_words.specs.world_model.declared.script.Line.TheVariants as line
-use Rattle.script_words.specs.world_model.Words.{◌>>=◌, when_true, each_read, number_word, hex_word, client_word, group_word, node_word, network_word, address_word, provider_word, phases_word, mode_word, what_word, attr_words}
-use Rattle.script_words.specs.world_model.Lines.{Votes, Boxed, Scripted, client_votes, Said, SaysMode, SaysNode, SaysAdapter, SaysHb, SaysPort, SaysLevel, SaysDomain, SaysBegin, SaysLine, SaysClient, SaysCall}
+use Rattle.rsct_packet.specs.Ids.{last_u32}
+use Rattle.rsct_packet.specs.Lists.{is_empty}
+use Rattle.rsct_packet.specs.Mask.{no_nodes, with_node}
+use Rattle.client_callbacks.specs.Votes.{text_word, vote_word}
+use Rattle.node_state.specs.declared.call.CallLine.TheVariants as call
+use Rattle.node_state.specs.Calls.{caller_of}
+use Rattle.world_model.specs.declared.event.Event.TheVariants as event
+use Rattle.world_model.specs.declared.script.Line.TheVariants as line
+use Rattle.world_model.specs.Words.{◌>>=◌, when_true, each_read, number_word, hex_word, client_word, group_word, node_word, network_word, address_word, provider_word, phases_word, mode_word, what_word, attr_words}
+use Rattle.world_model.specs.Lines.{Votes, Boxed, Scripted, client_votes, Said, SaysMode, SaysNode, SaysAdapter, SaysHb, SaysPort, SaysLevel, SaysDomain, SaysBegin, SaysLine, SaysClient, SaysCall}
 use Rattle.script_words.specs.declared.faults.WordFault.{WordFault}
 use Rattle.script_reader.specs.declared.said.Said.{Said as LineSaid}
 use Rattle.script_reader.specs.declared.said.Said.TheVariants as says

@@ -1,10 +1,10 @@
 //! The clients that lines have named.
 ghost use Rattle.std.specs.Prelude.{◌≡◌, ◌∷◌, ◌==◌, ◌&&◌, [], not, find, OnOk};
 ghost use Rattle.std.specs.List.{list_any};
-ghost use Rattle.script_words.specs.world_model.Reading.{is_client, node_of_client};
+ghost use Rattle.world_model.specs.Reading.{is_client, node_of_client};
 ghost use Rattle.script_reader.specs.Clients.{newest_first, client_seen};
 
-use node_sending::rsct_packet::{List, NoMemory};
+use rsct_packet::{List, NoMemory};
 use std::alloc::Global;
 use std::marker::Model;
 
@@ -23,7 +23,7 @@ pub struct Clients {
 
 impl Model for Clients {
     ghost use Rattle.std.specs.Prelude.{List};
-    ghost use Rattle.script_words.specs.world_model.Reading.{Client};
+    ghost use Rattle.world_model.specs.Reading.{Client};
     ghost use Rattle.script_reader.specs.Clients.{newest_first, client_seen};
 
     ghost Value = { List Client };
@@ -31,7 +31,7 @@ impl Model for Clients {
     ghost view = { λ c. newest_first client_seen c.named };
 }
 
-#[tactic(auto, unfolding(crate::proofs::Below::is_client))]
+#[tactic(auto, unfolding(world_model::specs::Reading::is_client))]
 fn has_name(client: &Named, name: &[u8]) -> bool
     ensures { result ≡ is_client name.now (client_seen client.now) }
 {
@@ -52,7 +52,7 @@ fn is_among_elsewhere(named: &[Named], name: &[u8], node: u8) -> bool
 }
 
 /// The node of the last one of this name; 0 where there is none.
-#[tactic(auto, unfolding(crate::proofs::Below::node_of_client), using(std::proofs::lemmas::List::Sums::fold_more))]
+#[tactic(auto, unfolding(world_model::specs::Reading::node_of_client), using(std::proofs::lemmas::List::Sums::fold_more))]
 fn last_node(named: &[Named], name: &[u8]) -> u8
     ensures { result ≡ node_of_client (find (is_client name.now)
         (newest_first client_seen named.now)) }

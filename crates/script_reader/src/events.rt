@@ -2,18 +2,18 @@
 ghost use Rattle.std.specs.Prelude.{◌≡◌, Some, None};
 ghost use Rattle.std.specs.List.{fold};
 ghost use Rattle.std.specs.Option.{option_map};
-ghost use Rattle.node_sending.specs.rsct_packet.Mask.{no_nodes, with_node};
-ghost use Rattle.script_words.specs.world_model.Words.{each_read, node_word};
+ghost use Rattle.rsct_packet.specs.Mask.{no_nodes, with_node};
+ghost use Rattle.world_model.specs.Words.{each_read, node_word};
 ghost use Rattle.script_words.specs.Answers.{GivesWord};
 ghost use Rattle.script_reader.specs.Said.{GivesSaid, said_seen, last_network, start_said, stop_said, tick_said, ask_said, run_said, deliver_said, drop_said, flow_said, cut_said, heal_said, garbage_said, show_said};
 
 use crate::said::{LineNodes, Said};
-use node_sending::rsct_packet::{List, Mask};
-use script_words::world_model::{Event, Line};
+use rsct_packet::{List, Mask};
 use script_words::{
     WordFault, Words, hex_word, network_word, node_word, number_word, short_word, what_word,
 };
 use std::alloc::Global;
+use world_model::{Event, Line};
 
 /// The nodes of these words.
 #[tactic(auto, using(crate::proofs::EachLaws::each_step))]
@@ -43,7 +43,7 @@ fn mask_of(nodes: &[u8]) -> Mask
 }
 
 /// The network that the last word names, if there is one more.
-#[tactic(auto, unfolding(crate::specs::Said::last_network, crate::proofs::Below::when_true, script_words::specs::Answers::bind_opens))]
+#[tactic(auto, unfolding(crate::specs::Said::last_network, world_model::specs::Words::when_true, script_words::specs::Answers::bind_opens))]
 fn last_network(words: &mut Words<'_>) -> Option<Option<u8>>
     ensures { result ≡ last_network words.old }
 {
@@ -134,7 +134,7 @@ pub fn says_drop(words: &mut Words<'_>) -> Option<Said>
 }
 
 /// `flow`.
-#[tactic(auto, unfolding(crate::specs::Said::flow_said, script_words::specs::Answers::bind_opens, crate::proofs::Below::when_true))]
+#[tactic(auto, unfolding(crate::specs::Said::flow_said, script_words::specs::Answers::bind_opens, world_model::specs::Words::when_true))]
 pub fn says_flow(words: &mut Words<'_>) -> Option<Said>
     ensures { option_map said_seen result ≡ flow_said words.old }
 {

@@ -4,9 +4,9 @@ ghost use Rattle.script_reader.specs.declared.faults.LineFault.TheVariants as li
 ghost use Rattle.script_reader.specs.declared.faults.ScriptFault.TheVariants as script_fault;
 ghost use Rattle.script_reader.specs.Faults.{fault_at};
 
-use node_sending::rsct_packet::NoMemory;
-use script_words::world_model::LineWhy;
+use rsct_packet::NoMemory;
 use thiserror::Error;
+use world_model::LineWhy;
 
 /// Why a line is not read: it is in no script, or memory has run out.
 #[derive(Clone, Copy, Debug, PartialEq, Eq)]

@@ -1,16 +1,16 @@
 //! The addresses of a domain's settings.
 ghost use Rattle.std.specs.Prelude.{◌≡◌, ◌==◌, nat_lt};
 ghost use Rattle.std.specs.List.{list_all, list_any};
-ghost use Rattle.node_sending.specs.rsct_packet.Mask.{nodes_of};
-ghost use Rattle.node_sending.specs.node_state.Settings.{addresses_on, shared_network};
-ghost use Rattle.script_words.specs.world_model.Reading.{is_second_adapter, all_share};
+ghost use Rattle.rsct_packet.specs.Mask.{nodes_of};
+ghost use Rattle.node_state.specs.Settings.{addresses_on, shared_network};
+ghost use Rattle.world_model.specs.Reading.{is_second_adapter, all_share};
 
-use node_sending::node_state::Config;
-use node_sending::rsct_packet::NODES;
 use node_sending::{address, shared_network};
+use node_state::Config;
+use rsct_packet::NODES;
 
 /// The addresses of a network, by node; none for a number that no network has.
-#[tactic(auto, unfolding(crate::proofs::Below::addresses_on))]
+#[tactic(auto, unfolding(node_state::specs::Settings::addresses_on))]
 fn addresses_on(config: &Config, network: u8) -> &[u32]
     ensures { result.now ≡ addresses_on config.now network }
 {
@@ -28,14 +28,14 @@ fn is_address_on(config: &Config, network: u8, wanted: u32) -> bool
 }
 
 /// Has the node an adapter on the network, or another one the address there?
-#[tactic(auto, unfolding(crate::proofs::Below::is_second_adapter))]
+#[tactic(auto, unfolding(world_model::specs::Reading::is_second_adapter))]
 pub fn is_second_adapter(config: &Config, node: u8, network: u8, wanted: u32) -> bool
     ensures { result ≡ is_second_adapter config.now node network wanted }
 {
     address(config, node, network) > 0 || is_address_on(config, network, wanted)
 }
 
-#[tactic(auto, unfolding(crate::proofs::Below::nodes_of))]
+#[tactic(auto, unfolding(rsct_packet::specs::Mask::nodes_of))]
 fn shares_with_all(config: &Config, node: u8) -> bool
     ensures { result ≡ list_all (λ b. nat_lt 0 (shared_network config.now node b))
         (nodes_of config.now.nodes) }
@@ -48,7 +48,7 @@ fn shares_with_all(config: &Config, node: u8) -> bool
 }
 
 /// Does each two nodes share a network, and has each node one?
-#[tactic(auto, unfolding(crate::proofs::Below::all_share, crate::proofs::Below::nodes_of))]
+#[tactic(auto, unfolding(world_model::specs::Reading::all_share, rsct_packet::specs::Mask::nodes_of))]
 pub fn all_share(config: &Config) -> bool
     ensures { result ≡ all_share config.now }
 {

@@ -2,18 +2,18 @@
 ghost use Rattle.std.specs.Prelude.{◌≡◌, ◌-◌, [], OnOk, map, slice_set, slice_get, false};
 ghost use Rattle.std.specs.List.{fold};
 ghost use Rattle.std.specs.Option.{unwrap_or};
-ghost use Rattle.node_sending.specs.rsct_packet.Mask.{node_numbers};
-ghost use Rattle.script_words.specs.world_model.Reading.{first_settings, nothing_read, plain_address, settled, settled_if, with_address, with_line, with_client, finished, taken, IsScript};
+ghost use Rattle.rsct_packet.specs.Mask.{node_numbers};
+ghost use Rattle.world_model.specs.Reading.{first_settings, nothing_read, plain_address, settled, settled_if, with_address, with_line, with_client, finished, taken, IsScript};
 ghost use Rattle.script_reader.specs.Said.{said_seen, votes_seen};
 ghost use Rattle.script_reader.specs.Reading.{reading_seen};
 
 use crate::calls::caller;
 use crate::clients::Clients;
 use crate::said::{ClientVotes, Said};
-use node_sending::node_state::{CallLine, Config, Mode};
-use node_sending::rsct_packet::{List, Mask, NODES, NoMemory};
-use script_words::world_model::{Event, Line, Lines, Script};
+use node_state::{CallLine, Config, Mode};
+use rsct_packet::{List, Mask, NODES, NoMemory};
 use std::alloc::Global;
+use world_model::{Event, Line, Lines, Script};
 
 /// What has been read, and which settings; clients and lines in their order.
 #[derive(Drop)]
@@ -46,7 +46,7 @@ fn first_settings() -> Config
 }
 
 /// The address of a node where no line gives one: 10.1.0.n, or 0 where the node is none of the domain.
-#[tactic(auto, unfolding(crate::proofs::Below::plain_address))]
+#[tactic(auto, unfolding(world_model::specs::Reading::plain_address))]
 fn plain_address(config: &Config, node: u8) -> u32
     ensures { result ≡ plain_address config.now node }
 {
@@ -88,7 +88,7 @@ fn plain_addresses(config: &Config) -> [u32; 32]
 }
 
 /// The settings, where each node has its plain address on network 1.
-#[tactic(auto, unfolding(crate::proofs::Below::settled_if))]
+#[tactic(auto, unfolding(world_model::specs::Reading::settled_if))]
 fn with_plain_addresses(config: &Config) -> Config
     ensures { result ≡ settled_if config.now false }
 {
@@ -112,7 +112,7 @@ fn set_address(addr: &mut [[u32; 32]], node: u8, network: u8, address: u32)
 
 impl ReadSoFar {
     /// Nothing.
-    #[tactic(auto, unfolding(crate::proofs::Below::nothing_read))]
+    #[tactic(auto, unfolding(world_model::specs::Reading::nothing_read))]
     pub fn new(alloc: Global) -> ReadSoFar
         ensures { reading_seen result ≡ nothing_read }
     {
@@ -130,7 +130,7 @@ impl ReadSoFar {
     }
 
     /// The settings, with plain addresses where no line gives any.
-    #[tactic(auto, unfolding(crate::proofs::Below::settled, crate::proofs::Below::settled_if))]
+    #[tactic(auto, unfolding(world_model::specs::Reading::settled, world_model::specs::Reading::settled_if))]
     pub fn settled(&self) -> Config
         ensures { result ≡ settled (reading_seen self.now) }
     {
@@ -142,7 +142,7 @@ impl ReadSoFar {
     }
 
     /// The script, where no line follows.
-    #[tactic(auto, unfolding(crate::proofs::Below::finished), using(crate::proofs::ReadLaws::newest_back))]
+    #[tactic(auto, unfolding(world_model::specs::Reading::finished), using(crate::proofs::ReadLaws::newest_back))]
     pub fn finish(self) -> Script
         ensures { finished (reading_seen self) ≡ IsScript result }
     {
@@ -154,14 +154,14 @@ impl ReadSoFar {
         }
     }
 
-    #[tactic(auto, unfolding(crate::proofs::Below::with_line), using(std::proofs::lemmas::Grind::common_steps))]
+    #[tactic(auto, unfolding(world_model::specs::Reading::with_line), using(std::proofs::lemmas::Grind::common_steps))]
     fn take_line(&mut self, line: Line) -> Result<(), NoMemory>
         ensures { OnOk result (reading_seen self.new ≡ with_line (reading_seen self.old) line) }
     {
         self.lines.push(line)
     }
 
-    #[tactic(auto, unfolding(crate::proofs::Below::with_line, crate::proofs::Below::with_client))]
+    #[tactic(auto, unfolding(world_model::specs::Reading::with_line, world_model::specs::Reading::with_client))]
     fn take_client(
         &mut self,
         alloc: Global,
@@ -183,7 +183,7 @@ impl ReadSoFar {
     }
 
     /// Takes in what a good line says.
-    #[tactic(auto, unfolding(crate::proofs::Below::taken, crate::proofs::Below::with_config, crate::proofs::Below::with_address, crate::proofs::Below::addresses_on))]
+    #[tactic(auto, unfolding(world_model::specs::Reading::taken, world_model::specs::Reading::with_config, world_model::specs::Reading::with_address, node_state::specs::Settings::addresses_on))]
     pub fn take(&mut self, alloc: Global, said: Said) -> Result<(), NoMemory>
         ensures { OnOk result (reading_seen self.new
             ≡ taken (reading_seen self.old) (said_seen said)) }

@@ -1,10 +1,10 @@
 //! Why a line whose words are read is in no script.
 ghost use Rattle.std.specs.Prelude.{◌≡◌, ◌-◌, slice_index};
 ghost use Rattle.std.specs.List.{list_all};
-ghost use Rattle.node_sending.specs.rsct_packet.Mask.{has_node};
-ghost use Rattle.node_sending.specs.node_state.Bytes.{is_packet};
-ghost use Rattle.script_words.specs.world_model.Reading.{nodes_said, is_known_client, event_misplaced, line_misplaced, misplaced, packet_reason, last_reason, reason};
-ghost use Rattle.script_words.specs.world_model.Lines.{SaysBegin};
+ghost use Rattle.rsct_packet.specs.Mask.{has_node};
+ghost use Rattle.node_state.specs.Bytes.{is_packet};
+ghost use Rattle.world_model.specs.Reading.{nodes_said, is_known_client, event_misplaced, line_misplaced, misplaced, packet_reason, last_reason, reason};
+ghost use Rattle.world_model.specs.Lines.{SaysBegin};
 ghost use Rattle.script_reader.specs.Said.{said_seen, nodes_seen};
 ghost use Rattle.script_reader.specs.Reading.{reading_seen};
 
@@ -13,11 +13,11 @@ use crate::clients::Clients;
 use crate::networks::{all_share, is_second_adapter};
 use crate::progress::ReadSoFar;
 use crate::said::{ClientVotes, LineNodes, Said};
-use node_sending::node_state::Config;
-use node_sending::rsct_packet::Mask;
 use node_sending::{is_fixed, is_rings};
+use node_state::Config;
 use packet_codec::PacketRef;
-use script_words::world_model::{Event, Line, LineWhy};
+use rsct_packet::Mask;
+use world_model::{Event, Line, LineWhy};
 
 fn are_nodes(nodes: Mask, named: &[u8]) -> bool
     ensures { result ≡ list_all (has_node nodes) named.now }
@@ -37,7 +37,7 @@ fn line_nodes_are_known(nodes: Mask, named: &LineNodes) -> bool
 }
 
 /// Has each node that must be known an earlier line?
-#[tactic(auto, unfolding(crate::proofs::Below::nodes_said))]
+#[tactic(auto, unfolding(world_model::specs::Reading::nodes_said))]
 fn nodes_are_known(nodes: Mask, said: &Said) -> bool
     ensures { result ≡ list_all (has_node nodes) (nodes_said (said_seen said.now)) }
 {
@@ -51,7 +51,7 @@ fn nodes_are_known(nodes: Mask, said: &Said) -> bool
 }
 
 /// Does an earlier line make the client that calls?
-#[tactic(auto, unfolding(crate::proofs::Below::is_known_client))]
+#[tactic(auto, unfolding(world_model::specs::Reading::is_known_client))]
 fn client_is_known(clients: &Clients, said: &Said) -> bool
     ensures { result ≡ is_known_client (said_seen said.now) clients.now }
 {
@@ -61,7 +61,7 @@ fn client_is_known(clients: &Clients, said: &Said) -> bool
     }
 }
 
-#[tactic(auto, unfolding(crate::proofs::Below::event_misplaced))]
+#[tactic(auto, unfolding(world_model::specs::Reading::event_misplaced))]
 fn event_is_misplaced(config: &Config, event: &Event) -> bool
     ensures { result ≡ event_misplaced config.now event.now }
 {
@@ -75,7 +75,7 @@ fn event_is_misplaced(config: &Config, event: &Event) -> bool
     }
 }
 
-#[tactic(auto, unfolding(crate::proofs::Below::line_misplaced))]
+#[tactic(auto, unfolding(world_model::specs::Reading::line_misplaced))]
 fn line_is_misplaced(config: &Config, line: &Line) -> bool
     ensures { result ≡ line_misplaced config.now line.now }
 {
@@ -95,7 +95,7 @@ fn level_of(config: &Config, node: u8) -> u32
 }
 
 /// Is it a setting after `begin` or for the second time, or an event before it?
-#[tactic(auto, unfolding(crate::proofs::Below::misplaced))]
+#[tactic(auto, unfolding(world_model::specs::Reading::misplaced))]
 fn is_misplaced(read: &ReadSoFar, said: &Said) -> bool
     ensures { result ≡ misplaced (reading_seen read.now) (said_seen said.now) }
 {
@@ -117,7 +117,7 @@ fn is_misplaced(read: &ReadSoFar, said: &Said) -> bool
     }
 }
 
-#[tactic(auto, unfolding(crate::proofs::Below::last_reason))]
+#[tactic(auto, unfolding(world_model::specs::Reading::last_reason))]
 fn network_reason(read: &ReadSoFar) -> Option<LineWhy>
     ensures { result ≡ last_reason (reading_seen read.now) SaysBegin }
 {
@@ -129,14 +129,14 @@ fn network_reason(read: &ReadSoFar) -> Option<LineWhy>
 }
 
 /// Are these bytes a packet?
-#[tactic(auto, unfolding(crate::proofs::Below::is_packet))]
+#[tactic(auto, unfolding(node_state::specs::Bytes::is_packet))]
 fn is_packet(bytes: &[u8]) -> bool
     ensures { result ≡ is_packet bytes.now }
 {
     PacketRef::read(bytes).is_some()
 }
 
-#[tactic(auto, unfolding(crate::proofs::Below::packet_reason))]
+#[tactic(auto, unfolding(world_model::specs::Reading::packet_reason))]
 fn packet_reason(bytes: &[u8]) -> Option<LineWhy>
     ensures { result ≡ packet_reason (is_packet bytes.now) }
 {
@@ -149,7 +149,7 @@ fn packet_reason(bytes: &[u8]) -> Option<LineWhy>
 
 /// The reasons that come last: two nodes without a shared network at `begin`, garbage that is a packet, a client
 /// that a script cannot play.
-#[tactic(auto, unfolding(crate::proofs::Below::last_reason))]
+#[tactic(auto, unfolding(world_model::specs::Reading::last_reason))]
 fn last_reason(read: &ReadSoFar, said: &Said) -> Option<LineWhy>
     ensures { result ≡ last_reason (reading_seen read.now) (said_seen said.now) }
 {
@@ -162,7 +162,7 @@ fn last_reason(read: &ReadSoFar, said: &Said) -> Option<LineWhy>
 }
 
 /// The first reason after a bad word.
-#[tactic(auto, unfolding(crate::proofs::Below::reason))]
+#[tactic(auto, unfolding(world_model::specs::Reading::reason))]
 pub fn reason(read: &ReadSoFar, said: &Said) -> Option<LineWhy>
     ensures { result ≡ reason (reading_seen read.now) (said_seen said.now) }
 {

@@ -1,14 +1,14 @@
 //! What a line says.
-ghost use Rattle.script_words.specs.world_model.Lines.{said};
+ghost use Rattle.world_model.specs.Lines.{said};
 ghost use Rattle.script_words.specs.Heads.{head_seen};
 ghost use Rattle.script_reader.specs.Said.{GivesSaid};
 
 use crate::{calls, events, settings};
-use node_sending::node_state::{CallLine, Mode};
-use node_sending::rsct_packet::List;
-use script_words::world_model::Line;
+use node_state::{CallLine, Mode};
+use rsct_packet::List;
 use script_words::{Head, WordFault, Words};
 use std::alloc::Global;
+use world_model::Line;
 
 /// How a client votes: as an object says, or as the word does.
 #[derive(Drop)]

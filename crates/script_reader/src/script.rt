@@ -1,7 +1,7 @@
 //! A script from its bytes, line by line.
 ghost use Rattle.std.specs.Prelude.{◌≡◌, ◌≤◌, ◌∷◌, [], Some, false};
 ghost use Rattle.std.specs.List.{list_any};
-ghost use Rattle.script_words.specs.world_model.Reading.{is_bad_byte, is_comment, is_extra, skipped_line, taken_unless, said_line, counted_line, formed_line, worded_line, read_line, read_from, input_limit, script_of};
+ghost use Rattle.world_model.specs.Reading.{is_bad_byte, is_comment, is_extra, skipped_line, taken_unless, said_line, counted_line, formed_line, worded_line, read_line, read_from, input_limit, script_of};
 ghost use Rattle.script_words.specs.Heads.{form_seen};
 ghost use Rattle.script_reader.specs.Said.{said_seen};
 ghost use Rattle.script_reader.specs.Reading.{reading_seen, GivesLine, GivesScript};
@@ -10,14 +10,14 @@ use crate::faults::{LineFault, ScriptFault};
 use crate::progress::ReadSoFar;
 use crate::reasons::reason;
 use crate::said::{Said, read_said};
-use script_words::world_model::{LineWhy, Script};
 use script_words::{Form, WordFault, Words, cut_at, form_of};
 use std::alloc::Global;
+use world_model::{LineWhy, Script};
 
 /// How many bytes an input has at most.
 pub const INPUT_LIMIT: usize = 16_777_216;
 
-#[tactic(auto, unfolding(crate::proofs::Below::is_bad_byte))]
+#[tactic(auto, unfolding(world_model::specs::Reading::is_bad_byte))]
 fn is_bad_byte(byte: u8) -> bool
     ensures { result ≡ is_bad_byte byte }
 {
@@ -31,7 +31,7 @@ fn has_bad_byte(line: &[u8]) -> bool
     line.iter().any(|b| is_bad_byte(*b))
 }
 
-#[tactic(auto, unfolding(crate::proofs::Below::is_comment))]
+#[tactic(auto, unfolding(world_model::specs::Reading::is_comment))]
 fn is_comment(line: &[u8]) -> bool
     ensures { result ≡ is_comment line.now }
 {
@@ -41,7 +41,7 @@ fn is_comment(line: &[u8]) -> bool
     }
 }
 
-#[tactic(auto, unfolding(crate::proofs::Below::is_extra))]
+#[tactic(auto, unfolding(world_model::specs::Reading::is_extra))]
 fn is_extra(count: usize, most: Option<usize>) -> bool
     ensures { result ≡ is_extra count most }
 {
@@ -52,7 +52,7 @@ fn is_extra(count: usize, most: Option<usize>) -> bool
 }
 
 /// Takes a blank line or a comment, which is whole.
-#[tactic(auto, unfolding(crate::proofs::Below::skipped_line))]
+#[tactic(auto, unfolding(world_model::specs::Reading::skipped_line))]
 fn skip_line(read: &mut ReadSoFar, whole: bool) -> Result<(), LineFault>
     ensures { GivesLine result read.new (skipped_line (reading_seen read.old) whole) }
 {
@@ -64,7 +64,7 @@ fn skip_line(read: &mut ReadSoFar, whole: bool) -> Result<(), LineFault>
 }
 
 /// Takes what a line says, unless there is a reason against it.
-#[tactic(auto, unfolding(crate::proofs::Below::said_line, crate::proofs::Below::taken_unless))]
+#[tactic(auto, unfolding(world_model::specs::Reading::said_line, world_model::specs::Reading::taken_unless))]
 fn take_said(alloc: Global, read: &mut ReadSoFar, said: Said) -> Result<(), LineFault>
     ensures { GivesLine result read.new (said_line (reading_seen read.old)
         (Some (said_seen said))) }
@@ -77,7 +77,7 @@ fn take_said(alloc: Global, read: &mut ReadSoFar, said: Said) -> Result<(), Line
 }
 
 /// Takes a line by its head and the words after it.
-#[tactic(auto, unfolding(crate::proofs::Below::counted_line, crate::proofs::Below::said_line))]
+#[tactic(auto, unfolding(world_model::specs::Reading::counted_line, world_model::specs::Reading::said_line))]
 fn counted_line(
     alloc: Global,
     read: &mut ReadSoFar,
@@ -102,7 +102,7 @@ fn counted_line(
 }
 
 /// Takes a line of words, if it has any.
-#[tactic(auto, unfolding(crate::proofs::Below::worded_line, crate::proofs::Below::formed_line))]
+#[tactic(auto, unfolding(world_model::specs::Reading::worded_line, world_model::specs::Reading::formed_line))]
 fn worded_line(
     alloc: Global,
     read: &mut ReadSoFar,
@@ -124,7 +124,7 @@ fn worded_line(
 }
 
 /// Takes a line within the limit of an input. `whole`: its line feed stands behind it.
-#[tactic(auto, unfolding(crate::proofs::Below::read_line))]
+#[tactic(auto, unfolding(world_model::specs::Reading::read_line))]
 fn read_line(alloc: Global, read: &mut ReadSoFar, whole: bool, line: &[u8]) -> Result<(), LineFault>
     ensures { GivesLine result read.new (read_line (reading_seen read.old) whole false line.now) }
 {
@@ -164,7 +164,7 @@ fn read_last(
 
 /// The script that the bytes spell. Otherwise the fault is the number of the first line, from 1 on, that is in no
 /// script, and the first reason why, in the order of `LineWhy`; or memory has run out.
-#[tactic(auto, unfolding(crate::proofs::Below::script_of), using(crate::proofs::ScriptLaws::line_long, crate::proofs::ScriptLaws::line_taken, crate::proofs::ScriptLaws::line_fails, crate::proofs::ScriptLaws::last_piece))]
+#[tactic(auto, unfolding(world_model::specs::Reading::script_of), using(crate::proofs::ScriptLaws::line_long, crate::proofs::ScriptLaws::line_taken, crate::proofs::ScriptLaws::line_fails, crate::proofs::ScriptLaws::last_piece))]
 pub fn read_script(alloc: Global, bytes: &[u8]) -> Result<Script, ScriptFault>
     ensures { GivesScript result (script_of bytes.now) }
 {

@@ -79,7 +79,7 @@ pub fn says_domain(words: &mut Words<'_>) -> Option<Said>
 }
 
 /// `begin`.
-#[tactic(auto, unfolding(crate::specs::Said::begin_said, script_words::specs::Answers::bind_opens, crate::proofs::Below::when_true))]
+#[tactic(auto, unfolding(crate::specs::Said::begin_said, script_words::specs::Answers::bind_opens, world_model::specs::Words::when_true))]
 pub fn says_begin(words: &mut Words<'_>) -> Option<Said>
     ensures { option_map said_seen result ≡ begin_said words.old }
 {

@@ -1,7 +1,7 @@
 -- Attributes are read word by word.
 use Rattle.std.proofs.Common.{◌≡◌, ℕ, ◌==◌, ◌||◌, ◌++◌, Bool, true, false, List, [], ◌∷◌, Option, Some, None, refl, sym, ◌∙◌, ap, if◌then◌else◌}
 use Rattle.std.specs.List.{list_any}
-use Rattle.world_model.specs.group_attr.declared.attrs.Attrs.{Attrs}
+use Rattle.group_attr.specs.declared.attrs.Attrs.{Attrs}
 use Rattle.world_model.specs.Words.{◌>>=◌, AttrKey, key_number, key_word, attr_set, before_equals, after_equals, attrs_from}
 use Rattle.script_words.specs.declared.attrs.AttrsRead.{AttrsRead}
 use Rattle.script_words.specs.declared.faults.WordFault.{WordFault}

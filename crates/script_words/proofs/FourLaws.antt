@@ -1,7 +1,7 @@
 -- A word that has not four parts.
 use Rattle.std.proofs.Common.{◌≡◌, ℕ, true, false, List, [], ◌∷◌, Option, Some, None, IfSome, IfNone, is_some, refl}
 use Rattle.std.specs.Borrow.{Bor}
-use Rattle.world_model.specs.rsct_packet.Lists.{is_empty}
+use Rattle.rsct_packet.specs.Lists.{is_empty}
 use Rattle.world_model.specs.Words.{split_on, address_of, provider_of}
 use Rattle.script_words.specs.Four.{NotFour}
 

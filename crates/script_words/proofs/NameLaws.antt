@@ -1,7 +1,7 @@
 -- A name of a group as a word.
 use Rattle.std.proofs.Common.{◌≡◌, ℕ, ◌&&◌, nat_le, IsTrue, Bool, true, false, List, length, Option, Some, None, refl}
 use Rattle.std.specs.List.{list_all}
-use Rattle.world_model.specs.rsct_packet.Text.{IsName, is_name_of, name_byte}
+use Rattle.rsct_packet.specs.Text.{IsName, is_name_of, name_byte}
 use Rattle.world_model.specs.Words.{name_word, when_true}
 
 named_head : (a b c : Bool) (w : List ℕ) → IsTrue (a && b && c) → when_true (Some w) (a && (b && c)) ≡ Some w

@@ -3,7 +3,7 @@ use Rattle.std.proofs.Common.{◌≡◌, ℕ, suc, ◌+◌, ◌-◌, ◌<◌, �
 use Rattle.std.specs.List.{position, position_or_len}
 use Rattle.std.proofs.Math.Seq.{take-length}
 use Rattle.std.proofs.lemmas.Bool.Decides.{nat_tests}
-use Rattle.world_model.specs.rsct_packet.Lists.{is_empty}
+use Rattle.rsct_packet.specs.Lists.{is_empty}
 use Rattle.world_model.specs.Words.{split_on, push_head}
 use Rattle.world_model.specs.Reading.{words_in}
 

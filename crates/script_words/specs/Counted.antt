@@ -1,6 +1,6 @@
 -- Just so many words.
 use Rattle.std.specs.Prelude.{ℕ, List, [], ◌∷◌, Option, Some, None}
-use Rattle.world_model.specs.rsct_packet.Lists.{is_empty}
+use Rattle.rsct_packet.specs.Lists.{is_empty}
 use Rattle.world_model.specs.Words.{◌>>=◌, when_true}
 
 unfoldable pub first_of : List (List ℕ) → Option (List ℕ × List (List ℕ))

@@ -5,7 +5,7 @@ ghost use Rattle.world_model.specs.Words.{split_on, address_word, provider_word}
 
 use crate::numbers::{node_word, number_word, short_word};
 use crate::words::cut_at;
-use world_model::rsct_packet::ProviderId;
+use rsct_packet::ProviderId;
 
 /// What stands between three dots.
 #[derive(Clone, Copy)]

@@ -11,9 +11,9 @@ use crate::faults::WordFault;
 use crate::names::source_word;
 use crate::numbers::short_word;
 use crate::words::{Words, is_word, place_of};
+use group_attr::Attrs;
+use rsct_packet::List;
 use std::alloc::Global;
-use world_model::group_attr::Attrs;
-use world_model::rsct_packet::List;
 
 /// An attribute that a word sets.
 #[derive(Clone, Copy)]

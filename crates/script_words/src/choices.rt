@@ -3,8 +3,8 @@ ghost use Rattle.std.specs.Prelude.{◌≡◌};
 ghost use Rattle.world_model.specs.Words.{phases_word, mode_word, what_word, batch_word, default_word};
 
 use crate::words::is_word;
-use world_model::group_attr::{Batch, DefaultVote, Phases};
-use world_model::node_state::{Mode, What};
+use group_attr::{Batch, DefaultVote, Phases};
+use node_state::{Mode, What};
 
 /// `1` or `n`.
 #[tactic(auto, unfolding(world_model::specs::Words::phases_word, world_model::specs::Words::chosen))]

@@ -2,7 +2,7 @@
 ghost use Rattle.std.specs.Prelude.{◌≡◌};
 ghost use Rattle.script_words.specs.declared.faults.WordFault.TheVariants as word_fault;
 
-use world_model::rsct_packet::NoMemory;
+use rsct_packet::NoMemory;
 
 /// Why a word is not read: it is out of its form, or memory has run out.
 #[derive(Clone, Copy, Debug, PartialEq, Eq)]

@@ -4,9 +4,9 @@ ghost use Rattle.world_model.specs.Words.{hex_pair, hex_word};
 ghost use Rattle.script_words.specs.Answers.{GivesWord};
 
 use crate::faults::WordFault;
+use client_callbacks::hex_value;
+use rsct_packet::List;
 use std::alloc::Global;
-use world_model::client_callbacks::hex_value;
-use world_model::rsct_packet::List;
 
 #[tactic(auto, unfolding(world_model::specs::Words::hex_pair, crate::specs::Answers::bind_opens))]
 fn hex_pair(first: u8, second: u8) -> Option<u8>

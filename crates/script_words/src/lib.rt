@@ -20,4 +20,3 @@ pub use hex::hex_word;
 pub use names::{client_word, group_word};
 pub use numbers::{network_word, node_word, number_word, short_word};
 pub use words::{Words, cut_at, is_word};
-pub use world_model;

@@ -4,8 +4,8 @@ ghost use Rattle.world_model.specs.Words.{name_word, client_word, group_word};
 ghost use Rattle.script_words.specs.Answers.{GivesWord};
 
 use crate::faults::WordFault;
+use rsct_packet::{List, Name, are_name_bytes};
 use std::alloc::Global;
-use world_model::rsct_packet::{List, Name, are_name_bytes};
 
 /// How many bytes the name of a client has at most.
 const MAX_CLIENT: usize = 16;

@@ -4,7 +4,7 @@ ghost use Rattle.std.specs.Option.{option_map};
 ghost use Rattle.script_words.specs.Counted.{first_of, one_of, two_of, three_of, four_of};
 ghost use Rattle.std.specs.List.{position};
 ghost use Rattle.std.specs.Str.{bytes_eq};
-ghost use Rattle.world_model.specs.rsct_packet.Lists.{is_empty};
+ghost use Rattle.rsct_packet.specs.Lists.{is_empty};
 ghost use Rattle.world_model.specs.Words.{split_on};
 ghost use Rattle.world_model.specs.Reading.{words_in};
 

@@ -5,38 +5,38 @@ use Rattle.std.specs.Prelude.{not, ◌==◌, ◌&&◌, ◌-◌, nat_le, nat_lt, 
 use Rattle.std.specs.Str.{bytes_eq}
 use Rattle.std.proofs.lemmas.Bool.{eq-eqb}
 use Rattle.std.proofs.lemmas.Bool.Decides.{nat_tests}
-use Rattle.step_refinement.specs.rsct_packet.declared.ids.ProviderId.{ProviderId}
-use Rattle.step_refinement.specs.rsct_packet.declared.ids.ViewId.{ViewId}
-use Rattle.step_refinement.specs.rsct_packet.declared.mask.Mask.{Mask}
-use Rattle.step_refinement.specs.rsct_packet.Search.{Has}
-use Rattle.step_refinement.proofs.rsct_packet_laws.HasLaws.{has_map}
-use Rattle.step_refinement.specs.proposal_core.declared.entry.Entry.{Entry}
-use Rattle.step_refinement.specs.proposal_core.Fold.{present}
-use Rattle.step_refinement.specs.proposal_core.GroupView.{GroupView}
-use Rattle.step_refinement.specs.proposal_core.Lists.{list_or_new, state_in}
-use Rattle.step_refinement.specs.client_callbacks.declared.told.Why.TheVariants.{Dissolved}
-use Rattle.step_refinement.specs.session_state.declared.state.Provider.{Provider}
-use Rattle.step_refinement.specs.session_state.State.{provider_of, outstanding}
-use Rattle.step_refinement.specs.view_state.declared.install.Part.{Part}
-use Rattle.step_refinement.specs.view_state.declared.install.Install.{Install}
-use Rattle.step_refinement.specs.view_state.declared.install.Base.{Base}
-use Rattle.step_refinement.specs.view_state.Parts.{part_len}
-use Rattle.step_refinement.specs.view_state.Answers.{opened, with_answer, install_of}
-use Rattle.step_refinement.specs.view_state.Bases.{bases_of, base_named}
-use Rattle.step_refinement.specs.view_state.Cut.{lacking_of, lacking_if, all_fit}
-use Rattle.step_refinement.specs.view_state.declared.packet.ViewPacket.TheVariants as packet
-use Rattle.step_refinement.specs.view_state.declared.views.Views.{Views}
-use Rattle.step_refinement.specs.view_state.Views.{others_of, views_entered}
-use Rattle.step_refinement.specs.node_state.declared.group.GroupRow.{GroupRow}
-use Rattle.step_refinement.specs.node_state.declared.packet.Body.TheVariants as body
-use Rattle.step_refinement.specs.node_state.declared.state.Core.{Core}
-use Rattle.step_refinement.specs.node_state.State.{InNameOrder, row_of, with_row, led_of, list_of, held_rows, frozen, led_groups, others, recorded, recorded_all, with_sessions}
-use Rattle.step_refinement.specs.node_state.Sending.{sent, send_requests, send_votes_again}
-use Rattle.step_refinement.specs.node_state.HandOn.{Answering}
-use Rattle.step_refinement.specs.node_state.Leading.{put_and_hand}
-use Rattle.step_refinement.specs.node_state.Applying.{part_of_list, own_parts, Lacking, lacking_in, lacking, fill_lists, level_set, base_row, view_entered, is_in_base, number_of, dissolved, dissolved_if, group_dissolved, sides_dissolved, entering_noted, taken_sent, owed_sent, lead_groups, entered}
-use Rattle.step_refinement.specs.node_state.Ticks.{tally_ticks, sent_again, tick_group, tick_led}
-use Rattle.step_refinement.proofs.node_state_laws.NameOrder.{row_there, rows_ordered}
+use Rattle.rsct_packet.specs.declared.ids.ProviderId.{ProviderId}
+use Rattle.rsct_packet.specs.declared.ids.ViewId.{ViewId}
+use Rattle.rsct_packet.specs.declared.mask.Mask.{Mask}
+use Rattle.rsct_packet.specs.Search.{Has}
+use Rattle.rsct_packet.proofs.HasLaws.{has_map}
+use Rattle.proposal_core.specs.declared.entry.Entry.{Entry}
+use Rattle.proposal_core.specs.Fold.{present}
+use Rattle.proposal_core.specs.GroupView.{GroupView}
+use Rattle.proposal_core.specs.Lists.{list_or_new, state_in}
+use Rattle.client_callbacks.specs.declared.told.Why.TheVariants.{Dissolved}
+use Rattle.session_state.specs.declared.state.Provider.{Provider}
+use Rattle.session_state.specs.State.{provider_of, outstanding}
+use Rattle.view_state.specs.declared.install.Part.{Part}
+use Rattle.view_state.specs.declared.install.Install.{Install}
+use Rattle.view_state.specs.declared.install.Base.{Base}
+use Rattle.view_state.specs.Parts.{part_len}
+use Rattle.view_state.specs.Answers.{opened, with_answer, install_of}
+use Rattle.view_state.specs.Bases.{bases_of, base_named}
+use Rattle.view_state.specs.Cut.{lacking_of, lacking_if, all_fit}
+use Rattle.view_state.specs.declared.packet.ViewPacket.TheVariants as packet
+use Rattle.view_state.specs.declared.views.Views.{Views}
+use Rattle.view_state.specs.Views.{others_of, views_entered}
+use Rattle.node_state.specs.declared.group.GroupRow.{GroupRow}
+use Rattle.node_state.specs.declared.packet.Body.TheVariants as body
+use Rattle.node_state.specs.declared.state.Core.{Core}
+use Rattle.node_state.specs.State.{InNameOrder, row_of, with_row, led_of, list_of, held_rows, frozen, led_groups, others, recorded, recorded_all, with_sessions}
+use Rattle.node_state.specs.Sending.{sent, send_requests, send_votes_again}
+use Rattle.node_state.specs.HandOn.{Answering}
+use Rattle.node_state.specs.Leading.{put_and_hand}
+use Rattle.node_state.specs.Applying.{part_of_list, own_parts, Lacking, lacking_in, lacking, fill_lists, level_set, base_row, view_entered, is_in_base, number_of, dissolved, dissolved_if, group_dissolved, sides_dissolved, entering_noted, taken_sent, owed_sent, lead_groups, entered}
+use Rattle.node_state.specs.Ticks.{tally_ticks, sent_again, tick_group, tick_led}
+use Rattle.node_state.proofs.NameOrder.{row_there, rows_ordered}
 use Rattle.step_refinement.proofs.BaseOrder.{bases_ordered}
 use Rattle.send_laws.specs.Bound.{is_own, puts_of, owned_of, Stands, EndsAt, ListsEnd}
 use Rattle.send_laws.proofs.Counts.{own_in, owned_with}

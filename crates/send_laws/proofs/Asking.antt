@@ -4,36 +4,36 @@ use Rattle.std.specs.Prelude.{IsTrue, not, ◌==◌, ◌||◌, find, is_some, na
 use Rattle.std.specs.Str.{bytes_eq}
 use Rattle.std.proofs.lemmas.Bool.{and_parts}
 use Rattle.std.proofs.lemmas.Bool.Decides.{nat_tests}
-use Rattle.step_refinement.specs.rsct_packet.declared.ids.ViewId.{ViewId}
-use Rattle.step_refinement.specs.rsct_packet.declared.mask.Mask.{Mask}
-use Rattle.step_refinement.specs.rsct_packet.Mask.{nodes_of}
-use Rattle.step_refinement.specs.rsct_packet.Lists.{is_empty}
-use Rattle.step_refinement.specs.view_state.declared.packet.ViewPacket.TheVariants as packet
-use Rattle.step_refinement.specs.rsct_packet.Ids.{same_view}
-use Rattle.step_refinement.specs.rsct_packet.Text.{name_lt}
-use Rattle.step_refinement.specs.rsct_packet.Search.{Has}
-use Rattle.step_refinement.proofs.rsct_packet_laws.HasLaws.{has_map, has_filter}
-use Rattle.step_refinement.specs.proposal_core.Fold.{present}
-use Rattle.step_refinement.specs.proposal_core.Lists.{list_or_new, state_in}
-use Rattle.step_refinement.specs.view_state.declared.exchange.Exchange.{Exchange}
-use Rattle.step_refinement.specs.view_state.declared.sides.Kept.{Kept}
-use Rattle.step_refinement.specs.view_state.declared.install.Part.{Part}
-use Rattle.step_refinement.specs.view_state.declared.install.Source.{Source}
-use Rattle.step_refinement.specs.view_state.declared.install.Install.{Install}
-use Rattle.step_refinement.specs.view_state.declared.install.Base.{Base}
-use Rattle.step_refinement.specs.view_state.Answers.{max_parts, opened, kept_of, side_from, with_side, with_answer, all_answered, source_of, install_of, is_spelled}
-use Rattle.step_refinement.specs.view_state.Bases.{IsBaseOf, is_candidate, parts_in, source_at, parts_from, bases_of}
-use Rattle.step_refinement.specs.view_state.Codec.{views_ascend}
-use Rattle.step_refinement.specs.view_exchange.Longest.{NamesDiffer}
-use Rattle.step_refinement.proofs.view_bases_laws.Bases.{base_is}
-use Rattle.step_refinement.specs.view_state.declared.views.RingAsk.{RingAsk}
-use Rattle.step_refinement.specs.view_state.declared.views.ViewWork.{ViewWork}
-use Rattle.step_refinement.specs.view_state.Views.{view_sent_all, gathering_set, promised, begin_install, gathered, gather_on, own_answer, ask_others, next_view, may_ask, ask_if, ask_row, prepare_again, note_stuck, tick_asks, asks_or_ages, gathering_ticks, views_at_work}
-use Rattle.step_refinement.specs.node_state.declared.group.GroupRow.{GroupRow}
-use Rattle.step_refinement.specs.node_state.declared.state.Core.{Core}
-use Rattle.step_refinement.specs.node_state.State.{AllAfter, InNameOrder, row_found, row_of, list_of, state_of, held_rows, has_name}
-use Rattle.step_refinement.specs.node_state.Applying.{part_of_list, own_parts}
-use Rattle.step_refinement.proofs.node_state_laws.NameOrder.{text_same, text_self, lt_self}
+use Rattle.rsct_packet.specs.declared.ids.ViewId.{ViewId}
+use Rattle.rsct_packet.specs.declared.mask.Mask.{Mask}
+use Rattle.rsct_packet.specs.Mask.{nodes_of}
+use Rattle.rsct_packet.specs.Lists.{is_empty}
+use Rattle.view_state.specs.declared.packet.ViewPacket.TheVariants as packet
+use Rattle.rsct_packet.specs.Ids.{same_view}
+use Rattle.rsct_packet.specs.Text.{name_lt}
+use Rattle.rsct_packet.specs.Search.{Has}
+use Rattle.rsct_packet.proofs.HasLaws.{has_map, has_filter}
+use Rattle.proposal_core.specs.Fold.{present}
+use Rattle.proposal_core.specs.Lists.{list_or_new, state_in}
+use Rattle.view_state.specs.declared.exchange.Exchange.{Exchange}
+use Rattle.view_state.specs.declared.sides.Kept.{Kept}
+use Rattle.view_state.specs.declared.install.Part.{Part}
+use Rattle.view_state.specs.declared.install.Source.{Source}
+use Rattle.view_state.specs.declared.install.Install.{Install}
+use Rattle.view_state.specs.declared.install.Base.{Base}
+use Rattle.view_state.specs.Answers.{max_parts, opened, kept_of, side_from, with_side, with_answer, all_answered, source_of, install_of, is_spelled}
+use Rattle.view_state.specs.Bases.{IsBaseOf, is_candidate, parts_in, source_at, parts_from, bases_of}
+use Rattle.view_state.specs.Codec.{views_ascend}
+use Rattle.view_exchange.specs.Longest.{NamesDiffer}
+use Rattle.view_bases.proofs.Bases.{base_is}
+use Rattle.view_state.specs.declared.views.RingAsk.{RingAsk}
+use Rattle.view_state.specs.declared.views.ViewWork.{ViewWork}
+use Rattle.view_state.specs.Views.{view_sent_all, gathering_set, promised, begin_install, gathered, gather_on, own_answer, ask_others, next_view, may_ask, ask_if, ask_row, prepare_again, note_stuck, tick_asks, asks_or_ages, gathering_ticks, views_at_work}
+use Rattle.node_state.specs.declared.group.GroupRow.{GroupRow}
+use Rattle.node_state.specs.declared.state.Core.{Core}
+use Rattle.node_state.specs.State.{AllAfter, InNameOrder, row_found, row_of, list_of, state_of, held_rows, has_name}
+use Rattle.node_state.specs.Applying.{part_of_list, own_parts}
+use Rattle.node_state.proofs.NameOrder.{text_same, text_self, lt_self}
 use Rattle.step_refinement.proofs.Parts.{own_differ}
 use Rattle.send_laws.specs.Bound.{Room, Stands, Fine, FineIf}
 use Rattle.send_laws.proofs.BaseRooms.{bases_room, base_by_name}

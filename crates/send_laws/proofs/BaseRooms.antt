@@ -1,14 +1,14 @@
 -- The bases of an install: each is that of its name, and has room where the lists have that are carried.
 use Rattle.std.proofs.Common.{◌≡◌, List, [], ◌∷◌, Some, None, Option, refl, sym, subst, inl, inr}
 use Rattle.std.specs.Prelude.{IsTrue, ℕ}
-use Rattle.step_refinement.specs.rsct_packet.Search.{Has}
-use Rattle.step_refinement.specs.view_state.declared.install.Part.{Part}
-use Rattle.step_refinement.specs.view_state.declared.install.Source.{Source}
-use Rattle.step_refinement.specs.view_state.declared.install.Install.{Install}
-use Rattle.step_refinement.specs.view_state.declared.install.Base.{Base}
-use Rattle.step_refinement.specs.view_state.Bases.{IsBaseOf, base_of, bases_for, bases_of, names_in}
-use Rattle.step_refinement.specs.view_state.Codec.{views_ascend}
-use Rattle.step_refinement.proofs.view_bases_laws.Bases.{base_is}
+use Rattle.rsct_packet.specs.Search.{Has}
+use Rattle.view_state.specs.declared.install.Part.{Part}
+use Rattle.view_state.specs.declared.install.Source.{Source}
+use Rattle.view_state.specs.declared.install.Install.{Install}
+use Rattle.view_state.specs.declared.install.Base.{Base}
+use Rattle.view_state.specs.Bases.{IsBaseOf, base_of, bases_for, bases_of, names_in}
+use Rattle.view_state.specs.Codec.{views_ascend}
+use Rattle.view_bases.proofs.Bases.{base_is}
 use Rattle.step_refinement.proofs.BaseOrder.{base_name}
 use Rattle.send_laws.specs.Bound.{Room}
 

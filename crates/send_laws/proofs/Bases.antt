@@ -1,14 +1,14 @@
 -- Each base of a group has room for its providers, so each list of it has.
 use Rattle.std.proofs.Common.{◌≡◌, ◌⊎◌, ℕ, ◌+◌, List, [], ◌∷◌, Option, Some, None, refl, sym, ◌∙◌, subst, ⊎_elim, arith}
-use Rattle.step_refinement.specs.rsct_packet.declared.ids.ViewId.{ViewId}
-use Rattle.step_refinement.specs.proposal_core.declared.entry.Entry.{Entry}
-use Rattle.step_refinement.specs.proposal_core.declared.group_state.GroupState.{GroupState}
-use Rattle.step_refinement.specs.proposal_core.Fold.{after}
-use Rattle.step_refinement.specs.run_safety.Past.{fold_from}
-use Rattle.step_refinement.specs.run_safety.Group.{Standing, Packet, Line, Origin, Reply}
-use Rattle.step_refinement.specs.run_safety.Bases.{Bases, base_state, state_of_list, side_state, BaseIs}
-use Rattle.step_refinement.specs.run_safety.Moves.{Leads, Opening, SetAt, Life, Dawn, NextEvent, Promises, Answers, Appends, Follows, Starts, Enters, Founds, Names, Hears, Asks, Requests, Refuses, IsTold, Acknowledges, Settles}
-use Rattle.step_refinement.proofs.run_safety_laws.Order.{cases_view}
+use Rattle.rsct_packet.specs.declared.ids.ViewId.{ViewId}
+use Rattle.proposal_core.specs.declared.entry.Entry.{Entry}
+use Rattle.proposal_core.specs.declared.group_state.GroupState.{GroupState}
+use Rattle.proposal_core.specs.Fold.{after}
+use Rattle.run_safety.specs.Past.{fold_from}
+use Rattle.run_safety.specs.Group.{Standing, Packet, Line, Origin, Reply}
+use Rattle.run_safety.specs.Bases.{Bases, base_state, state_of_list, side_state, BaseIs}
+use Rattle.run_safety.specs.Moves.{Leads, Opening, SetAt, Life, Dawn, NextEvent, Promises, Answers, Appends, Follows, Starts, Enters, Founds, Names, Hears, Asks, Requests, Refuses, IsTold, Acknowledges, Settles}
+use Rattle.run_safety.proofs.Order.{cases_view}
 use Rattle.send_laws.specs.Bound.{Room}
 use Rattle.send_laws.proofs.Rooms.{room_after}
 

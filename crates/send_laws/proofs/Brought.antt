@@ -4,32 +4,32 @@ use Rattle.std.proofs.Common.{◌≡◌, ◌≤◌, ℕ, List, [], ◌∷◌, le
 use Rattle.std.specs.Prelude.{◌==◌, ◌&&◌, not, nat_le, find}
 use Rattle.std.specs.Str.{bytes_eq}
 use Rattle.std.proofs.lemmas.Bool.{and_parts}
-use Rattle.step_refinement.specs.rsct_packet.declared.ids.ViewId.{ViewId}
-use Rattle.step_refinement.specs.rsct_packet.Ids.{same_view, view_lt, is_member}
-use Rattle.step_refinement.specs.rsct_packet.Mask.{has_node, with_node}
-use Rattle.step_refinement.specs.rsct_packet.Search.{Has}
-use Rattle.step_refinement.proofs.rsct_packet_laws.HasLaws.{find_has, append_has_right}
-use Rattle.step_refinement.specs.view_state.declared.answer.Answer.{Answer}
-use Rattle.step_refinement.specs.view_state.declared.exchange.Exchange.{Exchange}
-use Rattle.step_refinement.specs.view_state.declared.install.Part.{Part}
-use Rattle.step_refinement.specs.view_state.declared.install.Source.{Source}
-use Rattle.step_refinement.specs.view_state.declared.install.Install.{Install}
-use Rattle.step_refinement.specs.view_state.declared.install.Base.{Base}
-use Rattle.step_refinement.specs.view_state.Answers.{max_parts, may_answer, with_answer, all_answered, install_of, is_spelled}
-use Rattle.step_refinement.specs.view_state.Bases.{parts_in, source_at, parts_from, bases_of, base_named}
-use Rattle.step_refinement.specs.view_exchange.Longest.{NamesDiffer, CarriesLongest, IsLongest, Brings}
-use Rattle.step_refinement.proofs.view_exchange_laws.Longest.{longest_are_carried}
-use Rattle.step_refinement.specs.view_state.declared.packet.ViewPacket.{ViewPacket}
-use Rattle.step_refinement.specs.view_state.declared.packet.ViewPacket.TheVariants as view
-use Rattle.step_refinement.specs.view_state.declared.views.ViewWork.{ViewWork}
-use Rattle.step_refinement.specs.view_state.Views.{views_at_work, view_sent, gathering_set, promised, begin_install, gathered, gather_on, answered, prepare, prepare_row, answer_to, answer_row, refused_by, refuse_to, refuse_row, installed, install_row, taken_row}
-use Rattle.step_refinement.specs.node_state.declared.packet.Body.{Body}
-use Rattle.step_refinement.specs.node_state.declared.packet.Body.TheVariants as body
-use Rattle.step_refinement.specs.node_state.declared.packet.Packet.{Packet}
-use Rattle.step_refinement.specs.node_state.declared.state.Core.{Core}
-use Rattle.step_refinement.specs.node_state.Applying.{own_parts, base_row}
-use Rattle.step_refinement.specs.node_state.State.{InNameOrder}
-use Rattle.step_refinement.proofs.node_state_laws.NameOrder.{text_same, text_self}
+use Rattle.rsct_packet.specs.declared.ids.ViewId.{ViewId}
+use Rattle.rsct_packet.specs.Ids.{same_view, view_lt, is_member}
+use Rattle.rsct_packet.specs.Mask.{has_node, with_node}
+use Rattle.rsct_packet.specs.Search.{Has}
+use Rattle.rsct_packet.proofs.HasLaws.{find_has, append_has_right}
+use Rattle.view_state.specs.declared.answer.Answer.{Answer}
+use Rattle.view_state.specs.declared.exchange.Exchange.{Exchange}
+use Rattle.view_state.specs.declared.install.Part.{Part}
+use Rattle.view_state.specs.declared.install.Source.{Source}
+use Rattle.view_state.specs.declared.install.Install.{Install}
+use Rattle.view_state.specs.declared.install.Base.{Base}
+use Rattle.view_state.specs.Answers.{max_parts, may_answer, with_answer, all_answered, install_of, is_spelled}
+use Rattle.view_state.specs.Bases.{parts_in, source_at, parts_from, bases_of, base_named}
+use Rattle.view_exchange.specs.Longest.{NamesDiffer, CarriesLongest, IsLongest, Brings}
+use Rattle.view_exchange.proofs.Longest.{longest_are_carried}
+use Rattle.view_state.specs.declared.packet.ViewPacket.{ViewPacket}
+use Rattle.view_state.specs.declared.packet.ViewPacket.TheVariants as view
+use Rattle.view_state.specs.declared.views.ViewWork.{ViewWork}
+use Rattle.view_state.specs.Views.{views_at_work, view_sent, gathering_set, promised, begin_install, gathered, gather_on, answered, prepare, prepare_row, answer_to, answer_row, refused_by, refuse_to, refuse_row, installed, install_row, taken_row}
+use Rattle.node_state.specs.declared.packet.Body.{Body}
+use Rattle.node_state.specs.declared.packet.Body.TheVariants as body
+use Rattle.node_state.specs.declared.packet.Packet.{Packet}
+use Rattle.node_state.specs.declared.state.Core.{Core}
+use Rattle.node_state.specs.Applying.{own_parts, base_row}
+use Rattle.node_state.specs.State.{InNameOrder}
+use Rattle.node_state.proofs.NameOrder.{text_same, text_self}
 use Rattle.step_refinement.specs.Ghost.{Ghost, ReplyIs, Gathers, BaseIsOf, Installs}
 use Rattle.step_refinement.specs.Tied.{ShowsBody, Scene, Tied}
 use Rattle.step_refinement.proofs.BaseOrder.{bases_ordered}

@@ -1,22 +1,22 @@
 -- What a call of a client sends.
 use Rattle.std.proofs.Common.{ℕ, ◌+◌, List, length, filter, fold, Some, None, Option, Bool, true, false, Result, Ok, Err, refl, arith}
-use Rattle.step_refinement.specs.session_state.declared.fault.GsFault.{GsFault}
-use Rattle.step_refinement.specs.session_state.declared.state.Provider.{Provider}
-use Rattle.step_refinement.specs.session_state.declared.state.Request.{Request}
-use Rattle.step_refinement.specs.session_state.declared.state.KeptBallot.{KeptBallot}
-use Rattle.step_refinement.specs.session_state.declared.state.SessionState.{SessionState}
-use Rattle.step_refinement.specs.session_state.State.{is_client_of, client_token}
-use Rattle.step_refinement.specs.session_state.Calls.{inited, joined, left, expelled, state_changed, message_sent, attributes_changed, voted, subscribe_taken, unsubscribe_taken, goodbye_taken}
-use Rattle.step_refinement.specs.client_callbacks.declared.ballot.Filled.{Filled}
+use Rattle.session_state.specs.declared.fault.GsFault.{GsFault}
+use Rattle.session_state.specs.declared.state.Provider.{Provider}
+use Rattle.session_state.specs.declared.state.Request.{Request}
+use Rattle.session_state.specs.declared.state.KeptBallot.{KeptBallot}
+use Rattle.session_state.specs.declared.state.SessionState.{SessionState}
+use Rattle.session_state.specs.State.{is_client_of, client_token}
+use Rattle.session_state.specs.Calls.{inited, joined, left, expelled, state_changed, message_sent, attributes_changed, voted, subscribe_taken, unsubscribe_taken, goodbye_taken}
+use Rattle.client_callbacks.specs.declared.ballot.Filled.{Filled}
 use Rattle.std.specs.List.{last_or}
-use Rattle.step_refinement.specs.node_state.declared.call.CallLine.{CallLine}
-use Rattle.step_refinement.specs.node_state.declared.call.CallLine.TheVariants as call
-use Rattle.step_refinement.specs.node_state.declared.happened.Happened.TheVariants as happened
-use Rattle.step_refinement.specs.node_state.declared.packet.Body.TheVariants as body
-use Rattle.step_refinement.specs.node_state.declared.state.Core.{Core}
-use Rattle.step_refinement.specs.node_state.State.{holds, frozen, leader_of, recorded, with_sessions}
-use Rattle.step_refinement.specs.node_state.Sending.{send_request, vote_of, send_kept, send_kept_to}
-use Rattle.step_refinement.specs.node_state.Calls.{caller, subscriber, refuse_call, changed, ask_last, proposed, record_ballot, ballot_sent_if, cast_last, give_ballot, send_gone, send_all_gone, goodbye_said, take_call}
+use Rattle.node_state.specs.declared.call.CallLine.{CallLine}
+use Rattle.node_state.specs.declared.call.CallLine.TheVariants as call
+use Rattle.node_state.specs.declared.happened.Happened.TheVariants as happened
+use Rattle.node_state.specs.declared.packet.Body.TheVariants as body
+use Rattle.node_state.specs.declared.state.Core.{Core}
+use Rattle.node_state.specs.State.{holds, frozen, leader_of, recorded, with_sessions}
+use Rattle.node_state.specs.Sending.{send_request, vote_of, send_kept, send_kept_to}
+use Rattle.node_state.specs.Calls.{caller, subscriber, refuse_call, changed, ask_last, proposed, record_ballot, ballot_sent_if, cast_last, give_ballot, send_gone, send_all_gone, goodbye_said, take_call}
 use Rattle.send_laws.specs.Bound.{Stands}
 use Rattle.send_laws.proofs.Counts.{kept_few}
 use Rattle.send_laws.proofs.Parts.{Goes, goes_same, goes_more, free_then, fold_each, goes_sent_if, goes_recorded, goes_sessions}

@@ -1,13 +1,13 @@
 -- How lists shorten, and how records, rows and packets are counted.
 use Rattle.std.proofs.Common.{◌≡◌, ◌≤◌, ℕ, ◌+◌, List, [], ◌∷◌, ◌++◌, length, map, filter, find, Some, Bool, true, false, cond, refl, sym, ap, subst, arith}
 use Rattle.std.specs.Str.{bytes_eq}
-use Rattle.step_refinement.specs.rsct_packet.Text.{name_lt}
-use Rattle.step_refinement.specs.proposal_core.Fold.{present}
-use Rattle.step_refinement.specs.proposal_core.Lists.{state_in}
-use Rattle.step_refinement.specs.node_state.declared.happened.Happened.{Happened}
-use Rattle.step_refinement.specs.node_state.declared.group.GroupRow.{GroupRow}
-use Rattle.step_refinement.specs.node_state.State.{InNameOrder, new_row, row_found, rows_with, has_name}
-use Rattle.step_refinement.proofs.node_state_laws.NameOrder.{after_less, none_after}
+use Rattle.rsct_packet.specs.Text.{name_lt}
+use Rattle.proposal_core.specs.Fold.{present}
+use Rattle.proposal_core.specs.Lists.{state_in}
+use Rattle.node_state.specs.declared.happened.Happened.{Happened}
+use Rattle.node_state.specs.declared.group.GroupRow.{GroupRow}
+use Rattle.node_state.specs.State.{InNameOrder, new_row, row_found, rows_with, has_name}
+use Rattle.node_state.proofs.NameOrder.{after_less, none_after}
 use Rattle.send_laws.specs.Bound.{puts_of, waits_of, is_own, owned_of}
 
 pub kept_few : {A : Type 0} (test : A → Bool) (xs : List A) → length (filter test xs) ≤ length xs

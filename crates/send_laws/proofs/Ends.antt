@@ -1,27 +1,27 @@
 -- What the end of a step sends: a packet for each join that no longer waits, beside a hundred for each put.
 use Rattle.std.proofs.Common.{◌≡◌, ◌≤◌, ℕ, zero, suc, ◌+◌, List, [], ◌∷◌, length, filter, fold, Some, None, Option, Bool, true, false, refl, ap, ◌∙◌, arith}
 use Rattle.std.specs.Prelude.{not}
-use Rattle.step_refinement.specs.rsct_packet.declared.ids.ProviderId.{ProviderId}
-use Rattle.step_refinement.specs.rsct_packet.Lists.{is_empty}
-use Rattle.step_refinement.specs.rsct_packet.Providers.{among}
-use Rattle.step_refinement.specs.group_attr.declared.attrs.Attrs.{Attrs}
-use Rattle.step_refinement.specs.group_attr.declared.attrs.Batch.{Batch}
-use Rattle.step_refinement.specs.proposal_core.declared.proposal.Failure.{Failure}
-use Rattle.step_refinement.specs.proposal_core.declared.proposal.Proposal.TheVariants.{Join, Fail, Reflect}
-use Rattle.step_refinement.specs.proposal_core.declared.group_state.GroupState.{GroupState}
-use Rattle.step_refinement.specs.proposal_core.Lists.{list_or_new}
-use Rattle.step_refinement.specs.batch_rules.Waiting.{WaitingView, batches_joins, batches_failures, chosen_of, left_of, next_failures, failures_left, next_joins, joins_left}
-use Rattle.step_refinement.specs.source_target.declared.Due.{Due}
-use Rattle.step_refinement.specs.source_target.declared.Due.TheVariants as due
-use Rattle.step_refinement.specs.source_target.Due as target
-use Rattle.step_refinement.specs.client_callbacks.declared.told.Why.TheVariants.{NoSource}
-use Rattle.step_refinement.specs.node_state.declared.group.GroupRow.{GroupRow}
-use Rattle.step_refinement.specs.node_state.declared.state.Core.{Core}
-use Rattle.step_refinement.specs.node_state.State.{row_of, with_row, with_led, led_of, state_of, frozen, led_groups}
-use Rattle.step_refinement.specs.node_state.HandOn.{Answering}
-use Rattle.step_refinement.specs.node_state.Leading.{with_waiting, begins}
-use Rattle.step_refinement.specs.node_state.Deciding.{refused, known_state, lacks_source, source_len}
-use Rattle.step_refinement.specs.node_state.Ending.{Pass, quiet, begun_now, failures_begin, due_begins, source_begins, attrs_for, carried_len, source_refused, joins_begin, or_due, or_joins, may_begin, first_begins, group_begins, one_pass, passes, most_begun, end_step}
+use Rattle.rsct_packet.specs.declared.ids.ProviderId.{ProviderId}
+use Rattle.rsct_packet.specs.Lists.{is_empty}
+use Rattle.rsct_packet.specs.Providers.{among}
+use Rattle.group_attr.specs.declared.attrs.Attrs.{Attrs}
+use Rattle.group_attr.specs.declared.attrs.Batch.{Batch}
+use Rattle.proposal_core.specs.declared.proposal.Failure.{Failure}
+use Rattle.proposal_core.specs.declared.proposal.Proposal.TheVariants.{Join, Fail, Reflect}
+use Rattle.proposal_core.specs.declared.group_state.GroupState.{GroupState}
+use Rattle.proposal_core.specs.Lists.{list_or_new}
+use Rattle.batch_rules.specs.Waiting.{WaitingView, batches_joins, batches_failures, chosen_of, left_of, next_failures, failures_left, next_joins, joins_left}
+use Rattle.source_target.specs.declared.Due.{Due}
+use Rattle.source_target.specs.declared.Due.TheVariants as due
+use Rattle.source_target.specs.Due as target
+use Rattle.client_callbacks.specs.declared.told.Why.TheVariants.{NoSource}
+use Rattle.node_state.specs.declared.group.GroupRow.{GroupRow}
+use Rattle.node_state.specs.declared.state.Core.{Core}
+use Rattle.node_state.specs.State.{row_of, with_row, with_led, led_of, state_of, frozen, led_groups}
+use Rattle.node_state.specs.HandOn.{Answering}
+use Rattle.node_state.specs.Leading.{with_waiting, begins}
+use Rattle.node_state.specs.Deciding.{refused, known_state, lacks_source, source_len}
+use Rattle.node_state.specs.Ending.{Pass, quiet, begun_now, failures_begin, due_begins, source_begins, attrs_for, carried_len, source_refused, joins_begin, or_due, or_joins, may_begin, first_begins, group_begins, one_pass, passes, most_begun, end_step}
 use Rattle.send_laws.specs.Bound.{puts_of, waits_of, Stands}
 use Rattle.send_laws.proofs.Counts.{kept_few, waits_with}
 use Rattle.send_laws.proofs.Parts.{Goes, goes_same, then_free, fold_each}

@@ -2,36 +2,36 @@
 use Rattle.std.proofs.Common.{◌≡◌, ◌≤◌, ℕ, ◌+◌, ◌*◌, ◌-◌, List, [], ◌∷◌, length, fold, flat_map, drop, Some, None, Option, Bool, true, false, refl, sym, ap, ◌∙◌, subst, inl, inr, arith}
 use Rattle.std.specs.Prelude.{nat_le, nat_lt, find}
 use Rattle.std.specs.Str.{bytes_eq}
-use Rattle.step_refinement.specs.rsct_packet.declared.ids.ProviderId.{ProviderId}
-use Rattle.step_refinement.specs.rsct_packet.declared.ids.ProtoId.{ProtoId}
-use Rattle.step_refinement.specs.rsct_packet.declared.ids.ViewId.{ViewId}
-use Rattle.step_refinement.specs.rsct_packet.Search.{Has}
-use Rattle.step_refinement.specs.proposal_core.declared.entry.Entry.{Entry}
-use Rattle.step_refinement.specs.proposal_core.declared.group_state.GroupState.{GroupState}
-use Rattle.step_refinement.specs.proposal_core.Fold.{fits}
-use Rattle.step_refinement.specs.proposal_core.GroupView.{GroupView}
-use Rattle.step_refinement.specs.proposal_core.Lists.{list_or_new, entry_fits, with_entry}
-use Rattle.step_refinement.specs.subscribe_core.Subs.{differs}
-use Rattle.step_refinement.specs.client_callbacks.declared.ballot.Filled.{Filled}
-use Rattle.step_refinement.specs.client_callbacks.Ballots.{BallotView}
-use Rattle.step_refinement.specs.session_state.declared.casts.Cast.{Cast}
-use Rattle.step_refinement.specs.session_state.declared.state.SessionState.{SessionState}
-use Rattle.step_refinement.specs.session_state.HandOn.{hearers, casts_out}
-use Rattle.step_refinement.specs.session_state.HandOn as session
-use Rattle.step_refinement.specs.view_state.declared.install.Part.{Part}
-use Rattle.step_refinement.specs.view_state.Parts.{part_len}
-use Rattle.step_refinement.specs.view_state.Cut.{all_fit, lacking_if, lacking_of}
-use Rattle.step_refinement.specs.view_exchange.Longest.{NamesDiffer}
-use Rattle.step_refinement.proofs.view_bases_laws.CutLaws.{fit_ends}
-use Rattle.step_refinement.specs.view_state.declared.views.Views.{Views}
-use Rattle.step_refinement.specs.node_state.declared.group.GroupRow.{GroupRow}
-use Rattle.step_refinement.specs.node_state.declared.state.Core.{Core}
-use Rattle.step_refinement.specs.node_state.State.{row_found, row_of, with_row, list_of, state_of, len_of, fits_at_end, frozen, recorded, recorded_all, with_sessions}
-use Rattle.step_refinement.specs.node_state.Sending.{send_if_known}
-use Rattle.step_refinement.specs.node_state.HandOn.{Answering, fills, heard, notes, noted, ballot_sent, cast_sent_of, casts_sent, hand_on}
-use Rattle.step_refinement.specs.node_state.Leading.{put, put_and_hand}
-use Rattle.step_refinement.specs.node_state.Applying.{Lacking, lacking_in, fill_lists}
-use Rattle.step_refinement.proofs.node_state_laws.NameOrder.{row_here, row_there}
+use Rattle.rsct_packet.specs.declared.ids.ProviderId.{ProviderId}
+use Rattle.rsct_packet.specs.declared.ids.ProtoId.{ProtoId}
+use Rattle.rsct_packet.specs.declared.ids.ViewId.{ViewId}
+use Rattle.rsct_packet.specs.Search.{Has}
+use Rattle.proposal_core.specs.declared.entry.Entry.{Entry}
+use Rattle.proposal_core.specs.declared.group_state.GroupState.{GroupState}
+use Rattle.proposal_core.specs.Fold.{fits}
+use Rattle.proposal_core.specs.GroupView.{GroupView}
+use Rattle.proposal_core.specs.Lists.{list_or_new, entry_fits, with_entry}
+use Rattle.subscribe_core.specs.Subs.{differs}
+use Rattle.client_callbacks.specs.declared.ballot.Filled.{Filled}
+use Rattle.client_callbacks.specs.Ballots.{BallotView}
+use Rattle.session_state.specs.declared.casts.Cast.{Cast}
+use Rattle.session_state.specs.declared.state.SessionState.{SessionState}
+use Rattle.session_state.specs.HandOn.{hearers, casts_out}
+use Rattle.session_state.specs.HandOn as session
+use Rattle.view_state.specs.declared.install.Part.{Part}
+use Rattle.view_state.specs.Parts.{part_len}
+use Rattle.view_state.specs.Cut.{all_fit, lacking_if, lacking_of}
+use Rattle.view_exchange.specs.Longest.{NamesDiffer}
+use Rattle.view_bases.proofs.CutLaws.{fit_ends}
+use Rattle.view_state.specs.declared.views.Views.{Views}
+use Rattle.node_state.specs.declared.group.GroupRow.{GroupRow}
+use Rattle.node_state.specs.declared.state.Core.{Core}
+use Rattle.node_state.specs.State.{row_found, row_of, with_row, list_of, state_of, len_of, fits_at_end, frozen, recorded, recorded_all, with_sessions}
+use Rattle.node_state.specs.Sending.{send_if_known}
+use Rattle.node_state.specs.HandOn.{Answering, fills, heard, notes, noted, ballot_sent, cast_sent_of, casts_sent, hand_on}
+use Rattle.node_state.specs.Leading.{put, put_and_hand}
+use Rattle.node_state.specs.Applying.{Lacking, lacking_in, fill_lists}
+use Rattle.node_state.proofs.NameOrder.{row_here, row_there}
 use Rattle.send_laws.specs.Bound.{puts_of, waits_of, Room, Stands}
 use Rattle.send_laws.specs.Lasting.{Lasting}
 use Rattle.send_laws.proofs.Parts.{Goes, free_then, goes_recorded_all, goes_sessions}

@@ -1,26 +1,26 @@
 -- How many ballots are sent as an entry is handed on: one for each that hears it at most.
 use Rattle.std.proofs.Common.{◌≡◌, ◌≤◌, ℕ, ◌+◌, List, [], ◌∷◌, ◌++◌, length, map, filter, fold, flat_map, Some, None, Option, Bool, true, false, refl, arith, length-append}
 use Rattle.std.specs.Prelude.{is_none}
-use Rattle.step_refinement.specs.rsct_packet.declared.ids.ProviderId.{ProviderId}
-use Rattle.step_refinement.specs.rsct_packet.declared.ids.ProtoId.{ProtoId}
-use Rattle.step_refinement.specs.proposal_core.declared.entry.Entry.{Entry}
-use Rattle.step_refinement.specs.proposal_core.declared.entry.Entry.TheVariants.{Once, Begin, Phase, Approve, Reject, Late}
-use Rattle.step_refinement.specs.proposal_core.declared.group_state.GroupState.{GroupState}
-use Rattle.step_refinement.specs.proposal_core.declared.group_state.Running.{Running}
-use Rattle.step_refinement.specs.proposal_core.Fold.{joiners_in, can_begin, fits}
-use Rattle.step_refinement.specs.subscribe_core.declared.subs.Subscription.{Subscription}
-use Rattle.step_refinement.specs.subscribe_core.Subs.{is_of_group, differs}
-use Rattle.step_refinement.specs.client_callbacks.declared.ballot.Filled.{Filled}
-use Rattle.step_refinement.specs.client_callbacks.Ballots.{BallotView}
-use Rattle.step_refinement.specs.session_state.declared.casts.Cast.{Cast}
-use Rattle.step_refinement.specs.session_state.declared.state.SessionState.{SessionState}
-use Rattle.step_refinement.specs.session_state.HandOn.{hears, hearers_in, brought_by, beginners, hearers, casts_of, casts_out}
-use Rattle.step_refinement.specs.session_state.HandOn as session
-use Rattle.step_refinement.specs.session_state.State.{provider_of}
-use Rattle.step_refinement.specs.node_state.declared.state.Core.{Core}
-use Rattle.step_refinement.specs.node_state.State.{frozen, recorded_all, with_sessions}
-use Rattle.step_refinement.specs.node_state.Sending.{vote_of}
-use Rattle.step_refinement.specs.node_state.HandOn.{Answering, fills, cast_record, cast_records, heard, note_of, notes, noted, ballot_sent, cast_sent_of, casts_sent, hand_on}
+use Rattle.rsct_packet.specs.declared.ids.ProviderId.{ProviderId}
+use Rattle.rsct_packet.specs.declared.ids.ProtoId.{ProtoId}
+use Rattle.proposal_core.specs.declared.entry.Entry.{Entry}
+use Rattle.proposal_core.specs.declared.entry.Entry.TheVariants.{Once, Begin, Phase, Approve, Reject, Late}
+use Rattle.proposal_core.specs.declared.group_state.GroupState.{GroupState}
+use Rattle.proposal_core.specs.declared.group_state.Running.{Running}
+use Rattle.proposal_core.specs.Fold.{joiners_in, can_begin, fits}
+use Rattle.subscribe_core.specs.declared.subs.Subscription.{Subscription}
+use Rattle.subscribe_core.specs.Subs.{is_of_group, differs}
+use Rattle.client_callbacks.specs.declared.ballot.Filled.{Filled}
+use Rattle.client_callbacks.specs.Ballots.{BallotView}
+use Rattle.session_state.specs.declared.casts.Cast.{Cast}
+use Rattle.session_state.specs.declared.state.SessionState.{SessionState}
+use Rattle.session_state.specs.HandOn.{hears, hearers_in, brought_by, beginners, hearers, casts_of, casts_out}
+use Rattle.session_state.specs.HandOn as session
+use Rattle.session_state.specs.State.{provider_of}
+use Rattle.node_state.specs.declared.state.Core.{Core}
+use Rattle.node_state.specs.State.{frozen, recorded_all, with_sessions}
+use Rattle.node_state.specs.Sending.{vote_of}
+use Rattle.node_state.specs.HandOn.{Answering, fills, cast_record, cast_records, heard, note_of, notes, noted, ballot_sent, cast_sent_of, casts_sent, hand_on}
 use Rattle.send_laws.specs.Bound.{puts_of, Room, Stands}
 use Rattle.send_laws.proofs.Counts.{kept_few, puts_both}
 use Rattle.send_laws.proofs.Rooms.{both, begins_room}

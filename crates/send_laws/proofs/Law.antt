@@ -1,11 +1,11 @@
 -- Every step of a run sends few packets: by induction over the events, each node is ready for the next.
 use Rattle.std.proofs.Common.{◌≡◌, ℕ, ◌+◌, List, [], ◌∷◌, fold, Option, Some, None, Bool, true, false, refl, subst}
 use Rattle.std.specs.Prelude.{◌==◌}
-use Rattle.step_refinement.specs.rsct_packet.Mask.{nodes_of}
-use Rattle.step_refinement.specs.node_state.declared.config.Config.{Config}
-use Rattle.step_refinement.specs.node_state.declared.state.Core.{Core}
-use Rattle.step_refinement.specs.node_state.Step.{NodeEvent, at_work, stepped}
-use Rattle.step_refinement.specs.node_state.Step.NodeEvent.{Ticks, Asks, Given, Calls, Garbage}
+use Rattle.rsct_packet.specs.Mask.{nodes_of}
+use Rattle.node_state.specs.declared.config.Config.{Config}
+use Rattle.node_state.specs.declared.state.Core.{Core}
+use Rattle.node_state.specs.Step.{NodeEvent, at_work, stepped}
+use Rattle.node_state.specs.Step.NodeEvent.{Ticks, Asks, Given, Calls, Garbage}
 use Rattle.step_refinement.specs.Tied.{Scene, Tied}
 use Rattle.step_refinement.specs.Rows.{Arises, starts_too, nothing_yet}
 use Rattle.step_refinement.specs.Runs.{Reached, Nothing, AllStart, Starts, Stops, Steps, Notes}

@@ -1,31 +1,31 @@
 -- What the leader of a group sends: a hundred packets for each entry that it puts, at most.
 use Rattle.std.proofs.Common.{◌≡◌, ◌≤◌, ℕ, zero, suc, ◌+◌, ◌*◌, List, [], ◌∷◌, ◌++◌, length, map, filter, Some, None, Option, Bool, true, false, refl, sym, ◌∙◌, subst, arith}
 use Rattle.std.specs.Prelude.{not, nat_le, ◌==◌, ◌-◌, max, drop, if◌then◌else◌}
-use Rattle.step_refinement.specs.rsct_packet.declared.ids.ProviderId.{ProviderId}
-use Rattle.step_refinement.specs.rsct_packet.declared.ids.Member.{Member}
-use Rattle.step_refinement.specs.rsct_packet.Providers.{among}
-use Rattle.step_refinement.specs.group_attr.declared.attrs.Phases.{Phases}
-use Rattle.step_refinement.specs.group_attr.declared.attrs.Phases.TheVariants.{One, Many}
-use Rattle.step_refinement.specs.proposal_core.declared.proposal.Cause.{Cause}
-use Rattle.step_refinement.specs.proposal_core.declared.proposal.Cause.TheVariants.{Died, Gone}
-use Rattle.step_refinement.specs.proposal_core.declared.proposal.Proposal.{Proposal}
-use Rattle.step_refinement.specs.proposal_core.declared.entry.Entry.{Entry}
-use Rattle.step_refinement.specs.proposal_core.declared.entry.Entry.TheVariants.{Once, Begin}
-use Rattle.step_refinement.specs.proposal_core.declared.group_state.GroupState.{GroupState}
-use Rattle.step_refinement.specs.proposal_core.Fold.{max_phases, fits}
-use Rattle.step_refinement.specs.proposal_core.GroupView.{GroupView}
-use Rattle.step_refinement.specs.proposal_core.Lists.{list_or_new, state_in, has_room, entry_fits, with_entry, forgotten}
-use Rattle.step_refinement.specs.vote_phases.Tally.{TallyView}
-use Rattle.step_refinement.specs.batch_rules.Waiting.{WaitingView, takes_failure, add_failure}
-use Rattle.step_refinement.specs.view_state.Views.{others_of}
-use Rattle.step_refinement.specs.node_state.declared.group.GroupRow.{GroupRow}
-use Rattle.step_refinement.specs.node_state.declared.happened.Happened.TheVariants as happened
-use Rattle.step_refinement.specs.node_state.declared.packet.Body.TheVariants as body
-use Rattle.step_refinement.specs.node_state.declared.state.Core.{Core}
-use Rattle.step_refinement.specs.node_state.State.{row_of, with_row, led_of, list_of, state_of, len_of, list_forgotten, forget_below, fits_at_end, leader_of, others, least_acked, recorded}
-use Rattle.step_refinement.specs.node_state.Sending.{send_all}
-use Rattle.step_refinement.specs.node_state.HandOn.{Answering, hand_on}
-use Rattle.step_refinement.specs.node_state.Leading.{put, put_and_hand, forget_least, with_waiting, wait_if, new_members_wait, appended, append_if_fits, tally_set, tally_for, tally_opened, with_tally, closing_entry, is_phase, closes_from, closes, begin_many, begins}
+use Rattle.rsct_packet.specs.declared.ids.ProviderId.{ProviderId}
+use Rattle.rsct_packet.specs.declared.ids.Member.{Member}
+use Rattle.rsct_packet.specs.Providers.{among}
+use Rattle.group_attr.specs.declared.attrs.Phases.{Phases}
+use Rattle.group_attr.specs.declared.attrs.Phases.TheVariants.{One, Many}
+use Rattle.proposal_core.specs.declared.proposal.Cause.{Cause}
+use Rattle.proposal_core.specs.declared.proposal.Cause.TheVariants.{Died, Gone}
+use Rattle.proposal_core.specs.declared.proposal.Proposal.{Proposal}
+use Rattle.proposal_core.specs.declared.entry.Entry.{Entry}
+use Rattle.proposal_core.specs.declared.entry.Entry.TheVariants.{Once, Begin}
+use Rattle.proposal_core.specs.declared.group_state.GroupState.{GroupState}
+use Rattle.proposal_core.specs.Fold.{max_phases, fits}
+use Rattle.proposal_core.specs.GroupView.{GroupView}
+use Rattle.proposal_core.specs.Lists.{list_or_new, state_in, has_room, entry_fits, with_entry, forgotten}
+use Rattle.vote_phases.specs.Tally.{TallyView}
+use Rattle.batch_rules.specs.Waiting.{WaitingView, takes_failure, add_failure}
+use Rattle.view_state.specs.Views.{others_of}
+use Rattle.node_state.specs.declared.group.GroupRow.{GroupRow}
+use Rattle.node_state.specs.declared.happened.Happened.TheVariants as happened
+use Rattle.node_state.specs.declared.packet.Body.TheVariants as body
+use Rattle.node_state.specs.declared.state.Core.{Core}
+use Rattle.node_state.specs.State.{row_of, with_row, led_of, list_of, state_of, len_of, list_forgotten, forget_below, fits_at_end, leader_of, others, least_acked, recorded}
+use Rattle.node_state.specs.Sending.{send_all}
+use Rattle.node_state.specs.HandOn.{Answering, hand_on}
+use Rattle.node_state.specs.Leading.{put, put_and_hand, forget_least, with_waiting, wait_if, new_members_wait, appended, append_if_fits, tally_set, tally_for, tally_opened, with_tally, closing_entry, is_phase, closes_from, closes, begin_many, begins}
 use Rattle.send_laws.specs.Bound.{puts_of, waits_of, Room, Stands}
 use Rattle.send_laws.specs.Lasting.{Lasting}
 use Rattle.send_laws.proofs.Counts.{kept_few, mapped_long, puts_both}

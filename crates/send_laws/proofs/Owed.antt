@@ -1,22 +1,22 @@
 -- What is sent of what a node owes to the leaders of groups, in a tick.
 use Rattle.std.proofs.Common.{◌≡◌, ◌≤◌, ℕ, ◌+◌, List, [], ◌∷◌, length, filter, fold, Some, None, Option, Bool, true, false, cond, refl, ap, ◌∙◌, subst, arith}
 use Rattle.std.specs.Prelude.{◌&&◌, ◌==◌, is_some, is_none}
-use Rattle.step_refinement.specs.rsct_packet.declared.ids.ProviderId.{ProviderId}
-use Rattle.step_refinement.specs.proposal_core.Lists.{state_in}
-use Rattle.step_refinement.specs.proposal_core.Fold.{present, runs}
-use Rattle.step_refinement.specs.session_state.declared.state.KeptBallot.{KeptBallot}
-use Rattle.step_refinement.specs.client_callbacks.declared.ballot.Filled.{Filled}
-use Rattle.step_refinement.specs.session_state.State.{provider_of}
-use Rattle.step_refinement.specs.session_state.declared.state.Request.{Request}
-use Rattle.step_refinement.specs.node_state.declared.group.GroupRow.{GroupRow}
-use Rattle.step_refinement.specs.node_state.declared.packet.Packet.{Packet}
-use Rattle.step_refinement.specs.node_state.declared.packet.Body.{Body}
-use Rattle.step_refinement.specs.node_state.declared.packet.Body.TheVariants as body
-use Rattle.step_refinement.specs.node_state.declared.state.Core.{Core}
-use Rattle.step_refinement.specs.view_state.declared.views.Views.{Views}
-use Rattle.step_refinement.specs.node_state.State.{state_of, held_rows, frozen, leader_of}
-use Rattle.step_refinement.specs.node_state.Sending.{send_on, sent, send_if_known, send_request_to, send_request, send_requests, vote_of, send_kept_to, send_kept, kept_sent_if, kept_sent_again, send_votes_again}
-use Rattle.step_refinement.specs.node_state.Ticks.{is_lost, lost_told, tick_owed}
+use Rattle.rsct_packet.specs.declared.ids.ProviderId.{ProviderId}
+use Rattle.proposal_core.specs.Lists.{state_in}
+use Rattle.proposal_core.specs.Fold.{present, runs}
+use Rattle.session_state.specs.declared.state.KeptBallot.{KeptBallot}
+use Rattle.client_callbacks.specs.declared.ballot.Filled.{Filled}
+use Rattle.session_state.specs.State.{provider_of}
+use Rattle.session_state.specs.declared.state.Request.{Request}
+use Rattle.node_state.specs.declared.group.GroupRow.{GroupRow}
+use Rattle.node_state.specs.declared.packet.Packet.{Packet}
+use Rattle.node_state.specs.declared.packet.Body.{Body}
+use Rattle.node_state.specs.declared.packet.Body.TheVariants as body
+use Rattle.node_state.specs.declared.state.Core.{Core}
+use Rattle.view_state.specs.declared.views.Views.{Views}
+use Rattle.node_state.specs.State.{state_of, held_rows, frozen, leader_of}
+use Rattle.node_state.specs.Sending.{send_on, sent, send_if_known, send_request_to, send_request, send_requests, vote_of, send_kept_to, send_kept, kept_sent_if, kept_sent_again, send_votes_again}
+use Rattle.node_state.specs.Ticks.{is_lost, lost_told, tick_owed}
 use Rattle.send_laws.specs.Bound.{is_own, owned_of, owed_count, Stands}
 use Rattle.send_laws.proofs.Counts.{own_in}
 use Rattle.send_laws.proofs.Rooms.{both}

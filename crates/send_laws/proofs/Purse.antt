@@ -2,38 +2,38 @@
 -- its put pays for the packets and for those that it may owe to say that they are gone.
 use Rattle.std.proofs.Common.{◌≡◌, ◌≤◌, ℕ, zero, suc, ◌+◌, ◌*◌, List, [], ◌∷◌, ◌++◌, length, filter, fold, flat_map, Some, None, Option, Bool, true, false, refl, sym, ap, ◌∙◌, subst, arith, length-append}
 use Rattle.std.specs.Prelude.{not, is_some, nat_le, max, drop, ◌-◌, if◌then◌else◌}
-use Rattle.step_refinement.specs.rsct_packet.declared.ids.ProviderId.{ProviderId}
-use Rattle.step_refinement.specs.rsct_packet.Providers.{among}
-use Rattle.step_refinement.specs.proposal_core.declared.proposal.Cause.{Cause}
-use Rattle.step_refinement.specs.proposal_core.declared.proposal.Cause.TheVariants.{Died, Gone}
-use Rattle.step_refinement.specs.proposal_core.declared.entry.Vote.{Vote}
-use Rattle.step_refinement.specs.proposal_core.declared.entry.Vote.TheVariants as vote
-use Rattle.step_refinement.specs.proposal_core.declared.entry.Entry.{Entry}
-use Rattle.step_refinement.specs.proposal_core.declared.entry.Entry.TheVariants.{Once, Begin, Phase, Approve, Reject, Late}
-use Rattle.step_refinement.specs.client_callbacks.declared.ballot.Filled.{Filled}
-use Rattle.step_refinement.specs.proposal_core.declared.group_state.GroupState.{GroupState}
-use Rattle.step_refinement.specs.proposal_core.declared.group_state.Running.{Running}
-use Rattle.step_refinement.specs.proposal_core.Fold.{max_phases, present, joiners_in}
-use Rattle.step_refinement.specs.proposal_core.GroupView.{GroupView}
-use Rattle.step_refinement.specs.proposal_core.Lists.{list_or_new, state_in, with_entry, forgotten}
-use Rattle.step_refinement.specs.vote_phases.Tally.{TallyView, outcome}
-use Rattle.step_refinement.specs.batch_rules.Waiting.{add_failure}
-use Rattle.step_refinement.specs.session_state.declared.casts.Cast.{Cast}
-use Rattle.step_refinement.specs.session_state.declared.state.SessionState.{SessionState}
-use Rattle.step_refinement.specs.session_state.HandOn.{asks, cast_with, cast_of, casts_of, casts_out, hearers, kept_by}
-use Rattle.step_refinement.specs.session_state.HandOn as session
-use Rattle.step_refinement.specs.view_state.declared.views.Views.{Views}
-use Rattle.step_refinement.specs.node_state.declared.group.GroupRow.{GroupRow}
-use Rattle.step_refinement.specs.node_state.declared.group.Led.{Led}
-use Rattle.step_refinement.specs.node_state.declared.packet.Body.{Body}
-use Rattle.step_refinement.specs.node_state.declared.packet.Body.TheVariants as body
-use Rattle.step_refinement.specs.node_state.declared.state.Core.{Core}
-use Rattle.step_refinement.specs.node_state.State.{row_of, with_row, with_led, led_of, list_of, state_of, len_of, list_forgotten, forget_below, fits_at_end, frozen, leader_of, led_groups, others, least_acked, recorded, recorded_all, with_sessions}
-use Rattle.step_refinement.specs.node_state.Sending.{sent, send_all}
-use Rattle.step_refinement.specs.node_state.HandOn.{Answering, fills, heard, noted, cast_sent_of, casts_sent, hand_on}
-use Rattle.step_refinement.specs.node_state.Leading.{put, forget_least, with_waiting, wait_if, new_members_wait, appended, tally_set, tally_for, tally_opened, closed_by, value_of, closing, closing_of, closing_entry, is_phase, closes_from, closes}
-use Rattle.step_refinement.specs.node_state.Applying.{wait_failed, phase_reopened, lead, lead_groups}
-use Rattle.step_refinement.proofs.node_state_laws.NameOrder.{row_here}
+use Rattle.rsct_packet.specs.declared.ids.ProviderId.{ProviderId}
+use Rattle.rsct_packet.specs.Providers.{among}
+use Rattle.proposal_core.specs.declared.proposal.Cause.{Cause}
+use Rattle.proposal_core.specs.declared.proposal.Cause.TheVariants.{Died, Gone}
+use Rattle.proposal_core.specs.declared.entry.Vote.{Vote}
+use Rattle.proposal_core.specs.declared.entry.Vote.TheVariants as vote
+use Rattle.proposal_core.specs.declared.entry.Entry.{Entry}
+use Rattle.proposal_core.specs.declared.entry.Entry.TheVariants.{Once, Begin, Phase, Approve, Reject, Late}
+use Rattle.client_callbacks.specs.declared.ballot.Filled.{Filled}
+use Rattle.proposal_core.specs.declared.group_state.GroupState.{GroupState}
+use Rattle.proposal_core.specs.declared.group_state.Running.{Running}
+use Rattle.proposal_core.specs.Fold.{max_phases, present, joiners_in}
+use Rattle.proposal_core.specs.GroupView.{GroupView}
+use Rattle.proposal_core.specs.Lists.{list_or_new, state_in, with_entry, forgotten}
+use Rattle.vote_phases.specs.Tally.{TallyView, outcome}
+use Rattle.batch_rules.specs.Waiting.{add_failure}
+use Rattle.session_state.specs.declared.casts.Cast.{Cast}
+use Rattle.session_state.specs.declared.state.SessionState.{SessionState}
+use Rattle.session_state.specs.HandOn.{asks, cast_with, cast_of, casts_of, casts_out, hearers, kept_by}
+use Rattle.session_state.specs.HandOn as session
+use Rattle.view_state.specs.declared.views.Views.{Views}
+use Rattle.node_state.specs.declared.group.GroupRow.{GroupRow}
+use Rattle.node_state.specs.declared.group.Led.{Led}
+use Rattle.node_state.specs.declared.packet.Body.{Body}
+use Rattle.node_state.specs.declared.packet.Body.TheVariants as body
+use Rattle.node_state.specs.declared.state.Core.{Core}
+use Rattle.node_state.specs.State.{row_of, with_row, with_led, led_of, list_of, state_of, len_of, list_forgotten, forget_below, fits_at_end, frozen, leader_of, led_groups, others, least_acked, recorded, recorded_all, with_sessions}
+use Rattle.node_state.specs.Sending.{sent, send_all}
+use Rattle.node_state.specs.HandOn.{Answering, fills, heard, noted, cast_sent_of, casts_sent, hand_on}
+use Rattle.node_state.specs.Leading.{put, forget_least, with_waiting, wait_if, new_members_wait, appended, tally_set, tally_for, tally_opened, closed_by, value_of, closing, closing_of, closing_entry, is_phase, closes_from, closes}
+use Rattle.node_state.specs.Applying.{wait_failed, phase_reopened, lead, lead_groups}
+use Rattle.node_state.proofs.NameOrder.{row_here}
 use Rattle.send_laws.specs.Bound.{is_own, puts_of, waits_of, owned_of, Room, Stands}
 use Rattle.send_laws.specs.Lasting.{FewBody}
 use Rattle.send_laws.proofs.Counts.{kept_few, own_in, owned_with}

@@ -2,20 +2,20 @@
 use Rattle.std.proofs.Common.{◌≡◌, ℕ, List, [], ◌∷◌, map, fold, Some, None, Option, Bool, true, false, refl, sym, ap, ◌∙◌, subst}
 use Rattle.std.specs.Prelude.{◌||◌, if◌then◌else◌}
 use Rattle.std.specs.List.{list_any}
-use Rattle.step_refinement.specs.rsct_packet.declared.ids.ProviderId.{ProviderId}
-use Rattle.step_refinement.specs.rsct_packet.Providers.{among}
-use Rattle.step_refinement.specs.group_attr.declared.attrs.DefaultVote.{DefaultVote}
-use Rattle.step_refinement.specs.group_attr.declared.attrs.DefaultVote.TheVariants as default_vote
-use Rattle.step_refinement.specs.proposal_core.declared.entry.Vote.{Vote}
-use Rattle.step_refinement.specs.proposal_core.declared.entry.Vote.TheVariants.{Approve, Continue, Reject}
-use Rattle.step_refinement.specs.proposal_core.declared.entry.RowVote.{RowVote}
-use Rattle.step_refinement.specs.proposal_core.declared.entry.RowVote.TheVariants as row_vote
-use Rattle.step_refinement.specs.proposal_core.declared.entry.Row.{Row}
-use Rattle.step_refinement.specs.proposal_core.declared.group_state.GroupState.{GroupState}
-use Rattle.step_refinement.specs.proposal_core.Fold.{voters}
-use Rattle.step_refinement.specs.vote_phases.declared.voter.Voter.{Voter}
-use Rattle.step_refinement.specs.vote_phases.Tally.{TallyView, no_vote, tally_new, is_voter, or_vote, given, given_to, tally_fail, has_open, vote_of_default, vote_of_row, row_or, rows_of, is_reject, is_continue, any_stands, tally_of, outcome}
-use Rattle.step_refinement.specs.node_state.Leading.{limit_of, fails_if, tally_for}
+use Rattle.rsct_packet.specs.declared.ids.ProviderId.{ProviderId}
+use Rattle.rsct_packet.specs.Providers.{among}
+use Rattle.group_attr.specs.declared.attrs.DefaultVote.{DefaultVote}
+use Rattle.group_attr.specs.declared.attrs.DefaultVote.TheVariants as default_vote
+use Rattle.proposal_core.specs.declared.entry.Vote.{Vote}
+use Rattle.proposal_core.specs.declared.entry.Vote.TheVariants.{Approve, Continue, Reject}
+use Rattle.proposal_core.specs.declared.entry.RowVote.{RowVote}
+use Rattle.proposal_core.specs.declared.entry.RowVote.TheVariants as row_vote
+use Rattle.proposal_core.specs.declared.entry.Row.{Row}
+use Rattle.proposal_core.specs.declared.group_state.GroupState.{GroupState}
+use Rattle.proposal_core.specs.Fold.{voters}
+use Rattle.vote_phases.specs.declared.voter.Voter.{Voter}
+use Rattle.vote_phases.specs.Tally.{TallyView, no_vote, tally_new, is_voter, or_vote, given, given_to, tally_fail, has_open, vote_of_default, vote_of_row, row_or, rows_of, is_reject, is_continue, any_stands, tally_of, outcome}
+use Rattle.node_state.specs.Leading.{limit_of, fails_if, tally_for}
 
 -- it failed, or has no row
 abbrev FailedOr : DefaultVote → Option RowVote → Type 0

@@ -1,22 +1,22 @@
 -- How many packets an adapter's ring sends in one step: 97 in a tick, 64 for a packet.
 use Rattle.std.proofs.Common.{◌≡◌, ◌≤◌, ℕ, ◌+◌, ◌*◌, List, [], ◌∷◌, length, map, Some, None, Option, Bool, true, false, refl, sym, ap, ◌∙◌, subst, arith, length-append}
 use Rattle.std.specs.Prelude.{not, ◌&&◌, ◌==◌, nat_le, is_none}
-use Rattle.step_refinement.specs.rsct_packet.declared.ids.RingId.{RingId}
-use Rattle.step_refinement.specs.rsct_packet.declared.mask.Mask.{Mask}
-use Rattle.step_refinement.specs.rsct_packet.Ids.{same_ring, last_u32, risen}
-use Rattle.step_refinement.specs.rsct_packet.Mask.{no_nodes, has_node, with_node, without_node, union_of, nodes_of, node_numbers}
-use Rattle.step_refinement.specs.ring_commit.declared.gather.Gather.{Gather}
-use Rattle.step_refinement.specs.ring_commit.Gather.{gather_opened, gather_acked, all_acked}
-use Rattle.step_refinement.specs.adapter_ring.declared.packet.RingPacket.{RingPacket}
-use Rattle.step_refinement.specs.adapter_ring.declared.packet.RingSend.{RingSend}
-use Rattle.step_refinement.specs.adapter_ring.declared.packet.RingPacket.TheVariants.{Heartbeat, Proclaim, Join, Ptc, PtcAck, Commit, Death}
-use Rattle.step_refinement.specs.adapter_ring.declared.packet.RingEvent.TheVariants.{Tick, Packet}
-use Rattle.step_refinement.specs.adapter_ring.declared.ring.Ring.{Ring}
-use Rattle.step_refinement.specs.adapter_ring.declared.ring.RingSettings.{RingSettings}
-use Rattle.step_refinement.specs.adapter_ring.declared.ring.Gathering.{Gathering}
-use Rattle.step_refinement.specs.adapter_ring.declared.work.RingWork.{RingWork}
-use Rattle.step_refinement.specs.adapter_ring.Addresses.{has_addr, outside}
-use Rattle.step_refinement.specs.adapter_ring.Rings.{neighbour, upstream, ring_leads, is_shared, patience, ring_send, ring_send_all, ring_set, ring_close, ring_gathering, next_ring, ring_numbered, ring_gather_on, ring_gather, ring_alone, send_heartbeat, ring_proclaim, ring_beat, buries, death_counts, death_row, death_told_to, tell_death, ring_wait_on, ring_wait, ring_ages_of, ring_age, ring_tick, heartbeat_row, answers_proclaim, proclaim_row, takes_join, join_row, may_promise, ptc_row, ack_row_of, ack_row, is_promised, commit_row, all_lower, packet_row, ring_row, at_work, ring_step}
+use Rattle.rsct_packet.specs.declared.ids.RingId.{RingId}
+use Rattle.rsct_packet.specs.declared.mask.Mask.{Mask}
+use Rattle.rsct_packet.specs.Ids.{same_ring, last_u32, risen}
+use Rattle.rsct_packet.specs.Mask.{no_nodes, has_node, with_node, without_node, union_of, nodes_of, node_numbers}
+use Rattle.ring_commit.specs.declared.gather.Gather.{Gather}
+use Rattle.ring_commit.specs.Gather.{gather_opened, gather_acked, all_acked}
+use Rattle.adapter_ring.specs.declared.packet.RingPacket.{RingPacket}
+use Rattle.adapter_ring.specs.declared.packet.RingSend.{RingSend}
+use Rattle.adapter_ring.specs.declared.packet.RingPacket.TheVariants.{Heartbeat, Proclaim, Join, Ptc, PtcAck, Commit, Death}
+use Rattle.adapter_ring.specs.declared.packet.RingEvent.TheVariants.{Tick, Packet}
+use Rattle.adapter_ring.specs.declared.ring.Ring.{Ring}
+use Rattle.adapter_ring.specs.declared.ring.RingSettings.{RingSettings}
+use Rattle.adapter_ring.specs.declared.ring.Gathering.{Gathering}
+use Rattle.adapter_ring.specs.declared.work.RingWork.{RingWork}
+use Rattle.adapter_ring.specs.Addresses.{has_addr, outside}
+use Rattle.adapter_ring.specs.Rings.{neighbour, upstream, ring_leads, is_shared, patience, ring_send, ring_send_all, ring_set, ring_close, ring_gathering, next_ring, ring_numbered, ring_gather_on, ring_gather, ring_alone, send_heartbeat, ring_proclaim, ring_beat, buries, death_counts, death_row, death_told_to, tell_death, ring_wait_on, ring_wait, ring_ages_of, ring_age, ring_tick, heartbeat_row, answers_proclaim, proclaim_row, takes_join, join_row, may_promise, ptc_row, ack_row_of, ack_row, is_promised, commit_row, all_lower, packet_row, ring_row, at_work, ring_step}
 use Rattle.send_laws.proofs.Counts.{kept_few, mapped_long}
 use Rattle.send_laws.proofs.Rooms.{both}
 

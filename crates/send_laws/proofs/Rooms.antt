@@ -2,17 +2,17 @@
 use Rattle.std.proofs.Common.{◌≡◌, ◌≤◌, ℕ, ◌+◌, List, [], ◌∷◌, length, Some, None, Option, Bool, true, false, refl, sym, subst, arith, length-append}
 use Rattle.std.specs.Prelude.{◌&&◌, nat_le, is_none}
 use Rattle.std.proofs.lemmas.Bool.Decides.{nat_tests}
-use Rattle.step_refinement.specs.rsct_packet.declared.ids.ProviderId.{ProviderId}
-use Rattle.step_refinement.specs.rsct_packet.declared.ids.ViewId.{ViewId}
-use Rattle.step_refinement.specs.rsct_packet.Providers.{none_among, without_all}
-use Rattle.step_refinement.specs.group_attr.declared.attrs.Attrs.{Attrs}
-use Rattle.step_refinement.specs.proposal_core.declared.proposal.Proposal.{Proposal}
-use Rattle.step_refinement.specs.proposal_core.declared.proposal.Proposal.TheVariants.{Join, Leave, Fail, Expel, State, Message, Attributes, Reflect}
-use Rattle.step_refinement.specs.proposal_core.declared.entry.Entry.{Entry}
-use Rattle.step_refinement.specs.proposal_core.declared.entry.Entry.TheVariants.{Once, Begin, Phase, Approve, Reject, Late}
-use Rattle.step_refinement.specs.proposal_core.declared.group_state.GroupState.{GroupState}
-use Rattle.step_refinement.specs.proposal_core.declared.group_state.Running.{Running}
-use Rattle.step_refinement.specs.proposal_core.Fold.{max_providers, joins_of, joiners_in, fallen_of, can_begin, fits, without, effect, first_attrs, take_attrs, begun, take_value, replace_proposed, approve, take_rejection, reject, advance, next_phase, apply, after_if, after}
+use Rattle.rsct_packet.specs.declared.ids.ProviderId.{ProviderId}
+use Rattle.rsct_packet.specs.declared.ids.ViewId.{ViewId}
+use Rattle.rsct_packet.specs.Providers.{none_among, without_all}
+use Rattle.group_attr.specs.declared.attrs.Attrs.{Attrs}
+use Rattle.proposal_core.specs.declared.proposal.Proposal.{Proposal}
+use Rattle.proposal_core.specs.declared.proposal.Proposal.TheVariants.{Join, Leave, Fail, Expel, State, Message, Attributes, Reflect}
+use Rattle.proposal_core.specs.declared.entry.Entry.{Entry}
+use Rattle.proposal_core.specs.declared.entry.Entry.TheVariants.{Once, Begin, Phase, Approve, Reject, Late}
+use Rattle.proposal_core.specs.declared.group_state.GroupState.{GroupState}
+use Rattle.proposal_core.specs.declared.group_state.Running.{Running}
+use Rattle.proposal_core.specs.Fold.{max_providers, joins_of, joiners_in, fallen_of, can_begin, fits, without, effect, first_attrs, take_attrs, begun, take_value, replace_proposed, approve, take_rejection, reject, advance, next_phase, apply, after_if, after}
 use Rattle.send_laws.specs.Bound.{Room}
 use Rattle.send_laws.proofs.Counts.{kept_few}
 

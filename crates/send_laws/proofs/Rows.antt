@@ -5,44 +5,44 @@ use Rattle.std.specs.Prelude.{nat_le, nat_lt, not, is_some, is_none, ◌&&◌, �
 use Rattle.std.proofs.lemmas.Bool.Decides.{nat_tests}
 use Rattle.std.specs.Option.{unwrap_or}
 use Rattle.std.specs.Str.{bytes_eq}
-use Rattle.step_refinement.specs.rsct_packet.declared.ids.ProviderId.{ProviderId}
-use Rattle.step_refinement.specs.rsct_packet.declared.ids.ProtoId.{ProtoId}
-use Rattle.step_refinement.specs.rsct_packet.Providers.{among}
-use Rattle.step_refinement.specs.group_attr.declared.attrs.Attrs.{Attrs}
-use Rattle.step_refinement.specs.group_attr.declared.attrs.Phases.{Phases}
-use Rattle.step_refinement.specs.group_attr.Agree.{agree}
-use Rattle.step_refinement.specs.proposal_core.declared.proposal.Cause.TheVariants.{Gone}
-use Rattle.step_refinement.specs.proposal_core.declared.proposal.Proposal.{Proposal}
-use Rattle.step_refinement.specs.proposal_core.declared.proposal.Proposal.TheVariants.{Join, Leave, Fail, Expel, State, Message, Attributes, Reflect}
-use Rattle.step_refinement.specs.proposal_core.declared.entry.Vote.{Vote}
-use Rattle.step_refinement.specs.proposal_core.declared.entry.Entry.{Entry}
-use Rattle.step_refinement.specs.proposal_core.declared.group_state.GroupState.{GroupState}
-use Rattle.step_refinement.specs.proposal_core.Fold.{max_providers, runs, present}
-use Rattle.step_refinement.specs.proposal_core.Lists.{is_at_limit}
-use Rattle.step_refinement.specs.vote_phases.Tally.{TallyView, tally_fail}
-use Rattle.step_refinement.specs.batch_rules.Waiting.{WaitingView, has_instance, waits_join, add_failure, drop_join}
-use Rattle.step_refinement.specs.name_server.Names as names
-use Rattle.step_refinement.specs.name_server.declared.names.Leader.{Leader}
-use Rattle.step_refinement.specs.client_callbacks.declared.told.Why.{Why}
-use Rattle.step_refinement.specs.client_callbacks.declared.told.Why.TheVariants.{GroupsFull}
-use Rattle.step_refinement.specs.client_callbacks.declared.told.Why.TheVariants as why
-use Rattle.step_refinement.specs.session_state.declared.state.Request.{Request}
-use Rattle.step_refinement.specs.session_state.State.{outstanding}
-use Rattle.step_refinement.specs.session_state.HandOn.{is_numbered, take_telling}
-use Rattle.step_refinement.specs.node_state.declared.group.Decision.{Decision}
-use Rattle.step_refinement.specs.node_state.declared.group.GroupRow.{GroupRow}
-use Rattle.step_refinement.specs.node_state.declared.group.Led.{Led}
-use Rattle.step_refinement.specs.node_state.declared.happened.Happened.TheVariants as happened
-use Rattle.step_refinement.specs.node_state.declared.packet.Body.{Body}
-use Rattle.step_refinement.specs.node_state.declared.packet.Body.TheVariants as body
-use Rattle.step_refinement.specs.node_state.declared.state.Core.{Core}
-use Rattle.step_refinement.specs.node_state.State.{row_of, led_of, with_led, list_of, state_of, len_of, holds, fits_at_end, forget_below, frozen, coordinates, leader_of, leads, set_leader, acked_raised, decision_of, decisions_with, recorded, with_sessions}
-use Rattle.step_refinement.specs.node_state.Sending.{sent, send_request_to, send_request}
-use Rattle.step_refinement.specs.node_state.HandOn.{Answering}
-use Rattle.step_refinement.specs.node_state.Leading.{put_and_hand, forget_least, with_waiting, with_tally, closes, begins}
-use Rattle.step_refinement.specs.node_state.Deciding.{keep_decision, refused, lacks_source, source_len, is_idle_empty, meant_attrs, join_refusal, keep_attrs, wait_join, decide_join, other_refusal, decide_change, decided}
-use Rattle.step_refinement.specs.node_state.Following.{take_lookup, told_if, take_tell, requests_of, named, is_name_used, take_name, tell_again, decide_new, request_after, request_at, is_group_refused, take_request, entry_next, entry_elsewhere, take_entry, acked, take_ack, vote_cast, take_vote, tally_failed, wait_gone, marked, gone_present, gone_of, take_gone}
-use Rattle.step_refinement.proofs.node_state_laws.NameOrder.{row_here}
+use Rattle.rsct_packet.specs.declared.ids.ProviderId.{ProviderId}
+use Rattle.rsct_packet.specs.declared.ids.ProtoId.{ProtoId}
+use Rattle.rsct_packet.specs.Providers.{among}
+use Rattle.group_attr.specs.declared.attrs.Attrs.{Attrs}
+use Rattle.group_attr.specs.declared.attrs.Phases.{Phases}
+use Rattle.group_attr.specs.Agree.{agree}
+use Rattle.proposal_core.specs.declared.proposal.Cause.TheVariants.{Gone}
+use Rattle.proposal_core.specs.declared.proposal.Proposal.{Proposal}
+use Rattle.proposal_core.specs.declared.proposal.Proposal.TheVariants.{Join, Leave, Fail, Expel, State, Message, Attributes, Reflect}
+use Rattle.proposal_core.specs.declared.entry.Vote.{Vote}
+use Rattle.proposal_core.specs.declared.entry.Entry.{Entry}
+use Rattle.proposal_core.specs.declared.group_state.GroupState.{GroupState}
+use Rattle.proposal_core.specs.Fold.{max_providers, runs, present}
+use Rattle.proposal_core.specs.Lists.{is_at_limit}
+use Rattle.vote_phases.specs.Tally.{TallyView, tally_fail}
+use Rattle.batch_rules.specs.Waiting.{WaitingView, has_instance, waits_join, add_failure, drop_join}
+use Rattle.name_server.specs.Names as names
+use Rattle.name_server.specs.declared.names.Leader.{Leader}
+use Rattle.client_callbacks.specs.declared.told.Why.{Why}
+use Rattle.client_callbacks.specs.declared.told.Why.TheVariants.{GroupsFull}
+use Rattle.client_callbacks.specs.declared.told.Why.TheVariants as why
+use Rattle.session_state.specs.declared.state.Request.{Request}
+use Rattle.session_state.specs.State.{outstanding}
+use Rattle.session_state.specs.HandOn.{is_numbered, take_telling}
+use Rattle.node_state.specs.declared.group.Decision.{Decision}
+use Rattle.node_state.specs.declared.group.GroupRow.{GroupRow}
+use Rattle.node_state.specs.declared.group.Led.{Led}
+use Rattle.node_state.specs.declared.happened.Happened.TheVariants as happened
+use Rattle.node_state.specs.declared.packet.Body.{Body}
+use Rattle.node_state.specs.declared.packet.Body.TheVariants as body
+use Rattle.node_state.specs.declared.state.Core.{Core}
+use Rattle.node_state.specs.State.{row_of, led_of, with_led, list_of, state_of, len_of, holds, fits_at_end, forget_below, frozen, coordinates, leader_of, leads, set_leader, acked_raised, decision_of, decisions_with, recorded, with_sessions}
+use Rattle.node_state.specs.Sending.{sent, send_request_to, send_request}
+use Rattle.node_state.specs.HandOn.{Answering}
+use Rattle.node_state.specs.Leading.{put_and_hand, forget_least, with_waiting, with_tally, closes, begins}
+use Rattle.node_state.specs.Deciding.{keep_decision, refused, lacks_source, source_len, is_idle_empty, meant_attrs, join_refusal, keep_attrs, wait_join, decide_join, other_refusal, decide_change, decided}
+use Rattle.node_state.specs.Following.{take_lookup, told_if, take_tell, requests_of, named, is_name_used, take_name, tell_again, decide_new, request_after, request_at, is_group_refused, take_request, entry_next, entry_elsewhere, take_entry, acked, take_ack, vote_cast, take_vote, tally_failed, wait_gone, marked, gone_present, gone_of, take_gone}
+use Rattle.node_state.proofs.NameOrder.{row_here}
 use Rattle.send_laws.specs.Bound.{Stands}
 use Rattle.send_laws.proofs.Counts.{kept_few}
 use Rattle.send_laws.proofs.Parts.{Goes, goes_same, goes_more, then_free, free_then, fold_free, fold_each, goes_row, goes_led, goes_joined, goes_sent, goes_recorded, goes_sessions}

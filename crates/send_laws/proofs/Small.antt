@@ -1,19 +1,19 @@
 -- What stays few between two events: at each node that is up, and in all that was sent. A start and a step keep it.
 use Rattle.std.proofs.Common.{◌≡◌, ◌≤◌, ℕ, ◌+◌, List, [], ◌++◌, length, filter, Option, Some, None, refl, sym, subst, inl, ⊎_elim, arith}
-use Rattle.step_refinement.specs.rsct_packet.declared.ids.Member.{Member}
-use Rattle.step_refinement.specs.rsct_packet.Mask.{nodes_of}
-use Rattle.step_refinement.specs.rsct_packet.Search.{Has}
-use Rattle.step_refinement.proofs.rsct_packet_laws.HasLaws.{has_append}
-use Rattle.step_refinement.specs.view_state.Views.{views_new}
-use Rattle.step_refinement.specs.node_state.declared.config.Config.{Config}
-use Rattle.step_refinement.specs.node_state.declared.config.Mode.{Mode}
-use Rattle.step_refinement.specs.node_state.declared.config.Mode.TheVariants.{Fixed, Asked, Rings}
-use Rattle.step_refinement.specs.node_state.declared.packet.Packet.{Packet}
-use Rattle.step_refinement.specs.node_state.declared.state.Core.{Core}
-use Rattle.step_refinement.specs.node_state.Settings.{networks, has_adapter, networks_of}
-use Rattle.step_refinement.specs.node_state.State.{row_of, with_sessions}
-use Rattle.step_refinement.specs.node_state.Applying.{level_set}
-use Rattle.step_refinement.specs.node_state.Step.{at_work, own_ring, own_rings, first_members, started}
+use Rattle.rsct_packet.specs.declared.ids.Member.{Member}
+use Rattle.rsct_packet.specs.Mask.{nodes_of}
+use Rattle.rsct_packet.specs.Search.{Has}
+use Rattle.rsct_packet.proofs.HasLaws.{has_append}
+use Rattle.view_state.specs.Views.{views_new}
+use Rattle.node_state.specs.declared.config.Config.{Config}
+use Rattle.node_state.specs.declared.config.Mode.{Mode}
+use Rattle.node_state.specs.declared.config.Mode.TheVariants.{Fixed, Asked, Rings}
+use Rattle.node_state.specs.declared.packet.Packet.{Packet}
+use Rattle.node_state.specs.declared.state.Core.{Core}
+use Rattle.node_state.specs.Settings.{networks, has_adapter, networks_of}
+use Rattle.node_state.specs.State.{row_of, with_sessions}
+use Rattle.node_state.specs.Applying.{level_set}
+use Rattle.node_state.specs.Step.{at_work, own_ring, own_rings, first_members, started}
 use Rattle.step_refinement.specs.Rows.{at_node}
 use Rattle.step_refinement.proofs.Changed.{each_set}
 use Rattle.send_laws.specs.Lasting.{FewSent, Lasting}

@@ -1,29 +1,29 @@
 -- How many packets a whole step sends.
 use Rattle.std.proofs.Common.{◌≡◌, ◌≤◌, ℕ, ◌+◌, ◌*◌, List, [], ◌∷◌, length, filter, None, Bool, true, false, cond, inl, inr, refl, ap, arith}
 use Rattle.std.specs.Prelude.{◌==◌}
-use Rattle.step_refinement.specs.rsct_packet.declared.mask.Mask.{Mask}
-use Rattle.step_refinement.specs.rsct_packet.Search.{Has}
-use Rattle.step_refinement.specs.view_state.declared.packet.ViewPacket.{ViewPacket}
-use Rattle.step_refinement.specs.view_state.declared.packet.ViewPacket.TheVariants as packet
-use Rattle.step_refinement.specs.view_state.declared.views.ViewWork.{ViewWork}
-use Rattle.step_refinement.specs.view_state.Views.{views_at_work, ask_row, prepare_row, answer_row, refuse_row, install_row, taken_row}
-use Rattle.step_refinement.specs.node_state.declared.group.GroupRow.{GroupRow}
-use Rattle.step_refinement.specs.node_state.declared.packet.Body.{Body}
-use Rattle.step_refinement.specs.node_state.declared.packet.Body.TheVariants as body
-use Rattle.step_refinement.specs.node_state.declared.packet.Packet.{Packet}
-use Rattle.step_refinement.specs.node_state.declared.state.Core.{Core}
-use Rattle.step_refinement.specs.node_state.Settings.{is_fixed}
-use Rattle.step_refinement.specs.node_state.State.{leads_in, led_groups}
-use Rattle.step_refinement.specs.node_state.Sending.{send_on}
-use Rattle.step_refinement.specs.node_state.HandOn.{Answering}
-use Rattle.step_refinement.specs.node_state.Applying.{own_parts, views_taken}
-use Rattle.step_refinement.specs.node_state.Following.{take_lookup, take_name, take_request, take_tell, take_entry, take_ack, take_vote, take_gone}
-use Rattle.step_refinement.specs.node_state.Ticks.{ring_row, take_report}
-use Rattle.step_refinement.specs.node_state.Ending.{end_step}
-use Rattle.step_refinement.specs.node_state.Status.{status_text}
-use Rattle.step_refinement.specs.node_state.Calls.{take_call}
-use Rattle.step_refinement.specs.node_state.Step.{NodeEvent, is_used, used_if, take_order, view_row, take_body, packet_row, event_row, at_work, stepped}
-use Rattle.step_refinement.specs.node_state.Step.NodeEvent.{Ticks, Asks, Given, Calls, Garbage}
+use Rattle.rsct_packet.specs.declared.mask.Mask.{Mask}
+use Rattle.rsct_packet.specs.Search.{Has}
+use Rattle.view_state.specs.declared.packet.ViewPacket.{ViewPacket}
+use Rattle.view_state.specs.declared.packet.ViewPacket.TheVariants as packet
+use Rattle.view_state.specs.declared.views.ViewWork.{ViewWork}
+use Rattle.view_state.specs.Views.{views_at_work, ask_row, prepare_row, answer_row, refuse_row, install_row, taken_row}
+use Rattle.node_state.specs.declared.group.GroupRow.{GroupRow}
+use Rattle.node_state.specs.declared.packet.Body.{Body}
+use Rattle.node_state.specs.declared.packet.Body.TheVariants as body
+use Rattle.node_state.specs.declared.packet.Packet.{Packet}
+use Rattle.node_state.specs.declared.state.Core.{Core}
+use Rattle.node_state.specs.Settings.{is_fixed}
+use Rattle.node_state.specs.State.{leads_in, led_groups}
+use Rattle.node_state.specs.Sending.{send_on}
+use Rattle.node_state.specs.HandOn.{Answering}
+use Rattle.node_state.specs.Applying.{own_parts, views_taken}
+use Rattle.node_state.specs.Following.{take_lookup, take_name, take_request, take_tell, take_entry, take_ack, take_vote, take_gone}
+use Rattle.node_state.specs.Ticks.{ring_row, take_report}
+use Rattle.node_state.specs.Ending.{end_step}
+use Rattle.node_state.specs.Status.{status_text}
+use Rattle.node_state.specs.Calls.{take_call}
+use Rattle.node_state.specs.Step.{NodeEvent, is_used, used_if, take_order, view_row, take_body, packet_row, event_row, at_work, stepped}
+use Rattle.node_state.specs.Step.NodeEvent.{Ticks, Asks, Given, Calls, Garbage}
 use Rattle.send_laws.specs.Bound.{puts_of, waits_of, Stands, FineIf, FewAnswers, owed_count, brought, brought_by, brought_in, brought_to, led_count, Ready}
 use Rattle.send_laws.proofs.Counts.{mapped_long}
 use Rattle.send_laws.proofs.Parts.{Goes, goes_same, goes_sent_on}

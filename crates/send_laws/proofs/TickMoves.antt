@@ -2,35 +2,35 @@
 -- next, in which it is alone.
 use Rattle.std.proofs.Common.{◌≡◌, ◌≤◌, ℕ, ◌+◌, ◌*◌, List, [], ◌∷◌, length, map, filter, fold, Some, None, Option, Bool, true, false, refl, sym, ap, ◌∙◌, subst, arith}
 use Rattle.std.specs.Prelude.{not, ◌==◌, is_some}
-use Rattle.step_refinement.specs.rsct_packet.declared.ids.ViewId.{ViewId}
-use Rattle.step_refinement.specs.rsct_packet.declared.mask.Mask.{Mask}
-use Rattle.step_refinement.specs.rsct_packet.Mask.{nodes_of}
-use Rattle.step_refinement.specs.rsct_packet.Search.{Has}
-use Rattle.step_refinement.specs.adapter_ring.declared.ring.Ring.{Ring}
-use Rattle.step_refinement.specs.adapter_ring.declared.packet.RingSend.{RingSend}
-use Rattle.step_refinement.specs.adapter_ring.declared.packet.RingEvent.TheVariants as ring_event
-use Rattle.step_refinement.specs.adapter_ring.declared.work.RingWork.{RingWork}
-use Rattle.step_refinement.specs.adapter_ring.Rings.{ring_step}
-use Rattle.step_refinement.specs.node_reach.Reach as reach
-use Rattle.step_refinement.specs.session_state.declared.state.SessionState.{SessionState}
-use Rattle.step_refinement.specs.view_state.declared.install.Install.{Install}
-use Rattle.step_refinement.specs.view_state.Answers.{opened, with_answer, install_of}
-use Rattle.step_refinement.specs.view_state.declared.views.Views.{Views}
-use Rattle.step_refinement.specs.view_state.declared.views.ViewWork.{ViewWork}
-use Rattle.step_refinement.specs.view_state.Views.{others_of, views_at_work, gathering_ticks, install_again}
-use Rattle.step_refinement.specs.node_state.declared.config.Config.{Config}
-use Rattle.step_refinement.specs.node_state.declared.config.Mode.{Mode}
-use Rattle.step_refinement.specs.node_state.declared.group.GroupRow.{GroupRow}
-use Rattle.step_refinement.specs.node_state.declared.packet.Body.{Body}
-use Rattle.step_refinement.specs.node_state.declared.packet.Body.TheVariants as body
-use Rattle.step_refinement.specs.node_state.declared.state.Core.{Core}
-use Rattle.step_refinement.specs.node_state.Settings.{is_rings}
-use Rattle.step_refinement.specs.node_state.State.{leader_by, is_this, leader_in, leads_in, led_groups, held_rows, frozen, others, recorded_all}
-use Rattle.step_refinement.specs.node_state.Sending.{sent, send_on, send_all, send_requests, send_votes_again}
-use Rattle.step_refinement.specs.node_state.HandOn.{Answering}
-use Rattle.step_refinement.specs.node_state.Applying.{Lacking, lacking, own_parts, entered, entered_if, apply_install, views_taken}
-use Rattle.step_refinement.specs.node_state.Ticks.{ring_put, ring_taken, rings_union, report_of, send_report, rings_tick, tick_rings, ring_ask, tick_views, lost_told, tick_owed, tick_led, tick_row}
-use Rattle.step_refinement.specs.node_state.Ending.{end_step}
+use Rattle.rsct_packet.specs.declared.ids.ViewId.{ViewId}
+use Rattle.rsct_packet.specs.declared.mask.Mask.{Mask}
+use Rattle.rsct_packet.specs.Mask.{nodes_of}
+use Rattle.rsct_packet.specs.Search.{Has}
+use Rattle.adapter_ring.specs.declared.ring.Ring.{Ring}
+use Rattle.adapter_ring.specs.declared.packet.RingSend.{RingSend}
+use Rattle.adapter_ring.specs.declared.packet.RingEvent.TheVariants as ring_event
+use Rattle.adapter_ring.specs.declared.work.RingWork.{RingWork}
+use Rattle.adapter_ring.specs.Rings.{ring_step}
+use Rattle.node_reach.specs.Reach as reach
+use Rattle.session_state.specs.declared.state.SessionState.{SessionState}
+use Rattle.view_state.specs.declared.install.Install.{Install}
+use Rattle.view_state.specs.Answers.{opened, with_answer, install_of}
+use Rattle.view_state.specs.declared.views.Views.{Views}
+use Rattle.view_state.specs.declared.views.ViewWork.{ViewWork}
+use Rattle.view_state.specs.Views.{others_of, views_at_work, gathering_ticks, install_again}
+use Rattle.node_state.specs.declared.config.Config.{Config}
+use Rattle.node_state.specs.declared.config.Mode.{Mode}
+use Rattle.node_state.specs.declared.group.GroupRow.{GroupRow}
+use Rattle.node_state.specs.declared.packet.Body.{Body}
+use Rattle.node_state.specs.declared.packet.Body.TheVariants as body
+use Rattle.node_state.specs.declared.state.Core.{Core}
+use Rattle.node_state.specs.Settings.{is_rings}
+use Rattle.node_state.specs.State.{leader_by, is_this, leader_in, leads_in, led_groups, held_rows, frozen, others, recorded_all}
+use Rattle.node_state.specs.Sending.{sent, send_on, send_all, send_requests, send_votes_again}
+use Rattle.node_state.specs.HandOn.{Answering}
+use Rattle.node_state.specs.Applying.{Lacking, lacking, own_parts, entered, entered_if, apply_install, views_taken}
+use Rattle.node_state.specs.Ticks.{ring_put, ring_taken, rings_union, report_of, send_report, rings_tick, tick_rings, ring_ask, tick_views, lost_told, tick_owed, tick_led, tick_row}
+use Rattle.node_state.specs.Ending.{end_step}
 use Rattle.send_laws.specs.Bound.{Stands, Fine, EndsAt, ListsEnd, owned_of, owed_count, led_count}
 use Rattle.send_laws.proofs.Parts.{Goes}
 use Rattle.send_laws.proofs.Ends.{goes_ended}

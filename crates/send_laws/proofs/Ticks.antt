@@ -1,34 +1,34 @@
 -- What the parts of a tick send.
 use Rattle.std.proofs.Common.{◌≡◌, ◌≤◌, ℕ, zero, suc, ◌+◌, ◌*◌, ◌-◌, List, [], ◌∷◌, length, filter, fold, take, drop, Some, None, Option, Bool, true, false, refl, subst, arith}
 use Rattle.std.specs.Prelude.{not, ◌&&◌, ◌==◌, find}
-use Rattle.step_refinement.specs.rsct_packet.declared.mask.Mask.{Mask}
-use Rattle.step_refinement.specs.rsct_packet.Mask.{nodes_of}
-use Rattle.step_refinement.specs.proposal_core.declared.entry.Entry.{Entry}
-use Rattle.step_refinement.specs.proposal_core.declared.entry.Entry.TheVariants.{Late}
-use Rattle.step_refinement.specs.proposal_core.declared.group_state.Running.{Running}
-use Rattle.step_refinement.specs.proposal_core.GroupView.{GroupView}
-use Rattle.step_refinement.specs.proposal_core.Fold.{runs}
-use Rattle.step_refinement.specs.adapter_ring.declared.ring.Ring.{Ring}
-use Rattle.step_refinement.specs.adapter_ring.declared.ring.RingSet.{RingSet}
-use Rattle.step_refinement.specs.adapter_ring.declared.packet.RingSend.{RingSend}
-use Rattle.step_refinement.specs.adapter_ring.declared.packet.RingPacket.{RingPacket}
-use Rattle.step_refinement.specs.adapter_ring.declared.packet.RingEvent.TheVariants as ring_event
-use Rattle.step_refinement.specs.adapter_ring.declared.work.RingWork.{RingWork}
-use Rattle.step_refinement.specs.adapter_ring.Rings.{ring_step}
-use Rattle.step_refinement.specs.node_reach.declared.reach.Reach.{Reach}
-use Rattle.step_refinement.specs.node_reach.Reach as reach
-use Rattle.step_refinement.specs.packet_bodies.declared.body.ReportRow.{ReportRow}
-use Rattle.step_refinement.specs.vote_phases.Tally.{TallyView, expires, open_voters}
-use Rattle.step_refinement.specs.session_state.declared.state.KeptBallot.{KeptBallot}
-use Rattle.step_refinement.specs.node_state.declared.packet.Body.{Body}
-use Rattle.step_refinement.specs.node_state.declared.packet.Body.TheVariants as body
-use Rattle.step_refinement.specs.node_state.declared.state.Core.{Core}
-use Rattle.step_refinement.specs.node_state.Settings.{is_rings}
-use Rattle.step_refinement.specs.node_state.State.{row_of, led_of, list_of, state_of, frozen, led_groups, others, acked_by, least_acked, recorded_all}
-use Rattle.step_refinement.specs.node_state.Sending.{sent, send_on, send_all, send_request, send_requests, kept_sent_if, kept_sent_again, send_votes_again}
-use Rattle.step_refinement.specs.node_state.HandOn.{Answering}
-use Rattle.step_refinement.specs.node_state.Leading.{with_tally, closes}
-use Rattle.step_refinement.specs.node_state.Ticks.{ring_put, set_records, ring_taken, ring_row_of, ring_row, row_reported, take_report, rings_union, report_of, send_report, rings_tick, tick_rings, late_appended, announced, ticked_in, tally_ticks, entries_sent, list_sent_again, sent_again, tick_group, tick_led}
+use Rattle.rsct_packet.specs.declared.mask.Mask.{Mask}
+use Rattle.rsct_packet.specs.Mask.{nodes_of}
+use Rattle.proposal_core.specs.declared.entry.Entry.{Entry}
+use Rattle.proposal_core.specs.declared.entry.Entry.TheVariants.{Late}
+use Rattle.proposal_core.specs.declared.group_state.Running.{Running}
+use Rattle.proposal_core.specs.GroupView.{GroupView}
+use Rattle.proposal_core.specs.Fold.{runs}
+use Rattle.adapter_ring.specs.declared.ring.Ring.{Ring}
+use Rattle.adapter_ring.specs.declared.ring.RingSet.{RingSet}
+use Rattle.adapter_ring.specs.declared.packet.RingSend.{RingSend}
+use Rattle.adapter_ring.specs.declared.packet.RingPacket.{RingPacket}
+use Rattle.adapter_ring.specs.declared.packet.RingEvent.TheVariants as ring_event
+use Rattle.adapter_ring.specs.declared.work.RingWork.{RingWork}
+use Rattle.adapter_ring.specs.Rings.{ring_step}
+use Rattle.node_reach.specs.declared.reach.Reach.{Reach}
+use Rattle.node_reach.specs.Reach as reach
+use Rattle.packet_bodies.specs.declared.body.ReportRow.{ReportRow}
+use Rattle.vote_phases.specs.Tally.{TallyView, expires, open_voters}
+use Rattle.session_state.specs.declared.state.KeptBallot.{KeptBallot}
+use Rattle.node_state.specs.declared.packet.Body.{Body}
+use Rattle.node_state.specs.declared.packet.Body.TheVariants as body
+use Rattle.node_state.specs.declared.state.Core.{Core}
+use Rattle.node_state.specs.Settings.{is_rings}
+use Rattle.node_state.specs.State.{row_of, led_of, list_of, state_of, frozen, led_groups, others, acked_by, least_acked, recorded_all}
+use Rattle.node_state.specs.Sending.{sent, send_on, send_all, send_request, send_requests, kept_sent_if, kept_sent_again, send_votes_again}
+use Rattle.node_state.specs.HandOn.{Answering}
+use Rattle.node_state.specs.Leading.{with_tally, closes}
+use Rattle.node_state.specs.Ticks.{ring_put, set_records, ring_taken, ring_row_of, ring_row, row_reported, take_report, rings_union, report_of, send_report, rings_tick, tick_rings, late_appended, announced, ticked_in, tally_ticks, entries_sent, list_sent_again, sent_again, tick_group, tick_led}
 use Rattle.send_laws.specs.Bound.{puts_of, Stands}
 use Rattle.send_laws.proofs.Counts.{kept_few}
 use Rattle.send_laws.proofs.Parts.{Goes, times, goes_same, goes_then, goes_more, then_free, free_then, goes_fold, fold_each, goes_sent, goes_sent_on, goes_sent_all, goes_recorded_all}

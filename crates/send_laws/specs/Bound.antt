@@ -1,31 +1,31 @@
 -- How many packets a step of a node sends at most.
 use Rattle.std.specs.Prelude.{◌≡◌, true, false, Option, Some, None, ℕ, Bool, ◌==◌, ◌&&◌, ◌+◌, ◌*◌, ◌≤◌, List, [], ◌∷◌, length, filter}
-use Rattle.step_refinement.specs.rsct_packet.declared.ids.ProviderId.{ProviderId}
-use Rattle.step_refinement.specs.proposal_core.declared.group_state.GroupState.{GroupState}
-use Rattle.step_refinement.specs.proposal_core.Fold.{joiners_in, present}
-use Rattle.step_refinement.specs.proposal_core.GroupView.{GroupView}
-use Rattle.step_refinement.specs.proposal_core.Lists.{state_in}
-use Rattle.step_refinement.specs.rsct_packet.declared.ids.ViewId.{ViewId}
-use Rattle.step_refinement.specs.rsct_packet.Search.{Has}
-use Rattle.step_refinement.specs.view_state.declared.exchange.Exchange.{Exchange}
-use Rattle.step_refinement.specs.view_state.declared.install.Install.{Install}
-use Rattle.step_refinement.specs.view_state.declared.install.Base.{Base}
-use Rattle.step_refinement.specs.view_state.Bases.{parts_from, bases_of}
-use Rattle.step_refinement.specs.view_exchange.Longest.{NamesDiffer}
-use Rattle.step_refinement.specs.node_state.declared.group.GroupRow.{GroupRow}
-use Rattle.step_refinement.specs.node_state.declared.happened.Happened.{Happened}
-use Rattle.step_refinement.specs.node_state.declared.happened.Happened.TheVariants as happened
-use Rattle.step_refinement.specs.node_state.declared.state.Core.{Core}
-use Rattle.step_refinement.specs.node_state.State.{InNameOrder, state_of, leads_in, led_groups}
-use Rattle.step_refinement.specs.node_state.Applying.{own_parts}
-use Rattle.step_refinement.specs.node_state.Step.{NodeEvent}
-use Rattle.step_refinement.specs.node_state.Step.NodeEvent.{Ticks, Asks, Given, Calls, Garbage}
-use Rattle.step_refinement.specs.node_state.declared.packet.Body.{Body}
-use Rattle.step_refinement.specs.node_state.declared.packet.Body.TheVariants as body
-use Rattle.step_refinement.specs.node_state.declared.packet.Packet.{Packet}
-use Rattle.step_refinement.specs.view_state.declared.packet.ViewPacket.{ViewPacket}
-use Rattle.step_refinement.specs.view_state.declared.packet.ViewPacket.TheVariants as packet
-use Rattle.step_refinement.specs.view_state.Views.{views_at_work, prepare_row, answer_row, refuse_row, install_row, taken_row}
+use Rattle.rsct_packet.specs.declared.ids.ProviderId.{ProviderId}
+use Rattle.proposal_core.specs.declared.group_state.GroupState.{GroupState}
+use Rattle.proposal_core.specs.Fold.{joiners_in, present}
+use Rattle.proposal_core.specs.GroupView.{GroupView}
+use Rattle.proposal_core.specs.Lists.{state_in}
+use Rattle.rsct_packet.specs.declared.ids.ViewId.{ViewId}
+use Rattle.rsct_packet.specs.Search.{Has}
+use Rattle.view_state.specs.declared.exchange.Exchange.{Exchange}
+use Rattle.view_state.specs.declared.install.Install.{Install}
+use Rattle.view_state.specs.declared.install.Base.{Base}
+use Rattle.view_state.specs.Bases.{parts_from, bases_of}
+use Rattle.view_exchange.specs.Longest.{NamesDiffer}
+use Rattle.node_state.specs.declared.group.GroupRow.{GroupRow}
+use Rattle.node_state.specs.declared.happened.Happened.{Happened}
+use Rattle.node_state.specs.declared.happened.Happened.TheVariants as happened
+use Rattle.node_state.specs.declared.state.Core.{Core}
+use Rattle.node_state.specs.State.{InNameOrder, state_of, leads_in, led_groups}
+use Rattle.node_state.specs.Applying.{own_parts}
+use Rattle.node_state.specs.Step.{NodeEvent}
+use Rattle.node_state.specs.Step.NodeEvent.{Ticks, Asks, Given, Calls, Garbage}
+use Rattle.node_state.specs.declared.packet.Body.{Body}
+use Rattle.node_state.specs.declared.packet.Body.TheVariants as body
+use Rattle.node_state.specs.declared.packet.Packet.{Packet}
+use Rattle.view_state.specs.declared.packet.ViewPacket.{ViewPacket}
+use Rattle.view_state.specs.declared.packet.ViewPacket.TheVariants as packet
+use Rattle.view_state.specs.Views.{views_at_work, prepare_row, answer_row, refuse_row, install_row, taken_row}
 
 -- ---- what is counted
 

@@ -1,28 +1,28 @@
 -- How many packets the rows of a step send at most, from any state that stands: `Within c` allows c packets, one for
 -- each join that no longer waits, and a hundred for each put.
 use Rattle.std.specs.Prelude.{◌≡◌, Some, ℕ, ◌+◌, ◌*◌, ◌≤◌, List, length, Option}
-use Rattle.step_refinement.specs.rsct_packet.declared.ids.ProviderId.{ProviderId}
-use Rattle.step_refinement.specs.rsct_packet.declared.ids.ProtoId.{ProtoId}
-use Rattle.step_refinement.specs.group_attr.declared.attrs.Phases.{Phases}
-use Rattle.step_refinement.specs.proposal_core.declared.proposal.Proposal.{Proposal}
-use Rattle.step_refinement.specs.proposal_core.declared.entry.Vote.{Vote}
-use Rattle.step_refinement.specs.proposal_core.declared.entry.Vote.TheVariants.{Continue}
-use Rattle.step_refinement.specs.proposal_core.declared.entry.Entry.{Entry}
-use Rattle.step_refinement.specs.proposal_core.declared.group_state.GroupState.{GroupState}
-use Rattle.step_refinement.specs.vote_phases.Tally.{outcome}
-use Rattle.step_refinement.specs.adapter_ring.declared.packet.RingPacket.{RingPacket}
-use Rattle.step_refinement.specs.packet_bodies.declared.body.ReportRow.{ReportRow}
-use Rattle.step_refinement.specs.client_callbacks.declared.told.Why.{Why}
-use Rattle.step_refinement.specs.node_state.declared.call.CallLine.{CallLine}
-use Rattle.step_refinement.specs.node_state.declared.state.Core.{Core}
-use Rattle.step_refinement.specs.node_state.State.{led_groups, fits_at_end}
-use Rattle.step_refinement.specs.node_state.HandOn.{Answering}
-use Rattle.step_refinement.specs.node_state.Leading.{tally_for, append_if_fits, closes, begins}
-use Rattle.step_refinement.specs.node_state.Following.{take_lookup, take_name, take_request, take_tell, take_entry, take_ack, take_vote, take_gone}
-use Rattle.step_refinement.specs.node_state.Ticks.{ring_row, take_report, tick_rings, tick_owed, tick_led}
-use Rattle.step_refinement.specs.node_state.Ending.{end_step}
-use Rattle.step_refinement.specs.node_state.Calls.{take_call}
-use Rattle.step_refinement.specs.node_state.Step.{NodeEvent, at_work, stepped}
+use Rattle.rsct_packet.specs.declared.ids.ProviderId.{ProviderId}
+use Rattle.rsct_packet.specs.declared.ids.ProtoId.{ProtoId}
+use Rattle.group_attr.specs.declared.attrs.Phases.{Phases}
+use Rattle.proposal_core.specs.declared.proposal.Proposal.{Proposal}
+use Rattle.proposal_core.specs.declared.entry.Vote.{Vote}
+use Rattle.proposal_core.specs.declared.entry.Vote.TheVariants.{Continue}
+use Rattle.proposal_core.specs.declared.entry.Entry.{Entry}
+use Rattle.proposal_core.specs.declared.group_state.GroupState.{GroupState}
+use Rattle.vote_phases.specs.Tally.{outcome}
+use Rattle.adapter_ring.specs.declared.packet.RingPacket.{RingPacket}
+use Rattle.packet_bodies.specs.declared.body.ReportRow.{ReportRow}
+use Rattle.client_callbacks.specs.declared.told.Why.{Why}
+use Rattle.node_state.specs.declared.call.CallLine.{CallLine}
+use Rattle.node_state.specs.declared.state.Core.{Core}
+use Rattle.node_state.specs.State.{led_groups, fits_at_end}
+use Rattle.node_state.specs.HandOn.{Answering}
+use Rattle.node_state.specs.Leading.{tally_for, append_if_fits, closes, begins}
+use Rattle.node_state.specs.Following.{take_lookup, take_name, take_request, take_tell, take_entry, take_ack, take_vote, take_gone}
+use Rattle.node_state.specs.Ticks.{ring_row, take_report, tick_rings, tick_owed, tick_led}
+use Rattle.node_state.specs.Ending.{end_step}
+use Rattle.node_state.specs.Calls.{take_call}
+use Rattle.node_state.specs.Step.{NodeEvent, at_work, stepped}
 use Rattle.send_laws.specs.Bound.{puts_of, led_count, owed_count, Stands, Within, Ready}
 
 -- an entry is appended by the leader, phases close, and a protocol begins: a hundred packets for each put

@@ -1,14 +1,14 @@
 -- That every step of a run sends few packets, whatever started, stopped and stepped before it, in any order.
 use Rattle.std.specs.Prelude.{ℕ, ◌+◌, ◌*◌, ◌≤◌, ◌≡◌, length, Some}
-use Rattle.step_refinement.specs.rsct_packet.Search.{Has}
-use Rattle.step_refinement.specs.view_state.declared.install.Install.{Install}
-use Rattle.step_refinement.specs.view_state.declared.packet.ViewPacket.TheVariants as view
-use Rattle.step_refinement.specs.node_state.declared.config.Config.{Config}
-use Rattle.step_refinement.specs.node_state.declared.packet.Body.TheVariants as body
-use Rattle.step_refinement.specs.node_state.declared.packet.Packet.{Packet}
-use Rattle.step_refinement.specs.node_state.declared.state.Core.{Core}
-use Rattle.step_refinement.specs.node_state.HandOn.{Answering}
-use Rattle.step_refinement.specs.node_state.Step.{NodeEvent, at_work, stepped}
+use Rattle.rsct_packet.specs.Search.{Has}
+use Rattle.view_state.specs.declared.install.Install.{Install}
+use Rattle.view_state.specs.declared.packet.ViewPacket.TheVariants as view
+use Rattle.node_state.specs.declared.config.Config.{Config}
+use Rattle.node_state.specs.declared.packet.Body.TheVariants as body
+use Rattle.node_state.specs.declared.packet.Packet.{Packet}
+use Rattle.node_state.specs.declared.state.Core.{Core}
+use Rattle.node_state.specs.HandOn.{Answering}
+use Rattle.node_state.specs.Step.{NodeEvent, at_work, stepped}
 use Rattle.step_refinement.specs.Tied.{Scene}
 use Rattle.step_refinement.specs.Rows.{Arises}
 use Rattle.step_refinement.specs.Runs.{Reached}

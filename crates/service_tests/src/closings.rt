@@ -1,13 +1,13 @@
 //! How a phase closes.
-use group_deciding::phase_closing::{closing_entry, is_phase};
-use script_reader::batch_rules::Waiting;
-use script_reader::group_attr::DefaultVote;
-use script_reader::node_state::{Led, Table};
-use script_reader::proposal_core::{Proposal, Running, Vote};
-use script_reader::rsct_packet::{List, ProtoId, ProviderId, ViewId};
-use script_reader::vote_phases::Tally;
+use batch_rules::Waiting;
+use group_attr::DefaultVote;
+use node_state::{Led, Table};
+use phase_closing::{closing_entry, is_phase};
+use proposal_core::{Proposal, Running, Vote};
+use rsct_packet::{List, ProtoId, ProviderId, ViewId};
 use std::alloc::Global;
 use std::process::Abort;
+use vote_phases::Tally;
 
 // 1.1.1.1
 fn provider() -> ProviderId {

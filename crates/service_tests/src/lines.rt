@@ -1,10 +1,10 @@
 //! Every kind of line, with its faults beside the neighbours that are taken.
-use script_reader::node_state::{CallLine, Config, Mode};
-use script_reader::rsct_packet::NoMemory;
-use script_reader::world_model::{Event, Line, LineWhy, Script};
+use node_state::{CallLine, Config, Mode};
+use rsct_packet::NoMemory;
 use script_reader::{INPUT_LIMIT, ScriptFault, read_script};
 use std::alloc::Global;
 use std::process::Abort;
+use world_model::{Event, Line, LineWhy, Script};
 
 fn script(rt: &impl Abort, alloc: Global, text: &[u8]) -> Script {
     read_script(alloc, text).ok().expect(rt, "a script")

@@ -1,20 +1,20 @@
 //! What a leader decides of requests.
 ghost use Rattle.std.specs.Prelude.{◌≡◌, []};
 
-use group_deciding::node_groups::waiting_joins;
+use client_callbacks::{SteadyClient, Why};
+use group_attr::{Attrs, Phases};
 use group_deciding::{decide, known_state, lacks_source, refuse, source_len};
-use script_reader::client_callbacks::{SteadyClient, Why};
-use script_reader::group_attr::{Attrs, Phases};
-use script_reader::name_server::Names;
-use script_reader::node_reach::Reach;
-use script_reader::node_state::{Body, Config, Core, Mode, Table};
-use script_reader::proposal_core::Proposal;
-use script_reader::rsct_packet::{List, Mask, Name, ProviderId, Providers, ViewId};
-use script_reader::session_state::{Locals, SessionState};
-use script_reader::subscribe_core::Subs;
-use script_reader::view_state::Views;
+use name_server::Names;
+use node_groups::waiting_joins;
+use node_reach::Reach;
+use node_state::{Body, Config, Core, Mode, Table};
+use proposal_core::Proposal;
+use rsct_packet::{List, Mask, Name, ProviderId, Providers, ViewId};
+use session_state::{Locals, SessionState};
 use std::alloc::Global;
 use std::process::Abort;
+use subscribe_core::Subs;
+use view_state::Views;
 
 const VIEW: ViewId = ViewId {
     number: 1,

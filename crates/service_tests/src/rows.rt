@@ -1,7 +1,7 @@
 //! A node's rows of groups.
-use group_deciding::node_groups::{open, row_of};
-use script_reader::node_state::{Groups, Table};
-use script_reader::rsct_packet::Name;
+use node_groups::{open, row_of};
+use node_state::{Groups, Table};
+use rsct_packet::Name;
 use std::alloc::Global;
 use std::process::Abort;
 

@@ -1,12 +1,12 @@
 //! Lines of transcripts.
-use script_reader::client_callbacks::{Told, Why};
-use script_reader::node_state::Happened;
-use script_reader::rsct_packet::{List, Name, ProtoId, ProviderId, Providers, Text, ViewId};
-use script_reader::world_model::LineWhy;
+use client_callbacks::{Told, Why};
+use node_state::Happened;
+use rsct_packet::{List, Name, ProtoId, ProviderId, Providers, Text, ViewId};
 use std::alloc::Global;
 use std::process::Abort;
 use std::test::Fail;
 use transcript::{Kinds, fault_line, line_of};
+use world_model::LineWhy;
 
 fn view(number: u32) -> ViewId {
     ViewId {

@@ -1,22 +1,20 @@
 //! The calls of clients, as far as they change what a node has of them.
 ghost use Rattle.std.specs.Prelude.{◌≡◌, ◌++◌, ◌∷◌, [], None, IsTrue, IfOk, OnOk, OnErr, option_copied};
-ghost use Rattle.session_clients.specs.rsct_packet.Text.{IsName};
-ghost use Rattle.session_clients.specs.client_callbacks.Ballots.{is_level};
-ghost use Rattle.session_clients.specs.session_state.Calls.{Answers, SameSessions, left, expelled, state_changed, message_sent, attributes_changed, voted, joined};
+ghost use Rattle.rsct_packet.specs.Text.{IsName};
+ghost use Rattle.client_callbacks.specs.Ballots.{is_level};
+ghost use Rattle.session_state.specs.Calls.{Answers, SameSessions, left, expelled, state_changed, message_sent, attributes_changed, voted, joined};
 
 use crate::checks::{
     check_ask, check_attributes, check_bytes, check_join, check_message, check_session,
     check_targets, check_value, is_kept, member,
 };
-use session_clients::client_callbacks::Ballot;
-use session_clients::group_attr::{Attrs, Phases};
-use session_clients::proposal_core::{Proposal, Vote, text_of};
-use session_clients::rsct_packet::{Name, NoMemory, ProviderId, Providers};
-use session_clients::session_state::{
-    GsFault, KeptBallot, MemberToken, Provider, Request, SessionState,
-};
-use session_clients::subscribe_core::ClientToken;
+use client_callbacks::Ballot;
+use group_attr::{Attrs, Phases};
+use proposal_core::{Proposal, Vote, text_of};
+use rsct_packet::{Name, NoMemory, ProviderId, Providers};
+use session_state::{GsFault, KeptBallot, MemberToken, Provider, Request, SessionState};
 use std::alloc::Global;
+use subscribe_core::ClientToken;
 
 /// The name of these bytes.
 fn name_of(alloc: Global, group: &[u8]) -> Result<Name, NoMemory>
@@ -101,7 +99,7 @@ fn join_request(
 }
 
 /// Adds a joining provider of the client, with its join's request.
-#[tactic(auto, unfolding(crate::proofs::Below::joined, crate::proofs::Below::join_asked))]
+#[tactic(auto, unfolding(session_state::specs::Calls::joined, session_state::specs::Calls::join_asked))]
 pub fn join(
     sessions: &mut SessionState,
     alloc: Global,
@@ -137,7 +135,7 @@ pub fn join(
 }
 
 /// Asks that the provider leaves.
-#[tactic(auto, unfolding(crate::proofs::Below::left, crate::proofs::Below::request_made, crate::proofs::Below::ask_fault, crate::proofs::Below::asked, crate::proofs::Below::no_session_fault))]
+#[tactic(auto, unfolding(session_state::specs::Calls::left, session_state::specs::Calls::request_made, session_state::specs::Calls::ask_fault, session_state::specs::Calls::asked, session_state::specs::Calls::no_session_fault))]
 pub fn leave(
     sessions: &mut SessionState,
     alloc: Global,
@@ -169,7 +167,7 @@ pub fn leave(
 }
 
 /// Asks that these are expelled.
-#[tactic(auto, unfolding(crate::proofs::Below::expelled, crate::proofs::Below::request_made, crate::proofs::Below::ask_fault, crate::proofs::Below::asked, crate::proofs::Below::no_session_fault))]
+#[tactic(auto, unfolding(session_state::specs::Calls::expelled, session_state::specs::Calls::request_made, session_state::specs::Calls::ask_fault, session_state::specs::Calls::asked, session_state::specs::Calls::no_session_fault))]
 pub fn expel(
     sessions: &mut SessionState,
     alloc: Global,
@@ -205,7 +203,7 @@ pub fn expel(
 }
 
 /// Asks that the group's value becomes this one.
-#[tactic(auto, unfolding(crate::proofs::Below::state_changed, crate::proofs::Below::request_made, crate::proofs::Below::ask_fault, crate::proofs::Below::asked, crate::proofs::Below::no_session_fault))]
+#[tactic(auto, unfolding(session_state::specs::Calls::state_changed, session_state::specs::Calls::request_made, session_state::specs::Calls::ask_fault, session_state::specs::Calls::asked, session_state::specs::Calls::no_session_fault))]
 pub fn change_state(
     sessions: &mut SessionState,
     alloc: Global,
@@ -241,7 +239,7 @@ pub fn change_state(
 }
 
 /// Asks that this message is sent to all.
-#[tactic(auto, unfolding(crate::proofs::Below::message_sent, crate::proofs::Below::request_made, crate::proofs::Below::ask_fault, crate::proofs::Below::asked, crate::proofs::Below::no_session_fault))]
+#[tactic(auto, unfolding(session_state::specs::Calls::message_sent, session_state::specs::Calls::request_made, session_state::specs::Calls::ask_fault, session_state::specs::Calls::asked, session_state::specs::Calls::no_session_fault))]
 pub fn send_message(
     sessions: &mut SessionState,
     alloc: Global,
@@ -277,7 +275,7 @@ pub fn send_message(
 }
 
 /// Asks that the group's attributes become these.
-#[tactic(auto, unfolding(crate::proofs::Below::attributes_changed, crate::proofs::Below::ask_fault, crate::proofs::Below::asked, crate::proofs::Below::no_session_fault))]
+#[tactic(auto, unfolding(session_state::specs::Calls::attributes_changed, session_state::specs::Calls::ask_fault, session_state::specs::Calls::asked, session_state::specs::Calls::no_session_fault))]
 pub fn change_attributes(
     sessions: &mut SessionState,
     alloc: Global,
@@ -312,7 +310,7 @@ pub fn change_attributes(
 }
 
 /// Keeps a ballot of the provider.
-#[tactic(auto, unfolding(crate::proofs::Below::voted, crate::proofs::Below::no_session_fault, crate::proofs::Below::value_fault, crate::proofs::Below::can_fill, crate::proofs::Below::filled_with))]
+#[tactic(auto, unfolding(session_state::specs::Calls::voted, session_state::specs::Calls::no_session_fault, session_state::specs::Calls::value_fault, client_callbacks::specs::Ballots::can_fill, client_callbacks::specs::Ballots::filled_with))]
 pub fn vote(
     sessions: &mut SessionState,
     alloc: Global,

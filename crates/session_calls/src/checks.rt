@@ -1,22 +1,20 @@
 //! The checks of session calls. Each answers its fault, or that there is none.
 ghost use Rattle.std.specs.Prelude.{◌≡◌, ◌<◌, ◌^◌, ◌&&◌, None, length, IfOk, find, option_copied};
 ghost use Rattle.std.specs.Result.{result_err};
-ghost use Rattle.session_clients.specs.group_attr.Attrs.{first_fault};
-ghost use Rattle.session_clients.specs.rsct_packet.Text.{IsName};
-ghost use Rattle.session_clients.specs.rsct_packet.Providers.{differ, AreProviders};
-ghost use Rattle.session_clients.specs.session_state.State.{is_member_of, is_kept_for, is_in_group, is_session, is_named};
-ghost use Rattle.session_clients.specs.session_state.Calls.{or_fault, no_session_fault, client_fault, name_fault, hosts_fault, value_fault, message_fault, targets_fault, attributes_fault, collide_fault, spent_fault, init_fault, join_fault, subscribe_fault, unsubscribe_fault};
+ghost use Rattle.group_attr.specs.Attrs.{first_fault};
+ghost use Rattle.rsct_packet.specs.Text.{IsName};
+ghost use Rattle.rsct_packet.specs.Providers.{differ, AreProviders};
+ghost use Rattle.session_state.specs.State.{is_member_of, is_kept_for, is_in_group, is_session, is_named};
+ghost use Rattle.session_state.specs.Calls.{or_fault, no_session_fault, client_fault, name_fault, hosts_fault, value_fault, message_fault, targets_fault, attributes_fault, collide_fault, spent_fault, init_fault, join_fault, subscribe_fault, unsubscribe_fault};
 ghost use Rattle.std.specs.List.{list_any};
-ghost use Rattle.session_clients.specs.subscribe_core.Subs.{has_token, is_of_client};
+ghost use Rattle.subscribe_core.specs.Subs.{has_token, is_of_client};
 
-use session_clients::client_callbacks::{MAX_MESSAGE, value_limit};
-use session_clients::group_attr::{Attrs, HOST_MEMBERSHIP};
-use session_clients::rsct_packet::{MAX_NAME, ProviderId, is_among, is_name};
-use session_clients::session_delivery::outstanding;
-use session_clients::session_state::{
-    Field, GsFault, MemberToken, OpenPhase, Provider, Request, SessionState,
-};
-use session_clients::subscribe_core::{ClientToken, SubToken, Subscription};
+use client_callbacks::{MAX_MESSAGE, value_limit};
+use group_attr::{Attrs, HOST_MEMBERSHIP};
+use rsct_packet::{MAX_NAME, ProviderId, is_among, is_name};
+use session_delivery::outstanding;
+use session_state::{Field, GsFault, MemberToken, OpenPhase, Provider, Request, SessionState};
+use subscribe_core::{ClientToken, SubToken, Subscription};
 
 /// How many bytes a client's name has at most.
 pub const MAX_CLIENT_NAME: usize = 16;
@@ -28,7 +26,7 @@ pub const MAX_SESSIONS: usize = 64;
 pub const MAX_TARGETS: usize = 64;
 
 /// A name of 1 to `most` letters, digits and signs.
-#[tactic(auto, unfolding(crate::proofs::Below::name_fault))]
+#[tactic(auto, unfolding(session_state::specs::Calls::name_fault))]
 pub fn check_name(most: usize, name: &[u8]) -> Result<(), GsFault>
     ensures fault { result_err result ≡ name_fault most name.now }
     ensures name { IfOk result (λ _. IsName name.now) }
@@ -43,7 +41,7 @@ pub fn check_name(most: usize, name: &[u8]) -> Result<(), GsFault>
 }
 
 /// No provider joins the group of the hosts.
-#[tactic(auto, unfolding(crate::proofs::Below::hosts_fault))]
+#[tactic(auto, unfolding(session_state::specs::Calls::hosts_fault))]
 fn check_no_hosts(group: &[u8]) -> Result<(), GsFault>
     ensures { result_err result ≡ hosts_fault group.now }
 {
@@ -53,7 +51,7 @@ fn check_no_hosts(group: &[u8]) -> Result<(), GsFault>
     Ok(())
 }
 
-#[tactic(auto, unfolding(crate::proofs::Below::message_fault))]
+#[tactic(auto, unfolding(session_state::specs::Calls::message_fault))]
 pub fn check_message(bytes: &[u8]) -> Result<(), GsFault>
     ensures fault { result_err result ≡ message_fault bytes.now }
     ensures short { IfOk result (λ _. length bytes.now < 2 ^ 16) }
@@ -75,7 +73,7 @@ pub fn check_attributes(attrs: &Attrs, group: &[u8]) -> Result<(), GsFault>
 }
 
 /// A number follows this one.
-#[tactic(auto, unfolding(crate::proofs::Below::spent_fault))]
+#[tactic(auto, unfolding(session_state::specs::Calls::spent_fault))]
 fn check_spent(last: u32) -> Result<(), GsFault>
     ensures fault { result_err result ≡ spent_fault last }
     ensures next { IfOk result (λ _. last < 4294967295) }
@@ -87,7 +85,7 @@ fn check_spent(last: u32) -> Result<(), GsFault>
 }
 
 /// There is a session.
-#[tactic(auto, unfolding(crate::proofs::Below::no_session_fault))]
+#[tactic(auto, unfolding(session_state::specs::Calls::no_session_fault))]
 pub fn check_session(sessions: &SessionState) -> Result<(), GsFault>
     ensures { result_err result ≡ no_session_fault sessions.now }
 {
@@ -120,7 +118,7 @@ fn has_name(sessions: &SessionState, name: &[u8]) -> bool
 }
 
 /// The client's session is live.
-#[tactic(auto, unfolding(crate::proofs::Below::client_fault))]
+#[tactic(auto, unfolding(session_state::specs::Calls::client_fault))]
 pub fn check_client(sessions: &SessionState, client: ClientToken) -> Result<(), GsFault>
     ensures { result_err result ≡ client_fault sessions.now client }
 {
@@ -132,7 +130,7 @@ pub fn check_client(sessions: &SessionState, client: ClientToken) -> Result<(), 
 }
 
 /// The bytes of a value are within the limit of the level.
-#[tactic(auto, unfolding(crate::proofs::Below::value_fault))]
+#[tactic(auto, unfolding(session_state::specs::Calls::value_fault))]
 pub fn check_bytes(sessions: &SessionState, bytes: &[u8]) -> Result<(), GsFault>
     ensures fault { result_err result ≡ value_fault sessions.now (Some bytes.now) }
     ensures short { IfOk result (λ _. length bytes.now < 2 ^ 16) }
@@ -144,7 +142,7 @@ pub fn check_bytes(sessions: &SessionState, bytes: &[u8]) -> Result<(), GsFault>
 }
 
 /// A value is within the limit of the level.
-#[tactic(auto, unfolding(crate::proofs::Below::value_fault))]
+#[tactic(auto, unfolding(session_state::specs::Calls::value_fault))]
 pub fn check_value(sessions: &SessionState, value: Option<&[u8]>) -> Result<(), GsFault>
     ensures { result_err result ≡ value_fault sessions.now (option_copied value.entry) }
 {
@@ -155,7 +153,7 @@ pub fn check_value(sessions: &SessionState, value: Option<&[u8]>) -> Result<(), 
 }
 
 /// The provider has no outstanding request.
-#[tactic(auto, unfolding(crate::proofs::Below::collide_fault))]
+#[tactic(auto, unfolding(session_state::specs::Calls::collide_fault))]
 fn check_collide(sessions: &SessionState, provider: ProviderId) -> Result<(), GsFault>
     ensures { result_err result ≡ collide_fault sessions.now provider }
 {
@@ -195,7 +193,7 @@ pub fn is_kept(sessions: &SessionState, provider: ProviderId, phase: OpenPhase) 
         && k.phase == phase.phase)
 }
 
-#[tactic(auto, unfolding(crate::proofs::Below::init_fault))]
+#[tactic(auto, unfolding(session_state::specs::Calls::init_fault))]
 pub fn check_init(sessions: &SessionState, name: &[u8]) -> Result<(), GsFault>
     ensures fault { result_err result ≡ init_fault sessions.now name.now }
     ensures next { IfOk result (λ _. sessions.now.last_client < 4294967295) }
@@ -221,7 +219,7 @@ fn has_joined(sessions: &SessionState, client: ClientToken, group: &[u8]) -> boo
         .any(|x| x.client == client && x.group.bytes() == group)
 }
 
-#[tactic(auto, unfolding(crate::proofs::Below::join_fault))]
+#[tactic(auto, unfolding(session_state::specs::Calls::join_fault))]
 pub fn check_join(
     sessions: &SessionState,
     client: ClientToken,
@@ -250,7 +248,7 @@ fn is_subscription(live: &[Subscription], client: ClientToken, subscription: Sub
         .any(|x| x.token == subscription && x.client == client)
 }
 
-#[tactic(auto, unfolding(crate::proofs::Below::subscribe_fault))]
+#[tactic(auto, unfolding(session_state::specs::Calls::subscribe_fault))]
 pub fn check_subscribe(
     sessions: &SessionState,
     client: ClientToken,
@@ -271,7 +269,7 @@ pub fn check_subscribe(
     check_spent(sessions.subs.last())
 }
 
-#[tactic(auto, unfolding(crate::proofs::Below::unsubscribe_fault))]
+#[tactic(auto, unfolding(session_state::specs::Calls::unsubscribe_fault))]
 pub fn check_unsubscribe(
     sessions: &SessionState,
     client: ClientToken,
@@ -299,7 +297,7 @@ fn are_apart(out: &[ProviderId]) -> bool
 }
 
 /// There are 1 to 64 targets, which differ.
-#[tactic(auto, unfolding(crate::proofs::Below::targets_fault))]
+#[tactic(auto, unfolding(session_state::specs::Calls::targets_fault))]
 pub fn check_targets(out: &[ProviderId]) -> Result<(), GsFault>
     ensures fault { result_err result ≡ targets_fault out.now }
     ensures providers { IfOk result (λ _. AreProviders out.now) }

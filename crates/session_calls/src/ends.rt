@@ -1,19 +1,17 @@
 //! Subscriptions and ends of sessions, as far as they change what a node has of its clients.
 ghost use Rattle.std.specs.Prelude.{◌≡◌, ◌<◌, ◌+◌, not, filter, find, length, option_copied, IfOk, IfSome, OnOk, OnErr};
 ghost use Rattle.std.specs.List.{list_any};
-ghost use Rattle.session_clients.specs.subscribe_core.Subs.{has_token, is_live};
-ghost use Rattle.session_clients.specs.session_state.State.{client_place};
-ghost use Rattle.session_clients.specs.session_state.Calls.{Answers, AnswersAlways, SameSessions, is_owned, add_session, subscribe_taken, unsubscribe_taken, end_session, removed_at};
-ghost use Rattle.session_clients.specs.session_state.HandOn.{subscriber_of};
+ghost use Rattle.subscribe_core.specs.Subs.{has_token, is_live};
+ghost use Rattle.session_state.specs.State.{client_place};
+ghost use Rattle.session_state.specs.Calls.{Answers, AnswersAlways, SameSessions, is_owned, add_session, subscribe_taken, unsubscribe_taken, end_session, removed_at};
+ghost use Rattle.session_state.specs.HandOn.{subscriber_of};
 
 use crate::checks::{check_subscribe, check_unsubscribe};
-use session_clients::rsct_packet::{List, NoMemory, ProviderId};
-use session_clients::session_delivery::client_place;
-use session_clients::session_state::{
-    GsFault, KeptBallot, Provider, Request, Session, SessionState,
-};
-use session_clients::subscribe_core::{ClientToken, SubToken, Subscription};
+use rsct_packet::{List, NoMemory, ProviderId};
+use session_delivery::client_place;
+use session_state::{GsFault, KeptBallot, Provider, Request, Session, SessionState};
 use std::alloc::Global;
+use subscribe_core::{ClientToken, SubToken, Subscription};
 
 /// Is the provider of the client?
 fn is_owned(rows: &[Provider], client: ClientToken, provider: ProviderId) -> bool
@@ -56,7 +54,7 @@ pub fn has_subscription(sessions: &SessionState, subscription: SubToken) -> bool
 }
 
 /// The place of the client that has the subscription.
-#[tactic(auto, unfolding(crate::proofs::Below::subscriber_of))]
+#[tactic(auto, unfolding(session_state::specs::HandOn::subscriber_of))]
 pub fn subscriber_of(sessions: &SessionState, token: SubToken) -> Option<usize>
     ensures value { result ≡ subscriber_of sessions.now token }
     ensures within { IfSome result (λ i. i < length sessions.now.sessions) }
@@ -68,7 +66,7 @@ pub fn subscriber_of(sessions: &SessionState, token: SubToken) -> Option<usize>
 }
 
 /// Adds a session of this name.
-#[tactic(auto, unfolding(crate::proofs::Below::add_session))]
+#[tactic(auto, unfolding(session_state::specs::Calls::add_session))]
 pub fn add_session(
     sessions: &mut SessionState,
     alloc: Global,
@@ -89,7 +87,7 @@ pub fn add_session(
 }
 
 /// Subscribes a client to a group.
-#[tactic(auto, unfolding(crate::proofs::Below::subscribe_taken))]
+#[tactic(auto, unfolding(session_state::specs::Calls::subscribe_taken))]
 pub fn subscribe(
     sessions: &mut SessionState,
     alloc: Global,
@@ -110,7 +108,7 @@ pub fn subscribe(
 }
 
 /// Ends a subscription of a client.
-#[tactic(auto, unfolding(crate::proofs::Below::unsubscribe_taken))]
+#[tactic(auto, unfolding(session_state::specs::Calls::unsubscribe_taken))]
 pub fn unsubscribe(
     sessions: &mut SessionState,
     client: ClientToken,
@@ -126,7 +124,7 @@ pub fn unsubscribe(
 }
 
 /// Ends the session at this place, which is the client's, with its providers and its subscriptions.
-#[tactic(auto, unfolding(crate::proofs::Below::end_session))]
+#[tactic(auto, unfolding(session_state::specs::Calls::end_session))]
 pub fn end_session(sessions: &mut SessionState, client: ClientToken)
     ensures state { sessions.new ≡ end_session sessions.old client }
     ensures sessions { sessions.new.sessions ≡ removed_at

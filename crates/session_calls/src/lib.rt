@@ -11,9 +11,4 @@ pub use calls::{change_attributes, change_state, expel, join, leave, send_messag
 pub use checks::{check_client, check_init};
 pub use ends::{add_session, end_session, has_subscription, subscribe, subscriber_of, unsubscribe};
 pub use reads::{client_token, member_token, sub_token};
-pub use session_clients;
-pub use session_clients::{
-    client_callbacks, group_attr, proposal_core, rsct_packet, session_delivery, session_state,
-    subscribe_core,
-};
 pub use sessions::{close_session, open_session};

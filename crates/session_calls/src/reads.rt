@@ -1,10 +1,10 @@
 //! What a node reads of its sessions.
 ghost use Rattle.std.specs.Prelude.{◌≡◌, find, option_copied};
-ghost use Rattle.session_clients.specs.subscribe_core.Subs.{is_of};
-ghost use Rattle.session_clients.specs.session_state.State.{is_named, is_in_group, client_token, member_token, sub_token};
+ghost use Rattle.subscribe_core.specs.Subs.{is_of};
+ghost use Rattle.session_state.specs.State.{is_named, is_in_group, client_token, member_token, sub_token};
 
-use session_clients::session_state::{MemberToken, Provider, Session, SessionState};
-use session_clients::subscribe_core::{ClientToken, SubToken, Subscription};
+use session_state::{MemberToken, Provider, Session, SessionState};
+use subscribe_core::{ClientToken, SubToken, Subscription};
 
 fn session_named<'a>(rows: &'a [Session], name: &[u8]) -> Option<&'a Session>
     ensures { option_copied result ≡ find (is_named name.now) rows.now }
@@ -31,7 +31,7 @@ fn subscription_of<'a>(
 }
 
 /// The token of the live session of a name; 0 where there is none.
-#[tactic(auto, unfolding(crate::proofs::Below::client_token))]
+#[tactic(auto, unfolding(session_state::specs::State::client_token))]
 pub fn client_token(sessions: &SessionState, name: &[u8]) -> ClientToken
     ensures { result ≡ client_token sessions.now name.now }
 {
@@ -42,7 +42,7 @@ pub fn client_token(sessions: &SessionState, name: &[u8]) -> ClientToken
 }
 
 /// The token of a client's provider of a group; 0 where there is none.
-#[tactic(auto, unfolding(crate::proofs::Below::member_token))]
+#[tactic(auto, unfolding(session_state::specs::State::member_token))]
 pub fn member_token(sessions: &SessionState, client: ClientToken, group: &[u8]) -> MemberToken
     ensures { result ≡ member_token sessions.now client group.now }
 {
@@ -53,7 +53,7 @@ pub fn member_token(sessions: &SessionState, client: ClientToken, group: &[u8]) 
 }
 
 /// The token of a client's subscription to a group; 0 where there is none.
-#[tactic(auto, unfolding(crate::proofs::Below::sub_token))]
+#[tactic(auto, unfolding(session_state::specs::State::sub_token))]
 pub fn sub_token(sessions: &SessionState, client: ClientToken, group: &[u8]) -> SubToken
     ensures { result ≡ sub_token sessions.now client group.now }
 {

@@ -1,19 +1,19 @@
 //! The sessions of a node, with their clients.
 ghost use Rattle.std.specs.Prelude.{◌≡◌, ◌++◌, ◌∷◌, [], Option, ◌<◌, IfOk, IfSome, OnOk, OnErr, length};
-ghost use Rattle.session_clients.specs.session_state.State.{client_place};
-ghost use Rattle.session_clients.specs.session_state.Calls.{Answers, AnswersAlways, inited, goodbye_taken, removed_at};
+ghost use Rattle.session_state.specs.State.{client_place};
+ghost use Rattle.session_state.specs.Calls.{Answers, AnswersAlways, inited, goodbye_taken, removed_at};
 
 use crate::checks::{check_client, check_init};
 use crate::ends::{self, add_session, end_session};
-use session_clients::client_callbacks::Callbacks;
-use session_clients::rsct_packet::NoMemory;
-use session_clients::session_delivery::client_place;
-use session_clients::session_state::{GsFault, SessionState};
-use session_clients::subscribe_core::ClientToken;
+use client_callbacks::Callbacks;
+use rsct_packet::NoMemory;
+use session_delivery::client_place;
+use session_state::{GsFault, SessionState};
 use std::alloc::Global;
+use subscribe_core::ClientToken;
 
 /// Adds a session with its client.
-#[tactic(auto, unfolding(crate::proofs::Below::inited, crate::proofs::Below::add_session))]
+#[tactic(auto, unfolding(session_state::specs::Calls::inited, session_state::specs::Calls::add_session))]
 pub fn open_session<C: Callbacks>(
     state: &mut SessionState,
     clients: &mut Vec<C>,
@@ -54,7 +54,7 @@ fn drop_at<C: Callbacks>(clients: &mut Vec<C>, place: Option<usize>)
 }
 
 /// Ends a session, and drops its client.
-#[tactic(auto, unfolding(crate::proofs::Below::goodbye_taken), using(session_clients::proofs::Standing::removed_alike))]
+#[tactic(auto, unfolding(session_state::specs::Calls::goodbye_taken), using(session_clients::proofs::Standing::removed_alike))]
 pub fn close_session<C: Callbacks>(
     state: &mut SessionState,
     clients: &mut Vec<C>,

@@ -4,9 +4,9 @@ use Rattle.std.specs.Prelude.{slice_get}
 use Rattle.std.specs.List.{list_any}
 use Rattle.std.proofs.lemmas.List.Folds.{list_any_at}
 use Rattle.std.proofs.lemmas.Bool.{eqb-false, false_from_ne_true}
-use Rattle.session_delivery.specs.rsct_packet.declared.ids.ProviderId.{ProviderId}
-use Rattle.session_delivery.specs.session_state.declared.state.SessionState.{SessionState}
-use Rattle.session_delivery.specs.session_state.State.{place_of}
+use Rattle.rsct_packet.specs.declared.ids.ProviderId.{ProviderId}
+use Rattle.session_state.specs.declared.state.SessionState.{SessionState}
+use Rattle.session_state.specs.State.{place_of}
 use Rattle.session_clients.specs.Clients.{is_at, KeepsAllBut}
 use Rattle.session_clients.specs.Notices.{hears_at}
 

@@ -3,11 +3,11 @@ use Rattle.std.proofs.Common.{◌≡◌, ◌≢◌, ℕ, List, [], ◌∷◌, Op
 use Rattle.std.specs.Prelude.{slice_get, IsSome}
 use Rattle.std.proofs.lemmas.Bool.{false≢true}
 use Rattle.std.proofs.lemmas.Option.{get_or_from_slice_get, slice_get_within}
-use Rattle.session_delivery.specs.proposal_core.declared.group_state.GroupState.{GroupState}
-use Rattle.session_delivery.specs.client_callbacks.declared.votes.VoteItem.{VoteItem}
-use Rattle.session_delivery.specs.client_callbacks.Ballots.{BallotView, new_ballot}
-use Rattle.session_delivery.specs.session_state.State.{place_of}
-use Rattle.session_delivery.specs.session_state.HandOn.{asks}
+use Rattle.proposal_core.specs.declared.group_state.GroupState.{GroupState}
+use Rattle.client_callbacks.specs.declared.votes.VoteItem.{VoteItem}
+use Rattle.client_callbacks.specs.Ballots.{BallotView, new_ballot}
+use Rattle.session_state.specs.State.{place_of}
+use Rattle.session_state.specs.HandOn.{asks}
 use Rattle.session_clients.specs.Notices.{AreScripted, FillsAs, filled_in, script_for, scripted, FillTheirScripts}
 
 script_at : (scripts : List (Option (List (Option VoteItem)))) (i : ℕ) → AreScripted scripts → slice_get scripts i ≢ Some None

@@ -5,21 +5,21 @@ use Rattle.std.proofs.lemmas.List.{take_more}
 use Rattle.std.proofs.lemmas.List.Sums.{fold_more}
 use Rattle.std.proofs.Common.{IsTrue, Bool}
 use Rattle.std.specs.Prelude.{map, slice_get}
-use Rattle.session_delivery.specs.rsct_packet.declared.ids.ViewId.{ViewId}
-use Rattle.session_delivery.specs.client_callbacks.Ballots.{new_ballot, may_hold}
-use Rattle.session_delivery.specs.client_callbacks.Handed.{Notified}
-use Rattle.session_delivery.specs.session_state.declared.casts.Cast.{Cast}
-use Rattle.session_delivery.specs.proposal_core.declared.entry.Entry.{Entry}
-use Rattle.session_delivery.specs.proposal_core.declared.group_state.GroupState.{GroupState}
-use Rattle.session_delivery.specs.rsct_packet.declared.ids.ProviderId.{ProviderId}
-use Rattle.session_delivery.specs.client_callbacks.declared.ballot.Filled.{Filled}
-use Rattle.session_delivery.specs.client_callbacks.declared.votes.VoteItem.{VoteItem}
-use Rattle.session_delivery.specs.client_callbacks.Handed.{Handed}
-use Rattle.session_delivery.specs.session_state.declared.state.SessionState.{SessionState}
+use Rattle.rsct_packet.specs.declared.ids.ViewId.{ViewId}
+use Rattle.client_callbacks.specs.Ballots.{new_ballot, may_hold}
+use Rattle.client_callbacks.specs.Handed.{Notified}
+use Rattle.session_state.specs.declared.casts.Cast.{Cast}
+use Rattle.proposal_core.specs.declared.entry.Entry.{Entry}
+use Rattle.proposal_core.specs.declared.group_state.GroupState.{GroupState}
+use Rattle.rsct_packet.specs.declared.ids.ProviderId.{ProviderId}
+use Rattle.client_callbacks.specs.declared.ballot.Filled.{Filled}
+use Rattle.client_callbacks.specs.declared.votes.VoteItem.{VoteItem}
+use Rattle.client_callbacks.specs.Handed.{Handed}
+use Rattle.session_state.specs.declared.state.SessionState.{SessionState}
 use Rattle.std.proofs.Common.{length-append, length-take, length-drop}
-use Rattle.session_delivery.specs.session_state.Calls.{removed_at}
-use Rattle.session_delivery.specs.session_state.State.{place_of}
-use Rattle.session_delivery.specs.session_state.HandOn.{asks, cast_with, cast_of, casts_of}
+use Rattle.session_state.specs.Calls.{removed_at}
+use Rattle.session_state.specs.State.{place_of}
+use Rattle.session_state.specs.HandOn.{asks, cast_with, cast_of, casts_of}
 use Rattle.session_clients.specs.Clients.{StandFor, add_at, add_for}
 use Rattle.session_clients.specs.Notices.{notice_to, notified, script_for, FillsAs, Filling, Fillings}
 

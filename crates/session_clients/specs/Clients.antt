@@ -1,10 +1,10 @@
 -- The sessions of a node with its clients, and what the clients stand for.
 use Rattle.std.specs.Prelude.{◌≡◌, ℕ, zero, suc, Bool, false, ◌==◌, List, [], ◌∷◌, ◌++◌, Option, Some, None, slice_get, map}
-use Rattle.session_delivery.specs.rsct_packet.Search.{place_where}
-use Rattle.session_delivery.specs.client_callbacks.declared.votes.VoteItem.{VoteItem}
-use Rattle.session_delivery.specs.client_callbacks.Handed.{Handed}
-use Rattle.session_delivery.specs.session_state.declared.state.SessionState.{SessionState}
-use Rattle.session_delivery.specs.session_state.State.{is_named}
+use Rattle.rsct_packet.specs.Search.{place_where}
+use Rattle.client_callbacks.specs.declared.votes.VoteItem.{VoteItem}
+use Rattle.client_callbacks.specs.Handed.{Handed}
+use Rattle.session_state.specs.declared.state.SessionState.{SessionState}
+use Rattle.session_state.specs.State.{is_named}
 
 -- the clients stand in the order of their sessions
 pub record SessionsView (C : Type 0) : Type 0 where

@@ -1,22 +1,22 @@
 -- What the clients of a node are handed and told, and what they fill.
 use Rattle.std.specs.Prelude.{◌≡◌, ℕ, Bool, List, [], ◌∷◌, All, map, Option, Some, None, IsTrue, IsSome, slice_get, if◌then◌else◌}
 use Rattle.std.specs.List.{fold, list_any}
-use Rattle.session_delivery.specs.rsct_packet.declared.ids.ProviderId.{ProviderId}
-use Rattle.session_delivery.specs.rsct_packet.declared.ids.ViewId.{ViewId}
-use Rattle.session_delivery.specs.proposal_core.declared.entry.Entry.{Entry}
-use Rattle.session_delivery.specs.proposal_core.declared.group_state.GroupState.{GroupState}
-use Rattle.session_delivery.specs.subscribe_core.declared.subs.SubToken.{SubToken}
-use Rattle.session_delivery.specs.subscribe_core.Subs.{is_live}
-use Rattle.session_delivery.specs.client_callbacks.declared.ballot.Filled.{Filled}
-use Rattle.session_delivery.specs.client_callbacks.declared.votes.VoteItem.{VoteItem}
-use Rattle.session_delivery.specs.client_callbacks.declared.told.Told.{Told}
-use Rattle.session_delivery.specs.client_callbacks.declared.told.Told.TheVariants as told
-use Rattle.session_delivery.specs.client_callbacks.declared.told.Why.{Why}
-use Rattle.session_delivery.specs.client_callbacks.Ballots.{BallotView, new_ballot, may_hold}
-use Rattle.session_delivery.specs.client_callbacks.Handed.{Handed, Notified, Informed, NoticeView, Fills, voted_by}
-use Rattle.session_delivery.specs.session_state.declared.state.SessionState.{SessionState}
-use Rattle.session_delivery.specs.session_state.State.{place_of}
-use Rattle.session_delivery.specs.session_state.HandOn.{asks, takes_telling, subscriber_of}
+use Rattle.rsct_packet.specs.declared.ids.ProviderId.{ProviderId}
+use Rattle.rsct_packet.specs.declared.ids.ViewId.{ViewId}
+use Rattle.proposal_core.specs.declared.entry.Entry.{Entry}
+use Rattle.proposal_core.specs.declared.group_state.GroupState.{GroupState}
+use Rattle.subscribe_core.specs.declared.subs.SubToken.{SubToken}
+use Rattle.subscribe_core.specs.Subs.{is_live}
+use Rattle.client_callbacks.specs.declared.ballot.Filled.{Filled}
+use Rattle.client_callbacks.specs.declared.votes.VoteItem.{VoteItem}
+use Rattle.client_callbacks.specs.declared.told.Told.{Told}
+use Rattle.client_callbacks.specs.declared.told.Told.TheVariants as told
+use Rattle.client_callbacks.specs.declared.told.Why.{Why}
+use Rattle.client_callbacks.specs.Ballots.{BallotView, new_ballot, may_hold}
+use Rattle.client_callbacks.specs.Handed.{Handed, Notified, Informed, NoticeView, Fills, voted_by}
+use Rattle.session_state.specs.declared.state.SessionState.{SessionState}
+use Rattle.session_state.specs.State.{place_of}
+use Rattle.session_state.specs.HandOn.{asks, takes_telling, subscriber_of}
 use Rattle.session_clients.specs.Clients.{add_for, is_at}
 
 abbrev pub notice_to : ViewId → List ℕ → ℕ → Entry → GroupState → ProviderId → NoticeView

@@ -1,20 +1,20 @@
 //! Handing to the clients of the sessions.
 ghost use Rattle.std.specs.Prelude.{◌≡◌, ◌++◌, ◌∷◌, [], ◌<◌, List, Option, Some, IsTrue, IfOk, IfSome, OnOk, length, map, slice_get};
-ghost use Rattle.session_delivery.specs.proposal_core.declared.group_state.Running.{Running};
-ghost use Rattle.session_delivery.specs.client_callbacks.declared.ballot.Filled.{Filled};
-ghost use Rattle.session_delivery.specs.client_callbacks.Ballots.{new_ballot, is_level, may_hold};
-ghost use Rattle.session_delivery.specs.client_callbacks.Handed.{Handed, Notified, Informed, notice_of, Fills};
-ghost use Rattle.session_delivery.specs.session_state.State.{place_of};
-ghost use Rattle.session_delivery.specs.session_state.Calls.{SameSessions};
-ghost use Rattle.session_delivery.specs.session_state.HandOn.{hearers, handed_on, casts_out, cast_with, cast_of, casts_of};
+ghost use Rattle.proposal_core.specs.declared.group_state.Running.{Running};
+ghost use Rattle.client_callbacks.specs.declared.ballot.Filled.{Filled};
+ghost use Rattle.client_callbacks.specs.Ballots.{new_ballot, is_level, may_hold};
+ghost use Rattle.client_callbacks.specs.Handed.{Handed, Notified, Informed, notice_of, Fills};
+ghost use Rattle.session_state.specs.State.{place_of};
+ghost use Rattle.session_state.specs.Calls.{SameSessions};
+ghost use Rattle.session_state.specs.HandOn.{hearers, handed_on, casts_out, cast_with, cast_of, casts_of};
 ghost use Rattle.session_clients.specs.Clients.{StandFor, add_at, add_for, is_at, KeepsAllBut, KeepsScripts};
 ghost use Rattle.session_clients.specs.Notices.{notice_to, notified, hears_at, FillsAs, Filling, Fillings};
 
-use session_delivery::client_callbacks::{Ballot, Callbacks, Notice, Told};
-use session_delivery::proposal_core::{GroupState, Running};
-use session_delivery::rsct_packet::{List, NoMemory, ProviderId};
-use session_delivery::session_state::{Cast, Casts, NewEntry, SessionState};
+use client_callbacks::{Ballot, Callbacks, Notice, Told};
+use proposal_core::{GroupState, Running};
+use rsct_packet::{List, NoMemory, ProviderId};
 use session_delivery::{beginners, hear, hearers, place_of};
+use session_state::{Cast, Casts, NewEntry, SessionState};
 use std::alloc::Global;
 
 /// What a provider casts, where its client left the ballot like this.
@@ -175,7 +175,7 @@ pub fn tell_at<C: Callbacks>(
 }
 
 /// Hands an entry on: each local provider that takes part hears it.
-#[tactic(auto, unfolding(crate::proofs::Below::handed_on, crate::proofs::Below::casts_out))]
+#[tactic(auto, unfolding(session_state::specs::HandOn::handed_on, session_state::specs::HandOn::casts_out))]
 pub fn hand_entry_on<C: Callbacks>(
     state: &mut SessionState,
     clients: &mut Vec<C>,

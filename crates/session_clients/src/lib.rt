@@ -6,7 +6,3 @@ mod laws;
 
 pub use clients::{hand_entry_on, tell_at};
 pub use laws::scripted_clients_fill_their_scripts;
-pub use session_delivery;
-pub use session_delivery::{
-    client_callbacks, group_attr, proposal_core, rsct_packet, session_state, subscribe_core,
-};

@@ -1,14 +1,14 @@
 //! What an entry that is handed on changes of the state.
 ghost use Rattle.std.specs.Prelude.{◌≡◌, ◌++◌, not, filter, is_some, option_copied, OnOk, IfOk};
 ghost use Rattle.std.specs.List.{fold, flat_map};
-ghost use Rattle.session_state.specs.rsct_packet.Providers.{among};
+ghost use Rattle.rsct_packet.specs.Providers.{among};
 ghost use Rattle.session_state.specs.State.{is_request, is_kept_in, with_provider, end_request, without_providers, provider_of, outstanding};
 ghost use Rattle.session_state.specs.Calls.{SameSessions};
 ghost use Rattle.session_state.specs.HandOn.{kept_ended, kept_after, hears, hearers_in, beginners, hearers, taking_part, part_taken, opened_after, open_phases, kept_by, keep_casts, proposal_begun, requests_after, removed_from, heard, is_numbered, is_join, is_join_request, is_dissolved, takes_telling, told_of};
 
-use session_state::client_callbacks::Why;
-use session_state::proposal_core::{Entry, GroupState, Proposal};
-use session_state::rsct_packet::{List, Name, NoMemory, ProtoId, ProviderId, is_among};
+use client_callbacks::Why;
+use proposal_core::{Entry, GroupState, Proposal};
+use rsct_packet::{List, Name, NoMemory, ProtoId, ProviderId, is_among};
 use session_state::{
     Cast, KeptBallot, NewEntry, Request, SessionState, brought_by, is_present, joiners_in,
 };

@@ -7,5 +7,3 @@ mod places;
 
 pub use delivery::{beginners, hear, hearers, is_live, outstanding, take_telling, takes_telling};
 pub use places::{client_place, place_of};
-pub use session_state;
-pub use session_state::{client_callbacks, group_attr, proposal_core, rsct_packet, subscribe_core};

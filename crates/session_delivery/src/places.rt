@@ -1,13 +1,13 @@
 //! Where clients stand, and whose providers are.
 ghost use Rattle.std.specs.Prelude.{◌≡◌, ◌<◌, length, IfSome};
-ghost use Rattle.session_state.specs.rsct_packet.Search.{place_where};
+ghost use Rattle.rsct_packet.specs.Search.{place_where};
 ghost use Rattle.session_state.specs.State.{is_session, client_place, place_of};
 
-use session_state::rsct_packet::ProviderId;
-use session_state::subscribe_core::ClientToken;
+use rsct_packet::ProviderId;
 use session_state::{Session, SessionState};
+use subscribe_core::ClientToken;
 
-#[tactic(auto, using(crate::proofs::Below::place_search))]
+#[tactic(auto, using(rsct_packet::proofs::SearchLaws::place_search))]
 fn place_alone(rows: &[Session], client: ClientToken) -> Option<usize>
     ensures { result ≡ place_where (is_session client) rows.now }
 {
@@ -19,7 +19,7 @@ fn place_alone(rows: &[Session], client: ClientToken) -> Option<usize>
     None
 }
 
-#[tactic(auto, using(crate::proofs::Below::place_is_in))]
+#[tactic(auto, using(rsct_packet::proofs::SearchLaws::place_is_in))]
 fn place(rows: &[Session], client: ClientToken) -> Option<usize>
     ensures value { result ≡ place_where (is_session client) rows.now }
     ensures within { IfSome result (λ i. i < length rows.now) }

@@ -1,6 +1,6 @@
 -- Whose the providers are, from one change to the next.
 use Rattle.std.proofs.Common.{◌⊎◌, inl, inr, refl, ◌∙◌}
-use Rattle.client_callbacks.specs.rsct_packet.declared.ids.ProviderId.{ProviderId}
+use Rattle.rsct_packet.specs.declared.ids.ProviderId.{ProviderId}
 use Rattle.session_state.specs.declared.state.SessionState.{SessionState}
 use Rattle.session_state.specs.Owners.{StaysOf, IsDropped, KeepsOwners}
 

@@ -2,18 +2,18 @@
 use Rattle.std.specs.Prelude.{◌≡◌, ℕ, Bool, true, false, not, ◌==◌, ◌&&◌, ◌||◌, ◌+◌, ◌++◌, List, [], ◌∷◌, length, filter, find, Option, Some, None, Result, Ok, Err, nat_le, nat_lt, if◌then◌else◌, remove}
 use Rattle.std.specs.List.{list_any}
 use Rattle.std.specs.Str.{bytes_eq}
-use Rattle.client_callbacks.specs.rsct_packet.declared.ids.ProviderId.{ProviderId}
-use Rattle.client_callbacks.specs.rsct_packet.Ids.{last_u32}
-use Rattle.client_callbacks.specs.rsct_packet.Text.{is_name_of}
-use Rattle.client_callbacks.specs.rsct_packet.Providers.{differ, same_provider}
-use Rattle.client_callbacks.specs.group_attr.declared.attrs.Attrs.{Attrs}
-use Rattle.client_callbacks.specs.group_attr.declared.attrs.AttrFault.{AttrFault}
-use Rattle.client_callbacks.specs.group_attr.declared.attrs.Phases.{Phases}
-use Rattle.client_callbacks.specs.group_attr.declared.attrs.Phases.TheVariants.{One}
-use Rattle.client_callbacks.specs.group_attr.Attrs.{first_fault, host_membership}
-use Rattle.client_callbacks.specs.proposal_core.declared.entry.Vote.{Vote}
-use Rattle.client_callbacks.specs.proposal_core.declared.proposal.Proposal.{Proposal}
-use Rattle.client_callbacks.specs.proposal_core.declared.proposal.Proposal.TheVariants.{Join, Leave, Expel, State, Message, Attributes}
+use Rattle.rsct_packet.specs.declared.ids.ProviderId.{ProviderId}
+use Rattle.rsct_packet.specs.Ids.{last_u32}
+use Rattle.rsct_packet.specs.Text.{is_name_of}
+use Rattle.rsct_packet.specs.Providers.{differ, same_provider}
+use Rattle.group_attr.specs.declared.attrs.Attrs.{Attrs}
+use Rattle.group_attr.specs.declared.attrs.AttrFault.{AttrFault}
+use Rattle.group_attr.specs.declared.attrs.Phases.{Phases}
+use Rattle.group_attr.specs.declared.attrs.Phases.TheVariants.{One}
+use Rattle.group_attr.specs.Attrs.{first_fault, host_membership}
+use Rattle.proposal_core.specs.declared.entry.Vote.{Vote}
+use Rattle.proposal_core.specs.declared.proposal.Proposal.{Proposal}
+use Rattle.proposal_core.specs.declared.proposal.Proposal.TheVariants.{Join, Leave, Expel, State, Message, Attributes}
 use Rattle.client_callbacks.specs.declared.ballot.Filled.{Filled}
 use Rattle.client_callbacks.specs.Ballots.{BallotView, is_within, value_limit, message_limit}
 use Rattle.subscribe_core.specs.declared.subs.ClientToken.{ClientToken}

@@ -2,16 +2,16 @@
 use Rattle.std.specs.Prelude.{ℕ, Bool, true, false, not, ◌==◌, ◌&&◌, ◌||◌, ◌++◌, List, [], ◌∷◌, filter, Option, Some, None, is_some, find, if◌then◌else◌}
 use Rattle.std.specs.List.{fold, flat_map}
 use Rattle.std.specs.Str.{bytes_eq}
-use Rattle.client_callbacks.specs.rsct_packet.declared.ids.ProviderId.{ProviderId}
-use Rattle.client_callbacks.specs.rsct_packet.declared.ids.ProtoId.{ProtoId}
-use Rattle.client_callbacks.specs.rsct_packet.Providers.{among}
-use Rattle.client_callbacks.specs.proposal_core.declared.entry.Entry.{Entry}
-use Rattle.client_callbacks.specs.proposal_core.declared.entry.Entry.TheVariants.{Once, Begin, Phase, Approve, Reject, Late}
-use Rattle.client_callbacks.specs.proposal_core.declared.proposal.Proposal.{Proposal}
-use Rattle.client_callbacks.specs.proposal_core.declared.proposal.Proposal.TheVariants.{Join, Leave, Fail, Expel, State, Message, Attributes, Reflect}
-use Rattle.client_callbacks.specs.proposal_core.declared.group_state.GroupState.{GroupState}
-use Rattle.client_callbacks.specs.proposal_core.declared.group_state.Running.{Running}
-use Rattle.client_callbacks.specs.proposal_core.Fold.{joiners_in, joins_of, voters}
+use Rattle.rsct_packet.specs.declared.ids.ProviderId.{ProviderId}
+use Rattle.rsct_packet.specs.declared.ids.ProtoId.{ProtoId}
+use Rattle.rsct_packet.specs.Providers.{among}
+use Rattle.proposal_core.specs.declared.entry.Entry.{Entry}
+use Rattle.proposal_core.specs.declared.entry.Entry.TheVariants.{Once, Begin, Phase, Approve, Reject, Late}
+use Rattle.proposal_core.specs.declared.proposal.Proposal.{Proposal}
+use Rattle.proposal_core.specs.declared.proposal.Proposal.TheVariants.{Join, Leave, Fail, Expel, State, Message, Attributes, Reflect}
+use Rattle.proposal_core.specs.declared.group_state.GroupState.{GroupState}
+use Rattle.proposal_core.specs.declared.group_state.Running.{Running}
+use Rattle.proposal_core.specs.Fold.{joiners_in, joins_of, voters}
 use Rattle.subscribe_core.specs.declared.subs.SubToken.{SubToken}
 use Rattle.subscribe_core.specs.declared.subs.Subscription.{Subscription}
 use Rattle.subscribe_core.specs.Subs.{has_token}

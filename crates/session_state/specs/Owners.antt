@@ -1,6 +1,6 @@
 -- Whose the providers of a node are, and stay.
 use Rattle.std.specs.Prelude.{◌≡◌, ◌⊎◌, None}
-use Rattle.client_callbacks.specs.rsct_packet.declared.ids.ProviderId.{ProviderId}
+use Rattle.rsct_packet.specs.declared.ids.ProviderId.{ProviderId}
 use Rattle.session_state.specs.declared.state.SessionState.{SessionState}
 use Rattle.session_state.specs.State.{provider_of, place_of, outstanding}
 

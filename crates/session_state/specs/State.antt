@@ -1,11 +1,11 @@
 -- What a node has of its clients.
 use Rattle.std.specs.Prelude.{ℕ, Bool, not, ◌==◌, ◌&&◌, List, [], Option, Some, None, filter, find}
 use Rattle.std.specs.Str.{bytes_eq}
-use Rattle.client_callbacks.specs.rsct_packet.declared.ids.ProviderId.{ProviderId}
-use Rattle.client_callbacks.specs.rsct_packet.declared.ids.ProtoId.{ProtoId}
-use Rattle.client_callbacks.specs.rsct_packet.Ids.{same_proto}
-use Rattle.client_callbacks.specs.rsct_packet.Providers.{same_provider, among}
-use Rattle.client_callbacks.specs.rsct_packet.Search.{edit_where, place_where}
+use Rattle.rsct_packet.specs.declared.ids.ProviderId.{ProviderId}
+use Rattle.rsct_packet.specs.declared.ids.ProtoId.{ProtoId}
+use Rattle.rsct_packet.specs.Ids.{same_proto}
+use Rattle.rsct_packet.specs.Providers.{same_provider, among}
+use Rattle.rsct_packet.specs.Search.{edit_where, place_where}
 use Rattle.subscribe_core.specs.declared.subs.ClientToken.{ClientToken}
 use Rattle.subscribe_core.specs.declared.subs.SubToken.{SubToken}
 use Rattle.subscribe_core.specs.declared.subs.Subscription.{Subscription}

@@ -1,6 +1,6 @@
 //! What handing an entry on gives out.
 use client_callbacks::Ballot;
-use client_callbacks::rsct_packet::{List, ProtoId, ProviderId};
+use rsct_packet::{List, ProtoId, ProviderId};
 
 /// A provider that was handed a notice, and the ballot that its client filled, with the protocol and the phase
 /// that it is for.

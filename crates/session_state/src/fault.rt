@@ -1,6 +1,6 @@
 //! Why a session call is refused.
-use client_callbacks::group_attr::AttrFault;
-use client_callbacks::rsct_packet::NoMemory;
+use group_attr::AttrFault;
+use rsct_packet::NoMemory;
 
 /// The first bad parameter of a call.
 #[derive(Clone, Copy, Debug, PartialEq, Eq)]

@@ -9,10 +9,7 @@ mod new_entry;
 mod state;
 
 pub use casts::{Cast, Casts};
-pub use client_callbacks;
-pub use client_callbacks::{group_attr, proposal_core, rsct_packet};
 pub use fault::{Field, GsFault};
 pub use locals::Locals;
 pub use new_entry::{NewEntry, brought_by, is_present, joiners_in};
 pub use state::{KeptBallot, MemberToken, OpenPhase, Provider, Request, Session, SessionState};
-pub use subscribe_core;

@@ -1,13 +1,13 @@
 //! The table of local providers.
 ghost use Rattle.std.specs.Prelude.{◌≡◌, ◌++◌, ◌∷◌, ◌<◌, [], length, not, find, filter, take, OnOk, OnErr, IfSome, IfNone, None, option_copied};
-ghost use Rattle.client_callbacks.specs.rsct_packet.Providers.{among};
-ghost use Rattle.client_callbacks.specs.rsct_packet.Search.{place_where, edit_where};
+ghost use Rattle.rsct_packet.specs.Providers.{among};
+ghost use Rattle.rsct_packet.specs.Search.{place_where, edit_where};
 ghost use Rattle.session_state.specs.State.{is_provider, is_client_of};
 ghost use Rattle.session_state.specs.HandOn.{taking_part, opened_after};
 
 use crate::new_entry::{NewEntry, is_late, running_phase};
 use crate::state::Provider;
-use client_callbacks::rsct_packet::{NoMemory, ProviderId, is_among};
+use rsct_packet::{NoMemory, ProviderId, is_among};
 use std::alloc::Global;
 use std::marker::Model;
 use subscribe_core::ClientToken;
@@ -27,7 +27,7 @@ impl Model for Locals {
     ghost view = { λ l. l.rows.items };
 }
 
-#[tactic(auto, using(crate::proofs::Below::place_search))]
+#[tactic(auto, using(rsct_packet::proofs::SearchLaws::place_search))]
 fn place_alone(rows: &[Provider], provider: ProviderId) -> Option<usize>
     ensures { result ≡ place_where (is_provider provider) rows.now }
 {
@@ -39,7 +39,7 @@ fn place_alone(rows: &[Provider], provider: ProviderId) -> Option<usize>
     None
 }
 
-#[tactic(auto, using(crate::proofs::Below::place_is_in, crate::proofs::Below::missing_at_place))]
+#[tactic(auto, using(rsct_packet::proofs::SearchLaws::place_is_in, rsct_packet::proofs::SearchLaws::missing_at_place))]
 fn place(rows: &[Provider], provider: ProviderId) -> Option<usize>
     ensures value { result ≡ place_where (is_provider provider) rows.now }
     ensures within { IfSome result (λ i. i < length rows.now) }
@@ -126,7 +126,7 @@ impl Locals {
     }
 
     /// Lets a provider take part.
-    #[tactic(auto, using(crate::proofs::Below::set_is_edit, crate::proofs::Below::missing_edit, std::proofs::lemmas::Grind::common_steps))]
+    #[tactic(auto, using(rsct_packet::proofs::SearchLaws::set_is_edit, rsct_packet::proofs::SearchLaws::missing_edit, std::proofs::lemmas::Grind::common_steps))]
     pub fn take_part(&mut self, provider: ProviderId)
         ensures { self.new ≡ edit_where (is_provider provider) taking_part self.old }
     {
@@ -136,7 +136,7 @@ impl Locals {
     }
 
     /// Opens or closes the phase of a provider that was handed an entry.
-    #[tactic(auto, using(crate::proofs::Below::set_is_edit, crate::proofs::Below::missing_edit, std::proofs::lemmas::Grind::common_steps))]
+    #[tactic(auto, using(rsct_packet::proofs::SearchLaws::set_is_edit, rsct_packet::proofs::SearchLaws::missing_edit, std::proofs::lemmas::Grind::common_steps))]
     pub fn note(&mut self, provider: ProviderId, entry: &NewEntry<'_>)
         ensures { self.new ≡ edit_where (is_provider provider)
             (opened_after entry.now.entry.now entry.now.after.now) self.old }

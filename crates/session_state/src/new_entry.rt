@@ -1,11 +1,11 @@
 //! A new entry of a group's list, as it is handed on.
 ghost use Rattle.std.specs.Prelude.{◌≡◌, [], Option};
-ghost use Rattle.client_callbacks.specs.proposal_core.Fold.{joiners_in, joins_of};
+ghost use Rattle.proposal_core.specs.Fold.{joiners_in, joins_of};
 ghost use Rattle.session_state.specs.HandOn.{is_late, opens_phase, asks, running_phase, brought_by, is_present};
 
 use crate::state::OpenPhase;
-use client_callbacks::proposal_core::{Entry, GroupState, Proposal, Running};
-use client_callbacks::rsct_packet::{Name, ProviderId, ViewId, is_among};
+use proposal_core::{Entry, GroupState, Proposal, Running};
+use rsct_packet::{Name, ProviderId, ViewId, is_among};
 
 /// A new entry of a group's list at its place in a view, with the state after it and that state's voters.
 #[derive(Clone, Copy)]
@@ -16,7 +16,7 @@ pub struct NewEntry<'a> {
     pub entry: &'a Entry,
     pub after: &'a GroupState,
     pub voters: &'a [ProviderId],
-    ghost are_voters: { voters.now ≡ Rattle.client_callbacks.specs.proposal_core.Fold.voters after.now },
+    ghost are_voters: { voters.now ≡ Rattle.proposal_core.specs.Fold.voters after.now },
 }
 
 pub fn is_late(entry: &Entry) -> bool

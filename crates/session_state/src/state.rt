@@ -1,9 +1,9 @@
 //! What a node has of its clients, apart from the clients themselves.
 use crate::locals::Locals;
 use client_callbacks::Ballot;
-use client_callbacks::group_attr::Phases;
-use client_callbacks::proposal_core::Proposal;
-use client_callbacks::rsct_packet::{List, Name, ProtoId, ProviderId};
+use group_attr::Phases;
+use proposal_core::Proposal;
+use rsct_packet::{List, Name, ProtoId, ProviderId};
 use subscribe_core::{ClientToken, Subs};
 
 /// A provider of a client in a group: the number of its join's request.

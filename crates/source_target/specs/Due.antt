@@ -1,9 +1,9 @@
 -- What a target group owes to its source group.
 use Rattle.std.specs.Prelude.{ℕ, Bool, false, not, ◌==◌, List, [], ◌∷◌, map, filter, Option, Some, None, if◌then◌else◌}
 use Rattle.std.specs.List.{list_any}
-use Rattle.proposal_core.specs.rsct_packet.declared.ids.ProviderId.{ProviderId}
-use Rattle.proposal_core.specs.rsct_packet.declared.ids.ProtoId.{ProtoId}
-use Rattle.proposal_core.specs.rsct_packet.Ids.{place_lt}
+use Rattle.rsct_packet.specs.declared.ids.ProviderId.{ProviderId}
+use Rattle.rsct_packet.specs.declared.ids.ProtoId.{ProtoId}
+use Rattle.rsct_packet.specs.Ids.{place_lt}
 use Rattle.proposal_core.specs.declared.proposal.Cause.TheVariants.{Cast}
 use Rattle.proposal_core.specs.declared.proposal.Failure.{Failure}
 use Rattle.proposal_core.specs.declared.group_state.GroupState.{GroupState}

@@ -4,8 +4,8 @@ ghost use Rattle.std.specs.List.{list_any};
 ghost use Rattle.source_target.specs.Due.{allowed as allowed_by, cast_outs as cast_outs_of, due as due_of, reflection_due as reflection_due_of, is_on};
 
 use crate::owed::Due;
-use proposal_core::rsct_packet::{List, NoMemory, ProviderId};
 use proposal_core::{Cause, Failure, Fallen, GroupState};
+use rsct_packet::{List, NoMemory, ProviderId};
 use std::alloc::Global;
 
 /// Is one of them on the node?

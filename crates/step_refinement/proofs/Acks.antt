@@ -2,30 +2,30 @@
 use Rattle.std.proofs.Common.{Some, ◌≡◌, ◌≢◌, ◌≤◌, ◌⊎◌, ℕ, zero, suc, max, min, List, [], ◌∷◌, length, Bool, true, false, refl, sym, ap, ◌∙◌, subst, inl, inr, ⊎_elim, arith}
 use Rattle.std.specs.Prelude.{◌==◌, ◌&&◌, ◌||◌, not, nat_le, fold, map, find}
 use Rattle.std.proofs.lemmas.Bool.{eqb-true, eq-eqb, cases_eq, and_parts}
-use Rattle.run_safety.specs.rsct_packet.declared.ids.ViewId.{ViewId}
-use Rattle.run_safety.specs.rsct_packet.declared.ids.Member.{Member}
-use Rattle.run_safety.specs.rsct_packet.Ids.{same_view, is_member}
-use Rattle.run_safety.specs.rsct_packet.Mask.{nodes_of}
-use Rattle.run_safety.specs.rsct_packet.Search.{Has}
-use Rattle.run_safety.proofs.rsct_packet_laws.HasLaws.{has_map, append_has_right}
-use Rattle.run_safety.specs.proposal_core.Lists.{len_in, list_or_new}
-use Rattle.run_safety.specs.rsct_packet.declared.ids.ProviderId.{ProviderId}
-use Rattle.run_safety.specs.rsct_packet.Providers.{among, differ, same_provider}
-use Rattle.run_safety.specs.view_state.Views.{is_frozen}
-use Rattle.run_safety.specs.node_state.declared.config.Config.{Config}
-use Rattle.run_safety.specs.node_state.declared.config.Mode.{Mode}
-use Rattle.run_safety.specs.node_state.declared.config.Mode.TheVariants.{Fixed, Asked, Rings}
-use Rattle.run_safety.specs.node_state.declared.packet.Body.TheVariants as body
-use Rattle.run_safety.specs.node_state.declared.packet.Packet.{Packet}
-use Rattle.run_safety.specs.node_state.declared.group.Acked.{Acked}
-use Rattle.run_safety.specs.node_state.declared.group.Led.{Led}
-use Rattle.run_safety.specs.node_state.declared.state.Core.{Core}
-use Rattle.run_safety.specs.node_state.Settings.{is_fixed}
-use Rattle.run_safety.specs.node_state.State.{row_of, with_led, frozen, forget_below, len_of, leads, acked_from, acked_by, least_acked, acked_raised, decision_of}
-use Rattle.run_safety.specs.node_state.HandOn.{Answering}
-use Rattle.run_safety.specs.node_state.Leading.{forget_least}
-use Rattle.run_safety.specs.node_state.Following.{acked, take_ack}
-use Rattle.run_safety.specs.node_state.Step.{first_members, is_used, used_if, take_body}
+use Rattle.rsct_packet.specs.declared.ids.ViewId.{ViewId}
+use Rattle.rsct_packet.specs.declared.ids.Member.{Member}
+use Rattle.rsct_packet.specs.Ids.{same_view, is_member}
+use Rattle.rsct_packet.specs.Mask.{nodes_of}
+use Rattle.rsct_packet.specs.Search.{Has}
+use Rattle.rsct_packet.proofs.HasLaws.{has_map, append_has_right}
+use Rattle.proposal_core.specs.Lists.{len_in, list_or_new}
+use Rattle.rsct_packet.specs.declared.ids.ProviderId.{ProviderId}
+use Rattle.rsct_packet.specs.Providers.{among, differ, same_provider}
+use Rattle.view_state.specs.Views.{is_frozen}
+use Rattle.node_state.specs.declared.config.Config.{Config}
+use Rattle.node_state.specs.declared.config.Mode.{Mode}
+use Rattle.node_state.specs.declared.config.Mode.TheVariants.{Fixed, Asked, Rings}
+use Rattle.node_state.specs.declared.packet.Body.TheVariants as body
+use Rattle.node_state.specs.declared.packet.Packet.{Packet}
+use Rattle.node_state.specs.declared.group.Acked.{Acked}
+use Rattle.node_state.specs.declared.group.Led.{Led}
+use Rattle.node_state.specs.declared.state.Core.{Core}
+use Rattle.node_state.specs.Settings.{is_fixed}
+use Rattle.node_state.specs.State.{row_of, with_led, frozen, forget_below, len_of, leads, acked_from, acked_by, least_acked, acked_raised, decision_of}
+use Rattle.node_state.specs.HandOn.{Answering}
+use Rattle.node_state.specs.Leading.{forget_least}
+use Rattle.node_state.specs.Following.{acked, take_ack}
+use Rattle.node_state.specs.Step.{first_members, is_used, used_if, take_body}
 use Rattle.run_safety.specs.Group.{member, In, kept}
 use Rattle.run_safety.specs.Group as group
 use Rattle.run_safety.specs.Moves.{Opening, Acknowledges, Settles}
@@ -40,7 +40,7 @@ use Rattle.step_refinement.specs.Tied.{ShowsBody, RowIs, IsAcked, Decided, Leade
 use Rattle.step_refinement.proofs.Goes.{Spares, Still, sound_on, owes_by, decides_by, node_by, shows_on}
 use Rattle.step_refinement.proofs.Idle.{led_lightens}
 use Rattle.step_refinement.proofs.Works.{tied_on}
-use Rattle.run_safety.proofs.node_state_laws.NameOrder.{cases_text}
+use Rattle.node_state.proofs.NameOrder.{cases_text}
 use Rattle.step_refinement.proofs.Leads.{leads_led, leads_known}
 use Rattle.step_refinement.proofs.Gone.{with_packet, packet_goes, packet_still, goes_then}
 use Rattle.step_refinement.proofs.ViewRows.{same_of}

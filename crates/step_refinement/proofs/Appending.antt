@@ -2,48 +2,48 @@
 use Rattle.std.proofs.Common.{◌≤◌, ◌≡◌, ◌⊎◌, ◌<◌, ℕ, zero, suc, ◌+◌, List, [], ◌∷◌, ◌++◌, length, take, Option, Some, None, Bool, true, false, refl, sym, ap, ◌∙◌, subst, inl, inr, ⊎_elim, append_assoc, arith}
 use Rattle.std.specs.Prelude.{not, map, filter, fold, flat_map, slice_get, nat_le, if◌then◌else◌}
 use Rattle.std.proofs.lemmas.List.{append-nil}
-use Rattle.run_safety.specs.rsct_packet.declared.ids.ViewId.{ViewId}
-use Rattle.run_safety.specs.rsct_packet.declared.ids.Member.{Member}
-use Rattle.run_safety.specs.rsct_packet.declared.ids.ProtoId.{ProtoId}
-use Rattle.run_safety.specs.rsct_packet.declared.ids.ProviderId.{ProviderId}
-use Rattle.run_safety.specs.rsct_packet.Providers.{among}
-use Rattle.run_safety.specs.rsct_packet.Search.{Has}
-use Rattle.run_safety.proofs.rsct_packet_laws.HasLaws.{has_append, append_has_left, append_has_right, has_map}
-use Rattle.run_safety.specs.proposal_core.declared.proposal.Cause.{Cause}
-use Rattle.run_safety.specs.proposal_core.declared.proposal.Cause.TheVariants.{Died, Gone}
-use Rattle.run_safety.specs.group_attr.declared.attrs.Phases.{Phases}
-use Rattle.run_safety.specs.group_attr.declared.attrs.Phases.TheVariants.{One, Many}
-use Rattle.run_safety.specs.proposal_core.declared.proposal.Proposal.{Proposal}
-use Rattle.run_safety.specs.proposal_core.declared.entry.Entry.{Entry}
-use Rattle.run_safety.specs.proposal_core.declared.entry.Entry.TheVariants.{Once, Begin}
-use Rattle.run_safety.specs.proposal_core.declared.entry.Vote.{Vote}
-use Rattle.run_safety.specs.proposal_core.declared.entry.Vote.TheVariants as vote
-use Rattle.run_safety.specs.proposal_core.declared.group_state.GroupState.{GroupState}
-use Rattle.run_safety.specs.proposal_core.declared.group_state.Running.{Running}
-use Rattle.run_safety.specs.proposal_core.Fold.{empty_state, max_phases}
-use Rattle.run_safety.specs.proposal_core.Fold as states
-use Rattle.run_safety.specs.proposal_core.GroupView.{GroupView}
-use Rattle.run_safety.specs.proposal_core.Lists.{list_or_new, len_in, with_entry}
-use Rattle.run_safety.specs.vote_phases.Tally.{TallyView, outcome}
-use Rattle.run_safety.specs.batch_rules.Waiting.{WaitingView, takes_failure, add_failure}
-use Rattle.run_safety.specs.client_callbacks.declared.ballot.Filled.{Filled}
-use Rattle.run_safety.specs.client_callbacks.Ballots.{BallotView}
-use Rattle.run_safety.specs.session_state.declared.casts.Cast.{Cast}
-use Rattle.run_safety.specs.session_state.declared.state.SessionState.{SessionState}
-use Rattle.run_safety.specs.session_state.HandOn.{hearers, casts_out}
-use Rattle.run_safety.specs.session_state.HandOn as session
-use Rattle.run_safety.specs.subscribe_core.Subs.{differs}
-use Rattle.run_safety.specs.view_state.declared.views.Views.{Views}
-use Rattle.run_safety.specs.node_state.declared.group.GroupRow.{GroupRow}
-use Rattle.run_safety.specs.node_state.declared.group.Led.{Led}
-use Rattle.run_safety.specs.node_state.declared.packet.Body.{Body}
-use Rattle.run_safety.specs.node_state.declared.packet.Body.TheVariants as body
-use Rattle.run_safety.specs.node_state.declared.packet.Packet.{Packet}
-use Rattle.run_safety.specs.node_state.declared.state.Core.{Core}
-use Rattle.run_safety.specs.node_state.State.{row_of, with_row, with_led, led_of, list_of, state_of, list_forgotten, len_of, frozen, leader_of, leads, others, least_acked, acked_by, acked_from, forget_below, fits_at_end, recorded, recorded_all, with_sessions}
-use Rattle.run_safety.specs.node_state.Sending.{ring_network, network_to, level_for, domain_at, packet_on, send_on, sent, send_all, send_if_known}
-use Rattle.run_safety.specs.node_state.HandOn.{Answering, fills, heard, noted, notes, ballot_sent, cast_sent_of, casts_sent, hand_on}
-use Rattle.run_safety.specs.node_state.Leading.{put, forget_least, with_waiting, wait_if, new_members_wait, appended, append_if_fits, begin_many, begins, tally_set, tally_for, tally_opened, closing, closing_of, closing_entry, is_phase, closes_from, closes}
+use Rattle.rsct_packet.specs.declared.ids.ViewId.{ViewId}
+use Rattle.rsct_packet.specs.declared.ids.Member.{Member}
+use Rattle.rsct_packet.specs.declared.ids.ProtoId.{ProtoId}
+use Rattle.rsct_packet.specs.declared.ids.ProviderId.{ProviderId}
+use Rattle.rsct_packet.specs.Providers.{among}
+use Rattle.rsct_packet.specs.Search.{Has}
+use Rattle.rsct_packet.proofs.HasLaws.{has_append, append_has_left, append_has_right, has_map}
+use Rattle.proposal_core.specs.declared.proposal.Cause.{Cause}
+use Rattle.proposal_core.specs.declared.proposal.Cause.TheVariants.{Died, Gone}
+use Rattle.group_attr.specs.declared.attrs.Phases.{Phases}
+use Rattle.group_attr.specs.declared.attrs.Phases.TheVariants.{One, Many}
+use Rattle.proposal_core.specs.declared.proposal.Proposal.{Proposal}
+use Rattle.proposal_core.specs.declared.entry.Entry.{Entry}
+use Rattle.proposal_core.specs.declared.entry.Entry.TheVariants.{Once, Begin}
+use Rattle.proposal_core.specs.declared.entry.Vote.{Vote}
+use Rattle.proposal_core.specs.declared.entry.Vote.TheVariants as vote
+use Rattle.proposal_core.specs.declared.group_state.GroupState.{GroupState}
+use Rattle.proposal_core.specs.declared.group_state.Running.{Running}
+use Rattle.proposal_core.specs.Fold.{empty_state, max_phases}
+use Rattle.proposal_core.specs.Fold as states
+use Rattle.proposal_core.specs.GroupView.{GroupView}
+use Rattle.proposal_core.specs.Lists.{list_or_new, len_in, with_entry}
+use Rattle.vote_phases.specs.Tally.{TallyView, outcome}
+use Rattle.batch_rules.specs.Waiting.{WaitingView, takes_failure, add_failure}
+use Rattle.client_callbacks.specs.declared.ballot.Filled.{Filled}
+use Rattle.client_callbacks.specs.Ballots.{BallotView}
+use Rattle.session_state.specs.declared.casts.Cast.{Cast}
+use Rattle.session_state.specs.declared.state.SessionState.{SessionState}
+use Rattle.session_state.specs.HandOn.{hearers, casts_out}
+use Rattle.session_state.specs.HandOn as session
+use Rattle.subscribe_core.specs.Subs.{differs}
+use Rattle.view_state.specs.declared.views.Views.{Views}
+use Rattle.node_state.specs.declared.group.GroupRow.{GroupRow}
+use Rattle.node_state.specs.declared.group.Led.{Led}
+use Rattle.node_state.specs.declared.packet.Body.{Body}
+use Rattle.node_state.specs.declared.packet.Body.TheVariants as body
+use Rattle.node_state.specs.declared.packet.Packet.{Packet}
+use Rattle.node_state.specs.declared.state.Core.{Core}
+use Rattle.node_state.specs.State.{row_of, with_row, with_led, led_of, list_of, state_of, list_forgotten, len_of, frozen, leader_of, leads, others, least_acked, acked_by, acked_from, forget_below, fits_at_end, recorded, recorded_all, with_sessions}
+use Rattle.node_state.specs.Sending.{ring_network, network_to, level_for, domain_at, packet_on, send_on, sent, send_all, send_if_known}
+use Rattle.node_state.specs.HandOn.{Answering, fills, heard, noted, notes, ballot_sent, cast_sent_of, casts_sent, hand_on}
+use Rattle.node_state.specs.Leading.{put, forget_least, with_waiting, wait_if, new_members_wait, appended, append_if_fits, begin_many, begins, tally_set, tally_for, tally_opened, closing, closing_of, closing_entry, is_phase, closes_from, closes}
 use Rattle.run_safety.specs.Group.{member, Standing, Line, kept, Put}
 use Rattle.run_safety.specs.Group as group
 use Rattle.run_safety.specs.GroupLists.{puts_of}
@@ -55,7 +55,7 @@ use Rattle.step_refinement.specs.Ghost.{Ghost, Lives}
 use Rattle.step_refinement.specs.Tied.{Decided, Shows, IsAcked, RowIs, LeaderKeeps, Scene, opening_of, Tied}
 use Rattle.step_refinement.specs.Rows.{at_node}
 use Rattle.step_refinement.proofs.Changed.{set_here, changes}
-use Rattle.run_safety.proofs.node_state_laws.NameOrder.{KeepsName, cases_text}
+use Rattle.node_state.proofs.NameOrder.{KeepsName, cases_text}
 use Rattle.step_refinement.proofs.Idle.{led_lightens}
 use Rattle.step_refinement.proofs.RowWorks.{keeps_of, waits_of, tied_row}
 use Rattle.step_refinement.proofs.Leads.{LeadsAs, leads_same, leads_row, leads_known}

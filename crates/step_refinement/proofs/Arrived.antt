@@ -4,34 +4,34 @@ use Rattle.std.proofs.Common.{◌≡◌, ℕ, List, [], ◌∷◌, ◌++◌, Opt
 use Rattle.std.specs.Prelude.{◌==◌, ◌&&◌, ◌||◌, not, reverse, map, fold, find, flat_map, is_some}
 use Rattle.std.specs.Str.{bytes_eq}
 use Rattle.std.proofs.lemmas.List.{append-nil}
-use Rattle.run_safety.specs.rsct_packet.declared.ids.ViewId.{ViewId}
-use Rattle.run_safety.specs.rsct_packet.declared.ids.ProviderId.{ProviderId}
-use Rattle.run_safety.specs.rsct_packet.Search.{Has}
-use Rattle.run_safety.proofs.rsct_packet_laws.HasLaws.{has_append, find_has}
-use Rattle.run_safety.specs.group_attr.Attrs.{host_membership}
-use Rattle.run_safety.specs.proposal_core.declared.proposal.Proposal.{Proposal}
-use Rattle.run_safety.specs.proposal_core.Fold.{present}
-use Rattle.run_safety.specs.proposal_core.Lists.{state_in}
-use Rattle.run_safety.specs.subscribe_core.declared.subs.Subscription.{Subscription}
-use Rattle.run_safety.specs.client_callbacks.declared.told.Told.TheVariants as told
-use Rattle.run_safety.specs.client_callbacks.declared.told.Why.TheVariants.{Dissolved}
-use Rattle.run_safety.specs.session_state.declared.state.Provider.{Provider}
-use Rattle.run_safety.specs.session_state.declared.state.Request.{Request}
-use Rattle.run_safety.specs.session_state.State.{is_provider, is_asked_by, provider_of, outstanding}
-use Rattle.run_safety.specs.session_state.HandOn.{is_numbered, take_telling}
-use Rattle.run_safety.specs.view_state.declared.install.Base.{Base}
-use Rattle.run_safety.specs.view_state.Bases.{base_named}
-use Rattle.run_safety.specs.view_state.declared.views.Views.{Views}
-use Rattle.run_safety.specs.view_state.declared.packet.ViewPacket.TheVariants as view
-use Rattle.run_safety.specs.node_state.declared.group.GroupRow.{GroupRow}
-use Rattle.run_safety.specs.node_state.declared.happened.Happened.{Happened}
-use Rattle.run_safety.specs.node_state.declared.happened.Happened.TheVariants as happened
-use Rattle.run_safety.specs.node_state.declared.packet.Body.TheVariants as body
-use Rattle.run_safety.specs.node_state.declared.state.Core.{Core}
-use Rattle.run_safety.specs.node_state.State.{row_of, recorded, recorded_all, with_sessions}
-use Rattle.run_safety.specs.node_state.Sending.{sent, send_on, send_requests}
-use Rattle.run_safety.specs.node_state.HandOn.{subscriber_name, note_of}
-use Rattle.run_safety.specs.node_state.Applying.{is_in_base, number_of, dissolved, dissolved_if, group_dissolved, sides_dissolved, base_note, entering_note, entering_noted, taken_sent, owed_sent}
+use Rattle.rsct_packet.specs.declared.ids.ViewId.{ViewId}
+use Rattle.rsct_packet.specs.declared.ids.ProviderId.{ProviderId}
+use Rattle.rsct_packet.specs.Search.{Has}
+use Rattle.rsct_packet.proofs.HasLaws.{has_append, find_has}
+use Rattle.group_attr.specs.Attrs.{host_membership}
+use Rattle.proposal_core.specs.declared.proposal.Proposal.{Proposal}
+use Rattle.proposal_core.specs.Fold.{present}
+use Rattle.proposal_core.specs.Lists.{state_in}
+use Rattle.subscribe_core.specs.declared.subs.Subscription.{Subscription}
+use Rattle.client_callbacks.specs.declared.told.Told.TheVariants as told
+use Rattle.client_callbacks.specs.declared.told.Why.TheVariants.{Dissolved}
+use Rattle.session_state.specs.declared.state.Provider.{Provider}
+use Rattle.session_state.specs.declared.state.Request.{Request}
+use Rattle.session_state.specs.State.{is_provider, is_asked_by, provider_of, outstanding}
+use Rattle.session_state.specs.HandOn.{is_numbered, take_telling}
+use Rattle.view_state.specs.declared.install.Base.{Base}
+use Rattle.view_state.specs.Bases.{base_named}
+use Rattle.view_state.specs.declared.views.Views.{Views}
+use Rattle.view_state.specs.declared.packet.ViewPacket.TheVariants as view
+use Rattle.node_state.specs.declared.group.GroupRow.{GroupRow}
+use Rattle.node_state.specs.declared.happened.Happened.{Happened}
+use Rattle.node_state.specs.declared.happened.Happened.TheVariants as happened
+use Rattle.node_state.specs.declared.packet.Body.TheVariants as body
+use Rattle.node_state.specs.declared.state.Core.{Core}
+use Rattle.node_state.specs.State.{row_of, recorded, recorded_all, with_sessions}
+use Rattle.node_state.specs.Sending.{sent, send_on, send_requests}
+use Rattle.node_state.specs.HandOn.{subscriber_name, note_of}
+use Rattle.node_state.specs.Applying.{is_in_base, number_of, dissolved, dissolved_if, group_dissolved, sides_dissolved, base_note, entering_note, entering_noted, taken_sent, owed_sent}
 use Rattle.run_safety.specs.Past.{History, earlier, view_now, records_of}
 use Rattle.run_safety.specs.Sight.{lines_of}
 use Rattle.run_safety.specs.Group.{Noted, Asked, Told}

@@ -4,26 +4,26 @@ use Rattle.std.specs.Prelude.{reverse, map, find, fold, if◌then◌else◌}
 use Rattle.std.specs.Option.{option_map}
 use Rattle.std.specs.Str.{bytes_eq}
 use Rattle.std.proofs.lemmas.List.{append-nil}
-use Rattle.run_safety.specs.rsct_packet.declared.ids.ViewId.{ViewId}
-use Rattle.run_safety.specs.rsct_packet.Text.{name_lt}
-use Rattle.run_safety.specs.rsct_packet.Lists.{best_of}
-use Rattle.run_safety.specs.view_state.declared.install.Part.{Part}
-use Rattle.run_safety.specs.view_state.declared.install.Source.{Source}
-use Rattle.run_safety.specs.view_state.declared.install.Install.{Install}
-use Rattle.run_safety.specs.view_state.declared.install.Base.{Base}
-use Rattle.run_safety.specs.view_state.Bases.{Candidate, candidates, beats, base_from, base_of_best, base_of, with_name, names_in, bases_for, bases_of, base_named}
-use Rattle.run_safety.specs.node_state.declared.group.GroupRow.{GroupRow}
-use Rattle.run_safety.specs.node_state.declared.happened.Happened.{Happened}
-use Rattle.run_safety.specs.node_state.declared.happened.Happened.TheVariants as happened
-use Rattle.run_safety.specs.node_state.State.{AllAfter, InNameOrder, new_row, has_name}
-use Rattle.run_safety.specs.node_state.Applying.{base_row}
+use Rattle.rsct_packet.specs.declared.ids.ViewId.{ViewId}
+use Rattle.rsct_packet.specs.Text.{name_lt}
+use Rattle.rsct_packet.specs.Lists.{best_of}
+use Rattle.view_state.specs.declared.install.Part.{Part}
+use Rattle.view_state.specs.declared.install.Source.{Source}
+use Rattle.view_state.specs.declared.install.Install.{Install}
+use Rattle.view_state.specs.declared.install.Base.{Base}
+use Rattle.view_state.specs.Bases.{Candidate, candidates, beats, base_from, base_of_best, base_of, with_name, names_in, bases_for, bases_of, base_named}
+use Rattle.node_state.specs.declared.group.GroupRow.{GroupRow}
+use Rattle.node_state.specs.declared.happened.Happened.{Happened}
+use Rattle.node_state.specs.declared.happened.Happened.TheVariants as happened
+use Rattle.node_state.specs.State.{AllAfter, InNameOrder, new_row, has_name}
+use Rattle.node_state.specs.Applying.{base_row}
 use Rattle.run_safety.specs.Past.{History}
 use Rattle.run_safety.specs.Sight.{lines_with}
 use Rattle.run_safety.specs.Group.{Line, Noted, Based}
 use Rattle.run_safety.specs.Moves.{based}
 use Rattle.step_refinement.specs.Ghost.{origin_of}
 use Rattle.step_refinement.proofs.Works.{lines_pushed}
-use Rattle.run_safety.proofs.node_state_laws.NameOrder.{text_same, text_self, name_lt_total, none_after, after_less}
+use Rattle.node_state.proofs.NameOrder.{text_same, text_self, name_lt_total, none_after, after_less}
 
 abbrev rows_of : List (List ℕ) → List GroupRow
 rows_of ns = map new_row ns

@@ -4,29 +4,29 @@ use Rattle.std.specs.Prelude.{not, ◌==◌, if◌then◌else◌, reverse, map}
 use Rattle.std.proofs.lemmas.Bool.{eqb-true, cases_eq}
 use Rattle.std.proofs.lemmas.List.{reverse-append}
 use Rattle.std.proofs.lemmas.Bool.Decides.{Decides-eqb}
-use Rattle.run_safety.specs.rsct_packet.declared.ids.ViewId.{ViewId}
-use Rattle.run_safety.specs.rsct_packet.declared.ids.Member.{Member}
-use Rattle.run_safety.specs.rsct_packet.declared.ids.ProviderId.{ProviderId}
-use Rattle.run_safety.specs.rsct_packet.Search.{Has}
-use Rattle.run_safety.proofs.rsct_packet_laws.HasLaws.{append_has_right}
-use Rattle.run_safety.specs.proposal_core.declared.entry.Entry.{Entry}
-use Rattle.run_safety.specs.adapter_ring.declared.ring.Ring.{Ring}
-use Rattle.run_safety.specs.node_state.declared.config.Config.{Config}
-use Rattle.run_safety.specs.node_state.declared.config.Mode.{Mode}
-use Rattle.run_safety.specs.node_state.declared.config.Mode.TheVariants.{Fixed, Asked, Rings}
-use Rattle.run_safety.specs.node_state.declared.happened.Happened.{Happened}
-use Rattle.run_safety.specs.node_state.declared.happened.Happened.TheVariants as happened
-use Rattle.run_safety.specs.node_state.declared.packet.Packet.{Packet}
-use Rattle.run_safety.specs.node_state.declared.state.Core.{Core}
-use Rattle.run_safety.specs.node_state.Settings.{is_fixed}
-use Rattle.run_safety.specs.node_state.State.{row_of, with_sessions, acked_from, decision_of}
-use Rattle.run_safety.specs.node_state.Applying.{level_set}
-use Rattle.run_safety.specs.node_state.Step.{at_work, started, first_view, first_members, own_rings, ring_record}
-use Rattle.run_safety.specs.view_state.Views.{views_new}
-use Rattle.run_safety.specs.world_model.declared.event.Event.{Event}
+use Rattle.rsct_packet.specs.declared.ids.ViewId.{ViewId}
+use Rattle.rsct_packet.specs.declared.ids.Member.{Member}
+use Rattle.rsct_packet.specs.declared.ids.ProviderId.{ProviderId}
+use Rattle.rsct_packet.specs.Search.{Has}
+use Rattle.rsct_packet.proofs.HasLaws.{append_has_right}
+use Rattle.proposal_core.specs.declared.entry.Entry.{Entry}
+use Rattle.adapter_ring.specs.declared.ring.Ring.{Ring}
+use Rattle.node_state.specs.declared.config.Config.{Config}
+use Rattle.node_state.specs.declared.config.Mode.{Mode}
+use Rattle.node_state.specs.declared.config.Mode.TheVariants.{Fixed, Asked, Rings}
+use Rattle.node_state.specs.declared.happened.Happened.{Happened}
+use Rattle.node_state.specs.declared.happened.Happened.TheVariants as happened
+use Rattle.node_state.specs.declared.packet.Packet.{Packet}
+use Rattle.node_state.specs.declared.state.Core.{Core}
+use Rattle.node_state.specs.Settings.{is_fixed}
+use Rattle.node_state.specs.State.{row_of, with_sessions, acked_from, decision_of}
+use Rattle.node_state.specs.Applying.{level_set}
+use Rattle.node_state.specs.Step.{at_work, started, first_view, first_members, own_rings, ring_record}
+use Rattle.view_state.specs.Views.{views_new}
+use Rattle.world_model.specs.declared.event.Event.{Event}
 use Rattle.run_safety.specs.Past.{records_of, place_after, view_now}
 use Rattle.run_safety.specs.Sight.{inc_in, lines_with, lines_of}
-use Rattle.run_safety.specs.proposal_core.declared.proposal.Proposal.{Proposal}
+use Rattle.proposal_core.specs.declared.proposal.Proposal.{Proposal}
 use Rattle.run_safety.specs.Group.{member, Standing, Kept, Noted, Told, In, Put, Begins, kept}
 use Rattle.run_safety.specs.Group as group
 use Rattle.run_safety.specs.Moves.{Opening, Alone, Born, Led, Dawn, NextEvent, Starts, first}

@@ -2,43 +2,43 @@
 -- join waited without a list, none waits.
 use Rattle.std.proofs.Common.{◌≡◌, ◌≤◌, ◌⊎◌, ℕ, zero, suc, List, [], ◌∷◌, length, Option, Some, None, Bool, true, false, refl, sym, ap, ◌∙◌, subst, inl, inr, arith}
 use Rattle.std.specs.Prelude.{not, filter, find, fold, map, is_some}
-use Rattle.run_safety.specs.rsct_packet.declared.ids.ProviderId.{ProviderId}
-use Rattle.run_safety.specs.rsct_packet.Lists.{is_empty}
-use Rattle.run_safety.specs.rsct_packet.Providers.{among}
-use Rattle.run_safety.specs.rsct_packet.Search.{Has}
-use Rattle.run_safety.proofs.rsct_packet_laws.HasLaws.{find_has, filter_has}
-use Rattle.run_safety.specs.group_attr.declared.attrs.Phases.{Phases}
-use Rattle.run_safety.specs.group_attr.declared.attrs.Phases.TheVariants.{One, Many}
-use Rattle.run_safety.specs.group_attr.declared.attrs.Attrs.{Attrs}
-use Rattle.run_safety.specs.proposal_core.declared.proposal.Cause.{Cause}
-use Rattle.run_safety.specs.proposal_core.declared.proposal.Cause.TheVariants.{Died, Gone}
-use Rattle.run_safety.specs.proposal_core.declared.proposal.Failure.{Failure}
-use Rattle.run_safety.specs.proposal_core.declared.proposal.Proposal.{Proposal}
-use Rattle.run_safety.specs.proposal_core.declared.proposal.Proposal.TheVariants.{Join, Fail, Reflect}
-use Rattle.run_safety.specs.proposal_core.declared.entry.Entry.{Entry}
-use Rattle.run_safety.specs.proposal_core.declared.entry.Entry.TheVariants.{Once, Begin}
-use Rattle.run_safety.specs.proposal_core.declared.group_state.GroupState.{GroupState}
-use Rattle.run_safety.specs.proposal_core.GroupView.{GroupView}
-use Rattle.run_safety.specs.proposal_core.Lists.{list_or_new, with_entry, is_at_limit}
-use Rattle.run_safety.specs.batch_rules.Waiting.{add_failure, batches_failures, batches_joins, chosen_of, left_of, next_failures, failures_left, next_joins, joins_left}
-use Rattle.run_safety.specs.source_target.declared.Due.{Due}
-use Rattle.run_safety.specs.source_target.declared.Due.TheVariants as due
-use Rattle.run_safety.specs.source_target.Due as target
-use Rattle.run_safety.specs.client_callbacks.declared.told.Why.{Why}
-use Rattle.run_safety.specs.client_callbacks.declared.told.Why.TheVariants.{NoSource}
-use Rattle.run_safety.specs.vote_phases.Tally.{TallyView}
-use Rattle.run_safety.specs.node_state.declared.group.GroupRow.{GroupRow}
-use Rattle.run_safety.specs.node_state.declared.group.Led.{Led}
-use Rattle.run_safety.specs.node_state.declared.packet.Body.TheVariants as body
-use Rattle.run_safety.specs.node_state.declared.state.Core.{Core}
-use Rattle.run_safety.specs.node_state.State.{InNameOrder, row_found, row_of, with_row, with_led, led_of, list_of, state_of, len_of, list_forgotten, forget_below, leads_in, leads, led_groups, leader_of, others, least_acked, fits_at_end, decisions_with, recorded, has_name}
-use Rattle.run_safety.specs.node_state.Sending.{sent, send_on, send_all}
-use Rattle.run_safety.specs.node_state.HandOn.{Answering, hand_on}
-use Rattle.run_safety.specs.node_state.Leading.{put, forget_least, with_waiting, wait_if, new_members_wait, appended, append_if_fits, begin_many, begins, tally_set, tally_for, tally_opened, closing_entry, is_phase, closes_from, closes}
-use Rattle.run_safety.specs.proposal_core.Fold.{max_phases}
-use Rattle.run_safety.specs.node_state.Deciding.{keep_decision, refused, known_state, lacks_source, source_len}
-use Rattle.run_safety.specs.node_state.Ending.{Pass, quiet, begun_now, failures_begin, due_begins, source_begins, attrs_for, carried_len, source_refused, joins_begin, or_due, or_joins, may_begin, first_begins, group_begins, one_pass, passes}
-use Rattle.run_safety.proofs.node_state_laws.NameOrder.{KeepsName, cases_text, text_same, row_here, row_there, rows_ordered}
+use Rattle.rsct_packet.specs.declared.ids.ProviderId.{ProviderId}
+use Rattle.rsct_packet.specs.Lists.{is_empty}
+use Rattle.rsct_packet.specs.Providers.{among}
+use Rattle.rsct_packet.specs.Search.{Has}
+use Rattle.rsct_packet.proofs.HasLaws.{find_has, filter_has}
+use Rattle.group_attr.specs.declared.attrs.Phases.{Phases}
+use Rattle.group_attr.specs.declared.attrs.Phases.TheVariants.{One, Many}
+use Rattle.group_attr.specs.declared.attrs.Attrs.{Attrs}
+use Rattle.proposal_core.specs.declared.proposal.Cause.{Cause}
+use Rattle.proposal_core.specs.declared.proposal.Cause.TheVariants.{Died, Gone}
+use Rattle.proposal_core.specs.declared.proposal.Failure.{Failure}
+use Rattle.proposal_core.specs.declared.proposal.Proposal.{Proposal}
+use Rattle.proposal_core.specs.declared.proposal.Proposal.TheVariants.{Join, Fail, Reflect}
+use Rattle.proposal_core.specs.declared.entry.Entry.{Entry}
+use Rattle.proposal_core.specs.declared.entry.Entry.TheVariants.{Once, Begin}
+use Rattle.proposal_core.specs.declared.group_state.GroupState.{GroupState}
+use Rattle.proposal_core.specs.GroupView.{GroupView}
+use Rattle.proposal_core.specs.Lists.{list_or_new, with_entry, is_at_limit}
+use Rattle.batch_rules.specs.Waiting.{add_failure, batches_failures, batches_joins, chosen_of, left_of, next_failures, failures_left, next_joins, joins_left}
+use Rattle.source_target.specs.declared.Due.{Due}
+use Rattle.source_target.specs.declared.Due.TheVariants as due
+use Rattle.source_target.specs.Due as target
+use Rattle.client_callbacks.specs.declared.told.Why.{Why}
+use Rattle.client_callbacks.specs.declared.told.Why.TheVariants.{NoSource}
+use Rattle.vote_phases.specs.Tally.{TallyView}
+use Rattle.node_state.specs.declared.group.GroupRow.{GroupRow}
+use Rattle.node_state.specs.declared.group.Led.{Led}
+use Rattle.node_state.specs.declared.packet.Body.TheVariants as body
+use Rattle.node_state.specs.declared.state.Core.{Core}
+use Rattle.node_state.specs.State.{InNameOrder, row_found, row_of, with_row, with_led, led_of, list_of, state_of, len_of, list_forgotten, forget_below, leads_in, leads, led_groups, leader_of, others, least_acked, fits_at_end, decisions_with, recorded, has_name}
+use Rattle.node_state.specs.Sending.{sent, send_on, send_all}
+use Rattle.node_state.specs.HandOn.{Answering, hand_on}
+use Rattle.node_state.specs.Leading.{put, forget_least, with_waiting, wait_if, new_members_wait, appended, append_if_fits, begin_many, begins, tally_set, tally_for, tally_opened, closing_entry, is_phase, closes_from, closes}
+use Rattle.proposal_core.specs.Fold.{max_phases}
+use Rattle.node_state.specs.Deciding.{keep_decision, refused, known_state, lacks_source, source_len}
+use Rattle.node_state.specs.Ending.{Pass, quiet, begun_now, failures_begin, due_begins, source_begins, attrs_for, carried_len, source_refused, joins_begin, or_due, or_joins, may_begin, first_begins, group_begins, one_pass, passes}
+use Rattle.node_state.proofs.NameOrder.{KeepsName, cases_text, text_same, row_here, row_there, rows_ordered}
 use Rattle.step_refinement.proofs.Idle.{none_held, held_none}
 use Rattle.step_refinement.proofs.Appending.{sent_all_is, handed_rows, joins_kept}
 

@@ -3,39 +3,39 @@ use Rattle.std.proofs.Common.{◌≡◌, ◌≢◌, ◌≤◌, ◌⊎◌, ℕ, �
 use Rattle.std.specs.Prelude.{◌&&◌, ◌||◌, not, filter, find, fold, Result, Ok, Err, if◌then◌else◌, ◌==◌}
 use Rattle.std.specs.List.{last_or}
 use Rattle.std.specs.Str.{bytes_eq}
-use Rattle.run_safety.specs.rsct_packet.declared.ids.ViewId.{ViewId}
-use Rattle.run_safety.specs.rsct_packet.declared.ids.ProviderId.{ProviderId}
-use Rattle.run_safety.specs.rsct_packet.Providers.{same_provider}
-use Rattle.run_safety.specs.rsct_packet.Search.{Has}
-use Rattle.run_safety.proofs.rsct_packet_laws.HasLaws.{has_append, append_has_left, append_has_right, has_filter, filter_has, find_has}
-use Rattle.run_safety.specs.group_attr.declared.attrs.Attrs.{Attrs}
-use Rattle.run_safety.specs.group_attr.declared.attrs.Phases.{Phases}
-use Rattle.run_safety.specs.group_attr.declared.attrs.Phases.TheVariants.{One}
-use Rattle.run_safety.specs.proposal_core.declared.entry.Entry.{Entry}
-use Rattle.run_safety.specs.proposal_core.declared.entry.Vote.{Vote}
-use Rattle.run_safety.specs.proposal_core.declared.proposal.Proposal.{Proposal}
-use Rattle.run_safety.specs.proposal_core.declared.proposal.Proposal.TheVariants.{Join, Attributes}
-use Rattle.run_safety.specs.client_callbacks.declared.ballot.Filled.{Filled}
-use Rattle.run_safety.specs.subscribe_core.declared.subs.ClientToken.{ClientToken}
-use Rattle.run_safety.specs.session_state.declared.fault.GsFault.{GsFault}
-use Rattle.run_safety.specs.session_state.declared.state.MemberToken.{MemberToken}
-use Rattle.run_safety.specs.session_state.declared.state.OpenPhase.{OpenPhase}
-use Rattle.run_safety.specs.session_state.declared.state.Provider.{Provider}
-use Rattle.run_safety.specs.session_state.declared.state.Request.{Request}
-use Rattle.run_safety.specs.session_state.declared.state.KeptBallot.{KeptBallot}
-use Rattle.run_safety.specs.session_state.declared.state.SessionState.{SessionState}
-use Rattle.run_safety.specs.session_state.State.{is_client_of, is_member_of, client_token, outstanding}
-use Rattle.run_safety.specs.session_state.Calls.{unless_fault, if_session, is_empty, init_fault, add_session, inited, join_fault, join_asked, joined, asked, ask_fault, member_asks, member_changes, request_made, left, expelled, state_changed, message_sent, attributes_changed, member_votes, vote_in, keeps, voted, subscribe_taken, unsubscribe_taken, client_fault, is_owned, end_session, goodbye_taken, or_fault, collide_with, collide_fault, spent_fault}
-use Rattle.run_safety.specs.node_state.declared.call.CallLine.{CallLine}
-use Rattle.run_safety.specs.node_state.declared.call.CallLine.TheVariants as call
-use Rattle.run_safety.specs.node_state.declared.happened.Happened.TheVariants as happened
-use Rattle.run_safety.specs.node_state.declared.packet.Body.TheVariants as body
-use Rattle.run_safety.specs.node_state.declared.state.Core.{Core}
-use Rattle.run_safety.specs.node_state.Settings.{is_fixed}
-use Rattle.run_safety.specs.node_state.State.{holds, row_of, frozen, leader_of, recorded, with_sessions}
-use Rattle.run_safety.specs.node_state.Sending.{send_request}
-use Rattle.run_safety.specs.node_state.Calls.{caller, subscriber, refuse_call, changed, ask_last, proposed, record_ballot, ballot_sent_if, cast_last, give_ballot, send_gone, send_all_gone, goodbye_said, take_call}
-use Rattle.run_safety.specs.node_state.declared.happened.Happened.{Happened}
+use Rattle.rsct_packet.specs.declared.ids.ViewId.{ViewId}
+use Rattle.rsct_packet.specs.declared.ids.ProviderId.{ProviderId}
+use Rattle.rsct_packet.specs.Providers.{same_provider}
+use Rattle.rsct_packet.specs.Search.{Has}
+use Rattle.rsct_packet.proofs.HasLaws.{has_append, append_has_left, append_has_right, has_filter, filter_has, find_has}
+use Rattle.group_attr.specs.declared.attrs.Attrs.{Attrs}
+use Rattle.group_attr.specs.declared.attrs.Phases.{Phases}
+use Rattle.group_attr.specs.declared.attrs.Phases.TheVariants.{One}
+use Rattle.proposal_core.specs.declared.entry.Entry.{Entry}
+use Rattle.proposal_core.specs.declared.entry.Vote.{Vote}
+use Rattle.proposal_core.specs.declared.proposal.Proposal.{Proposal}
+use Rattle.proposal_core.specs.declared.proposal.Proposal.TheVariants.{Join, Attributes}
+use Rattle.client_callbacks.specs.declared.ballot.Filled.{Filled}
+use Rattle.subscribe_core.specs.declared.subs.ClientToken.{ClientToken}
+use Rattle.session_state.specs.declared.fault.GsFault.{GsFault}
+use Rattle.session_state.specs.declared.state.MemberToken.{MemberToken}
+use Rattle.session_state.specs.declared.state.OpenPhase.{OpenPhase}
+use Rattle.session_state.specs.declared.state.Provider.{Provider}
+use Rattle.session_state.specs.declared.state.Request.{Request}
+use Rattle.session_state.specs.declared.state.KeptBallot.{KeptBallot}
+use Rattle.session_state.specs.declared.state.SessionState.{SessionState}
+use Rattle.session_state.specs.State.{is_client_of, is_member_of, client_token, outstanding}
+use Rattle.session_state.specs.Calls.{unless_fault, if_session, is_empty, init_fault, add_session, inited, join_fault, join_asked, joined, asked, ask_fault, member_asks, member_changes, request_made, left, expelled, state_changed, message_sent, attributes_changed, member_votes, vote_in, keeps, voted, subscribe_taken, unsubscribe_taken, client_fault, is_owned, end_session, goodbye_taken, or_fault, collide_with, collide_fault, spent_fault}
+use Rattle.node_state.specs.declared.call.CallLine.{CallLine}
+use Rattle.node_state.specs.declared.call.CallLine.TheVariants as call
+use Rattle.node_state.specs.declared.happened.Happened.TheVariants as happened
+use Rattle.node_state.specs.declared.packet.Body.TheVariants as body
+use Rattle.node_state.specs.declared.state.Core.{Core}
+use Rattle.node_state.specs.Settings.{is_fixed}
+use Rattle.node_state.specs.State.{holds, row_of, frozen, leader_of, recorded, with_sessions}
+use Rattle.node_state.specs.Sending.{send_request}
+use Rattle.node_state.specs.Calls.{caller, subscriber, refuse_call, changed, ask_last, proposed, record_ballot, ballot_sent_if, cast_last, give_ballot, send_gone, send_all_gone, goodbye_said, take_call}
+use Rattle.node_state.specs.declared.happened.Happened.{Happened}
 use Rattle.run_safety.specs.Sight.{lines_of}
 use Rattle.run_safety.specs.Group.{Line, Noted, Asked, Told, Put, kept}
 use Rattle.run_safety.specs.Requests.{requests_of, carried}
@@ -47,7 +47,7 @@ use Rattle.step_refinement.specs.Ghost.{Asking, asking, Ghost, Lives, Goes}
 use Rattle.step_refinement.specs.Tied.{Numbered, Owed, Owes, Sound, NodeOf, Scene, opening_of, lines_now, Tied, InTurn}
 use Rattle.step_refinement.proofs.Goes.{Spares, seen_on, numbered_on, decides_by, node_by, shows_on, node_if_on}
 use Rattle.step_refinement.proofs.Works.{lines_pushed, placed_pushed, tied_unseen}
-use Rattle.run_safety.proofs.node_state_laws.NameOrder.{text_self, text_other, cases_text}
+use Rattle.node_state.proofs.NameOrder.{text_self, text_other, cases_text}
 use Rattle.step_refinement.proofs.SessionLaws.{Later, owes_later, provider_self, Attended, provider_same}
 use Rattle.step_refinement.proofs.Owed.{request_tied, known_tied, kept_sent_tied}
 use Rattle.step_refinement.proofs.Turns.{fewer_turn, fewer_same, turns_sessions, turns_pushed, joined_turn, asked_turn}

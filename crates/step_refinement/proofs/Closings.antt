@@ -4,17 +4,17 @@ use Rattle.std.proofs.Common.{◌≡◌, ◌≤◌, ◌<◌, ℕ, List, Option, 
 use Rattle.std.specs.Prelude.{nat_le, if◌then◌else◌}
 use Rattle.std.proofs.lemmas.Bool.{and_parts}
 use Rattle.std.proofs.lemmas.Bool.Decides.{nat_tests}
-use Rattle.run_safety.specs.rsct_packet.declared.ids.ViewId.{ViewId}
-use Rattle.run_safety.specs.proposal_core.declared.entry.Entry.{Entry}
-use Rattle.run_safety.specs.proposal_core.declared.entry.Vote.{Vote}
-use Rattle.run_safety.specs.proposal_core.declared.entry.Vote.TheVariants as vote
-use Rattle.run_safety.specs.proposal_core.declared.group_state.Running.{Running}
-use Rattle.run_safety.specs.proposal_core.Fold.{max_phases, fits}
-use Rattle.run_safety.specs.proposal_core.GroupView.{GroupView}
-use Rattle.run_safety.specs.proposal_core.Lists.{has_room, entry_fits}
-use Rattle.run_safety.specs.vote_phases.Tally.{TallyView, has_open, rows_of, tally_of, outcome}
-use Rattle.run_safety.specs.node_state.declared.group.Led.{Led}
-use Rattle.run_safety.specs.node_state.Leading.{closed_by, closing, closing_of, closing_entry}
+use Rattle.rsct_packet.specs.declared.ids.ViewId.{ViewId}
+use Rattle.proposal_core.specs.declared.entry.Entry.{Entry}
+use Rattle.proposal_core.specs.declared.entry.Vote.{Vote}
+use Rattle.proposal_core.specs.declared.entry.Vote.TheVariants as vote
+use Rattle.proposal_core.specs.declared.group_state.Running.{Running}
+use Rattle.proposal_core.specs.Fold.{max_phases, fits}
+use Rattle.proposal_core.specs.GroupView.{GroupView}
+use Rattle.proposal_core.specs.Lists.{has_room, entry_fits}
+use Rattle.vote_phases.specs.Tally.{TallyView, has_open, rows_of, tally_of, outcome}
+use Rattle.node_state.specs.declared.group.Led.{Led}
+use Rattle.node_state.specs.Leading.{closed_by, closing, closing_of, closing_entry}
 use Rattle.run_safety.specs.Bases.{state_of_list}
 use Rattle.run_safety.specs.Tallies.{IsTallied}
 use Rattle.step_refinement.specs.Ghost.{Ghost, Keeps}

@@ -1,31 +1,31 @@
 -- REQUEST: the leader of a group decides.
 use Rattle.std.proofs.Common.{◌≡◌, ◌≢◌, ◌≤◌, ◌⊎◌, ℕ, List, [], ◌∷◌, ◌++◌, length, Option, Some, None, Bool, true, false, refl, sym, ap, ◌∙◌, subst, inl, inr, arith}
 use Rattle.std.specs.Prelude.{◌&&◌, ◌||◌, not, find, map}
-use Rattle.run_safety.specs.rsct_packet.declared.ids.ViewId.{ViewId}
-use Rattle.run_safety.specs.rsct_packet.declared.ids.ProviderId.{ProviderId}
-use Rattle.run_safety.specs.rsct_packet.Providers.{same_provider, among, differ}
-use Rattle.run_safety.specs.rsct_packet.Search.{Has}
-use Rattle.run_safety.specs.group_attr.declared.attrs.Attrs.{Attrs}
-use Rattle.run_safety.specs.group_attr.declared.attrs.Phases.{Phases}
-use Rattle.run_safety.specs.group_attr.Agree.{agree}
-use Rattle.run_safety.specs.proposal_core.declared.entry.Entry.{Entry}
-use Rattle.run_safety.specs.proposal_core.declared.proposal.Proposal.{Proposal}
-use Rattle.run_safety.specs.proposal_core.declared.proposal.Proposal.TheVariants.{Join, Leave, Fail, Expel, State, Message, Attributes, Reflect}
-use Rattle.run_safety.specs.proposal_core.Fold.{present}
-use Rattle.run_safety.specs.batch_rules.Waiting.{waits_join, has_instance}
-use Rattle.run_safety.specs.client_callbacks.declared.told.Why.{Why}
-use Rattle.run_safety.specs.client_callbacks.declared.told.Why.TheVariants as reasons
-use Rattle.run_safety.specs.node_state.declared.group.Decision.{Decision}
-use Rattle.run_safety.specs.node_state.declared.group.GroupRow.{GroupRow}
-use Rattle.run_safety.specs.node_state.declared.group.Led.{Led}
-use Rattle.run_safety.specs.node_state.declared.packet.Body.TheVariants as body
-use Rattle.run_safety.specs.node_state.declared.state.Core.{Core}
-use Rattle.run_safety.specs.node_state.Settings.{is_fixed}
-use Rattle.run_safety.specs.node_state.State.{decisions_with, row_of, with_row, with_led, led_of, state_of, decision_of, leads}
-use Rattle.run_safety.specs.node_state.Sending.{sent, send_on}
-use Rattle.run_safety.specs.node_state.HandOn.{Answering}
-use Rattle.run_safety.specs.node_state.Leading.{begins}
-use Rattle.run_safety.specs.node_state.Deciding.{keep_decision, refused, is_idle_empty, keep_attrs, wait_join, join_refusal, decide_join, other_refusal, decide_change, decided}
+use Rattle.rsct_packet.specs.declared.ids.ViewId.{ViewId}
+use Rattle.rsct_packet.specs.declared.ids.ProviderId.{ProviderId}
+use Rattle.rsct_packet.specs.Providers.{same_provider, among, differ}
+use Rattle.rsct_packet.specs.Search.{Has}
+use Rattle.group_attr.specs.declared.attrs.Attrs.{Attrs}
+use Rattle.group_attr.specs.declared.attrs.Phases.{Phases}
+use Rattle.group_attr.specs.Agree.{agree}
+use Rattle.proposal_core.specs.declared.entry.Entry.{Entry}
+use Rattle.proposal_core.specs.declared.proposal.Proposal.{Proposal}
+use Rattle.proposal_core.specs.declared.proposal.Proposal.TheVariants.{Join, Leave, Fail, Expel, State, Message, Attributes, Reflect}
+use Rattle.proposal_core.specs.Fold.{present}
+use Rattle.batch_rules.specs.Waiting.{waits_join, has_instance}
+use Rattle.client_callbacks.specs.declared.told.Why.{Why}
+use Rattle.client_callbacks.specs.declared.told.Why.TheVariants as reasons
+use Rattle.node_state.specs.declared.group.Decision.{Decision}
+use Rattle.node_state.specs.declared.group.GroupRow.{GroupRow}
+use Rattle.node_state.specs.declared.group.Led.{Led}
+use Rattle.node_state.specs.declared.packet.Body.TheVariants as body
+use Rattle.node_state.specs.declared.state.Core.{Core}
+use Rattle.node_state.specs.Settings.{is_fixed}
+use Rattle.node_state.specs.State.{decisions_with, row_of, with_row, with_led, led_of, state_of, decision_of, leads}
+use Rattle.node_state.specs.Sending.{sent, send_on}
+use Rattle.node_state.specs.HandOn.{Answering}
+use Rattle.node_state.specs.Leading.{begins}
+use Rattle.node_state.specs.Deciding.{keep_decision, refused, is_idle_empty, keep_attrs, wait_join, join_refusal, decide_join, other_refusal, decide_change, decided}
 use Rattle.run_safety.specs.ViewOrder.{Lt}
 use Rattle.run_safety.specs.Group.{member}
 use Rattle.run_safety.specs.Group as group
@@ -39,7 +39,7 @@ use Rattle.step_refinement.proofs.Goes.{owes_by, node_rows_by, shows_on, node_if
 use Rattle.step_refinement.proofs.Works.{sent_kept}
 use Rattle.step_refinement.proofs.Gone.{packet_goes}
 use Rattle.step_refinement.proofs.Leads.{leads_known, leads_row, leads_same}
-use Rattle.run_safety.proofs.node_state_laws.NameOrder.{cases_text, row_here, rows_ordered}
+use Rattle.node_state.proofs.NameOrder.{cases_text, row_here, rows_ordered}
 use Rattle.step_refinement.proofs.Idle.{Calm, held_with, led_lightens}
 use Rattle.step_refinement.proofs.RowWorks.{waits_with, waits_of, row_calm, row_kept}
 use Rattle.step_refinement.proofs.Refusals.{refusing, refusal_spares, refusal_sound, refusing_turns}

@@ -5,39 +5,39 @@ use Rattle.std.specs.Prelude.{not, ◌==◌, ◌&&◌, reverse, map, find, slice
 use Rattle.std.specs.Option.{option_map}
 use Rattle.std.proofs.lemmas.Bool.{eqb-true, eq-eqb}
 use Rattle.std.proofs.lemmas.List.{drop_all}
-use Rattle.run_safety.specs.rsct_packet.declared.ids.ViewId.{ViewId}
-use Rattle.run_safety.specs.rsct_packet.declared.ids.Member.{Member}
-use Rattle.run_safety.specs.rsct_packet.declared.ids.ProviderId.{ProviderId}
-use Rattle.run_safety.specs.rsct_packet.Ids.{same_view}
-use Rattle.run_safety.specs.rsct_packet.Search.{Has}
-use Rattle.run_safety.proofs.rsct_packet_laws.HasLaws.{find_has, has_map, append_has_right, append_has_left, has_append}
-use Rattle.run_safety.specs.rsct_packet.Providers as providers
-use Rattle.run_safety.specs.proposal_core.declared.entry.Entry.{Entry}
-use Rattle.run_safety.specs.proposal_core.declared.proposal.Proposal.{Proposal}
-use Rattle.run_safety.specs.proposal_core.declared.group_state.GroupState.{GroupState}
-use Rattle.run_safety.specs.proposal_core.GroupView.{new_list}
-use Rattle.run_safety.specs.session_state.declared.state.Request.{Request}
-use Rattle.run_safety.specs.session_state.declared.state.SessionState.{SessionState}
-use Rattle.run_safety.specs.session_state.HandOn.{hearers}
-use Rattle.run_safety.specs.view_state.declared.install.Source.{Source}
-use Rattle.run_safety.specs.view_state.declared.install.Install.{Install}
-use Rattle.run_safety.specs.view_state.declared.install.Base.{Base}
+use Rattle.rsct_packet.specs.declared.ids.ViewId.{ViewId}
+use Rattle.rsct_packet.specs.declared.ids.Member.{Member}
+use Rattle.rsct_packet.specs.declared.ids.ProviderId.{ProviderId}
+use Rattle.rsct_packet.specs.Ids.{same_view}
+use Rattle.rsct_packet.specs.Search.{Has}
+use Rattle.rsct_packet.proofs.HasLaws.{find_has, has_map, append_has_right, append_has_left, has_append}
+use Rattle.rsct_packet.specs.Providers as providers
+use Rattle.proposal_core.specs.declared.entry.Entry.{Entry}
+use Rattle.proposal_core.specs.declared.proposal.Proposal.{Proposal}
+use Rattle.proposal_core.specs.declared.group_state.GroupState.{GroupState}
+use Rattle.proposal_core.specs.GroupView.{new_list}
+use Rattle.session_state.specs.declared.state.Request.{Request}
+use Rattle.session_state.specs.declared.state.SessionState.{SessionState}
+use Rattle.session_state.specs.HandOn.{hearers}
+use Rattle.view_state.specs.declared.install.Source.{Source}
+use Rattle.view_state.specs.declared.install.Install.{Install}
+use Rattle.view_state.specs.declared.install.Base.{Base}
 use Rattle.view_exchange.specs.Longest.{NamesDiffer}
 use Rattle.view_bases.proofs.CutLaws.{fit_ends}
-use Rattle.run_safety.specs.view_state.Bases.{source_at, parts_in, parts_from, bases_of, base_named}
-use Rattle.run_safety.specs.view_state.declared.views.Views.{Views}
-use Rattle.run_safety.specs.view_state.Views.{own_install, views_entered}
-use Rattle.run_safety.specs.node_state.declared.happened.Happened.{Happened}
-use Rattle.run_safety.specs.node_state.declared.happened.Happened.TheVariants as happened
-use Rattle.run_safety.specs.node_state.declared.packet.Packet.{Packet}
-use Rattle.run_safety.specs.node_state.declared.group.GroupRow.{GroupRow}
-use Rattle.run_safety.specs.node_state.declared.group.Led.{Led}
-use Rattle.run_safety.specs.node_state.declared.state.Core.{Core}
-use Rattle.run_safety.specs.node_state.declared.config.Config.{Config}
-use Rattle.run_safety.specs.node_state.Settings.{is_fixed}
-use Rattle.run_safety.specs.node_state.State.{nothing_led, row_found, row_of, list_of, acked_from, decision_of, recorded_all, has_name}
-use Rattle.run_safety.specs.node_state.HandOn.{Answering}
-use Rattle.run_safety.specs.node_state.Applying.{Lacking, lacking_in, lacking, fill_lists, level_set, base_row, base_leader, base_record, view_entered}
+use Rattle.view_state.specs.Bases.{source_at, parts_in, parts_from, bases_of, base_named}
+use Rattle.view_state.specs.declared.views.Views.{Views}
+use Rattle.view_state.specs.Views.{own_install, views_entered}
+use Rattle.node_state.specs.declared.happened.Happened.{Happened}
+use Rattle.node_state.specs.declared.happened.Happened.TheVariants as happened
+use Rattle.node_state.specs.declared.packet.Packet.{Packet}
+use Rattle.node_state.specs.declared.group.GroupRow.{GroupRow}
+use Rattle.node_state.specs.declared.group.Led.{Led}
+use Rattle.node_state.specs.declared.state.Core.{Core}
+use Rattle.node_state.specs.declared.config.Config.{Config}
+use Rattle.node_state.specs.Settings.{is_fixed}
+use Rattle.node_state.specs.State.{nothing_led, row_found, row_of, list_of, acked_from, decision_of, recorded_all, has_name}
+use Rattle.node_state.specs.HandOn.{Answering}
+use Rattle.node_state.specs.Applying.{Lacking, lacking_in, lacking, fill_lists, level_set, base_row, base_leader, base_record, view_entered}
 use Rattle.run_safety.specs.ViewOrder.{Lt, Le}
 use Rattle.run_safety.specs.Past.{earlier, view_now, fold_from, records_of}
 use Rattle.run_safety.specs.Sight.{inc_in, lines_with, lines_of}

@@ -2,31 +2,31 @@
 use Rattle.std.proofs.Common.{◌≡◌, ◌⊎◌, ℕ, List, length, Option, Some, Bool, true, false, refl, sym, ap, ◌∙◌, subst, inl, inr}
 use Rattle.std.specs.Prelude.{◌==◌, nat_lt}
 use Rattle.std.proofs.lemmas.Bool.{eqb-true}
-use Rattle.run_safety.specs.rsct_packet.declared.ids.ViewId.{ViewId}
-use Rattle.run_safety.specs.rsct_packet.declared.ids.ProviderId.{ProviderId}
-use Rattle.run_safety.specs.rsct_packet.Search.{Has}
-use Rattle.run_safety.proofs.rsct_packet_laws.HasLaws.{append_has_right}
-use Rattle.run_safety.specs.proposal_core.declared.entry.Entry.{Entry}
-use Rattle.run_safety.specs.proposal_core.declared.group_state.GroupState.{GroupState}
-use Rattle.run_safety.specs.client_callbacks.declared.ballot.Filled.{Filled}
-use Rattle.run_safety.specs.session_state.declared.state.SessionState.{SessionState}
-use Rattle.run_safety.specs.session_state.HandOn.{hearers}
-use Rattle.run_safety.specs.session_state.HandOn as session
-use Rattle.run_safety.specs.view_state.declared.views.Views.{Views}
-use Rattle.run_safety.specs.node_state.declared.packet.Body.TheVariants as body
-use Rattle.run_safety.specs.node_state.declared.packet.Packet.{Packet}
-use Rattle.run_safety.specs.node_state.declared.state.Core.{Core}
-use Rattle.run_safety.specs.node_state.State.{with_row, state_of, len_of, holds, fits_at_end, set_leader, forget_below, recorded, with_sessions}
-use Rattle.run_safety.specs.node_state.Sending.{sent, send_on}
-use Rattle.run_safety.specs.node_state.HandOn.{Answering, fills}
-use Rattle.run_safety.specs.node_state.Leading.{put, put_and_hand}
-use Rattle.run_safety.specs.node_state.Following.{entry_next, entry_elsewhere, take_entry}
-use Rattle.run_safety.specs.node_state.Step.{is_used, used_if, take_body}
+use Rattle.rsct_packet.specs.declared.ids.ViewId.{ViewId}
+use Rattle.rsct_packet.specs.declared.ids.ProviderId.{ProviderId}
+use Rattle.rsct_packet.specs.Search.{Has}
+use Rattle.rsct_packet.proofs.HasLaws.{append_has_right}
+use Rattle.proposal_core.specs.declared.entry.Entry.{Entry}
+use Rattle.proposal_core.specs.declared.group_state.GroupState.{GroupState}
+use Rattle.client_callbacks.specs.declared.ballot.Filled.{Filled}
+use Rattle.session_state.specs.declared.state.SessionState.{SessionState}
+use Rattle.session_state.specs.HandOn.{hearers}
+use Rattle.session_state.specs.HandOn as session
+use Rattle.view_state.specs.declared.views.Views.{Views}
+use Rattle.node_state.specs.declared.packet.Body.TheVariants as body
+use Rattle.node_state.specs.declared.packet.Packet.{Packet}
+use Rattle.node_state.specs.declared.state.Core.{Core}
+use Rattle.node_state.specs.State.{with_row, state_of, len_of, holds, fits_at_end, set_leader, forget_below, recorded, with_sessions}
+use Rattle.node_state.specs.Sending.{sent, send_on}
+use Rattle.node_state.specs.HandOn.{Answering, fills}
+use Rattle.node_state.specs.Leading.{put, put_and_hand}
+use Rattle.node_state.specs.Following.{entry_next, entry_elsewhere, take_entry}
+use Rattle.node_state.specs.Step.{is_used, used_if, take_body}
 use Rattle.run_safety.specs.Group.{member}
 use Rattle.run_safety.specs.Group as group
 use Rattle.step_refinement.specs.Ghost.{IsStable}
 use Rattle.step_refinement.specs.Tied.{ShowsBody, ShowsEntry, KnowsLeader, Scene, Tied}
-use Rattle.run_safety.proofs.node_state_laws.NameOrder.{cases_text}
+use Rattle.node_state.proofs.NameOrder.{cases_text}
 use Rattle.step_refinement.proofs.RowWorks.{tied_forgets, tied_led_by, tied_acks}
 use Rattle.step_refinement.proofs.Acks.{used_is}
 use Rattle.step_refinement.proofs.SessionLaws.{handed_later, handed_gone, hearer_has}

@@ -5,36 +5,36 @@ use Rattle.std.specs.Prelude.{reverse, fold, flat_map, nat_le, nat_lt, if◌then
 use Rattle.std.specs.Str.{bytes_eq}
 use Rattle.std.proofs.lemmas.List.{append-nil, drop-drop, drop_all, length-drop}
 use Rattle.std.proofs.lemmas.Bool.Decides.{nat_tests}
-use Rattle.run_safety.specs.rsct_packet.declared.ids.ViewId.{ViewId}
-use Rattle.run_safety.specs.rsct_packet.declared.ids.ProviderId.{ProviderId}
-use Rattle.run_safety.specs.rsct_packet.declared.ids.ProtoId.{ProtoId}
-use Rattle.run_safety.specs.rsct_packet.Search.{Has}
-use Rattle.run_safety.proofs.rsct_packet_laws.HasLaws.{has_append}
-use Rattle.run_safety.specs.proposal_core.declared.entry.Entry.{Entry}
-use Rattle.run_safety.specs.proposal_core.declared.group_state.GroupState.{GroupState}
-use Rattle.run_safety.specs.proposal_core.GroupView.{GroupView}
-use Rattle.run_safety.specs.proposal_core.Lists.{list_or_new, with_entry}
-use Rattle.run_safety.specs.client_callbacks.declared.ballot.Filled.{Filled}
-use Rattle.run_safety.specs.client_callbacks.Ballots.{BallotView}
-use Rattle.run_safety.specs.session_state.declared.casts.Cast.{Cast}
-use Rattle.run_safety.specs.session_state.declared.state.Request.{Request}
-use Rattle.run_safety.specs.session_state.declared.state.SessionState.{SessionState}
-use Rattle.run_safety.specs.session_state.HandOn.{hearers, casts_out}
-use Rattle.run_safety.specs.session_state.HandOn as session
-use Rattle.run_safety.specs.view_state.declared.install.Part.{Part}
-use Rattle.run_safety.specs.view_state.Parts.{part_len}
-use Rattle.run_safety.specs.view_state.Cut.{all_fit, lacking_if, lacking_of}
+use Rattle.rsct_packet.specs.declared.ids.ViewId.{ViewId}
+use Rattle.rsct_packet.specs.declared.ids.ProviderId.{ProviderId}
+use Rattle.rsct_packet.specs.declared.ids.ProtoId.{ProtoId}
+use Rattle.rsct_packet.specs.Search.{Has}
+use Rattle.rsct_packet.proofs.HasLaws.{has_append}
+use Rattle.proposal_core.specs.declared.entry.Entry.{Entry}
+use Rattle.proposal_core.specs.declared.group_state.GroupState.{GroupState}
+use Rattle.proposal_core.specs.GroupView.{GroupView}
+use Rattle.proposal_core.specs.Lists.{list_or_new, with_entry}
+use Rattle.client_callbacks.specs.declared.ballot.Filled.{Filled}
+use Rattle.client_callbacks.specs.Ballots.{BallotView}
+use Rattle.session_state.specs.declared.casts.Cast.{Cast}
+use Rattle.session_state.specs.declared.state.Request.{Request}
+use Rattle.session_state.specs.declared.state.SessionState.{SessionState}
+use Rattle.session_state.specs.HandOn.{hearers, casts_out}
+use Rattle.session_state.specs.HandOn as session
+use Rattle.view_state.specs.declared.install.Part.{Part}
+use Rattle.view_state.specs.Parts.{part_len}
+use Rattle.view_state.specs.Cut.{all_fit, lacking_if, lacking_of}
 use Rattle.view_exchange.specs.Longest.{NamesDiffer}
 use Rattle.view_bases.proofs.CutLaws.{fit_ends}
-use Rattle.run_safety.specs.node_state.declared.happened.Happened.{Happened}
-use Rattle.run_safety.specs.node_state.declared.happened.Happened.TheVariants as happened
-use Rattle.run_safety.specs.node_state.declared.group.GroupRow.{GroupRow}
-use Rattle.run_safety.specs.node_state.declared.state.Core.{Core}
-use Rattle.run_safety.specs.node_state.State.{InNameOrder, row_of, with_row, list_of, state_of, len_of, frozen, recorded, recorded_all, with_sessions}
-use Rattle.run_safety.specs.node_state.Sending.{send_if_known}
-use Rattle.run_safety.specs.node_state.HandOn.{Answering, fills, heard, noted, ballot_sent, cast_sent_of, casts_sent, hand_on}
-use Rattle.run_safety.specs.node_state.Leading.{put, put_and_hand}
-use Rattle.run_safety.specs.node_state.Applying.{Lacking, lacking_in, fill_lists}
+use Rattle.node_state.specs.declared.happened.Happened.{Happened}
+use Rattle.node_state.specs.declared.happened.Happened.TheVariants as happened
+use Rattle.node_state.specs.declared.group.GroupRow.{GroupRow}
+use Rattle.node_state.specs.declared.state.Core.{Core}
+use Rattle.node_state.specs.State.{InNameOrder, row_of, with_row, list_of, state_of, len_of, frozen, recorded, recorded_all, with_sessions}
+use Rattle.node_state.specs.Sending.{send_if_known}
+use Rattle.node_state.specs.HandOn.{Answering, fills, heard, noted, ballot_sent, cast_sent_of, casts_sent, hand_on}
+use Rattle.node_state.specs.Leading.{put, put_and_hand}
+use Rattle.node_state.specs.Applying.{Lacking, lacking_in, fill_lists}
 use Rattle.run_safety.specs.Past.{earlier, view_now, records_of}
 use Rattle.run_safety.specs.Sight.{lines_of}
 use Rattle.run_safety.specs.Group.{Put, Note, Heard, Line, Kept, Noted, lines_from}
@@ -44,14 +44,14 @@ use Rattle.run_safety.proofs.Order.{lt_refl}
 use Rattle.step_refinement.specs.Ghost.{Ghost, FitIn, Keeps, Carries, CarriesIf, part_of}
 use Rattle.step_refinement.specs.Tied.{Scene, lines_now, InTurn}
 use Rattle.step_refinement.proofs.Works.{Passes, lines_pushed, now_pushed}
-use Rattle.run_safety.proofs.node_state_laws.NameOrder.{text_self, text_same, text_other, row_here, row_there, rows_ordered}
+use Rattle.node_state.proofs.NameOrder.{text_self, text_same, text_other, row_here, row_there, rows_ordered}
 use Rattle.step_refinement.proofs.SessionLaws.{Later, later_then, handed_later, handed_gone}
 use Rattle.step_refinement.proofs.Fits.{fits_more, fits_front}
 use Rattle.step_refinement.proofs.Puts.{pushed_keeps}
 use Rattle.step_refinement.proofs.Handed.{handed_records}
 use Rattle.step_refinement.proofs.Sprinkled.{Sprinkled, Bare, Same, With, sprinkled_on}
 use Rattle.step_refinement.proofs.Turns.{Fewer, turn_on, has_pushed_on, put_turn, handed_fewer}
-use Rattle.run_safety.specs.view_state.declared.views.Views.{Views}
+use Rattle.view_state.specs.declared.views.Views.{Views}
 
 -- an entry more at the end
 lines_pushed_from : (n : ℕ) (v : ViewId) (es : List Entry) (i : ℕ) (e : Entry) (all : List Line) → lines_from n v i (es ++ e ∷ []) all ≡ Kept (Put n v (i + length es) e) ∷ lines_from n v i es all

@@ -1,11 +1,11 @@
 -- Entries fit one after another: from the base of a view on, and at the end of a list that shows the whole one.
 use Rattle.std.proofs.Common.{◌≡◌, ℕ, suc, ◌+◌, List, [], ◌∷◌, ◌++◌, length, Bool, true, false, refl, sym, ap, ◌∙◌, arith}
-use Rattle.run_safety.specs.rsct_packet.declared.ids.ViewId.{ViewId}
-use Rattle.run_safety.specs.proposal_core.declared.entry.Entry.{Entry}
-use Rattle.run_safety.specs.proposal_core.Sizes.{entry_len}
-use Rattle.run_safety.specs.proposal_core.GroupView.{GroupView, new_list}
-use Rattle.run_safety.specs.proposal_core.Lists.{entry_fits, with_entry}
-use Rattle.run_safety.specs.view_state.Cut.{all_fit}
+use Rattle.rsct_packet.specs.declared.ids.ViewId.{ViewId}
+use Rattle.proposal_core.specs.declared.entry.Entry.{Entry}
+use Rattle.proposal_core.specs.Sizes.{entry_len}
+use Rattle.proposal_core.specs.GroupView.{GroupView, new_list}
+use Rattle.proposal_core.specs.Lists.{entry_fits, with_entry}
+use Rattle.view_state.specs.Cut.{all_fit}
 use Rattle.view_bases.proofs.CutLaws.{fit_begins}
 use Rattle.run_safety.specs.Past.{fold_from}
 use Rattle.run_safety.specs.Bases.{base_state}

@@ -4,34 +4,34 @@ use Rattle.std.proofs.Common.{◌≡◌, ◌⊎◌, ℕ, List, [], ◌∷◌, �
 use Rattle.std.specs.Prelude.{map, find, fold, if◌then◌else◌}
 use Rattle.std.specs.Option.{option_map}
 use Rattle.std.specs.Str.{bytes_eq}
-use Rattle.run_safety.specs.rsct_packet.declared.ids.ViewId.{ViewId}
-use Rattle.run_safety.specs.rsct_packet.declared.ids.Member.{Member}
-use Rattle.run_safety.specs.rsct_packet.declared.ids.ProviderId.{ProviderId}
-use Rattle.run_safety.specs.rsct_packet.Search.{Has}
-use Rattle.run_safety.proofs.rsct_packet_laws.HasLaws.{has_append, append_has_left, append_has_right}
-use Rattle.run_safety.specs.proposal_core.declared.entry.Entry.{Entry}
-use Rattle.run_safety.specs.proposal_core.declared.proposal.Proposal.{Proposal}
-use Rattle.run_safety.specs.name_server.Names.{node_of}
-use Rattle.run_safety.specs.view_state.declared.exchange.Exchange.{Exchange}
-use Rattle.run_safety.specs.view_state.declared.install.Part.{Part}
-use Rattle.run_safety.specs.view_state.declared.install.Source.{Source}
-use Rattle.run_safety.specs.view_state.declared.install.Install.{Install}
-use Rattle.run_safety.specs.view_state.declared.install.Base.{Base}
-use Rattle.run_safety.specs.view_state.Answers.{install_of}
-use Rattle.run_safety.specs.view_state.Bases.{source_at, parts_from, base_of, bases_of, base_named}
-use Rattle.run_safety.specs.view_state.declared.packet.ViewPacket.TheVariants as view
-use Rattle.run_safety.specs.view_state.declared.packet.ViewSend.{ViewSend}
-use Rattle.run_safety.specs.view_state.Views.{others_of}
-use Rattle.run_safety.specs.node_state.declared.packet.Body.TheVariants as body
-use Rattle.run_safety.specs.node_state.declared.packet.Packet.{Packet}
-use Rattle.run_safety.specs.node_state.declared.state.Core.{Core}
-use Rattle.run_safety.specs.node_state.Settings.{is_fixed}
-use Rattle.run_safety.specs.node_state.State.{row_found, row_of, list_of, held_rows}
-use Rattle.run_safety.specs.proposal_core.Lists.{list_or_new}
-use Rattle.run_safety.specs.node_state.Sending.{joins_nodes, ring_network, network_to, level_for, domain_at, packet_on, send_on, sent}
-use Rattle.run_safety.specs.node_state.HandOn.{Answering}
-use Rattle.run_safety.specs.node_state.Applying.{Lacking, lacking_in, lacking, fill_lists, base_leader, view_entered, sides_dissolved, entering_noted, taken_sent, owed_sent, entered, entered_if, apply_install}
-use Rattle.run_safety.specs.view_state.Cut.{lacking_of}
+use Rattle.rsct_packet.specs.declared.ids.ViewId.{ViewId}
+use Rattle.rsct_packet.specs.declared.ids.Member.{Member}
+use Rattle.rsct_packet.specs.declared.ids.ProviderId.{ProviderId}
+use Rattle.rsct_packet.specs.Search.{Has}
+use Rattle.rsct_packet.proofs.HasLaws.{has_append, append_has_left, append_has_right}
+use Rattle.proposal_core.specs.declared.entry.Entry.{Entry}
+use Rattle.proposal_core.specs.declared.proposal.Proposal.{Proposal}
+use Rattle.name_server.specs.Names.{node_of}
+use Rattle.view_state.specs.declared.exchange.Exchange.{Exchange}
+use Rattle.view_state.specs.declared.install.Part.{Part}
+use Rattle.view_state.specs.declared.install.Source.{Source}
+use Rattle.view_state.specs.declared.install.Install.{Install}
+use Rattle.view_state.specs.declared.install.Base.{Base}
+use Rattle.view_state.specs.Answers.{install_of}
+use Rattle.view_state.specs.Bases.{source_at, parts_from, base_of, bases_of, base_named}
+use Rattle.view_state.specs.declared.packet.ViewPacket.TheVariants as view
+use Rattle.view_state.specs.declared.packet.ViewSend.{ViewSend}
+use Rattle.view_state.specs.Views.{others_of}
+use Rattle.node_state.specs.declared.packet.Body.TheVariants as body
+use Rattle.node_state.specs.declared.packet.Packet.{Packet}
+use Rattle.node_state.specs.declared.state.Core.{Core}
+use Rattle.node_state.specs.Settings.{is_fixed}
+use Rattle.node_state.specs.State.{row_found, row_of, list_of, held_rows}
+use Rattle.proposal_core.specs.Lists.{list_or_new}
+use Rattle.node_state.specs.Sending.{joins_nodes, ring_network, network_to, level_for, domain_at, packet_on, send_on, sent}
+use Rattle.node_state.specs.HandOn.{Answering}
+use Rattle.node_state.specs.Applying.{Lacking, lacking_in, lacking, fill_lists, base_leader, view_entered, sides_dissolved, entering_noted, taken_sent, owed_sent, entered, entered_if, apply_install}
+use Rattle.view_state.specs.Cut.{lacking_of}
 use Rattle.run_safety.specs.ViewOrder.{Lt}
 use Rattle.run_safety.specs.Group.{member, members_of, Standing, Reply, Origin, In, Line, Kept, kept, lines_from}
 use Rattle.run_safety.specs.Group as group
@@ -47,7 +47,7 @@ use Rattle.step_refinement.specs.Tied.{ShowsBody, Shows, Names, NodeOf, NodeIsIf
 use Rattle.step_refinement.specs.Rows.{at_node}
 use Rattle.step_refinement.proofs.Goes.{Settled, spares_same, seen_on, carries_on, shows_on, rest_on}
 use Rattle.step_refinement.proofs.Changed.{changes, set_view, view_here, view_there}
-use Rattle.run_safety.proofs.node_state_laws.NameOrder.{text_same, text_self}
+use Rattle.node_state.proofs.NameOrder.{text_same, text_self}
 use Rattle.step_refinement.proofs.Works.{tied_views, asked_free}
 use Rattle.step_refinement.proofs.Sides.{SourcesAre}
 use Rattle.step_refinement.proofs.Replies as replies

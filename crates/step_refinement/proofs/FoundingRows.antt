@@ -1,30 +1,30 @@
 -- The rows in which a coordinator founds a view: the last answer, and asking oneself alone.
 use Rattle.std.proofs.Common.{◌≡◌, ℕ, List, [], ◌∷◌, ◌++◌, length, Option, Some, None, Bool, true, false, refl, sym, ap, ◌∙◌, subst}
 use Rattle.std.specs.Prelude.{◌==◌, ◌&&◌, not, nat_le, nat_lt, max, map, filter, reverse, drop}
-use Rattle.run_safety.specs.rsct_packet.declared.ids.ViewId.{ViewId}
-use Rattle.run_safety.specs.rsct_packet.declared.mask.Mask.{Mask}
-use Rattle.run_safety.specs.rsct_packet.Ids.{last_u32, same_view}
-use Rattle.run_safety.specs.rsct_packet.Mask.{has_node, nodes_of}
-use Rattle.run_safety.specs.rsct_packet.Search.{Has}
+use Rattle.rsct_packet.specs.declared.ids.ViewId.{ViewId}
+use Rattle.rsct_packet.specs.declared.mask.Mask.{Mask}
+use Rattle.rsct_packet.specs.Ids.{last_u32, same_view}
+use Rattle.rsct_packet.specs.Mask.{has_node, nodes_of}
+use Rattle.rsct_packet.specs.Search.{Has}
 use Rattle.std.proofs.lemmas.Bool.{and_parts}
-use Rattle.run_safety.specs.view_state.declared.answer.Answer.{Answer}
-use Rattle.run_safety.specs.view_state.declared.exchange.Exchange.{Exchange}
-use Rattle.run_safety.specs.view_state.declared.install.Part.{Part}
-use Rattle.run_safety.specs.view_state.declared.install.Install.{Install}
-use Rattle.run_safety.specs.view_state.Answers.{max_parts, opened, may_answer, with_answer, all_answered, install_of, is_spelled}
-use Rattle.run_safety.specs.view_state.declared.packet.ViewPacket.TheVariants as view
-use Rattle.run_safety.specs.view_state.declared.packet.ViewSend.{ViewSend}
-use Rattle.run_safety.specs.view_state.declared.views.RingAsk.{RingAsk}
-use Rattle.run_safety.specs.view_state.Views.{others_of, view_sent_all, gathering_set, promised, begin_install, gathered, gather_on, own_answer, ask_others, next_view, may_ask, ask_if, ask_row, answer_to, answer_row, tick_asks, note_stuck, asks_or_ages, gathering_ticks, is_stuck, views_at_work}
-use Rattle.run_safety.specs.node_state.declared.packet.Body.TheVariants as body
-use Rattle.run_safety.specs.node_state.declared.packet.Packet.{Packet}
-use Rattle.run_safety.specs.node_state.declared.state.Core.{Core}
-use Rattle.run_safety.specs.node_state.Settings.{is_fixed}
-use Rattle.run_safety.specs.node_state.State.{held_rows}
-use Rattle.run_safety.specs.node_state.HandOn.{Answering}
-use Rattle.run_safety.specs.node_state.Applying.{own_parts, apply_install, views_taken}
-use Rattle.run_safety.specs.node_state.Step.{take_order, view_row, take_body}
-use Rattle.run_safety.specs.node_state.Ticks.{ring_ask, tick_views}
+use Rattle.view_state.specs.declared.answer.Answer.{Answer}
+use Rattle.view_state.specs.declared.exchange.Exchange.{Exchange}
+use Rattle.view_state.specs.declared.install.Part.{Part}
+use Rattle.view_state.specs.declared.install.Install.{Install}
+use Rattle.view_state.specs.Answers.{max_parts, opened, may_answer, with_answer, all_answered, install_of, is_spelled}
+use Rattle.view_state.specs.declared.packet.ViewPacket.TheVariants as view
+use Rattle.view_state.specs.declared.packet.ViewSend.{ViewSend}
+use Rattle.view_state.specs.declared.views.RingAsk.{RingAsk}
+use Rattle.view_state.specs.Views.{others_of, view_sent_all, gathering_set, promised, begin_install, gathered, gather_on, own_answer, ask_others, next_view, may_ask, ask_if, ask_row, answer_to, answer_row, tick_asks, note_stuck, asks_or_ages, gathering_ticks, is_stuck, views_at_work}
+use Rattle.node_state.specs.declared.packet.Body.TheVariants as body
+use Rattle.node_state.specs.declared.packet.Packet.{Packet}
+use Rattle.node_state.specs.declared.state.Core.{Core}
+use Rattle.node_state.specs.Settings.{is_fixed}
+use Rattle.node_state.specs.State.{held_rows}
+use Rattle.node_state.specs.HandOn.{Answering}
+use Rattle.node_state.specs.Applying.{own_parts, apply_install, views_taken}
+use Rattle.node_state.specs.Step.{take_order, view_row, take_body}
+use Rattle.node_state.specs.Ticks.{ring_ask, tick_views}
 use Rattle.run_safety.specs.Sight.{lines_with, lines_of}
 use Rattle.run_safety.specs.Group.{kept}
 use Rattle.run_safety.specs.Moves.{Quiet}

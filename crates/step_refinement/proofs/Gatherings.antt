@@ -4,33 +4,33 @@ use Rattle.std.specs.Prelude.{◌==◌, ◌&&◌, ◌||◌, not, nat_le, nat_lt,
 use Rattle.std.specs.List.{list_any}
 use Rattle.std.proofs.lemmas.Bool.{and_parts, eq-eqb}
 use Rattle.std.proofs.lemmas.Bool.Decides.{nat_tests}
-use Rattle.run_safety.specs.rsct_packet.declared.ids.ViewId.{ViewId}
-use Rattle.run_safety.specs.rsct_packet.declared.ids.Member.{Member}
-use Rattle.run_safety.specs.rsct_packet.declared.mask.Mask.{Mask}
-use Rattle.run_safety.specs.rsct_packet.Ids.{last_u32, same_view}
-use Rattle.run_safety.specs.rsct_packet.Mask.{has_node, nodes_of}
-use Rattle.run_safety.specs.rsct_packet.Search.{Has, insert_before}
-use Rattle.run_safety.proofs.rsct_packet_laws.HasLaws.{has_append, append_has_left, append_has_right}
-use Rattle.run_safety.specs.proposal_core.declared.entry.Entry.{Entry}
-use Rattle.run_safety.specs.view_state.declared.answer.Answer.{Answer}
-use Rattle.run_safety.specs.view_state.declared.exchange.Exchange.{Exchange}
-use Rattle.run_safety.specs.view_state.declared.install.Part.{Part}
-use Rattle.run_safety.specs.view_state.Answers.{max_parts, opened, has_answered, may_answer, member_of, with_member, with_answer, all_answered}
+use Rattle.rsct_packet.specs.declared.ids.ViewId.{ViewId}
+use Rattle.rsct_packet.specs.declared.ids.Member.{Member}
+use Rattle.rsct_packet.specs.declared.mask.Mask.{Mask}
+use Rattle.rsct_packet.specs.Ids.{last_u32, same_view}
+use Rattle.rsct_packet.specs.Mask.{has_node, nodes_of}
+use Rattle.rsct_packet.specs.Search.{Has, insert_before}
+use Rattle.rsct_packet.proofs.HasLaws.{has_append, append_has_left, append_has_right}
+use Rattle.proposal_core.specs.declared.entry.Entry.{Entry}
+use Rattle.view_state.specs.declared.answer.Answer.{Answer}
+use Rattle.view_state.specs.declared.exchange.Exchange.{Exchange}
+use Rattle.view_state.specs.declared.install.Part.{Part}
+use Rattle.view_state.specs.Answers.{max_parts, opened, has_answered, may_answer, member_of, with_member, with_answer, all_answered}
 use Rattle.view_exchange.specs.Longest.{all_counted, NamesDiffer}
 use Rattle.view_exchange.proofs.Edits.{inserted_has, has_inserted}
-use Rattle.run_safety.specs.view_state.declared.packet.ViewPacket.TheVariants as view
-use Rattle.run_safety.specs.view_state.declared.packet.ViewSend.{ViewSend}
-use Rattle.run_safety.specs.view_state.declared.views.Views.{Views}
-use Rattle.run_safety.specs.view_state.Views.{view_sent_all, gathering_set, promised, gathered, gather_on, own_answer, ask_others, next_view, may_ask, ask_if, ask_row, answer_to, answer_row, views_at_work}
-use Rattle.run_safety.specs.node_state.declared.packet.Body.TheVariants as body
-use Rattle.run_safety.specs.node_state.declared.packet.Packet.{Packet}
-use Rattle.run_safety.specs.node_state.declared.state.Core.{Core}
-use Rattle.run_safety.specs.node_state.Settings.{is_fixed}
-use Rattle.run_safety.specs.node_state.State.{row_of, held_rows}
-use Rattle.run_safety.specs.node_state.Sending.{send_on, sent}
-use Rattle.run_safety.specs.node_state.HandOn.{Answering}
-use Rattle.run_safety.specs.node_state.Applying.{own_parts, apply_install, views_taken}
-use Rattle.run_safety.specs.node_state.Step.{take_order, view_row, take_body}
+use Rattle.view_state.specs.declared.packet.ViewPacket.TheVariants as view
+use Rattle.view_state.specs.declared.packet.ViewSend.{ViewSend}
+use Rattle.view_state.specs.declared.views.Views.{Views}
+use Rattle.view_state.specs.Views.{view_sent_all, gathering_set, promised, gathered, gather_on, own_answer, ask_others, next_view, may_ask, ask_if, ask_row, answer_to, answer_row, views_at_work}
+use Rattle.node_state.specs.declared.packet.Body.TheVariants as body
+use Rattle.node_state.specs.declared.packet.Packet.{Packet}
+use Rattle.node_state.specs.declared.state.Core.{Core}
+use Rattle.node_state.specs.Settings.{is_fixed}
+use Rattle.node_state.specs.State.{row_of, held_rows}
+use Rattle.node_state.specs.Sending.{send_on, sent}
+use Rattle.node_state.specs.HandOn.{Answering}
+use Rattle.node_state.specs.Applying.{own_parts, apply_install, views_taken}
+use Rattle.node_state.specs.Step.{take_order, view_row, take_body}
 use Rattle.run_safety.specs.ViewOrder.{is_before, Lt, Le}
 use Rattle.run_safety.specs.Group.{member, members_of, Reply}
 use Rattle.run_safety.specs.Group as group

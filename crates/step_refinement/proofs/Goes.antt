@@ -1,36 +1,36 @@
 -- What holds of a group goes on holding.
 use Rattle.std.proofs.Common.{◌≢◌, ◌≡◌, ◌≤◌, ◌⊎◌, ⊎_elim, arith, ℕ, List, Option, Some, None, true, refl, sym, ap, ◌∙◌, subst, inl, inr}
 use Rattle.std.specs.Prelude.{Bool, slice_get}
-use Rattle.run_safety.specs.rsct_packet.declared.ids.ViewId.{ViewId}
-use Rattle.run_safety.specs.rsct_packet.declared.ids.Member.{Member}
-use Rattle.run_safety.specs.rsct_packet.declared.ids.ProviderId.{ProviderId}
-use Rattle.run_safety.specs.rsct_packet.Search.{Has}
-use Rattle.run_safety.specs.proposal_core.declared.entry.Entry.{Entry}
-use Rattle.run_safety.specs.proposal_core.declared.proposal.Proposal.{Proposal}
-use Rattle.run_safety.specs.proposal_core.GroupView.{GroupView, new_list}
-use Rattle.run_safety.specs.proposal_core.Lists.{list_or_new}
-use Rattle.run_safety.specs.name_server.declared.names.Leader.{Leader}
-use Rattle.run_safety.specs.view_state.declared.answer.Answer.{Answer}
-use Rattle.run_safety.specs.view_state.declared.exchange.Exchange.{Exchange}
-use Rattle.run_safety.specs.view_state.declared.install.Part.{Part}
-use Rattle.run_safety.specs.view_state.declared.install.Install.{Install}
-use Rattle.run_safety.specs.view_state.declared.install.Base.{Base}
-use Rattle.run_safety.specs.view_state.Cut.{all_fit}
-use Rattle.run_safety.specs.view_state.Bases.{bases_of, base_named}
-use Rattle.run_safety.specs.view_state.declared.packet.ViewPacket.{ViewPacket}
-use Rattle.run_safety.specs.view_state.declared.packet.ViewPacket.TheVariants as view
-use Rattle.run_safety.specs.view_state.declared.views.Views.{Views}
-use Rattle.run_safety.specs.session_state.declared.state.Request.{Request}
-use Rattle.run_safety.specs.session_state.declared.state.SessionState.{SessionState}
-use Rattle.run_safety.specs.node_state.declared.config.Config.{Config}
-use Rattle.run_safety.specs.node_state.declared.group.GroupRow.{GroupRow}
-use Rattle.run_safety.specs.node_state.declared.group.Led.{Led}
-use Rattle.run_safety.specs.node_state.declared.packet.Body.{Body}
-use Rattle.run_safety.specs.node_state.declared.packet.Body.TheVariants as body
-use Rattle.run_safety.specs.node_state.declared.packet.Packet.{Packet}
-use Rattle.run_safety.specs.node_state.declared.state.Core.{Core}
-use Rattle.run_safety.specs.node_state.Settings.{is_fixed}
-use Rattle.run_safety.specs.node_state.State.{InNameOrder, row_of, acked_from}
+use Rattle.rsct_packet.specs.declared.ids.ViewId.{ViewId}
+use Rattle.rsct_packet.specs.declared.ids.Member.{Member}
+use Rattle.rsct_packet.specs.declared.ids.ProviderId.{ProviderId}
+use Rattle.rsct_packet.specs.Search.{Has}
+use Rattle.proposal_core.specs.declared.entry.Entry.{Entry}
+use Rattle.proposal_core.specs.declared.proposal.Proposal.{Proposal}
+use Rattle.proposal_core.specs.GroupView.{GroupView, new_list}
+use Rattle.proposal_core.specs.Lists.{list_or_new}
+use Rattle.name_server.specs.declared.names.Leader.{Leader}
+use Rattle.view_state.specs.declared.answer.Answer.{Answer}
+use Rattle.view_state.specs.declared.exchange.Exchange.{Exchange}
+use Rattle.view_state.specs.declared.install.Part.{Part}
+use Rattle.view_state.specs.declared.install.Install.{Install}
+use Rattle.view_state.specs.declared.install.Base.{Base}
+use Rattle.view_state.specs.Cut.{all_fit}
+use Rattle.view_state.specs.Bases.{bases_of, base_named}
+use Rattle.view_state.specs.declared.packet.ViewPacket.{ViewPacket}
+use Rattle.view_state.specs.declared.packet.ViewPacket.TheVariants as view
+use Rattle.view_state.specs.declared.views.Views.{Views}
+use Rattle.session_state.specs.declared.state.Request.{Request}
+use Rattle.session_state.specs.declared.state.SessionState.{SessionState}
+use Rattle.node_state.specs.declared.config.Config.{Config}
+use Rattle.node_state.specs.declared.group.GroupRow.{GroupRow}
+use Rattle.node_state.specs.declared.group.Led.{Led}
+use Rattle.node_state.specs.declared.packet.Body.{Body}
+use Rattle.node_state.specs.declared.packet.Body.TheVariants as body
+use Rattle.node_state.specs.declared.packet.Packet.{Packet}
+use Rattle.node_state.specs.declared.state.Core.{Core}
+use Rattle.node_state.specs.Settings.{is_fixed}
+use Rattle.node_state.specs.State.{InNameOrder, row_of, acked_from}
 use Rattle.run_safety.specs.Group.{member, Standing, Reply, Noted, Asked, Told, In, Put, kept}
 use Rattle.run_safety.specs.Group as group
 use Rattle.run_safety.specs.Bases.{state_of_list, base_state}

@@ -1,8 +1,8 @@
 -- Moves of one node, and what they leave of the others.
 use Rattle.std.proofs.Common.{◌≡◌, ◌≤◌, ℕ, ◌∷◌, true, arith, refl, ◌∙◌, inl, inr, ⊎_elim}
-use Rattle.run_safety.specs.rsct_packet.declared.ids.ViewId.{ViewId}
-use Rattle.run_safety.specs.rsct_packet.declared.ids.ProviderId.{ProviderId}
-use Rattle.run_safety.specs.rsct_packet.Search.{Has}
+use Rattle.rsct_packet.specs.declared.ids.ViewId.{ViewId}
+use Rattle.rsct_packet.specs.declared.ids.ProviderId.{ProviderId}
+use Rattle.rsct_packet.specs.Search.{Has}
 use Rattle.run_safety.specs.Group.{Standing, Packet, In, Noted, Told}
 use Rattle.run_safety.specs.Group as group
 use Rattle.run_safety.proofs.Whole.{kind, was_sent}

@@ -2,29 +2,29 @@
 use Rattle.std.proofs.Common.{arith, ◌≡◌, ◌⊎◌, ℕ, ◌+◌, List, [], ◌∷◌, ◌++◌, length, take, Option, Some, None, Bool, true, false, refl, sym, ap, ◌∙◌, subst, inl, inr, ⊎_elim, append_assoc}
 use Rattle.std.specs.Prelude.{reverse, map, filter, fold, flat_map, if◌then◌else◌}
 use Rattle.std.proofs.lemmas.List.{append-nil}
-use Rattle.run_safety.specs.rsct_packet.declared.ids.ViewId.{ViewId}
-use Rattle.run_safety.specs.rsct_packet.declared.ids.ProviderId.{ProviderId}
-use Rattle.run_safety.specs.rsct_packet.declared.ids.ProtoId.{ProtoId}
-use Rattle.run_safety.specs.rsct_packet.Search.{Has}
-use Rattle.run_safety.proofs.rsct_packet_laws.HasLaws.{has_append, has_map}
-use Rattle.run_safety.specs.proposal_core.declared.entry.Entry.{Entry}
-use Rattle.run_safety.specs.proposal_core.declared.proposal.Proposal.{Proposal}
-use Rattle.run_safety.specs.proposal_core.declared.group_state.GroupState.{GroupState}
-use Rattle.run_safety.specs.client_callbacks.declared.ballot.Filled.{Filled}
-use Rattle.run_safety.specs.client_callbacks.Ballots.{BallotView}
-use Rattle.run_safety.specs.session_state.declared.casts.Cast.{Cast}
-use Rattle.run_safety.specs.session_state.declared.state.SessionState.{SessionState}
-use Rattle.run_safety.specs.session_state.HandOn.{hearers, casts_out}
-use Rattle.run_safety.specs.session_state.HandOn as session
-use Rattle.run_safety.specs.subscribe_core.Subs.{is_of_group, differs}
-use Rattle.run_safety.specs.view_state.declared.views.Views.{Views}
-use Rattle.run_safety.specs.node_state.declared.happened.Happened.{Happened}
-use Rattle.run_safety.specs.node_state.declared.happened.Happened.TheVariants as happened
-use Rattle.run_safety.specs.node_state.declared.packet.Body.TheVariants as body
-use Rattle.run_safety.specs.node_state.declared.state.Core.{Core}
-use Rattle.run_safety.specs.node_state.State.{row_of, frozen, recorded, recorded_all, with_sessions}
-use Rattle.run_safety.specs.node_state.Sending.{sent, send_on, send_if_known, vote_of}
-use Rattle.run_safety.specs.node_state.HandOn.{Answering, fills, cast_record, cast_records, heard, note_of, notes, noted, ballot_sent, cast_sent_of, casts_sent, hand_on}
+use Rattle.rsct_packet.specs.declared.ids.ViewId.{ViewId}
+use Rattle.rsct_packet.specs.declared.ids.ProviderId.{ProviderId}
+use Rattle.rsct_packet.specs.declared.ids.ProtoId.{ProtoId}
+use Rattle.rsct_packet.specs.Search.{Has}
+use Rattle.rsct_packet.proofs.HasLaws.{has_append, has_map}
+use Rattle.proposal_core.specs.declared.entry.Entry.{Entry}
+use Rattle.proposal_core.specs.declared.proposal.Proposal.{Proposal}
+use Rattle.proposal_core.specs.declared.group_state.GroupState.{GroupState}
+use Rattle.client_callbacks.specs.declared.ballot.Filled.{Filled}
+use Rattle.client_callbacks.specs.Ballots.{BallotView}
+use Rattle.session_state.specs.declared.casts.Cast.{Cast}
+use Rattle.session_state.specs.declared.state.SessionState.{SessionState}
+use Rattle.session_state.specs.HandOn.{hearers, casts_out}
+use Rattle.session_state.specs.HandOn as session
+use Rattle.subscribe_core.specs.Subs.{is_of_group, differs}
+use Rattle.view_state.specs.declared.views.Views.{Views}
+use Rattle.node_state.specs.declared.happened.Happened.{Happened}
+use Rattle.node_state.specs.declared.happened.Happened.TheVariants as happened
+use Rattle.node_state.specs.declared.packet.Body.TheVariants as body
+use Rattle.node_state.specs.declared.state.Core.{Core}
+use Rattle.node_state.specs.State.{row_of, frozen, recorded, recorded_all, with_sessions}
+use Rattle.node_state.specs.Sending.{sent, send_on, send_if_known, vote_of}
+use Rattle.node_state.specs.HandOn.{Answering, fills, cast_record, cast_records, heard, note_of, notes, noted, ballot_sent, cast_sent_of, casts_sent, hand_on}
 use Rattle.run_safety.specs.Past.{earlier}
 use Rattle.run_safety.specs.Sight.{lines_of}
 use Rattle.run_safety.specs.Group.{Noted, Heard, Asked, Told, Put, kept}
@@ -37,7 +37,7 @@ use Rattle.step_refinement.specs.Tied.{Scene, lines_now, Tied}
 use Rattle.step_refinement.proofs.Goes.{Spares, Still, still_spares, sound_on, node_if_on, shows_on}
 use Rattle.step_refinement.proofs.Works.{Passes, lines_pushed, placed_pushed, tied_sent}
 use Rattle.std.specs.Str.{bytes_eq}
-use Rattle.run_safety.proofs.node_state_laws.NameOrder.{cases_text, text_self, text_other}
+use Rattle.node_state.proofs.NameOrder.{cases_text, text_self, text_other}
 use Rattle.step_refinement.proofs.SessionLaws.{cast_has}
 use Rattle.step_refinement.proofs.Puts.{After}
 use Rattle.step_refinement.proofs.Turns.{turns_pushed}

@@ -2,17 +2,17 @@
 use Rattle.std.proofs.Common.{◌≡◌, ◌≤◌, ◌⊎◌, ℕ, List, [], ◌∷◌, length, Option, Some, None, Bool, true, false, refl, sym, ap, subst, inl, inr, arith}
 use Rattle.std.specs.Prelude.{is_some, if◌then◌else◌}
 use Rattle.std.specs.Str.{bytes_eq}
-use Rattle.run_safety.specs.rsct_packet.declared.ids.ViewId.{ViewId}
-use Rattle.run_safety.specs.rsct_packet.declared.ids.ProviderId.{ProviderId}
-use Rattle.run_safety.specs.rsct_packet.Text.{name_lt}
-use Rattle.run_safety.specs.rsct_packet.Search.{Has}
-use Rattle.run_safety.specs.proposal_core.GroupView.{GroupView}
-use Rattle.run_safety.specs.node_state.declared.group.GroupRow.{GroupRow}
-use Rattle.run_safety.specs.node_state.declared.group.Led.{Led}
-use Rattle.run_safety.specs.node_state.declared.state.Core.{Core}
-use Rattle.run_safety.specs.node_state.State.{InNameOrder, new_row, row_of, rows_with, with_row, list_forgotten}
+use Rattle.rsct_packet.specs.declared.ids.ViewId.{ViewId}
+use Rattle.rsct_packet.specs.declared.ids.ProviderId.{ProviderId}
+use Rattle.rsct_packet.specs.Text.{name_lt}
+use Rattle.rsct_packet.specs.Search.{Has}
+use Rattle.proposal_core.specs.GroupView.{GroupView}
+use Rattle.node_state.specs.declared.group.GroupRow.{GroupRow}
+use Rattle.node_state.specs.declared.group.Led.{Led}
+use Rattle.node_state.specs.declared.state.Core.{Core}
+use Rattle.node_state.specs.State.{InNameOrder, new_row, row_of, rows_with, with_row, list_forgotten}
 use Rattle.run_safety.specs.Group.{member}
-use Rattle.run_safety.proofs.node_state_laws.NameOrder.{KeepsName, cases_text, row_here, row_there}
+use Rattle.node_state.proofs.NameOrder.{KeepsName, cases_text, row_here, row_there}
 use Rattle.step_refinement.specs.Ghost.{Ghost}
 use Rattle.step_refinement.specs.Tied.{rows_held, Idles}
 

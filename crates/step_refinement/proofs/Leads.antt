@@ -2,18 +2,18 @@
 use Rattle.std.proofs.Common.{◌≡◌, ◌⊎◌, ℕ, List, Option, Some, None, Bool, true, refl, ap, ◌∙◌, subst, inl, inr}
 use Rattle.std.specs.Prelude.{not, find}
 use Rattle.std.proofs.lemmas.Bool.{eqb-true}
-use Rattle.run_safety.specs.node_state.declared.config.Mode.{Mode}
-use Rattle.run_safety.specs.node_state.declared.config.Mode.TheVariants.{Fixed, Asked, Rings}
-use Rattle.run_safety.specs.node_state.declared.group.GroupRow.{GroupRow}
-use Rattle.run_safety.specs.node_state.declared.group.Led.{Led}
-use Rattle.run_safety.specs.node_state.declared.state.Core.{Core}
-use Rattle.run_safety.specs.node_state.Settings.{is_fixed}
-use Rattle.run_safety.specs.node_state.State.{InNameOrder, row_found, row_of, with_row, with_led, is_this, leader_by, leader_in, leader_of, leads_in, leads, has_name}
+use Rattle.node_state.specs.declared.config.Mode.{Mode}
+use Rattle.node_state.specs.declared.config.Mode.TheVariants.{Fixed, Asked, Rings}
+use Rattle.node_state.specs.declared.group.GroupRow.{GroupRow}
+use Rattle.node_state.specs.declared.group.Led.{Led}
+use Rattle.node_state.specs.declared.state.Core.{Core}
+use Rattle.node_state.specs.Settings.{is_fixed}
+use Rattle.node_state.specs.State.{InNameOrder, row_found, row_of, with_row, with_led, is_this, leader_by, leader_in, leader_of, leads_in, leads, has_name}
 use Rattle.run_safety.specs.Group.{member}
 use Rattle.run_safety.proofs.Whole.{Whole}
 use Rattle.run_safety.proofs.Lives.{whole}
 use Rattle.step_refinement.specs.Tied.{ShowsLeader, KnowsLeader, Scene, opening_of, Tied}
-use Rattle.run_safety.proofs.node_state_laws.NameOrder.{KeepsName, cases_text, row_here, row_there}
+use Rattle.node_state.proofs.NameOrder.{KeepsName, cases_text, row_here, row_there}
 
 -- who is known to lead leads: in mode fixed the coordinator
 pub known_leads : (g : List ℕ) (w : Scene) (n : ℕ) (s : Core) (t : Tied g w n s) (m : ℕ) → leader_of s g ≡ Some m → ShowsLeader t.ghost s.views.view m

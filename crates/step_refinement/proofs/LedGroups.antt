@@ -2,21 +2,21 @@
 use Rattle.std.proofs.Common.{◌≡◌, ℕ, List, [], ◌∷◌, Some, Bool, true, false, cond, refl, sym, ap, ◌∙◌, subst, inl, inr}
 use Rattle.std.specs.Prelude.{filter, fold, find, is_some}
 use Rattle.std.specs.Str.{bytes_eq}
-use Rattle.run_safety.specs.rsct_packet.declared.ids.ProviderId.{ProviderId}
-use Rattle.run_safety.specs.rsct_packet.Providers.{among}
-use Rattle.run_safety.specs.rsct_packet.Text.{name_lt}
-use Rattle.run_safety.specs.rsct_packet.Search.{Has}
-use Rattle.run_safety.proofs.rsct_packet_laws.HasLaws.{has_filter, has_map}
-use Rattle.run_safety.specs.proposal_core.declared.proposal.Cause.TheVariants.{Died}
-use Rattle.run_safety.specs.batch_rules.Waiting.{add_failure}
-use Rattle.run_safety.specs.node_state.declared.group.GroupRow.{GroupRow}
-use Rattle.run_safety.specs.node_state.declared.state.Core.{Core}
-use Rattle.run_safety.specs.node_state.State.{AllAfter, InNameOrder, row_found, row_of, leads_in, leads, led_groups, state_of, has_name}
-use Rattle.run_safety.specs.node_state.HandOn.{Answering}
-use Rattle.run_safety.specs.node_state.Leading.{with_waiting, tally_opened}
-use Rattle.run_safety.specs.node_state.Applying.{wait_failed, phase_reopened, lead, lead_groups}
+use Rattle.rsct_packet.specs.declared.ids.ProviderId.{ProviderId}
+use Rattle.rsct_packet.specs.Providers.{among}
+use Rattle.rsct_packet.specs.Text.{name_lt}
+use Rattle.rsct_packet.specs.Search.{Has}
+use Rattle.rsct_packet.proofs.HasLaws.{has_filter, has_map}
+use Rattle.proposal_core.specs.declared.proposal.Cause.TheVariants.{Died}
+use Rattle.batch_rules.specs.Waiting.{add_failure}
+use Rattle.node_state.specs.declared.group.GroupRow.{GroupRow}
+use Rattle.node_state.specs.declared.state.Core.{Core}
+use Rattle.node_state.specs.State.{AllAfter, InNameOrder, row_found, row_of, leads_in, leads, led_groups, state_of, has_name}
+use Rattle.node_state.specs.HandOn.{Answering}
+use Rattle.node_state.specs.Leading.{with_waiting, tally_opened}
+use Rattle.node_state.specs.Applying.{wait_failed, phase_reopened, lead, lead_groups}
 use Rattle.step_refinement.specs.Tied.{Scene, Tied}
-use Rattle.run_safety.proofs.node_state_laws.NameOrder.{text_same, text_self, lt_self}
+use Rattle.node_state.proofs.NameOrder.{text_same, text_self, lt_self}
 use Rattle.step_refinement.proofs.Appending.{Leading, waits_goes, opened_goes, closed_goes}
 
 -- ---- rows by their names

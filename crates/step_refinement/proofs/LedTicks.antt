@@ -2,31 +2,31 @@
 use Rattle.std.proofs.Common.{◌≡◌, ◌≢◌, ◌≤◌, ◌⊎◌, ℕ, zero, suc, ◌+◌, ◌-◌, List, [], ◌∷◌, take, drop, Option, Some, None, Bool, true, false, refl, sym, ap, ◌∙◌, subst, inl, inr, arith}
 use Rattle.std.specs.Prelude.{◌==◌, ◌&&◌, not, filter, fold, map, slice_get}
 use Rattle.std.proofs.lemmas.Bool.{eqb-true, eq-eqb}
-use Rattle.run_safety.specs.rsct_packet.declared.ids.Member.{Member}
-use Rattle.run_safety.specs.rsct_packet.Ids.{same_view}
-use Rattle.run_safety.specs.rsct_packet.Search.{Has}
-use Rattle.run_safety.proofs.rsct_packet_laws.HasLaws.{has_filter, has_map}
-use Rattle.run_safety.specs.proposal_core.declared.entry.Entry.{Entry}
-use Rattle.run_safety.specs.proposal_core.declared.entry.Entry.TheVariants.{Late}
-use Rattle.run_safety.specs.proposal_core.declared.group_state.Running.{Running}
-use Rattle.run_safety.specs.proposal_core.GroupView.{GroupView}
-use Rattle.run_safety.specs.proposal_core.Lists.{list_or_new, len_in}
-use Rattle.run_safety.specs.vote_phases.Tally.{TallyView, expires, open_voters}
-use Rattle.run_safety.specs.view_state.declared.views.Views.{Views}
-use Rattle.run_safety.specs.view_state.Views.{is_frozen, others_of}
-use Rattle.run_safety.specs.node_state.declared.packet.Body.TheVariants as body
-use Rattle.run_safety.specs.node_state.declared.state.Core.{Core}
-use Rattle.run_safety.specs.node_state.State.{row_of, led_of, state_of, fits_at_end, frozen, leads, led_groups, others, acked_from, acked_by, least_acked}
-use Rattle.run_safety.specs.node_state.Sending.{sent, send_on}
-use Rattle.run_safety.specs.node_state.HandOn.{Answering}
-use Rattle.run_safety.specs.node_state.Leading.{append_if_fits, with_tally}
-use Rattle.run_safety.specs.node_state.Ticks.{late_appended, announced, ticked_in, tally_ticks, entries_sent, list_sent_again, sent_again, tick_group, tick_led}
+use Rattle.rsct_packet.specs.declared.ids.Member.{Member}
+use Rattle.rsct_packet.specs.Ids.{same_view}
+use Rattle.rsct_packet.specs.Search.{Has}
+use Rattle.rsct_packet.proofs.HasLaws.{has_filter, has_map}
+use Rattle.proposal_core.specs.declared.entry.Entry.{Entry}
+use Rattle.proposal_core.specs.declared.entry.Entry.TheVariants.{Late}
+use Rattle.proposal_core.specs.declared.group_state.Running.{Running}
+use Rattle.proposal_core.specs.GroupView.{GroupView}
+use Rattle.proposal_core.specs.Lists.{list_or_new, len_in}
+use Rattle.vote_phases.specs.Tally.{TallyView, expires, open_voters}
+use Rattle.view_state.specs.declared.views.Views.{Views}
+use Rattle.view_state.specs.Views.{is_frozen, others_of}
+use Rattle.node_state.specs.declared.packet.Body.TheVariants as body
+use Rattle.node_state.specs.declared.state.Core.{Core}
+use Rattle.node_state.specs.State.{row_of, led_of, state_of, fits_at_end, frozen, leads, led_groups, others, acked_from, acked_by, least_acked}
+use Rattle.node_state.specs.Sending.{sent, send_on}
+use Rattle.node_state.specs.HandOn.{Answering}
+use Rattle.node_state.specs.Leading.{append_if_fits, with_tally}
+use Rattle.node_state.specs.Ticks.{late_appended, announced, ticked_in, tally_ticks, entries_sent, list_sent_again, sent_again, tick_group, tick_led}
 use Rattle.run_safety.specs.Group.{member}
 use Rattle.run_safety.specs.Group as group
 use Rattle.step_refinement.specs.Ghost.{Ghost, KeepsIf, IsStable}
 use Rattle.step_refinement.specs.Tied.{RowIs, Scene, Tied}
 use Rattle.step_refinement.proofs.Works.{sent_kept, tied_sent}
-use Rattle.run_safety.proofs.node_state_laws.NameOrder.{cases_text}
+use Rattle.node_state.proofs.NameOrder.{cases_text}
 use Rattle.step_refinement.proofs.ViewRows.{same_of}
 use Rattle.step_refinement.proofs.Leads.{leads_same, leads_known}
 use Rattle.step_refinement.proofs.Acks.{settled, fold_least}

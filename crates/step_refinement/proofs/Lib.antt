@@ -51,11 +51,3 @@ pub mod Noting
 pub mod RunLaw
 pub mod Turns
 pub mod JoinsFirst
-pub use Rattle.run_safety.proofs.adapter_ring_laws as adapter_ring_laws
-pub use Rattle.run_safety.proofs.node_state_laws as node_state_laws
-pub use Rattle.run_safety.proofs.proposal_core_laws as proposal_core_laws
-pub use Rattle.run_safety.proofs.rsct_packet_laws as rsct_packet_laws
-pub use Rattle.run_safety.proofs as run_safety_laws
-pub use Rattle.view_bases.proofs as view_bases_laws
-pub use Rattle.view_exchange.proofs as view_exchange_laws
-pub use Rattle.run_safety.proofs.view_state_laws as view_state_laws

@@ -5,31 +5,31 @@ use Rattle.std.specs.Option.{unwrap_or}
 use Rattle.std.specs.Str.{bytes_eq}
 use Rattle.std.proofs.lemmas.Bool.{eqb-true, eqb-false, and_parts}
 use Rattle.std.proofs.lemmas.Bool.Decides.{nat_tests}
-use Rattle.run_safety.specs.rsct_packet.declared.ids.ViewId.{ViewId}
-use Rattle.run_safety.specs.rsct_packet.declared.ids.Member.{Member}
-use Rattle.run_safety.specs.rsct_packet.declared.ids.ProviderId.{ProviderId}
-use Rattle.run_safety.specs.rsct_packet.Search.{Has}
-use Rattle.run_safety.proofs.rsct_packet_laws.HasLaws.{has_filter, append_has_right}
-use Rattle.run_safety.specs.proposal_core.declared.entry.Entry.{Entry}
-use Rattle.run_safety.specs.name_server.declared.names.Leader.{Leader}
-use Rattle.run_safety.specs.name_server.Names as names
-use Rattle.run_safety.specs.client_callbacks.declared.told.Why.TheVariants.{GroupsFull}
-use Rattle.run_safety.specs.session_state.declared.state.Request.{Request}
-use Rattle.run_safety.specs.session_state.declared.state.SessionState.{SessionState}
-use Rattle.run_safety.specs.view_state.declared.views.Views.{Views}
-use Rattle.run_safety.specs.view_state.Views.{is_coordinator}
-use Rattle.run_safety.specs.node_state.declared.config.Config.{Config}
-use Rattle.run_safety.specs.node_state.declared.group.GroupRow.{GroupRow}
-use Rattle.run_safety.specs.node_state.declared.group.Led.{Led}
-use Rattle.run_safety.specs.node_state.declared.packet.Body.TheVariants as body
-use Rattle.run_safety.specs.node_state.declared.packet.Packet.{Packet}
-use Rattle.run_safety.specs.node_state.declared.state.Core.{Core}
-use Rattle.run_safety.specs.node_state.Settings.{is_fixed}
-use Rattle.run_safety.specs.node_state.State.{row_of, with_row, acked_from, coordinates, set_leader}
-use Rattle.run_safety.specs.node_state.Sending.{sent}
-use Rattle.run_safety.specs.node_state.HandOn.{Answering}
-use Rattle.run_safety.specs.node_state.Following.{take_lookup, requests_of, named, is_name_used, take_name, take_tell}
-use Rattle.run_safety.specs.node_state.Step.{is_used, used_if, take_body}
+use Rattle.rsct_packet.specs.declared.ids.ViewId.{ViewId}
+use Rattle.rsct_packet.specs.declared.ids.Member.{Member}
+use Rattle.rsct_packet.specs.declared.ids.ProviderId.{ProviderId}
+use Rattle.rsct_packet.specs.Search.{Has}
+use Rattle.rsct_packet.proofs.HasLaws.{has_filter, append_has_right}
+use Rattle.proposal_core.specs.declared.entry.Entry.{Entry}
+use Rattle.name_server.specs.declared.names.Leader.{Leader}
+use Rattle.name_server.specs.Names as names
+use Rattle.client_callbacks.specs.declared.told.Why.TheVariants.{GroupsFull}
+use Rattle.session_state.specs.declared.state.Request.{Request}
+use Rattle.session_state.specs.declared.state.SessionState.{SessionState}
+use Rattle.view_state.specs.declared.views.Views.{Views}
+use Rattle.view_state.specs.Views.{is_coordinator}
+use Rattle.node_state.specs.declared.config.Config.{Config}
+use Rattle.node_state.specs.declared.group.GroupRow.{GroupRow}
+use Rattle.node_state.specs.declared.group.Led.{Led}
+use Rattle.node_state.specs.declared.packet.Body.TheVariants as body
+use Rattle.node_state.specs.declared.packet.Packet.{Packet}
+use Rattle.node_state.specs.declared.state.Core.{Core}
+use Rattle.node_state.specs.Settings.{is_fixed}
+use Rattle.node_state.specs.State.{row_of, with_row, acked_from, coordinates, set_leader}
+use Rattle.node_state.specs.Sending.{sent}
+use Rattle.node_state.specs.HandOn.{Answering}
+use Rattle.node_state.specs.Following.{take_lookup, requests_of, named, is_name_used, take_name, take_tell}
+use Rattle.node_state.specs.Step.{is_used, used_if, take_body}
 use Rattle.run_safety.specs.Group.{member, Standing, In, kept}
 use Rattle.run_safety.specs.Group as group
 use Rattle.run_safety.specs.GroupLists.{puts_of}
@@ -45,7 +45,7 @@ use Rattle.step_refinement.specs.Tied.{Stands, ShowsBody, ShowsLeader, KnowsLead
 use Rattle.step_refinement.proofs.Goes.{Spares, owes_by, decides_by, node_by, shows_on, node_if_on}
 use Rattle.step_refinement.proofs.Changed.{set_view, view_here, view_there}
 use Rattle.step_refinement.proofs.Works.{asked_free, tied_sent}
-use Rattle.run_safety.proofs.node_state_laws.NameOrder.{text_same, text_self, text_other, cases_text}
+use Rattle.node_state.proofs.NameOrder.{text_same, text_self, text_other, cases_text}
 use Rattle.step_refinement.proofs.Begins.{opening_alone}
 use Rattle.step_refinement.proofs.Acks.{used_is}
 use Rattle.step_refinement.proofs.RowWorks.{tied_led_by}

@@ -1,28 +1,28 @@
 -- What is owed is sent: outstanding requests, GONE, and votes.
 use Rattle.std.proofs.Common.{◌≡◌, ◌<◌, ℕ, List, [], ◌∷◌, ◌++◌, Option, Some, None, Bool, true, false, refl, sym, ap, ◌∙◌, subst, inl, inr, ⊎_elim, arith, ◌⊎◌}
 use Rattle.std.specs.Prelude.{filter, fold}
-use Rattle.run_safety.specs.rsct_packet.declared.ids.ViewId.{ViewId}
-use Rattle.run_safety.specs.rsct_packet.declared.ids.ProviderId.{ProviderId}
-use Rattle.run_safety.specs.rsct_packet.Search.{Has}
-use Rattle.run_safety.specs.proposal_core.declared.entry.Entry.{Entry}
-use Rattle.run_safety.specs.proposal_core.declared.proposal.Proposal.{Proposal}
-use Rattle.run_safety.specs.proposal_core.Fold.{runs, present}
-use Rattle.run_safety.specs.proposal_core.Lists.{state_in}
-use Rattle.run_safety.specs.client_callbacks.declared.ballot.Filled.{Filled}
-use Rattle.run_safety.specs.session_state.declared.state.KeptBallot.{KeptBallot}
-use Rattle.run_safety.specs.session_state.declared.state.Request.{Request}
-use Rattle.run_safety.specs.session_state.declared.state.SessionState.{SessionState}
-use Rattle.run_safety.specs.session_state.declared.state.Provider.{Provider}
-use Rattle.run_safety.specs.session_state.HandOn.{is_join}
-use Rattle.run_safety.specs.node_state.declared.group.GroupRow.{GroupRow}
-use Rattle.run_safety.specs.node_state.declared.packet.Body.{Body}
-use Rattle.run_safety.specs.node_state.declared.packet.Body.TheVariants as body
-use Rattle.run_safety.specs.node_state.declared.packet.Packet.{Packet}
-use Rattle.run_safety.specs.node_state.declared.state.Core.{Core}
-use Rattle.run_safety.specs.node_state.Settings.{is_fixed}
-use Rattle.run_safety.specs.node_state.State.{row_of, state_of, frozen, leader_of, held_rows}
-use Rattle.run_safety.specs.node_state.Sending.{sent, send_on, packet_on, network_to, send_if_known, send_request_to, send_request, send_requests, vote_of, send_kept_to, send_kept, kept_sent_if, kept_sent_again, send_votes_again}
-use Rattle.run_safety.specs.node_state.Ticks.{is_lost, lost_told, tick_owed}
+use Rattle.rsct_packet.specs.declared.ids.ViewId.{ViewId}
+use Rattle.rsct_packet.specs.declared.ids.ProviderId.{ProviderId}
+use Rattle.rsct_packet.specs.Search.{Has}
+use Rattle.proposal_core.specs.declared.entry.Entry.{Entry}
+use Rattle.proposal_core.specs.declared.proposal.Proposal.{Proposal}
+use Rattle.proposal_core.specs.Fold.{runs, present}
+use Rattle.proposal_core.specs.Lists.{state_in}
+use Rattle.client_callbacks.specs.declared.ballot.Filled.{Filled}
+use Rattle.session_state.specs.declared.state.KeptBallot.{KeptBallot}
+use Rattle.session_state.specs.declared.state.Request.{Request}
+use Rattle.session_state.specs.declared.state.SessionState.{SessionState}
+use Rattle.session_state.specs.declared.state.Provider.{Provider}
+use Rattle.session_state.specs.HandOn.{is_join}
+use Rattle.node_state.specs.declared.group.GroupRow.{GroupRow}
+use Rattle.node_state.specs.declared.packet.Body.{Body}
+use Rattle.node_state.specs.declared.packet.Body.TheVariants as body
+use Rattle.node_state.specs.declared.packet.Packet.{Packet}
+use Rattle.node_state.specs.declared.state.Core.{Core}
+use Rattle.node_state.specs.Settings.{is_fixed}
+use Rattle.node_state.specs.State.{row_of, state_of, frozen, leader_of, held_rows}
+use Rattle.node_state.specs.Sending.{sent, send_on, packet_on, network_to, send_if_known, send_request_to, send_request, send_requests, vote_of, send_kept_to, send_kept, kept_sent_if, kept_sent_again, send_votes_again}
+use Rattle.node_state.specs.Ticks.{is_lost, lost_told, tick_owed}
 use Rattle.run_safety.specs.Group.{Put, kept}
 use Rattle.run_safety.specs.Group as group
 use Rattle.run_safety.specs.Requests.{requests_of, carried}
@@ -34,7 +34,7 @@ use Rattle.step_refinement.proofs.Goes.{Spares, sound_on, shows_on, node_on}
 use Rattle.step_refinement.proofs.Changed.{has_pushed}
 use Rattle.step_refinement.proofs.Works.{tied_on, tied_sent}
 use Rattle.step_refinement.proofs.Gone.{with_packet, packet_goes, packet_still, packet_spares}
-use Rattle.run_safety.proofs.node_state_laws.NameOrder.{cases_text}
+use Rattle.node_state.proofs.NameOrder.{cases_text}
 use Rattle.step_refinement.proofs.Leads.{known_leads, unknown_asks}
 
 module _ (g : List ℕ) (w : Scene) (n : ℕ) where

@@ -2,20 +2,20 @@
 use Rattle.std.proofs.Common.{◌≡◌, ◌≤◌, ℕ, List, [], ◌∷◌, Option, Some, None, Bool, true, false, cond, length, drop, refl, sym, ap, ◌∙◌, subst, inl, inr}
 use Rattle.std.specs.Prelude.{find, filter, map, is_some}
 use Rattle.std.specs.Str.{bytes_eq}
-use Rattle.run_safety.specs.rsct_packet.declared.ids.ViewId.{ViewId}
-use Rattle.run_safety.specs.proposal_core.declared.entry.Entry.{Entry}
-use Rattle.run_safety.specs.proposal_core.GroupView.{GroupView}
-use Rattle.run_safety.specs.proposal_core.Lists.{list_or_new}
-use Rattle.run_safety.specs.rsct_packet.Search.{Has}
-use Rattle.run_safety.specs.rsct_packet.Text.{name_lt}
-use Rattle.run_safety.specs.view_state.declared.install.Part.{Part}
+use Rattle.rsct_packet.specs.declared.ids.ViewId.{ViewId}
+use Rattle.proposal_core.specs.declared.entry.Entry.{Entry}
+use Rattle.proposal_core.specs.GroupView.{GroupView}
+use Rattle.proposal_core.specs.Lists.{list_or_new}
+use Rattle.rsct_packet.specs.Search.{Has}
+use Rattle.rsct_packet.specs.Text.{name_lt}
+use Rattle.view_state.specs.declared.install.Part.{Part}
 use Rattle.view_exchange.specs.Longest.{NamesDiffer}
-use Rattle.run_safety.specs.node_state.declared.group.GroupRow.{GroupRow}
-use Rattle.run_safety.specs.node_state.declared.state.Core.{Core}
-use Rattle.run_safety.specs.node_state.State.{AllAfter, InNameOrder, row_found, row_of, held_rows, has_name}
-use Rattle.run_safety.specs.node_state.Applying.{part_of_list, own_parts}
+use Rattle.node_state.specs.declared.group.GroupRow.{GroupRow}
+use Rattle.node_state.specs.declared.state.Core.{Core}
+use Rattle.node_state.specs.State.{AllAfter, InNameOrder, row_found, row_of, held_rows, has_name}
+use Rattle.node_state.specs.Applying.{part_of_list, own_parts}
 use Rattle.step_refinement.specs.Ghost.{Ghost, KeepsIf, CarriesIf, part_of, IsStable}
-use Rattle.run_safety.proofs.node_state_laws.NameOrder.{text_same, lt_self, none_after}
+use Rattle.node_state.proofs.NameOrder.{text_same, lt_self, none_after}
 
 abbrev part_in : GroupRow → Part
 part_in row = record { name = row.name; start = (list_or_new row.list).start; state = (list_or_new row.list).state; entries = (list_or_new row.list).entries }

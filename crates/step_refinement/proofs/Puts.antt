@@ -2,25 +2,25 @@
 use Rattle.std.proofs.Common.{◌≡◌, ◌≢◌, ◌≤◌, ◌<◌, ◌⊎◌, ℕ, zero, suc, ◌+◌, List, [], ◌∷◌, ◌++◌, length, drop, take, Some, true, refl, sym, ap, ◌∙◌, subst, inl, inr, length-append, arith}
 use Rattle.std.specs.Prelude.{reverse, slice_get, if◌then◌else◌}
 use Rattle.std.proofs.lemmas.Bool.{cases_eq}
-use Rattle.run_safety.specs.rsct_packet.declared.ids.ViewId.{ViewId}
-use Rattle.run_safety.specs.rsct_packet.declared.ids.ProviderId.{ProviderId}
-use Rattle.run_safety.specs.rsct_packet.Search.{Has}
-use Rattle.run_safety.specs.proposal_core.declared.entry.Entry.{Entry}
-use Rattle.run_safety.specs.proposal_core.declared.proposal.Proposal.{Proposal}
-use Rattle.run_safety.specs.proposal_core.Sizes.{entry_len}
-use Rattle.run_safety.specs.proposal_core.declared.group_state.GroupState.{GroupState}
-use Rattle.run_safety.specs.proposal_core.Fold.{after}
-use Rattle.run_safety.specs.proposal_core.GroupView.{GroupView, new_list}
-use Rattle.run_safety.specs.proposal_core.Lists.{list_or_new, with_entry}
-use Rattle.run_safety.specs.view_state.Cut.{all_fit}
-use Rattle.run_safety.specs.session_state.declared.state.Request.{Request}
-use Rattle.run_safety.specs.session_state.declared.state.SessionState.{SessionState}
-use Rattle.run_safety.specs.node_state.declared.happened.Happened.TheVariants as happened
-use Rattle.run_safety.specs.node_state.declared.group.GroupRow.{GroupRow}
-use Rattle.run_safety.specs.node_state.declared.state.Core.{Core}
-use Rattle.run_safety.specs.node_state.Settings.{is_fixed}
-use Rattle.run_safety.specs.node_state.State.{row_of, acked_from, with_row, list_of, state_of, len_of, fits_at_end, recorded, with_sessions}
-use Rattle.run_safety.specs.node_state.Leading.{put}
+use Rattle.rsct_packet.specs.declared.ids.ViewId.{ViewId}
+use Rattle.rsct_packet.specs.declared.ids.ProviderId.{ProviderId}
+use Rattle.rsct_packet.specs.Search.{Has}
+use Rattle.proposal_core.specs.declared.entry.Entry.{Entry}
+use Rattle.proposal_core.specs.declared.proposal.Proposal.{Proposal}
+use Rattle.proposal_core.specs.Sizes.{entry_len}
+use Rattle.proposal_core.specs.declared.group_state.GroupState.{GroupState}
+use Rattle.proposal_core.specs.Fold.{after}
+use Rattle.proposal_core.specs.GroupView.{GroupView, new_list}
+use Rattle.proposal_core.specs.Lists.{list_or_new, with_entry}
+use Rattle.view_state.specs.Cut.{all_fit}
+use Rattle.session_state.specs.declared.state.Request.{Request}
+use Rattle.session_state.specs.declared.state.SessionState.{SessionState}
+use Rattle.node_state.specs.declared.happened.Happened.TheVariants as happened
+use Rattle.node_state.specs.declared.group.GroupRow.{GroupRow}
+use Rattle.node_state.specs.declared.state.Core.{Core}
+use Rattle.node_state.specs.Settings.{is_fixed}
+use Rattle.node_state.specs.State.{row_of, acked_from, with_row, list_of, state_of, len_of, fits_at_end, recorded, with_sessions}
+use Rattle.node_state.specs.Leading.{put}
 use Rattle.run_safety.specs.Past.{fold_from, records_of}
 use Rattle.run_safety.specs.Sight.{lines_with, lines_of}
 use Rattle.run_safety.specs.Group.{member, Standing, Kept, Noted, Asked, Told, Put, kept}
@@ -38,7 +38,7 @@ use Rattle.step_refinement.proofs.Goes.{Spares, Still, still_spares, sound_on, n
 use Rattle.step_refinement.proofs.Idle.{idles_with}
 use Rattle.step_refinement.proofs.Changed.{set_here, set_there, changes, incs_set}
 use Rattle.step_refinement.proofs.Works.{lines_pushed, placed_pushed}
-use Rattle.run_safety.proofs.node_state_laws.NameOrder.{text_self, text_other, row_here, row_there, rows_ordered}
+use Rattle.node_state.proofs.NameOrder.{text_self, text_other, row_here, row_there, rows_ordered}
 use Rattle.step_refinement.proofs.RowWorks.{keeps_of, waits_with, waits_of}
 use Rattle.step_refinement.proofs.SessionLaws.{Later, owes_later}
 use Rattle.step_refinement.proofs.Fits.{fits_one, bytes_pushed}

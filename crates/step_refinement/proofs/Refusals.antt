@@ -2,19 +2,19 @@
 use Rattle.std.proofs.Common.{◌≡◌, ◌≢◌, ◌⊎◌, ℕ, List, [], ◌∷◌, Option, Some, None, Bool, true, refl, sym, ◌∙◌, ap, subst, inl, inr}
 use Rattle.std.specs.Prelude.{slice_get}
 use Rattle.std.proofs.lemmas.Bool.{cases_eq}
-use Rattle.run_safety.specs.rsct_packet.declared.ids.ViewId.{ViewId}
-use Rattle.run_safety.specs.rsct_packet.declared.ids.ProviderId.{ProviderId}
-use Rattle.run_safety.specs.rsct_packet.Providers.{among}
-use Rattle.run_safety.specs.rsct_packet.Search.{Has}
-use Rattle.run_safety.specs.proposal_core.declared.entry.Entry.{Entry}
-use Rattle.run_safety.specs.name_server.declared.names.Leader.{Leader}
-use Rattle.run_safety.specs.view_state.declared.views.Views.{Views}
-use Rattle.run_safety.specs.node_state.declared.config.Config.{Config}
-use Rattle.run_safety.specs.node_state.declared.group.GroupRow.{GroupRow}
-use Rattle.run_safety.specs.node_state.declared.state.Core.{Core}
-use Rattle.run_safety.specs.node_state.Settings.{is_fixed}
-use Rattle.run_safety.specs.node_state.State.{row_of}
-use Rattle.run_safety.specs.node_state.declared.happened.Happened.{Happened}
+use Rattle.rsct_packet.specs.declared.ids.ViewId.{ViewId}
+use Rattle.rsct_packet.specs.declared.ids.ProviderId.{ProviderId}
+use Rattle.rsct_packet.specs.Providers.{among}
+use Rattle.rsct_packet.specs.Search.{Has}
+use Rattle.proposal_core.specs.declared.entry.Entry.{Entry}
+use Rattle.name_server.specs.declared.names.Leader.{Leader}
+use Rattle.view_state.specs.declared.views.Views.{Views}
+use Rattle.node_state.specs.declared.config.Config.{Config}
+use Rattle.node_state.specs.declared.group.GroupRow.{GroupRow}
+use Rattle.node_state.specs.declared.state.Core.{Core}
+use Rattle.node_state.specs.Settings.{is_fixed}
+use Rattle.node_state.specs.State.{row_of}
+use Rattle.node_state.specs.declared.happened.Happened.{Happened}
 use Rattle.run_safety.specs.Group.{member}
 use Rattle.run_safety.specs.Group as group
 use Rattle.run_safety.specs.ViewOrder.{Lt}
@@ -27,8 +27,8 @@ use Rattle.step_refinement.specs.Tied.{LeaderKeeps, Closed, NodeOf, NodeIsIf, So
 use Rattle.step_refinement.proofs.Goes.{Spares, owes_by, node_by, shows_on, node_on, node_if_on}
 use Rattle.step_refinement.proofs.Gone.{with_packet, packet_goes}
 use Rattle.step_refinement.proofs.Turns.{turns_packets}
-use Rattle.run_safety.specs.proposal_core.declared.proposal.Proposal.{Proposal}
-use Rattle.run_safety.specs.session_state.declared.state.SessionState.{SessionState}
+use Rattle.proposal_core.specs.declared.proposal.Proposal.{Proposal}
+use Rattle.session_state.specs.declared.state.SessionState.{SessionState}
 
 module _ (x : Ghost) (v : ViewId) (p : ProviderId) (r : ℕ) where
   abbrev pub refusing : Ghost

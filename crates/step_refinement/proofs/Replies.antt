@@ -7,30 +7,30 @@ use Rattle.std.specs.Option.{option_map}
 use Rattle.std.specs.Str.{bytes_eq}
 use Rattle.std.proofs.lemmas.Bool.{eqb-true, eq-eqb, and_parts}
 use Rattle.std.proofs.lemmas.Bool.Decides.{nat_tests}
-use Rattle.run_safety.specs.rsct_packet.declared.ids.ViewId.{ViewId}
-use Rattle.run_safety.specs.rsct_packet.declared.ids.Member.{Member}
-use Rattle.run_safety.specs.rsct_packet.declared.ids.ProviderId.{ProviderId}
-use Rattle.run_safety.specs.rsct_packet.Ids.{same_view, is_member}
-use Rattle.run_safety.specs.rsct_packet.Lists.{is_empty, best_of}
-use Rattle.run_safety.specs.rsct_packet.Mask.{has_node}
-use Rattle.run_safety.specs.rsct_packet.Providers.{same_provider, among}
-use Rattle.run_safety.specs.rsct_packet.Search.{Has}
-use Rattle.run_safety.specs.rsct_packet.Text.{name_lt}
-use Rattle.run_safety.proofs.rsct_packet_laws.HasLaws.{append_has_left, find_has, find_none}
-use Rattle.run_safety.proofs.rsct_packet_laws.MaskLaws.{has_is_node}
-use Rattle.run_safety.specs.proposal_core.declared.entry.Entry.{Entry}
-use Rattle.run_safety.specs.proposal_core.declared.group_state.GroupState.{GroupState}
-use Rattle.run_safety.specs.proposal_core.Fold.{empty_state, present, joiners_in}
-use Rattle.run_safety.specs.view_state.declared.answer.Answer.{Answer}
-use Rattle.run_safety.specs.view_state.declared.exchange.Exchange.{Exchange}
-use Rattle.run_safety.specs.view_state.declared.install.Part.{Part}
-use Rattle.run_safety.specs.view_state.declared.install.Source.{Source}
-use Rattle.run_safety.specs.view_state.declared.install.Install.{Install}
-use Rattle.run_safety.specs.view_state.declared.install.Base.{Base}
-use Rattle.run_safety.specs.view_state.Parts.{part_len}
-use Rattle.run_safety.specs.view_state.Answers.{source_of, install_of}
-use Rattle.run_safety.specs.view_state.Bases.{Candidate, candidates, beats, source_at, is_live_from, leader_from, base_from, base_of_best, base_of, with_name, names_in, bases_for, bases_of, base_named, IsCandidate, IsBaseOf}
-use Rattle.run_safety.specs.view_state.Bases as exchange
+use Rattle.rsct_packet.specs.declared.ids.ViewId.{ViewId}
+use Rattle.rsct_packet.specs.declared.ids.Member.{Member}
+use Rattle.rsct_packet.specs.declared.ids.ProviderId.{ProviderId}
+use Rattle.rsct_packet.specs.Ids.{same_view, is_member}
+use Rattle.rsct_packet.specs.Lists.{is_empty, best_of}
+use Rattle.rsct_packet.specs.Mask.{has_node}
+use Rattle.rsct_packet.specs.Providers.{same_provider, among}
+use Rattle.rsct_packet.specs.Search.{Has}
+use Rattle.rsct_packet.specs.Text.{name_lt}
+use Rattle.rsct_packet.proofs.HasLaws.{append_has_left, find_has, find_none}
+use Rattle.rsct_packet.proofs.MaskLaws.{has_is_node}
+use Rattle.proposal_core.specs.declared.entry.Entry.{Entry}
+use Rattle.proposal_core.specs.declared.group_state.GroupState.{GroupState}
+use Rattle.proposal_core.specs.Fold.{empty_state, present, joiners_in}
+use Rattle.view_state.specs.declared.answer.Answer.{Answer}
+use Rattle.view_state.specs.declared.exchange.Exchange.{Exchange}
+use Rattle.view_state.specs.declared.install.Part.{Part}
+use Rattle.view_state.specs.declared.install.Source.{Source}
+use Rattle.view_state.specs.declared.install.Install.{Install}
+use Rattle.view_state.specs.declared.install.Base.{Base}
+use Rattle.view_state.specs.Parts.{part_len}
+use Rattle.view_state.specs.Answers.{source_of, install_of}
+use Rattle.view_state.specs.Bases.{Candidate, candidates, beats, source_at, is_live_from, leader_from, base_from, base_of_best, base_of, with_name, names_in, bases_for, bases_of, base_named, IsCandidate, IsBaseOf}
+use Rattle.view_state.specs.Bases as exchange
 use Rattle.view_exchange.specs.Longest.{Brings, NoWorse, CarriesLongest, NamesDiffer}
 use Rattle.view_bases.proofs.Bases.{base_is, leader_found, leader_none}
 use Rattle.view_exchange.proofs.Longest.{longest_are_carried}
@@ -42,7 +42,7 @@ use Rattle.run_safety.specs.Moves.{Longest, Collected}
 use Rattle.run_safety.proofs.Order.{eq_true, eq_same}
 use Rattle.run_safety.proofs.Past.{member_reply, reply_member}
 use Rattle.step_refinement.specs.Ghost.{Ghost, Seen, Carries, CarriesIf, part_of, Gathers, origin_of}
-use Rattle.run_safety.proofs.node_state_laws.NameOrder.{text_same, text_self}
+use Rattle.node_state.proofs.NameOrder.{text_same, text_self}
 use Rattle.step_refinement.proofs.BaseOrder.{base_name}
 use Rattle.step_refinement.proofs.Acks.{has_member}
 use Rattle.step_refinement.proofs.Sides.{SourcesAre, sources_are}

@@ -3,33 +3,33 @@ use Rattle.std.proofs.Common.{◌≡◌, ◌≢◌, ◌≤◌, ◌<◌, ◌⊎�
 use Rattle.std.specs.Prelude.{◌==◌, ◌&&◌, not, length, nat_lt, nat_le, is_some}
 use Rattle.std.proofs.lemmas.Bool.{eqb-true, eq-eqb, and_parts}
 use Rattle.std.proofs.lemmas.Bool.Decides.{nat_tests}
-use Rattle.run_safety.specs.rsct_packet.declared.ids.ViewId.{ViewId}
-use Rattle.run_safety.specs.rsct_packet.declared.ids.ProviderId.{ProviderId}
-use Rattle.run_safety.specs.rsct_packet.Providers.{among}
-use Rattle.run_safety.specs.rsct_packet.Search.{Has}
-use Rattle.run_safety.proofs.rsct_packet_laws.HasLaws.{append_has_right}
-use Rattle.run_safety.specs.group_attr.declared.attrs.Phases.{Phases}
-use Rattle.run_safety.specs.proposal_core.declared.proposal.Proposal.{Proposal}
-use Rattle.run_safety.specs.proposal_core.declared.proposal.Proposal.TheVariants.{Join, Leave, Fail, Expel, State, Message, Attributes, Reflect}
-use Rattle.run_safety.specs.proposal_core.GroupView.{GroupView}
-use Rattle.run_safety.specs.client_callbacks.declared.told.Why.{Why}
-use Rattle.run_safety.specs.view_state.declared.views.Views.{Views}
-use Rattle.run_safety.specs.node_state.declared.config.Config.{Config}
-use Rattle.run_safety.specs.node_state.declared.config.Mode.{Mode}
-use Rattle.run_safety.specs.node_state.declared.config.Mode.TheVariants.{Fixed, Asked, Rings}
-use Rattle.run_safety.specs.node_state.declared.group.Decision.{Decision}
-use Rattle.run_safety.specs.node_state.declared.group.GroupRow.{GroupRow}
-use Rattle.run_safety.specs.node_state.declared.group.Led.{Led}
-use Rattle.run_safety.specs.node_state.declared.packet.Body.TheVariants as body
-use Rattle.run_safety.specs.node_state.declared.packet.Packet.{Packet}
-use Rattle.run_safety.specs.node_state.declared.state.Core.{Core}
-use Rattle.run_safety.specs.node_state.Settings.{is_fixed}
-use Rattle.run_safety.specs.node_state.State.{row_of, with_row, led_of, held_rows, holds, decision_of, is_this, leader_by, leader_in, leads_in, leads, set_leader}
-use Rattle.run_safety.specs.node_state.HandOn.{Answering}
-use Rattle.run_safety.specs.node_state.Sending.{sent}
-use Rattle.run_safety.specs.node_state.Deciding.{join_refusal, decide_change, other_refusal, decided}
-use Rattle.run_safety.specs.node_state.Following.{max_groups, tell_again, decide_new, request_after, request_at, is_group_refused, take_request}
-use Rattle.run_safety.specs.node_state.Step.{is_used, used_if, take_body}
+use Rattle.rsct_packet.specs.declared.ids.ViewId.{ViewId}
+use Rattle.rsct_packet.specs.declared.ids.ProviderId.{ProviderId}
+use Rattle.rsct_packet.specs.Providers.{among}
+use Rattle.rsct_packet.specs.Search.{Has}
+use Rattle.rsct_packet.proofs.HasLaws.{append_has_right}
+use Rattle.group_attr.specs.declared.attrs.Phases.{Phases}
+use Rattle.proposal_core.specs.declared.proposal.Proposal.{Proposal}
+use Rattle.proposal_core.specs.declared.proposal.Proposal.TheVariants.{Join, Leave, Fail, Expel, State, Message, Attributes, Reflect}
+use Rattle.proposal_core.specs.GroupView.{GroupView}
+use Rattle.client_callbacks.specs.declared.told.Why.{Why}
+use Rattle.view_state.specs.declared.views.Views.{Views}
+use Rattle.node_state.specs.declared.config.Config.{Config}
+use Rattle.node_state.specs.declared.config.Mode.{Mode}
+use Rattle.node_state.specs.declared.config.Mode.TheVariants.{Fixed, Asked, Rings}
+use Rattle.node_state.specs.declared.group.Decision.{Decision}
+use Rattle.node_state.specs.declared.group.GroupRow.{GroupRow}
+use Rattle.node_state.specs.declared.group.Led.{Led}
+use Rattle.node_state.specs.declared.packet.Body.TheVariants as body
+use Rattle.node_state.specs.declared.packet.Packet.{Packet}
+use Rattle.node_state.specs.declared.state.Core.{Core}
+use Rattle.node_state.specs.Settings.{is_fixed}
+use Rattle.node_state.specs.State.{row_of, with_row, led_of, held_rows, holds, decision_of, is_this, leader_by, leader_in, leads_in, leads, set_leader}
+use Rattle.node_state.specs.HandOn.{Answering}
+use Rattle.node_state.specs.Sending.{sent}
+use Rattle.node_state.specs.Deciding.{join_refusal, decide_change, other_refusal, decided}
+use Rattle.node_state.specs.Following.{max_groups, tell_again, decide_new, request_after, request_at, is_group_refused, take_request}
+use Rattle.node_state.specs.Step.{is_used, used_if, take_body}
 use Rattle.run_safety.specs.Group.{member}
 use Rattle.run_safety.specs.Group as group
 use Rattle.run_safety.specs.Requests.{requests_of}
@@ -38,7 +38,7 @@ use Rattle.step_refinement.specs.Ghost.{asking, Ghost, Goes, Seen, KeepsIf}
 use Rattle.step_refinement.specs.Tied.{ShowsBody, ShowsLeader, ShowsRequest, KnowsLeader, rows_held, Closed, NodeOf, Sound, Scene, Begun, Tied}
 use Rattle.step_refinement.proofs.Goes.{Spares, owes_by, decides_by, node_by, shows_on, node_if_on}
 use Rattle.step_refinement.proofs.Works.{tied_sent}
-use Rattle.run_safety.proofs.node_state_laws.NameOrder.{cases_text, row_here}
+use Rattle.node_state.proofs.NameOrder.{cases_text, row_here}
 use Rattle.step_refinement.proofs.Acks.{used_is, member_self}
 use Rattle.step_refinement.proofs.RowWorks.{led_by_kept}
 use Rattle.step_refinement.proofs.Decisions.{Newer, Ripe}

@@ -2,31 +2,31 @@
 use Rattle.std.proofs.Common.{ℕ, List, [], ◌∷◌, Option, Some, None, Bool, true, false, refl, sym, subst}
 use Rattle.std.specs.Prelude.{◌==◌, not, filter, find, fold}
 use Rattle.std.proofs.lemmas.List.{append-nil}
-use Rattle.run_safety.specs.rsct_packet.declared.mask.Mask.{Mask}
-use Rattle.run_safety.specs.rsct_packet.Mask.{nodes_of}
-use Rattle.run_safety.specs.packet_bodies.declared.body.ReportRow.{ReportRow}
-use Rattle.run_safety.specs.packet_bodies.declared.body.What.{What}
-use Rattle.run_safety.specs.adapter_ring.declared.ring.Ring.{Ring}
-use Rattle.run_safety.specs.adapter_ring.declared.ring.RingSet.{RingSet}
-use Rattle.run_safety.specs.adapter_ring.declared.packet.RingSend.{RingSend}
-use Rattle.run_safety.specs.adapter_ring.declared.packet.RingPacket.{RingPacket}
-use Rattle.run_safety.specs.adapter_ring.declared.packet.RingEvent.TheVariants as ring_event
-use Rattle.run_safety.specs.adapter_ring.declared.work.RingWork.{RingWork}
-use Rattle.run_safety.specs.adapter_ring.Rings.{ring_step}
-use Rattle.run_safety.specs.node_reach.declared.reach.Reach.{Reach}
-use Rattle.run_safety.specs.node_reach.Reach as reach
-use Rattle.run_safety.specs.node_state.declared.happened.Happened.TheVariants as happened
-use Rattle.run_safety.specs.node_state.declared.packet.Body.{Body}
-use Rattle.run_safety.specs.node_state.declared.packet.Body.TheVariants as body
-use Rattle.run_safety.specs.node_state.declared.packet.Packet.{Packet}
-use Rattle.run_safety.specs.node_state.declared.state.Core.{Core}
-use Rattle.run_safety.specs.node_state.Settings.{is_rings}
-use Rattle.run_safety.specs.node_state.State.{row_of, recorded, recorded_all}
-use Rattle.run_safety.specs.node_state.Sending.{sent, send_on, send_all}
-use Rattle.run_safety.specs.node_state.HandOn.{Answering}
-use Rattle.run_safety.specs.node_state.Ticks.{ring_put, set_records, ring_taken, ring_row_of, ring_row, take_report, rings_union, report_of, send_report, rings_tick, tick_rings}
-use Rattle.run_safety.specs.node_state.Status.{status_text}
-use Rattle.run_safety.specs.node_state.Step.{take_body}
+use Rattle.rsct_packet.specs.declared.mask.Mask.{Mask}
+use Rattle.rsct_packet.specs.Mask.{nodes_of}
+use Rattle.packet_bodies.specs.declared.body.ReportRow.{ReportRow}
+use Rattle.packet_bodies.specs.declared.body.What.{What}
+use Rattle.adapter_ring.specs.declared.ring.Ring.{Ring}
+use Rattle.adapter_ring.specs.declared.ring.RingSet.{RingSet}
+use Rattle.adapter_ring.specs.declared.packet.RingSend.{RingSend}
+use Rattle.adapter_ring.specs.declared.packet.RingPacket.{RingPacket}
+use Rattle.adapter_ring.specs.declared.packet.RingEvent.TheVariants as ring_event
+use Rattle.adapter_ring.specs.declared.work.RingWork.{RingWork}
+use Rattle.adapter_ring.specs.Rings.{ring_step}
+use Rattle.node_reach.specs.declared.reach.Reach.{Reach}
+use Rattle.node_reach.specs.Reach as reach
+use Rattle.node_state.specs.declared.happened.Happened.TheVariants as happened
+use Rattle.node_state.specs.declared.packet.Body.{Body}
+use Rattle.node_state.specs.declared.packet.Body.TheVariants as body
+use Rattle.node_state.specs.declared.packet.Packet.{Packet}
+use Rattle.node_state.specs.declared.state.Core.{Core}
+use Rattle.node_state.specs.Settings.{is_rings}
+use Rattle.node_state.specs.State.{row_of, recorded, recorded_all}
+use Rattle.node_state.specs.Sending.{sent, send_on, send_all}
+use Rattle.node_state.specs.HandOn.{Answering}
+use Rattle.node_state.specs.Ticks.{ring_put, set_records, ring_taken, ring_row_of, ring_row, take_report, rings_union, report_of, send_report, rings_tick, tick_rings}
+use Rattle.node_state.specs.Status.{status_text}
+use Rattle.node_state.specs.Step.{take_body}
 use Rattle.step_refinement.specs.Ghost.{Ghost}
 use Rattle.step_refinement.specs.Tied.{ShowsBody, Scene, Tied}
 use Rattle.step_refinement.proofs.Works.{tied_sent_on, tied_sent, tied_unseen}

@@ -4,22 +4,22 @@ use Rattle.std.specs.Prelude.{nat_le, if◌then◌else◌}
 use Rattle.std.proofs.lemmas.List.{drop-drop}
 use Rattle.std.proofs.lemmas.Grind.{common_steps}
 use Rattle.std.proofs.lemmas.Bool.Decides.{nat_tests}
-use Rattle.run_safety.specs.rsct_packet.declared.ids.ViewId.{ViewId}
-use Rattle.run_safety.specs.rsct_packet.declared.ids.ProviderId.{ProviderId}
-use Rattle.run_safety.specs.rsct_packet.Providers.{among}
-use Rattle.run_safety.specs.rsct_packet.Search.{Has}
-use Rattle.run_safety.specs.proposal_core.declared.entry.Entry.{Entry}
-use Rattle.run_safety.specs.proposal_core.GroupView.{GroupView, new_list}
-use Rattle.run_safety.specs.proposal_core.Lists.{list_or_new, forgotten}
-use Rattle.run_safety.specs.view_state.Cut.{all_fit}
+use Rattle.rsct_packet.specs.declared.ids.ViewId.{ViewId}
+use Rattle.rsct_packet.specs.declared.ids.ProviderId.{ProviderId}
+use Rattle.rsct_packet.specs.Providers.{among}
+use Rattle.rsct_packet.specs.Search.{Has}
+use Rattle.proposal_core.specs.declared.entry.Entry.{Entry}
+use Rattle.proposal_core.specs.GroupView.{GroupView, new_list}
+use Rattle.proposal_core.specs.Lists.{list_or_new, forgotten}
+use Rattle.view_state.specs.Cut.{all_fit}
 use Rattle.view_bases.proofs.CutLaws.{fit_ends}
-use Rattle.run_safety.specs.node_state.declared.packet.Body.TheVariants as body
-use Rattle.run_safety.specs.node_state.declared.packet.Packet.{Packet}
-use Rattle.run_safety.specs.node_state.declared.group.GroupRow.{GroupRow}
-use Rattle.run_safety.specs.node_state.declared.state.Core.{Core}
-use Rattle.run_safety.specs.node_state.Settings.{is_fixed}
-use Rattle.run_safety.specs.node_state.State.{InNameOrder, row_of, with_row, list_of, len_of, list_forgotten, forget_below, set_leader}
-use Rattle.run_safety.specs.node_state.Sending.{sent, send_on, packet_on, network_to}
+use Rattle.node_state.specs.declared.packet.Body.TheVariants as body
+use Rattle.node_state.specs.declared.packet.Packet.{Packet}
+use Rattle.node_state.specs.declared.group.GroupRow.{GroupRow}
+use Rattle.node_state.specs.declared.state.Core.{Core}
+use Rattle.node_state.specs.Settings.{is_fixed}
+use Rattle.node_state.specs.State.{InNameOrder, row_of, with_row, list_of, len_of, list_forgotten, forget_below, set_leader}
+use Rattle.node_state.specs.Sending.{sent, send_on, packet_on, network_to}
 use Rattle.run_safety.specs.Group as group
 use Rattle.run_safety.specs.Bases.{base_state, state_of_list}
 use Rattle.run_safety.specs.Moves.{Acknowledges}
@@ -29,7 +29,7 @@ use Rattle.step_refinement.proofs.Goes.{Spares, sound_on, shows_on, node_on}
 use Rattle.step_refinement.proofs.Idle.{Holds, Calm, Lightens, calm_of, calm_lighter, idles_with, leader_lightens, forgets_lighten}
 use Rattle.step_refinement.proofs.Changed.{has_pushed}
 use Rattle.step_refinement.proofs.Works.{tied_on}
-use Rattle.run_safety.proofs.node_state_laws.NameOrder.{KeepsName, cases_text, row_here, row_there, rows_ordered}
+use Rattle.node_state.proofs.NameOrder.{KeepsName, cases_text, row_here, row_there, rows_ordered}
 use Rattle.step_refinement.proofs.Gone.{with_packet, packet_goes, packet_still, packet_spares}
 use Rattle.step_refinement.proofs.Turns.{packet_turns}
 

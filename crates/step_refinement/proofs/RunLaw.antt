@@ -1,6 +1,6 @@
 -- Each scene that events lead to is safe.
 use Rattle.std.proofs.Common.{ℕ, List, subst}
-use Rattle.run_safety.specs.node_state.declared.config.Config.{Config}
+use Rattle.node_state.specs.declared.config.Config.{Config}
 use Rattle.run_safety.specs.SafeGroups.{SafeGroups, SafeLines}
 use Rattle.run_safety.proofs.Lives.{lives_are_safe}
 use Rattle.run_safety.proofs.SightLaws.{one_entry_seen}

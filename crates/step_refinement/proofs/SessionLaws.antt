@@ -2,23 +2,23 @@
 use Rattle.std.proofs.Common.{◌≡◌, ℕ, List, [], ◌∷◌, ◌++◌, Option, Some, None, Bool, true, false, refl, sym, ap, ◌∙◌, inl, inr, ⊎_elim, arith}
 use Rattle.std.specs.Prelude.{◌==◌, ◌&&◌, not, filter, map, fold, find, if◌then◌else◌}
 use Rattle.std.proofs.lemmas.Bool.Decides.{nat_tests}
-use Rattle.run_safety.specs.rsct_packet.declared.ids.ProviderId.{ProviderId}
-use Rattle.run_safety.specs.rsct_packet.Providers.{among, same_provider}
-use Rattle.run_safety.specs.rsct_packet.Search.{Has, edit_where}
-use Rattle.run_safety.proofs.rsct_packet_laws.HasLaws.{has_filter, filter_has, has_append, find_has}
-use Rattle.run_safety.specs.proposal_core.declared.proposal.Proposal.{Proposal}
-use Rattle.run_safety.specs.proposal_core.declared.proposal.Proposal.TheVariants.{Join, Leave, Fail, Expel, State, Message, Attributes, Reflect}
-use Rattle.run_safety.specs.proposal_core.declared.entry.Entry.{Entry}
-use Rattle.run_safety.specs.proposal_core.declared.entry.Entry.TheVariants.{Once, Begin, Phase, Approve, Reject, Late}
-use Rattle.run_safety.specs.proposal_core.declared.group_state.GroupState.{GroupState}
-use Rattle.run_safety.specs.proposal_core.Fold.{joiners_in}
-use Rattle.run_safety.specs.client_callbacks.declared.ballot.Filled.{Filled}
-use Rattle.run_safety.specs.session_state.declared.casts.Cast.{Cast}
-use Rattle.run_safety.specs.session_state.declared.state.Provider.{Provider}
-use Rattle.run_safety.specs.session_state.declared.state.Request.{Request}
-use Rattle.run_safety.specs.session_state.declared.state.SessionState.{SessionState}
-use Rattle.run_safety.specs.session_state.State.{is_provider, is_request, provider_of, with_provider, end_request, without_providers}
-use Rattle.run_safety.specs.session_state.HandOn.{kept_ended, kept_after, hears, hearers_in, beginners, hearers, part_taken, opened_after, open_phases, casts_of, keep_casts, proposal_begun, requests_after, removed_from, casts_out, cast_of, heard, handed_on, taking_part, brought_by}
+use Rattle.rsct_packet.specs.declared.ids.ProviderId.{ProviderId}
+use Rattle.rsct_packet.specs.Providers.{among, same_provider}
+use Rattle.rsct_packet.specs.Search.{Has, edit_where}
+use Rattle.rsct_packet.proofs.HasLaws.{has_filter, filter_has, has_append, find_has}
+use Rattle.proposal_core.specs.declared.proposal.Proposal.{Proposal}
+use Rattle.proposal_core.specs.declared.proposal.Proposal.TheVariants.{Join, Leave, Fail, Expel, State, Message, Attributes, Reflect}
+use Rattle.proposal_core.specs.declared.entry.Entry.{Entry}
+use Rattle.proposal_core.specs.declared.entry.Entry.TheVariants.{Once, Begin, Phase, Approve, Reject, Late}
+use Rattle.proposal_core.specs.declared.group_state.GroupState.{GroupState}
+use Rattle.proposal_core.specs.Fold.{joiners_in}
+use Rattle.client_callbacks.specs.declared.ballot.Filled.{Filled}
+use Rattle.session_state.specs.declared.casts.Cast.{Cast}
+use Rattle.session_state.specs.declared.state.Provider.{Provider}
+use Rattle.session_state.specs.declared.state.Request.{Request}
+use Rattle.session_state.specs.declared.state.SessionState.{SessionState}
+use Rattle.session_state.specs.State.{is_provider, is_request, provider_of, with_provider, end_request, without_providers}
+use Rattle.session_state.specs.HandOn.{kept_ended, kept_after, hears, hearers_in, beginners, hearers, part_taken, opened_after, open_phases, casts_of, keep_casts, proposal_begun, requests_after, removed_from, casts_out, cast_of, heard, handed_on, taking_part, brought_by}
 use Rattle.run_safety.specs.Requests.{requests_of, carried}
 use Rattle.step_refinement.specs.Ghost.{Ghost}
 use Rattle.step_refinement.specs.Tied.{Owes}

@@ -5,27 +5,27 @@ use Rattle.std.specs.Prelude.{IsTrue, map, find, ◌==◌, ◌||◌, ◌&&◌}
 use Rattle.std.specs.Str.{bytes_eq}
 use Rattle.std.proofs.lemmas.Bool.{eqb-true, eq-eqb, and_parts}
 use Rattle.std.proofs.lemmas.Bool.Decides.{nat_tests}
-use Rattle.run_safety.specs.rsct_packet.declared.ids.ViewId.{ViewId}
-use Rattle.run_safety.specs.rsct_packet.declared.mask.Mask.{Mask}
-use Rattle.run_safety.specs.rsct_packet.Ids.{same_view, view_lt}
-use Rattle.run_safety.specs.rsct_packet.Mask.{is_node, no_nodes, has_node, with_node}
-use Rattle.run_safety.specs.rsct_packet.Search.{Has, place_where, edit_where, insert_before}
-use Rattle.run_safety.proofs.rsct_packet_laws.HasLaws.{has_append, append_has_left, append_has_right, has_map}
-use Rattle.run_safety.proofs.rsct_packet_laws.MaskLaws.{has_with, has_no_nodes}
-use Rattle.run_safety.specs.view_state.declared.answer.Answer.{Answer}
-use Rattle.run_safety.specs.view_state.declared.exchange.Exchange.{Exchange}
-use Rattle.run_safety.specs.view_state.declared.sides.Kept.{Kept}
-use Rattle.run_safety.specs.view_state.declared.sides.Side.{Side}
-use Rattle.run_safety.specs.view_state.declared.install.Part.{Part}
-use Rattle.run_safety.specs.view_state.declared.install.Source.{Source}
-use Rattle.run_safety.specs.view_state.Parts.{part_len}
-use Rattle.run_safety.specs.view_state.Answers.{opened, kept_of, is_beaten, better_of, is_kept_of, is_kept_above, with_kept_at, with_kept, with_parts, side_with, side_from, is_side_of, is_side_above, with_side_at, with_side, with_answer, source_of, install_of}
-use Rattle.run_safety.specs.view_state.Bases.{source_at}
-use Rattle.run_safety.specs.view_state.Codec.{views_ascend_from, views_ascend}
+use Rattle.rsct_packet.specs.declared.ids.ViewId.{ViewId}
+use Rattle.rsct_packet.specs.declared.mask.Mask.{Mask}
+use Rattle.rsct_packet.specs.Ids.{same_view, view_lt}
+use Rattle.rsct_packet.specs.Mask.{is_node, no_nodes, has_node, with_node}
+use Rattle.rsct_packet.specs.Search.{Has, place_where, edit_where, insert_before}
+use Rattle.rsct_packet.proofs.HasLaws.{has_append, append_has_left, append_has_right, has_map}
+use Rattle.rsct_packet.proofs.MaskLaws.{has_with, has_no_nodes}
+use Rattle.view_state.specs.declared.answer.Answer.{Answer}
+use Rattle.view_state.specs.declared.exchange.Exchange.{Exchange}
+use Rattle.view_state.specs.declared.sides.Kept.{Kept}
+use Rattle.view_state.specs.declared.sides.Side.{Side}
+use Rattle.view_state.specs.declared.install.Part.{Part}
+use Rattle.view_state.specs.declared.install.Source.{Source}
+use Rattle.view_state.specs.Parts.{part_len}
+use Rattle.view_state.specs.Answers.{opened, kept_of, is_beaten, better_of, is_kept_of, is_kept_above, with_kept_at, with_kept, with_parts, side_with, side_from, is_side_of, is_side_above, with_side_at, with_side, with_answer, source_of, install_of}
+use Rattle.view_state.specs.Bases.{source_at}
+use Rattle.view_state.specs.Codec.{views_ascend_from, views_ascend}
 use Rattle.view_exchange.specs.Longest.{all_counted, NamesDiffer}
-use Rattle.run_safety.proofs.view_state_laws.ViewOrder.{not_before_itself, before_trans, same_view_is}
+use Rattle.view_state.proofs.ViewOrder.{not_before_itself, before_trans, same_view_is}
 use Rattle.view_exchange.proofs.Edits.{inserted_has, has_inserted, Once, edited_has, has_edited, none_placed, some_placed}
-use Rattle.run_safety.proofs.node_state_laws.NameOrder.{text_same, text_self}
+use Rattle.node_state.proofs.NameOrder.{text_same, text_self}
 
 -- ---- names of kept lists
 

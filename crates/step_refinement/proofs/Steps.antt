@@ -2,36 +2,36 @@
 use Rattle.std.proofs.Common.{◌≡◌, ℕ, List, [], ◌∷◌, Option, Some, None, Bool, true, false, refl, sym, ap, ◌∙◌, subst, inl, inr, ⊎_elim}
 use Rattle.std.specs.Prelude.{◌==◌, not, filter, fold}
 use Rattle.std.proofs.lemmas.Bool.{eqb-true}
-use Rattle.run_safety.specs.rsct_packet.declared.ids.ViewId.{ViewId}
-use Rattle.run_safety.specs.rsct_packet.declared.ids.ProviderId.{ProviderId}
-use Rattle.run_safety.specs.rsct_packet.declared.mask.Mask.{Mask}
-use Rattle.run_safety.specs.rsct_packet.Mask.{nodes_of}
-use Rattle.run_safety.specs.rsct_packet.Search.{Has}
-use Rattle.run_safety.proofs.rsct_packet_laws.HasLaws.{has_append}
-use Rattle.run_safety.specs.group_attr.declared.attrs.Phases.{Phases}
-use Rattle.run_safety.specs.proposal_core.declared.proposal.Proposal.{Proposal}
-use Rattle.run_safety.specs.adapter_ring.declared.ring.Ring.{Ring}
-use Rattle.run_safety.specs.adapter_ring.declared.ring.RingSet.{RingSet}
-use Rattle.run_safety.specs.adapter_ring.declared.packet.RingSend.{RingSend}
-use Rattle.run_safety.specs.adapter_ring.declared.packet.RingEvent.TheVariants as ring_event
-use Rattle.run_safety.specs.adapter_ring.declared.work.RingWork.{RingWork}
-use Rattle.run_safety.specs.adapter_ring.Rings.{ring_step}
-use Rattle.run_safety.specs.node_reach.Reach as reach
-use Rattle.run_safety.specs.view_state.declared.packet.ViewPacket.{ViewPacket}
-use Rattle.run_safety.specs.view_state.declared.packet.ViewPacket.TheVariants as view
-use Rattle.run_safety.specs.node_state.declared.happened.Happened.{Happened}
-use Rattle.run_safety.specs.node_state.declared.packet.Body.{Body}
-use Rattle.run_safety.specs.node_state.declared.packet.Body.TheVariants as body
-use Rattle.run_safety.specs.node_state.declared.packet.Packet.{Packet}
-use Rattle.run_safety.specs.node_state.declared.state.Core.{Core}
-use Rattle.run_safety.specs.node_state.Settings.{is_rings}
-use Rattle.run_safety.specs.node_state.State.{row_of, leader_in, leads_in, leads, recorded_all}
-use Rattle.run_safety.specs.node_state.Sending.{send_on}
-use Rattle.run_safety.specs.node_state.HandOn.{Answering}
-use Rattle.run_safety.specs.node_state.Ticks.{set_records, ring_put, ring_taken, rings_union, report_of, send_report, rings_tick, tick_rings, tick_views, tick_owed, tick_row}
-use Rattle.run_safety.specs.node_state.Ending.{end_step}
-use Rattle.run_safety.specs.node_state.Step.{NodeEvent, Ticks, Asks, Given, Calls, Garbage, take_body, packet_row, event_row, stepped, at_work}
-use Rattle.run_safety.specs.world_model.declared.event.Event.{Event}
+use Rattle.rsct_packet.specs.declared.ids.ViewId.{ViewId}
+use Rattle.rsct_packet.specs.declared.ids.ProviderId.{ProviderId}
+use Rattle.rsct_packet.specs.declared.mask.Mask.{Mask}
+use Rattle.rsct_packet.specs.Mask.{nodes_of}
+use Rattle.rsct_packet.specs.Search.{Has}
+use Rattle.rsct_packet.proofs.HasLaws.{has_append}
+use Rattle.group_attr.specs.declared.attrs.Phases.{Phases}
+use Rattle.proposal_core.specs.declared.proposal.Proposal.{Proposal}
+use Rattle.adapter_ring.specs.declared.ring.Ring.{Ring}
+use Rattle.adapter_ring.specs.declared.ring.RingSet.{RingSet}
+use Rattle.adapter_ring.specs.declared.packet.RingSend.{RingSend}
+use Rattle.adapter_ring.specs.declared.packet.RingEvent.TheVariants as ring_event
+use Rattle.adapter_ring.specs.declared.work.RingWork.{RingWork}
+use Rattle.adapter_ring.specs.Rings.{ring_step}
+use Rattle.node_reach.specs.Reach as reach
+use Rattle.view_state.specs.declared.packet.ViewPacket.{ViewPacket}
+use Rattle.view_state.specs.declared.packet.ViewPacket.TheVariants as view
+use Rattle.node_state.specs.declared.happened.Happened.{Happened}
+use Rattle.node_state.specs.declared.packet.Body.{Body}
+use Rattle.node_state.specs.declared.packet.Body.TheVariants as body
+use Rattle.node_state.specs.declared.packet.Packet.{Packet}
+use Rattle.node_state.specs.declared.state.Core.{Core}
+use Rattle.node_state.specs.Settings.{is_rings}
+use Rattle.node_state.specs.State.{row_of, leader_in, leads_in, leads, recorded_all}
+use Rattle.node_state.specs.Sending.{send_on}
+use Rattle.node_state.specs.HandOn.{Answering}
+use Rattle.node_state.specs.Ticks.{set_records, ring_put, ring_taken, rings_union, report_of, send_report, rings_tick, tick_rings, tick_views, tick_owed, tick_row}
+use Rattle.node_state.specs.Ending.{end_step}
+use Rattle.node_state.specs.Step.{NodeEvent, Ticks, Asks, Given, Calls, Garbage, take_body, packet_row, event_row, stepped, at_work}
+use Rattle.world_model.specs.declared.event.Event.{Event}
 use Rattle.run_safety.specs.Sight.{lines_of}
 use Rattle.run_safety.specs.Group.{kept}
 use Rattle.run_safety.specs.Moves.{Quiet}

@@ -2,27 +2,27 @@
 use Rattle.std.proofs.Common.{◌≡◌, ◌≢◌, ◌<◌, ◌⊎◌, ℕ, List, [], ◌∷◌, ◌++◌, Option, Some, None, Bool, true, false, refl, sym, ap, ◌∙◌, subst, inl, inr, arith}
 use Rattle.std.specs.Prelude.{◌==◌, ◌&&◌, ◌||◌, not, reverse, filter, find, is_some, is_none, if◌then◌else◌}
 use Rattle.std.proofs.lemmas.Bool.{eqb-true}
-use Rattle.run_safety.specs.rsct_packet.declared.ids.ViewId.{ViewId}
-use Rattle.run_safety.specs.rsct_packet.declared.ids.ProviderId.{ProviderId}
-use Rattle.run_safety.specs.rsct_packet.Providers.{same_provider, among}
-use Rattle.run_safety.specs.rsct_packet.Search.{Has}
-use Rattle.run_safety.proofs.rsct_packet_laws.HasLaws.{has_filter, find_has, find_none, append_has_right}
-use Rattle.run_safety.specs.proposal_core.declared.proposal.Proposal.{Proposal}
-use Rattle.run_safety.specs.client_callbacks.declared.told.Why.{Why}
-use Rattle.run_safety.specs.session_state.declared.state.Provider.{Provider}
-use Rattle.run_safety.specs.session_state.declared.state.Request.{Request}
-use Rattle.run_safety.specs.session_state.declared.state.SessionState.{SessionState}
-use Rattle.run_safety.specs.session_state.State.{is_provider, is_asked_by, provider_of, outstanding, without_providers}
-use Rattle.run_safety.specs.session_state.HandOn.{is_numbered, is_dissolved, takes_telling, is_join_request, told_of, take_telling}
-use Rattle.run_safety.specs.node_state.declared.happened.Happened.TheVariants as happened
-use Rattle.run_safety.specs.node_state.declared.packet.Body.TheVariants as body
-use Rattle.run_safety.specs.node_state.declared.packet.Packet.{Packet}
-use Rattle.run_safety.specs.node_state.declared.state.Core.{Core}
-use Rattle.run_safety.specs.node_state.Settings.{is_fixed}
-use Rattle.run_safety.specs.node_state.State.{row_of, recorded, with_sessions}
-use Rattle.run_safety.specs.node_state.HandOn.{Answering}
-use Rattle.run_safety.specs.node_state.Following.{told_if, take_tell}
-use Rattle.run_safety.specs.node_state.Step.{is_used, used_if, take_body}
+use Rattle.rsct_packet.specs.declared.ids.ViewId.{ViewId}
+use Rattle.rsct_packet.specs.declared.ids.ProviderId.{ProviderId}
+use Rattle.rsct_packet.specs.Providers.{same_provider, among}
+use Rattle.rsct_packet.specs.Search.{Has}
+use Rattle.rsct_packet.proofs.HasLaws.{has_filter, find_has, find_none, append_has_right}
+use Rattle.proposal_core.specs.declared.proposal.Proposal.{Proposal}
+use Rattle.client_callbacks.specs.declared.told.Why.{Why}
+use Rattle.session_state.specs.declared.state.Provider.{Provider}
+use Rattle.session_state.specs.declared.state.Request.{Request}
+use Rattle.session_state.specs.declared.state.SessionState.{SessionState}
+use Rattle.session_state.specs.State.{is_provider, is_asked_by, provider_of, outstanding, without_providers}
+use Rattle.session_state.specs.HandOn.{is_numbered, is_dissolved, takes_telling, is_join_request, told_of, take_telling}
+use Rattle.node_state.specs.declared.happened.Happened.TheVariants as happened
+use Rattle.node_state.specs.declared.packet.Body.TheVariants as body
+use Rattle.node_state.specs.declared.packet.Packet.{Packet}
+use Rattle.node_state.specs.declared.state.Core.{Core}
+use Rattle.node_state.specs.Settings.{is_fixed}
+use Rattle.node_state.specs.State.{row_of, recorded, with_sessions}
+use Rattle.node_state.specs.HandOn.{Answering}
+use Rattle.node_state.specs.Following.{told_if, take_tell}
+use Rattle.node_state.specs.Step.{is_used, used_if, take_body}
 use Rattle.run_safety.specs.Past.{earlier, view_now, records_of}
 use Rattle.run_safety.specs.Sight.{told_in, lines_of}
 use Rattle.run_safety.specs.Group.{Noted, Asked, Told}
@@ -34,7 +34,7 @@ use Rattle.step_refinement.specs.Ghost.{asking, Ghost, Goes}
 use Rattle.step_refinement.specs.Tied.{Numbered, ShowsBody, Owed, NodeOf, Scene, opening_of, lines_now, Tied, InTurn}
 use Rattle.step_refinement.proofs.Goes.{Spares, Still, still_spares, sound_on, decides_by, node_by, shows_on, node_if_on}
 use Rattle.step_refinement.proofs.Works.{lines_pushed, placed_pushed}
-use Rattle.run_safety.proofs.node_state_laws.NameOrder.{cases_text}
+use Rattle.node_state.proofs.NameOrder.{cases_text}
 use Rattle.step_refinement.proofs.Acks.{used_is}
 use Rattle.step_refinement.proofs.SessionLaws.{Later, later_without, owes_later, provider_self, provider_same}
 use Rattle.step_refinement.proofs.Turns.{turns_pushed, turns_sessions, told_turn}

@@ -3,26 +3,26 @@ use Rattle.std.proofs.Common.{◌≡◌, ◌<◌, ℕ, List, ◌++◌, length, O
 use Rattle.std.specs.Prelude.{◌==◌, ◌&&◌, not, nat_le, max}
 use Rattle.std.proofs.lemmas.Bool.Decides.{nat_tests}
 use Rattle.std.proofs.lemmas.Bool.{and_parts}
-use Rattle.run_safety.specs.rsct_packet.declared.ids.ViewId.{ViewId}
-use Rattle.run_safety.specs.rsct_packet.declared.mask.Mask.{Mask}
-use Rattle.run_safety.specs.rsct_packet.Ids.{same_view, view_lt}
-use Rattle.run_safety.specs.rsct_packet.Mask.{has_node, with_node}
-use Rattle.run_safety.specs.rsct_packet.Search.{Has}
-use Rattle.run_safety.proofs.rsct_packet_laws.HasLaws.{append_has_right}
-use Rattle.run_safety.specs.view_state.declared.exchange.Exchange.{Exchange}
-use Rattle.run_safety.specs.view_state.Answers.{max_parts}
-use Rattle.run_safety.specs.view_state.declared.packet.ViewPacket.TheVariants as view
-use Rattle.run_safety.specs.view_state.declared.views.Views.{Views}
-use Rattle.run_safety.specs.view_state.Views.{view_sent, promised, answered, prepare, prepare_row, refused_by, refuse_to, refuse_row, taken_row, views_at_work}
-use Rattle.run_safety.specs.node_state.declared.packet.Body.TheVariants as body
-use Rattle.run_safety.specs.node_state.declared.packet.Packet.{Packet}
-use Rattle.run_safety.specs.node_state.declared.state.Core.{Core}
-use Rattle.run_safety.specs.node_state.Settings.{is_fixed}
-use Rattle.run_safety.specs.node_state.State.{row_of, held_rows}
-use Rattle.run_safety.specs.node_state.Sending.{sent, send_on, packet_on, network_to}
-use Rattle.run_safety.specs.node_state.HandOn.{Answering}
-use Rattle.run_safety.specs.node_state.Applying.{own_parts, apply_install, views_taken}
-use Rattle.run_safety.specs.node_state.Step.{view_row, take_body}
+use Rattle.rsct_packet.specs.declared.ids.ViewId.{ViewId}
+use Rattle.rsct_packet.specs.declared.mask.Mask.{Mask}
+use Rattle.rsct_packet.specs.Ids.{same_view, view_lt}
+use Rattle.rsct_packet.specs.Mask.{has_node, with_node}
+use Rattle.rsct_packet.specs.Search.{Has}
+use Rattle.rsct_packet.proofs.HasLaws.{append_has_right}
+use Rattle.view_state.specs.declared.exchange.Exchange.{Exchange}
+use Rattle.view_state.specs.Answers.{max_parts}
+use Rattle.view_state.specs.declared.packet.ViewPacket.TheVariants as view
+use Rattle.view_state.specs.declared.views.Views.{Views}
+use Rattle.view_state.specs.Views.{view_sent, promised, answered, prepare, prepare_row, refused_by, refuse_to, refuse_row, taken_row, views_at_work}
+use Rattle.node_state.specs.declared.packet.Body.TheVariants as body
+use Rattle.node_state.specs.declared.packet.Packet.{Packet}
+use Rattle.node_state.specs.declared.state.Core.{Core}
+use Rattle.node_state.specs.Settings.{is_fixed}
+use Rattle.node_state.specs.State.{row_of, held_rows}
+use Rattle.node_state.specs.Sending.{sent, send_on, packet_on, network_to}
+use Rattle.node_state.specs.HandOn.{Answering}
+use Rattle.node_state.specs.Applying.{own_parts, apply_install, views_taken}
+use Rattle.node_state.specs.Step.{view_row, take_body}
 use Rattle.run_safety.specs.ViewOrder.{is_before, Lt, Le}
 use Rattle.run_safety.specs.Group.{Standing, Reply}
 use Rattle.run_safety.specs.Group as group

@@ -1,26 +1,26 @@
 -- The tick of views: asking or PREPARE again, and INSTALL again.
 use Rattle.std.proofs.Common.{◌≡◌, ℕ, List, [], ◌∷◌, ◌++◌, Option, Some, None, Bool, true, false, refl, sym, ap, ◌∙◌, subst}
 use Rattle.std.specs.Prelude.{◌&&◌, not, map, filter, fold, drop}
-use Rattle.run_safety.specs.rsct_packet.Mask.{has_node, nodes_of}
-use Rattle.run_safety.specs.view_state.declared.exchange.Exchange.{Exchange}
-use Rattle.run_safety.specs.view_state.declared.install.Install.{Install}
-use Rattle.run_safety.specs.view_state.Answers.{opened, has_answered, with_answer, all_answered}
-use Rattle.run_safety.specs.view_state.declared.packet.ViewPacket.TheVariants as view
-use Rattle.run_safety.specs.view_state.declared.packet.ViewSend.{ViewSend}
-use Rattle.run_safety.specs.view_state.declared.views.Views.{Views}
-use Rattle.run_safety.specs.view_state.declared.views.RingAsk.{RingAsk}
-use Rattle.run_safety.specs.view_state.Views.{is_frozen, is_coordinator, others_of, view_sent_all, gathering_set, own_answer, next_view, aged, prepare_again, tick_asks, note_stuck, asks_or_ages, gathering_ticks, install_again_of, install_again, is_stuck, views_at_work}
-use Rattle.run_safety.specs.node_state.declared.packet.Body.TheVariants as body
-use Rattle.run_safety.specs.node_state.declared.state.Core.{Core}
-use Rattle.run_safety.specs.node_state.declared.config.Mode.{Mode}
-use Rattle.run_safety.specs.node_state.declared.config.Mode.TheVariants.{Fixed, Asked, Rings}
-use Rattle.run_safety.specs.node_reach.Reach as reach
-use Rattle.run_safety.specs.node_state.Settings.{is_fixed, is_rings}
-use Rattle.run_safety.specs.node_state.State.{row_of, held_rows}
-use Rattle.run_safety.specs.node_state.Sending.{sent}
-use Rattle.run_safety.specs.node_state.HandOn.{Answering}
-use Rattle.run_safety.specs.node_state.Applying.{own_parts, apply_install, views_taken}
-use Rattle.run_safety.specs.node_state.Ticks.{ring_ask_for, ring_ask, tick_views}
+use Rattle.rsct_packet.specs.Mask.{has_node, nodes_of}
+use Rattle.view_state.specs.declared.exchange.Exchange.{Exchange}
+use Rattle.view_state.specs.declared.install.Install.{Install}
+use Rattle.view_state.specs.Answers.{opened, has_answered, with_answer, all_answered}
+use Rattle.view_state.specs.declared.packet.ViewPacket.TheVariants as view
+use Rattle.view_state.specs.declared.packet.ViewSend.{ViewSend}
+use Rattle.view_state.specs.declared.views.Views.{Views}
+use Rattle.view_state.specs.declared.views.RingAsk.{RingAsk}
+use Rattle.view_state.specs.Views.{is_frozen, is_coordinator, others_of, view_sent_all, gathering_set, own_answer, next_view, aged, prepare_again, tick_asks, note_stuck, asks_or_ages, gathering_ticks, install_again_of, install_again, is_stuck, views_at_work}
+use Rattle.node_state.specs.declared.packet.Body.TheVariants as body
+use Rattle.node_state.specs.declared.state.Core.{Core}
+use Rattle.node_state.specs.declared.config.Mode.{Mode}
+use Rattle.node_state.specs.declared.config.Mode.TheVariants.{Fixed, Asked, Rings}
+use Rattle.node_reach.specs.Reach as reach
+use Rattle.node_state.specs.Settings.{is_fixed, is_rings}
+use Rattle.node_state.specs.State.{row_of, held_rows}
+use Rattle.node_state.specs.Sending.{sent}
+use Rattle.node_state.specs.HandOn.{Answering}
+use Rattle.node_state.specs.Applying.{own_parts, apply_install, views_taken}
+use Rattle.node_state.specs.Ticks.{ring_ask_for, ring_ask, tick_views}
 use Rattle.step_refinement.specs.Ghost.{Installs, InstallsIf, GathersIf}
 use Rattle.step_refinement.specs.Tied.{Scene, Tied}
 use Rattle.step_refinement.proofs.Goes.{spares_same, rest_on}

@@ -2,24 +2,24 @@
 use Rattle.std.proofs.Common.{◌≡◌, ◌≤◌, ℕ, List, [], ◌∷◌, length, Option, Some, None, Bool, true, false, refl, sym, ap, ◌∙◌, subst, arith}
 use Rattle.std.specs.Prelude.{◌&&◌, ◌||◌, not, if◌then◌else◌}
 use Rattle.std.proofs.lemmas.Bool.{and_parts}
-use Rattle.run_safety.specs.rsct_packet.declared.ids.ViewId.{ViewId}
-use Rattle.run_safety.specs.rsct_packet.declared.ids.ProtoId.{ProtoId}
-use Rattle.run_safety.specs.rsct_packet.declared.ids.ProviderId.{ProviderId}
-use Rattle.run_safety.specs.rsct_packet.Providers.{same_provider, among, differ, without}
-use Rattle.run_safety.specs.proposal_core.declared.proposal.Cause.TheVariants.{Gone}
-use Rattle.run_safety.specs.proposal_core.declared.entry.Vote.{Vote}
-use Rattle.run_safety.specs.proposal_core.Fold.{runs, present}
-use Rattle.run_safety.specs.vote_phases.Tally.{TallyView, tally_fail}
-use Rattle.run_safety.specs.batch_rules.Waiting.{add_failure, drop_join}
-use Rattle.run_safety.specs.node_state.declared.group.Led.{Led}
-use Rattle.run_safety.specs.node_state.declared.packet.Body.TheVariants as body
-use Rattle.run_safety.specs.node_state.declared.packet.Packet.{Packet}
-use Rattle.run_safety.specs.node_state.declared.state.Core.{Core}
-use Rattle.run_safety.specs.node_state.State.{row_of, with_led, led_of, state_of, leads, decision_of}
-use Rattle.run_safety.specs.node_state.HandOn.{Answering}
-use Rattle.run_safety.specs.node_state.Leading.{with_waiting, with_tally, closes}
-use Rattle.run_safety.specs.node_state.Following.{vote_cast, take_vote, tally_failed, wait_gone, marked, gone_present, gone_of, take_gone}
-use Rattle.run_safety.specs.node_state.Step.{is_used, used_if, take_body}
+use Rattle.rsct_packet.specs.declared.ids.ViewId.{ViewId}
+use Rattle.rsct_packet.specs.declared.ids.ProtoId.{ProtoId}
+use Rattle.rsct_packet.specs.declared.ids.ProviderId.{ProviderId}
+use Rattle.rsct_packet.specs.Providers.{same_provider, among, differ, without}
+use Rattle.proposal_core.specs.declared.proposal.Cause.TheVariants.{Gone}
+use Rattle.proposal_core.specs.declared.entry.Vote.{Vote}
+use Rattle.proposal_core.specs.Fold.{runs, present}
+use Rattle.vote_phases.specs.Tally.{TallyView, tally_fail}
+use Rattle.batch_rules.specs.Waiting.{add_failure, drop_join}
+use Rattle.node_state.specs.declared.group.Led.{Led}
+use Rattle.node_state.specs.declared.packet.Body.TheVariants as body
+use Rattle.node_state.specs.declared.packet.Packet.{Packet}
+use Rattle.node_state.specs.declared.state.Core.{Core}
+use Rattle.node_state.specs.State.{row_of, with_led, led_of, state_of, leads, decision_of}
+use Rattle.node_state.specs.HandOn.{Answering}
+use Rattle.node_state.specs.Leading.{with_waiting, with_tally, closes}
+use Rattle.node_state.specs.Following.{vote_cast, take_vote, tally_failed, wait_gone, marked, gone_present, gone_of, take_gone}
+use Rattle.node_state.specs.Step.{is_used, used_if, take_body}
 use Rattle.step_refinement.specs.Tied.{RowIs, LeaderKeeps, Scene, Tied}
 use Rattle.step_refinement.proofs.Idle.{led_lightens}
 use Rattle.step_refinement.proofs.RowWorks.{waits_of, tied_row}

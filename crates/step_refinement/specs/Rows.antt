@@ -1,44 +1,44 @@
 -- What is tied: the step begins and ends, a node starts and stops, and rows of the step.
 use Rattle.std.specs.Prelude.{ℕ, ◌+◌, ◌≡◌, ◌≢◌, ◌==◌, true, false, ◌∷◌, ◌++◌, [], List, reverse, fold, Option, Some, None, if◌then◌else◌}
-use Rattle.run_safety.specs.rsct_packet.declared.ids.ViewId.{ViewId}
-use Rattle.run_safety.specs.rsct_packet.declared.ids.ProtoId.{ProtoId}
-use Rattle.run_safety.specs.rsct_packet.declared.ids.ProviderId.{ProviderId}
-use Rattle.run_safety.specs.rsct_packet.declared.mask.Mask.{Mask}
-use Rattle.run_safety.specs.rsct_packet.Mask.{nodes_of}
-use Rattle.run_safety.specs.rsct_packet.Search.{Has}
-use Rattle.run_safety.specs.packet_bodies.declared.body.ReportRow.{ReportRow}
-use Rattle.run_safety.specs.packet_bodies.declared.body.What.{What}
-use Rattle.run_safety.specs.adapter_ring.declared.packet.RingPacket.{RingPacket}
-use Rattle.run_safety.specs.group_attr.declared.attrs.Phases.{Phases}
-use Rattle.run_safety.specs.proposal_core.declared.proposal.Proposal.{Proposal}
-use Rattle.run_safety.specs.proposal_core.declared.entry.Entry.{Entry}
-use Rattle.run_safety.specs.proposal_core.declared.entry.Vote.{Vote}
-use Rattle.run_safety.specs.view_state.declared.packet.ViewPacket.{ViewPacket}
-use Rattle.run_safety.specs.view_state.declared.packet.ViewPacket.TheVariants as view
-use Rattle.run_safety.specs.client_callbacks.declared.told.Why.{Why}
-use Rattle.run_safety.specs.node_state.Ending.{end_step}
-use Rattle.run_safety.specs.node_state.declared.call.CallLine.{CallLine}
-use Rattle.run_safety.specs.node_state.Calls.{take_call}
-use Rattle.run_safety.specs.node_state.declared.config.Config.{Config}
-use Rattle.run_safety.specs.node_state.declared.happened.Happened.{Happened}
-use Rattle.run_safety.specs.node_state.declared.happened.Happened.TheVariants as happened
-use Rattle.run_safety.specs.node_state.declared.packet.Body.TheVariants as body
-use Rattle.run_safety.specs.node_state.declared.packet.Body.{Body}
-use Rattle.run_safety.specs.node_state.declared.packet.Packet.{Packet}
-use Rattle.run_safety.specs.node_state.declared.state.Core.{Core}
-use Rattle.run_safety.specs.node_state.Settings.{is_fixed}
-use Rattle.run_safety.specs.node_state.HandOn.{Answering}
-use Rattle.run_safety.specs.view_state.declared.install.Part.{Part}
-use Rattle.run_safety.specs.view_state.declared.install.Install.{Install}
-use Rattle.run_safety.specs.view_state.declared.exchange.Exchange.{Exchange}
-use Rattle.run_safety.specs.view_state.Answers.{opened, with_answer, all_answered}
-use Rattle.run_safety.specs.view_state.declared.views.RingAsk.{RingAsk}
-use Rattle.run_safety.specs.view_state.Views.{own_answer, next_view}
-use Rattle.run_safety.specs.node_state.Applying.{own_parts}
-use Rattle.run_safety.specs.node_state.Ticks.{ring_ask, tick_rings, tick_views, tick_owed, tick_led}
-use Rattle.run_safety.specs.node_state.Step.{NodeEvent, Ticks, Asks, Given, Calls, Garbage, take_order, at_work, started, view_row, take_body, packet_row, stepped}
-use Rattle.run_safety.specs.world_model.declared.event.Event.{Event}
-use Rattle.run_safety.specs.world_model.Run.{Happening}
+use Rattle.rsct_packet.specs.declared.ids.ViewId.{ViewId}
+use Rattle.rsct_packet.specs.declared.ids.ProtoId.{ProtoId}
+use Rattle.rsct_packet.specs.declared.ids.ProviderId.{ProviderId}
+use Rattle.rsct_packet.specs.declared.mask.Mask.{Mask}
+use Rattle.rsct_packet.specs.Mask.{nodes_of}
+use Rattle.rsct_packet.specs.Search.{Has}
+use Rattle.packet_bodies.specs.declared.body.ReportRow.{ReportRow}
+use Rattle.packet_bodies.specs.declared.body.What.{What}
+use Rattle.adapter_ring.specs.declared.packet.RingPacket.{RingPacket}
+use Rattle.group_attr.specs.declared.attrs.Phases.{Phases}
+use Rattle.proposal_core.specs.declared.proposal.Proposal.{Proposal}
+use Rattle.proposal_core.specs.declared.entry.Entry.{Entry}
+use Rattle.proposal_core.specs.declared.entry.Vote.{Vote}
+use Rattle.view_state.specs.declared.packet.ViewPacket.{ViewPacket}
+use Rattle.view_state.specs.declared.packet.ViewPacket.TheVariants as view
+use Rattle.client_callbacks.specs.declared.told.Why.{Why}
+use Rattle.node_state.specs.Ending.{end_step}
+use Rattle.node_state.specs.declared.call.CallLine.{CallLine}
+use Rattle.node_state.specs.Calls.{take_call}
+use Rattle.node_state.specs.declared.config.Config.{Config}
+use Rattle.node_state.specs.declared.happened.Happened.{Happened}
+use Rattle.node_state.specs.declared.happened.Happened.TheVariants as happened
+use Rattle.node_state.specs.declared.packet.Body.TheVariants as body
+use Rattle.node_state.specs.declared.packet.Body.{Body}
+use Rattle.node_state.specs.declared.packet.Packet.{Packet}
+use Rattle.node_state.specs.declared.state.Core.{Core}
+use Rattle.node_state.specs.Settings.{is_fixed}
+use Rattle.node_state.specs.HandOn.{Answering}
+use Rattle.view_state.specs.declared.install.Part.{Part}
+use Rattle.view_state.specs.declared.install.Install.{Install}
+use Rattle.view_state.specs.declared.exchange.Exchange.{Exchange}
+use Rattle.view_state.specs.Answers.{opened, with_answer, all_answered}
+use Rattle.view_state.specs.declared.views.RingAsk.{RingAsk}
+use Rattle.view_state.specs.Views.{own_answer, next_view}
+use Rattle.node_state.specs.Applying.{own_parts}
+use Rattle.node_state.specs.Ticks.{ring_ask, tick_rings, tick_views, tick_owed, tick_led}
+use Rattle.node_state.specs.Step.{NodeEvent, Ticks, Asks, Given, Calls, Garbage, take_order, at_work, started, view_row, take_body, packet_row, stepped}
+use Rattle.world_model.specs.declared.event.Event.{Event}
+use Rattle.world_model.specs.Run.{Happening}
 use Rattle.run_safety.specs.Past.{History}
 use Rattle.run_safety.specs.Group.{kept}
 use Rattle.run_safety.specs.Moves.{Quiet}

@@ -1,41 +1,41 @@
 -- The tie: a node in the middle of a step, and the world around it, stand for the life of a group.
 use Rattle.std.specs.Prelude.{ℕ, ◌≤◌, ◌<◌, ◌≡◌, ◌≢◌, ◌⊎◌, Bool, true, false, not, List, [], ◌++◌, length, filter, find, reverse, Option, Some, None, is_some, slice_get}
-use Rattle.run_safety.specs.rsct_packet.declared.ids.ViewId.{ViewId}
-use Rattle.run_safety.specs.rsct_packet.declared.ids.ProviderId.{ProviderId}
-use Rattle.run_safety.specs.rsct_packet.declared.ids.Member.{Member}
-use Rattle.run_safety.specs.rsct_packet.Providers.{among, differ}
+use Rattle.rsct_packet.specs.declared.ids.ViewId.{ViewId}
+use Rattle.rsct_packet.specs.declared.ids.ProviderId.{ProviderId}
+use Rattle.rsct_packet.specs.declared.ids.Member.{Member}
+use Rattle.rsct_packet.specs.Providers.{among, differ}
 use Rattle.std.specs.Str.{bytes_eq}
-use Rattle.run_safety.specs.rsct_packet.Search.{Has}
-use Rattle.run_safety.specs.proposal_core.declared.entry.Entry.{Entry}
-use Rattle.run_safety.specs.proposal_core.declared.proposal.Proposal.{Proposal}
-use Rattle.run_safety.specs.proposal_core.Lists.{list_or_new}
-use Rattle.run_safety.specs.name_server.declared.names.Leader.{Leader}
-use Rattle.run_safety.specs.name_server.Names.{node_of, max_names}
-use Rattle.run_safety.specs.client_callbacks.declared.told.Why.{Why}
-use Rattle.run_safety.specs.session_state.declared.state.Provider.{Provider}
-use Rattle.run_safety.specs.session_state.declared.state.Request.{Request}
-use Rattle.run_safety.specs.session_state.declared.state.SessionState.{SessionState}
-use Rattle.run_safety.specs.session_state.HandOn.{is_join}
+use Rattle.rsct_packet.specs.Search.{Has}
+use Rattle.proposal_core.specs.declared.entry.Entry.{Entry}
+use Rattle.proposal_core.specs.declared.proposal.Proposal.{Proposal}
+use Rattle.proposal_core.specs.Lists.{list_or_new}
+use Rattle.name_server.specs.declared.names.Leader.{Leader}
+use Rattle.name_server.specs.Names.{node_of, max_names}
+use Rattle.client_callbacks.specs.declared.told.Why.{Why}
+use Rattle.session_state.specs.declared.state.Provider.{Provider}
+use Rattle.session_state.specs.declared.state.Request.{Request}
+use Rattle.session_state.specs.declared.state.SessionState.{SessionState}
+use Rattle.session_state.specs.HandOn.{is_join}
 use Rattle.view_exchange.specs.Longest.{NamesDiffer}
-use Rattle.run_safety.specs.view_state.declared.packet.ViewPacket.{ViewPacket}
-use Rattle.run_safety.specs.view_state.declared.packet.ViewPacket.TheVariants as view
-use Rattle.run_safety.specs.view_state.declared.views.Views.{Views}
-use Rattle.run_safety.specs.node_state.declared.config.Mode.{Mode}
-use Rattle.run_safety.specs.node_state.declared.config.Config.{Config}
-use Rattle.run_safety.specs.node_state.declared.config.Mode.TheVariants.{Fixed, Asked, Rings}
-use Rattle.run_safety.specs.node_state.declared.group.Decision.{Decision}
-use Rattle.run_safety.specs.node_state.declared.group.GroupRow.{GroupRow}
-use Rattle.run_safety.specs.node_state.declared.group.Led.{Led}
-use Rattle.run_safety.specs.node_state.declared.packet.Body.{Body}
-use Rattle.run_safety.specs.node_state.declared.packet.Body.TheVariants as body
-use Rattle.run_safety.specs.node_state.declared.packet.Packet.{Packet}
-use Rattle.run_safety.specs.node_state.declared.state.Core.{Core}
-use Rattle.run_safety.specs.node_state.Settings.{is_fixed}
-use Rattle.run_safety.specs.node_state.State.{InNameOrder, row_found, row_of, acked_from, decision_of, leads}
-use Rattle.run_safety.specs.node_state.Following.{max_groups}
-use Rattle.run_safety.specs.node_state.Step.{first_view, first_members}
-use Rattle.run_safety.specs.node_state.declared.happened.Happened.{Happened}
-use Rattle.run_safety.specs.node_state.declared.happened.Happened.TheVariants as happened
+use Rattle.view_state.specs.declared.packet.ViewPacket.{ViewPacket}
+use Rattle.view_state.specs.declared.packet.ViewPacket.TheVariants as view
+use Rattle.view_state.specs.declared.views.Views.{Views}
+use Rattle.node_state.specs.declared.config.Mode.{Mode}
+use Rattle.node_state.specs.declared.config.Config.{Config}
+use Rattle.node_state.specs.declared.config.Mode.TheVariants.{Fixed, Asked, Rings}
+use Rattle.node_state.specs.declared.group.Decision.{Decision}
+use Rattle.node_state.specs.declared.group.GroupRow.{GroupRow}
+use Rattle.node_state.specs.declared.group.Led.{Led}
+use Rattle.node_state.specs.declared.packet.Body.{Body}
+use Rattle.node_state.specs.declared.packet.Body.TheVariants as body
+use Rattle.node_state.specs.declared.packet.Packet.{Packet}
+use Rattle.node_state.specs.declared.state.Core.{Core}
+use Rattle.node_state.specs.Settings.{is_fixed}
+use Rattle.node_state.specs.State.{InNameOrder, row_found, row_of, acked_from, decision_of, leads}
+use Rattle.node_state.specs.Following.{max_groups}
+use Rattle.node_state.specs.Step.{first_view, first_members}
+use Rattle.node_state.specs.declared.happened.Happened.{Happened}
+use Rattle.node_state.specs.declared.happened.Happened.TheVariants as happened
 use Rattle.run_safety.specs.Past.{History, records_of, earlier, view_now}
 use Rattle.run_safety.specs.ViewOrder.{Lt, Le}
 use Rattle.run_safety.specs.Sight.{lines_with, lines_of}

@@ -3,8 +3,8 @@ use Rattle.std.specs.Prelude.{ℕ, Bool, not, ◌==◌, ◌&&◌, ◌+◌, ◌++
 use Rattle.std.specs.List.{list_any}
 use Rattle.std.specs.Str.{bytes_eq}
 use Rattle.std.specs.Cmp.Lexicographic.{pointwise}
-use Rattle.proposal_core.specs.rsct_packet.Providers.{same_provider}
-use Rattle.proposal_core.specs.group_attr.Attrs.{host_membership}
+use Rattle.rsct_packet.specs.Providers.{same_provider}
+use Rattle.group_attr.specs.Attrs.{host_membership}
 use Rattle.proposal_core.specs.declared.group_state.GroupState.{GroupState}
 use Rattle.subscribe_core.specs.declared.subs.ClientToken.{ClientToken}
 use Rattle.subscribe_core.specs.declared.subs.SubToken.{SubToken}

@@ -4,9 +4,9 @@ ghost use Rattle.std.specs.List.{list_any};
 ghost use Rattle.subscribe_core.specs.Subs.{no_subs, has_token, is_of_client, is_of as is_of_both, is_live, is_subscribed as is_subscribed_in, next_token, subs_add, subs_remove, subs_remove_client, is_unknown, tokens_of, tokens_among, differs, notes_of, rise};
 ghost use Rattle.subscribe_core.specs.declared.subs.SubFault.TheVariants as fault;
 
+use group_attr::HOST_MEMBERSHIP;
 use proposal_core::GroupState;
-use proposal_core::group_attr::HOST_MEMBERSHIP;
-use proposal_core::rsct_packet::{List, NoMemory};
+use rsct_packet::{List, NoMemory};
 use std::alloc::Global;
 use std::marker::Model;
 

@@ -3,12 +3,12 @@ use Rattle.std.proofs.Common.{◌≡◌, ℕ, ◌||◌, Bool, true, false, List,
 use Rattle.std.specs.List.{list_any}
 use Rattle.std.specs.Str.{bytes_eq}
 use Rattle.std.proofs.lemmas.Slice.Eq.{bytes_eq-Decides}
-use Rattle.node_text.specs.rsct_packet.Lists.{is_empty}
-use Rattle.node_text.specs.node_state.declared.happened.Happened.{Happened}
-use Rattle.node_text.specs.node_state.declared.happened.Happened.TheVariants as happened
-use Rattle.script_words.specs.world_model.Text.{line_of}
-use Rattle.script_words.specs.world_model.Words.{◌>>=◌, chosen, split_on}
-use Rattle.script_words.specs.world_model.Play.{kind_of, is_shown, lines_text, kinds_in}
+use Rattle.rsct_packet.specs.Lists.{is_empty}
+use Rattle.node_state.specs.declared.happened.Happened.{Happened}
+use Rattle.node_state.specs.declared.happened.Happened.TheVariants as happened
+use Rattle.world_model.specs.Text.{line_of}
+use Rattle.world_model.specs.Words.{◌>>=◌, chosen, split_on}
+use Rattle.world_model.specs.Play.{kind_of, is_shown, lines_text, kinds_in}
 use Rattle.script_words.proofs.SplitLaws.{some_piece}
 use Rattle.transcript.specs.declared.kinds.Kinds.{Kinds}
 use Rattle.transcript.specs.declared.kinds.Kind.{Kind}

@@ -1,9 +1,9 @@
 -- The kinds of records that are shown, and how they are named.
 use Rattle.std.specs.Prelude.{ℕ, Bool, true, false, List, [], ◌∷◌, map, filter, flat_map, Option, Some, None, codes, if◌then◌else◌}
-use Rattle.node_text.specs.node_state.declared.happened.Happened.{Happened}
-use Rattle.node_text.specs.node_state.declared.happened.Happened.TheVariants as happened
-use Rattle.script_words.specs.world_model.Text.{line_of}
-use Rattle.script_words.specs.world_model.Words.{◌>>=◌, Choice, chosen, split_on}
+use Rattle.node_state.specs.declared.happened.Happened.{Happened}
+use Rattle.node_state.specs.declared.happened.Happened.TheVariants as happened
+use Rattle.world_model.specs.Text.{line_of}
+use Rattle.world_model.specs.Words.{◌>>=◌, Choice, chosen, split_on}
 use Rattle.transcript.specs.declared.kinds.Kinds.{Kinds}
 use Rattle.transcript.specs.declared.kinds.Kind.{Kind}
 use Rattle.transcript.specs.declared.kinds.Kind.TheVariants as kind

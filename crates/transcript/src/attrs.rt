@@ -1,13 +1,13 @@
 //! The attributes of a group.
 ghost use Rattle.std.specs.Prelude.{◌≡◌, ◌++◌, OnOk};
-ghost use Rattle.script_words.specs.world_model.Text.{phases_text, batch_text, default_text, limit_text, source_text, source_phases_text, source_limit_text, attrs_text};
+ghost use Rattle.world_model.specs.Text.{phases_text, batch_text, default_text, limit_text, source_text, source_phases_text, source_limit_text, attrs_text};
 
-use node_text::group_attr::{Attrs, Batch, DefaultVote, Phases};
-use node_text::rsct_packet::{Name, NoMemory};
+use group_attr::{Attrs, Batch, DefaultVote, Phases};
 use node_text::{put_number, put_text};
+use rsct_packet::{Name, NoMemory};
 use std::alloc::Global;
 
-#[tactic(auto, unfolding(crate::proofs::Below::phases_text))]
+#[tactic(auto, unfolding(world_model::specs::Text::phases_text))]
 fn phases_text(phases: Phases) -> &'static [u8]
     ensures { result.now ≡ phases_text phases }
 {
@@ -17,7 +17,7 @@ fn phases_text(phases: Phases) -> &'static [u8]
     }
 }
 
-#[tactic(auto, unfolding(crate::proofs::Below::batch_text))]
+#[tactic(auto, unfolding(world_model::specs::Text::batch_text))]
 fn batch_text(batch: Batch) -> &'static [u8]
     ensures { result.now ≡ batch_text batch }
 {
@@ -29,7 +29,7 @@ fn batch_text(batch: Batch) -> &'static [u8]
     }
 }
 
-#[tactic(auto, unfolding(crate::proofs::Below::default_text))]
+#[tactic(auto, unfolding(world_model::specs::Text::default_text))]
 fn default_text(vote: DefaultVote) -> &'static [u8]
     ensures { result.now ≡ default_text vote }
 {
@@ -39,7 +39,7 @@ fn default_text(vote: DefaultVote) -> &'static [u8]
     }
 }
 
-#[tactic(auto, unfolding(crate::proofs::Below::limit_text))]
+#[tactic(auto, unfolding(world_model::specs::Text::limit_text))]
 fn put_limit(alloc: Global, out: &mut Vec<u8>, limit: u16) -> Result<(), NoMemory>
     ensures { OnOk result (out.new.items ≡ out.old.items ++ limit_text limit) }
 {
@@ -50,7 +50,7 @@ fn put_limit(alloc: Global, out: &mut Vec<u8>, limit: u16) -> Result<(), NoMemor
     put_number(alloc, out, u32::from(limit))
 }
 
-#[tactic(auto, unfolding(crate::proofs::Below::source_text))]
+#[tactic(auto, unfolding(world_model::specs::Text::source_text))]
 fn put_source(out: &mut Vec<u8>, source: &Option<Name>) -> Result<(), NoMemory>
     ensures { OnOk result (out.new.items ≡ out.old.items ++ source_text source.now) }
 {
@@ -63,7 +63,7 @@ fn put_source(out: &mut Vec<u8>, source: &Option<Name>) -> Result<(), NoMemory>
     }
 }
 
-#[tactic(auto, unfolding(crate::proofs::Below::source_phases_text))]
+#[tactic(auto, unfolding(world_model::specs::Text::source_phases_text))]
 fn source_phases_text(phases: Phases) -> &'static [u8]
     ensures { result.now ≡ source_phases_text phases }
 {
@@ -73,7 +73,7 @@ fn source_phases_text(phases: Phases) -> &'static [u8]
     }
 }
 
-#[tactic(auto, unfolding(crate::proofs::Below::source_limit_text))]
+#[tactic(auto, unfolding(world_model::specs::Text::source_limit_text))]
 fn put_source_limit(alloc: Global, out: &mut Vec<u8>, limit: u16) -> Result<(), NoMemory>
     ensures { OnOk result (out.new.items ≡ out.old.items ++ source_limit_text limit) }
 {
@@ -85,7 +85,7 @@ fn put_source_limit(alloc: Global, out: &mut Vec<u8>, limit: u16) -> Result<(), 
 }
 
 /// The attributes that are not those of the empty state, each behind a space.
-#[tactic(auto, unfolding(crate::proofs::Below::attrs_text))]
+#[tactic(auto, unfolding(world_model::specs::Text::attrs_text))]
 pub fn put_attrs(alloc: Global, out: &mut Vec<u8>, attrs: &Attrs) -> Result<(), NoMemory>
     ensures { OnOk result (out.new.items ≡ out.old.items ++ attrs_text attrs.now) }
 {

@@ -1,14 +1,14 @@
 //! What is said of a bad line of a script.
 ghost use Rattle.std.specs.Prelude.{◌≡◌, ◌++◌, OnOk, IfOk, codes, decimal};
-ghost use Rattle.script_words.specs.world_model.Play.{why_text};
+ghost use Rattle.world_model.specs.Play.{why_text};
 
-use node_text::rsct_packet::NoMemory;
 use node_text::{put_number, put_text};
-use script_words::world_model::LineWhy;
+use rsct_packet::NoMemory;
 use std::alloc::Global;
+use world_model::LineWhy;
 
 /// Why the line is in no script.
-#[tactic(auto, unfolding(crate::proofs::Below::why_text))]
+#[tactic(auto, unfolding(world_model::specs::Play::why_text))]
 pub fn why_text(why: LineWhy) -> &'static [u8]
     ensures { result.now ≡ why_text why }
 {

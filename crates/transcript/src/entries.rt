@@ -1,18 +1,18 @@
 //! Votes and entries.
 ghost use Rattle.std.specs.Prelude.{◌≡◌, ◌++◌, OnOk, codes, flat_map};
-ghost use Rattle.node_text.specs.node_state.Wording.{word, joined};
-ghost use Rattle.script_words.specs.world_model.Text.{value_option_text, vote_text, default_letter, row_vote_text, row_text, phase_text, closed_text, entry_text, what_text};
+ghost use Rattle.node_state.specs.Wording.{word, joined};
+ghost use Rattle.world_model.specs.Text.{value_option_text, vote_text, default_letter, row_vote_text, row_text, phase_text, closed_text, entry_text, what_text};
 
 use crate::proposals::put_proposal;
-use node_text::group_attr::DefaultVote;
-use node_text::proposal_core::{Closed, Entry, Row, RowVote, Vote};
-use node_text::rsct_packet::{NoMemory, ProtoId, Text};
+use group_attr::DefaultVote;
 use node_text::{
     kind_of, put_number_word, put_proto, put_provider, put_providers, put_text, put_value,
 };
+use proposal_core::{Closed, Entry, Row, RowVote, Vote};
+use rsct_packet::{NoMemory, ProtoId, Text};
 use std::alloc::Global;
 
-#[tactic(auto, unfolding(crate::proofs::Below::value_option_text))]
+#[tactic(auto, unfolding(world_model::specs::Text::value_option_text))]
 fn put_value_option(out: &mut Vec<u8>, value: &Option<Text>) -> Result<(), NoMemory>
     ensures { OnOk result (out.new.items ≡ out.old.items ++ value_option_text value.now) }
 {
@@ -22,7 +22,7 @@ fn put_value_option(out: &mut Vec<u8>, value: &Option<Text>) -> Result<(), NoMem
     }
 }
 
-#[tactic(auto, unfolding(crate::proofs::Below::vote_text))]
+#[tactic(auto, unfolding(world_model::specs::Text::vote_text))]
 pub fn vote_text(vote: Vote) -> &'static [u8]
     ensures { result.now ≡ vote_text vote }
 {
@@ -33,7 +33,7 @@ pub fn vote_text(vote: Vote) -> &'static [u8]
     }
 }
 
-#[tactic(auto, unfolding(crate::proofs::Below::default_letter))]
+#[tactic(auto, unfolding(world_model::specs::Text::default_letter))]
 fn default_letter(vote: DefaultVote) -> &'static [u8]
     ensures { result.now ≡ default_letter vote }
 {
@@ -43,7 +43,7 @@ fn default_letter(vote: DefaultVote) -> &'static [u8]
     }
 }
 
-#[tactic(auto, unfolding(crate::proofs::Below::row_vote_text))]
+#[tactic(auto, unfolding(world_model::specs::Text::row_vote_text))]
 fn put_row_vote(out: &mut Vec<u8>, vote: RowVote) -> Result<(), NoMemory>
     ensures { OnOk result (out.new.items ≡ out.old.items ++ row_vote_text vote) }
 {
@@ -60,7 +60,7 @@ fn put_row_vote(out: &mut Vec<u8>, vote: RowVote) -> Result<(), NoMemory>
     }
 }
 
-#[tactic(auto, unfolding(crate::proofs::Below::row_text))]
+#[tactic(auto, unfolding(world_model::specs::Text::row_text))]
 fn put_row(alloc: Global, out: &mut Vec<u8>, row: Row) -> Result<(), NoMemory>
     ensures { OnOk result (out.new.items ≡ out.old.items ++ row_text row) }
 {
@@ -82,7 +82,7 @@ fn put_more_rows(alloc: Global, out: &mut Vec<u8>, rows: &[Row]) -> Result<(), N
 }
 
 /// Rows between commas, `-` for none.
-#[tactic(auto, unfolding(crate::proofs::Below::joined))]
+#[tactic(auto, unfolding(node_state::specs::Wording::joined))]
 fn put_rows(alloc: Global, out: &mut Vec<u8>, rows: &[Row]) -> Result<(), NoMemory>
     ensures { OnOk result (out.new.items ≡ out.old.items ++ joined row_text rows.now) }
 {
@@ -96,7 +96,7 @@ fn put_rows(alloc: Global, out: &mut Vec<u8>, rows: &[Row]) -> Result<(), NoMemo
 }
 
 /// The protocol and the phase, each with the space behind it.
-#[tactic(auto, unfolding(crate::proofs::Below::phase_text, crate::proofs::Below::word))]
+#[tactic(auto, unfolding(world_model::specs::Text::phase_text, node_state::specs::Wording::word))]
 pub fn put_phase(
     alloc: Global,
     out: &mut Vec<u8>,
@@ -110,7 +110,7 @@ pub fn put_phase(
     put_number_word(alloc, out, u32::from(phase))
 }
 
-#[tactic(auto, unfolding(crate::proofs::Below::closed_text))]
+#[tactic(auto, unfolding(world_model::specs::Text::closed_text))]
 fn put_closed(alloc: Global, out: &mut Vec<u8>, closed: &Closed) -> Result<(), NoMemory>
     ensures { OnOk result (out.new.items ≡ out.old.items ++ closed_text closed.now) }
 {
@@ -135,7 +135,7 @@ fn put_closed_value(
     put_value_option(out, &closed.value)
 }
 
-#[tactic(auto, unfolding(crate::proofs::Below::entry_text))]
+#[tactic(auto, unfolding(world_model::specs::Text::entry_text))]
 pub fn put_entry(alloc: Global, out: &mut Vec<u8>, entry: &Entry) -> Result<(), NoMemory>
     ensures { OnOk result (out.new.items ≡ out.old.items ++ entry_text entry.now) }
 {
@@ -163,7 +163,7 @@ pub fn put_entry(alloc: Global, out: &mut Vec<u8>, entry: &Entry) -> Result<(), 
 }
 
 /// What a provider hears of an entry.
-#[tactic(auto, unfolding(crate::proofs::Below::what_text))]
+#[tactic(auto, unfolding(world_model::specs::Text::what_text))]
 fn put_what(out: &mut Vec<u8>, entry: &Entry) -> Result<(), NoMemory>
     ensures { OnOk result (out.new.items ≡ out.old.items ++ what_text entry.now) }
 {
@@ -183,7 +183,7 @@ fn put_what(out: &mut Vec<u8>, entry: &Entry) -> Result<(), NoMemory>
     }
 }
 
-#[tactic(auto, unfolding(crate::proofs::Below::word))]
+#[tactic(auto, unfolding(node_state::specs::Wording::word))]
 pub fn put_what_word(out: &mut Vec<u8>, entry: &Entry) -> Result<(), NoMemory>
     ensures { OnOk result (out.new.items ≡ out.old.items ++ word (what_text entry.now)) }
 {

@@ -1,15 +1,15 @@
 //! Why requests and calls are refused.
 ghost use Rattle.std.specs.Prelude.{◌≡◌, ◌++◌, OnOk};
-ghost use Rattle.script_words.specs.world_model.Text.{why_text, field_text, attr_fault_text, fault_text};
+ghost use Rattle.world_model.specs.Text.{why_text, field_text, attr_fault_text, fault_text};
 
-use node_text::client_callbacks::Why;
-use node_text::group_attr::AttrFault;
-use node_text::rsct_packet::NoMemory;
-use node_text::session_state::{Field, GsFault};
+use client_callbacks::Why;
+use group_attr::AttrFault;
 use node_text::{put_counted, put_labelled, put_number, put_proto, put_text};
+use rsct_packet::NoMemory;
+use session_state::{Field, GsFault};
 use std::alloc::Global;
 
-#[tactic(auto, unfolding(crate::proofs::Below::why_text_of_text))]
+#[tactic(auto, unfolding(world_model::specs::Text::why_text))]
 pub fn put_why(alloc: Global, out: &mut Vec<u8>, why: Why) -> Result<(), NoMemory>
     ensures { OnOk result (out.new.items ≡ out.old.items ++ why_text why) }
 {
@@ -34,7 +34,7 @@ pub fn put_why(alloc: Global, out: &mut Vec<u8>, why: Why) -> Result<(), NoMemor
     }
 }
 
-#[tactic(auto, unfolding(crate::proofs::Below::field_text))]
+#[tactic(auto, unfolding(world_model::specs::Text::field_text))]
 fn field_text(field: Field) -> &'static [u8]
     ensures { result.now ≡ field_text field }
 {
@@ -47,7 +47,7 @@ fn field_text(field: Field) -> &'static [u8]
     }
 }
 
-#[tactic(auto, unfolding(crate::proofs::Below::attr_fault_text))]
+#[tactic(auto, unfolding(world_model::specs::Text::attr_fault_text))]
 fn attr_fault_text(fault: AttrFault) -> &'static [u8]
     ensures { result.now ≡ attr_fault_text fault }
 {
@@ -58,7 +58,7 @@ fn attr_fault_text(fault: AttrFault) -> &'static [u8]
     }
 }
 
-#[tactic(auto, unfolding(crate::proofs::Below::fault_text))]
+#[tactic(auto, unfolding(world_model::specs::Text::fault_text))]
 pub fn put_fault(alloc: Global, out: &mut Vec<u8>, fault: GsFault) -> Result<(), NoMemory>
     ensures { OnOk result (out.new.items ≡ out.old.items ++ fault_text fault) }
 {

@@ -2,7 +2,7 @@
 ghost use Rattle.std.specs.Prelude.{◌≡◌};
 ghost use Rattle.transcript.specs.Kinds.{shows, all_kinds, no_kinds, kind_word, has_kind, with_kind, with_new, kind_step, kinds_of};
 
-use node_text::node_state::Happened;
+use node_state::Happened;
 use script_words::{cut_at, is_word};
 
 /// A kind of records.
@@ -43,7 +43,7 @@ pub struct Kinds {
     pub shown: bool,
 }
 
-#[tactic(auto, unfolding(crate::specs::Kinds::kind_word, crate::proofs::Below::chosen))]
+#[tactic(auto, unfolding(crate::specs::Kinds::kind_word, world_model::specs::Words::chosen))]
 fn kind_word(word: &[u8]) -> Option<Kind>
     ensures { result ≡ kind_word word.now }
 {

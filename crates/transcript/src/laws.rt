@@ -1,7 +1,7 @@
 //! What kinds show, and what a transcript of them is.
 ghost use Rattle.std.specs.Prelude.{◌≡◌, ℕ, List, [], Some};
-ghost use Rattle.node_text.specs.node_state.declared.happened.Happened.{Happened};
-ghost use Rattle.script_words.specs.world_model.Play.{is_shown, kinds_in, lines_text};
+ghost use Rattle.node_state.specs.declared.happened.Happened.{Happened};
+ghost use Rattle.world_model.specs.Play.{is_shown, kinds_in, lines_text};
 ghost use Rattle.transcript.specs.declared.kinds.Kinds.{Kinds};
 ghost use Rattle.transcript.specs.Kinds.{shows, all_kinds, kinds_of, kinds_text};
 

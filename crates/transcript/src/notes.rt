@@ -1,15 +1,15 @@
 //! What a subscribed client is handed.
 ghost use Rattle.std.specs.Prelude.{◌≡◌, ◌++◌, OnOk};
-ghost use Rattle.node_text.specs.node_state.Wording.{word};
-ghost use Rattle.script_words.specs.world_model.Text.{place_option_text, state_text, note_text};
+ghost use Rattle.node_state.specs.Wording.{word};
+ghost use Rattle.world_model.specs.Text.{place_option_text, state_text, note_text};
 
-use node_text::client_callbacks::Told;
-use node_text::rsct_packet::{NoMemory, ProviderId};
+use client_callbacks::Told;
 use node_text::{put_members, put_number_word, put_providers_word, put_text, put_value, put_word};
+use rsct_packet::{NoMemory, ProviderId};
 use std::alloc::Global;
 
 /// Members and value.
-#[tactic(auto, unfolding(crate::proofs::Below::state_text))]
+#[tactic(auto, unfolding(world_model::specs::Text::state_text))]
 pub fn put_state(
     alloc: Global,
     out: &mut Vec<u8>,
@@ -23,7 +23,7 @@ pub fn put_state(
 }
 
 /// A place and a space, `-` for none.
-#[tactic(auto, unfolding(crate::proofs::Below::place_option_text, crate::proofs::Below::word))]
+#[tactic(auto, unfolding(world_model::specs::Text::place_option_text, node_state::specs::Wording::word))]
 fn put_place_option(alloc: Global, out: &mut Vec<u8>, place: Option<u32>) -> Result<(), NoMemory>
     ensures { OnOk result (out.new.items ≡ out.old.items ++ word (place_option_text place)) }
 {
@@ -34,7 +34,7 @@ fn put_place_option(alloc: Global, out: &mut Vec<u8>, place: Option<u32>) -> Res
 }
 
 /// A note from its group on.
-#[tactic(auto, unfolding(crate::proofs::Below::note_text, crate::proofs::Below::word))]
+#[tactic(auto, unfolding(world_model::specs::Text::note_text, node_state::specs::Wording::word))]
 pub fn put_note(
     alloc: Global,
     out: &mut Vec<u8>,

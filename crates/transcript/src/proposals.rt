@@ -1,16 +1,16 @@
 //! Proposals.
 ghost use Rattle.std.specs.Prelude.{◌≡◌, ◌++◌, OnOk, codes, decimal, flat_map};
-ghost use Rattle.script_words.specs.world_model.Text.{attrs_text, source_len_text, cause_text, failure_text, asker_text, proposal_text};
-ghost use Rattle.node_text.specs.node_state.Wording.{joined, providers_text, value_text, view_text};
+ghost use Rattle.world_model.specs.Text.{attrs_text, source_len_text, cause_text, failure_text, asker_text, proposal_text};
+ghost use Rattle.node_state.specs.Wording.{joined, providers_text, value_text, view_text};
 
 use crate::attrs::put_attrs;
-use node_text::group_attr::Attrs;
-use node_text::proposal_core::{Cause, Failure, Proposal};
-use node_text::rsct_packet::{NoMemory, ProviderId, Providers, Text, ViewId};
+use group_attr::Attrs;
 use node_text::{put_number, put_provider, put_providers, put_text, put_value, put_view};
+use proposal_core::{Cause, Failure, Proposal};
+use rsct_packet::{NoMemory, ProviderId, Providers, Text, ViewId};
 use std::alloc::Global;
 
-#[tactic(auto, unfolding(crate::proofs::Below::source_len_text))]
+#[tactic(auto, unfolding(world_model::specs::Text::source_len_text))]
 fn put_source_len(alloc: Global, out: &mut Vec<u8>, len: Option<u32>) -> Result<(), NoMemory>
     ensures { OnOk result (out.new.items ≡ out.old.items ++ source_len_text len) }
 {
@@ -23,7 +23,7 @@ fn put_source_len(alloc: Global, out: &mut Vec<u8>, len: Option<u32>) -> Result<
     }
 }
 
-#[tactic(auto, unfolding(crate::proofs::Below::cause_text))]
+#[tactic(auto, unfolding(world_model::specs::Text::cause_text))]
 fn cause_text(cause: Cause) -> &'static [u8]
     ensures { result.now ≡ cause_text cause }
 {
@@ -34,7 +34,7 @@ fn cause_text(cause: Cause) -> &'static [u8]
     }
 }
 
-#[tactic(auto, unfolding(crate::proofs::Below::failure_text))]
+#[tactic(auto, unfolding(world_model::specs::Text::failure_text))]
 fn put_failure(alloc: Global, out: &mut Vec<u8>, failure: Failure) -> Result<(), NoMemory>
     ensures { OnOk result (out.new.items ≡ out.old.items ++ failure_text failure) }
 {
@@ -55,7 +55,7 @@ fn put_more_failures(alloc: Global, out: &mut Vec<u8>, failures: &[Failure]) -> 
 }
 
 /// Those that failed between commas, `-` for none.
-#[tactic(auto, unfolding(crate::proofs::Below::joined))]
+#[tactic(auto, unfolding(node_state::specs::Wording::joined))]
 fn put_failures(alloc: Global, out: &mut Vec<u8>, failures: &[Failure]) -> Result<(), NoMemory>
     ensures { OnOk result (out.new.items ≡ out.old.items ++ joined failure_text failures.now) }
 {
@@ -69,7 +69,7 @@ fn put_failures(alloc: Global, out: &mut Vec<u8>, failures: &[Failure]) -> Resul
 }
 
 /// Who asks, and with which number.
-#[tactic(auto, unfolding(crate::proofs::Below::asker_text))]
+#[tactic(auto, unfolding(world_model::specs::Text::asker_text))]
 fn put_asker(
     alloc: Global,
     out: &mut Vec<u8>,
@@ -153,7 +153,7 @@ fn put_reflect(
     put_value(out, value.bytes())
 }
 
-#[tactic(auto, unfolding(crate::proofs::Below::proposal_text))]
+#[tactic(auto, unfolding(world_model::specs::Text::proposal_text))]
 pub fn put_proposal(alloc: Global, out: &mut Vec<u8>, proposal: &Proposal) -> Result<(), NoMemory>
     ensures { OnOk result (out.new.items ≡ out.old.items ++ proposal_text proposal.now) }
 {

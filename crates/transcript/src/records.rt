@@ -1,27 +1,27 @@
 //! The line of each record.
 ghost use Rattle.std.specs.Prelude.{◌≡◌, ◌++◌, OnOk, IfOk, codes, decimal};
-ghost use Rattle.node_text.specs.node_state.declared.happened.Happened.TheVariants as happened;
-ghost use Rattle.node_text.specs.node_state.Wording.{word, provider_text, providers_text};
-ghost use Rattle.script_words.specs.world_model.Text.{running_text, phase_text, vote_text, state_text, cast_value_text, place_text, client_text, record_text, line_of};
+ghost use Rattle.node_state.specs.declared.happened.Happened.TheVariants as happened;
+ghost use Rattle.node_state.specs.Wording.{word, provider_text, providers_text};
+ghost use Rattle.world_model.specs.Text.{running_text, phase_text, vote_text, state_text, cast_value_text, place_text, client_text, record_text, line_of};
 
 use crate::entries::{put_entry, put_phase, put_what_word, vote_text};
 use crate::faults::{put_fault, put_why};
 use crate::notes::{put_note, put_state};
-use node_text::client_callbacks::Told;
-use node_text::node_state::Happened;
-use node_text::proposal_core::{Entry, GroupState, Proposal, Running, Vote};
-use node_text::rsct_packet::{
-    List, Mask, Members, Name, NoMemory, ProtoId, ProviderId, Providers, RingId, Text, ViewId,
-};
-use node_text::session_state::GsFault;
+use client_callbacks::Told;
+use node_state::Happened;
 use node_text::{
     kind_of, put_counted, put_mask_word, put_members, put_number, put_number_word, put_proto,
     put_provider_word, put_providers_word, put_ring_word, put_text, put_value, put_view_word,
     put_word,
 };
+use proposal_core::{Entry, GroupState, Proposal, Running, Vote};
+use rsct_packet::{
+    List, Mask, Members, Name, NoMemory, ProtoId, ProviderId, Providers, RingId, Text, ViewId,
+};
+use session_state::GsFault;
 use std::alloc::Global;
 
-#[tactic(auto, unfolding(crate::proofs::Below::running_text))]
+#[tactic(auto, unfolding(world_model::specs::Text::running_text))]
 fn put_running(alloc: Global, out: &mut Vec<u8>, run: &Option<Running>) -> Result<(), NoMemory>
     ensures { OnOk result (out.new.items ≡ out.old.items ++ running_text run.now) }
 {
@@ -35,7 +35,7 @@ fn put_running(alloc: Global, out: &mut Vec<u8>, run: &Option<Running>) -> Resul
     }
 }
 
-#[tactic(auto, unfolding(crate::proofs::Below::cast_value_text))]
+#[tactic(auto, unfolding(world_model::specs::Text::cast_value_text))]
 fn put_cast_value(out: &mut Vec<u8>, value: &Option<Text>) -> Result<(), NoMemory>
     ensures { OnOk result (out.new.items ≡ out.old.items ++ cast_value_text value.now) }
 {
@@ -46,7 +46,7 @@ fn put_cast_value(out: &mut Vec<u8>, value: &Option<Text>) -> Result<(), NoMemor
 }
 
 /// The view, the group and the place, each with the space behind it.
-#[tactic(auto, unfolding(crate::proofs::Below::place_text))]
+#[tactic(auto, unfolding(world_model::specs::Text::place_text))]
 fn put_place(
     alloc: Global,
     out: &mut Vec<u8>,
@@ -62,7 +62,7 @@ fn put_place(
 }
 
 /// The node and the client's name.
-#[tactic(auto, unfolding(crate::proofs::Below::client_text))]
+#[tactic(auto, unfolding(world_model::specs::Text::client_text))]
 fn put_client(alloc: Global, out: &mut Vec<u8>, node: u8, client: &[u8]) -> Result<(), NoMemory>
     ensures { OnOk result (out.new.items ≡ out.old.items ++ client_text node client.now) }
 {
@@ -96,7 +96,7 @@ fn put_request(
 }
 
 /// The record of a ring that is set; and likewise below, one function for each kind of records.
-#[tactic(auto, unfolding(crate::proofs::Below::record_text, crate::proofs::Below::word))]
+#[tactic(auto, unfolding(world_model::specs::Text::record_text, node_state::specs::Wording::word))]
 fn put_ring(
     alloc: Global,
     out: &mut Vec<u8>,
@@ -116,7 +116,7 @@ fn put_ring(
     put_number(alloc, out, u32::from(neighbour))
 }
 
-#[tactic(auto, unfolding(crate::proofs::Below::record_text, crate::proofs::Below::word))]
+#[tactic(auto, unfolding(world_model::specs::Text::record_text, node_state::specs::Wording::word))]
 fn put_in_view(
     alloc: Global,
     out: &mut Vec<u8>,
@@ -133,7 +133,7 @@ fn put_in_view(
 }
 
 /// The state of a group, as the record of its base ends.
-#[tactic(auto, unfolding(crate::proofs::Below::word))]
+#[tactic(auto, unfolding(node_state::specs::Wording::word))]
 fn put_base_state(alloc: Global, out: &mut Vec<u8>, state: &GroupState) -> Result<(), NoMemory>
     ensures { OnOk result (out.new.items ≡ out.old.items
         ++ (word (state_text state.now.members state.now.value)
@@ -145,7 +145,7 @@ fn put_base_state(alloc: Global, out: &mut Vec<u8>, state: &GroupState) -> Resul
     put_running(alloc, out, &state.running)
 }
 
-#[tactic(auto, unfolding(crate::proofs::Below::record_text))]
+#[tactic(auto, unfolding(world_model::specs::Text::record_text))]
 fn put_base(
     alloc: Global,
     out: &mut Vec<u8>,
@@ -167,7 +167,7 @@ fn put_base(
     put_base_state(alloc, out, state)
 }
 
-#[tactic(auto, unfolding(crate::proofs::Below::record_text))]
+#[tactic(auto, unfolding(world_model::specs::Text::record_text))]
 fn put_appended(
     alloc: Global,
     out: &mut Vec<u8>,
@@ -185,7 +185,7 @@ fn put_appended(
     put_entry(alloc, out, entry)
 }
 
-#[tactic(auto, unfolding(crate::proofs::Below::record_text))]
+#[tactic(auto, unfolding(world_model::specs::Text::record_text))]
 fn put_heard(
     alloc: Global,
     out: &mut Vec<u8>,
@@ -229,7 +229,7 @@ fn put_ballot(
     put_cast_value(out, value)
 }
 
-#[tactic(auto, unfolding(crate::proofs::Below::record_text))]
+#[tactic(auto, unfolding(world_model::specs::Text::record_text))]
 fn put_asked(
     alloc: Global,
     out: &mut Vec<u8>,
@@ -246,7 +246,7 @@ fn put_asked(
     put_text(out, kind_of(proposal))
 }
 
-#[tactic(auto, unfolding(crate::proofs::Below::record_text))]
+#[tactic(auto, unfolding(world_model::specs::Text::record_text))]
 fn put_noted(
     alloc: Global,
     out: &mut Vec<u8>,
@@ -265,7 +265,7 @@ fn put_noted(
     put_note(alloc, out, place, told)
 }
 
-#[tactic(auto, unfolding(crate::proofs::Below::record_text))]
+#[tactic(auto, unfolding(world_model::specs::Text::record_text))]
 fn put_refused(
     alloc: Global,
     out: &mut Vec<u8>,
@@ -281,7 +281,7 @@ fn put_refused(
     put_fault(alloc, out, fault)
 }
 
-#[tactic(auto, unfolding(crate::proofs::Below::record_text))]
+#[tactic(auto, unfolding(world_model::specs::Text::record_text))]
 fn put_record(alloc: Global, out: &mut Vec<u8>, happened: &Happened) -> Result<(), NoMemory>
     ensures { OnOk result (out.new.items ≡ out.old.items ++ record_text happened.now) }
 {
@@ -369,7 +369,7 @@ fn put_record(alloc: Global, out: &mut Vec<u8>, happened: &Happened) -> Result<(
 }
 
 /// The line of a record.
-#[tactic(auto, unfolding(crate::proofs::Below::line_of))]
+#[tactic(auto, unfolding(world_model::specs::Text::line_of))]
 pub fn line_of(alloc: Global, happened: &Happened) -> Result<Vec<u8>, NoMemory>
     ensures { IfOk result (λ b. b.items ≡ line_of happened.now) }
 {

@@ -7,14 +7,14 @@ use Rattle.std.specs.Prelude.{IsTrue, IfSome, IfOk, Result, Ok, Err, not, â—Œ&&â
 use Rattle.std.specs.Str.{bytes_eq}
 use Rattle.std.proofs.lemmas.Slice.Eq.{bytes_eq-Decides}
 use Rattle.std.proofs.lemmas.Bool.Decides.{nat_tests}
-use Rattle.view_state.specs.rsct_packet.declared.ids.ProviderId.{ProviderId}
-use Rattle.view_state.specs.rsct_packet.Lists.{best_of, is_empty}
-use Rattle.view_state.specs.rsct_packet.Search.{Has}
-use Rattle.view_state.specs.rsct_packet.Providers.{same_provider, among}
-use Rattle.view_state.specs.rsct_packet.Format.{EachFits}
-use Rattle.view_state.proofs.rsct_packet_laws.HasLaws.{append_has_left}
-use Rattle.view_state.proofs.rsct_packet_laws.FieldLaws.{and_true}
-use Rattle.view_state.specs.proposal_core.Fold.{present, joiners_in}
+use Rattle.rsct_packet.specs.declared.ids.ProviderId.{ProviderId}
+use Rattle.rsct_packet.specs.Lists.{best_of, is_empty}
+use Rattle.rsct_packet.specs.Search.{Has}
+use Rattle.rsct_packet.specs.Providers.{same_provider, among}
+use Rattle.rsct_packet.specs.Format.{EachFits}
+use Rattle.rsct_packet.proofs.HasLaws.{append_has_left}
+use Rattle.rsct_packet.proofs.FieldLaws.{and_true}
+use Rattle.proposal_core.specs.Fold.{present, joiners_in}
 use Rattle.view_state.specs.declared.install.Part.{Part}
 use Rattle.view_state.specs.declared.install.Source.{Source}
 use Rattle.view_state.specs.declared.install.Install.{Install}

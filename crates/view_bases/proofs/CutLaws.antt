@@ -1,13 +1,13 @@
 -- Whether entries fit at the end of a list is said of its end alone.
 use Rattle.std.proofs.Common.{◌≡◌, ℕ, suc, ◌+◌, ◌<◌, ◌≤◌, Bool, true, false, List, [], ◌∷◌, length, drop, get_or, refl, sym, ap, ◌∙◌, arith}
 use Rattle.std.proofs.Math.Seq.{drop-cons}
-use Rattle.view_state.specs.rsct_packet.declared.ids.ViewId.{ViewId}
-use Rattle.view_state.specs.proposal_core.declared.entry.Entry.{Entry}
-use Rattle.view_state.specs.proposal_core.Sizes.{entry_len}
-use Rattle.view_state.specs.proposal_core.declared.group_state.GroupState.{GroupState}
-use Rattle.view_state.specs.proposal_core.Fold.{after}
-use Rattle.view_state.specs.proposal_core.GroupView.{GroupView}
-use Rattle.view_state.specs.proposal_core.Lists.{has_room, entry_fits, with_entry}
+use Rattle.rsct_packet.specs.declared.ids.ViewId.{ViewId}
+use Rattle.proposal_core.specs.declared.entry.Entry.{Entry}
+use Rattle.proposal_core.specs.Sizes.{entry_len}
+use Rattle.proposal_core.specs.declared.group_state.GroupState.{GroupState}
+use Rattle.proposal_core.specs.Fold.{after}
+use Rattle.proposal_core.specs.GroupView.{GroupView}
+use Rattle.proposal_core.specs.Lists.{has_room, entry_fits, with_entry}
 use Rattle.view_bases.specs.declared.cut.ListEnd.{ListEnd}
 use Rattle.view_state.specs.Cut.{all_fit}
 use Rattle.view_bases.specs.Fitting.{list_with, end_of, passed}

@@ -2,15 +2,15 @@
 use Rattle.std.proofs.Common.{◌≡◌, ◌+◌, ◌≤◌, Bool, true, false, cond, List, [], ◌∷◌, ◌++◌, length, Option, Some, None, refl, append-nil, arith}
 use Rattle.std.specs.Prelude.{not, ◌||◌, ◌&&◌, IsTrue, filter, nat_le}
 use Rattle.std.proofs.lemmas.Bool.{leb-true}
-use Rattle.view_state.specs.rsct_packet.declared.ids.ProviderId.{ProviderId}
-use Rattle.view_state.specs.rsct_packet.Providers.{same_provider, among, none_among, differ, AreProviders}
-use Rattle.view_state.proofs.rsct_packet_laws.ProviderLaws.{AreProviders-append}
-use Rattle.view_state.proofs.rsct_packet_laws.FieldLaws.{and_true, both_true}
-use Rattle.view_state.specs.proposal_core.declared.group_state.GroupState.{GroupState}
-use Rattle.view_state.specs.proposal_core.declared.group_state.Running.{Running}
-use Rattle.view_state.specs.proposal_core.declared.proposal.Proposal.{Proposal}
-use Rattle.view_state.specs.proposal_core.declared.proposal.Proposal.TheVariants.{Join, Leave, Fail, Expel, State, Message, Attributes, Reflect}
-use Rattle.view_state.specs.proposal_core.Fold.{joiners_fit, joiners_fit_at, joiners_in, joins_of, can_begin, present}
+use Rattle.rsct_packet.specs.declared.ids.ProviderId.{ProviderId}
+use Rattle.rsct_packet.specs.Providers.{same_provider, among, none_among, differ, AreProviders}
+use Rattle.rsct_packet.proofs.ProviderLaws.{AreProviders-append}
+use Rattle.rsct_packet.proofs.FieldLaws.{and_true, both_true}
+use Rattle.proposal_core.specs.declared.group_state.GroupState.{GroupState}
+use Rattle.proposal_core.specs.declared.group_state.Running.{Running}
+use Rattle.proposal_core.specs.declared.proposal.Proposal.{Proposal}
+use Rattle.proposal_core.specs.declared.proposal.Proposal.TheVariants.{Join, Leave, Fail, Expel, State, Message, Attributes, Reflect}
+use Rattle.proposal_core.specs.Fold.{joiners_fit, joiners_fit_at, joiners_in, joins_of, can_begin, present}
 
 or_false : (a b : Bool) → (a || b) ≡ false → (a ≡ false) × (b ≡ false)
 or_false true b e = absurd cc

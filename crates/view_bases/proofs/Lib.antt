@@ -1,4 +1,3 @@
-pub mod Below
 pub mod Winning
 pub mod Failing
 pub mod Bases

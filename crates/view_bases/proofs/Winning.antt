@@ -7,13 +7,13 @@ use Rattle.std.proofs.lemmas.List.{take_more}
 use Rattle.std.proofs.lemmas.List.Elements.{filter-append}
 use Rattle.std.proofs.lemmas.List.{map-append, length-append}
 use Rattle.std.proofs.lemmas.List.Sums.{length-filter}
-use Rattle.view_state.specs.rsct_packet.declared.ids.ViewId.{ViewId}
-use Rattle.view_state.specs.rsct_packet.declared.ids.ProviderId.{ProviderId}
-use Rattle.view_state.specs.rsct_packet.Ids.{view_lt}
-use Rattle.view_state.specs.rsct_packet.Lists.{best_from, best_of}
-use Rattle.view_state.specs.rsct_packet.Search.{Has}
-use Rattle.view_state.proofs.rsct_packet_laws.HasLaws.{has_filter, filter_has, has_append, append_has_left, append_has_right, has_map}
-use Rattle.view_state.proofs.rsct_packet_laws.FieldLaws.{and_true}
+use Rattle.rsct_packet.specs.declared.ids.ViewId.{ViewId}
+use Rattle.rsct_packet.specs.declared.ids.ProviderId.{ProviderId}
+use Rattle.rsct_packet.specs.Ids.{view_lt}
+use Rattle.rsct_packet.specs.Lists.{best_from, best_of}
+use Rattle.rsct_packet.specs.Search.{Has}
+use Rattle.rsct_packet.proofs.HasLaws.{has_filter, filter_has, has_append, append_has_left, append_has_right, has_map}
+use Rattle.rsct_packet.proofs.FieldLaws.{and_true}
 use Rattle.view_state.specs.declared.install.Part.{Part}
 use Rattle.view_state.specs.declared.install.Source.{Source}
 use Rattle.view_state.specs.declared.install.Install.{Install}

@@ -1,10 +1,10 @@
 -- The end of a list, at which entries fit or not.
 use Rattle.std.specs.Prelude.{ℕ, ◌+◌, []}
-use Rattle.view_state.specs.rsct_packet.declared.ids.ViewId.{ViewId}
-use Rattle.view_state.specs.proposal_core.declared.entry.Entry.{Entry}
-use Rattle.view_state.specs.proposal_core.Sizes.{entry_len}
-use Rattle.view_state.specs.proposal_core.Fold.{after}
-use Rattle.view_state.specs.proposal_core.GroupView.{GroupView}
+use Rattle.rsct_packet.specs.declared.ids.ViewId.{ViewId}
+use Rattle.proposal_core.specs.declared.entry.Entry.{Entry}
+use Rattle.proposal_core.specs.Sizes.{entry_len}
+use Rattle.proposal_core.specs.Fold.{after}
+use Rattle.proposal_core.specs.GroupView.{GroupView}
 use Rattle.view_bases.specs.declared.cut.ListEnd.{ListEnd}
 
 -- a list with this end, of which nothing is kept

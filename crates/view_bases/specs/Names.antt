@@ -1,6 +1,6 @@
 -- The names that an install carries, as a search for the next one finds them.
 use Rattle.std.specs.Prelude.{ℕ, Bool, true, false, ◌&&◌, List, [], ◌∷◌, Option, Some, None, slice_get}
-use Rattle.view_state.specs.rsct_packet.Text.{name_lt}
+use Rattle.rsct_packet.specs.Text.{name_lt}
 use Rattle.view_state.specs.declared.install.Part.{Part}
 use Rattle.view_state.specs.declared.install.Source.{Source}
 use Rattle.view_state.specs.declared.install.Install.{Install}

@@ -1,17 +1,17 @@
 //! What a group begins with in the view of an install.
 ghost use Rattle.std.specs.Prelude.{◌≡◌, ◌≤◌, not, filter, find, length, IfOk, IfSome, IsTrue};
 ghost use Rattle.std.specs.Option.{option_map};
-ghost use Rattle.view_state.specs.rsct_packet.Providers.{among, AreProviders};
-ghost use Rattle.view_state.specs.proposal_core.Fold.{joiners_fit, joiners_in, present};
+ghost use Rattle.rsct_packet.specs.Providers.{among, AreProviders};
+ghost use Rattle.proposal_core.specs.Fold.{joiners_fit, joiners_in, present};
 ghost use Rattle.view_state.specs.Tails.{IsTail, HasTails};
 ghost use Rattle.view_state.specs.Bases.{is_live_from, is_candidate, candidates, beats, live_count, leader_from, base_from, base_of, BaseIs};
-ghost use Rattle.view_state.specs.rsct_packet.Lists.{best_of};
+ghost use Rattle.rsct_packet.specs.Lists.{best_of};
 ghost use Rattle.view_state.specs.Codec.{views_ascend};
 ghost use Rattle.view_bases.specs.Best.{best_step, best_after, winner_in, found_in};
 
+use proposal_core::{GroupState, Proposal, Running};
+use rsct_packet::{NoMemory, ProviderId, Providers, is_among};
 use std::alloc::Global;
-use view_state::proposal_core::{GroupState, Proposal, Running};
-use view_state::rsct_packet::{NoMemory, ProviderId, Providers, is_among};
 use view_state::{Base, Install, Part, Source};
 
 /// An old view's list of a group, and how many of its providers are live.

@@ -1,14 +1,14 @@
 //! What a list lacks of a longer one.
 ghost use Rattle.std.specs.Prelude.{◌≡◌, IfOk, OnOk, IsTrue, option_copied};
-ghost use Rattle.view_state.specs.proposal_core.Fold.{fits, joiners_fit};
-ghost use Rattle.view_state.specs.proposal_core.Lists.{has_room, entry_fits};
+ghost use Rattle.proposal_core.specs.Fold.{fits, joiners_fit};
+ghost use Rattle.proposal_core.specs.Lists.{has_room, entry_fits};
 ghost use Rattle.view_state.specs.Cut.{all_fit, lacking_of};
 ghost use Rattle.view_bases.specs.Fitting.{list_with, end_of, passed};
 
+use proposal_core::{Entry, GroupList, GroupState};
+use rsct_packet::{NoMemory, ViewId};
 use std::alloc::Global;
 use view_state::Part;
-use view_state::proposal_core::{Entry, GroupList, GroupState};
-use view_state::rsct_packet::{NoMemory, ViewId};
 
 /// The end of a list: how many entries and bytes came before, and the state.
 #[derive(Drop)]
@@ -31,7 +31,7 @@ impl ListEnd {
     }
 
     /// Do the counts stay within their types with this entry?
-    #[tactic(auto, unfolding(crate::proofs::Below::has_room))]
+    #[tactic(auto, unfolding(proposal_core::specs::Lists::has_room))]
     fn has_room(&self, entry: &Entry) -> bool
         ensures { result ≡ has_room (list_with self.now) entry.now }
     {
@@ -41,7 +41,7 @@ impl ListEnd {
         }
     }
 
-    #[tactic(auto, unfolding(crate::proofs::Below::entry_fits))]
+    #[tactic(auto, unfolding(proposal_core::specs::Lists::entry_fits))]
     fn fits(&self, entry: &Entry) -> bool
         ensures { result ≡ entry_fits (list_with self.now) entry.now }
     {
@@ -49,7 +49,7 @@ impl ListEnd {
     }
 
     /// Goes past an entry that fits.
-    #[tactic(auto, unfolding(crate::specs::Fitting::passed, crate::proofs::Below::has_room), using(crate::proofs::Below::after_fits, std::proofs::lemmas::Grind::common_steps))]
+    #[tactic(auto, unfolding(crate::specs::Fitting::passed, proposal_core::specs::Lists::has_room), using(proposal_core::proofs::ListLaws::after_fits, std::proofs::lemmas::Grind::common_steps))]
     fn pass(&mut self, alloc: Global, view: ViewId, entry: &Entry) -> Result<(), NoMemory>
         requires fits { IsTrue (fits self.old.state entry.now) }
         requires room { IsTrue (has_room (list_with self.old) entry.now) }
@@ -65,7 +65,7 @@ impl ListEnd {
     }
 
     /// Do these fit there, one after another? It goes past those before the first that does not.
-    #[tactic(auto, unfolding(crate::proofs::Below::entry_fits), using(crate::proofs::CutLaws::fit_goes_on, crate::proofs::CutLaws::fit_stops, crate::proofs::CutLaws::fit_ends, std::proofs::lemmas::Grind::common_steps))]
+    #[tactic(auto, unfolding(proposal_core::specs::Lists::entry_fits), using(crate::proofs::CutLaws::fit_goes_on, crate::proofs::CutLaws::fit_stops, crate::proofs::CutLaws::fit_ends, std::proofs::lemmas::Grind::common_steps))]
     fn pass_all(&mut self, alloc: Global, view: ViewId, entries: &[Entry]) -> Result<bool, NoMemory>
         requires { IsTrue (joiners_fit self.old.state) }
         ensures { IfOk result (λ b. b ≡ all_fit view (list_with self.old) entries.now) }

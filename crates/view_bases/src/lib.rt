@@ -9,5 +9,3 @@ mod names;
 pub use base::base_of;
 pub use cut::lacking_of;
 pub use names::group_at;
-pub use view_state;
-pub use view_state::{group_attr, proposal_core};

@@ -3,25 +3,25 @@ use Rattle.std.proofs.Common.{◌≡◌, ℕ, ◌+◌, ◌<◌, ◌≤◌, Bool,
 use Rattle.std.specs.Prelude.{not, ◌==◌, ◌&&◌, ◌||◌, filter, drop, ◌++◌, [], ◌∷◌, nat_lt, nat_le}
 use Rattle.std.proofs.lemmas.Bool.{lt-ltb, and_parts}
 use Rattle.std.proofs.lemmas.Bool.Decides.{nat_tests}
-use Rattle.view_exchange.specs.rsct_packet.declared.ids.ViewId.{ViewId}
-use Rattle.view_exchange.specs.rsct_packet.declared.mask.Mask.{Mask}
-use Rattle.view_exchange.specs.rsct_packet.Ids.{same_view, view_lt, is_member}
-use Rattle.view_exchange.specs.rsct_packet.Mask.{has_node, with_node, nodes_of}
-use Rattle.view_exchange.specs.view_state.declared.answer.Answer.{Answer}
-use Rattle.view_exchange.specs.view_state.declared.exchange.Exchange.{Exchange}
-use Rattle.view_exchange.specs.view_state.declared.install.Part.{Part}
-use Rattle.view_exchange.specs.view_state.declared.install.Install.{Install}
+use Rattle.rsct_packet.specs.declared.ids.ViewId.{ViewId}
+use Rattle.rsct_packet.specs.declared.mask.Mask.{Mask}
+use Rattle.rsct_packet.specs.Ids.{same_view, view_lt, is_member}
+use Rattle.rsct_packet.specs.Mask.{has_node, with_node, nodes_of}
+use Rattle.view_state.specs.declared.answer.Answer.{Answer}
+use Rattle.view_state.specs.declared.exchange.Exchange.{Exchange}
+use Rattle.view_state.specs.declared.install.Part.{Part}
+use Rattle.view_state.specs.declared.install.Install.{Install}
 use Rattle.view_exchange.specs.InPlace.{answer_in}
-use Rattle.view_exchange.specs.view_state.Answers.{opened, with_answer, has_answered, may_answer, all_answered, install_of, is_spelled}
-use Rattle.view_exchange.proofs.view_state_laws.ViewOrder.{not_before_itself, same_view_is}
-use Rattle.view_exchange.specs.view_state.declared.packet.ViewPacket.{ViewPacket}
-use Rattle.view_exchange.specs.view_state.declared.packet.ViewPacket.TheVariants as packet
-use Rattle.view_exchange.specs.view_state.declared.views.Views.{Views}
-use Rattle.view_exchange.specs.view_state.declared.views.RingAsk.{RingAsk}
-use Rattle.view_exchange.specs.view_state.declared.views.ViewWork.{ViewWork}
+use Rattle.view_state.specs.Answers.{opened, with_answer, has_answered, may_answer, all_answered, install_of, is_spelled}
+use Rattle.view_state.proofs.ViewOrder.{not_before_itself, same_view_is}
+use Rattle.view_state.specs.declared.packet.ViewPacket.{ViewPacket}
+use Rattle.view_state.specs.declared.packet.ViewPacket.TheVariants as packet
+use Rattle.view_state.specs.declared.views.Views.{Views}
+use Rattle.view_state.specs.declared.views.RingAsk.{RingAsk}
+use Rattle.view_state.specs.declared.views.ViewWork.{ViewWork}
 use Rattle.view_core.specs.declared.step.ViewEvent.{ViewEvent}
 use Rattle.view_core.specs.declared.step.ViewEvent.TheVariants as event
-use Rattle.view_exchange.specs.view_state.Views.{view_sent, view_sent_all, gathering_set, promised, begin_install, gathered, gather_on, own_answer, ask_others, next_view, may_ask, ask_if, ask_row, answered, prepare, prepare_row, answer_to, answer_row, refused_by, refuse_to, refuse_row, installed, install_row, taken_row, aged, prepare_again, note_stuck, tick_asks, asks_or_ages, gathering_ticks, install_again_of, install_again, is_coordinator, is_frozen, is_stuck, others_of, views_at_work, views_new, views_entered}
+use Rattle.view_state.specs.Views.{view_sent, view_sent_all, gathering_set, promised, begin_install, gathered, gather_on, own_answer, ask_others, next_view, may_ask, ask_if, ask_row, answered, prepare, prepare_row, answer_to, answer_row, refused_by, refuse_to, refuse_row, installed, install_row, taken_row, aged, prepare_again, note_stuck, tick_asks, asks_or_ages, gathering_ticks, install_again_of, install_again, is_coordinator, is_frozen, is_stuck, others_of, views_at_work, views_new, views_entered}
 use Rattle.view_core.specs.Steps.{view_row, view_stepped}
 use Rattle.view_core.specs.Laws.{NotBefore, IsNext, GathersNext, AppliesNext, AreViews, ViewsBegin, Goes, PromisesStand, Enters, ViewsRise}
 

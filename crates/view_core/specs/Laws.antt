@@ -1,15 +1,15 @@
 -- What holds of a node's views after every event.
 use Rattle.std.specs.Prelude.{◌≡◌, ℕ, Bool, true, false, List, Option, Some, None}
-use Rattle.view_exchange.specs.rsct_packet.declared.ids.ViewId.{ViewId}
-use Rattle.view_exchange.specs.rsct_packet.declared.ids.Member.{Member}
-use Rattle.view_exchange.specs.rsct_packet.Ids.{view_lt}
-use Rattle.view_exchange.specs.view_state.declared.exchange.Exchange.{Exchange}
-use Rattle.view_exchange.specs.view_state.declared.install.Part.{Part}
-use Rattle.view_exchange.specs.view_state.declared.install.Install.{Install}
+use Rattle.rsct_packet.specs.declared.ids.ViewId.{ViewId}
+use Rattle.rsct_packet.specs.declared.ids.Member.{Member}
+use Rattle.rsct_packet.specs.Ids.{view_lt}
+use Rattle.view_state.specs.declared.exchange.Exchange.{Exchange}
+use Rattle.view_state.specs.declared.install.Part.{Part}
+use Rattle.view_state.specs.declared.install.Install.{Install}
 use Rattle.view_core.specs.declared.step.ViewEvent.{ViewEvent}
-use Rattle.view_exchange.specs.view_state.declared.views.Views.{Views}
-use Rattle.view_exchange.specs.view_state.declared.views.ViewWork.{ViewWork}
-use Rattle.view_exchange.specs.view_state.Views.{views_new, views_entered}
+use Rattle.view_state.specs.declared.views.Views.{Views}
+use Rattle.view_state.specs.declared.views.ViewWork.{ViewWork}
+use Rattle.view_state.specs.Views.{views_new, views_entered}
 use Rattle.view_core.specs.Steps.{view_stepped}
 
 -- a is b or later

@@ -1,12 +1,12 @@
 -- What one event does to a node's views.
 use Rattle.std.specs.Prelude.{ℕ, List}
-use Rattle.view_exchange.specs.view_state.declared.install.Part.{Part}
+use Rattle.view_state.specs.declared.install.Part.{Part}
 use Rattle.view_exchange.specs.InPlace.{answer_in}
 use Rattle.view_core.specs.declared.step.ViewEvent.{ViewEvent}
 use Rattle.view_core.specs.declared.step.ViewEvent.TheVariants as event
-use Rattle.view_exchange.specs.view_state.declared.views.Views.{Views}
-use Rattle.view_exchange.specs.view_state.declared.views.ViewWork.{ViewWork}
-use Rattle.view_exchange.specs.view_state.Views.{ask_row, prepare_row, answer_row, refuse_row, install_row, taken_row, gathering_ticks, install_again, views_at_work}
+use Rattle.view_state.specs.declared.views.Views.{Views}
+use Rattle.view_state.specs.declared.views.ViewWork.{ViewWork}
+use Rattle.view_state.specs.Views.{ask_row, prepare_row, answer_row, refuse_row, install_row, taken_row, gathering_ticks, install_again, views_at_work}
 
 unfoldable pub view_row : ViewWork → ViewEvent → List Part → ViewWork
 view_row w (event.Ask mask) parts = ask_row w mask parts

@@ -1,10 +1,10 @@
 //! The lists that a node answers with.
 ghost use Rattle.std.specs.Prelude.{◌≡◌, IfOk, length, List};
-ghost use Rattle.view_exchange.specs.view_state.declared.install.Part.{Part};
+ghost use Rattle.view_state.specs.declared.install.Part.{Part};
 
+use rsct_packet::NoMemory;
 use std::alloc::Global;
-use view_exchange::rsct_packet::NoMemory;
-use view_exchange::view_state::Parts;
+use view_state::Parts;
 
 /// A node's own lists in name order. They are copied where an answer carries them, and not before.
 pub trait OwnLists {

@@ -1,18 +1,18 @@
 //! What a node does with an order to ask, and with the packets of views.
 ghost use Rattle.std.specs.Prelude.{◌≡◌, ◌==◌, ◌&&◌, true, not, OnOk};
-ghost use Rattle.view_exchange.specs.rsct_packet.Ids.{same_view, view_lt};
-ghost use Rattle.view_exchange.specs.rsct_packet.Mask.{has_node};
+ghost use Rattle.rsct_packet.specs.Ids.{same_view, view_lt};
+ghost use Rattle.rsct_packet.specs.Mask.{has_node};
 ghost use Rattle.view_exchange.specs.InPlace.{answer_in};
-ghost use Rattle.view_exchange.specs.view_state.Views.{ask_others, ask_row, answered, prepare, prepare_row, answer_row, refuse_row, install_row, taken_row};
+ghost use Rattle.view_state.specs.Views.{ask_others, ask_row, answered, prepare, prepare_row, answer_row, refuse_row, install_row, taken_row};
 
 use crate::lists::OwnLists;
 use crate::work::{
     MAX_PARTS, gather_on, may_ask, next_view, nodes_but, own_answer, promise, send, send_prepare,
 };
+use rsct_packet::{Mask, NoMemory, ViewId};
 use std::alloc::Global;
-use view_exchange::rsct_packet::{Mask, NoMemory, ViewId};
-use view_exchange::view_state::{Exchange, Install, ViewPacket, ViewWork, Views};
 use view_exchange::{AnswerRef, add_answer};
+use view_state::{Exchange, Install, ViewPacket, ViewWork, Views};
 
 /// How a node is asked for a view: above its promise; once more, while it has not entered it; or, whoever asks, below
 /// its promise.
@@ -47,7 +47,7 @@ fn how_asked(views: &Views, from: u8, inc: u32, view: ViewId, mask: Mask) -> Ask
 }
 
 /// Promises a view and asks the others of these nodes for it. The node's own answer is the first.
-#[tactic(auto, unfolding(crate::proofs::Below::ask_others))]
+#[tactic(auto, unfolding(view_state::specs::Views::ask_others))]
 fn ask_others<L: OwnLists>(
     work: &mut ViewWork,
     alloc: Global,
@@ -67,7 +67,7 @@ fn ask_others<L: OwnLists>(
 
 /// An order to ask these nodes for a view. The node promises it, and its own answer is the first. An own answer
 /// without a spelling leaves the promise, and nobody is asked.
-#[tactic(auto, unfolding(crate::proofs::Below::ask_row, crate::proofs::Below::ask_if, crate::proofs::Below::ask_others, crate::proofs::Below::may_ask))]
+#[tactic(auto, unfolding(view_state::specs::Views::ask_row, view_state::specs::Views::ask_if, view_state::specs::Views::ask_others, view_state::specs::Views::may_ask))]
 pub(crate) fn ask_row<L: OwnLists>(
     work: &mut ViewWork,
     alloc: Global,
@@ -88,7 +88,7 @@ pub(crate) fn ask_row<L: OwnLists>(
 }
 
 /// Answers for a view. An answer without a spelling is not sent.
-#[tactic(auto, unfolding(crate::proofs::Below::answered))]
+#[tactic(auto, unfolding(view_state::specs::Views::answered))]
 fn answer<L: OwnLists>(
     work: &mut ViewWork,
     alloc: Global,
@@ -107,7 +107,7 @@ fn answer<L: OwnLists>(
 
 /// What comes above the promise is promised, the promise that is not entered yet is answered again, and what comes
 /// below the promise is refused.
-#[tactic(auto, unfolding(crate::proofs::Below::prepare))]
+#[tactic(auto, unfolding(view_state::specs::Views::prepare))]
 fn prepare<L: OwnLists>(
     work: &mut ViewWork,
     alloc: Global,
@@ -134,7 +134,7 @@ fn prepare<L: OwnLists>(
 
 /// PREPARE, from a node in an incarnation: only the coordinator of the view asks for it, and only the nodes of the
 /// set.
-#[tactic(auto, unfolding(crate::proofs::Below::prepare_row))]
+#[tactic(auto, unfolding(view_state::specs::Views::prepare_row))]
 pub(crate) fn prepare_row<L: OwnLists>(
     work: &mut ViewWork,
     alloc: Global,
@@ -152,7 +152,7 @@ pub(crate) fn prepare_row<L: OwnLists>(
 }
 
 /// ANSWER: the first of a node that was asked for the view counts.
-#[tactic(auto, unfolding(crate::proofs::Below::answer_row, crate::proofs::Below::answer_to, crate::proofs::Below::gather_on, crate::proofs::Below::gathered, crate::proofs::Below::gathering_set, crate::proofs::Below::add_answer))]
+#[tactic(auto, unfolding(view_state::specs::Views::answer_row, view_state::specs::Views::answer_to, view_state::specs::Views::gather_on, view_state::specs::Views::gathered, view_state::specs::Views::gathering_set, view_state::specs::Answers::add_answer))]
 pub(crate) fn answer_row(
     work: &mut ViewWork,
     alloc: Global,
@@ -174,7 +174,7 @@ pub(crate) fn answer_row(
 }
 
 /// REFUSE of the view that is gathered for: the gathering is dropped, and a later view has a number above.
-#[tactic(auto, unfolding(crate::proofs::Below::refuse_row, crate::proofs::Below::refuse_to, crate::proofs::Below::refused_by))]
+#[tactic(auto, unfolding(view_state::specs::Views::refuse_row, view_state::specs::Views::refuse_to, view_state::specs::Views::refused_by))]
 pub(crate) fn refuse_row(work: &mut ViewWork, view: ViewId, number: u32)
     ensures { work.new ≡ refuse_row work.old view number }
 {
@@ -188,7 +188,7 @@ pub(crate) fn refuse_row(work: &mut ViewWork, view: ViewId, number: u32)
 
 /// INSTALL: of the view that the node is in it says TAKEN again; of its promise, where it is a member with its
 /// incarnation, it is to be applied.
-#[tactic(auto, unfolding(crate::proofs::Below::install_row, crate::proofs::Below::installed))]
+#[tactic(auto, unfolding(view_state::specs::Views::install_row, view_state::specs::Views::installed))]
 pub(crate) fn install_row(work: &mut ViewWork, install: Install) -> Result<(), NoMemory>
     ensures { OnOk result (work.new ≡ install_row work.old install) }
 {
@@ -203,7 +203,7 @@ pub(crate) fn install_row(work: &mut ViewWork, install: Install) -> Result<(), N
 }
 
 /// TAKEN, also while frozen.
-#[tactic(auto, unfolding(crate::proofs::Below::taken_row))]
+#[tactic(auto, unfolding(view_state::specs::Views::taken_row))]
 pub(crate) fn taken_row(work: &mut ViewWork, from: u8, view: ViewId)
     ensures { work.new ≡ taken_row work.old from view }
 {

@@ -6,11 +6,11 @@ use crate::lists::OwnLists;
 use crate::rows::{answer_row, ask_row, install_row, prepare_row, refuse_row, taken_row};
 use crate::tick::gathering_ticks;
 use crate::work::install_again;
+use rsct_packet::{List, Mask, NoMemory, ViewId};
 use std::alloc::Global;
 use std::mem;
 use view_exchange::AnswerRef;
-use view_exchange::rsct_packet::{List, Mask, NoMemory, ViewId};
-use view_exchange::view_state::{Install, RingAsk, ViewSends, ViewWork, Views};
+use view_state::{Install, RingAsk, ViewSends, ViewWork, Views};
 
 /// What happens to a node's views: an order to ask for a view of these nodes; a tick, with what it says of the
 /// rings; the reminder of an install, later in a tick; and the packets of views, from a node in an incarnation where

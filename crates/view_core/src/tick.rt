@@ -1,19 +1,19 @@
 //! What a node's tick does for views.
 ghost use Rattle.std.specs.Prelude.{◌≡◌, OnOk};
-ghost use Rattle.view_exchange.specs.view_state.Views.{prepare_again, may_ask_anew, was_stuck, tick_asks, note_stuck, gathering_ticks};
+ghost use Rattle.view_state.specs.Views.{prepare_again, may_ask_anew, was_stuck, tick_asks, note_stuck, gathering_ticks};
 
 use crate::lists::OwnLists;
 use crate::rows::ask_row;
 use crate::work::send_prepare;
+use rsct_packet::{Mask, NoMemory, risen};
 use std::alloc::Global;
-use view_exchange::rsct_packet::{Mask, NoMemory, risen};
-use view_exchange::view_state::{RingAsk, ViewWork, Views};
+use view_state::{RingAsk, ViewWork, Views};
 
 /// How many ticks a gathering goes on before the node asks anew.
 const PATIENCE: u32 = 4;
 
 /// Is it stuck now, and was it at each of the three ticks before?
-#[tactic(auto, unfolding(crate::proofs::Below::was_stuck))]
+#[tactic(auto, unfolding(view_state::specs::Views::was_stuck))]
 fn was_stuck(views: &Views) -> bool
     ensures { result ≡ was_stuck views.now }
 {
@@ -21,7 +21,7 @@ fn was_stuck(views: &Views) -> bool
 }
 
 /// Is there no gathering, or one of the age at which a node asks anew, or one of other nodes?
-#[tactic(auto, unfolding(crate::proofs::Below::may_ask_anew))]
+#[tactic(auto, unfolding(view_state::specs::Views::may_ask_anew))]
 fn may_ask_anew(views: &Views, mask: Mask) -> bool
     ensures { result ≡ may_ask_anew mask views.now.gathering }
 {
@@ -31,7 +31,7 @@ fn may_ask_anew(views: &Views, mask: Mask) -> bool
     }
 }
 
-#[tactic(auto, unfolding(crate::proofs::Below::tick_asks))]
+#[tactic(auto, unfolding(view_state::specs::Views::tick_asks))]
 fn tick_asks(views: &Views, ask: RingAsk) -> bool
     ensures { result ≡ tick_asks views.now ask }
 {
@@ -39,7 +39,7 @@ fn tick_asks(views: &Views, ask: RingAsk) -> bool
 }
 
 /// PREPARE again to those who have not answered; the gathering is a tick older.
-#[tactic(auto, unfolding(crate::proofs::Below::prepare_again, crate::proofs::Below::aged, crate::proofs::Below::gathering_set))]
+#[tactic(auto, unfolding(view_state::specs::Views::prepare_again, view_state::specs::Views::aged, view_state::specs::Views::gathering_set))]
 fn prepare_again(work: &mut ViewWork, alloc: Global) -> Result<(), NoMemory>
     ensures { OnOk result (work.new ≡ prepare_again work.old work.old.views.gathering) }
 {
@@ -53,7 +53,7 @@ fn prepare_again(work: &mut ViewWork, alloc: Global) -> Result<(), NoMemory>
     send_prepare(work, to.as_slice(), view, mask)
 }
 
-#[tactic(auto, unfolding(crate::proofs::Below::note_stuck))]
+#[tactic(auto, unfolding(view_state::specs::Views::note_stuck))]
 fn note_stuck(work: &mut ViewWork)
     ensures { work.new ≡ note_stuck work.old }
 {
@@ -62,7 +62,7 @@ fn note_stuck(work: &mut ViewWork)
 
 /// A tick: with what it says of the rings the node may ask for a view; without rings, and else, PREPARE goes out
 /// again.
-#[tactic(auto, unfolding(crate::proofs::Below::gathering_ticks, crate::proofs::Below::asks_or_ages))]
+#[tactic(auto, unfolding(view_state::specs::Views::gathering_ticks, view_state::specs::Views::asks_or_ages))]
 pub(crate) fn gathering_ticks<L: OwnLists>(
     work: &mut ViewWork,
     alloc: Global,

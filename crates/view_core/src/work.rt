@@ -1,16 +1,14 @@
 //! Views at work: what is sent, promised and installed.
 ghost use Rattle.std.specs.Prelude.{◌≡◌, ◌&&◌, ◌++◌, ◌==◌, ◌+◌, ◌<◌, map, filter, max, not, IfOk, OnOk};
-ghost use Rattle.view_exchange.specs.rsct_packet.declared.ids.Member.{Member};
-ghost use Rattle.view_exchange.specs.rsct_packet.Mask.{has_node, nodes_of};
-ghost use Rattle.view_exchange.specs.view_state.Answers.{is_spelled};
-ghost use Rattle.view_exchange.specs.view_state.Views.{is_frozen, is_coordinator, others_of, view_sent, view_sent_all, promised, begin_install, gather_on, install_again_of, install_again, next_view, may_ask, own_answer};
+ghost use Rattle.rsct_packet.specs.declared.ids.Member.{Member};
+ghost use Rattle.rsct_packet.specs.Mask.{has_node, nodes_of};
+ghost use Rattle.view_state.specs.Answers.{is_spelled};
+ghost use Rattle.view_state.specs.Views.{is_frozen, is_coordinator, others_of, view_sent, view_sent_all, promised, begin_install, gather_on, install_again_of, install_again, next_view, may_ask, own_answer};
 
 use crate::lists::OwnLists;
+use rsct_packet::{Mask, Member, NODES, NoMemory, ViewId};
 use std::alloc::Global;
-use view_exchange::rsct_packet::{Mask, Member, NODES, NoMemory, ViewId};
-use view_exchange::view_state::{
-    Answer, Exchange, Install, ViewPacket, ViewSend, ViewSends, ViewWork, Views,
-};
+use view_state::{Answer, Exchange, Install, ViewPacket, ViewSend, ViewSends, ViewWork, Views};
 
 /// How many parts an answer has at most.
 pub const MAX_PARTS: usize = 255;
@@ -55,7 +53,7 @@ fn send_install_each(
 }
 
 /// The nodes of members but for one, ascending.
-#[tactic(auto, unfolding(crate::proofs::Below::others_of))]
+#[tactic(auto, unfolding(view_state::specs::Views::others_of))]
 fn others_of(alloc: Global, me: u8, members: &[Member]) -> Result<Vec<u8>, NoMemory>
     ensures { IfOk result (λ v. v.items ≡ others_of me members.now) }
 {
@@ -69,7 +67,7 @@ fn others_of(alloc: Global, me: u8, members: &[Member]) -> Result<Vec<u8>, NoMem
 }
 
 /// The nodes of a set but for one, ascending.
-#[tactic(auto, unfolding(crate::proofs::Below::nodes_of))]
+#[tactic(auto, unfolding(rsct_packet::specs::Mask::nodes_of))]
 pub(crate) fn nodes_but(alloc: Global, me: u8, mask: Mask) -> Result<Vec<u8>, NoMemory>
     ensures { IfOk result (λ v. v.items ≡ filter (λ n. not (n == me)) (nodes_of mask)) }
 {
@@ -100,7 +98,7 @@ fn untaken(views: &Views, alloc: Global) -> Result<Vec<u8>, NoMemory>
 }
 
 /// Is the node one of these, and is a number left for a view of them?
-#[tactic(auto, unfolding(crate::proofs::Below::may_ask))]
+#[tactic(auto, unfolding(view_state::specs::Views::may_ask))]
 pub(crate) fn may_ask(views: &Views, mask: Mask) -> bool
     ensures { result ≡ may_ask views.now mask }
 {
@@ -108,7 +106,7 @@ pub(crate) fn may_ask(views: &Views, mask: Mask) -> bool
 }
 
 /// A view of the node's own, above what it promised and what was refused to it.
-#[tactic(auto, unfolding(crate::proofs::Below::next_view, crate::proofs::Below::may_ask))]
+#[tactic(auto, unfolding(view_state::specs::Views::next_view, view_state::specs::Views::may_ask))]
 pub(crate) fn next_view(views: &Views) -> ViewId
     requires { max views.now.promise.number views.now.floor < 4294967295 }
     ensures { result ≡ next_view views.now }
@@ -136,14 +134,14 @@ pub(crate) fn own_answer<L: OwnLists>(
     })
 }
 
-#[tactic(auto, unfolding(crate::proofs::Below::view_sent))]
+#[tactic(auto, unfolding(view_state::specs::Views::view_sent))]
 pub(crate) fn send(work: &mut ViewWork, to: u8, packet: ViewPacket) -> Result<(), NoMemory>
     ensures { OnOk result (work.new ≡ view_sent work.old to packet) }
 {
     work.sends.push(ViewSend { to, packet })
 }
 
-#[tactic(auto, unfolding(crate::proofs::Below::view_sent_all))]
+#[tactic(auto, unfolding(view_state::specs::Views::view_sent_all))]
 pub(crate) fn send_prepare(
     work: &mut ViewWork,
     to: &[u8],
@@ -156,7 +154,7 @@ pub(crate) fn send_prepare(
     send_prepare_each(&mut work.sends, to, view, mask)
 }
 
-#[tactic(auto, unfolding(crate::proofs::Below::view_sent_all))]
+#[tactic(auto, unfolding(view_state::specs::Views::view_sent_all))]
 fn send_install(
     work: &mut ViewWork,
     alloc: Global,
@@ -170,7 +168,7 @@ fn send_install(
 }
 
 /// A promise drops a gathering.
-#[tactic(auto, unfolding(crate::proofs::Below::promised))]
+#[tactic(auto, unfolding(view_state::specs::Views::promised))]
 pub(crate) fn promise(work: &mut ViewWork, view: ViewId)
     ensures { work.new ≡ promised work.old view }
 {
@@ -179,7 +177,7 @@ pub(crate) fn promise(work: &mut ViewWork, view: ViewId)
 }
 
 /// Sends an install to the others, ascending, and has it applied here. One without a spelling is dropped.
-#[tactic(auto, unfolding(crate::proofs::Below::begin_install))]
+#[tactic(auto, unfolding(view_state::specs::Views::begin_install))]
 fn begin_install(work: &mut ViewWork, alloc: Global, install: Install) -> Result<(), NoMemory>
     ensures { OnOk result (work.new ≡ begin_install work.old install (is_spelled install)) }
 {
@@ -193,7 +191,7 @@ fn begin_install(work: &mut ViewWork, alloc: Global, install: Install) -> Result
 }
 
 /// Goes on with a gathering, or installs its view where all have answered.
-#[tactic(auto, unfolding(crate::proofs::Below::gather_on, crate::proofs::Below::gathered, crate::proofs::Below::gathering_set))]
+#[tactic(auto, unfolding(view_state::specs::Views::gather_on, view_state::specs::Views::gathered, view_state::specs::Views::gathering_set))]
 pub(crate) fn gather_on(
     work: &mut ViewWork,
     alloc: Global,
@@ -210,7 +208,7 @@ pub(crate) fn gather_on(
     begin_install(work, alloc, install)
 }
 
-#[tactic(auto, unfolding(crate::proofs::Below::install_again_of, crate::proofs::Below::view_sent_all))]
+#[tactic(auto, unfolding(view_state::specs::Views::install_again_of, view_state::specs::Views::view_sent_all))]
 fn install_again_of(work: &mut ViewWork, alloc: Global) -> Result<(), NoMemory>
     ensures { OnOk result (work.new ≡ install_again_of work.old work.old.views.install) }
 {
@@ -222,7 +220,7 @@ fn install_again_of(work: &mut ViewWork, alloc: Global) -> Result<(), NoMemory>
 }
 
 /// INSTALL again to the members that have not taken it, where the node is the view's coordinator and not frozen.
-#[tactic(auto, unfolding(crate::proofs::Below::install_again))]
+#[tactic(auto, unfolding(view_state::specs::Views::install_again))]
 pub(crate) fn install_again(work: &mut ViewWork, alloc: Global) -> Result<(), NoMemory>
     ensures { OnOk result (work.new ≡ install_again work.old) }
 {

@@ -2,9 +2,9 @@
 use Rattle.std.proofs.Common.{◌≡◌, ℕ, suc, Bool, true, false, cond, List, [], ◌∷◌, Option, Some, None, refl, sym, ap, ◌∙◌, inl, inr, ⊎_elim, ◌⊎◌}
 use Rattle.std.specs.Prelude.{find, is_none}
 use Rattle.std.specs.Option.{option_map}
-use Rattle.view_state.specs.rsct_packet.Search.{Has, place_where, edit_where, insert_before}
-use Rattle.view_state.proofs.rsct_packet_laws.HasLaws.{find_none}
-use Rattle.view_state.proofs.rsct_packet_laws.SearchLaws.{missing_at_place}
+use Rattle.rsct_packet.specs.Search.{Has, place_where, edit_where, insert_before}
+use Rattle.rsct_packet.proofs.HasLaws.{find_none}
+use Rattle.rsct_packet.proofs.SearchLaws.{missing_at_place}
 
 pub inserted_has : {A : Type 0} (test : A → Bool) (y x : A) (xs : List A) → Has x (insert_before test y xs) → (x ≡ y) ⊎ Has x xs
 inserted_has test y x [] h = h

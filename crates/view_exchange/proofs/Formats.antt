@@ -4,13 +4,13 @@ use Rattle.std.specs.Prelude.{IsTrue, IfSome, IfOk, Result, Ok, Err, ◌&&◌, n
 use Rattle.std.specs.Int.{w8, w32}
 use Rattle.std.proofs.lemmas.Bool.{cases_lt, leb-true, le-leb}
 use Rattle.std.proofs.lemmas.List.{get_or_append_left, get_or_past}
-use Rattle.view_state.specs.rsct_packet.Reading.{◌>>=◌, number_at, part_at}
-use Rattle.view_state.specs.rsct_packet.Format.{IsFormat, IsBytes, Takes, EachFits}
-use Rattle.view_state.specs.rsct_packet.Fields.{u32_text, IsU32, IsNode, IsMember}
-use Rattle.view_state.specs.rsct_packet.declared.ids.Member.{Member}
-use Rattle.view_state.proofs.rsct_packet_laws.FormatLaws.{bind_some, both_format, made_format, guarded_format, fits_format, counted_format, part_keyed, wide8, wide32, u32_format}
-use Rattle.view_state.proofs.rsct_packet_laws.FieldLaws.{and_true, both_true, name_format, mask_format, view_format, member_format}
-use Rattle.view_state.specs.proposal_core.EntryCodec.{whole}
+use Rattle.rsct_packet.specs.Reading.{◌>>=◌, number_at, part_at}
+use Rattle.rsct_packet.specs.Format.{IsFormat, IsBytes, Takes, EachFits}
+use Rattle.rsct_packet.specs.Fields.{u32_text, IsU32, IsNode, IsMember}
+use Rattle.rsct_packet.specs.declared.ids.Member.{Member}
+use Rattle.rsct_packet.proofs.FormatLaws.{bind_some, both_format, made_format, guarded_format, fits_format, counted_format, part_keyed, wide8, wide32, u32_format}
+use Rattle.rsct_packet.proofs.FieldLaws.{and_true, both_true, name_format, mask_format, view_format, member_format}
+use Rattle.proposal_core.specs.EntryCodec.{whole}
 use Rattle.group_codec.proofs.EntryFormat.{entry_format}
 use Rattle.group_codec.proofs.StateFormat.{state_format}
 use Rattle.std.specs.Borrow.{Bor}

@@ -5,11 +5,11 @@ use Rattle.std.specs.Str.{bytes_eq}
 use Rattle.std.proofs.lemmas.Bool.{cases_lt}
 use Rattle.std.proofs.lemmas.Bool.Decides.{nat_tests}
 use Rattle.std.proofs.lemmas.Slice.Eq.{bytes_eq-Decides}
-use Rattle.view_state.specs.rsct_packet.declared.ids.ViewId.{ViewId}
-use Rattle.view_state.specs.rsct_packet.declared.mask.Mask.{Mask}
-use Rattle.view_state.specs.rsct_packet.Ids.{same_view}
-use Rattle.view_state.specs.rsct_packet.Search.{Has, place_where, edit_where, insert_before}
-use Rattle.view_state.proofs.rsct_packet_laws.HasLaws.{has_append, append_has_left, append_has_right, has_map}
+use Rattle.rsct_packet.specs.declared.ids.ViewId.{ViewId}
+use Rattle.rsct_packet.specs.declared.mask.Mask.{Mask}
+use Rattle.rsct_packet.specs.Ids.{same_view}
+use Rattle.rsct_packet.specs.Search.{Has, place_where, edit_where, insert_before}
+use Rattle.rsct_packet.proofs.HasLaws.{has_append, append_has_left, append_has_right, has_map}
 use Rattle.view_state.specs.declared.answer.Answer.{Answer}
 use Rattle.view_state.specs.declared.exchange.Exchange.{Exchange}
 use Rattle.view_state.specs.declared.sides.Kept.{Kept}

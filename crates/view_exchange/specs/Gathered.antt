@@ -1,6 +1,6 @@
 -- Answers one after another.
 use Rattle.std.specs.Prelude.{◌≡◌, ◌++◌, List, [], ◌∷◌}
-use Rattle.view_state.specs.rsct_packet.Search.{Has}
+use Rattle.rsct_packet.specs.Search.{Has}
 use Rattle.view_state.specs.declared.answer.Answer.{Answer}
 use Rattle.view_state.specs.declared.exchange.Exchange.{Exchange}
 use Rattle.view_state.specs.Answers.{may_answer, add_answer}

@@ -1,17 +1,17 @@
 //! What a node that is asked for a view answers.
 ghost use Rattle.std.specs.Prelude.{◌≡◌, ◌++◌, IfSome, OnOk, OnErr, IfOk};
 ghost use Rattle.std.specs.Option.{option_map};
-ghost use Rattle.view_state.specs.rsct_packet.Fields.{IsNode};
-ghost use Rattle.view_state.specs.rsct_packet.Format.{IsBytes};
-ghost use Rattle.view_state.specs.proposal_core.EntryCodec.{whole};
+ghost use Rattle.rsct_packet.specs.Fields.{IsNode};
+ghost use Rattle.rsct_packet.specs.Format.{IsBytes};
+ghost use Rattle.proposal_core.specs.EntryCodec.{whole};
 ghost use Rattle.view_state.specs.Codec.{Brought, answer_at, answer_text, IsAnswer, IsParts};
 ghost use Rattle.view_exchange.specs.InPlace.{brought_in};
 
 use crate::in_place::{PartsRef, read_parts};
 use crate::writing::put_parts;
+use rsct_packet::{NoMemory, ViewId, known, put_view, read_view};
 use std::alloc::Global;
 use view_state::Part;
-use view_state::rsct_packet::{NoMemory, ViewId, known, put_view, read_view};
 
 /// An answer as it stands in a datagram: the view that its node comes from, and the node's lists in name order.
 #[derive(Drop)]

@@ -1,18 +1,18 @@
 //! Answers that are added to a gathering.
 ghost use Rattle.std.specs.Prelude.{◌≡◌, ◌≤◌, length, IfOk, OnOk};
-ghost use Rattle.view_state.specs.rsct_packet.Format.{EachFits};
-ghost use Rattle.view_state.specs.rsct_packet.Search.{front_len};
+ghost use Rattle.rsct_packet.specs.Format.{EachFits};
+ghost use Rattle.rsct_packet.specs.Search.{front_len};
 ghost use Rattle.view_state.specs.Answers.{may_answer, is_member_above, with_member, with_answer, add_answer};
 ghost use Rattle.view_state.specs.Tails.{IsTail, KeepsTails};
 ghost use Rattle.view_exchange.specs.InPlace.{answer_in};
 
 use crate::answer::AnswerRef;
 use crate::sides::take_answer;
+use rsct_packet::{List, Member, Members, NoMemory};
 use std::alloc::Global;
 use view_state::Exchange;
-use view_state::rsct_packet::{List, Member, Members, NoMemory};
 
-#[tactic(auto, using(crate::proofs::Below::front_search))]
+#[tactic(auto, using(rsct_packet::proofs::SearchLaws::front_search))]
 fn member_front_alone(members: &[Member], node: u8) -> usize
     ensures { result ≡ front_len (is_member_above node) members.now }
 {
@@ -25,7 +25,7 @@ fn member_front_alone(members: &[Member], node: u8) -> usize
 }
 
 /// Where a node comes in.
-#[tactic(auto, using(crate::proofs::Below::front_is_in))]
+#[tactic(auto, using(rsct_packet::proofs::SearchLaws::front_is_in))]
 fn member_front(members: &[Member], node: u8) -> usize
     ensures value { result ≡ front_len (is_member_above node) members.now }
     ensures within { result ≤ length members.now }
@@ -33,7 +33,7 @@ fn member_front(members: &[Member], node: u8) -> usize
     member_front_alone(members, node)
 }
 
-#[tactic(auto, using(crate::proofs::Below::insert_at_front, std::proofs::lemmas::Grind::common_steps))]
+#[tactic(auto, using(rsct_packet::proofs::SearchLaws::insert_at_front, std::proofs::lemmas::Grind::common_steps))]
 fn with_member(alloc: Global, members: &Members, member: Member) -> Result<Members, NoMemory>
     ensures { IfOk result (λ l. l ≡ with_member members.now member) }
 {

@@ -1,21 +1,19 @@
 //! Group parts as they stand in a datagram.
 ghost use Rattle.std.specs.Prelude.{◌≡◌, ◌++◌, ◌∷◌, [], length, IfOk, IfNone, IfSome, slice_get, option_copied};
 ghost use Rattle.std.specs.Option.{option_map};
-ghost use Rattle.view_state.specs.rsct_packet.Reading.{Gives, many_at};
-ghost use Rattle.view_state.specs.rsct_packet.Text.{IsName};
-ghost use Rattle.view_state.specs.proposal_core.EntryCodec.{IsEntry};
+ghost use Rattle.rsct_packet.specs.Reading.{Gives, many_at};
+ghost use Rattle.rsct_packet.specs.Text.{IsName};
+ghost use Rattle.proposal_core.specs.EntryCodec.{IsEntry};
 ghost use Rattle.group_codec.specs.InPlace.{entry_in};
 ghost use Rattle.view_state.specs.Codec.{sized_entry_at, group_part_at, IsPart, names_ascend, parts_at};
 ghost use Rattle.view_state.specs.Parts.{part_len, entry_of};
 ghost use Rattle.view_exchange.specs.InPlace.{part_in};
 
 use group_codec::{EntryRef, StateRef, read_entry, read_state};
+use proposal_core::Entry;
+use rsct_packet::{List, Name, NoMemory, known, read_name, read_part, read_u8, read_u32};
 use std::alloc::Global;
 use std::marker::Model;
-use view_state::proposal_core::Entry;
-use view_state::rsct_packet::{
-    List, Name, NoMemory, known, read_name, read_part, read_u8, read_u32,
-};
 use view_state::{Part, Parts, is_after};
 
 /// Entries in place, each behind its length.
@@ -27,9 +25,9 @@ pub struct EntriesRef<'a> {
 
 impl<'a> Model for EntriesRef<'a> {
     ghost use Rattle.std.specs.Prelude.{List, IsSome};
-    ghost use Rattle.view_state.specs.rsct_packet.Reading.{many_at};
-    ghost use Rattle.view_state.specs.rsct_packet.Listed.{items_in};
-    ghost use Rattle.view_state.specs.proposal_core.declared.entry.Entry.{Entry};
+    ghost use Rattle.rsct_packet.specs.Reading.{many_at};
+    ghost use Rattle.rsct_packet.specs.Listed.{items_in};
+    ghost use Rattle.proposal_core.specs.declared.entry.Entry.{Entry};
     ghost use Rattle.view_state.specs.Codec.{sized_entry_at};
 
     ghost Value = { List Entry };
@@ -58,8 +56,8 @@ pub struct PartsRef<'a> {
 
 impl<'a> Model for PartsRef<'a> {
     ghost use Rattle.std.specs.Prelude.{List, IsSome};
-    ghost use Rattle.view_state.specs.rsct_packet.Reading.{many_at};
-    ghost use Rattle.view_state.specs.rsct_packet.Listed.{items_in};
+    ghost use Rattle.rsct_packet.specs.Reading.{many_at};
+    ghost use Rattle.rsct_packet.specs.Listed.{items_in};
     ghost use Rattle.view_state.specs.declared.install.Part.{Part};
     ghost use Rattle.view_state.specs.Codec.{group_part_at};
 
@@ -83,7 +81,7 @@ fn read_sized_entry(bytes: &[u8]) -> Option<(EntryRef<'_>, &[u8])>
 }
 
 /// So many entries, left where they stand.
-#[tactic(auto, using(crate::proofs::Below::skip_search))]
+#[tactic(auto, using(rsct_packet::proofs::ListedLaws::skip_search))]
 fn read_entries(count: usize, bytes: &[u8]) -> Option<(EntriesRef<'_>, &[u8])>
     ensures { Gives result (many_at sized_entry_at count bytes.now) }
 {
@@ -224,7 +222,7 @@ impl<'a> PartRef<'a> {
 }
 
 /// So many group parts, left where they stand.
-#[tactic(auto, using(crate::proofs::Below::skip_search))]
+#[tactic(auto, using(rsct_packet::proofs::ListedLaws::skip_search))]
 fn read_group_parts(count: usize, bytes: &[u8]) -> Option<(PartsRef<'_>, &[u8])>
     ensures { Gives result (many_at group_part_at count bytes.now) }
 {

@@ -1,19 +1,19 @@
 //! How installs are spelled.
 ghost use Rattle.std.specs.Prelude.{◌≡◌, ◌++◌, IfOk, IfSome, OnOk, OnErr, flat_map};
 ghost use Rattle.std.specs.Option.{option_map};
-ghost use Rattle.view_state.specs.rsct_packet.Format.{IsBytes, EachFits};
-ghost use Rattle.view_state.specs.proposal_core.EntryCodec.{whole};
+ghost use Rattle.rsct_packet.specs.Format.{IsBytes, EachFits};
+ghost use Rattle.proposal_core.specs.EntryCodec.{whole};
 ghost use Rattle.view_state.specs.Codec.{source_text, IsSource, has_member, comes_once, each_comes_once, members_ascend, is_in_order, install_at, install_text, IsInstall};
 ghost use Rattle.view_state.specs.Tails.{HasTails};
 ghost use Rattle.view_exchange.specs.SourcesInPlace.{install_in};
 
 use crate::sources_in_place::{SourcesRef, read_sources};
 use crate::writing::put_parts;
-use std::alloc::Global;
-use view_state::rsct_packet::{
+use rsct_packet::{
     Listed, Member, NODES, NoMemory, ViewId, known, put_list, put_mask, put_u8, put_view,
     read_list, read_view,
 };
+use std::alloc::Global;
 use view_state::{Install, Source};
 
 /// An install in place.

@@ -13,9 +13,6 @@ mod writing;
 
 pub use answer::{AnswerRef, put_answer};
 pub use exchange::add_answer;
-pub use group_codec;
 pub use in_place::{EntriesRef, PartRef, PartsRef};
 pub use install_codec::{InstallRef, put_install, read_install};
 pub use laws::{first_answers_count, longest_lists_are_carried};
-pub use view_state;
-pub use view_state::rsct_packet;

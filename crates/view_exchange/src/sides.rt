@@ -1,19 +1,19 @@
 //! What an answer brings to the sides of a gathering.
 ghost use Rattle.std.specs.Prelude.{◌≡◌, ◌≤◌, ◌<◌, length, map, IfOk, IfSome, OnOk};
-ghost use Rattle.view_state.specs.rsct_packet.Text.{IsName};
-ghost use Rattle.view_state.specs.rsct_packet.Search.{place_where, front_len};
+ghost use Rattle.rsct_packet.specs.Text.{IsName};
+ghost use Rattle.rsct_packet.specs.Search.{place_where, front_len};
 ghost use Rattle.view_state.specs.Answers.{kept_of, is_beaten, better_of, is_kept_of, is_kept_above, with_kept, with_parts, side_with, side_from, is_side_of, is_side_above, with_side};
 ghost use Rattle.view_exchange.specs.InPlace.{part_in, answer_in};
 
 use crate::answer::AnswerRef;
 use crate::in_place::{PartRef, PartsRef};
 use crate::sources_in_place::is_earlier;
+use rsct_packet::{Mask, NoMemory, ViewId};
 use std::alloc::Global;
 use std::mem;
-use view_state::rsct_packet::{Mask, NoMemory, ViewId};
 use view_state::{Kept, KeptParts, Side, Sides, is_less};
 
-#[tactic(auto, using(crate::proofs::Below::place_search))]
+#[tactic(auto, using(rsct_packet::proofs::SearchLaws::place_search))]
 fn kept_place_alone(kept: &[Kept], name: &[u8]) -> Option<usize>
     ensures { result ≡ place_where (is_kept_of name.now) kept.now }
 {
@@ -26,7 +26,7 @@ fn kept_place_alone(kept: &[Kept], name: &[u8]) -> Option<usize>
 }
 
 /// The place of the list of this group.
-#[tactic(auto, using(crate::proofs::Below::place_is_in))]
+#[tactic(auto, using(rsct_packet::proofs::SearchLaws::place_is_in))]
 fn kept_place(kept: &[Kept], name: &[u8]) -> Option<usize>
     ensures value { result ≡ place_where (is_kept_of name.now) kept.now }
     ensures within { IfSome result (λ i. i < length kept.now) }
@@ -34,7 +34,7 @@ fn kept_place(kept: &[Kept], name: &[u8]) -> Option<usize>
     kept_place_alone(kept, name)
 }
 
-#[tactic(auto, using(crate::proofs::Below::front_search))]
+#[tactic(auto, using(rsct_packet::proofs::SearchLaws::front_search))]
 fn kept_front_alone(kept: &[Kept], name: &[u8]) -> usize
     ensures { result ≡ front_len (is_kept_above name.now) kept.now }
 {
@@ -47,7 +47,7 @@ fn kept_front_alone(kept: &[Kept], name: &[u8]) -> usize
 }
 
 /// Where a group that has none yet comes in.
-#[tactic(auto, using(crate::proofs::Below::front_is_in))]
+#[tactic(auto, using(rsct_packet::proofs::SearchLaws::front_is_in))]
 fn kept_front(kept: &[Kept], name: &[u8]) -> usize
     ensures value { result ≡ front_len (is_kept_above name.now) kept.now }
     ensures within { result ≤ length kept.now }
@@ -79,7 +79,7 @@ fn improve(kept: &mut Kept, alloc: Global, node: u8, part: &PartRef) -> Result<(
 
 /// Keeps a node's list where it is the first of its group, or beats the one that is kept. Nothing else of it is
 /// copied.
-#[tactic(auto, unfolding(view_state::specs::Answers::with_kept), using(crate::proofs::Below::set_is_edit, crate::proofs::Below::insert_at_front, std::proofs::lemmas::Grind::common_steps))]
+#[tactic(auto, unfolding(view_state::specs::Answers::with_kept), using(rsct_packet::proofs::SearchLaws::set_is_edit, rsct_packet::proofs::SearchLaws::insert_at_front, std::proofs::lemmas::Grind::common_steps))]
 fn keep(kept: &mut Vec<Kept>, alloc: Global, node: u8, part: &PartRef) -> Result<(), NoMemory>
     requires { IsName part.now.name.now }
     ensures { OnOk result (kept.new.items ≡ with_kept kept.old.items
@@ -151,7 +151,7 @@ fn side_of(alloc: Global, node: u8, inc: u32, answer: &AnswerRef) -> Result<Side
     })
 }
 
-#[tactic(auto, using(crate::proofs::Below::place_search))]
+#[tactic(auto, using(rsct_packet::proofs::SearchLaws::place_search))]
 fn side_place_alone(sides: &[Side], view: ViewId) -> Option<usize>
     ensures { result ≡ place_where (is_side_of view) sides.now }
 {
@@ -164,7 +164,7 @@ fn side_place_alone(sides: &[Side], view: ViewId) -> Option<usize>
 }
 
 /// The place of the side of this view.
-#[tactic(auto, using(crate::proofs::Below::place_is_in))]
+#[tactic(auto, using(rsct_packet::proofs::SearchLaws::place_is_in))]
 fn side_place(sides: &[Side], view: ViewId) -> Option<usize>
     ensures value { result ≡ place_where (is_side_of view) sides.now }
     ensures within { IfSome result (λ i. i < length sides.now) }
@@ -172,7 +172,7 @@ fn side_place(sides: &[Side], view: ViewId) -> Option<usize>
     side_place_alone(sides, view)
 }
 
-#[tactic(auto, using(crate::proofs::Below::front_search))]
+#[tactic(auto, using(rsct_packet::proofs::SearchLaws::front_search))]
 fn side_front_alone(sides: &[Side], view: ViewId) -> usize
     ensures { result ≡ front_len (is_side_above view) sides.now }
 {
@@ -185,7 +185,7 @@ fn side_front_alone(sides: &[Side], view: ViewId) -> usize
 }
 
 /// Where a view that has none yet comes in.
-#[tactic(auto, using(crate::proofs::Below::front_is_in))]
+#[tactic(auto, using(rsct_packet::proofs::SearchLaws::front_is_in))]
 fn side_front(sides: &[Side], view: ViewId) -> usize
     ensures value { result ≡ front_len (is_side_above view) sides.now }
     ensures within { result ≤ length sides.now }
@@ -193,7 +193,7 @@ fn side_front(sides: &[Side], view: ViewId) -> usize
     side_front_alone(sides, view)
 }
 
-#[tactic(auto, unfolding(view_state::specs::Answers::with_side), using(crate::proofs::Below::set_is_edit, crate::proofs::Below::insert_at_front, std::proofs::lemmas::Grind::common_steps))]
+#[tactic(auto, unfolding(view_state::specs::Answers::with_side), using(rsct_packet::proofs::SearchLaws::set_is_edit, rsct_packet::proofs::SearchLaws::insert_at_front, std::proofs::lemmas::Grind::common_steps))]
 fn take_among(
     sides: &mut Vec<Side>,
     alloc: Global,

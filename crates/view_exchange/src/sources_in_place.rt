@@ -2,15 +2,15 @@
 ghost use Rattle.std.specs.Prelude.{◌≡◌, ◌++◌, ◌∷◌, [], IfOk, IfNone, IfSome, option_copied};
 ghost use Rattle.std.specs.Option.{option_map};
 ghost use Rattle.std.specs.Int.{w8};
-ghost use Rattle.view_state.specs.rsct_packet.Reading.{Gives, many_at, counted_at};
-ghost use Rattle.view_state.specs.rsct_packet.Ids.{view_lt};
+ghost use Rattle.rsct_packet.specs.Reading.{Gives, many_at, counted_at};
+ghost use Rattle.rsct_packet.specs.Ids.{view_lt};
 ghost use Rattle.view_state.specs.Codec.{source_at_front, is_after_view, views_ascend, comes_from};
 ghost use Rattle.view_exchange.specs.SourcesInPlace.{source_in};
 
 use crate::in_place::{PartsRef, read_parts};
+use rsct_packet::{List, Mask, NoMemory, ViewId, read_mask, read_u8, read_view};
 use std::alloc::Global;
 use std::marker::Model;
-use view_state::rsct_packet::{List, Mask, NoMemory, ViewId, read_mask, read_u8, read_view};
 use view_state::{Source, Sources};
 
 /// A source in place.
@@ -30,8 +30,8 @@ pub struct SourcesRef<'a> {
 
 impl<'a> Model for SourcesRef<'a> {
     ghost use Rattle.std.specs.Prelude.{List, IsSome};
-    ghost use Rattle.view_state.specs.rsct_packet.Reading.{many_at};
-    ghost use Rattle.view_state.specs.rsct_packet.Listed.{items_in};
+    ghost use Rattle.rsct_packet.specs.Reading.{many_at};
+    ghost use Rattle.rsct_packet.specs.Listed.{items_in};
     ghost use Rattle.view_state.specs.declared.install.Source.{Source};
     ghost use Rattle.view_state.specs.Codec.{source_at_front};
 
@@ -53,7 +53,7 @@ fn read_source(bytes: &[u8]) -> Option<(SourceRef<'_>, &[u8])>
 }
 
 /// So many sources, left where they stand.
-#[tactic(auto, using(crate::proofs::Below::skip_search))]
+#[tactic(auto, using(rsct_packet::proofs::ListedLaws::skip_search))]
 fn read_so_many(count: usize, bytes: &[u8]) -> Option<(SourcesRef<'_>, &[u8])>
     ensures { Gives result (many_at source_at_front count bytes.now) }
 {

@@ -1,13 +1,13 @@
 //! Group parts as they are written. Where memory has run out, what was written so far is of no use.
 ghost use Rattle.std.specs.Prelude.{◌≡◌, ◌++◌, IfOk, OnOk, flat_map};
-ghost use Rattle.view_state.specs.rsct_packet.Format.{EachFits};
+ghost use Rattle.rsct_packet.specs.Format.{EachFits};
 ghost use Rattle.view_state.specs.Codec.{sized_entry_text, IsSizedEntry, group_part_text, IsPart, parts_text, IsParts};
 
 use group_codec::{put_entry, put_state};
+use proposal_core::Entry;
+use rsct_packet::{NoMemory, put_name, put_u8, put_u32};
 use std::alloc::Global;
 use view_state::Part;
-use view_state::proposal_core::Entry;
-use view_state::rsct_packet::{NoMemory, put_name, put_u8, put_u32};
 
 /// An entry behind its length.
 #[tactic(auto, unfolding(view_state::specs::Codec::sized_entry_text))]
@@ -32,7 +32,7 @@ fn put_entries(alloc: Global, out: &mut Vec<u8>, entries: &[Entry]) -> Result<()
     Ok(())
 }
 
-#[tactic(auto, unfolding(view_state::specs::Codec::group_part_text, crate::proofs::Below::u32_text))]
+#[tactic(auto, unfolding(view_state::specs::Codec::group_part_text, rsct_packet::specs::Fields::u32_text))]
 fn put_part(alloc: Global, out: &mut Vec<u8>, part: &Part) -> Result<(), NoMemory>
     requires { IsPart part.now }
     ensures { OnOk result (out.new.items ≡ out.old.items ++ group_part_text part.now) }

@@ -1,10 +1,10 @@
 -- A gathering of parts of lists keeps parts of lists, and so does its install.
 use Rattle.std.proofs.Common.{◌≡◌, ℕ, Bool, true, false, cond, List, [], ◌∷◌, Option, Some, None, refl, sym, subst}
 use Rattle.std.specs.Prelude.{map, IfOk, Result, Ok, Err}
-use Rattle.proposal_core.specs.rsct_packet.declared.ids.ViewId.{ViewId}
-use Rattle.proposal_core.specs.rsct_packet.declared.mask.Mask.{Mask}
-use Rattle.proposal_core.specs.rsct_packet.Format.{EachFits}
-use Rattle.proposal_core.specs.rsct_packet.Search.{place_where, edit_where, insert_before}
+use Rattle.rsct_packet.specs.declared.ids.ViewId.{ViewId}
+use Rattle.rsct_packet.specs.declared.mask.Mask.{Mask}
+use Rattle.rsct_packet.specs.Format.{EachFits}
+use Rattle.rsct_packet.specs.Search.{place_where, edit_where, insert_before}
 use Rattle.view_state.specs.declared.answer.Answer.{Answer}
 use Rattle.view_state.specs.declared.exchange.Exchange.{Exchange}
 use Rattle.view_state.specs.declared.sides.Kept.{Kept}

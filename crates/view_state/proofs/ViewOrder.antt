@@ -1,8 +1,8 @@
 -- The order of views is an order.
 use Rattle.std.proofs.Common.{◌≡◌, true, false, arith}
 use Rattle.std.proofs.lemmas.Bool.Decides.{nat_tests}
-use Rattle.proposal_core.specs.rsct_packet.declared.ids.ViewId.{ViewId}
-use Rattle.proposal_core.specs.rsct_packet.Ids.{same_view, view_lt}
+use Rattle.rsct_packet.specs.declared.ids.ViewId.{ViewId}
+use Rattle.rsct_packet.specs.Ids.{same_view, view_lt}
 
 pub not_before_itself : (a : ViewId) → view_lt a a ≡ false
 not_before_itself a = grind (arith, nat_tests)

@@ -2,13 +2,13 @@
 use Rattle.std.specs.Prelude.{ℕ, Bool, true, false, not, ◌&&◌, ◌||◌, ◌==◌, List, [], ◌∷◌, map, length, fold, nat_lt, nat_le, Option, Some, None}
 use Rattle.std.specs.List.{list_any, list_all}
 use Rattle.std.specs.Str.{bytes_eq}
-use Rattle.proposal_core.specs.rsct_packet.declared.ids.ViewId.{ViewId}
-use Rattle.proposal_core.specs.rsct_packet.declared.ids.Member.{Member}
-use Rattle.proposal_core.specs.rsct_packet.declared.mask.Mask.{Mask}
-use Rattle.proposal_core.specs.rsct_packet.Ids.{same_view, view_lt}
-use Rattle.proposal_core.specs.rsct_packet.Mask.{no_nodes, has_node, with_node, nodes_of}
-use Rattle.proposal_core.specs.rsct_packet.Text.{name_lt}
-use Rattle.proposal_core.specs.rsct_packet.Search.{place_where, edit_where, insert_before}
+use Rattle.rsct_packet.specs.declared.ids.ViewId.{ViewId}
+use Rattle.rsct_packet.specs.declared.ids.Member.{Member}
+use Rattle.rsct_packet.specs.declared.mask.Mask.{Mask}
+use Rattle.rsct_packet.specs.Ids.{same_view, view_lt}
+use Rattle.rsct_packet.specs.Mask.{no_nodes, has_node, with_node, nodes_of}
+use Rattle.rsct_packet.specs.Text.{name_lt}
+use Rattle.rsct_packet.specs.Search.{place_where, edit_where, insert_before}
 use Rattle.view_state.specs.declared.answer.Answer.{Answer}
 use Rattle.view_state.specs.declared.exchange.Exchange.{Exchange}
 use Rattle.view_state.specs.declared.sides.Kept.{Kept}

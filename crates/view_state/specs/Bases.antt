@@ -1,14 +1,14 @@
 -- What each group begins with in a new view.
 use Rattle.std.specs.Prelude.{◌≡◌, ℕ, ◌≤◌, IsTrue, Bool, true, false, not, ◌&&◌, ◌||◌, ◌++◌, List, [], ◌∷◌, map, filter, find, fold, length, Option, Some, None, nat_le, is_some}
 use Rattle.std.specs.Str.{bytes_eq}
-use Rattle.proposal_core.specs.rsct_packet.declared.ids.ProviderId.{ProviderId}
-use Rattle.proposal_core.specs.rsct_packet.declared.ids.ViewId.{ViewId}
-use Rattle.proposal_core.specs.rsct_packet.Ids.{same_view, view_lt, is_member}
-use Rattle.proposal_core.specs.rsct_packet.Search.{Has}
-use Rattle.proposal_core.specs.rsct_packet.Lists.{is_empty, best_of}
-use Rattle.proposal_core.specs.rsct_packet.Mask.{has_node}
-use Rattle.proposal_core.specs.rsct_packet.Providers.{among}
-use Rattle.proposal_core.specs.rsct_packet.Text.{name_lt}
+use Rattle.rsct_packet.specs.declared.ids.ProviderId.{ProviderId}
+use Rattle.rsct_packet.specs.declared.ids.ViewId.{ViewId}
+use Rattle.rsct_packet.specs.Ids.{same_view, view_lt, is_member}
+use Rattle.rsct_packet.specs.Search.{Has}
+use Rattle.rsct_packet.specs.Lists.{is_empty, best_of}
+use Rattle.rsct_packet.specs.Mask.{has_node}
+use Rattle.rsct_packet.specs.Providers.{among}
+use Rattle.rsct_packet.specs.Text.{name_lt}
 use Rattle.proposal_core.specs.Fold.{present}
 use Rattle.view_state.specs.declared.install.Part.{Part}
 use Rattle.view_state.specs.declared.install.Source.{Source}

@@ -2,16 +2,16 @@
 use Rattle.std.specs.Prelude.{◌≡◌, ℕ, ◌+◌, ◌<◌, ◌≤◌, ◌^◌, Bool, true, false, ◌==◌, ◌&&◌, IsTrue, nat_le, List, [], ◌∷◌, ◌++◌, length, map, not, Option, Some, None}
 use Rattle.std.specs.Int.{w8, w32}
 use Rattle.std.specs.List.{list_any, list_all}
-use Rattle.proposal_core.specs.rsct_packet.declared.ids.ViewId.{ViewId}
-use Rattle.proposal_core.specs.rsct_packet.declared.ids.Member.{Member}
-use Rattle.proposal_core.specs.rsct_packet.declared.mask.Mask.{Mask}
-use Rattle.proposal_core.specs.rsct_packet.Ids.{last_u32, view_lt}
-use Rattle.proposal_core.specs.rsct_packet.Listed.{ascending}
-use Rattle.proposal_core.specs.rsct_packet.Mask.{node_numbers, has_node}
-use Rattle.proposal_core.specs.rsct_packet.Text.{IsName, name_lt}
-use Rattle.proposal_core.specs.rsct_packet.Reading.{◌>>=◌, number_at, part_at, both_at, made_at, guarded_at, counted_at}
-use Rattle.proposal_core.specs.rsct_packet.Format.{EachFits, counted_text}
-use Rattle.proposal_core.specs.rsct_packet.Fields.{u32_text, IsU32, name_at, name_text, mask_at, mask_text, IsMask, view_at, view_text, IsView, member_at, member_text, IsMember}
+use Rattle.rsct_packet.specs.declared.ids.ViewId.{ViewId}
+use Rattle.rsct_packet.specs.declared.ids.Member.{Member}
+use Rattle.rsct_packet.specs.declared.mask.Mask.{Mask}
+use Rattle.rsct_packet.specs.Ids.{last_u32, view_lt}
+use Rattle.rsct_packet.specs.Listed.{ascending}
+use Rattle.rsct_packet.specs.Mask.{node_numbers, has_node}
+use Rattle.rsct_packet.specs.Text.{IsName, name_lt}
+use Rattle.rsct_packet.specs.Reading.{◌>>=◌, number_at, part_at, both_at, made_at, guarded_at, counted_at}
+use Rattle.rsct_packet.specs.Format.{EachFits, counted_text}
+use Rattle.rsct_packet.specs.Fields.{u32_text, IsU32, name_at, name_text, mask_at, mask_text, IsMask, view_at, view_text, IsView, member_at, member_text, IsMember}
 use Rattle.proposal_core.specs.declared.entry.Entry.{Entry}
 use Rattle.proposal_core.specs.declared.group_state.GroupState.{GroupState}
 use Rattle.proposal_core.specs.EntryCodec.{entry_front_at, entry_text, IsEntry, whole}

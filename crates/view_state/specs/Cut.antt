@@ -1,6 +1,6 @@
 -- The entries that a list lacks of a longer one.
 use Rattle.std.specs.Prelude.{ℕ, Bool, ◌+◌, ◌-◌, List, [], ◌∷◌, drop, true, false, Option, Some, None, nat_le, nat_lt}
-use Rattle.proposal_core.specs.rsct_packet.declared.ids.ViewId.{ViewId}
+use Rattle.rsct_packet.specs.declared.ids.ViewId.{ViewId}
 use Rattle.proposal_core.specs.declared.entry.Entry.{Entry}
 use Rattle.proposal_core.specs.GroupView.{GroupView}
 use Rattle.proposal_core.specs.Lists.{entry_fits, with_entry}

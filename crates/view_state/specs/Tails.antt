@@ -1,6 +1,6 @@
 -- What every part of a list is.
 use Rattle.std.specs.Prelude.{ℕ, ◌<◌, ◌^◌, IsTrue, List}
-use Rattle.proposal_core.specs.rsct_packet.Format.{EachFits}
+use Rattle.rsct_packet.specs.Format.{EachFits}
 use Rattle.proposal_core.specs.Fold.{joiners_fit}
 use Rattle.view_state.specs.declared.install.Part.{Part}
 use Rattle.view_state.specs.declared.install.Source.{Source}

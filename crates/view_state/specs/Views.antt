@@ -1,11 +1,11 @@
 -- The rows of views: asking, answering, installing.
 use Rattle.std.specs.Prelude.{ℕ, Bool, true, false, not, ◌==◌, ◌&&◌, ◌||◌, ◌+◌, ◌++◌, List, [], ◌∷◌, map, filter, drop, length, max, Option, Some, None, nat_le, nat_lt, is_none}
 use Rattle.std.specs.List.{list_all}
-use Rattle.proposal_core.specs.rsct_packet.declared.ids.ViewId.{ViewId}
-use Rattle.proposal_core.specs.rsct_packet.declared.ids.Member.{Member}
-use Rattle.proposal_core.specs.rsct_packet.declared.mask.Mask.{Mask}
-use Rattle.proposal_core.specs.rsct_packet.Ids.{last_u32, same_view, view_lt, is_member, risen}
-use Rattle.proposal_core.specs.rsct_packet.Mask.{no_nodes, has_node, with_node, same_mask, nodes_of}
+use Rattle.rsct_packet.specs.declared.ids.ViewId.{ViewId}
+use Rattle.rsct_packet.specs.declared.ids.Member.{Member}
+use Rattle.rsct_packet.specs.declared.mask.Mask.{Mask}
+use Rattle.rsct_packet.specs.Ids.{last_u32, same_view, view_lt, is_member, risen}
+use Rattle.rsct_packet.specs.Mask.{no_nodes, has_node, with_node, same_mask, nodes_of}
 use Rattle.view_state.specs.declared.answer.Answer.{Answer}
 use Rattle.view_state.specs.declared.exchange.Exchange.{Exchange}
 use Rattle.view_state.specs.declared.install.Part.{Part}

@@ -1,6 +1,6 @@
 //! What a node that is asked for a view answers.
 use crate::install::Parts;
-use proposal_core::rsct_packet::ViewId;
+use rsct_packet::ViewId;
 
 /// What a node that was asked answers: itself with its incarnation, the view that it comes from, and its lists.
 #[derive(Drop)]

@@ -1,7 +1,7 @@
 //! What an install tells of itself.
 ghost use Rattle.std.specs.Prelude.{◌≡◌, find, option_copied};
-ghost use Rattle.proposal_core.specs.rsct_packet.Mask.{has_node};
-ghost use Rattle.proposal_core.specs.rsct_packet.Ids.{is_member};
+ghost use Rattle.rsct_packet.specs.Mask.{has_node};
+ghost use Rattle.rsct_packet.specs.Ids.{is_member};
 ghost use Rattle.view_state.specs.Answers.{is_spelled, is_source_spelled};
 ghost use Rattle.view_state.specs.Parts.{entry_of};
 ghost use Rattle.view_state.specs.Carried.{carried_at, carried_len, carried_entry, came_from};
@@ -10,7 +10,7 @@ ghost use Rattle.view_state.specs.Bases.{source_at};
 
 use crate::install::{Install, Part, Source};
 use proposal_core::Entry;
-use proposal_core::rsct_packet::{Members, ViewId};
+use rsct_packet::{Members, ViewId};
 
 /// How many parts a source has at most.
 const MAX_PARTS: usize = 255;

@@ -3,7 +3,7 @@ ghost use Rattle.std.specs.Prelude.{◌≡◌, IfOk};
 
 use crate::install::{Install, Part, Source};
 use proposal_core::Entry;
-use proposal_core::rsct_packet::{List, NoMemory};
+use rsct_packet::{List, NoMemory};
 use std::alloc::Global;
 
 /// What can be copied where there is memory.

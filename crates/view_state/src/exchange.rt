@@ -1,14 +1,14 @@
 //! A gathering of answers.
 ghost use Rattle.std.specs.Prelude.{◌≡◌, filter, not, IfOk};
-ghost use Rattle.proposal_core.specs.rsct_packet.Mask.{nodes_of};
+ghost use Rattle.rsct_packet.specs.Mask.{nodes_of};
 ghost use Rattle.view_state.specs.Answers.{opened, has_answered, may_answer, with_answer, all_answered, install_of};
-ghost use Rattle.proposal_core.specs.rsct_packet.Format.{EachFits};
+ghost use Rattle.rsct_packet.specs.Format.{EachFits};
 ghost use Rattle.view_state.specs.Tails.{IsTail, HasTails, KeepsTails};
 
 use crate::answer::Answer;
 use crate::install::Install;
 use crate::sides::Sides;
-use proposal_core::rsct_packet::{List, Mask, Member, Members, NODES, NoMemory, ViewId};
+use rsct_packet::{List, Mask, Member, Members, NODES, NoMemory, ViewId};
 use std::alloc::Global;
 
 /// A gathering: the view that is to be, the nodes asked for it, those who have answered with their incarnations,
@@ -93,7 +93,7 @@ impl Exchange {
     }
 
     /// Those who were asked and have not answered, ascending.
-    #[tactic(auto, unfolding(crate::proofs::Below::nodes_of))]
+    #[tactic(auto, unfolding(rsct_packet::specs::Mask::nodes_of))]
     pub fn unanswered(&self, alloc: Global) -> Result<Vec<u8>, NoMemory>
         ensures { IfOk result (λ v. v.items ≡ filter
             (λ n. not (has_answered self.now n)) (nodes_of self.now.asked)) }
@@ -117,7 +117,7 @@ impl Exchange {
     }
 
     /// Have all answered who were asked?
-    #[tactic(auto, unfolding(crate::specs::Answers::all_answered, crate::proofs::Below::nodes_of))]
+    #[tactic(auto, unfolding(crate::specs::Answers::all_answered, rsct_packet::specs::Mask::nodes_of))]
     pub fn all(&self) -> bool
         ensures { result ≡ all_answered self.now }
     {

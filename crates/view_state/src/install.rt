@@ -2,8 +2,8 @@
 ghost use Rattle.std.specs.Prelude.{◌≡◌};
 ghost use Rattle.view_state.specs.Parts.{part_len};
 
-use proposal_core::rsct_packet::{List, Mask, Members, Name, ViewId};
 use proposal_core::{Entry, GroupState};
+use rsct_packet::{List, Mask, Members, Name, ViewId};
 
 /// A group's list as one node has it: the entries from `start` on, and the state at the list's end.
 pub struct Part {

@@ -17,7 +17,5 @@ pub use exchange::Exchange;
 pub use install::{Base, Install, Part, Parts, Source, Sources};
 pub use names::{is_after, is_less};
 pub use packet::{ViewPacket, ViewSend, ViewSends};
-pub use proposal_core;
-pub use proposal_core::{group_attr, rsct_packet};
 pub use sides::{Kept, KeptParts, Side, Sides};
 pub use views::{RingAsk, ViewWork, Views};

@@ -1,6 +1,6 @@
 //! The order of names.
 ghost use Rattle.std.specs.Prelude.{◌≡◌, option_copied};
-ghost use Rattle.proposal_core.specs.rsct_packet.Text.{name_lt};
+ghost use Rattle.rsct_packet.specs.Text.{name_lt};
 ghost use Rattle.view_state.specs.Codec.{is_after};
 
 /// Is the first name less?

@@ -1,6 +1,6 @@
 //! What nodes tell one another of views.
 use crate::install::{Install, Parts};
-use proposal_core::rsct_packet::{List, Mask, ViewId};
+use rsct_packet::{List, Mask, ViewId};
 
 /// A packet of a view that is to be.
 pub enum ViewPacket {

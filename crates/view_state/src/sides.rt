@@ -4,7 +4,7 @@ ghost use Rattle.view_state.specs.Answers.{kept_of, side_from, source_of};
 
 use crate::answer::Answer;
 use crate::install::{Part, Parts, Source, Sources};
-use proposal_core::rsct_packet::{List, Mask, NoMemory, ViewId};
+use rsct_packet::{List, Mask, NoMemory, ViewId};
 use std::alloc::Global;
 use std::marker::Model;
 

@@ -5,7 +5,7 @@ ghost use Rattle.view_state.specs.Views.{is_frozen, is_coordinator, is_stuck, vi
 use crate::exchange::Exchange;
 use crate::install::Install;
 use crate::packet::ViewSends;
-use proposal_core::rsct_packet::{List, Mask, Members, NoMemory, ViewId};
+use rsct_packet::{List, Mask, Members, NoMemory, ViewId};
 use std::alloc::Global;
 
 /// What a node of this number and incarnation knows of views: the one that it is in and its members; the one that

@@ -1,8 +1,8 @@
 -- In every order of casts, failures and ticks, what stands for a voter is its first vote or default.
 use Rattle.std.proofs.Common.{◌≡◌, ℕ, Bool, true, false, List, [], ◌∷◌, map, Option, Some, None, refl, sym, ◌∙◌, if◌then◌else◌}
-use Rattle.proposal_core.specs.rsct_packet.declared.ids.ProviderId.{ProviderId}
-use Rattle.proposal_core.specs.rsct_packet.Providers.{same_provider}
-use Rattle.proposal_core.specs.group_attr.declared.attrs.DefaultVote.{DefaultVote}
+use Rattle.rsct_packet.specs.declared.ids.ProviderId.{ProviderId}
+use Rattle.rsct_packet.specs.Providers.{same_provider}
+use Rattle.group_attr.specs.declared.attrs.DefaultVote.{DefaultVote}
 use Rattle.proposal_core.specs.declared.entry.RowVote.{RowVote}
 use Rattle.proposal_core.specs.declared.entry.RowVote.TheVariants as row_vote
 use Rattle.vote_phases.specs.declared.voter.Voter.{Voter}

@@ -1,8 +1,8 @@
 -- Casts, failures and ticks in any order.
 use Rattle.std.specs.Prelude.{ℕ, true, false, List, [], ◌∷◌, map, Option, Some, None}
-use Rattle.proposal_core.specs.rsct_packet.declared.ids.ProviderId.{ProviderId}
-use Rattle.proposal_core.specs.rsct_packet.Providers.{same_provider}
-use Rattle.proposal_core.specs.group_attr.declared.attrs.DefaultVote.{DefaultVote}
+use Rattle.rsct_packet.specs.declared.ids.ProviderId.{ProviderId}
+use Rattle.rsct_packet.specs.Providers.{same_provider}
+use Rattle.group_attr.specs.declared.attrs.DefaultVote.{DefaultVote}
 use Rattle.proposal_core.specs.declared.entry.Vote.{Vote}
 use Rattle.proposal_core.specs.declared.entry.RowVote.{RowVote}
 use Rattle.proposal_core.specs.declared.entry.RowVote.TheVariants as row_vote

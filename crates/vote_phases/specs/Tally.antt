@@ -1,11 +1,11 @@
 -- The tally of one phase.
 use Rattle.std.specs.Prelude.{ℕ, Bool, true, false, ◌==◌, ◌&&◌, ◌+◌, List, [], ◌∷◌, map, filter, find, Option, Some, None, nat_lt, is_none, slice_get, if◌then◌else◌}
 use Rattle.std.specs.List.{list_any}
-use Rattle.proposal_core.specs.rsct_packet.declared.ids.ProviderId.{ProviderId}
-use Rattle.proposal_core.specs.rsct_packet.Ids.{last_u32}
-use Rattle.proposal_core.specs.rsct_packet.Providers.{same_provider, AreProviders}
-use Rattle.proposal_core.specs.group_attr.declared.attrs.DefaultVote.{DefaultVote}
-use Rattle.proposal_core.specs.group_attr.declared.attrs.DefaultVote.TheVariants as default_vote
+use Rattle.rsct_packet.specs.declared.ids.ProviderId.{ProviderId}
+use Rattle.rsct_packet.specs.Ids.{last_u32}
+use Rattle.rsct_packet.specs.Providers.{same_provider, AreProviders}
+use Rattle.group_attr.specs.declared.attrs.DefaultVote.{DefaultVote}
+use Rattle.group_attr.specs.declared.attrs.DefaultVote.TheVariants as default_vote
 use Rattle.proposal_core.specs.declared.entry.Vote.{Vote}
 use Rattle.proposal_core.specs.declared.entry.Vote.TheVariants.{Approve, Continue, Reject}
 use Rattle.proposal_core.specs.declared.entry.RowVote.{RowVote}

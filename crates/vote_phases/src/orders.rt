@@ -1,8 +1,8 @@
 //! What holds for every order of casts, failures and ticks.
 ghost use Rattle.std.specs.Prelude.{◌≡◌, ℕ, List, Some, None, if◌then◌else◌};
 ghost use Rattle.std.specs.List.{list_any};
-ghost use Rattle.proposal_core.specs.rsct_packet.declared.ids.ProviderId.{ProviderId};
-ghost use Rattle.proposal_core.specs.group_attr.declared.attrs.DefaultVote.{DefaultVote};
+ghost use Rattle.rsct_packet.specs.declared.ids.ProviderId.{ProviderId};
+ghost use Rattle.group_attr.specs.declared.attrs.DefaultVote.{DefaultVote};
 ghost use Rattle.vote_phases.specs.Tally.{tally_new, is_open, tally_of, rows_of, outcome};
 ghost use Rattle.vote_phases.specs.Orders.{Command, after_all, first_rows};
 

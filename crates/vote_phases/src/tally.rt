@@ -1,15 +1,15 @@
 //! The tally of one phase.
 ghost use Rattle.std.specs.Prelude.{◌≡◌, ◌≤◌, map, length, Some, None, IfOk};
-ghost use Rattle.proposal_core.specs.rsct_packet.Providers.{AreProviders};
+ghost use Rattle.rsct_packet.specs.Providers.{AreProviders};
 ghost use Rattle.vote_phases.specs.Tally.{no_vote, tally_new, tally_cast, tally_fail, tally_tick, passes, counted, cast_answer, row_at, expires, open_voters, outcome};
 
 use crate::voter::{
     Voter, give, give_all, is_one_open, one_continues, one_rejects, open_among, voter_of,
 };
 use arrayvec::ArrayVec;
-use proposal_core::group_attr::DefaultVote;
-use proposal_core::rsct_packet::{NoMemory, ProviderId, Providers};
+use group_attr::DefaultVote;
 use proposal_core::{Row, RowVote, Vote};
+use rsct_packet::{NoMemory, ProviderId, Providers};
 use std::alloc::Global;
 use std::marker::Model;
 

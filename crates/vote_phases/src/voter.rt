@@ -4,9 +4,9 @@ ghost use Rattle.std.specs.List.{list_any};
 ghost use Rattle.vote_phases.specs.Tally.{given, given_to, is_voter, is_open, vote_of_default, vote_of_row as vote_of_row_of, row_in, answer_of, voter_stands, is_reject, is_continue};
 
 use crate::tally::Cast;
-use proposal_core::group_attr::DefaultVote;
-use proposal_core::rsct_packet::{NoMemory, ProviderId};
+use group_attr::DefaultVote;
 use proposal_core::{Row, RowVote, Vote};
+use rsct_packet::{NoMemory, ProviderId};
 use std::alloc::Global;
 
 /// A voter and what stands for it: none while it may still vote.

@@ -1,6 +1,6 @@
 -- A run that ends where its packets pass a number of bytes.
 use Rattle.std.specs.Prelude.{ℕ, Bool, true, false, ◌+◌, ◌-◌, List, [], ◌∷◌, fold, length, take, Option, Some, None, nat_lt}
-use Rattle.node_state.specs.rsct_packet.Lists.{reverse_onto}
+use Rattle.rsct_packet.specs.Lists.{reverse_onto}
 use Rattle.node_state.specs.declared.config.Config.{Config}
 use Rattle.node_state.specs.declared.happened.Happened.{Happened}
 use Rattle.node_state.specs.declared.packet.Packet.{Packet}

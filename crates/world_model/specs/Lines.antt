@@ -1,8 +1,8 @@
 -- The forms of a script's lines.
 use Rattle.std.specs.Prelude.{ℕ, true, false, List, [], ◌∷◌, Option, Some, None, codes, fold}
 use Rattle.std.specs.Str.{bytes_eq}
-use Rattle.node_state.specs.rsct_packet.Ids.{last_u32}
-use Rattle.node_state.specs.rsct_packet.Mask.{no_nodes, with_node}
+use Rattle.rsct_packet.specs.Ids.{last_u32}
+use Rattle.rsct_packet.specs.Mask.{no_nodes, with_node}
 use Rattle.node_state.specs.declared.config.Mode.{Mode}
 use Rattle.node_state.specs.declared.call.CallLine.{CallLine}
 use Rattle.node_state.specs.declared.call.CallLine.TheVariants as call
@@ -11,7 +11,7 @@ use Rattle.world_model.specs.declared.event.Event.TheVariants as event
 use Rattle.world_model.specs.declared.script.Line.{Line}
 use Rattle.world_model.specs.declared.script.Line.TheVariants as line
 use Rattle.world_model.specs.Words.{◌>>=◌, Choice, each_read, number_word, hex_word, client_word, group_word, node_word, network_word, address_word, provider_word, phases_word, mode_word, what_word, attr_words}
-use Rattle.node_state.specs.client_callbacks.Votes.{text_word, vote_word, votes_word}
+use Rattle.client_callbacks.specs.Votes.{text_word, vote_word, votes_word}
 
 -- the first word of a line
 pub data Head : Type 0 where

@@ -1,9 +1,9 @@
 -- The generated script of a load, as its lines, and the summary of what comes of it.
 use Rattle.std.specs.Prelude.{ℕ, zero, suc, Bool, true, false, ◌==◌, ◌+◌, ◌*◌, ◌/◌, ◌%◌, ◌^◌, ◌++◌, List, [], ◌∷◌, map, fold, length, filter, nat_lt, codes, decimal, flat_map}
-use Rattle.node_state.specs.rsct_packet.Mask.{no_nodes, with_node, without_node}
-use Rattle.node_state.specs.rsct_packet.declared.mask.Mask.{Mask}
-use Rattle.node_state.specs.group_attr.Attrs.{empty_attrs}
-use Rattle.node_state.specs.group_attr.declared.attrs.Phases.TheVariants.{One, Many}
+use Rattle.rsct_packet.specs.Mask.{no_nodes, with_node, without_node}
+use Rattle.rsct_packet.specs.declared.mask.Mask.{Mask}
+use Rattle.group_attr.specs.Attrs.{empty_attrs}
+use Rattle.group_attr.specs.declared.attrs.Phases.TheVariants.{One, Many}
 use Rattle.node_state.specs.declared.call.CallLine.{CallLine}
 use Rattle.node_state.specs.declared.call.CallLine.TheVariants as call
 use Rattle.node_state.specs.declared.config.Config.{Config}

@@ -2,8 +2,8 @@
 use Rattle.std.specs.Prelude.{ℕ, Bool, true, false, not, ◌==◌, ◌&&◌, ◌||◌, ◌+◌, ◌-◌, List, [], ◌∷◌, map, length, replicate, find, filter, slice_set, slice_index, Option, Some, None, nat_lt, if◌then◌else◌}
 use Rattle.std.specs.List.{list_any, list_all}
 use Rattle.std.specs.Str.{bytes_eq}
-use Rattle.node_state.specs.rsct_packet.Lists.{is_empty, reverse_onto}
-use Rattle.node_state.specs.rsct_packet.Mask.{no_nodes, has_node, with_node, nodes_of, node_numbers}
+use Rattle.rsct_packet.specs.Lists.{is_empty, reverse_onto}
+use Rattle.rsct_packet.specs.Mask.{no_nodes, has_node, with_node, nodes_of, node_numbers}
 use Rattle.node_state.specs.declared.config.Config.{Config}
 use Rattle.node_state.specs.declared.config.Mode.TheVariants.{Rings}
 use Rattle.node_state.specs.Settings.{is_fixed, is_rings, addresses_on, address_at, shared_network}

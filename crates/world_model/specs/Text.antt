@@ -1,40 +1,40 @@
 -- The line of each record.
 use Rattle.std.specs.Prelude.{ℕ, ◌==◌, ◌++◌, List, [], Option, Some, None, codes, decimal, if◌then◌else◌}
-use Rattle.node_state.specs.rsct_packet.declared.ids.ProviderId.{ProviderId}
-use Rattle.node_state.specs.rsct_packet.declared.ids.ProtoId.{ProtoId}
-use Rattle.node_state.specs.rsct_packet.declared.ids.ViewId.{ViewId}
-use Rattle.node_state.specs.rsct_packet.Mask.{nodes_of}
-use Rattle.node_state.specs.group_attr.declared.attrs.Attrs.{Attrs}
-use Rattle.node_state.specs.group_attr.declared.attrs.Phases.{Phases}
-use Rattle.node_state.specs.group_attr.declared.attrs.Phases.TheVariants.{One, Many}
-use Rattle.node_state.specs.group_attr.declared.attrs.Batch.{Batch}
-use Rattle.node_state.specs.group_attr.declared.attrs.Batch.TheVariants.{Neither, Joins, Failures, Both}
-use Rattle.node_state.specs.group_attr.declared.attrs.DefaultVote.{DefaultVote}
-use Rattle.node_state.specs.group_attr.declared.attrs.DefaultVote.TheVariants as default_vote
-use Rattle.node_state.specs.group_attr.declared.attrs.AttrFault.{AttrFault}
-use Rattle.node_state.specs.group_attr.declared.attrs.AttrFault.TheVariants as attr_fault
-use Rattle.node_state.specs.proposal_core.declared.proposal.Cause.{Cause}
-use Rattle.node_state.specs.proposal_core.declared.proposal.Cause.TheVariants as cause
-use Rattle.node_state.specs.proposal_core.declared.proposal.Failure.{Failure}
-use Rattle.node_state.specs.proposal_core.declared.proposal.Proposal.{Proposal}
-use Rattle.node_state.specs.proposal_core.declared.proposal.Proposal.TheVariants.{Join, Leave, Fail, Expel, State, Message, Attributes, Reflect}
-use Rattle.node_state.specs.proposal_core.declared.entry.Vote.{Vote}
-use Rattle.node_state.specs.proposal_core.declared.entry.Vote.TheVariants as vote
-use Rattle.node_state.specs.proposal_core.declared.entry.RowVote.{RowVote}
-use Rattle.node_state.specs.proposal_core.declared.entry.RowVote.TheVariants as row_vote
-use Rattle.node_state.specs.proposal_core.declared.entry.Row.{Row}
-use Rattle.node_state.specs.proposal_core.declared.entry.Closed.{Closed}
-use Rattle.node_state.specs.proposal_core.declared.entry.Entry.{Entry}
-use Rattle.node_state.specs.proposal_core.declared.entry.Entry.TheVariants as entry
-use Rattle.node_state.specs.proposal_core.declared.group_state.Running.{Running}
-use Rattle.node_state.specs.session_state.declared.fault.Field.{Field}
-use Rattle.node_state.specs.session_state.declared.fault.Field.TheVariants as field
-use Rattle.node_state.specs.session_state.declared.fault.GsFault.{GsFault}
-use Rattle.node_state.specs.session_state.declared.fault.GsFault.TheVariants as fault
-use Rattle.node_state.specs.client_callbacks.declared.told.Why.{Why}
-use Rattle.node_state.specs.client_callbacks.declared.told.Why.TheVariants as why
-use Rattle.node_state.specs.client_callbacks.declared.told.Told.{Told}
-use Rattle.node_state.specs.client_callbacks.declared.told.Told.TheVariants as told
+use Rattle.rsct_packet.specs.declared.ids.ProviderId.{ProviderId}
+use Rattle.rsct_packet.specs.declared.ids.ProtoId.{ProtoId}
+use Rattle.rsct_packet.specs.declared.ids.ViewId.{ViewId}
+use Rattle.rsct_packet.specs.Mask.{nodes_of}
+use Rattle.group_attr.specs.declared.attrs.Attrs.{Attrs}
+use Rattle.group_attr.specs.declared.attrs.Phases.{Phases}
+use Rattle.group_attr.specs.declared.attrs.Phases.TheVariants.{One, Many}
+use Rattle.group_attr.specs.declared.attrs.Batch.{Batch}
+use Rattle.group_attr.specs.declared.attrs.Batch.TheVariants.{Neither, Joins, Failures, Both}
+use Rattle.group_attr.specs.declared.attrs.DefaultVote.{DefaultVote}
+use Rattle.group_attr.specs.declared.attrs.DefaultVote.TheVariants as default_vote
+use Rattle.group_attr.specs.declared.attrs.AttrFault.{AttrFault}
+use Rattle.group_attr.specs.declared.attrs.AttrFault.TheVariants as attr_fault
+use Rattle.proposal_core.specs.declared.proposal.Cause.{Cause}
+use Rattle.proposal_core.specs.declared.proposal.Cause.TheVariants as cause
+use Rattle.proposal_core.specs.declared.proposal.Failure.{Failure}
+use Rattle.proposal_core.specs.declared.proposal.Proposal.{Proposal}
+use Rattle.proposal_core.specs.declared.proposal.Proposal.TheVariants.{Join, Leave, Fail, Expel, State, Message, Attributes, Reflect}
+use Rattle.proposal_core.specs.declared.entry.Vote.{Vote}
+use Rattle.proposal_core.specs.declared.entry.Vote.TheVariants as vote
+use Rattle.proposal_core.specs.declared.entry.RowVote.{RowVote}
+use Rattle.proposal_core.specs.declared.entry.RowVote.TheVariants as row_vote
+use Rattle.proposal_core.specs.declared.entry.Row.{Row}
+use Rattle.proposal_core.specs.declared.entry.Closed.{Closed}
+use Rattle.proposal_core.specs.declared.entry.Entry.{Entry}
+use Rattle.proposal_core.specs.declared.entry.Entry.TheVariants as entry
+use Rattle.proposal_core.specs.declared.group_state.Running.{Running}
+use Rattle.session_state.specs.declared.fault.Field.{Field}
+use Rattle.session_state.specs.declared.fault.Field.TheVariants as field
+use Rattle.session_state.specs.declared.fault.GsFault.{GsFault}
+use Rattle.session_state.specs.declared.fault.GsFault.TheVariants as fault
+use Rattle.client_callbacks.specs.declared.told.Why.{Why}
+use Rattle.client_callbacks.specs.declared.told.Why.TheVariants as why
+use Rattle.client_callbacks.specs.declared.told.Told.{Told}
+use Rattle.client_callbacks.specs.declared.told.Told.TheVariants as told
 use Rattle.node_state.specs.declared.happened.Happened.{Happened}
 use Rattle.node_state.specs.declared.happened.Happened.TheVariants as happened
 use Rattle.node_state.specs.Wording.{word, view_text, provider_text, ring_text, proto_text, joined, nodes_text, members_text, providers_text, value_text, kind_text}

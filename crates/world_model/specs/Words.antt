@@ -2,23 +2,23 @@
 use Rattle.std.specs.Prelude.{ℕ, Bool, true, false, not, ◌==◌, ◌&&◌, ◌+◌, ◌-◌, ◌*◌, List, [], ◌∷◌, length, Option, Some, None, nat_le, codes}
 use Rattle.std.specs.List.{list_any, list_all}
 use Rattle.std.specs.Str.{bytes_eq}
-use Rattle.node_state.specs.rsct_packet.declared.ids.ProviderId.{ProviderId}
-use Rattle.node_state.specs.rsct_packet.Ids.{last_u32}
-use Rattle.node_state.specs.rsct_packet.Lists.{is_empty}
-use Rattle.node_state.specs.rsct_packet.Text.{name_byte}
-use Rattle.node_state.specs.group_attr.declared.attrs.Attrs.{Attrs}
-use Rattle.node_state.specs.group_attr.declared.attrs.Phases.{Phases}
-use Rattle.node_state.specs.group_attr.declared.attrs.Phases.TheVariants as phases
-use Rattle.node_state.specs.group_attr.declared.attrs.Batch.{Batch}
-use Rattle.node_state.specs.group_attr.declared.attrs.Batch.TheVariants as batch
-use Rattle.node_state.specs.group_attr.declared.attrs.DefaultVote.{DefaultVote}
-use Rattle.node_state.specs.group_attr.declared.attrs.DefaultVote.TheVariants as default_vote
-use Rattle.node_state.specs.group_attr.Attrs.{empty_attrs}
-use Rattle.node_state.specs.client_callbacks.Votes.{hex_value}
+use Rattle.rsct_packet.specs.declared.ids.ProviderId.{ProviderId}
+use Rattle.rsct_packet.specs.Ids.{last_u32}
+use Rattle.rsct_packet.specs.Lists.{is_empty}
+use Rattle.rsct_packet.specs.Text.{name_byte}
+use Rattle.group_attr.specs.declared.attrs.Attrs.{Attrs}
+use Rattle.group_attr.specs.declared.attrs.Phases.{Phases}
+use Rattle.group_attr.specs.declared.attrs.Phases.TheVariants as phases
+use Rattle.group_attr.specs.declared.attrs.Batch.{Batch}
+use Rattle.group_attr.specs.declared.attrs.Batch.TheVariants as batch
+use Rattle.group_attr.specs.declared.attrs.DefaultVote.{DefaultVote}
+use Rattle.group_attr.specs.declared.attrs.DefaultVote.TheVariants as default_vote
+use Rattle.group_attr.specs.Attrs.{empty_attrs}
+use Rattle.client_callbacks.specs.Votes.{hex_value}
 use Rattle.node_state.specs.declared.config.Mode.{Mode}
 use Rattle.node_state.specs.declared.config.Mode.TheVariants as mode
-use Rattle.node_state.specs.packet_bodies.declared.body.What.{What}
-use Rattle.node_state.specs.packet_bodies.declared.body.What.TheVariants as what
+use Rattle.packet_bodies.specs.declared.body.What.{What}
+use Rattle.packet_bodies.specs.declared.body.What.TheVariants as what
 
 infixl 10 ◌>>=◌
 unfoldable pub ◌>>=◌ : {X Y : Type 0} → Option X → (X → Option Y) → Option Y

@@ -1,23 +1,23 @@
 -- A world of nodes, and what plain events make of it.
 use Rattle.std.specs.Prelude.{ℕ, Bool, true, false, ◌==◌, ◌&&◌, ◌+◌, ◌-◌, ◌++◌, List, [], ◌∷◌, map, find, fold, Option, Some, None, nat_lt, nat_le, slice_get}
 use Rattle.std.specs.Option.{unwrap_or, option_map}
-use Rattle.node_state.specs.rsct_packet.Lists.{drop_where, reverse_onto}
-use Rattle.node_state.specs.rsct_packet.Ids.{last_u32}
-use Rattle.node_state.specs.rsct_packet.Mask.{nodes_of}
-use Rattle.node_state.specs.rsct_packet.Search.{insert_before}
-use Rattle.node_state.specs.proposal_core.declared.entry.Entry.{Entry}
-use Rattle.node_state.specs.proposal_core.declared.group_state.GroupState.{GroupState}
-use Rattle.node_state.specs.rsct_packet.declared.ids.ProviderId.{ProviderId}
-use Rattle.node_state.specs.subscribe_core.declared.subs.ClientToken.{ClientToken}
-use Rattle.node_state.specs.client_callbacks.declared.ballot.Filled.{Filled}
-use Rattle.node_state.specs.client_callbacks.declared.votes.VoteItem.{VoteItem}
-use Rattle.node_state.specs.client_callbacks.Ballots.{new_ballot}
-use Rattle.node_state.specs.client_callbacks.Handed.{voted_by}
-use Rattle.node_state.specs.client_callbacks.Votes.{votes_word}
-use Rattle.node_state.specs.session_state.declared.fault.GsFault.TheVariants.{NoInit}
-use Rattle.node_state.specs.session_state.declared.state.Session.{Session}
-use Rattle.node_state.specs.session_state.declared.state.SessionState.{SessionState}
-use Rattle.node_state.specs.session_state.State.{place_of}
+use Rattle.rsct_packet.specs.Lists.{drop_where, reverse_onto}
+use Rattle.rsct_packet.specs.Ids.{last_u32}
+use Rattle.rsct_packet.specs.Mask.{nodes_of}
+use Rattle.rsct_packet.specs.Search.{insert_before}
+use Rattle.proposal_core.specs.declared.entry.Entry.{Entry}
+use Rattle.proposal_core.specs.declared.group_state.GroupState.{GroupState}
+use Rattle.rsct_packet.specs.declared.ids.ProviderId.{ProviderId}
+use Rattle.subscribe_core.specs.declared.subs.ClientToken.{ClientToken}
+use Rattle.client_callbacks.specs.declared.ballot.Filled.{Filled}
+use Rattle.client_callbacks.specs.declared.votes.VoteItem.{VoteItem}
+use Rattle.client_callbacks.specs.Ballots.{new_ballot}
+use Rattle.client_callbacks.specs.Handed.{voted_by}
+use Rattle.client_callbacks.specs.Votes.{votes_word}
+use Rattle.session_state.specs.declared.fault.GsFault.TheVariants.{NoInit}
+use Rattle.session_state.specs.declared.state.Session.{Session}
+use Rattle.session_state.specs.declared.state.SessionState.{SessionState}
+use Rattle.session_state.specs.State.{place_of}
 use Rattle.node_state.specs.declared.call.CallLine.{CallLine}
 use Rattle.node_state.specs.declared.call.CallLine.TheVariants.{Init}
 use Rattle.node_state.specs.declared.config.Config.{Config}
@@ -26,7 +26,7 @@ use Rattle.node_state.specs.declared.config.Mode.TheVariants.{Fixed, Asked, Ring
 use Rattle.node_state.specs.declared.happened.Happened.{Happened}
 use Rattle.node_state.specs.declared.happened.Happened.TheVariants as happened
 use Rattle.node_state.specs.declared.packet.Packet.{Packet}
-use Rattle.node_state.specs.packet_bodies.declared.body.What.{What}
+use Rattle.packet_bodies.specs.declared.body.What.{What}
 use Rattle.node_state.specs.declared.state.Core.{Core}
 use Rattle.node_state.specs.Calls.{caller_of}
 use Rattle.node_state.specs.Status.{status_of}

@@ -1,6 +1,6 @@
 //! What happens in a world.
-use node_state::rsct_packet::{List, Mask};
 use node_state::{CallLine, What};
+use rsct_packet::{List, Mask};
 
 /// A plain event: one thing that happens at one node.
 pub enum Event {

@@ -5,6 +5,5 @@ mod event;
 mod script;
 
 pub use event::{Event, Events};
-pub use node_state;
-pub use node_state::{CallLine, client_callbacks, group_attr, rsct_packet};
+pub use node_state::CallLine;
 pub use script::{Line, LineWhy, Lines, Script};

@@ -1,7 +1,7 @@
 //! What a script says.
 use crate::event::Event;
 use node_state::Config;
-use node_state::rsct_packet::List;
+use rsct_packet::List;
 
 /// A line after `begin`: a plain event, or what is done with the packets that are under way.
 pub enum Line {

@@ -1,7 +1,7 @@
 -- The spelling of a packet is a datagram.
 use Rattle.std.proofs.Common.{◌≡◌, ℕ, List, length, Some, refl, sym, ap, ◌∙◌}
-use Rattle.world_model.specs.node_state.declared.packet.Packet.{Packet}
-use Rattle.world_model.specs.node_state.Bytes.{packet_of, bytes_of, packet_len}
+use Rattle.node_state.specs.declared.packet.Packet.{Packet}
+use Rattle.node_state.specs.Bytes.{packet_of, bytes_of, packet_len}
 use Rattle.packet_codec.specs.Spelled.{IsSpelled}
 use Rattle.packet_codec.proofs.BodyFormats.{packet_read_again}
 use Rattle.world_packets.specs.Reading.{packet_in, packet_as, IsDatagram}

@@ -4,10 +4,10 @@ use Rattle.std.specs.Prelude.{find, slice_get, nat_lt, nat_le}
 use Rattle.std.specs.Option.{option_map}
 use Rattle.std.proofs.lemmas.Bool.{leb-true, leb-false, lt-ltb}
 use Rattle.std.proofs.lemmas.Option.{slice_get_past}
-use Rattle.world_model.specs.rsct_packet.Lists.{reverse_onto}
-use Rattle.world_model.specs.rsct_packet.Search.{place_where, edit_where}
-use Rattle.world_model.proofs.rsct_packet_laws.SearchLaws.{set_is_edit}
-use Rattle.world_model.specs.node_state.declared.packet.Packet.{Packet}
+use Rattle.rsct_packet.specs.Lists.{reverse_onto}
+use Rattle.rsct_packet.specs.Search.{place_where, edit_where}
+use Rattle.rsct_packet.proofs.SearchLaws.{set_is_edit}
+use Rattle.node_state.specs.declared.packet.Packet.{Packet}
 use Rattle.world_model.specs.World.{is_pair, pair_with, pairs_with, count_in, kth_in}
 use Rattle.world_model.specs.World as world
 use Rattle.world_packets.specs.declared.pairs.Pair.{Pair}

@@ -2,10 +2,10 @@
 use Rattle.std.proofs.Common.{◌≡◌, ℕ, zero, suc, ◌+◌, ◌≤◌, Bool, true, false, cond, List, [], ◌∷◌, length, Option, Some, None, refl, ap, arith}
 use Rattle.std.specs.Prelude.{remove, slice_get}
 use Rattle.std.specs.Option.{option_map}
-use Rattle.world_model.specs.rsct_packet.Lists.{drop_where}
-use Rattle.world_model.specs.rsct_packet.Search.{place_where}
+use Rattle.rsct_packet.specs.Lists.{drop_where}
+use Rattle.rsct_packet.specs.Search.{place_where}
 use Rattle.std.proofs.lemmas.Option.{slice_get_within, get_or_from_slice_get}
-use Rattle.world_model.proofs.rsct_packet_laws.SearchLaws.{place_from, place_found, place_goes_on, place_missing}
+use Rattle.rsct_packet.proofs.SearchLaws.{place_from, place_found, place_goes_on, place_missing}
 
 removed_head : {A : Type 0} (t : Bool) (o : Option ℕ) (x : A) (xs ys : List A) → ((j : ℕ) → Some j ≡ o → remove xs j ≡ ys) → (i : ℕ) → Some i ≡ cond t (Some 0) (option_map suc o) → remove (x ∷ xs) i ≡ elim t [ true ↦ xs | false ↦ x ∷ ys ]
 removed_head true o x xs ys ih i e = let z : i ≡ 0 = cc in rw z refl

@@ -1,7 +1,7 @@
 -- The packets of a world as it is kept, and the definitions' packets that they stand for.
 use Rattle.std.specs.Prelude.{ℕ, ◌+◌, Bool, ◌==◌, ◌&&◌, List, [], ◌∷◌, ◌++◌, length, map, find, Option, Some, None}
-use Rattle.world_model.specs.rsct_packet.Lists.{reverse_onto}
-use Rattle.world_model.specs.node_state.declared.packet.Packet.{Packet}
+use Rattle.rsct_packet.specs.Lists.{reverse_onto}
+use Rattle.node_state.specs.declared.packet.Packet.{Packet}
 use Rattle.world_model.specs.World.{is_pair, count_in}
 use Rattle.world_model.specs.World as world
 use Rattle.world_packets.specs.declared.pairs.Pair.{Pair}

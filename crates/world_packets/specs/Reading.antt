@@ -1,8 +1,8 @@
 -- The packet that bytes are.
 use Rattle.std.specs.Prelude.{◌≡◌, ℕ, List, [], Option, Some, None}
-use Rattle.world_model.specs.node_state.declared.packet.Packet.{Packet}
-use Rattle.world_model.specs.node_state.declared.packet.Body.TheVariants as body
-use Rattle.world_model.specs.node_state.Bytes.{packet_of, bytes_of}
+use Rattle.node_state.specs.declared.packet.Packet.{Packet}
+use Rattle.node_state.specs.declared.packet.Body.TheVariants as body
+use Rattle.node_state.specs.Bytes.{packet_of, bytes_of}
 
 -- any packet, in place of none
 abbrev pub no_packet : Packet

@@ -1,12 +1,12 @@
 //! The bytes of a packet.
 ghost use Rattle.std.specs.Prelude.{◌≡◌, IfOk, Some};
-ghost use Rattle.world_model.specs.node_state.Bytes.{packet_of, packet_len};
+ghost use Rattle.node_state.specs.Bytes.{packet_of, packet_len};
 
+use node_state::Packet;
 use packet_codec::{is_writable, write_packet};
+use rsct_packet::NoMemory;
 use std::alloc::Global;
 use std::marker::Model;
-use world_model::node_state::Packet;
-use world_model::rsct_packet::NoMemory;
 
 /// A packet as the bytes that spell it.
 #[derive(Drop)]
@@ -15,7 +15,7 @@ pub struct Datagram {
 }
 
 impl Model for Datagram {
-    ghost use Rattle.world_model.specs.node_state.declared.packet.Packet.{Packet};
+    ghost use Rattle.node_state.specs.declared.packet.Packet.{Packet};
     ghost use Rattle.world_packets.specs.Reading.{packet_as, IsDatagram};
 
     ghost Value = { Packet };

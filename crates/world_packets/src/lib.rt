@@ -10,5 +10,3 @@ pub use datagram::Datagram;
 pub use packets::WorldPackets;
 pub use pairs::Pair;
 pub use waiting::Waiting;
-pub use world_model;
-pub use world_model::{node_state, rsct_packet};

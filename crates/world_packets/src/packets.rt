@@ -1,20 +1,20 @@
 //! What is kept of the packets of a world.
 ghost use Rattle.std.specs.Prelude.{◌≡◌, ◌++◌, ◌∷◌, [], IfOk, OnOk, filter, not, option_copied, drop};
-ghost use Rattle.world_model.specs.rsct_packet.Search.{place_where};
-ghost use Rattle.world_model.specs.rsct_packet.Lists.{drop_where};
-ghost use Rattle.world_model.specs.node_state.Bytes.{packet_len};
+ghost use Rattle.rsct_packet.specs.Search.{place_where};
+ghost use Rattle.rsct_packet.specs.Lists.{drop_where};
+ghost use Rattle.node_state.specs.Bytes.{packet_len};
 ghost use Rattle.world_model.specs.World.{kth_in, pairs_with};
 ghost use Rattle.world_packets.specs.Packets.{world_pairs, find_pair, is_waiting, is_between, waits_next, first_of};
 
 use crate::Datagram;
 use crate::pairs::{Pair, add, kth};
 use crate::waiting::Waiting;
+use node_state::Packet;
+use rsct_packet::NoMemory;
 use std::alloc::Global;
 use std::collections::VecDeque;
 use std::marker::Model;
 use std::mem;
-use world_model::node_state::Packet;
-use world_model::rsct_packet::NoMemory;
 
 /// All packets of a world, by pairs of nodes, and those that wait to be given, in the order of sending.
 #[derive(Drop)]
@@ -46,7 +46,7 @@ fn is_between(waiting: &Waiting, from: u8, to: u8) -> bool
 }
 
 /// The place of the k-th packet of two nodes among those that wait.
-#[tactic(auto, using(crate::proofs::Below::place_begins, crate::proofs::WaitLaws::place_here, crate::proofs::WaitLaws::place_on, crate::proofs::WaitLaws::place_past, std::proofs::lemmas::Option::slice_get_within))]
+#[tactic(auto, using(rsct_packet::proofs::SearchLaws::place_begins, crate::proofs::WaitLaws::place_here, crate::proofs::WaitLaws::place_on, crate::proofs::WaitLaws::place_past, std::proofs::lemmas::Option::slice_get_within))]
 fn place_of(waiting: &VecDeque<Waiting>, from: u8, to: u8, number: u32) -> Option<usize>
     ensures { result ≡ place_where (is_waiting from to number) waiting.now.items }
 {

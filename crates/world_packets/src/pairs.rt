@@ -1,12 +1,12 @@
 //! All packets from one node to another.
 ghost use Rattle.std.specs.Prelude.{◌≡◌, ◌+◌, find, option_copied, IfOk, OnOk};
-ghost use Rattle.world_model.specs.rsct_packet.Search.{place_where};
+ghost use Rattle.rsct_packet.specs.Search.{place_where};
 ghost use Rattle.world_model.specs.World.{kth_in, count_in, pairs_with};
 ghost use Rattle.world_packets.specs.Packets.{is_from, world_pairs, find_pair};
 
 use crate::Datagram;
+use rsct_packet::{List, NoMemory};
 use std::alloc::Global;
-use world_model::rsct_packet::{List, NoMemory};
 
 /// All packets that were ever sent from one node to another, in order.
 #[derive(Drop)]
@@ -24,7 +24,7 @@ fn is_from(pair: &Pair, from: u8, to: u8) -> bool
 }
 
 /// The place of the pair of two nodes.
-#[tactic(auto, using(crate::proofs::Below::place_search))]
+#[tactic(auto, using(rsct_packet::proofs::SearchLaws::place_search))]
 pub fn place_of(pairs: &[Pair], from: u8, to: u8) -> Option<usize>
     ensures { result ≡ place_where (is_from from to) pairs.now }
 {
@@ -69,7 +69,7 @@ fn count(pairs: &[Pair], from: u8, to: u8) -> usize
 }
 
 /// Puts a packet behind those of its pair.
-#[tactic(auto, using(crate::proofs::PairLaws::put_at, crate::proofs::PairLaws::added_new, crate::proofs::Below::place_is_in, std::proofs::lemmas::Grind::common_steps))]
+#[tactic(auto, using(crate::proofs::PairLaws::put_at, crate::proofs::PairLaws::added_new, rsct_packet::proofs::SearchLaws::place_is_in, std::proofs::lemmas::Grind::common_steps))]
 fn put(
     pairs: &mut Vec<Pair>,
     alloc: Global,

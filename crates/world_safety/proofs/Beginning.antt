@@ -1,27 +1,27 @@
 -- How a run begins: with nothing, or in mode fixed with every node.
 use Rattle.std.proofs.Common.{◌≡◌, ℕ, ◌+◌, List, [], ◌∷◌, Option, Some, None, refl, sym, ap, ◌∙◌, subst}
 use Rattle.std.specs.Prelude.{◌==◌, true, false, find, fold}
-use Rattle.world_laws.specs.rsct_packet.Ids.{last_u32}
-use Rattle.world_laws.specs.rsct_packet.Lists.{reverse_onto}
-use Rattle.world_laws.specs.rsct_packet.Mask.{nodes_of}
-use Rattle.world_laws.specs.node_state.declared.config.Config.{Config}
-use Rattle.world_laws.specs.node_state.declared.config.Mode.{Mode}
-use Rattle.world_laws.specs.node_state.declared.config.Mode.TheVariants.{Fixed, Asked, Rings}
-use Rattle.world_laws.specs.node_state.declared.happened.Happened.{Happened}
-use Rattle.world_laws.specs.node_state.declared.state.Core.{Core}
-use Rattle.world_laws.specs.node_state.Settings.{is_fixed}
-use Rattle.world_laws.specs.node_state.Step.{started}
-use Rattle.world_laws.specs.world_model.World.{Node, World, is_node, node_at, traced, started_at, starts_if, node_starts, empty_world, world_of, world_new}
-use Rattle.run_laws.specs.run_safety.Past.{History, history_of}
-use Rattle.run_laws.specs.step_refinement.Tied.{Scene}
-use Rattle.run_laws.specs.step_refinement.Rows.{at_node, nothing_yet, with_records, starts_too, all_started}
-use Rattle.run_laws.specs.entry_laws.late_rows.Runs.{TicksAreNoted}
-use Rattle.run_laws.specs.row_laws.failed_rows.Scenes.{Played}
-use Rattle.run_laws.specs.row_laws.failed_rows.Scenes as played
-use Rattle.run_laws.specs.provider_laws.leaving.Scenes.{Recounted}
-use Rattle.run_laws.specs.provider_laws.leaving.Scenes as recounted
-use Rattle.run_laws.specs.step_refinement.Runs.{Reached, Nothing, AllStart}
-use Rattle.run_laws.proofs.step_refinement_laws.Changed.{set_there, each_set}
+use Rattle.rsct_packet.specs.Ids.{last_u32}
+use Rattle.rsct_packet.specs.Lists.{reverse_onto}
+use Rattle.rsct_packet.specs.Mask.{nodes_of}
+use Rattle.node_state.specs.declared.config.Config.{Config}
+use Rattle.node_state.specs.declared.config.Mode.{Mode}
+use Rattle.node_state.specs.declared.config.Mode.TheVariants.{Fixed, Asked, Rings}
+use Rattle.node_state.specs.declared.happened.Happened.{Happened}
+use Rattle.node_state.specs.declared.state.Core.{Core}
+use Rattle.node_state.specs.Settings.{is_fixed}
+use Rattle.node_state.specs.Step.{started}
+use Rattle.world_model.specs.World.{Node, World, is_node, node_at, traced, started_at, starts_if, node_starts, empty_world, world_of, world_new}
+use Rattle.run_safety.specs.Past.{History, history_of}
+use Rattle.step_refinement.specs.Tied.{Scene}
+use Rattle.step_refinement.specs.Rows.{at_node, nothing_yet, with_records, starts_too, all_started}
+use Rattle.entry_laws.specs.late_rows.Runs.{TicksAreNoted}
+use Rattle.row_laws.specs.failed_rows.Scenes.{Played}
+use Rattle.row_laws.specs.failed_rows.Scenes as played
+use Rattle.provider_laws.specs.leaving.Scenes.{Recounted}
+use Rattle.provider_laws.specs.leaving.Scenes as recounted
+use Rattle.step_refinement.specs.Runs.{Reached, Nothing, AllStart}
+use Rattle.step_refinement.proofs.Changed.{set_there, each_set}
 use Rattle.world_safety.specs.Events.{beginning}
 use Rattle.world_safety.specs.Mirrors.{core_in, inc_at, Mirrors}
 use Rattle.world_safety.proofs.Mirroring.{same_start, start_mirrors}

@@ -2,9 +2,9 @@
 use Rattle.std.proofs.Common.{◌≡◌, ◌≢◌, ℕ, List, [], ◌∷◌, Bool, true, false, Some, None, refl, sym, ap, ◌∙◌, subst}
 use Rattle.std.specs.Prelude.{◌==◌, cond, find, if◌then◌else◌}
 use Rattle.std.proofs.lemmas.Bool.{eqb-true, eqb-false, eq-eqb, ne_eqb}
-use Rattle.world_laws.specs.rsct_packet.Lists.{drop_where}
-use Rattle.world_laws.specs.rsct_packet.Search.{insert_before}
-use Rattle.world_laws.specs.world_model.World.{Node, Started, is_node, nodes_with, inc_in, starts_with}
+use Rattle.rsct_packet.specs.Lists.{drop_where}
+use Rattle.rsct_packet.specs.Search.{insert_before}
+use Rattle.world_model.specs.World.{Node, Started, is_node, nodes_with, inc_in, starts_with}
 use Rattle.world_safety.specs.Mirrors.{inc_at, Once}
 
 module _ {A : Type 0} (test : A → Bool) (y : A) (ys : List A) where

@@ -1,38 +1,38 @@
 -- Each event of the world is one of the scene, whatever the clients answer.
 use Rattle.std.proofs.Common.{◌≡◌, ◌≢◌, ℕ, ◌==◌, ◌+◌, List, [], ◌∷◌, ◌++◌, Option, Some, None, Bool, true, false, refl, sym, ap, ◌∙◌, subst, inl, inr}
 use Rattle.std.specs.Prelude.{find, map, reverse}
-use Rattle.world_laws.specs.rsct_packet.Ids.{last_u32}
-use Rattle.world_laws.specs.rsct_packet.Lists.{reverse_onto}
-use Rattle.world_laws.specs.rsct_packet.Search.{Has}
-use Rattle.world_laws.proofs.rsct_packet_laws.HasLaws.{append_has_right, has_map}
-use Rattle.world_laws.specs.packet_bodies.declared.body.What.{What}
-use Rattle.world_laws.specs.session_state.declared.fault.GsFault.TheVariants.{NoInit}
-use Rattle.world_laws.specs.node_state.declared.call.CallLine.{CallLine}
-use Rattle.world_laws.specs.node_state.declared.config.Config.{Config}
-use Rattle.world_laws.specs.node_state.declared.happened.Happened.{Happened}
-use Rattle.world_laws.specs.node_state.declared.happened.Happened.TheVariants as happened
-use Rattle.world_laws.specs.node_state.declared.packet.Packet.{Packet}
-use Rattle.world_laws.specs.node_state.declared.state.Core.{Core}
-use Rattle.world_laws.specs.node_state.Calls.{caller_of}
-use Rattle.world_laws.specs.node_state.HandOn.{Answering}
-use Rattle.world_laws.specs.node_state.Settings.{is_fixed}
-use Rattle.world_laws.specs.node_state.Status.{status_of}
-use Rattle.world_laws.specs.node_state.Step.{NodeEvent, Ticks, Asks, Given, Calls, stepped, started}
-use Rattle.world_laws.specs.node_state.Step as step
-use Rattle.world_laws.specs.world_model.declared.event.Event.{Event}
-use Rattle.world_laws.specs.world_model.declared.event.Event.TheVariants as event
-use Rattle.world_laws.specs.world_model.World.{Script, Node, World, is_node, node_at, kth_between, handled, traced, after_step, started_at, starts_if, node_starts, stops_if, shows_if, scripts_after}
+use Rattle.rsct_packet.specs.Ids.{last_u32}
+use Rattle.rsct_packet.specs.Lists.{reverse_onto}
+use Rattle.rsct_packet.specs.Search.{Has}
+use Rattle.rsct_packet.proofs.HasLaws.{append_has_right, has_map}
+use Rattle.packet_bodies.specs.declared.body.What.{What}
+use Rattle.session_state.specs.declared.fault.GsFault.TheVariants.{NoInit}
+use Rattle.node_state.specs.declared.call.CallLine.{CallLine}
+use Rattle.node_state.specs.declared.config.Config.{Config}
+use Rattle.node_state.specs.declared.happened.Happened.{Happened}
+use Rattle.node_state.specs.declared.happened.Happened.TheVariants as happened
+use Rattle.node_state.specs.declared.packet.Packet.{Packet}
+use Rattle.node_state.specs.declared.state.Core.{Core}
+use Rattle.node_state.specs.Calls.{caller_of}
+use Rattle.node_state.specs.HandOn.{Answering}
+use Rattle.node_state.specs.Settings.{is_fixed}
+use Rattle.node_state.specs.Status.{status_of}
+use Rattle.node_state.specs.Step.{NodeEvent, Ticks, Asks, Given, Calls, stepped, started}
+use Rattle.node_state.specs.Step as step
+use Rattle.world_model.specs.declared.event.Event.{Event}
+use Rattle.world_model.specs.declared.event.Event.TheVariants as event
+use Rattle.world_model.specs.World.{Script, Node, World, is_node, node_at, kth_between, handled, traced, after_step, started_at, starts_if, node_starts, stops_if, shows_if, scripts_after}
 use Rattle.world_laws.proofs.world_runs.Traces.{after_records}
-use Rattle.run_laws.specs.step_refinement.Tied.{Scene, NodeIsIf, Rests}
-use Rattle.run_laws.specs.step_refinement.Rows.{over, stopped, start_with, ended, Arises}
-use Rattle.run_laws.specs.entry_laws.late_rows.Runs.{NotedAs, TicksAreNoted}
-use Rattle.run_laws.specs.row_laws.failed_rows.Scenes.{Names, Played}
-use Rattle.run_laws.specs.row_laws.failed_rows.Scenes as played
-use Rattle.run_laws.specs.provider_laws.leaving.Scenes.{IsCall, NoCall, IsDown, Recounted}
-use Rattle.run_laws.specs.provider_laws.leaving.Scenes as recounted
-use Rattle.run_laws.specs.step_refinement.Runs.{IsNote, noted, Reached, Starts, Stops, Steps, Notes}
-use Rattle.run_laws.proofs.step_refinement_laws.Changed.{set_here}
-use Rattle.run_laws.proofs.step_refinement_laws.RunLaw.{reached_rests}
+use Rattle.step_refinement.specs.Tied.{Scene, NodeIsIf, Rests}
+use Rattle.step_refinement.specs.Rows.{over, stopped, start_with, ended, Arises}
+use Rattle.entry_laws.specs.late_rows.Runs.{NotedAs, TicksAreNoted}
+use Rattle.row_laws.specs.failed_rows.Scenes.{Names, Played}
+use Rattle.row_laws.specs.failed_rows.Scenes as played
+use Rattle.provider_laws.specs.leaving.Scenes.{IsCall, NoCall, IsDown, Recounted}
+use Rattle.provider_laws.specs.leaving.Scenes as recounted
+use Rattle.step_refinement.specs.Runs.{IsNote, noted, Reached, Starts, Stops, Steps, Notes}
+use Rattle.step_refinement.proofs.Changed.{set_here}
+use Rattle.step_refinement.proofs.RunLaw.{reached_rests}
 use Rattle.world_laws.specs.world_answers.Answers.{step_by, step_by_if, calls_by_if, delivers_by_if, happens_by}
 use Rattle.world_safety.specs.Events.{MayHappen}
 use Rattle.world_safety.specs.Mirrors.{core_in, inc_at, Mirrors}

@@ -10,4 +10,3 @@ pub mod Saying
 pub mod Lined
 pub mod Playing
 pub mod Scripts
-pub use Rattle.world_laws.proofs as world_laws_laws

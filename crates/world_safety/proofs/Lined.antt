@@ -3,20 +3,20 @@ use Rattle.std.proofs.Common.{◌≡◌, ◌≢◌, ℕ, ◌+◌, List, [], ◌�
 use Rattle.std.specs.Prelude.{not, nat_lt}
 use Rattle.std.specs.List.{list_all, list_any}
 use Rattle.std.proofs.lemmas.Bool.{or_parts}
-use Rattle.world_laws.specs.rsct_packet.Lists.{is_empty, reverse_onto}
-use Rattle.world_laws.specs.rsct_packet.declared.mask.Mask.{Mask}
-use Rattle.world_laws.specs.rsct_packet.Mask.{has_node}
-use Rattle.world_laws.proofs.rsct_packet_laws.HasLaws.{all_has}
-use Rattle.world_laws.specs.node_state.declared.config.Config.{Config}
-use Rattle.world_laws.specs.node_state.declared.config.Mode.{Mode}
-use Rattle.world_laws.specs.world_model.declared.event.Event.TheVariants as event
-use Rattle.world_laws.specs.world_model.declared.script.Line.{Line}
-use Rattle.world_laws.specs.world_model.declared.script.Line.TheVariants as line
-use Rattle.world_laws.specs.world_model.declared.script.LineWhy.{LineWhy}
-use Rattle.world_laws.specs.world_model.declared.script.LineWhy.TheVariants.{BadByte, MissingWord, ExtraWord, UnknownNode, UnknownClient, OutOfPlace}
-use Rattle.world_laws.specs.world_model.Words.{split_on, chosen}
-use Rattle.world_laws.specs.world_model.Lines.{Form, forms, Boxed, Scripted, Votes, Said, SaysMode, SaysNode, SaysAdapter, SaysHb, SaysPort, SaysLevel, SaysDomain, SaysBegin, SaysLine, SaysClient, SaysCall, said}
-use Rattle.world_laws.specs.world_model.Reading.{Reading, Read, Good, Bad, nothing_read, settled_if, settled, nodes_said, is_known_client, event_misplaced, line_misplaced, misplaced, last_reason, reason, with_line, with_client, with_config, with_address, taken, taken_unless, said_line, is_extra, counted_line, formed_line, skipped_line, worded_line, is_comment, words_in, is_bad_byte, read_line, ScriptRead, IsScript, IsNone, finished, input_limit, read_from, script_of}
+use Rattle.rsct_packet.specs.Lists.{is_empty, reverse_onto}
+use Rattle.rsct_packet.specs.declared.mask.Mask.{Mask}
+use Rattle.rsct_packet.specs.Mask.{has_node}
+use Rattle.rsct_packet.proofs.HasLaws.{all_has}
+use Rattle.node_state.specs.declared.config.Config.{Config}
+use Rattle.node_state.specs.declared.config.Mode.{Mode}
+use Rattle.world_model.specs.declared.event.Event.TheVariants as event
+use Rattle.world_model.specs.declared.script.Line.{Line}
+use Rattle.world_model.specs.declared.script.Line.TheVariants as line
+use Rattle.world_model.specs.declared.script.LineWhy.{LineWhy}
+use Rattle.world_model.specs.declared.script.LineWhy.TheVariants.{BadByte, MissingWord, ExtraWord, UnknownNode, UnknownClient, OutOfPlace}
+use Rattle.world_model.specs.Words.{split_on, chosen}
+use Rattle.world_model.specs.Lines.{Form, forms, Boxed, Scripted, Votes, Said, SaysMode, SaysNode, SaysAdapter, SaysHb, SaysPort, SaysLevel, SaysDomain, SaysBegin, SaysLine, SaysClient, SaysCall, said}
+use Rattle.world_model.specs.Reading.{Reading, Read, Good, Bad, nothing_read, settled_if, settled, nodes_said, is_known_client, event_misplaced, line_misplaced, misplaced, last_reason, reason, with_line, with_client, with_config, with_address, taken, taken_unless, said_line, is_extra, counted_line, formed_line, skipped_line, worded_line, is_comment, words_in, is_bad_byte, read_line, ScriptRead, IsScript, IsNone, finished, input_limit, read_from, script_of}
 use Rattle.world_safety.specs.Plays.{LineMay, LinesMay, ScriptsMayPlay}
 use Rattle.world_safety.proofs.Saying.{StartsOf, SaidWell, SaysWell, said_well}
 

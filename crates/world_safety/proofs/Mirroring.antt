@@ -1,22 +1,22 @@
 -- The scene goes on standing for the world: a node starts, stops, takes a step.
 use Rattle.std.proofs.Common.{◌≡◌, ℕ, ◌+◌, List, [], ◌++◌, Some, None, Bool, refl, sym, ap, ◌∙◌, subst}
 use Rattle.std.specs.Prelude.{find, nat_lt}
-use Rattle.world_laws.specs.rsct_packet.Lists.{drop_where}
-use Rattle.world_laws.specs.rsct_packet.Search.{Has, insert_before}
-use Rattle.world_laws.proofs.rsct_packet_laws.HasLaws.{append_has_left, append_has_right}
-use Rattle.world_laws.specs.node_state.declared.config.Config.{Config}
-use Rattle.world_laws.specs.node_state.declared.happened.Happened.{Happened}
-use Rattle.world_laws.specs.node_state.declared.packet.Packet.{Packet}
-use Rattle.world_laws.specs.node_state.declared.state.Core.{Core}
-use Rattle.world_laws.specs.node_state.State.{with_sessions}
-use Rattle.world_laws.specs.node_state.Applying.{level_set}
-use Rattle.world_laws.specs.node_state.Step.{started}
-use Rattle.world_laws.specs.view_state.Views.{views_new}
-use Rattle.world_laws.specs.world_model.World.{Script, Node, World, is_node, nodes_with, handled, traced, after_step, starts_with, started_at}
-use Rattle.run_laws.specs.run_safety.Past.{History}
-use Rattle.run_laws.specs.step_refinement.Tied.{Scene}
-use Rattle.run_laws.specs.step_refinement.Rows.{at_node}
-use Rattle.run_laws.proofs.step_refinement_laws.Changed.{each_set}
+use Rattle.rsct_packet.specs.Lists.{drop_where}
+use Rattle.rsct_packet.specs.Search.{Has, insert_before}
+use Rattle.rsct_packet.proofs.HasLaws.{append_has_left, append_has_right}
+use Rattle.node_state.specs.declared.config.Config.{Config}
+use Rattle.node_state.specs.declared.happened.Happened.{Happened}
+use Rattle.node_state.specs.declared.packet.Packet.{Packet}
+use Rattle.node_state.specs.declared.state.Core.{Core}
+use Rattle.node_state.specs.State.{with_sessions}
+use Rattle.node_state.specs.Applying.{level_set}
+use Rattle.node_state.specs.Step.{started}
+use Rattle.view_state.specs.Views.{views_new}
+use Rattle.world_model.specs.World.{Script, Node, World, is_node, nodes_with, handled, traced, after_step, starts_with, started_at}
+use Rattle.run_safety.specs.Past.{History}
+use Rattle.step_refinement.specs.Tied.{Scene}
+use Rattle.step_refinement.specs.Rows.{at_node}
+use Rattle.step_refinement.proofs.Changed.{each_set}
 use Rattle.world_safety.specs.Mirrors.{core_in, core_at, inc_at, Once, Mirrors}
 use Rattle.world_safety.proofs.Finding.{is_me, not_me, with_here, with_there, once_with, put_here, put_there, once_put, out_here, out_there, once_out, starts_here, starts_there}
 use Rattle.world_safety.proofs.Posting.{posted_config, posted_nodes, posted_starts, posted_sent, posted_pairs}

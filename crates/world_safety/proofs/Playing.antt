@@ -2,15 +2,15 @@
 use Rattle.std.proofs.Common.{◌≡◌, ℕ, zero, suc, List, [], ◌∷◌, ◌++◌, Bool, true, false, Option, Some, None, refl, sym, ap, ◌∙◌, subst}
 use Rattle.std.specs.Prelude.{fold, is_some}
 use Rattle.std.proofs.lemmas.List.Sums.{fold-append}
-use Rattle.world_laws.specs.rsct_packet.Lists.{reverse_onto}
-use Rattle.world_laws.specs.node_state.declared.config.Config.{Config}
-use Rattle.world_laws.specs.world_model.declared.event.Event.{Event}
-use Rattle.world_laws.specs.world_model.declared.event.Event.TheVariants as event
-use Rattle.world_laws.specs.world_model.declared.script.Line.{Line}
-use Rattle.world_laws.specs.world_model.declared.script.Line.TheVariants as line
-use Rattle.world_laws.specs.world_model.World.{Node, Sent, World, node_at, happens, world_new, world_after}
-use Rattle.world_laws.specs.world_model.Play.{Played, is_cut, drops, in_world, with_event, flows_to, flows, flow_limit, all_tick, rounds, plays, played, events_of}
-use Rattle.world_laws.specs.world_model.Kept.{Bytes, with_packet, sent_since, Ended, runs_from}
+use Rattle.rsct_packet.specs.Lists.{reverse_onto}
+use Rattle.node_state.specs.declared.config.Config.{Config}
+use Rattle.world_model.specs.declared.event.Event.{Event}
+use Rattle.world_model.specs.declared.event.Event.TheVariants as event
+use Rattle.world_model.specs.declared.script.Line.{Line}
+use Rattle.world_model.specs.declared.script.Line.TheVariants as line
+use Rattle.world_model.specs.World.{Node, Sent, World, node_at, happens, world_new, world_after}
+use Rattle.world_model.specs.Play.{Played, is_cut, drops, in_world, with_event, flows_to, flows, flow_limit, all_tick, rounds, plays, played, events_of}
+use Rattle.world_model.specs.Kept.{Bytes, with_packet, sent_since, Ended, runs_from}
 use Rattle.world_laws.specs.world_runs.Runs.{SameRun}
 use Rattle.world_laws.proofs.world_runs.Queue.{same_happens}
 use Rattle.world_safety.specs.Events.{MayHappen, AllMayHappen}

@@ -1,10 +1,10 @@
 -- Packets that are sent: what else stays in the world, and what holds of each packet there.
 use Rattle.std.proofs.Common.{◌≡◌, ℕ, List, [], ◌∷◌, Bool, true, false, Option, Some, None, refl, sym, subst, inl, inr}
 use Rattle.std.specs.Prelude.{◌-◌, ◌&&◌, find, fold, nat_lt, nat_le, slice_get}
-use Rattle.world_laws.specs.rsct_packet.Search.{Has}
-use Rattle.world_laws.proofs.rsct_packet_laws.HasLaws.{find_has, get_has}
-use Rattle.world_laws.specs.node_state.declared.packet.Packet.{Packet}
-use Rattle.world_laws.specs.world_model.World.{Pair, World, is_pair, pair_with, pairs_with, posted, kth_in, kth_between}
+use Rattle.rsct_packet.specs.Search.{Has}
+use Rattle.rsct_packet.proofs.HasLaws.{find_has, get_has}
+use Rattle.node_state.specs.declared.packet.Packet.{Packet}
+use Rattle.world_model.specs.World.{Pair, World, is_pair, pair_with, pairs_with, posted, kth_in, kth_between}
 
 pub posted_config : (ps : List Packet) (w : World) → (fold posted w ps).config ≡ w.config
 unfolding posted

@@ -2,18 +2,18 @@
 use Rattle.std.proofs.Common.{◌≡◌, List, [], ◌∷◌, ◌++◌, Some, sym, ap, ◌∙◌, subst, append-nil, append_assoc}
 use Rattle.std.specs.Prelude.{fold, map, reverse}
 use Rattle.std.proofs.lemmas.List.{reverse-append, map-append}
-use Rattle.world_laws.specs.node_state.declared.config.Config.{Config}
-use Rattle.world_laws.specs.world_model.Run.{Happening, Run}
-use Rattle.world_laws.specs.world_model.World.{World, world_new}
-use Rattle.run_laws.specs.run_safety.Past.{turned, history_of}
-use Rattle.run_laws.specs.run_safety.SafeLists.{OneEntry}
-use Rattle.run_laws.specs.run_safety.SafeGroups.{SafeGroups}
-use Rattle.run_laws.specs.step_refinement.Tied.{Scene, opening_of}
-use Rattle.run_laws.specs.entry_laws.late_rows.Runs.{TicksAreNoted}
-use Rattle.run_laws.specs.row_laws.failed_rows.Scenes.{Played}
-use Rattle.run_laws.specs.provider_laws.leaving.Scenes.{Recounted}
-use Rattle.run_laws.specs.step_refinement.Runs.{Reached}
-use Rattle.run_laws.proofs.step_refinement_laws.RunLaw.{reached_runs}
+use Rattle.node_state.specs.declared.config.Config.{Config}
+use Rattle.world_model.specs.Run.{Happening, Run}
+use Rattle.world_model.specs.World.{World, world_new}
+use Rattle.run_safety.specs.Past.{turned, history_of}
+use Rattle.run_safety.specs.SafeLists.{OneEntry}
+use Rattle.run_safety.specs.SafeGroups.{SafeGroups}
+use Rattle.step_refinement.specs.Tied.{Scene, opening_of}
+use Rattle.entry_laws.specs.late_rows.Runs.{TicksAreNoted}
+use Rattle.row_laws.specs.failed_rows.Scenes.{Played}
+use Rattle.provider_laws.specs.leaving.Scenes.{Recounted}
+use Rattle.step_refinement.specs.Runs.{Reached}
+use Rattle.step_refinement.proofs.RunLaw.{reached_runs}
 use Rattle.world_laws.specs.world_answers.Answers.{Answered, goes_on, events_in, answered_after}
 use Rattle.world_safety.specs.Events.{happening, events_from, beginning, AllMayHappen}
 use Rattle.world_safety.specs.Mirrors.{Mirrors}

@@ -1,13 +1,13 @@
 -- A line that starts a node names it.
 use Rattle.std.proofs.Common.{refl, ℕ, List, [], ◌∷◌, Option, Some, None, inl}
-use Rattle.world_laws.specs.rsct_packet.Search.{Has}
-use Rattle.world_laws.specs.node_state.declared.call.CallLine.{CallLine}
-use Rattle.world_laws.specs.world_model.declared.event.Event.{Event}
-use Rattle.world_laws.specs.world_model.declared.event.Event.TheVariants as event
-use Rattle.world_laws.specs.world_model.declared.script.Line.{Line}
-use Rattle.world_laws.specs.world_model.declared.script.Line.TheVariants as line
-use Rattle.world_laws.specs.world_model.Words.{◌>>=◌, node_word}
-use Rattle.world_laws.specs.world_model.Lines.{Head, HMode, HNode, HAdapter, HHb, HPort, HLevel, HDomain, HBegin, HStart, HStop, HAsk, HTick, HRun, HDeliver, HDrop, HFlow, HCut, HHeal, HGarbage, HShow, HClient, HJoin, HLeave, HExpel, HState, HMessage, HAttrs, HVote, HSubscribe, HUnsubscribe, HGoodbye, Said, SaysLine, says_one, says_event, says_two, says_call, said}
+use Rattle.rsct_packet.specs.Search.{Has}
+use Rattle.node_state.specs.declared.call.CallLine.{CallLine}
+use Rattle.world_model.specs.declared.event.Event.{Event}
+use Rattle.world_model.specs.declared.event.Event.TheVariants as event
+use Rattle.world_model.specs.declared.script.Line.{Line}
+use Rattle.world_model.specs.declared.script.Line.TheVariants as line
+use Rattle.world_model.specs.Words.{◌>>=◌, node_word}
+use Rattle.world_model.specs.Lines.{Head, HMode, HNode, HAdapter, HHb, HPort, HLevel, HDomain, HBegin, HStart, HStop, HAsk, HTick, HRun, HDeliver, HDrop, HFlow, HCut, HHeal, HGarbage, HShow, HClient, HJoin, HLeave, HExpel, HState, HMessage, HAttrs, HVote, HSubscribe, HUnsubscribe, HGoodbye, Said, SaysLine, says_one, says_event, says_two, says_call, said}
 
 -- who starts is among these
 abbrev pub StartsOf : List ℕ → Line → Type 0

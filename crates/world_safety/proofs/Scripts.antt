@@ -1,58 +1,58 @@
 -- Every run is safe, whatever its clients answer, and so every run of a script.
 use Rattle.std.proofs.Common.{◌≡◌, List, [], Bool, true, false, None, refl, sym, ap, ◌∙◌, subst}
-use Rattle.world_laws.specs.rsct_packet.Lists.{reverse_onto}
-use Rattle.world_laws.specs.node_state.declared.config.Config.{Config}
-use Rattle.world_laws.specs.node_state.declared.happened.Happened.{Happened}
-use Rattle.world_laws.specs.world_model.declared.event.Event.{Event}
-use Rattle.world_laws.specs.world_model.World.{World, world_new, world_after, records_of}
-use Rattle.world_laws.specs.world_model.Play.{events_of, played_records, script_records}
-use Rattle.world_laws.specs.world_model.Kept.{Ended, runs_from, runs_within, ended, kept_records}
+use Rattle.rsct_packet.specs.Lists.{reverse_onto}
+use Rattle.node_state.specs.declared.config.Config.{Config}
+use Rattle.node_state.specs.declared.happened.Happened.{Happened}
+use Rattle.world_model.specs.declared.event.Event.{Event}
+use Rattle.world_model.specs.World.{World, world_new, world_after, records_of}
+use Rattle.world_model.specs.Play.{events_of, played_records, script_records}
+use Rattle.world_model.specs.Kept.{Ended, runs_from, runs_within, ended, kept_records}
 use Rattle.world_safety.specs.Events.{AllMayHappen}
 use Rattle.world_laws.specs.world_answers.Answers.{Answered, events_in, answered_after, answered_records, all_worded}
 use Rattle.world_laws.proofs.world_answers.Words.{all_events, worded_after}
 use Rattle.world_safety.specs.Scripts.{IsSafe, IsSafeRun, EveryScriptIsSafe, EveryKeptRunIsSafe}
 use Rattle.world_safety.proofs.Traces.{run_has_the_records}
 use Rattle.world_safety.proofs.Runs.{every_run_is_safe, every_run_is_reached}
-use Rattle.run_laws.specs.row_laws.hearing.Hearing.{HeardInARow, NoGap}
-use Rattle.run_laws.proofs.row_laws_laws.hearing.Listening.{providers_hear}
-use Rattle.run_laws.proofs.row_laws_laws.hearing.NoGap.{no_gap}
-use Rattle.run_laws.specs.row_laws.honest_votes.Casts.{VotesWereCast}
-use Rattle.run_laws.proofs.row_laws_laws.honest_votes.Law.{recorded_votes}
-use Rattle.run_laws.specs.entry_laws.closing_rows.Rows.{RowsAreVoters}
-use Rattle.run_laws.proofs.entry_laws_laws.closing_rows.Law.{rows_are_voters}
-use Rattle.run_laws.specs.entry_laws.late_rows.Late.{LateHadTime}
-use Rattle.run_laws.specs.entry_laws.late_rows.Announced.{LateWereAnnounced}
-use Rattle.run_laws.specs.provider_laws.attending.Places.{PlacesHeardOnce, PutNamed}
-use Rattle.run_laws.proofs.provider_laws_laws.attending.Law.{places_once}
-use Rattle.run_laws.proofs.provider_laws_laws.attending.States.{entries_named}
-use Rattle.run_laws.specs.provider_laws.single_casts.Single.{CastsOnce, CastsAfterNotice}
-use Rattle.run_laws.proofs.provider_laws_laws.single_casts.Law.{cast_after_notice}
-use Rattle.run_laws.proofs.provider_laws_laws.single_casts.Once.{cast_once}
-use Rattle.run_laws.specs.entry_laws.carried_values.Carried.{FirstBallotsCarry}
-use Rattle.run_laws.proofs.entry_laws_laws.carried_values.Law.{first_ballots_carry}
-use Rattle.run_laws.specs.row_laws.failed_rows.Failures.{FailuresHaveCauses}
-use Rattle.run_laws.proofs.row_laws_laws.failed_rows.Law.{failures_are_honest}
+use Rattle.row_laws.specs.hearing.Hearing.{HeardInARow, NoGap}
+use Rattle.row_laws.proofs.hearing.Listening.{providers_hear}
+use Rattle.row_laws.proofs.hearing.NoGap.{no_gap}
+use Rattle.row_laws.specs.honest_votes.Casts.{VotesWereCast}
+use Rattle.row_laws.proofs.honest_votes.Law.{recorded_votes}
+use Rattle.entry_laws.specs.closing_rows.Rows.{RowsAreVoters}
+use Rattle.entry_laws.proofs.closing_rows.Law.{rows_are_voters}
+use Rattle.entry_laws.specs.late_rows.Late.{LateHadTime}
+use Rattle.entry_laws.specs.late_rows.Announced.{LateWereAnnounced}
+use Rattle.provider_laws.specs.attending.Places.{PlacesHeardOnce, PutNamed}
+use Rattle.provider_laws.proofs.attending.Law.{places_once}
+use Rattle.provider_laws.proofs.attending.States.{entries_named}
+use Rattle.provider_laws.specs.single_casts.Single.{CastsOnce, CastsAfterNotice}
+use Rattle.provider_laws.proofs.single_casts.Law.{cast_after_notice}
+use Rattle.provider_laws.proofs.single_casts.Once.{cast_once}
+use Rattle.entry_laws.specs.carried_values.Carried.{FirstBallotsCarry}
+use Rattle.entry_laws.proofs.carried_values.Law.{first_ballots_carry}
+use Rattle.row_laws.specs.failed_rows.Failures.{FailuresHaveCauses}
+use Rattle.row_laws.proofs.failed_rows.Law.{failures_are_honest}
 use Rattle.run_laws.specs.failed_causes.Causes.{FailuresHaveExactCauses}
 use Rattle.run_laws.proofs.failed_causes.Causes.{failures_are_exact}
 use Rattle.run_laws.specs.failed_causes.Entering.{BasesFollowEntering}
 use Rattle.run_laws.proofs.failed_causes.Bases.{each_base_follows}
-use Rattle.run_laws.specs.entry_laws.source_order.Sources.{ReflectionsRise, ReflectionsClimb, JoinsCarryLengths, FirstsFollowSources, JoinsOverSources}
-use Rattle.run_laws.proofs.entry_laws_laws.source_order.Law.{reflections_rise, reflections_climb, joins_carry_lengths, firsts_follow_sources, joins_over_sources}
-use Rattle.run_laws.proofs.entry_laws_laws.late_rows.Law.{who_is_late_had_time, who_is_late_was_announced}
+use Rattle.entry_laws.specs.source_order.Sources.{ReflectionsRise, ReflectionsClimb, JoinsCarryLengths, FirstsFollowSources, JoinsOverSources}
+use Rattle.entry_laws.proofs.source_order.Law.{reflections_rise, reflections_climb, joins_carry_lengths, firsts_follow_sources, joins_over_sources}
+use Rattle.entry_laws.proofs.late_rows.Law.{who_is_late_had_time, who_is_late_was_announced}
 use Rattle.run_laws.specs.ring_runs.Rings.{NetworkAgrees}
 use Rattle.run_laws.proofs.ring_runs.Law.{rings_agree_in_runs}
 use Rattle.run_laws.specs.seen_runs.Seen.{Seen}
 use Rattle.run_laws.proofs.seen_runs.Law.{traces_seen}
 use Rattle.run_laws.specs.seen_runs.Rings.{RingsSeen}
 use Rattle.run_laws.proofs.seen_runs.Rings.{every_ring_seen}
-use Rattle.run_laws.specs.run_safety.SafeLists.{Each}
-use Rattle.run_laws.specs.run_safety.SafeHeard.{InOrder, NotLetGo, AllHear, Dissolves}
-use Rattle.run_laws.proofs.provider_laws_laws.attending.OrderLaw.{heard_in_order}
-use Rattle.run_laws.proofs.provider_laws_laws.leaving.Law.{who_is_let_go}
+use Rattle.run_safety.specs.SafeLists.{Each}
+use Rattle.run_safety.specs.SafeHeard.{InOrder, NotLetGo, AllHear, Dissolves}
+use Rattle.provider_laws.proofs.attending.OrderLaw.{heard_in_order}
+use Rattle.provider_laws.proofs.leaving.Law.{who_is_let_go}
 use Rattle.run_laws.proofs.gapless.Quiet.{all_hear}
 use Rattle.run_laws.proofs.gapless.Just.{just_the_left}
-use Rattle.run_laws.specs.run_safety.Past.{EachEvent, EachRecord, Within}
-use Rattle.run_laws.specs.run_safety.Past as past
+use Rattle.run_safety.specs.Past.{EachEvent, EachRecord, Within}
+use Rattle.run_safety.specs.Past as past
 use Rattle.world_safety.specs.Plays.{EveryAnswerIsSafe, EventsAreSafe, EveryPlayIsSafe, EveryKeptPlayIsSafe}
 use Rattle.world_safety.proofs.Lined.{scripts_may_play}
 use Rattle.world_safety.proofs.Playing.{all_front, events_may, events_come, Front, limited_front}

@@ -2,13 +2,13 @@
 use Rattle.std.proofs.Common.{◌≡◌, ◌-◌, List, [], ◌∷◌, ◌++◌, length, take, refl, sym, ap, ◌∙◌, append-nil}
 use Rattle.std.specs.Prelude.{fold}
 use Rattle.std.proofs.lemmas.Grind.{flat_map-append}
-use Rattle.world_laws.specs.rsct_packet.Lists.{reverse_onto}
-use Rattle.world_laws.specs.node_state.declared.config.Config.{Config}
-use Rattle.world_laws.specs.node_state.declared.config.Mode.{Mode}
-use Rattle.world_laws.specs.node_state.declared.config.Mode.TheVariants.{Fixed, Asked, Rings}
-use Rattle.world_laws.specs.node_state.declared.happened.Happened.{Happened}
-use Rattle.world_laws.specs.world_model.Run.{Happening, trace_of}
-use Rattle.world_laws.specs.world_model.World.{World, world_of, world_new}
+use Rattle.rsct_packet.specs.Lists.{reverse_onto}
+use Rattle.node_state.specs.declared.config.Config.{Config}
+use Rattle.node_state.specs.declared.config.Mode.{Mode}
+use Rattle.node_state.specs.declared.config.Mode.TheVariants.{Fixed, Asked, Rings}
+use Rattle.node_state.specs.declared.happened.Happened.{Happened}
+use Rattle.world_model.specs.Run.{Happening, trace_of}
+use Rattle.world_model.specs.World.{World, world_of, world_new}
 use Rattle.world_laws.specs.world_runs.Runs.{Recorded}
 use Rattle.world_laws.proofs.world_runs.Backwards.{added_since}
 use Rattle.world_laws.specs.world_answers.Answers.{Answered, goes_on, answered_after, answered_records}

@@ -2,7 +2,7 @@
 use Rattle.std.proofs.Common.{◌≡◌, List, [], ◌∷◌, ◌++◌, refl, sym, ap, ◌∙◌, append_assoc}
 use Rattle.std.specs.Prelude.{reverse}
 use Rattle.std.proofs.lemmas.List.{reverse-append, reverse-reverse, append-nil}
-use Rattle.world_laws.specs.rsct_packet.Lists.{reverse_onto}
+use Rattle.rsct_packet.specs.Lists.{reverse_onto}
 
 pub onto_is : {A : Type 0} (xs ys : List A) → reverse_onto xs ys ≡ reverse xs ++ ys
 onto_is [] ys = refl

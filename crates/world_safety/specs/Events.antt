@@ -1,15 +1,15 @@
 -- The run that plain events make, one after another, with what clients answer at them, and what is asked of them.
 use Rattle.std.specs.Prelude.{◌-◌, ◌≡◌, ◌≢◌, false, List, [], ◌∷◌, ◌++◌, length, take, Some, None}
-use Rattle.world_laws.specs.rsct_packet.Lists.{reverse_onto}
-use Rattle.world_laws.specs.node_state.declared.config.Config.{Config}
-use Rattle.world_laws.specs.node_state.declared.config.Mode.{Mode}
-use Rattle.world_laws.specs.node_state.declared.config.Mode.TheVariants.{Fixed, Asked, Rings}
-use Rattle.world_laws.specs.node_state.declared.happened.Happened.{Happened}
-use Rattle.world_laws.specs.node_state.Settings.{is_fixed}
-use Rattle.world_laws.specs.world_model.declared.event.Event.{Event}
-use Rattle.world_laws.specs.world_model.declared.event.Event.TheVariants as event
-use Rattle.world_laws.specs.world_model.World.{World, world_new}
-use Rattle.world_laws.specs.world_model.Run.{Happening, Run}
+use Rattle.rsct_packet.specs.Lists.{reverse_onto}
+use Rattle.node_state.specs.declared.config.Config.{Config}
+use Rattle.node_state.specs.declared.config.Mode.{Mode}
+use Rattle.node_state.specs.declared.config.Mode.TheVariants.{Fixed, Asked, Rings}
+use Rattle.node_state.specs.declared.happened.Happened.{Happened}
+use Rattle.node_state.specs.Settings.{is_fixed}
+use Rattle.world_model.specs.declared.event.Event.{Event}
+use Rattle.world_model.specs.declared.event.Event.TheVariants as event
+use Rattle.world_model.specs.World.{World, world_new}
+use Rattle.world_model.specs.Run.{Happening, Run}
 use Rattle.world_laws.specs.world_answers.Answers.{Answered, goes_on}
 
 -- the records that a world has more than an older one, in order

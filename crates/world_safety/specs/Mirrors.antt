@@ -1,11 +1,11 @@
 -- A scene that stands for a world.
 use Rattle.std.specs.Prelude.{ℕ, ◌≡◌, ◌==◌, List, [], ◌∷◌, find, Option, Some, None}
-use Rattle.world_laws.specs.rsct_packet.Search.{Has}
-use Rattle.world_laws.specs.node_state.declared.config.Config.{Config}
-use Rattle.world_laws.specs.node_state.declared.packet.Packet.{Packet}
-use Rattle.world_laws.specs.node_state.declared.state.Core.{Core}
-use Rattle.world_laws.specs.world_model.World.{Node, Pair, Started, World, is_node, inc_in}
-use Rattle.run_laws.specs.step_refinement.Tied.{Scene}
+use Rattle.rsct_packet.specs.Search.{Has}
+use Rattle.node_state.specs.declared.config.Config.{Config}
+use Rattle.node_state.specs.declared.packet.Packet.{Packet}
+use Rattle.node_state.specs.declared.state.Core.{Core}
+use Rattle.world_model.specs.World.{Node, Pair, Started, World, is_node, inc_in}
+use Rattle.step_refinement.specs.Tied.{Scene}
 
 abbrev pub core_in : Option Node → Option Core
 core_in None = None

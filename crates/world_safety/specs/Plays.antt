@@ -1,15 +1,15 @@
 -- Every list of events that may happen makes a safe run, and so does every script whose lines may happen, however it was made.
 use Rattle.std.specs.Prelude.{ℕ, ◌≡◌, ◌≢◌, false, List, [], ◌∷◌}
-use Rattle.world_laws.specs.node_state.declared.config.Config.{Config}
-use Rattle.world_laws.specs.node_state.declared.config.Mode.{Mode}
-use Rattle.world_laws.specs.node_state.Settings.{is_fixed}
-use Rattle.world_laws.specs.world_model.declared.event.Event.{Event}
-use Rattle.world_laws.specs.world_model.declared.event.Event.TheVariants as event
-use Rattle.world_laws.specs.world_model.declared.script.Line.{Line}
-use Rattle.world_laws.specs.world_model.declared.script.Line.TheVariants as line
-use Rattle.world_laws.specs.world_model.declared.script.Script.{Script}
-use Rattle.world_laws.specs.world_model.Reading.{IsScript, script_of}
-use Rattle.world_laws.specs.world_model.World.{records_of}
+use Rattle.node_state.specs.declared.config.Config.{Config}
+use Rattle.node_state.specs.declared.config.Mode.{Mode}
+use Rattle.node_state.specs.Settings.{is_fixed}
+use Rattle.world_model.specs.declared.event.Event.{Event}
+use Rattle.world_model.specs.declared.event.Event.TheVariants as event
+use Rattle.world_model.specs.declared.script.Line.{Line}
+use Rattle.world_model.specs.declared.script.Line.TheVariants as line
+use Rattle.world_model.specs.declared.script.Script.{Script}
+use Rattle.world_model.specs.Reading.{IsScript, script_of}
+use Rattle.world_model.specs.World.{records_of}
 use Rattle.world_laws.specs.world_answers.Answers.{Answered, events_in, answered_records}
 use Rattle.world_safety.specs.Events.{AllMayHappen}
 use Rattle.world_safety.specs.Scripts.{IsSafe, IsSafeRun, ScriptIsSafe, KeptRunIsSafe}

@@ -1,15 +1,15 @@
 -- Every run of the world is safe, whatever its clients answer.
 use Rattle.std.specs.Prelude.{◌≡◌, List}
-use Rattle.world_laws.specs.node_state.declared.config.Config.{Config}
-use Rattle.world_laws.specs.world_model.Run.{trace_of}
-use Rattle.run_laws.specs.run_safety.Past.{history_of}
-use Rattle.run_laws.specs.run_safety.SafeLists.{OneEntry}
-use Rattle.run_laws.specs.run_safety.SafeGroups.{SafeGroups}
-use Rattle.run_laws.specs.step_refinement.Tied.{Scene, opening_of}
-use Rattle.run_laws.specs.step_refinement.Runs.{Reached}
-use Rattle.run_laws.specs.entry_laws.late_rows.Runs.{TicksAreNoted}
-use Rattle.run_laws.specs.row_laws.failed_rows.Scenes.{Played}
-use Rattle.run_laws.specs.provider_laws.leaving.Scenes.{Recounted}
+use Rattle.node_state.specs.declared.config.Config.{Config}
+use Rattle.world_model.specs.Run.{trace_of}
+use Rattle.run_safety.specs.Past.{history_of}
+use Rattle.run_safety.specs.SafeLists.{OneEntry}
+use Rattle.run_safety.specs.SafeGroups.{SafeGroups}
+use Rattle.step_refinement.specs.Tied.{Scene, opening_of}
+use Rattle.step_refinement.specs.Runs.{Reached}
+use Rattle.entry_laws.specs.late_rows.Runs.{TicksAreNoted}
+use Rattle.row_laws.specs.failed_rows.Scenes.{Played}
+use Rattle.provider_laws.specs.leaving.Scenes.{Recounted}
 use Rattle.world_laws.specs.world_answers.Answers.{Answered, events_in, answered_after, answered_records}
 use Rattle.world_safety.specs.Events.{run_of_events, AllMayHappen}
 use Rattle.world_safety.specs.Mirrors.{Mirrors}

@@ -1,35 +1,35 @@
 -- Every run of a script is safe.
 use Rattle.std.specs.Prelude.{ℕ, ◌≡◌, ◌++◌, true, List}
-use Rattle.world_laws.specs.node_state.declared.config.Config.{Config}
-use Rattle.world_laws.specs.node_state.declared.happened.Happened.{Happened}
-use Rattle.world_laws.specs.world_model.declared.event.Event.{Event}
-use Rattle.world_laws.specs.world_model.declared.script.Script.{Script}
-use Rattle.world_laws.specs.world_model.Run.{trace_of}
-use Rattle.world_laws.specs.world_model.Reading.{IsScript, script_of}
-use Rattle.world_laws.specs.world_model.Play.{events_of, script_records}
-use Rattle.world_laws.specs.world_model.Kept.{kept_records}
-use Rattle.run_laws.specs.run_safety.Past.{EachEvent, EachRecord, Within, history_of}
-use Rattle.run_laws.specs.run_safety.Past as past
-use Rattle.run_laws.specs.run_safety.SafeLists.{OneEntry}
-use Rattle.run_laws.specs.run_safety.SafeGroups.{SafeGroups}
-use Rattle.run_laws.specs.step_refinement.Tied.{opening_of}
-use Rattle.run_laws.specs.row_laws.hearing.Hearing.{HeardInARow, NoGap}
-use Rattle.run_laws.specs.row_laws.honest_votes.Casts.{VotesWereCast}
-use Rattle.run_laws.specs.entry_laws.closing_rows.Rows.{RowsAreVoters}
-use Rattle.run_laws.specs.entry_laws.late_rows.Late.{LateHadTime}
-use Rattle.run_laws.specs.entry_laws.late_rows.Announced.{LateWereAnnounced}
-use Rattle.run_laws.specs.provider_laws.attending.Places.{PlacesHeardOnce, PutNamed}
-use Rattle.run_laws.specs.provider_laws.single_casts.Single.{CastsOnce, CastsAfterNotice}
-use Rattle.run_laws.specs.entry_laws.carried_values.Carried.{FirstBallotsCarry}
-use Rattle.run_laws.specs.row_laws.failed_rows.Failures.{FailuresHaveCauses}
+use Rattle.node_state.specs.declared.config.Config.{Config}
+use Rattle.node_state.specs.declared.happened.Happened.{Happened}
+use Rattle.world_model.specs.declared.event.Event.{Event}
+use Rattle.world_model.specs.declared.script.Script.{Script}
+use Rattle.world_model.specs.Run.{trace_of}
+use Rattle.world_model.specs.Reading.{IsScript, script_of}
+use Rattle.world_model.specs.Play.{events_of, script_records}
+use Rattle.world_model.specs.Kept.{kept_records}
+use Rattle.run_safety.specs.Past.{EachEvent, EachRecord, Within, history_of}
+use Rattle.run_safety.specs.Past as past
+use Rattle.run_safety.specs.SafeLists.{OneEntry}
+use Rattle.run_safety.specs.SafeGroups.{SafeGroups}
+use Rattle.step_refinement.specs.Tied.{opening_of}
+use Rattle.row_laws.specs.hearing.Hearing.{HeardInARow, NoGap}
+use Rattle.row_laws.specs.honest_votes.Casts.{VotesWereCast}
+use Rattle.entry_laws.specs.closing_rows.Rows.{RowsAreVoters}
+use Rattle.entry_laws.specs.late_rows.Late.{LateHadTime}
+use Rattle.entry_laws.specs.late_rows.Announced.{LateWereAnnounced}
+use Rattle.provider_laws.specs.attending.Places.{PlacesHeardOnce, PutNamed}
+use Rattle.provider_laws.specs.single_casts.Single.{CastsOnce, CastsAfterNotice}
+use Rattle.entry_laws.specs.carried_values.Carried.{FirstBallotsCarry}
+use Rattle.row_laws.specs.failed_rows.Failures.{FailuresHaveCauses}
 use Rattle.run_laws.specs.failed_causes.Causes.{FailuresHaveExactCauses}
 use Rattle.run_laws.specs.failed_causes.Entering.{BasesFollowEntering}
-use Rattle.run_laws.specs.entry_laws.source_order.Sources.{ReflectionsRise, ReflectionsClimb, JoinsCarryLengths, FirstsFollowSources, JoinsOverSources}
+use Rattle.entry_laws.specs.source_order.Sources.{ReflectionsRise, ReflectionsClimb, JoinsCarryLengths, FirstsFollowSources, JoinsOverSources}
 use Rattle.run_laws.specs.ring_runs.Rings.{AddressesFit, NetworkAgrees}
 use Rattle.run_laws.specs.seen_runs.Seen.{Seen}
 use Rattle.run_laws.specs.seen_runs.Rings.{RingsSeen}
-use Rattle.run_laws.specs.run_safety.SafeLists.{Each}
-use Rattle.run_laws.specs.run_safety.SafeHeard.{InOrder, NotLetGo, AllHear, Dissolves}
+use Rattle.run_safety.specs.SafeLists.{Each}
+use Rattle.run_safety.specs.SafeHeard.{InOrder, NotLetGo, AllHear, Dissolves}
 use Rattle.world_laws.specs.world_answers.Answers.{Answered, all_worded}
 use Rattle.world_safety.specs.Events.{run_of_events}
 

@@ -2,28 +2,28 @@
 use Rattle.std.proofs.Common.{◌≡◌, ◌⊎◌, ℕ, List, [], ◌∷◌, ◌++◌, Option, Some, None, Bool, true, refl, sym, ap, ◌∙◌, subst, inl, inr, ⊎_elim, append_assoc, append-nil}
 use Rattle.std.specs.Prelude.{fold, reverse}
 use Rattle.std.proofs.lemmas.List.{reverse-append}
-use Rattle.row_laws.specs.rsct_packet.declared.ids.ViewId.{ViewId}
-use Rattle.row_laws.specs.rsct_packet.declared.ids.ProviderId.{ProviderId}
-use Rattle.row_laws.specs.rsct_packet.declared.ids.ProtoId.{ProtoId}
-use Rattle.row_laws.specs.rsct_packet.Search.{Has}
-use Rattle.row_laws.proofs.rsct_packet_laws.HasLaws.{has_append, append_has_left, append_has_right}
-use Rattle.row_laws.specs.proposal_core.declared.entry.Entry.{Entry}
-use Rattle.row_laws.specs.proposal_core.Lists.{state_in}
-use Rattle.row_laws.specs.client_callbacks.declared.ballot.Filled.{Filled}
-use Rattle.row_laws.specs.session_state.declared.state.KeptBallot.{KeptBallot}
-use Rattle.row_laws.specs.session_state.declared.state.SessionState.{SessionState}
-use Rattle.row_laws.specs.view_state.declared.views.Views.{Views}
-use Rattle.row_laws.specs.node_state.declared.group.GroupRow.{GroupRow}
-use Rattle.row_laws.specs.node_state.declared.happened.Happened.{Happened}
-use Rattle.row_laws.specs.node_state.declared.happened.Happened.TheVariants as happened
-use Rattle.row_laws.specs.node_state.declared.packet.Body.{Body}
-use Rattle.row_laws.specs.node_state.declared.packet.Body.TheVariants as body
-use Rattle.row_laws.specs.node_state.declared.packet.Packet.{Packet}
-use Rattle.row_laws.specs.node_state.declared.state.Core.{Core}
-use Rattle.row_laws.specs.node_state.State.{InNameOrder, with_row, row_of, is_this, leader_by, recorded, recorded_all, with_sessions}
-use Rattle.row_laws.specs.node_state.Sending.{packet_on, send_on, sent, network_to}
-use Rattle.row_laws.specs.run_safety.Past.{History, records_of, earlier}
-use Rattle.row_laws.proofs.node_state_laws.NameOrder.{KeepsName, cases_text, row_here, row_there, rows_ordered}
+use Rattle.rsct_packet.specs.declared.ids.ViewId.{ViewId}
+use Rattle.rsct_packet.specs.declared.ids.ProviderId.{ProviderId}
+use Rattle.rsct_packet.specs.declared.ids.ProtoId.{ProtoId}
+use Rattle.rsct_packet.specs.Search.{Has}
+use Rattle.rsct_packet.proofs.HasLaws.{has_append, append_has_left, append_has_right}
+use Rattle.proposal_core.specs.declared.entry.Entry.{Entry}
+use Rattle.proposal_core.specs.Lists.{state_in}
+use Rattle.client_callbacks.specs.declared.ballot.Filled.{Filled}
+use Rattle.session_state.specs.declared.state.KeptBallot.{KeptBallot}
+use Rattle.session_state.specs.declared.state.SessionState.{SessionState}
+use Rattle.view_state.specs.declared.views.Views.{Views}
+use Rattle.node_state.specs.declared.group.GroupRow.{GroupRow}
+use Rattle.node_state.specs.declared.happened.Happened.{Happened}
+use Rattle.node_state.specs.declared.happened.Happened.TheVariants as happened
+use Rattle.node_state.specs.declared.packet.Body.{Body}
+use Rattle.node_state.specs.declared.packet.Body.TheVariants as body
+use Rattle.node_state.specs.declared.packet.Packet.{Packet}
+use Rattle.node_state.specs.declared.state.Core.{Core}
+use Rattle.node_state.specs.State.{InNameOrder, with_row, row_of, is_this, leader_by, recorded, recorded_all, with_sessions}
+use Rattle.node_state.specs.Sending.{packet_on, send_on, sent, network_to}
+use Rattle.run_safety.specs.Past.{History, records_of, earlier}
+use Rattle.node_state.proofs.NameOrder.{KeepsName, cases_text, row_here, row_there, rows_ordered}
 use Rattle.entry_laws.proofs.closing_rows.Entered.{Since}
 use Rattle.entry_laws.proofs.closing_rows.At.{leads_row, found, Silent}
 use Rattle.entry_laws.specs.carried_values.Carried.{EntryCarries, BallotTold, KeptTold, BodyTold}

@@ -2,41 +2,41 @@
 use Rattle.std.proofs.Common.{◌≡◌, ◌⊎◌, ℕ, List, [], ◌∷◌, ◌++◌, Option, Some, None, Bool, true, false, refl, sym, ap, ◌∙◌, subst, inl, inr}
 use Rattle.std.specs.Prelude.{not, filter, find, fold, Result, Ok, Err, if◌then◌else◌}
 use Rattle.std.specs.List.{last_or, list_any}
-use Rattle.row_laws.specs.rsct_packet.declared.ids.ProviderId.{ProviderId}
-use Rattle.row_laws.specs.rsct_packet.Search.{Has}
-use Rattle.row_laws.proofs.rsct_packet_laws.HasLaws.{has_append, has_filter}
-use Rattle.row_laws.specs.group_attr.declared.attrs.Attrs.{Attrs}
-use Rattle.row_laws.specs.group_attr.declared.attrs.Phases.{Phases}
-use Rattle.row_laws.specs.group_attr.Attrs.{first_fault}
-use Rattle.row_laws.specs.proposal_core.declared.entry.Vote.{Vote}
-use Rattle.row_laws.specs.proposal_core.declared.proposal.Proposal.{Proposal}
-use Rattle.row_laws.specs.proposal_core.declared.proposal.Proposal.TheVariants.{Leave, Expel, State, Message, Attributes}
-use Rattle.row_laws.specs.client_callbacks.declared.ballot.Filled.{Filled}
-use Rattle.row_laws.specs.client_callbacks.Ballots.{is_within, value_limit}
-use Rattle.row_laws.specs.subscribe_core.declared.subs.ClientToken.{ClientToken}
-use Rattle.row_laws.specs.subscribe_core.declared.subs.SubToken.{SubToken}
-use Rattle.row_laws.specs.session_state.declared.fault.Field.TheVariants as field
-use Rattle.row_laws.specs.session_state.declared.fault.GsFault.{GsFault}
-use Rattle.row_laws.specs.session_state.declared.fault.GsFault.TheVariants as fault
-use Rattle.row_laws.specs.session_state.declared.state.KeptBallot.{KeptBallot}
-use Rattle.row_laws.specs.session_state.declared.state.MemberToken.{MemberToken}
-use Rattle.row_laws.specs.session_state.declared.state.OpenPhase.{OpenPhase}
-use Rattle.row_laws.specs.session_state.declared.state.Provider.{Provider}
-use Rattle.row_laws.specs.session_state.declared.state.Request.{Request}
-use Rattle.row_laws.specs.session_state.declared.state.SessionState.{SessionState}
-use Rattle.row_laws.specs.session_state.State.{is_member_of, is_client_of, is_kept_for, client_token}
-use Rattle.row_laws.specs.session_state.Calls.{unless_fault, fault_if, attributes_fault, init_fault, add_session, inited, join_fault, join_asked, joined, asked, ask_fault, member_asks, if_session, is_empty, request_made, value_fault, message_fault, targets_fault, left, expelled, state_changed, message_sent, member_changes, attributes_changed, ballot_of, keeps, vote_in, member_votes, voted, subscribe_fault, subscribe_taken, unsubscribe_fault, unsubscribe_taken, client_fault, is_owned, end_session, goodbye_taken}
-use Rattle.row_laws.specs.subscribe_core.Subs.{subs_add, subs_remove}
-use Rattle.row_laws.specs.node_state.declared.call.CallLine.{CallLine}
-use Rattle.row_laws.specs.node_state.declared.call.CallLine.TheVariants as call
-use Rattle.row_laws.specs.node_state.declared.happened.Happened.{Happened}
-use Rattle.row_laws.specs.node_state.declared.happened.Happened.TheVariants as happened
-use Rattle.row_laws.specs.node_state.declared.packet.Body.TheVariants as body
-use Rattle.row_laws.specs.node_state.declared.state.Core.{Core}
-use Rattle.row_laws.specs.node_state.State.{holds, frozen, leader_of, recorded, with_sessions}
-use Rattle.row_laws.specs.node_state.Calls.{caller, subscriber, refuse_call, changed, ask_last, proposed, record_ballot, ballot_sent_if, cast_last, give_ballot, send_gone, send_all_gone, goodbye_said, take_call}
-use Rattle.row_laws.specs.run_safety.Past.{records_of}
-use Rattle.row_laws.proofs.step_refinement_laws.Turns.{has_last, has_pushed_on}
+use Rattle.rsct_packet.specs.declared.ids.ProviderId.{ProviderId}
+use Rattle.rsct_packet.specs.Search.{Has}
+use Rattle.rsct_packet.proofs.HasLaws.{has_append, has_filter}
+use Rattle.group_attr.specs.declared.attrs.Attrs.{Attrs}
+use Rattle.group_attr.specs.declared.attrs.Phases.{Phases}
+use Rattle.group_attr.specs.Attrs.{first_fault}
+use Rattle.proposal_core.specs.declared.entry.Vote.{Vote}
+use Rattle.proposal_core.specs.declared.proposal.Proposal.{Proposal}
+use Rattle.proposal_core.specs.declared.proposal.Proposal.TheVariants.{Leave, Expel, State, Message, Attributes}
+use Rattle.client_callbacks.specs.declared.ballot.Filled.{Filled}
+use Rattle.client_callbacks.specs.Ballots.{is_within, value_limit}
+use Rattle.subscribe_core.specs.declared.subs.ClientToken.{ClientToken}
+use Rattle.subscribe_core.specs.declared.subs.SubToken.{SubToken}
+use Rattle.session_state.specs.declared.fault.Field.TheVariants as field
+use Rattle.session_state.specs.declared.fault.GsFault.{GsFault}
+use Rattle.session_state.specs.declared.fault.GsFault.TheVariants as fault
+use Rattle.session_state.specs.declared.state.KeptBallot.{KeptBallot}
+use Rattle.session_state.specs.declared.state.MemberToken.{MemberToken}
+use Rattle.session_state.specs.declared.state.OpenPhase.{OpenPhase}
+use Rattle.session_state.specs.declared.state.Provider.{Provider}
+use Rattle.session_state.specs.declared.state.Request.{Request}
+use Rattle.session_state.specs.declared.state.SessionState.{SessionState}
+use Rattle.session_state.specs.State.{is_member_of, is_client_of, is_kept_for, client_token}
+use Rattle.session_state.specs.Calls.{unless_fault, fault_if, attributes_fault, init_fault, add_session, inited, join_fault, join_asked, joined, asked, ask_fault, member_asks, if_session, is_empty, request_made, value_fault, message_fault, targets_fault, left, expelled, state_changed, message_sent, member_changes, attributes_changed, ballot_of, keeps, vote_in, member_votes, voted, subscribe_fault, subscribe_taken, unsubscribe_fault, unsubscribe_taken, client_fault, is_owned, end_session, goodbye_taken}
+use Rattle.subscribe_core.specs.Subs.{subs_add, subs_remove}
+use Rattle.node_state.specs.declared.call.CallLine.{CallLine}
+use Rattle.node_state.specs.declared.call.CallLine.TheVariants as call
+use Rattle.node_state.specs.declared.happened.Happened.{Happened}
+use Rattle.node_state.specs.declared.happened.Happened.TheVariants as happened
+use Rattle.node_state.specs.declared.packet.Body.TheVariants as body
+use Rattle.node_state.specs.declared.state.Core.{Core}
+use Rattle.node_state.specs.State.{holds, frozen, leader_of, recorded, with_sessions}
+use Rattle.node_state.specs.Calls.{caller, subscriber, refuse_call, changed, ask_last, proposed, record_ballot, ballot_sent_if, cast_last, give_ballot, send_gone, send_all_gone, goodbye_said, take_call}
+use Rattle.run_safety.specs.Past.{records_of}
+use Rattle.step_refinement.proofs.Turns.{has_last, has_pushed_on}
 use Rattle.entry_laws.specs.carried_values.Carried.{BallotTold, KeptTold}
 use Rattle.entry_laws.proofs.carried_values.At.{Course, ballot_on, At, at_fold, at_recorded, at_sessions}
 use Rattle.entry_laws.proofs.carried_values.Sends.{at_sent_if_known, at_request_sent, at_kept_sent}

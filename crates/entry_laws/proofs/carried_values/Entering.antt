@@ -4,47 +4,47 @@ use Rattle.std.specs.Prelude.{◌==◌, ◌&&◌, not, map, filter, fold, find, 
 use Rattle.std.specs.Option.{option_map}
 use Rattle.std.specs.Str.{bytes_eq}
 use Rattle.std.proofs.lemmas.List.{reverse-append}
-use Rattle.row_laws.specs.rsct_packet.declared.ids.ViewId.{ViewId}
-use Rattle.row_laws.specs.rsct_packet.declared.ids.ProviderId.{ProviderId}
-use Rattle.row_laws.specs.rsct_packet.Providers.{among}
-use Rattle.row_laws.specs.rsct_packet.Search.{Has}
-use Rattle.row_laws.proofs.rsct_packet_laws.HasLaws.{has_append}
-use Rattle.row_laws.specs.group_attr.Attrs.{host_membership}
-use Rattle.row_laws.specs.proposal_core.declared.proposal.Cause.TheVariants.{Died}
-use Rattle.row_laws.specs.proposal_core.Fold.{present}
-use Rattle.row_laws.specs.proposal_core.Lists.{state_in}
-use Rattle.row_laws.specs.batch_rules.Waiting.{add_failure}
-use Rattle.row_laws.specs.subscribe_core.declared.subs.Subscription.{Subscription}
-use Rattle.row_laws.specs.client_callbacks.declared.told.Told.TheVariants as told
-use Rattle.row_laws.specs.client_callbacks.declared.told.Why.TheVariants.{Dissolved}
-use Rattle.row_laws.specs.session_state.declared.state.Provider.{Provider}
-use Rattle.row_laws.specs.session_state.State.{provider_of, outstanding}
-use Rattle.row_laws.specs.session_state.HandOn.{take_telling}
-use Rattle.row_laws.specs.view_state.declared.install.Install.{Install}
-use Rattle.row_laws.specs.view_state.declared.install.Base.{Base}
-use Rattle.row_laws.specs.view_state.Bases.{bases_of, base_named}
-use Rattle.row_laws.specs.view_state.declared.packet.ViewPacket.TheVariants as packet
-use Rattle.row_laws.specs.view_state.declared.packet.ViewSend.{ViewSend}
-use Rattle.row_laws.specs.view_state.declared.views.ViewWork.{ViewWork}
-use Rattle.row_laws.specs.view_state.Views.{own_install, views_entered}
-use Rattle.row_laws.specs.node_state.declared.group.GroupRow.{GroupRow}
-use Rattle.row_laws.specs.node_state.declared.happened.Happened.{Happened}
-use Rattle.row_laws.specs.node_state.declared.happened.Happened.TheVariants as happened
-use Rattle.row_laws.specs.node_state.declared.packet.Body.TheVariants as body
-use Rattle.row_laws.specs.node_state.declared.state.Core.{Core}
-use Rattle.row_laws.specs.node_state.State.{row_found, state_of, held_rows, recorded_all, with_sessions, has_name}
-use Rattle.row_laws.specs.node_state.Sending.{sent, send_requests}
-use Rattle.row_laws.specs.node_state.HandOn.{Answering, subscriber_name, note_of}
-use Rattle.row_laws.specs.node_state.Leading.{with_waiting, tally_opened}
-use Rattle.row_laws.specs.node_state.Applying.{Lacking, lacking, fill_lists, level_set, base_row, base_record, view_entered, is_in_base, number_of, dissolved, dissolved_if, group_dissolved, sides_dissolved, base_note, entering_note, entering_noted, taken_sent, owed_sent, wait_failed, phase_reopened, lead, lead_groups, entered, entered_if, apply_install, views_taken}
-use Rattle.row_laws.specs.run_safety.Past.{records_of}
-use Rattle.row_laws.proofs.step_refinement_laws.BaseOrder.{bases_ordered, row_of_base, base_noted}
+use Rattle.rsct_packet.specs.declared.ids.ViewId.{ViewId}
+use Rattle.rsct_packet.specs.declared.ids.ProviderId.{ProviderId}
+use Rattle.rsct_packet.specs.Providers.{among}
+use Rattle.rsct_packet.specs.Search.{Has}
+use Rattle.rsct_packet.proofs.HasLaws.{has_append}
+use Rattle.group_attr.specs.Attrs.{host_membership}
+use Rattle.proposal_core.specs.declared.proposal.Cause.TheVariants.{Died}
+use Rattle.proposal_core.specs.Fold.{present}
+use Rattle.proposal_core.specs.Lists.{state_in}
+use Rattle.batch_rules.specs.Waiting.{add_failure}
+use Rattle.subscribe_core.specs.declared.subs.Subscription.{Subscription}
+use Rattle.client_callbacks.specs.declared.told.Told.TheVariants as told
+use Rattle.client_callbacks.specs.declared.told.Why.TheVariants.{Dissolved}
+use Rattle.session_state.specs.declared.state.Provider.{Provider}
+use Rattle.session_state.specs.State.{provider_of, outstanding}
+use Rattle.session_state.specs.HandOn.{take_telling}
+use Rattle.view_state.specs.declared.install.Install.{Install}
+use Rattle.view_state.specs.declared.install.Base.{Base}
+use Rattle.view_state.specs.Bases.{bases_of, base_named}
+use Rattle.view_state.specs.declared.packet.ViewPacket.TheVariants as packet
+use Rattle.view_state.specs.declared.packet.ViewSend.{ViewSend}
+use Rattle.view_state.specs.declared.views.ViewWork.{ViewWork}
+use Rattle.view_state.specs.Views.{own_install, views_entered}
+use Rattle.node_state.specs.declared.group.GroupRow.{GroupRow}
+use Rattle.node_state.specs.declared.happened.Happened.{Happened}
+use Rattle.node_state.specs.declared.happened.Happened.TheVariants as happened
+use Rattle.node_state.specs.declared.packet.Body.TheVariants as body
+use Rattle.node_state.specs.declared.state.Core.{Core}
+use Rattle.node_state.specs.State.{row_found, state_of, held_rows, recorded_all, with_sessions, has_name}
+use Rattle.node_state.specs.Sending.{sent, send_requests}
+use Rattle.node_state.specs.HandOn.{Answering, subscriber_name, note_of}
+use Rattle.node_state.specs.Leading.{with_waiting, tally_opened}
+use Rattle.node_state.specs.Applying.{Lacking, lacking, fill_lists, level_set, base_row, base_record, view_entered, is_in_base, number_of, dissolved, dissolved_if, group_dissolved, sides_dissolved, base_note, entering_note, entering_noted, taken_sent, owed_sent, wait_failed, phase_reopened, lead, lead_groups, entered, entered_if, apply_install, views_taken}
+use Rattle.run_safety.specs.Past.{records_of}
+use Rattle.step_refinement.proofs.BaseOrder.{bases_ordered, row_of_base, base_noted}
 use Rattle.entry_laws.proofs.closing_rows.At.{Silent}
 use Rattle.entry_laws.proofs.carried_values.At.{Facts, Course, At, ballot_on, body_on, at_fold, at_sent, at_recorded, at_recorded_all, at_sessions, at_views}
 use Rattle.row_laws.proofs.honest_votes.Keeps.{told_no_more}
-use Rattle.row_laws.proofs.rsct_packet_laws.HasLaws.{append_has_left, append_has_right}
-use Rattle.row_laws.specs.node_state.Leading.{put_and_hand}
-use Rattle.row_laws.specs.proposal_core.declared.entry.Entry.{Entry}
+use Rattle.rsct_packet.proofs.HasLaws.{append_has_left, append_has_right}
+use Rattle.node_state.specs.Leading.{put_and_hand}
+use Rattle.proposal_core.specs.declared.entry.Entry.{Entry}
 use Rattle.entry_laws.proofs.carried_values.Sends.{at_requests_sent, at_votes_again}
 use Rattle.entry_laws.proofs.carried_values.Leading.{at_put_and_handed_for, at_waits, at_opened_anew, at_closes}
 use Rattle.entry_laws.proofs.carried_values.Ending.{Every, NoGroup, at_led_groups}

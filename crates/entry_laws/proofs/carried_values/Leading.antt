@@ -2,37 +2,37 @@
 use Rattle.std.proofs.Common.{◌≡◌, ℕ, zero, suc, List, [], ◌++◌, Option, Some, None, Bool, true, false, refl, sym, ap, ◌∙◌, subst, inl, inr}
 use Rattle.std.specs.Prelude.{not, filter, reverse}
 use Rattle.std.proofs.lemmas.Bool.{and_parts}
-use Rattle.row_laws.specs.rsct_packet.declared.ids.ViewId.{ViewId}
-use Rattle.row_laws.specs.rsct_packet.declared.ids.ProviderId.{ProviderId}
-use Rattle.row_laws.specs.rsct_packet.Providers.{among}
-use Rattle.row_laws.specs.group_attr.declared.attrs.Phases.{Phases}
-use Rattle.row_laws.specs.group_attr.declared.attrs.Phases.TheVariants.{One, Many}
-use Rattle.row_laws.specs.proposal_core.declared.proposal.Cause.TheVariants.{Died, Gone}
-use Rattle.row_laws.specs.proposal_core.declared.proposal.Proposal.{Proposal}
-use Rattle.row_laws.specs.proposal_core.declared.entry.Entry.{Entry}
-use Rattle.row_laws.specs.proposal_core.declared.entry.Entry.TheVariants.{Once, Begin}
-use Rattle.row_laws.specs.proposal_core.declared.group_state.GroupState.{GroupState}
-use Rattle.row_laws.specs.proposal_core.declared.group_state.Running.{Running}
-use Rattle.row_laws.specs.proposal_core.Fold.{max_phases, fits, apply, after}
-use Rattle.row_laws.specs.proposal_core.Lists.{list_or_new, state_in, len_in, has_room, entry_fits, with_entry}
-use Rattle.row_laws.specs.batch_rules.Waiting.{WaitingView, add_failure}
-use Rattle.row_laws.specs.vote_phases.Tally.{TallyView}
-use Rattle.row_laws.specs.node_state.declared.group.GroupRow.{GroupRow}
-use Rattle.row_laws.specs.node_state.declared.group.Led.{Led}
-use Rattle.row_laws.specs.node_state.declared.packet.Body.TheVariants as body
-use Rattle.row_laws.specs.node_state.declared.state.Core.{Core}
-use Rattle.row_laws.specs.node_state.State.{row_of, with_row, with_led, led_of, list_of, state_of, len_of, fits_at_end, list_forgotten, forget_below, leader_of, others, least_acked, recorded}
-use Rattle.row_laws.specs.node_state.Sending.{send_all}
-use Rattle.row_laws.specs.node_state.HandOn.{Answering, hand_on}
-use Rattle.row_laws.specs.node_state.Leading.{put, put_and_hand, forget_least, with_waiting, wait_if, new_members_wait, appended, append_if_fits, tally_for, tally_set, tally_opened, closing_entry, is_phase, closes_from, closes, begin_many, begins}
-use Rattle.row_laws.specs.run_safety.Past.{records_of}
-use Rattle.row_laws.specs.node_state.declared.happened.Happened.{Happened}
-use Rattle.row_laws.specs.node_state.declared.happened.Happened.TheVariants as happened
-use Rattle.row_laws.proofs.step_refinement_laws.Turns.{has_turned}
+use Rattle.rsct_packet.specs.declared.ids.ViewId.{ViewId}
+use Rattle.rsct_packet.specs.declared.ids.ProviderId.{ProviderId}
+use Rattle.rsct_packet.specs.Providers.{among}
+use Rattle.group_attr.specs.declared.attrs.Phases.{Phases}
+use Rattle.group_attr.specs.declared.attrs.Phases.TheVariants.{One, Many}
+use Rattle.proposal_core.specs.declared.proposal.Cause.TheVariants.{Died, Gone}
+use Rattle.proposal_core.specs.declared.proposal.Proposal.{Proposal}
+use Rattle.proposal_core.specs.declared.entry.Entry.{Entry}
+use Rattle.proposal_core.specs.declared.entry.Entry.TheVariants.{Once, Begin}
+use Rattle.proposal_core.specs.declared.group_state.GroupState.{GroupState}
+use Rattle.proposal_core.specs.declared.group_state.Running.{Running}
+use Rattle.proposal_core.specs.Fold.{max_phases, fits, apply, after}
+use Rattle.proposal_core.specs.Lists.{list_or_new, state_in, len_in, has_room, entry_fits, with_entry}
+use Rattle.batch_rules.specs.Waiting.{WaitingView, add_failure}
+use Rattle.vote_phases.specs.Tally.{TallyView}
+use Rattle.node_state.specs.declared.group.GroupRow.{GroupRow}
+use Rattle.node_state.specs.declared.group.Led.{Led}
+use Rattle.node_state.specs.declared.packet.Body.TheVariants as body
+use Rattle.node_state.specs.declared.state.Core.{Core}
+use Rattle.node_state.specs.State.{row_of, with_row, with_led, led_of, list_of, state_of, len_of, fits_at_end, list_forgotten, forget_below, leader_of, others, least_acked, recorded}
+use Rattle.node_state.specs.Sending.{send_all}
+use Rattle.node_state.specs.HandOn.{Answering, hand_on}
+use Rattle.node_state.specs.Leading.{put, put_and_hand, forget_least, with_waiting, wait_if, new_members_wait, appended, append_if_fits, tally_for, tally_set, tally_opened, closing_entry, is_phase, closes_from, closes, begin_many, begins}
+use Rattle.run_safety.specs.Past.{records_of}
+use Rattle.node_state.specs.declared.happened.Happened.{Happened}
+use Rattle.node_state.specs.declared.happened.Happened.TheVariants as happened
+use Rattle.step_refinement.proofs.Turns.{has_turned}
 use Rattle.entry_laws.specs.carried_values.Carried.{EntryCarries}
 use Rattle.entry_laws.proofs.closing_rows.At.{found, leads_row}
 use Rattle.entry_laws.proofs.closing_rows.Leading.{forgotten_state, once_idle, late_same}
-use Rattle.row_laws.specs.node_state.declared.group.Given.{Given}
+use Rattle.node_state.specs.declared.group.Given.{Given}
 use Rattle.entry_laws.proofs.carried_values.At.{RowIs, PutFact, Course, At, at_pushed, at_fold, at_row, at_row_for}
 use Rattle.entry_laws.proofs.carried_values.Sends.{at_sent_all}
 use Rattle.entry_laws.proofs.carried_values.Hands.{at_handed}

@@ -1,14 +1,14 @@
 -- What an entry carries stays so where more is recorded.
 use Rattle.std.proofs.Common.{ℕ, List, [], ◌∷◌, Option, Some, None}
-use Rattle.row_laws.specs.rsct_packet.declared.ids.ProviderId.{ProviderId}
-use Rattle.row_laws.specs.rsct_packet.declared.ids.ProtoId.{ProtoId}
-use Rattle.row_laws.specs.rsct_packet.Search.{Has}
-use Rattle.row_laws.specs.proposal_core.declared.entry.RowVote.{RowVote}
-use Rattle.row_laws.specs.proposal_core.declared.entry.RowVote.TheVariants as row_vote
-use Rattle.row_laws.specs.proposal_core.declared.entry.Row.{Row}
-use Rattle.row_laws.specs.proposal_core.declared.entry.Entry.{Entry}
-use Rattle.row_laws.specs.proposal_core.declared.entry.Entry.TheVariants.{Once, Begin, Phase, Approve, Reject, Late}
-use Rattle.row_laws.specs.node_state.declared.happened.Happened.{Happened}
+use Rattle.rsct_packet.specs.declared.ids.ProviderId.{ProviderId}
+use Rattle.rsct_packet.specs.declared.ids.ProtoId.{ProtoId}
+use Rattle.rsct_packet.specs.Search.{Has}
+use Rattle.proposal_core.specs.declared.entry.RowVote.{RowVote}
+use Rattle.proposal_core.specs.declared.entry.RowVote.TheVariants as row_vote
+use Rattle.proposal_core.specs.declared.entry.Row.{Row}
+use Rattle.proposal_core.specs.declared.entry.Entry.{Entry}
+use Rattle.proposal_core.specs.declared.entry.Entry.TheVariants.{Once, Begin, Phase, Approve, Reject, Late}
+use Rattle.node_state.specs.declared.happened.Happened.{Happened}
 use Rattle.entry_laws.specs.carried_values.Carried.{Pick, the_value, the_message, OwnOr, RowGives, RowsGive, EntryCarries}
 
 module _ (rs ts : List Happened) (more : (r : Happened) → Has r rs → Has r ts) where

@@ -2,31 +2,31 @@
 use Rattle.std.proofs.Common.{◌≡◌, ℕ, List, [], ◌∷◌, ◌++◌, Option, Some, None, Bool, true, false, refl, sym, ap, ◌∙◌, subst, inl, inr}
 use Rattle.std.specs.Prelude.{◌||◌, fold, map, find, is_none, nat_le, if◌then◌else◌}
 use Rattle.std.specs.Option.{option_or}
-use Rattle.row_laws.specs.rsct_packet.declared.ids.ProviderId.{ProviderId}
-use Rattle.row_laws.specs.rsct_packet.Providers.{same_provider, among}
-use Rattle.row_laws.specs.rsct_packet.Search.{Has}
-use Rattle.row_laws.proofs.rsct_packet_laws.HasLaws.{has_map, find_has, find_none}
-use Rattle.row_laws.specs.proposal_core.declared.entry.Entry.{Entry}
-use Rattle.row_laws.specs.proposal_core.declared.entry.Vote.{Vote}
-use Rattle.row_laws.specs.proposal_core.declared.entry.Vote.TheVariants as vote
-use Rattle.row_laws.specs.proposal_core.declared.entry.RowVote.{RowVote}
-use Rattle.row_laws.specs.proposal_core.declared.entry.RowVote.TheVariants as row_vote
-use Rattle.row_laws.specs.proposal_core.declared.entry.Row.{Row}
-use Rattle.row_laws.specs.proposal_core.declared.group_state.GroupState.{GroupState}
-use Rattle.row_laws.specs.proposal_core.declared.group_state.Running.{Running}
-use Rattle.row_laws.specs.proposal_core.Fold.{max_phases, voters}
-use Rattle.row_laws.specs.vote_phases.declared.voter.Voter.{Voter}
-use Rattle.row_laws.specs.vote_phases.declared.tally.Cast.{Cast}
-use Rattle.row_laws.specs.vote_phases.declared.tally.Cast.TheVariants.{Recorded, NotVoter, Already}
-use Rattle.row_laws.specs.vote_phases.Tally.{TallyView, tally_new, tally_cast, tally_fail, tally_tick, given, given_to, or_vote, is_voter, late_if, passes, no_vote, row_or, rows_of, outcome, answer_of, cast_answer, vote_of_row}
-use Rattle.row_laws.specs.node_state.declared.group.Given.{Given}
-use Rattle.row_laws.specs.node_state.declared.group.Led.{Led}
-use Rattle.row_laws.specs.node_state.declared.happened.Happened.{Happened}
-use Rattle.row_laws.specs.node_state.declared.happened.Happened.TheVariants as happened
-use Rattle.row_laws.specs.node_state.Leading.{limit_of, fails_if, tally_for, carried_in, first_carried, value_of, closed_by, closing, closing_of, closing_entry}
-use Rattle.row_laws.specs.node_state.Following.{given_with}
-use Rattle.row_laws.proofs.run_safety_laws.Tests.{same_self}
-use Rattle.row_laws.proofs.step_refinement_laws.SessionLaws.{provider_same}
+use Rattle.rsct_packet.specs.declared.ids.ProviderId.{ProviderId}
+use Rattle.rsct_packet.specs.Providers.{same_provider, among}
+use Rattle.rsct_packet.specs.Search.{Has}
+use Rattle.rsct_packet.proofs.HasLaws.{has_map, find_has, find_none}
+use Rattle.proposal_core.specs.declared.entry.Entry.{Entry}
+use Rattle.proposal_core.specs.declared.entry.Vote.{Vote}
+use Rattle.proposal_core.specs.declared.entry.Vote.TheVariants as vote
+use Rattle.proposal_core.specs.declared.entry.RowVote.{RowVote}
+use Rattle.proposal_core.specs.declared.entry.RowVote.TheVariants as row_vote
+use Rattle.proposal_core.specs.declared.entry.Row.{Row}
+use Rattle.proposal_core.specs.declared.group_state.GroupState.{GroupState}
+use Rattle.proposal_core.specs.declared.group_state.Running.{Running}
+use Rattle.proposal_core.specs.Fold.{max_phases, voters}
+use Rattle.vote_phases.specs.declared.voter.Voter.{Voter}
+use Rattle.vote_phases.specs.declared.tally.Cast.{Cast}
+use Rattle.vote_phases.specs.declared.tally.Cast.TheVariants.{Recorded, NotVoter, Already}
+use Rattle.vote_phases.specs.Tally.{TallyView, tally_new, tally_cast, tally_fail, tally_tick, given, given_to, or_vote, is_voter, late_if, passes, no_vote, row_or, rows_of, outcome, answer_of, cast_answer, vote_of_row}
+use Rattle.node_state.specs.declared.group.Given.{Given}
+use Rattle.node_state.specs.declared.group.Led.{Led}
+use Rattle.node_state.specs.declared.happened.Happened.{Happened}
+use Rattle.node_state.specs.declared.happened.Happened.TheVariants as happened
+use Rattle.node_state.specs.Leading.{limit_of, fails_if, tally_for, carried_in, first_carried, value_of, closed_by, closing, closing_of, closing_entry}
+use Rattle.node_state.specs.Following.{given_with}
+use Rattle.run_safety.proofs.Tests.{same_self}
+use Rattle.step_refinement.proofs.SessionLaws.{provider_same}
 use Rattle.entry_laws.specs.carried_values.Carried.{Pick, the_value, the_message, OwnOr, RowsGive, EntryCarries}
 
 -- what a counted ballot of the provider carries

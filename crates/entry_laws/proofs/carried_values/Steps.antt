@@ -2,35 +2,35 @@
 use Rattle.std.proofs.Common.{◌≡◌, ℕ, List, [], ◌++◌, Bool, true, false, refl, sym, ◌∙◌, subst, inr}
 use Rattle.std.specs.Prelude.{◌==◌, reverse}
 use Rattle.std.proofs.lemmas.Bool.{eqb-true}
-use Rattle.row_laws.specs.rsct_packet.declared.ids.ViewId.{ViewId}
-use Rattle.row_laws.specs.rsct_packet.declared.mask.Mask.{Mask}
-use Rattle.row_laws.specs.rsct_packet.Search.{Has}
-use Rattle.row_laws.proofs.rsct_packet_laws.HasLaws.{append_has_right}
-use Rattle.row_laws.specs.proposal_core.declared.entry.Entry.{Entry}
-use Rattle.row_laws.specs.proposal_core.Lists.{len_in}
-use Rattle.row_laws.specs.view_state.declared.packet.ViewPacket.{ViewPacket}
-use Rattle.row_laws.specs.view_state.declared.packet.ViewPacket.TheVariants as view
-use Rattle.row_laws.specs.view_state.declared.views.ViewWork.{ViewWork}
-use Rattle.row_laws.specs.view_state.Views.{views_at_work, ask_row, prepare_row, answer_row, refuse_row, install_row, taken_row}
-use Rattle.row_laws.specs.node_state.declared.packet.Body.{Body}
-use Rattle.row_laws.specs.node_state.declared.packet.Body.TheVariants as body
-use Rattle.row_laws.specs.node_state.declared.packet.Packet.{Packet}
-use Rattle.row_laws.specs.node_state.declared.state.Core.{Core}
-use Rattle.row_laws.specs.node_state.Settings.{is_fixed}
-use Rattle.row_laws.specs.node_state.State.{len_of}
-use Rattle.row_laws.specs.node_state.HandOn.{Answering}
-use Rattle.row_laws.specs.node_state.Following.{take_lookup, take_name, take_request, take_tell, take_entry, take_ack, take_vote, take_gone}
-use Rattle.row_laws.specs.node_state.Applying.{own_parts, views_taken}
-use Rattle.row_laws.specs.node_state.Status.{status_text}
-use Rattle.row_laws.specs.node_state.Ticks.{tick_rings, tick_views, tick_owed}
-use Rattle.row_laws.specs.node_state.Step.{NodeEvent, Ticks, Asks, Given, Calls, Garbage, is_used, used_if, take_order, view_row, take_body, packet_row, stepped, at_work}
-use Rattle.row_laws.specs.step_refinement.Tied.{Scene, Tied}
-use Rattle.row_laws.specs.step_refinement.Rows.{acted, Arises}
+use Rattle.rsct_packet.specs.declared.ids.ViewId.{ViewId}
+use Rattle.rsct_packet.specs.declared.mask.Mask.{Mask}
+use Rattle.rsct_packet.specs.Search.{Has}
+use Rattle.rsct_packet.proofs.HasLaws.{append_has_right}
+use Rattle.proposal_core.specs.declared.entry.Entry.{Entry}
+use Rattle.proposal_core.specs.Lists.{len_in}
+use Rattle.view_state.specs.declared.packet.ViewPacket.{ViewPacket}
+use Rattle.view_state.specs.declared.packet.ViewPacket.TheVariants as view
+use Rattle.view_state.specs.declared.views.ViewWork.{ViewWork}
+use Rattle.view_state.specs.Views.{views_at_work, ask_row, prepare_row, answer_row, refuse_row, install_row, taken_row}
+use Rattle.node_state.specs.declared.packet.Body.{Body}
+use Rattle.node_state.specs.declared.packet.Body.TheVariants as body
+use Rattle.node_state.specs.declared.packet.Packet.{Packet}
+use Rattle.node_state.specs.declared.state.Core.{Core}
+use Rattle.node_state.specs.Settings.{is_fixed}
+use Rattle.node_state.specs.State.{len_of}
+use Rattle.node_state.specs.HandOn.{Answering}
+use Rattle.node_state.specs.Following.{take_lookup, take_name, take_request, take_tell, take_entry, take_ack, take_vote, take_gone}
+use Rattle.node_state.specs.Applying.{own_parts, views_taken}
+use Rattle.node_state.specs.Status.{status_text}
+use Rattle.node_state.specs.Ticks.{tick_rings, tick_views, tick_owed}
+use Rattle.node_state.specs.Step.{NodeEvent, Ticks, Asks, Given, Calls, Garbage, is_used, used_if, take_order, view_row, take_body, packet_row, stepped, at_work}
+use Rattle.step_refinement.specs.Tied.{Scene, Tied}
+use Rattle.step_refinement.specs.Rows.{acted, Arises}
 use Rattle.entry_laws.proofs.closing_rows.At.{found}
 use Rattle.entry_laws.proofs.closing_rows.Steps.{entry_follows, entry_had_put, request_leads, stepped_is}
 use Rattle.entry_laws.specs.carried_values.Carried.{BodyTold}
 use Rattle.entry_laws.proofs.carried_values.At.{PutFact, Course, At, body_on, at_sent_on}
-use Rattle.row_laws.specs.run_safety.Past.{records_of}
+use Rattle.run_safety.specs.Past.{records_of}
 use Rattle.entry_laws.proofs.carried_values.Calling.{at_call}
 use Rattle.entry_laws.proofs.carried_values.Ending.{Every, NoGroup, at_step_ended}
 use Rattle.entry_laws.proofs.closing_rows.Works.{Stays, begun_stays, ask_stays, prepare_stays, answer_stays, refuse_stays, install_stays, taken_stays}

@@ -6,24 +6,24 @@ use Rattle.std.specs.Str.{bytes_eq}
 use Rattle.std.proofs.lemmas.List.{reverse-append}
 use Rattle.std.proofs.lemmas.Bool.{eq-eqb}
 use Rattle.std.proofs.lemmas.Bool.Decides.{nat_tests}
-use Rattle.row_laws.specs.rsct_packet.declared.ids.ViewId.{ViewId}
-use Rattle.row_laws.specs.rsct_packet.Ids.{same_view}
-use Rattle.row_laws.specs.rsct_packet.Search.{Has}
-use Rattle.row_laws.specs.proposal_core.declared.entry.Entry.{Entry}
-use Rattle.row_laws.specs.proposal_core.declared.group_state.GroupState.{GroupState}
-use Rattle.row_laws.specs.proposal_core.Fold.{empty_state, after}
-use Rattle.row_laws.specs.proposal_core.GroupView.{GroupView}
-use Rattle.row_laws.specs.proposal_core.Lists.{list_or_new, state_in, len_in, with_entry}
-use Rattle.row_laws.specs.view_state.declared.views.Views.{Views}
-use Rattle.row_laws.specs.node_state.declared.config.Config.{Config}
-use Rattle.row_laws.specs.node_state.declared.group.GroupRow.{GroupRow}
-use Rattle.row_laws.specs.node_state.declared.happened.Happened.{Happened}
-use Rattle.row_laws.specs.node_state.declared.happened.Happened.TheVariants as happened
-use Rattle.row_laws.specs.node_state.declared.state.Core.{Core}
-use Rattle.row_laws.specs.node_state.State.{InNameOrder, row_found, row_of, with_row, list_of, len_of, is_this, leader_by, leader_in, leads_in, leads, recorded, recorded_all, has_name}
-use Rattle.row_laws.specs.node_state.Leading.{put}
-use Rattle.row_laws.specs.run_safety.Past.{History, earlier, Within, is_list, puts_of, base_of, fold_from, state_at, state_now}
-use Rattle.row_laws.proofs.node_state_laws.NameOrder.{KeepsName, cases_text, text_self, text_other, row_here, row_there, rows_ordered}
+use Rattle.rsct_packet.specs.declared.ids.ViewId.{ViewId}
+use Rattle.rsct_packet.specs.Ids.{same_view}
+use Rattle.rsct_packet.specs.Search.{Has}
+use Rattle.proposal_core.specs.declared.entry.Entry.{Entry}
+use Rattle.proposal_core.specs.declared.group_state.GroupState.{GroupState}
+use Rattle.proposal_core.specs.Fold.{empty_state, after}
+use Rattle.proposal_core.specs.GroupView.{GroupView}
+use Rattle.proposal_core.specs.Lists.{list_or_new, state_in, len_in, with_entry}
+use Rattle.view_state.specs.declared.views.Views.{Views}
+use Rattle.node_state.specs.declared.config.Config.{Config}
+use Rattle.node_state.specs.declared.group.GroupRow.{GroupRow}
+use Rattle.node_state.specs.declared.happened.Happened.{Happened}
+use Rattle.node_state.specs.declared.happened.Happened.TheVariants as happened
+use Rattle.node_state.specs.declared.state.Core.{Core}
+use Rattle.node_state.specs.State.{InNameOrder, row_found, row_of, with_row, list_of, len_of, is_this, leader_by, leader_in, leads_in, leads, recorded, recorded_all, has_name}
+use Rattle.node_state.specs.Leading.{put}
+use Rattle.run_safety.specs.Past.{History, earlier, Within, is_list, puts_of, base_of, fold_from, state_at, state_now}
+use Rattle.node_state.proofs.NameOrder.{KeepsName, cases_text, text_self, text_other, row_here, row_there, rows_ordered}
 use Rattle.entry_laws.specs.closing_rows.Rows.{HasRows, TallyFits}
 use Rattle.entry_laws.proofs.closing_rows.Entered.{Since}
 

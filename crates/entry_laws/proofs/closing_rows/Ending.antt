@@ -1,33 +1,33 @@
 -- What a leader decides, and what begins at the end of a step.
 use Rattle.std.proofs.Common.{◌≡◌, ℕ, zero, suc, List, [], ◌∷◌, length, Option, Some, None, Bool, true, false, refl, ◌∙◌, inl, inr}
 use Rattle.std.specs.Prelude.{not, fold, filter}
-use Rattle.row_laws.specs.rsct_packet.declared.ids.ProviderId.{ProviderId}
-use Rattle.row_laws.specs.rsct_packet.Lists.{is_empty}
-use Rattle.row_laws.specs.rsct_packet.Providers.{among}
-use Rattle.row_laws.specs.rsct_packet.Search.{Has}
-use Rattle.row_laws.specs.group_attr.declared.attrs.Attrs.{Attrs}
-use Rattle.row_laws.specs.group_attr.declared.attrs.Phases.{Phases}
-use Rattle.row_laws.specs.proposal_core.declared.proposal.Failure.{Failure}
-use Rattle.row_laws.specs.proposal_core.declared.proposal.Proposal.{Proposal}
-use Rattle.row_laws.specs.proposal_core.declared.proposal.Proposal.TheVariants.{Join, Leave, Fail, Expel, State, Message, Attributes, Reflect}
-use Rattle.row_laws.specs.proposal_core.declared.group_state.GroupState.{GroupState}
-use Rattle.row_laws.specs.proposal_core.Lists.{list_or_new}
-use Rattle.row_laws.specs.batch_rules.Waiting.{batches_failures, chosen_of, next_failures, failures_left, next_joins, joins_left, waits_join}
-use Rattle.row_laws.specs.source_target.declared.Due.{Due}
-use Rattle.row_laws.specs.source_target.declared.Due.TheVariants as due
-use Rattle.row_laws.specs.source_target.Due as target
-use Rattle.row_laws.specs.client_callbacks.declared.told.Why.{Why}
-use Rattle.row_laws.specs.client_callbacks.declared.told.Why.TheVariants.{NoSource}
-use Rattle.row_laws.specs.node_state.declared.group.GroupRow.{GroupRow}
-use Rattle.row_laws.specs.node_state.declared.packet.Body.TheVariants as body
-use Rattle.row_laws.specs.node_state.declared.state.Core.{Core}
-use Rattle.row_laws.specs.node_state.State.{row_of, led_of, state_of, frozen, led_groups, decisions_with}
-use Rattle.row_laws.specs.node_state.HandOn.{Answering}
-use Rattle.row_laws.specs.node_state.Leading.{with_waiting, begins}
-use Rattle.row_laws.specs.node_state.Deciding.{keep_decision, refused, known_state, lacks_source, source_len, is_idle_empty, join_refusal, keep_attrs, wait_join, decide_join, other_refusal, decide_change, decided}
-use Rattle.row_laws.specs.node_state.Ending.{Pass, quiet, begun_now, failures_begin, due_begins, source_begins, attrs_for, carried_len, source_refused, joins_begin, or_due, or_joins, may_begin, first_begins, group_begins, one_pass, passes, most_begun, end_step}
-use Rattle.row_laws.specs.run_safety.Past.{History}
-use Rattle.row_laws.proofs.step_refinement_laws.LedGroups.{led_are_led}
+use Rattle.rsct_packet.specs.declared.ids.ProviderId.{ProviderId}
+use Rattle.rsct_packet.specs.Lists.{is_empty}
+use Rattle.rsct_packet.specs.Providers.{among}
+use Rattle.rsct_packet.specs.Search.{Has}
+use Rattle.group_attr.specs.declared.attrs.Attrs.{Attrs}
+use Rattle.group_attr.specs.declared.attrs.Phases.{Phases}
+use Rattle.proposal_core.specs.declared.proposal.Failure.{Failure}
+use Rattle.proposal_core.specs.declared.proposal.Proposal.{Proposal}
+use Rattle.proposal_core.specs.declared.proposal.Proposal.TheVariants.{Join, Leave, Fail, Expel, State, Message, Attributes, Reflect}
+use Rattle.proposal_core.specs.declared.group_state.GroupState.{GroupState}
+use Rattle.proposal_core.specs.Lists.{list_or_new}
+use Rattle.batch_rules.specs.Waiting.{batches_failures, chosen_of, next_failures, failures_left, next_joins, joins_left, waits_join}
+use Rattle.source_target.specs.declared.Due.{Due}
+use Rattle.source_target.specs.declared.Due.TheVariants as due
+use Rattle.source_target.specs.Due as target
+use Rattle.client_callbacks.specs.declared.told.Why.{Why}
+use Rattle.client_callbacks.specs.declared.told.Why.TheVariants.{NoSource}
+use Rattle.node_state.specs.declared.group.GroupRow.{GroupRow}
+use Rattle.node_state.specs.declared.packet.Body.TheVariants as body
+use Rattle.node_state.specs.declared.state.Core.{Core}
+use Rattle.node_state.specs.State.{row_of, led_of, state_of, frozen, led_groups, decisions_with}
+use Rattle.node_state.specs.HandOn.{Answering}
+use Rattle.node_state.specs.Leading.{with_waiting, begins}
+use Rattle.node_state.specs.Deciding.{keep_decision, refused, known_state, lacks_source, source_len, is_idle_empty, join_refusal, keep_attrs, wait_join, decide_join, other_refusal, decide_change, decided}
+use Rattle.node_state.specs.Ending.{Pass, quiet, begun_now, failures_begin, due_begins, source_begins, attrs_for, carried_len, source_refused, joins_begin, or_due, or_joins, may_begin, first_begins, group_begins, one_pass, passes, most_begun, end_step}
+use Rattle.run_safety.specs.Past.{History}
+use Rattle.step_refinement.proofs.LedGroups.{led_are_led}
 use Rattle.entry_laws.proofs.closing_rows.At.{found, leads_row, leads_is, At, at_for, at_fold, at_calm}
 use Rattle.entry_laws.proofs.closing_rows.Calms.{calm_sent}
 use Rattle.entry_laws.proofs.closing_rows.Leading.{at_led, at_waits, at_begins}

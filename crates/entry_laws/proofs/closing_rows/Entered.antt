@@ -2,19 +2,19 @@
 use Rattle.std.proofs.Common.{◌≡◌, ◌⊎◌, ℕ, List, [], ◌∷◌, ◌++◌, sym, ap, ◌∙◌, subst, inl, inr, refl, append_assoc, append-nil}
 use Rattle.std.specs.Prelude.{map, reverse}
 use Rattle.std.proofs.lemmas.List.{reverse-append}
-use Rattle.row_laws.specs.rsct_packet.declared.ids.ViewId.{ViewId}
-use Rattle.row_laws.specs.rsct_packet.declared.ids.Member.{Member}
-use Rattle.row_laws.specs.rsct_packet.Search.{Has}
-use Rattle.row_laws.proofs.rsct_packet_laws.HasLaws.{has_append, has_map}
-use Rattle.row_laws.specs.adapter_ring.declared.ring.Ring.{Ring}
-use Rattle.row_laws.specs.node_state.declared.config.Config.{Config}
-use Rattle.row_laws.specs.node_state.declared.happened.Happened.{Happened}
-use Rattle.row_laws.specs.node_state.declared.happened.Happened.TheVariants as happened
-use Rattle.row_laws.specs.node_state.State.{with_sessions}
-use Rattle.row_laws.specs.node_state.Step.{started, first_view, first_members, own_rings, ring_record}
-use Rattle.row_laws.specs.run_safety.Past.{History, Within, EachRecord}
-use Rattle.row_laws.specs.step_refinement.Rows.{with_records}
-use Rattle.row_laws.specs.step_refinement.Runs.{IsNote}
+use Rattle.rsct_packet.specs.declared.ids.ViewId.{ViewId}
+use Rattle.rsct_packet.specs.declared.ids.Member.{Member}
+use Rattle.rsct_packet.specs.Search.{Has}
+use Rattle.rsct_packet.proofs.HasLaws.{has_append, has_map}
+use Rattle.adapter_ring.specs.declared.ring.Ring.{Ring}
+use Rattle.node_state.specs.declared.config.Config.{Config}
+use Rattle.node_state.specs.declared.happened.Happened.{Happened}
+use Rattle.node_state.specs.declared.happened.Happened.TheVariants as happened
+use Rattle.node_state.specs.State.{with_sessions}
+use Rattle.node_state.specs.Step.{started, first_view, first_members, own_rings, ring_record}
+use Rattle.run_safety.specs.Past.{History, Within, EachRecord}
+use Rattle.step_refinement.specs.Rows.{with_records}
+use Rattle.step_refinement.specs.Runs.{IsNote}
 
 abbrev pub SinceOf : (List Happened → History → Happened → Type 0) → List Happened → History → Happened → Type 0 → Type 0
 SinceOf P now h (happened.In n v ms) rest = Unit {0}

@@ -2,17 +2,17 @@
 use Rattle.std.proofs.Common.{◌≡◌, ◌⊎◌, ℕ, List, [], ◌∷◌, ◌++◌, take, Option, Some, None, Bool, true, false, refl, sym, ap, ◌∙◌, subst, inl, inr}
 use Rattle.std.specs.Prelude.{slice_get, if◌then◌else◌}
 use Rattle.std.specs.Str.{bytes_eq}
-use Rattle.row_laws.specs.rsct_packet.declared.ids.ViewId.{ViewId}
-use Rattle.row_laws.specs.rsct_packet.Search.{Has}
-use Rattle.row_laws.specs.proposal_core.declared.entry.Entry.{Entry}
-use Rattle.row_laws.specs.node_state.declared.happened.Happened.{Happened}
-use Rattle.row_laws.specs.node_state.declared.happened.Happened.TheVariants as happened
-use Rattle.row_laws.specs.run_safety.Past.{History, records_of, earlier, view_now, Within, EachRecord, state_at}
-use Rattle.row_laws.specs.run_safety.Sight.{told_in, lines_at, lines_with, lines_of}
-use Rattle.row_laws.specs.run_safety.Group.{In, Put, Note, Based, Line, Kept, Noted, kept}
-use Rattle.row_laws.specs.run_safety.Group as group
-use Rattle.row_laws.specs.run_safety.Bases.{Bases, state_of_list}
-use Rattle.row_laws.proofs.node_state_laws.NameOrder.{text_same, text_self}
+use Rattle.rsct_packet.specs.declared.ids.ViewId.{ViewId}
+use Rattle.rsct_packet.specs.Search.{Has}
+use Rattle.proposal_core.specs.declared.entry.Entry.{Entry}
+use Rattle.node_state.specs.declared.happened.Happened.{Happened}
+use Rattle.node_state.specs.declared.happened.Happened.TheVariants as happened
+use Rattle.run_safety.specs.Past.{History, records_of, earlier, view_now, Within, EachRecord, state_at}
+use Rattle.run_safety.specs.Sight.{told_in, lines_at, lines_with, lines_of}
+use Rattle.run_safety.specs.Group.{In, Put, Note, Based, Line, Kept, Noted, kept}
+use Rattle.run_safety.specs.Group as group
+use Rattle.run_safety.specs.Bases.{Bases, state_of_list}
+use Rattle.node_state.proofs.NameOrder.{text_same, text_self}
 use Rattle.entry_laws.specs.closing_rows.Rows.{HasRows, RecordRows, RowsAreVoters}
 use Rattle.entry_laws.proofs.closing_rows.Orders.{Again}
 use Rattle.entry_laws.proofs.closing_rows.Told.{Told, less_many, less_now, within_all}

@@ -1,37 +1,37 @@
 -- Each scene that events lead to.
 use Rattle.std.proofs.Common.{◌≡◌, ℕ, ◌+◌, List, [], ◌∷◌, length, Option, Some, None, refl, sym, ap, ◌∙◌, subst, inl, inr}
 use Rattle.std.specs.Prelude.{fold, reverse}
-use Rattle.row_laws.specs.rsct_packet.declared.ids.ViewId.{ViewId}
-use Rattle.row_laws.specs.rsct_packet.Search.{Has}
-use Rattle.row_laws.specs.rsct_packet.Mask.{nodes_of}
-use Rattle.row_laws.specs.proposal_core.declared.entry.Entry.{Entry}
-use Rattle.row_laws.specs.proposal_core.Fold.{empty_state}
-use Rattle.row_laws.specs.proposal_core.Lists.{list_or_new, state_in}
-use Rattle.row_laws.specs.view_state.Views.{views_new}
-use Rattle.row_laws.specs.node_state.declared.config.Config.{Config}
-use Rattle.row_laws.specs.node_state.declared.happened.Happened.{Happened}
-use Rattle.row_laws.specs.node_state.declared.happened.Happened.TheVariants as happened
-use Rattle.row_laws.specs.node_state.declared.state.Core.{Core}
-use Rattle.row_laws.specs.node_state.State.{row_of, led_of, list_of, state_of, with_sessions}
-use Rattle.row_laws.specs.node_state.HandOn.{Answering}
-use Rattle.row_laws.specs.node_state.Applying.{level_set}
-use Rattle.row_laws.specs.node_state.Step.{NodeEvent, at_work, started, stepped}
-use Rattle.row_laws.specs.world_model.declared.event.Event.{Event}
-use Rattle.row_laws.specs.run_safety.Past.{History, records_of, earlier, Within, EachRecord, puts_of, base_of}
-use Rattle.row_laws.specs.run_safety.Sight.{lines_with, lines_of}
-use Rattle.row_laws.specs.run_safety.Group.{Origin, Based, Noted, kept}
-use Rattle.row_laws.specs.run_safety.GroupLists as lists
-use Rattle.row_laws.specs.run_safety.Bases.{Bases, state_of_list}
-use Rattle.row_laws.proofs.run_safety_laws.Whole.{Whole}
-use Rattle.row_laws.proofs.run_safety_laws.Lives.{whole}
-use Rattle.row_laws.specs.step_refinement.Ghost.{Ghost, Keeps}
-use Rattle.row_laws.specs.step_refinement.Tied.{Scene, opening_of, NodeIs, NodeIsIf, Rests}
-use Rattle.row_laws.specs.step_refinement.Rows.{ended, start_with, stopped, nothing_yet, starts_too, Arises}
-use Rattle.row_laws.specs.step_refinement.Runs.{IsNote, noted, Reached, Nothing, AllStart, Starts, Stops, Steps, Notes}
-use Rattle.row_laws.proofs.step_refinement_laws.Changed.{each_set}
-use Rattle.row_laws.proofs.step_refinement_laws.Begins.{begin_tied}
-use Rattle.row_laws.proofs.step_refinement_laws.RowWorks.{keeps_of}
-use Rattle.row_laws.proofs.step_refinement_laws.RunLaw.{reached_rests}
+use Rattle.rsct_packet.specs.declared.ids.ViewId.{ViewId}
+use Rattle.rsct_packet.specs.Search.{Has}
+use Rattle.rsct_packet.specs.Mask.{nodes_of}
+use Rattle.proposal_core.specs.declared.entry.Entry.{Entry}
+use Rattle.proposal_core.specs.Fold.{empty_state}
+use Rattle.proposal_core.specs.Lists.{list_or_new, state_in}
+use Rattle.view_state.specs.Views.{views_new}
+use Rattle.node_state.specs.declared.config.Config.{Config}
+use Rattle.node_state.specs.declared.happened.Happened.{Happened}
+use Rattle.node_state.specs.declared.happened.Happened.TheVariants as happened
+use Rattle.node_state.specs.declared.state.Core.{Core}
+use Rattle.node_state.specs.State.{row_of, led_of, list_of, state_of, with_sessions}
+use Rattle.node_state.specs.HandOn.{Answering}
+use Rattle.node_state.specs.Applying.{level_set}
+use Rattle.node_state.specs.Step.{NodeEvent, at_work, started, stepped}
+use Rattle.world_model.specs.declared.event.Event.{Event}
+use Rattle.run_safety.specs.Past.{History, records_of, earlier, Within, EachRecord, puts_of, base_of}
+use Rattle.run_safety.specs.Sight.{lines_with, lines_of}
+use Rattle.run_safety.specs.Group.{Origin, Based, Noted, kept}
+use Rattle.run_safety.specs.GroupLists as lists
+use Rattle.run_safety.specs.Bases.{Bases, state_of_list}
+use Rattle.run_safety.proofs.Whole.{Whole}
+use Rattle.run_safety.proofs.Lives.{whole}
+use Rattle.step_refinement.specs.Ghost.{Ghost, Keeps}
+use Rattle.step_refinement.specs.Tied.{Scene, opening_of, NodeIs, NodeIsIf, Rests}
+use Rattle.step_refinement.specs.Rows.{ended, start_with, stopped, nothing_yet, starts_too, Arises}
+use Rattle.step_refinement.specs.Runs.{IsNote, noted, Reached, Nothing, AllStart, Starts, Stops, Steps, Notes}
+use Rattle.step_refinement.proofs.Changed.{each_set}
+use Rattle.step_refinement.proofs.Begins.{begin_tied}
+use Rattle.step_refinement.proofs.RowWorks.{keeps_of}
+use Rattle.step_refinement.proofs.RunLaw.{reached_rests}
 use Rattle.entry_laws.specs.closing_rows.Rows.{RowsAreAlwaysVoters, TallyFits, TalliesAreOfVoters}
 use Rattle.entry_laws.proofs.closing_rows.Told.{Told, told_of, within_told, within_all}
 use Rattle.entry_laws.proofs.closing_rows.Lists.{puts_all, fresh_before, state_rest}

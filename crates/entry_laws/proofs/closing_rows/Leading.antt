@@ -2,32 +2,32 @@
 use Rattle.std.proofs.Common.{◌≡◌, ℕ, zero, suc, ◌-◌, max, List, [], drop, Option, Some, None, Bool, true, false, refl, sym, ap, ◌∙◌, subst, inl, inr}
 use Rattle.std.specs.Prelude.{◌&&◌, not, filter, is_none, nat_le, reverse, if◌then◌else◌}
 use Rattle.std.proofs.lemmas.Bool.{and_parts}
-use Rattle.row_laws.specs.rsct_packet.declared.ids.ViewId.{ViewId}
-use Rattle.row_laws.specs.rsct_packet.declared.ids.ProviderId.{ProviderId}
-use Rattle.row_laws.specs.rsct_packet.Providers.{among}
-use Rattle.row_laws.specs.group_attr.declared.attrs.Phases.{Phases}
-use Rattle.row_laws.specs.group_attr.declared.attrs.Phases.TheVariants.{One, Many}
-use Rattle.row_laws.specs.proposal_core.declared.proposal.Cause.TheVariants.{Died, Gone}
-use Rattle.row_laws.specs.proposal_core.declared.proposal.Proposal.{Proposal}
-use Rattle.row_laws.specs.proposal_core.declared.entry.Entry.{Entry}
-use Rattle.row_laws.specs.proposal_core.declared.entry.Entry.TheVariants.{Once, Begin}
-use Rattle.row_laws.specs.proposal_core.declared.group_state.GroupState.{GroupState}
-use Rattle.row_laws.specs.proposal_core.declared.group_state.Running.{Running}
-use Rattle.row_laws.specs.proposal_core.Fold.{max_phases, can_begin, fits, begun, approve, apply, after_if, after, voters}
-use Rattle.row_laws.proofs.proposal_core_laws.FoldLaws.{idle_approved}
-use Rattle.row_laws.specs.proposal_core.GroupView.{GroupView}
-use Rattle.row_laws.specs.proposal_core.Lists.{list_or_new, state_in, len_in, has_room, entry_fits, with_entry, forgotten}
-use Rattle.row_laws.specs.batch_rules.Waiting.{WaitingView, add_failure}
-use Rattle.row_laws.specs.vote_phases.Tally.{TallyView}
-use Rattle.row_laws.specs.node_state.declared.group.GroupRow.{GroupRow}
-use Rattle.row_laws.specs.node_state.declared.group.Led.{Led}
-use Rattle.row_laws.specs.node_state.declared.packet.Body.TheVariants as body
-use Rattle.row_laws.specs.node_state.declared.state.Core.{Core}
-use Rattle.row_laws.specs.node_state.State.{row_of, with_led, led_of, list_of, state_of, len_of, fits_at_end, list_forgotten, forget_below, leader_of, others, least_acked}
-use Rattle.row_laws.specs.node_state.Sending.{send_all}
-use Rattle.row_laws.specs.node_state.HandOn.{Answering, hand_on}
-use Rattle.row_laws.specs.node_state.Leading.{put, put_and_hand, forget_least, with_waiting, wait_if, new_members_wait, appended, append_if_fits, tally_for, tally_set, tally_opened, closing_entry, is_phase, closes_from, closes, begin_many, begins}
-use Rattle.row_laws.specs.run_safety.Past.{History}
+use Rattle.rsct_packet.specs.declared.ids.ViewId.{ViewId}
+use Rattle.rsct_packet.specs.declared.ids.ProviderId.{ProviderId}
+use Rattle.rsct_packet.specs.Providers.{among}
+use Rattle.group_attr.specs.declared.attrs.Phases.{Phases}
+use Rattle.group_attr.specs.declared.attrs.Phases.TheVariants.{One, Many}
+use Rattle.proposal_core.specs.declared.proposal.Cause.TheVariants.{Died, Gone}
+use Rattle.proposal_core.specs.declared.proposal.Proposal.{Proposal}
+use Rattle.proposal_core.specs.declared.entry.Entry.{Entry}
+use Rattle.proposal_core.specs.declared.entry.Entry.TheVariants.{Once, Begin}
+use Rattle.proposal_core.specs.declared.group_state.GroupState.{GroupState}
+use Rattle.proposal_core.specs.declared.group_state.Running.{Running}
+use Rattle.proposal_core.specs.Fold.{max_phases, can_begin, fits, begun, approve, apply, after_if, after, voters}
+use Rattle.proposal_core.proofs.FoldLaws.{idle_approved}
+use Rattle.proposal_core.specs.GroupView.{GroupView}
+use Rattle.proposal_core.specs.Lists.{list_or_new, state_in, len_in, has_room, entry_fits, with_entry, forgotten}
+use Rattle.batch_rules.specs.Waiting.{WaitingView, add_failure}
+use Rattle.vote_phases.specs.Tally.{TallyView}
+use Rattle.node_state.specs.declared.group.GroupRow.{GroupRow}
+use Rattle.node_state.specs.declared.group.Led.{Led}
+use Rattle.node_state.specs.declared.packet.Body.TheVariants as body
+use Rattle.node_state.specs.declared.state.Core.{Core}
+use Rattle.node_state.specs.State.{row_of, with_led, led_of, list_of, state_of, len_of, fits_at_end, list_forgotten, forget_below, leader_of, others, least_acked}
+use Rattle.node_state.specs.Sending.{send_all}
+use Rattle.node_state.specs.HandOn.{Answering, hand_on}
+use Rattle.node_state.specs.Leading.{put, put_and_hand, forget_least, with_waiting, wait_if, new_members_wait, appended, append_if_fits, tally_for, tally_set, tally_opened, closing_entry, is_phase, closes_from, closes, begin_many, begins}
+use Rattle.run_safety.specs.Past.{History}
 use Rattle.entry_laws.specs.closing_rows.Rows.{HasRows, TallyFits}
 use Rattle.entry_laws.proofs.closing_rows.At.{found, leads_row, RowIs, PutFact, At, at_put_for, at_fold, at_calm, at_row, at_row_for, put_fact}
 use Rattle.entry_laws.proofs.closing_rows.Calms.{calm_all, at_handed}

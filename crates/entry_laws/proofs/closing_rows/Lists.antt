@@ -3,28 +3,28 @@ use Rattle.std.proofs.Common.{◌≡◌, ◌⊎◌, ◌≤◌, ℕ, List, [], �
 use Rattle.std.specs.Prelude.{◌==◌, ◌&&◌, if◌then◌else◌}
 use Rattle.std.specs.Str.{bytes_eq}
 use Rattle.std.proofs.lemmas.Bool.{eqb-true, eq-eqb}
-use Rattle.row_laws.specs.rsct_packet.declared.ids.ViewId.{ViewId}
-use Rattle.row_laws.specs.rsct_packet.declared.ids.ProviderId.{ProviderId}
-use Rattle.row_laws.specs.rsct_packet.declared.ids.Member.{Member}
-use Rattle.row_laws.specs.rsct_packet.Ids.{same_view}
-use Rattle.row_laws.specs.rsct_packet.Search.{Has}
-use Rattle.row_laws.specs.proposal_core.declared.entry.Entry.{Entry}
-use Rattle.row_laws.specs.proposal_core.declared.group_state.GroupState.{GroupState}
-use Rattle.row_laws.specs.proposal_core.Fold.{empty_state}
-use Rattle.row_laws.specs.node_state.declared.happened.Happened.{Happened}
-use Rattle.row_laws.specs.node_state.declared.happened.Happened.TheVariants as happened
-use Rattle.row_laws.specs.run_safety.Past.{History, records_of, earlier, view_now, puts_of, base_of, fold_from, state_at, state_now}
-use Rattle.row_laws.specs.run_safety.ViewOrder.{is_same, Lt}
-use Rattle.row_laws.specs.run_safety.Sight.{told_in, lines_at, lines_with, lines_of}
-use Rattle.row_laws.specs.run_safety.Group.{Origin, Record, In, Put, Begins, Note, Based, Line, Kept, Noted, kept}
-use Rattle.row_laws.specs.run_safety.Group as group
-use Rattle.row_laws.specs.run_safety.GroupLists.{WasIn}
-use Rattle.row_laws.specs.run_safety.GroupLists as lists
-use Rattle.row_laws.specs.run_safety.Bases.{Bases, base_state, state_of_list}
-use Rattle.row_laws.proofs.run_safety_laws.Order.{eq_true, eq_same, lt_not_same}
-use Rattle.row_laws.proofs.run_safety_laws.Prefix.{IsPrefix}
-use Rattle.row_laws.proofs.run_safety_laws.HeardLaw.{puts_front, take_front}
-use Rattle.row_laws.proofs.run_safety_laws.Tracks.{puts_none}
+use Rattle.rsct_packet.specs.declared.ids.ViewId.{ViewId}
+use Rattle.rsct_packet.specs.declared.ids.ProviderId.{ProviderId}
+use Rattle.rsct_packet.specs.declared.ids.Member.{Member}
+use Rattle.rsct_packet.specs.Ids.{same_view}
+use Rattle.rsct_packet.specs.Search.{Has}
+use Rattle.proposal_core.specs.declared.entry.Entry.{Entry}
+use Rattle.proposal_core.specs.declared.group_state.GroupState.{GroupState}
+use Rattle.proposal_core.specs.Fold.{empty_state}
+use Rattle.node_state.specs.declared.happened.Happened.{Happened}
+use Rattle.node_state.specs.declared.happened.Happened.TheVariants as happened
+use Rattle.run_safety.specs.Past.{History, records_of, earlier, view_now, puts_of, base_of, fold_from, state_at, state_now}
+use Rattle.run_safety.specs.ViewOrder.{is_same, Lt}
+use Rattle.run_safety.specs.Sight.{told_in, lines_at, lines_with, lines_of}
+use Rattle.run_safety.specs.Group.{Origin, Record, In, Put, Begins, Note, Based, Line, Kept, Noted, kept}
+use Rattle.run_safety.specs.Group as group
+use Rattle.run_safety.specs.GroupLists.{WasIn}
+use Rattle.run_safety.specs.GroupLists as lists
+use Rattle.run_safety.specs.Bases.{Bases, base_state, state_of_list}
+use Rattle.run_safety.proofs.Order.{eq_true, eq_same, lt_not_same}
+use Rattle.run_safety.proofs.Prefix.{IsPrefix}
+use Rattle.run_safety.proofs.HeardLaw.{puts_front, take_front}
+use Rattle.run_safety.proofs.Tracks.{puts_none}
 use Rattle.entry_laws.proofs.closing_rows.Told.{Told, less_one, put_was, note_was}
 
 -- ---- lines of one record

@@ -2,22 +2,22 @@
 -- is noted before it puts anything there, and what it puts in the event in which it enters a view was put before.
 use Rattle.std.proofs.Common.{◌≡◌, ◌⊎◌, ◌≤◌, ◌<◌, ℕ, zero, suc, ◌+◌, List, [], ◌∷◌, ◌++◌, length, drop, Option, Some, None, Bool, true, false, refl, sym, ◌∙◌, subst, inl, inr, arith}
 use Rattle.std.specs.Prelude.{◌==◌, ◌&&◌, slice_get, if◌then◌else◌}
-use Rattle.row_laws.specs.rsct_packet.declared.ids.ViewId.{ViewId}
-use Rattle.row_laws.specs.rsct_packet.declared.ids.Member.{Member}
-use Rattle.row_laws.specs.rsct_packet.Search.{Has}
-use Rattle.row_laws.specs.proposal_core.declared.entry.Entry.{Entry}
-use Rattle.row_laws.specs.run_safety.ViewOrder.{is_same}
-use Rattle.row_laws.specs.run_safety.Group.{Standing, Reply, members_of, Origin, Packet, Answer, Install, Record, In, Put, Begins, Note, Based, Heard, Asked, Told, Line, Kept, Noted, kept, lines_from}
-use Rattle.row_laws.specs.run_safety.GroupLists.{WasIn, held_by, held}
-use Rattle.row_laws.specs.run_safety.GroupLaws.{Earlier}
-use Rattle.row_laws.specs.run_safety.Bases.{Bases}
-use Rattle.row_laws.specs.run_safety.Moves.{Opening, Leads, Life, Dawn, NextEvent, Promises, Answers, Appends, Follows, Starts, Enters, Founds, Names, Hears, Asks, Requests, Refuses, IsTold, Acknowledges, Settles, Collected, entered}
-use Rattle.row_laws.proofs.run_safety_laws.Prefix.{IsPrefix, prefix_get, prefix_nil}
-use Rattle.row_laws.proofs.run_safety_laws.Lines.{kept_noted, has_insert}
-use Rattle.row_laws.proofs.run_safety_laws.Tracks.{held_left, held_own}
-use Rattle.row_laws.proofs.run_safety_laws.Founds.{found_new}
-use Rattle.row_laws.proofs.run_safety_laws.Whole.{Whole}
-use Rattle.row_laws.proofs.run_safety_laws.Lives.{whole}
+use Rattle.rsct_packet.specs.declared.ids.ViewId.{ViewId}
+use Rattle.rsct_packet.specs.declared.ids.Member.{Member}
+use Rattle.rsct_packet.specs.Search.{Has}
+use Rattle.proposal_core.specs.declared.entry.Entry.{Entry}
+use Rattle.run_safety.specs.ViewOrder.{is_same}
+use Rattle.run_safety.specs.Group.{Standing, Reply, members_of, Origin, Packet, Answer, Install, Record, In, Put, Begins, Note, Based, Heard, Asked, Told, Line, Kept, Noted, kept, lines_from}
+use Rattle.run_safety.specs.GroupLists.{WasIn, held_by, held}
+use Rattle.run_safety.specs.GroupLaws.{Earlier}
+use Rattle.run_safety.specs.Bases.{Bases}
+use Rattle.run_safety.specs.Moves.{Opening, Leads, Life, Dawn, NextEvent, Promises, Answers, Appends, Follows, Starts, Enters, Founds, Names, Hears, Asks, Requests, Refuses, IsTold, Acknowledges, Settles, Collected, entered}
+use Rattle.run_safety.proofs.Prefix.{IsPrefix, prefix_get, prefix_nil}
+use Rattle.run_safety.proofs.Lines.{kept_noted, has_insert}
+use Rattle.run_safety.proofs.Tracks.{held_left, held_own}
+use Rattle.run_safety.proofs.Founds.{found_new}
+use Rattle.run_safety.proofs.Whole.{Whole}
+use Rattle.run_safety.proofs.Lives.{whole}
 
 -- the node had entered the view
 abbrev pub WasThere : ℕ → ViewId → List Line → Type 0

@@ -2,20 +2,20 @@
 use Rattle.std.proofs.Common.{◌≡◌, ℕ, List, [], ◌∷◌, ◌++◌, length, take, Some, true, refl, sym, ap, ◌∙◌, subst, inl}
 use Rattle.std.specs.Prelude.{slice_get, if◌then◌else◌}
 use Rattle.std.specs.Str.{bytes_eq}
-use Rattle.row_laws.specs.rsct_packet.declared.ids.ViewId.{ViewId}
-use Rattle.row_laws.specs.proposal_core.declared.entry.Entry.{Entry}
-use Rattle.row_laws.specs.proposal_core.Fold.{fits}
-use Rattle.row_laws.specs.node_state.declared.happened.Happened.{Happened}
-use Rattle.row_laws.specs.node_state.declared.happened.Happened.TheVariants as happened
-use Rattle.row_laws.specs.run_safety.Past.{History, earlier, EachRecord, puts_of, state_now}
-use Rattle.row_laws.specs.run_safety.Sight.{lines_with, lines_of}
-use Rattle.row_laws.specs.run_safety.SafeLists.{NextPlace, Fitting, Each}
-use Rattle.row_laws.specs.run_safety.Group.{Put, Kept}
-use Rattle.row_laws.specs.run_safety.Bases.{Bases, state_of_list}
-use Rattle.row_laws.proofs.run_safety_laws.Lives.{whole}
-use Rattle.row_laws.proofs.node_state_laws.NameOrder.{text_self}
-use Rattle.row_laws.specs.step_refinement.Tied.{Scene, Rests}
-use Rattle.row_laws.proofs.step_refinement_laws.RunLaw.{reached_rests}
+use Rattle.rsct_packet.specs.declared.ids.ViewId.{ViewId}
+use Rattle.proposal_core.specs.declared.entry.Entry.{Entry}
+use Rattle.proposal_core.specs.Fold.{fits}
+use Rattle.node_state.specs.declared.happened.Happened.{Happened}
+use Rattle.node_state.specs.declared.happened.Happened.TheVariants as happened
+use Rattle.run_safety.specs.Past.{History, earlier, EachRecord, puts_of, state_now}
+use Rattle.run_safety.specs.Sight.{lines_with, lines_of}
+use Rattle.run_safety.specs.SafeLists.{NextPlace, Fitting, Each}
+use Rattle.run_safety.specs.Group.{Put, Kept}
+use Rattle.run_safety.specs.Bases.{Bases, state_of_list}
+use Rattle.run_safety.proofs.Lives.{whole}
+use Rattle.node_state.proofs.NameOrder.{text_self}
+use Rattle.step_refinement.specs.Tied.{Scene, Rests}
+use Rattle.step_refinement.proofs.RunLaw.{reached_rests}
 use Rattle.entry_laws.specs.closing_rows.Rows.{PutsAreInOrder, PutsFit}
 use Rattle.entry_laws.proofs.closing_rows.Told.{Told, each_told, each_map, each_all}
 use Rattle.entry_laws.proofs.closing_rows.Lists.{place_before, now_before}

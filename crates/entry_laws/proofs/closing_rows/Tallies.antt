@@ -2,21 +2,21 @@
 use Rattle.std.proofs.Common.{◌≡◌, List, [], ◌∷◌, Option, Some, None, Bool, true, false, refl, ap, ◌∙◌, subst}
 use Rattle.std.specs.Prelude.{◌||◌, fold, map, is_none, nat_le, if◌then◌else◌}
 use Rattle.std.specs.List.{list_any}
-use Rattle.row_laws.specs.rsct_packet.declared.ids.ProviderId.{ProviderId}
-use Rattle.row_laws.specs.rsct_packet.Providers.{among}
-use Rattle.row_laws.specs.proposal_core.declared.entry.Entry.{Entry}
-use Rattle.row_laws.specs.proposal_core.declared.entry.Vote.{Vote}
-use Rattle.row_laws.specs.proposal_core.declared.entry.Vote.TheVariants as vote
-use Rattle.row_laws.specs.proposal_core.declared.entry.RowVote.{RowVote}
-use Rattle.row_laws.specs.proposal_core.declared.entry.RowVote.TheVariants as row_vote
-use Rattle.row_laws.specs.proposal_core.declared.entry.Row.{Row}
-use Rattle.row_laws.specs.proposal_core.declared.group_state.GroupState.{GroupState}
-use Rattle.row_laws.specs.proposal_core.declared.group_state.Running.{Running}
-use Rattle.row_laws.specs.proposal_core.Fold.{max_phases, voters_at, voters}
-use Rattle.row_laws.specs.vote_phases.declared.voter.Voter.{Voter}
-use Rattle.row_laws.specs.vote_phases.Tally.{TallyView, tally_new, tally_cast, tally_fail, tally_tick, given, given_to, is_voter, is_open, has_open, late_if, passes, no_vote, row_or, rows_of, tally_of}
-use Rattle.row_laws.specs.node_state.declared.group.Led.{Led}
-use Rattle.row_laws.specs.node_state.Leading.{limit_of, fails_if, tally_for, closed_by, closing, closing_of, closing_entry}
+use Rattle.rsct_packet.specs.declared.ids.ProviderId.{ProviderId}
+use Rattle.rsct_packet.specs.Providers.{among}
+use Rattle.proposal_core.specs.declared.entry.Entry.{Entry}
+use Rattle.proposal_core.specs.declared.entry.Vote.{Vote}
+use Rattle.proposal_core.specs.declared.entry.Vote.TheVariants as vote
+use Rattle.proposal_core.specs.declared.entry.RowVote.{RowVote}
+use Rattle.proposal_core.specs.declared.entry.RowVote.TheVariants as row_vote
+use Rattle.proposal_core.specs.declared.entry.Row.{Row}
+use Rattle.proposal_core.specs.declared.group_state.GroupState.{GroupState}
+use Rattle.proposal_core.specs.declared.group_state.Running.{Running}
+use Rattle.proposal_core.specs.Fold.{max_phases, voters_at, voters}
+use Rattle.vote_phases.specs.declared.voter.Voter.{Voter}
+use Rattle.vote_phases.specs.Tally.{TallyView, tally_new, tally_cast, tally_fail, tally_tick, given, given_to, is_voter, is_open, has_open, late_if, passes, no_vote, row_or, rows_of, tally_of}
+use Rattle.node_state.specs.declared.group.Led.{Led}
+use Rattle.node_state.specs.Leading.{limit_of, fails_if, tally_for, closed_by, closing, closing_of, closing_entry}
 use Rattle.entry_laws.specs.closing_rows.Rows.{HasRows, TallyFits}
 
 -- whom the slots are of

@@ -1,21 +1,21 @@
 -- A tick.
 use Rattle.std.proofs.Common.{ℕ, List, Option, Some, None, Bool, true, false, refl, ap, inl, inr}
 use Rattle.std.specs.Prelude.{◌==◌, ◌&&◌, fold}
-use Rattle.row_laws.specs.rsct_packet.declared.ids.ProviderId.{ProviderId}
-use Rattle.row_laws.specs.proposal_core.declared.entry.Entry.TheVariants.{Late}
-use Rattle.row_laws.specs.proposal_core.declared.group_state.Running.{Running}
-use Rattle.row_laws.specs.proposal_core.Fold.{apply}
-use Rattle.row_laws.specs.proposal_core.Lists.{state_in}
-use Rattle.row_laws.specs.vote_phases.Tally.{TallyView, expires, open_voters}
-use Rattle.row_laws.specs.view_state.Views.{views_at_work, gathering_ticks, install_again}
-use Rattle.row_laws.specs.node_state.declared.group.GroupRow.{GroupRow}
-use Rattle.row_laws.specs.node_state.declared.state.Core.{Core}
-use Rattle.row_laws.specs.node_state.State.{row_of, led_of, state_of, fits_at_end, frozen, led_groups, others, with_led}
-use Rattle.row_laws.specs.node_state.HandOn.{Answering}
-use Rattle.row_laws.specs.node_state.Leading.{append_if_fits, with_tally}
-use Rattle.row_laws.specs.node_state.Applying.{own_parts, views_taken}
-use Rattle.row_laws.specs.node_state.Ticks.{ring_ask, tick_views, late_appended, announced, ticked_in, tally_ticks, sent_again, tick_group, tick_led}
-use Rattle.row_laws.specs.run_safety.Past.{History}
+use Rattle.rsct_packet.specs.declared.ids.ProviderId.{ProviderId}
+use Rattle.proposal_core.specs.declared.entry.Entry.TheVariants.{Late}
+use Rattle.proposal_core.specs.declared.group_state.Running.{Running}
+use Rattle.proposal_core.specs.Fold.{apply}
+use Rattle.proposal_core.specs.Lists.{state_in}
+use Rattle.vote_phases.specs.Tally.{TallyView, expires, open_voters}
+use Rattle.view_state.specs.Views.{views_at_work, gathering_ticks, install_again}
+use Rattle.node_state.specs.declared.group.GroupRow.{GroupRow}
+use Rattle.node_state.specs.declared.state.Core.{Core}
+use Rattle.node_state.specs.State.{row_of, led_of, state_of, fits_at_end, frozen, led_groups, others, with_led}
+use Rattle.node_state.specs.HandOn.{Answering}
+use Rattle.node_state.specs.Leading.{append_if_fits, with_tally}
+use Rattle.node_state.specs.Applying.{own_parts, views_taken}
+use Rattle.node_state.specs.Ticks.{ring_ask, tick_views, late_appended, announced, ticked_in, tally_ticks, sent_again, tick_group, tick_led}
+use Rattle.run_safety.specs.Past.{History}
 use Rattle.entry_laws.specs.closing_rows.Rows.{TallyFits}
 use Rattle.entry_laws.proofs.closing_rows.At.{found, leads_row, RowIs, calm_fold, At, at_calm, at_row}
 use Rattle.entry_laws.proofs.closing_rows.Calms.{again_calm}

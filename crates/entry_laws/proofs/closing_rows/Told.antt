@@ -1,19 +1,19 @@
 -- What the lines of a group say of its lists.
 use Rattle.std.proofs.Common.{◌≡◌, ℕ, List, [], ◌∷◌, ◌++◌, Some, sym, subst, inl, inr}
 use Rattle.std.specs.Prelude.{slice_get}
-use Rattle.row_laws.specs.rsct_packet.declared.ids.ViewId.{ViewId}
-use Rattle.row_laws.specs.rsct_packet.Search.{Has}
-use Rattle.row_laws.specs.proposal_core.declared.entry.Entry.{Entry}
-use Rattle.row_laws.specs.node_state.declared.happened.Happened.{Happened}
-use Rattle.row_laws.specs.run_safety.Past.{History, earlier, Within, EachRecord}
-use Rattle.row_laws.specs.run_safety.Sight.{lines_at, lines_with, lines_of}
-use Rattle.row_laws.specs.run_safety.Group.{Origin, Record, In, Put, Begins, Based, Line, Kept, Noted, kept}
-use Rattle.row_laws.specs.run_safety.GroupLists.{WasIn, Rises, InOrder}
-use Rattle.row_laws.specs.run_safety.Bases.{Bases}
-use Rattle.row_laws.specs.run_safety.Moves.{Opening}
-use Rattle.row_laws.proofs.run_safety_laws.Whole.{Whole}
-use Rattle.row_laws.proofs.run_safety_laws.Lives.{whole}
-use Rattle.row_laws.specs.step_refinement.Ghost.{Ghost, Lives}
+use Rattle.rsct_packet.specs.declared.ids.ViewId.{ViewId}
+use Rattle.rsct_packet.specs.Search.{Has}
+use Rattle.proposal_core.specs.declared.entry.Entry.{Entry}
+use Rattle.node_state.specs.declared.happened.Happened.{Happened}
+use Rattle.run_safety.specs.Past.{History, earlier, Within, EachRecord}
+use Rattle.run_safety.specs.Sight.{lines_at, lines_with, lines_of}
+use Rattle.run_safety.specs.Group.{Origin, Record, In, Put, Begins, Based, Line, Kept, Noted, kept}
+use Rattle.run_safety.specs.GroupLists.{WasIn, Rises, InOrder}
+use Rattle.run_safety.specs.Bases.{Bases}
+use Rattle.run_safety.specs.Moves.{Opening}
+use Rattle.run_safety.proofs.Whole.{Whole}
+use Rattle.run_safety.proofs.Lives.{whole}
+use Rattle.step_refinement.specs.Ghost.{Ghost, Lives}
 use Rattle.entry_laws.proofs.closing_rows.Orders.{WasThere, Clause, Ordered, was_on, ordered}
 
 -- what holds of a group's lines, where these are the bases and the whole lists of views

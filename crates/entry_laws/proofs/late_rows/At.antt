@@ -3,40 +3,40 @@ use Rattle.std.proofs.Common.{◌≡◌, ◌≤◌, ◌<◌, ◌⊎◌, ℕ, ◌
 use Rattle.std.specs.Prelude.{◌&&◌, ◌||◌, fold, find, reverse, nat_le, nat_lt, if◌then◌else◌}
 use Rattle.std.specs.List.{list_any}
 use Rattle.std.proofs.lemmas.List.{reverse-append}
-use Rattle.row_laws.specs.rsct_packet.declared.ids.ViewId.{ViewId}
-use Rattle.row_laws.specs.rsct_packet.declared.ids.ProviderId.{ProviderId}
-use Rattle.row_laws.specs.rsct_packet.declared.ids.Member.{Member}
-use Rattle.row_laws.specs.rsct_packet.Ids.{last_u32}
-use Rattle.row_laws.specs.rsct_packet.Search.{Has}
-use Rattle.row_laws.specs.proposal_core.declared.entry.Vote.{Vote}
-use Rattle.row_laws.specs.proposal_core.declared.entry.Vote.TheVariants as vote
-use Rattle.row_laws.specs.proposal_core.declared.entry.Entry.{Entry}
-use Rattle.row_laws.specs.proposal_core.declared.entry.Entry.TheVariants.{Phase, Approve, Reject}
-use Rattle.row_laws.specs.proposal_core.Sizes.{entry_len}
-use Rattle.row_laws.specs.proposal_core.declared.entry.RowVote.{RowVote}
-use Rattle.row_laws.specs.proposal_core.declared.entry.RowVote.TheVariants as row_vote
-use Rattle.row_laws.specs.proposal_core.declared.group_state.GroupState.{GroupState}
-use Rattle.row_laws.specs.proposal_core.declared.group_state.Running.{Running}
-use Rattle.row_laws.specs.proposal_core.GroupView.{GroupView}
-use Rattle.row_laws.specs.proposal_core.Fold.{max_phases, fits, voters}
-use Rattle.row_laws.specs.proposal_core.Lists.{list_or_new, state_in, len_in, bytes_in, has_room, entry_fits}
-use Rattle.row_laws.specs.vote_phases.declared.voter.Voter.{Voter}
-use Rattle.row_laws.specs.vote_phases.Tally.{TallyView, is_open, has_open, tally_of, rows_of, outcome}
-use Rattle.row_laws.specs.node_state.declared.config.Config.{Config}
-use Rattle.row_laws.specs.node_state.declared.config.Mode.{Mode}
-use Rattle.row_laws.specs.node_state.declared.group.Led.{Led}
-use Rattle.row_laws.specs.node_state.declared.group.GroupRow.{GroupRow}
-use Rattle.row_laws.specs.node_state.declared.happened.Happened.{Happened}
-use Rattle.row_laws.specs.node_state.declared.happened.Happened.TheVariants as happened
-use Rattle.row_laws.specs.node_state.declared.state.Core.{Core}
-use Rattle.row_laws.specs.node_state.State.{InNameOrder, row_found, row_of, with_row, is_this, leader_by, leader_in, leads_in, leads, recorded, recorded_all, has_name}
-use Rattle.row_laws.specs.node_state.Settings.{view_level}
-use Rattle.row_laws.specs.node_state.Leading.{limit_of, first_carried, value_of, closed_by, closing, closing_of, closing_entry}
-use Rattle.row_laws.specs.world_model.declared.event.Event.{Event}
-use Rattle.row_laws.specs.run_safety.Past.{History, records_of, fold_from, Within}
-use Rattle.row_laws.specs.run_safety.Stays.{Stay, stays_after, stays}
-use Rattle.row_laws.specs.run_safety.SafeHeard.{enters}
-use Rattle.row_laws.proofs.node_state_laws.NameOrder.{KeepsName, cases_text, row_here, row_there, rows_ordered}
+use Rattle.rsct_packet.specs.declared.ids.ViewId.{ViewId}
+use Rattle.rsct_packet.specs.declared.ids.ProviderId.{ProviderId}
+use Rattle.rsct_packet.specs.declared.ids.Member.{Member}
+use Rattle.rsct_packet.specs.Ids.{last_u32}
+use Rattle.rsct_packet.specs.Search.{Has}
+use Rattle.proposal_core.specs.declared.entry.Vote.{Vote}
+use Rattle.proposal_core.specs.declared.entry.Vote.TheVariants as vote
+use Rattle.proposal_core.specs.declared.entry.Entry.{Entry}
+use Rattle.proposal_core.specs.declared.entry.Entry.TheVariants.{Phase, Approve, Reject}
+use Rattle.proposal_core.specs.Sizes.{entry_len}
+use Rattle.proposal_core.specs.declared.entry.RowVote.{RowVote}
+use Rattle.proposal_core.specs.declared.entry.RowVote.TheVariants as row_vote
+use Rattle.proposal_core.specs.declared.group_state.GroupState.{GroupState}
+use Rattle.proposal_core.specs.declared.group_state.Running.{Running}
+use Rattle.proposal_core.specs.GroupView.{GroupView}
+use Rattle.proposal_core.specs.Fold.{max_phases, fits, voters}
+use Rattle.proposal_core.specs.Lists.{list_or_new, state_in, len_in, bytes_in, has_room, entry_fits}
+use Rattle.vote_phases.specs.declared.voter.Voter.{Voter}
+use Rattle.vote_phases.specs.Tally.{TallyView, is_open, has_open, tally_of, rows_of, outcome}
+use Rattle.node_state.specs.declared.config.Config.{Config}
+use Rattle.node_state.specs.declared.config.Mode.{Mode}
+use Rattle.node_state.specs.declared.group.Led.{Led}
+use Rattle.node_state.specs.declared.group.GroupRow.{GroupRow}
+use Rattle.node_state.specs.declared.happened.Happened.{Happened}
+use Rattle.node_state.specs.declared.happened.Happened.TheVariants as happened
+use Rattle.node_state.specs.declared.state.Core.{Core}
+use Rattle.node_state.specs.State.{InNameOrder, row_found, row_of, with_row, is_this, leader_by, leader_in, leads_in, leads, recorded, recorded_all, has_name}
+use Rattle.node_state.specs.Settings.{view_level}
+use Rattle.node_state.specs.Leading.{limit_of, first_carried, value_of, closed_by, closing, closing_of, closing_entry}
+use Rattle.world_model.specs.declared.event.Event.{Event}
+use Rattle.run_safety.specs.Past.{History, records_of, fold_from, Within}
+use Rattle.run_safety.specs.Stays.{Stay, stays_after, stays}
+use Rattle.run_safety.specs.SafeHeard.{enters}
+use Rattle.node_state.proofs.NameOrder.{KeepsName, cases_text, row_here, row_there, rows_ordered}
 use Rattle.entry_laws.specs.late_rows.Announced.{members_after, members_now, late_first, RecordTold}
 use Rattle.entry_laws.specs.late_rows.Late.{tick_of, opens, ticks_with, ticks_of, RecordLate}
 

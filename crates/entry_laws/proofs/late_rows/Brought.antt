@@ -4,37 +4,37 @@ use Rattle.std.specs.Prelude.{reverse, slice_get, if◌then◌else◌}
 use Rattle.std.specs.Str.{bytes_eq}
 use Rattle.std.proofs.lemmas.List.{length-drop, drop_all}
 use Rattle.std.proofs.lemmas.Bool.{cases_lt}
-use Rattle.row_laws.specs.rsct_packet.declared.ids.ViewId.{ViewId}
-use Rattle.row_laws.specs.rsct_packet.Ids.{same_view}
-use Rattle.row_laws.specs.rsct_packet.Search.{Has}
-use Rattle.row_laws.proofs.rsct_packet_laws.HasLaws.{has_append, find_has}
-use Rattle.row_laws.specs.proposal_core.declared.entry.Entry.{Entry}
-use Rattle.row_laws.specs.view_state.declared.install.Source.{Source}
-use Rattle.row_laws.specs.view_state.declared.install.Install.{Install}
-use Rattle.row_laws.specs.view_state.declared.exchange.Exchange.{Exchange}
-use Rattle.row_laws.specs.view_state.Answers.{install_of}
-use Rattle.row_laws.specs.view_state.Bases.{source_at, parts_in, parts_from}
-use Rattle.row_laws.specs.view_exchange.Longest.{NamesDiffer}
-use Rattle.row_laws.specs.node_state.declared.happened.Happened.{Happened}
-use Rattle.row_laws.specs.node_state.declared.happened.Happened.TheVariants as happened
-use Rattle.row_laws.specs.node_state.declared.state.Core.{Core}
-use Rattle.row_laws.specs.node_state.State.{row_of, list_of, len_of}
-use Rattle.row_laws.specs.node_state.Applying.{Lacking, lacking_in, lacking}
-use Rattle.row_laws.specs.run_safety.Past.{History, records_of, earlier, view_now}
-use Rattle.row_laws.specs.run_safety.Group.{Put, Line, Record, Reply, kept}
-use Rattle.row_laws.specs.run_safety.Group as group
-use Rattle.row_laws.specs.run_safety.Sight.{told_in, lines_at, lines_with, lines_of}
-use Rattle.row_laws.proofs.run_safety_laws.SightLaws.{kept_append}
-use Rattle.row_laws.proofs.run_safety_laws.Prefix.{IsPrefix, prefix_nil, prefix_get}
-use Rattle.row_laws.proofs.run_safety_laws.Whole.{Whole}
-use Rattle.row_laws.proofs.run_safety_laws.Lives.{whole}
-use Rattle.row_laws.proofs.node_state_laws.NameOrder.{text_same}
-use Rattle.row_laws.specs.step_refinement.Ghost.{Keeps, CarriesIf, part_of, GathersIf, Gathers, Installs}
-use Rattle.row_laws.specs.step_refinement.Tied.{Scene, opening_of, Tied}
-use Rattle.row_laws.proofs.step_refinement_laws.ViewRows.{same_of}
-use Rattle.row_laws.proofs.step_refinement_laws.RowWorks.{keeps_of, len_is}
-use Rattle.row_laws.proofs.step_refinement_laws.Fills.{collected, lacking_is}
-use Rattle.row_laws.proofs.step_refinement_laws.Replies as replies
+use Rattle.rsct_packet.specs.declared.ids.ViewId.{ViewId}
+use Rattle.rsct_packet.specs.Ids.{same_view}
+use Rattle.rsct_packet.specs.Search.{Has}
+use Rattle.rsct_packet.proofs.HasLaws.{has_append, find_has}
+use Rattle.proposal_core.specs.declared.entry.Entry.{Entry}
+use Rattle.view_state.specs.declared.install.Source.{Source}
+use Rattle.view_state.specs.declared.install.Install.{Install}
+use Rattle.view_state.specs.declared.exchange.Exchange.{Exchange}
+use Rattle.view_state.specs.Answers.{install_of}
+use Rattle.view_state.specs.Bases.{source_at, parts_in, parts_from}
+use Rattle.view_exchange.specs.Longest.{NamesDiffer}
+use Rattle.node_state.specs.declared.happened.Happened.{Happened}
+use Rattle.node_state.specs.declared.happened.Happened.TheVariants as happened
+use Rattle.node_state.specs.declared.state.Core.{Core}
+use Rattle.node_state.specs.State.{row_of, list_of, len_of}
+use Rattle.node_state.specs.Applying.{Lacking, lacking_in, lacking}
+use Rattle.run_safety.specs.Past.{History, records_of, earlier, view_now}
+use Rattle.run_safety.specs.Group.{Put, Line, Record, Reply, kept}
+use Rattle.run_safety.specs.Group as group
+use Rattle.run_safety.specs.Sight.{told_in, lines_at, lines_with, lines_of}
+use Rattle.run_safety.proofs.SightLaws.{kept_append}
+use Rattle.run_safety.proofs.Prefix.{IsPrefix, prefix_nil, prefix_get}
+use Rattle.run_safety.proofs.Whole.{Whole}
+use Rattle.run_safety.proofs.Lives.{whole}
+use Rattle.node_state.proofs.NameOrder.{text_same}
+use Rattle.step_refinement.specs.Ghost.{Keeps, CarriesIf, part_of, GathersIf, Gathers, Installs}
+use Rattle.step_refinement.specs.Tied.{Scene, opening_of, Tied}
+use Rattle.step_refinement.proofs.ViewRows.{same_of}
+use Rattle.step_refinement.proofs.RowWorks.{keeps_of, len_is}
+use Rattle.step_refinement.proofs.Fills.{collected, lacking_is}
+use Rattle.step_refinement.proofs.Replies as replies
 use Rattle.entry_laws.specs.late_rows.Late.{PutBefore}
 
 -- ---- lines are of records

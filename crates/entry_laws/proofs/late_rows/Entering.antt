@@ -6,51 +6,51 @@ use Rattle.std.specs.Option.{option_map}
 use Rattle.std.specs.Str.{bytes_eq}
 use Rattle.std.proofs.lemmas.List.{reverse-append, reverse-reverse}
 use Rattle.std.proofs.lemmas.Bool.{eq-eqb}
-use Rattle.row_laws.specs.rsct_packet.declared.ids.ViewId.{ViewId}
-use Rattle.row_laws.specs.rsct_packet.declared.ids.ProviderId.{ProviderId}
-use Rattle.row_laws.specs.rsct_packet.declared.ids.Member.{Member}
-use Rattle.row_laws.specs.rsct_packet.Providers.{among}
-use Rattle.row_laws.specs.rsct_packet.Search.{Has}
-use Rattle.row_laws.proofs.rsct_packet_laws.HasLaws.{has_append, append_has_left, append_has_right}
-use Rattle.row_laws.specs.group_attr.Attrs.{host_membership}
-use Rattle.row_laws.specs.proposal_core.declared.proposal.Cause.TheVariants.{Died}
-use Rattle.row_laws.specs.proposal_core.declared.entry.Entry.{Entry}
-use Rattle.row_laws.specs.proposal_core.Fold.{empty_state, present}
-use Rattle.row_laws.specs.proposal_core.Lists.{list_or_new, state_in, with_entry}
-use Rattle.row_laws.specs.batch_rules.Waiting.{add_failure}
-use Rattle.row_laws.specs.subscribe_core.declared.subs.Subscription.{Subscription}
-use Rattle.row_laws.specs.client_callbacks.declared.told.Told.TheVariants as told
-use Rattle.row_laws.specs.client_callbacks.declared.told.Why.TheVariants.{Dissolved}
-use Rattle.row_laws.specs.session_state.declared.state.Provider.{Provider}
-use Rattle.row_laws.specs.session_state.State.{provider_of, outstanding}
-use Rattle.row_laws.specs.session_state.HandOn.{take_telling}
-use Rattle.row_laws.specs.view_state.declared.install.Install.{Install}
-use Rattle.row_laws.specs.view_state.declared.install.Base.{Base}
-use Rattle.row_laws.specs.view_state.Bases.{bases_of, base_named}
-use Rattle.row_laws.specs.view_state.declared.packet.ViewPacket.TheVariants as packet
-use Rattle.row_laws.specs.view_state.declared.views.ViewWork.{ViewWork}
-use Rattle.row_laws.specs.view_state.Views.{views_entered}
-use Rattle.row_laws.specs.node_state.declared.group.GroupRow.{GroupRow}
-use Rattle.row_laws.specs.node_state.declared.happened.Happened.{Happened}
-use Rattle.row_laws.specs.node_state.declared.happened.Happened.TheVariants as happened
-use Rattle.row_laws.specs.node_state.declared.packet.Body.TheVariants as body
-use Rattle.row_laws.specs.node_state.declared.state.Core.{Core}
-use Rattle.row_laws.specs.node_state.Settings.{view_level}
-use Rattle.row_laws.specs.node_state.State.{AllAfter, InNameOrder, row_found, row_of, list_of, state_of, len_of, held_rows, recorded, recorded_all, with_sessions, with_row, has_name}
-use Rattle.row_laws.specs.node_state.Sending.{sent, send_requests}
-use Rattle.row_laws.specs.node_state.HandOn.{Answering, subscriber_name, note_of}
-use Rattle.row_laws.specs.node_state.Leading.{put, put_and_hand, with_waiting, tally_opened}
-use Rattle.row_laws.specs.node_state.Applying.{Lacking, lacking, fill_lists, level_set, base_row, base_record, view_entered, is_in_base, number_of, dissolved, dissolved_if, group_dissolved, sides_dissolved, base_note, entering_note, entering_noted, taken_sent, owed_sent, wait_failed, phase_reopened, lead, lead_groups, entered, entered_if, apply_install, views_taken}
-use Rattle.row_laws.specs.run_safety.Past.{History, records_of, Within}
-use Rattle.row_laws.specs.run_safety.Stays.{Stay, stays}
-use Rattle.row_laws.specs.run_safety.Stays as stay
-use Rattle.row_laws.specs.run_safety.SafeHeard.{enters}
-use Rattle.row_laws.proofs.node_state_laws.NameOrder.{text_same, text_other, none_after, row_here, row_there, cases_text, text_self}
-use Rattle.row_laws.proofs.step_refinement_laws.Appending.{handed_rows}
-use Rattle.row_laws.proofs.step_refinement_laws.BaseOrder.{bases_ordered, row_of_base, base_noted}
-use Rattle.row_laws.proofs.step_refinement_laws.Fills.{collected}
-use Rattle.row_laws.proofs.step_refinement_laws.Founding.{Sent, sends_out, sends_are, lacking_same}
-use Rattle.row_laws.proofs.step_refinement_laws.Turns.{has_turned}
+use Rattle.rsct_packet.specs.declared.ids.ViewId.{ViewId}
+use Rattle.rsct_packet.specs.declared.ids.ProviderId.{ProviderId}
+use Rattle.rsct_packet.specs.declared.ids.Member.{Member}
+use Rattle.rsct_packet.specs.Providers.{among}
+use Rattle.rsct_packet.specs.Search.{Has}
+use Rattle.rsct_packet.proofs.HasLaws.{has_append, append_has_left, append_has_right}
+use Rattle.group_attr.specs.Attrs.{host_membership}
+use Rattle.proposal_core.specs.declared.proposal.Cause.TheVariants.{Died}
+use Rattle.proposal_core.specs.declared.entry.Entry.{Entry}
+use Rattle.proposal_core.specs.Fold.{empty_state, present}
+use Rattle.proposal_core.specs.Lists.{list_or_new, state_in, with_entry}
+use Rattle.batch_rules.specs.Waiting.{add_failure}
+use Rattle.subscribe_core.specs.declared.subs.Subscription.{Subscription}
+use Rattle.client_callbacks.specs.declared.told.Told.TheVariants as told
+use Rattle.client_callbacks.specs.declared.told.Why.TheVariants.{Dissolved}
+use Rattle.session_state.specs.declared.state.Provider.{Provider}
+use Rattle.session_state.specs.State.{provider_of, outstanding}
+use Rattle.session_state.specs.HandOn.{take_telling}
+use Rattle.view_state.specs.declared.install.Install.{Install}
+use Rattle.view_state.specs.declared.install.Base.{Base}
+use Rattle.view_state.specs.Bases.{bases_of, base_named}
+use Rattle.view_state.specs.declared.packet.ViewPacket.TheVariants as packet
+use Rattle.view_state.specs.declared.views.ViewWork.{ViewWork}
+use Rattle.view_state.specs.Views.{views_entered}
+use Rattle.node_state.specs.declared.group.GroupRow.{GroupRow}
+use Rattle.node_state.specs.declared.happened.Happened.{Happened}
+use Rattle.node_state.specs.declared.happened.Happened.TheVariants as happened
+use Rattle.node_state.specs.declared.packet.Body.TheVariants as body
+use Rattle.node_state.specs.declared.state.Core.{Core}
+use Rattle.node_state.specs.Settings.{view_level}
+use Rattle.node_state.specs.State.{AllAfter, InNameOrder, row_found, row_of, list_of, state_of, len_of, held_rows, recorded, recorded_all, with_sessions, with_row, has_name}
+use Rattle.node_state.specs.Sending.{sent, send_requests}
+use Rattle.node_state.specs.HandOn.{Answering, subscriber_name, note_of}
+use Rattle.node_state.specs.Leading.{put, put_and_hand, with_waiting, tally_opened}
+use Rattle.node_state.specs.Applying.{Lacking, lacking, fill_lists, level_set, base_row, base_record, view_entered, is_in_base, number_of, dissolved, dissolved_if, group_dissolved, sides_dissolved, base_note, entering_note, entering_noted, taken_sent, owed_sent, wait_failed, phase_reopened, lead, lead_groups, entered, entered_if, apply_install, views_taken}
+use Rattle.run_safety.specs.Past.{History, records_of, Within}
+use Rattle.run_safety.specs.Stays.{Stay, stays}
+use Rattle.run_safety.specs.Stays as stay
+use Rattle.run_safety.specs.SafeHeard.{enters}
+use Rattle.node_state.proofs.NameOrder.{text_same, text_other, none_after, row_here, row_there, cases_text, text_self}
+use Rattle.step_refinement.proofs.Appending.{handed_rows}
+use Rattle.step_refinement.proofs.BaseOrder.{bases_ordered, row_of_base, base_noted}
+use Rattle.step_refinement.proofs.Fills.{collected}
+use Rattle.step_refinement.proofs.Founding.{Sent, sends_out, sends_are, lacking_same}
+use Rattle.step_refinement.proofs.Turns.{has_turned}
 use Rattle.entry_laws.specs.late_rows.Late.{PutBefore, RecordLate}
 use Rattle.entry_laws.specs.late_rows.Announced.{members_now, RecordTold}
 use Rattle.entry_laws.proofs.late_rows.At.{Turn, tick_here, Plain, AllPlain, Mine, Folds, found_in, AtOf, At, at_for, at_fold, at_recorded, at_recorded_all}

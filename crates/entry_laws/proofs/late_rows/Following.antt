@@ -2,40 +2,40 @@
 use Rattle.std.proofs.Common.{◌≡◌, ◌⊎◌, ℕ, List, Option, Some, None, Bool, true, false, refl, sym, ap, ◌∙◌, subst, inl, inr}
 use Rattle.std.specs.Prelude.{◌==◌, ◌&&◌, ◌||◌, find, reverse, nat_le, nat_lt, is_none}
 use Rattle.std.specs.Option.{unwrap_or}
-use Rattle.row_laws.specs.rsct_packet.declared.ids.ProviderId.{ProviderId}
-use Rattle.row_laws.specs.rsct_packet.declared.ids.ProtoId.{ProtoId}
-use Rattle.row_laws.specs.rsct_packet.Providers.{among}
-use Rattle.row_laws.specs.group_attr.declared.attrs.Phases.{Phases}
-use Rattle.row_laws.specs.proposal_core.declared.proposal.Cause.TheVariants.{Gone}
-use Rattle.row_laws.specs.proposal_core.declared.proposal.Proposal.{Proposal}
-use Rattle.row_laws.specs.proposal_core.declared.entry.Entry.{Entry}
-use Rattle.row_laws.specs.proposal_core.declared.entry.Vote.{Vote}
-use Rattle.row_laws.specs.proposal_core.Fold.{runs, present}
-use Rattle.row_laws.specs.proposal_core.Lists.{state_in}
-use Rattle.row_laws.specs.batch_rules.Waiting.{add_failure, drop_join}
-use Rattle.row_laws.specs.name_server.Names as names
-use Rattle.row_laws.specs.name_server.declared.names.Leader.{Leader}
-use Rattle.row_laws.specs.vote_phases.Tally.{TallyView, tally_cast, tally_fail}
-use Rattle.row_laws.specs.client_callbacks.declared.told.Why.{Why}
-use Rattle.row_laws.specs.client_callbacks.declared.told.Why.TheVariants.{GroupsFull}
-use Rattle.row_laws.specs.session_state.declared.state.Request.{Request}
-use Rattle.row_laws.specs.session_state.State.{outstanding}
-use Rattle.row_laws.specs.session_state.HandOn.{is_numbered, take_telling}
-use Rattle.row_laws.specs.node_state.declared.group.Decision.{Decision}
-use Rattle.row_laws.specs.node_state.declared.group.GroupRow.{GroupRow}
-use Rattle.row_laws.specs.node_state.declared.happened.Happened.{Happened}
-use Rattle.row_laws.specs.node_state.declared.happened.Happened.TheVariants as happened
-use Rattle.row_laws.specs.node_state.declared.packet.Body.TheVariants as body
-use Rattle.row_laws.specs.node_state.declared.state.Core.{Core}
-use Rattle.row_laws.specs.node_state.Settings.{is_fixed}
-use Rattle.row_laws.specs.node_state.State.{InNameOrder, row_found, row_of, with_row, with_led, led_of, list_of, state_of, len_of, holds, fits_at_end, forget_below, coordinates, is_this, leader_in, leader_of, leads_in, leads, set_leader, acked_raised, decision_of, recorded, with_sessions, has_name}
-use Rattle.row_laws.specs.node_state.Sending.{sent, send_on, send_request}
-use Rattle.row_laws.specs.node_state.HandOn.{Answering}
-use Rattle.row_laws.specs.node_state.Leading.{put, put_and_hand, with_waiting, with_tally, closes}
-use Rattle.row_laws.specs.node_state.Deciding.{decided}
-use Rattle.row_laws.specs.node_state.Following.{take_lookup, told_if, take_tell, requests_of, named, is_name_used, take_name, tell_again, decide_new, request_after, request_at, is_group_refused, take_request, entry_next, entry_elsewhere, take_entry, acked, take_ack, vote_cast, take_vote, tally_failed, wait_gone, marked, gone_present, gone_of, take_gone}
-use Rattle.row_laws.proofs.node_state_laws.NameOrder.{cases_text, row_here, row_there, rows_ordered}
-use Rattle.row_laws.proofs.step_refinement_laws.Appending.{handed_rows}
+use Rattle.rsct_packet.specs.declared.ids.ProviderId.{ProviderId}
+use Rattle.rsct_packet.specs.declared.ids.ProtoId.{ProtoId}
+use Rattle.rsct_packet.specs.Providers.{among}
+use Rattle.group_attr.specs.declared.attrs.Phases.{Phases}
+use Rattle.proposal_core.specs.declared.proposal.Cause.TheVariants.{Gone}
+use Rattle.proposal_core.specs.declared.proposal.Proposal.{Proposal}
+use Rattle.proposal_core.specs.declared.entry.Entry.{Entry}
+use Rattle.proposal_core.specs.declared.entry.Vote.{Vote}
+use Rattle.proposal_core.specs.Fold.{runs, present}
+use Rattle.proposal_core.specs.Lists.{state_in}
+use Rattle.batch_rules.specs.Waiting.{add_failure, drop_join}
+use Rattle.name_server.specs.Names as names
+use Rattle.name_server.specs.declared.names.Leader.{Leader}
+use Rattle.vote_phases.specs.Tally.{TallyView, tally_cast, tally_fail}
+use Rattle.client_callbacks.specs.declared.told.Why.{Why}
+use Rattle.client_callbacks.specs.declared.told.Why.TheVariants.{GroupsFull}
+use Rattle.session_state.specs.declared.state.Request.{Request}
+use Rattle.session_state.specs.State.{outstanding}
+use Rattle.session_state.specs.HandOn.{is_numbered, take_telling}
+use Rattle.node_state.specs.declared.group.Decision.{Decision}
+use Rattle.node_state.specs.declared.group.GroupRow.{GroupRow}
+use Rattle.node_state.specs.declared.happened.Happened.{Happened}
+use Rattle.node_state.specs.declared.happened.Happened.TheVariants as happened
+use Rattle.node_state.specs.declared.packet.Body.TheVariants as body
+use Rattle.node_state.specs.declared.state.Core.{Core}
+use Rattle.node_state.specs.Settings.{is_fixed}
+use Rattle.node_state.specs.State.{InNameOrder, row_found, row_of, with_row, with_led, led_of, list_of, state_of, len_of, holds, fits_at_end, forget_below, coordinates, is_this, leader_in, leader_of, leads_in, leads, set_leader, acked_raised, decision_of, recorded, with_sessions, has_name}
+use Rattle.node_state.specs.Sending.{sent, send_on, send_request}
+use Rattle.node_state.specs.HandOn.{Answering}
+use Rattle.node_state.specs.Leading.{put, put_and_hand, with_waiting, with_tally, closes}
+use Rattle.node_state.specs.Deciding.{decided}
+use Rattle.node_state.specs.Following.{take_lookup, told_if, take_tell, requests_of, named, is_name_used, take_name, tell_again, decide_new, request_after, request_at, is_group_refused, take_request, entry_next, entry_elsewhere, take_entry, acked, take_ack, vote_cast, take_vote, tally_failed, wait_gone, marked, gone_present, gone_of, take_gone}
+use Rattle.node_state.proofs.NameOrder.{cases_text, row_here, row_there, rows_ordered}
+use Rattle.step_refinement.proofs.Appending.{handed_rows}
 use Rattle.entry_laws.specs.late_rows.Late.{RecordLate}
 use Rattle.entry_laws.specs.late_rows.Announced.{RecordTold}
 use Rattle.entry_laws.proofs.late_rows.At.{Turn, ticks_now, TallyIs, Settled, TallyRuns, RowIs, Folds, found, leads_row, leads_is, At, at_for, at_fold, at_recorded, at_row_for}
@@ -43,7 +43,7 @@ use Rattle.entry_laws.proofs.late_rows.Puts.{put_row, put_record}
 use Rattle.entry_laws.proofs.late_rows.Hands.{at_sent, at_request_sent, at_sessions}
 use Rattle.entry_laws.proofs.late_rows.Tallies.{failed_late, voted_late, failed_settled, voted_settled}
 use Rattle.entry_laws.proofs.late_rows.Tellings.{telling_level}
-use Rattle.row_laws.specs.node_state.declared.group.Led.{Led}
+use Rattle.node_state.specs.declared.group.Led.{Led}
 use Rattle.entry_laws.proofs.late_rows.Leading.{at_put_and_handed_for, at_led, at_waits, at_forgets, at_forgets_least, at_closes}
 use Rattle.entry_laws.proofs.late_rows.Ending.{Every, NoGroup, every_may, at_decided}
 

@@ -5,35 +5,35 @@ use Rattle.std.specs.List.{list_any}
 use Rattle.std.specs.Str.{bytes_eq}
 use Rattle.std.proofs.lemmas.List.{reverse-append}
 use Rattle.std.proofs.lemmas.Bool.{eqb-true, eq-eqb}
-use Rattle.row_laws.specs.rsct_packet.declared.ids.Member.{Member}
-use Rattle.row_laws.specs.rsct_packet.Search.{Has}
-use Rattle.row_laws.specs.rsct_packet.Mask.{nodes_of}
-use Rattle.row_laws.proofs.rsct_packet_laws.HasLaws.{has_append, append_has_left, has_map}
-use Rattle.row_laws.specs.adapter_ring.declared.ring.Ring.{Ring}
-use Rattle.row_laws.specs.proposal_core.Fold.{empty_state}
-use Rattle.row_laws.specs.view_state.Views.{views_new}
-use Rattle.row_laws.specs.node_state.declared.config.Config.{Config}
-use Rattle.row_laws.specs.node_state.declared.group.GroupRow.{GroupRow}
-use Rattle.row_laws.specs.node_state.declared.happened.Happened.{Happened}
-use Rattle.row_laws.specs.node_state.declared.happened.Happened.TheVariants as happened
-use Rattle.row_laws.specs.node_state.declared.state.Core.{Core}
-use Rattle.row_laws.specs.node_state.Settings.{view_level}
-use Rattle.row_laws.specs.node_state.State.{InNameOrder, with_sessions}
-use Rattle.row_laws.specs.node_state.HandOn.{Answering}
-use Rattle.row_laws.specs.node_state.Applying.{level_set}
-use Rattle.row_laws.specs.node_state.Step.{NodeEvent, Ticks, Asks, Given, Calls, Garbage, at_work, started, stepped, first_view, first_members, own_rings, ring_record}
-use Rattle.row_laws.specs.world_model.declared.event.Event.{Event}
-use Rattle.row_laws.specs.run_safety.Past.{History, records_of, Within}
-use Rattle.row_laws.specs.run_safety.Stays.{Stay, stays_after, stays}
-use Rattle.row_laws.specs.run_safety.Stays as stay
-use Rattle.row_laws.specs.run_safety.SafeHeard.{enters}
-use Rattle.row_laws.specs.step_refinement.Tied.{Scene, Rests}
-use Rattle.row_laws.specs.step_refinement.Rows.{ended, start_with, stopped, nothing_yet, with_records, starts_too, Arises}
-use Rattle.row_laws.specs.step_refinement.Runs.{IsNote, noted, Reached, Nothing, AllStart, Starts, Stops, Steps, Notes}
-use Rattle.row_laws.proofs.step_refinement_laws.Changed.{each_set}
-use Rattle.row_laws.proofs.step_refinement_laws.Begins.{begin_tied}
-use Rattle.row_laws.proofs.step_refinement_laws.Turns.{has_turned}
-use Rattle.row_laws.proofs.step_refinement_laws.RunLaw.{reached_rests}
+use Rattle.rsct_packet.specs.declared.ids.Member.{Member}
+use Rattle.rsct_packet.specs.Search.{Has}
+use Rattle.rsct_packet.specs.Mask.{nodes_of}
+use Rattle.rsct_packet.proofs.HasLaws.{has_append, append_has_left, has_map}
+use Rattle.adapter_ring.specs.declared.ring.Ring.{Ring}
+use Rattle.proposal_core.specs.Fold.{empty_state}
+use Rattle.view_state.specs.Views.{views_new}
+use Rattle.node_state.specs.declared.config.Config.{Config}
+use Rattle.node_state.specs.declared.group.GroupRow.{GroupRow}
+use Rattle.node_state.specs.declared.happened.Happened.{Happened}
+use Rattle.node_state.specs.declared.happened.Happened.TheVariants as happened
+use Rattle.node_state.specs.declared.state.Core.{Core}
+use Rattle.node_state.specs.Settings.{view_level}
+use Rattle.node_state.specs.State.{InNameOrder, with_sessions}
+use Rattle.node_state.specs.HandOn.{Answering}
+use Rattle.node_state.specs.Applying.{level_set}
+use Rattle.node_state.specs.Step.{NodeEvent, Ticks, Asks, Given, Calls, Garbage, at_work, started, stepped, first_view, first_members, own_rings, ring_record}
+use Rattle.world_model.specs.declared.event.Event.{Event}
+use Rattle.run_safety.specs.Past.{History, records_of, Within}
+use Rattle.run_safety.specs.Stays.{Stay, stays_after, stays}
+use Rattle.run_safety.specs.Stays as stay
+use Rattle.run_safety.specs.SafeHeard.{enters}
+use Rattle.step_refinement.specs.Tied.{Scene, Rests}
+use Rattle.step_refinement.specs.Rows.{ended, start_with, stopped, nothing_yet, with_records, starts_too, Arises}
+use Rattle.step_refinement.specs.Runs.{IsNote, noted, Reached, Nothing, AllStart, Starts, Stops, Steps, Notes}
+use Rattle.step_refinement.proofs.Changed.{each_set}
+use Rattle.step_refinement.proofs.Begins.{begin_tied}
+use Rattle.step_refinement.proofs.Turns.{has_turned}
+use Rattle.step_refinement.proofs.RunLaw.{reached_rests}
 use Rattle.entry_laws.specs.late_rows.Late.{tick_of, opens, opens_phase, ticks_with, ticks_of, RecordLate, LateHadTime}
 use Rattle.entry_laws.specs.late_rows.Announced.{members_after, members_now, RecordTold, LateWereAnnounced}
 use Rattle.entry_laws.specs.late_rows.Runs.{NotedAs, TicksAreNoted, WhoIsLateHadTime, WhoIsLateWasAnnounced}

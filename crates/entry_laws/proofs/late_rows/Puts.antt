@@ -4,23 +4,23 @@ use Rattle.std.specs.Prelude.{◌==◌, ◌&&◌, reverse, if◌then◌else◌}
 use Rattle.std.specs.Str.{bytes_eq}
 use Rattle.std.proofs.lemmas.List.{reverse-append}
 use Rattle.std.proofs.lemmas.Bool.{eq-eqb}
-use Rattle.row_laws.specs.rsct_packet.declared.ids.ViewId.{ViewId}
-use Rattle.row_laws.specs.rsct_packet.Search.{Has}
-use Rattle.row_laws.specs.proposal_core.declared.entry.Entry.{Entry}
-use Rattle.row_laws.specs.proposal_core.declared.group_state.GroupState.{GroupState}
-use Rattle.row_laws.specs.proposal_core.GroupView.{GroupView}
-use Rattle.row_laws.specs.proposal_core.Fold.{after}
-use Rattle.row_laws.specs.proposal_core.Lists.{list_or_new, with_entry}
-use Rattle.row_laws.specs.node_state.declared.group.GroupRow.{GroupRow}
-use Rattle.row_laws.specs.node_state.declared.happened.Happened.{Happened}
-use Rattle.row_laws.specs.node_state.declared.happened.Happened.TheVariants as happened
-use Rattle.row_laws.specs.node_state.declared.state.Core.{Core}
-use Rattle.row_laws.specs.node_state.State.{row_of, with_row, len_of, recorded}
-use Rattle.row_laws.specs.node_state.Leading.{put}
-use Rattle.row_laws.specs.run_safety.Past.{records_of, fold_from}
-use Rattle.row_laws.specs.run_safety.Stays.{Stay, stays_after, stays}
-use Rattle.row_laws.specs.run_safety.Stays as stay
-use Rattle.row_laws.proofs.node_state_laws.NameOrder.{cases_text, text_self, text_other, row_here, row_there, rows_ordered}
+use Rattle.rsct_packet.specs.declared.ids.ViewId.{ViewId}
+use Rattle.rsct_packet.specs.Search.{Has}
+use Rattle.proposal_core.specs.declared.entry.Entry.{Entry}
+use Rattle.proposal_core.specs.declared.group_state.GroupState.{GroupState}
+use Rattle.proposal_core.specs.GroupView.{GroupView}
+use Rattle.proposal_core.specs.Fold.{after}
+use Rattle.proposal_core.specs.Lists.{list_or_new, with_entry}
+use Rattle.node_state.specs.declared.group.GroupRow.{GroupRow}
+use Rattle.node_state.specs.declared.happened.Happened.{Happened}
+use Rattle.node_state.specs.declared.happened.Happened.TheVariants as happened
+use Rattle.node_state.specs.declared.state.Core.{Core}
+use Rattle.node_state.specs.State.{row_of, with_row, len_of, recorded}
+use Rattle.node_state.specs.Leading.{put}
+use Rattle.run_safety.specs.Past.{records_of, fold_from}
+use Rattle.run_safety.specs.Stays.{Stay, stays_after, stays}
+use Rattle.run_safety.specs.Stays as stay
+use Rattle.node_state.proofs.NameOrder.{cases_text, text_self, text_other, row_here, row_there, rows_ordered}
 use Rattle.entry_laws.specs.late_rows.Announced.{RecordTold}
 use Rattle.entry_laws.specs.late_rows.Late.{opens, opens_phase, RecordLate}
 use Rattle.entry_laws.proofs.late_rows.At.{Turn, ticks_now, RowIs, Folds, Mine, found, leads_row, AtOf, At, ticks_plain}

@@ -1,25 +1,25 @@
 -- What appending an announcement leaves of the leader's row.
 use Rattle.std.proofs.Common.{◌≡◌, ℕ, List, [], ◌∷◌, Some, Bool, true, false, refl, sym, ap, ◌∙◌, subst}
 use Rattle.std.specs.Prelude.{fold, filter, not}
-use Rattle.row_laws.specs.rsct_packet.declared.ids.ProtoId.{ProtoId}
-use Rattle.row_laws.specs.rsct_packet.declared.ids.ProviderId.{ProviderId}
-use Rattle.row_laws.specs.rsct_packet.Providers.{among}
-use Rattle.row_laws.specs.proposal_core.declared.proposal.Cause.TheVariants.{Died, Gone}
-use Rattle.row_laws.specs.proposal_core.declared.entry.Entry.{Entry}
-use Rattle.row_laws.specs.proposal_core.declared.entry.Entry.TheVariants.{Late}
-use Rattle.row_laws.specs.proposal_core.declared.group_state.GroupState.{GroupState}
-use Rattle.row_laws.specs.proposal_core.Lists.{list_or_new, state_in, with_entry}
-use Rattle.row_laws.specs.batch_rules.Waiting.{add_failure}
-use Rattle.row_laws.specs.node_state.declared.group.GroupRow.{GroupRow}
-use Rattle.row_laws.specs.node_state.declared.packet.Body.{Body}
-use Rattle.row_laws.specs.node_state.declared.packet.Body.TheVariants as body
-use Rattle.row_laws.specs.node_state.declared.state.Core.{Core}
-use Rattle.row_laws.specs.node_state.State.{InNameOrder, row_of, with_row, with_led, led_of, state_of, len_of, list_forgotten, forget_below, leader_of, others, least_acked, recorded}
-use Rattle.row_laws.specs.node_state.Sending.{send_all}
-use Rattle.row_laws.specs.node_state.HandOn.{Answering, hand_on}
-use Rattle.row_laws.specs.node_state.Leading.{put, forget_least, with_waiting, wait_if, new_members_wait, appended}
-use Rattle.row_laws.proofs.node_state_laws.NameOrder.{KeepsName, row_here, rows_ordered}
-use Rattle.row_laws.proofs.step_refinement_laws.Appending.{sent_all_is, handed_rows}
+use Rattle.rsct_packet.specs.declared.ids.ProtoId.{ProtoId}
+use Rattle.rsct_packet.specs.declared.ids.ProviderId.{ProviderId}
+use Rattle.rsct_packet.specs.Providers.{among}
+use Rattle.proposal_core.specs.declared.proposal.Cause.TheVariants.{Died, Gone}
+use Rattle.proposal_core.specs.declared.entry.Entry.{Entry}
+use Rattle.proposal_core.specs.declared.entry.Entry.TheVariants.{Late}
+use Rattle.proposal_core.specs.declared.group_state.GroupState.{GroupState}
+use Rattle.proposal_core.specs.Lists.{list_or_new, state_in, with_entry}
+use Rattle.batch_rules.specs.Waiting.{add_failure}
+use Rattle.node_state.specs.declared.group.GroupRow.{GroupRow}
+use Rattle.node_state.specs.declared.packet.Body.{Body}
+use Rattle.node_state.specs.declared.packet.Body.TheVariants as body
+use Rattle.node_state.specs.declared.state.Core.{Core}
+use Rattle.node_state.specs.State.{InNameOrder, row_of, with_row, with_led, led_of, state_of, len_of, list_forgotten, forget_below, leader_of, others, least_acked, recorded}
+use Rattle.node_state.specs.Sending.{send_all}
+use Rattle.node_state.specs.HandOn.{Answering, hand_on}
+use Rattle.node_state.specs.Leading.{put, forget_least, with_waiting, wait_if, new_members_wait, appended}
+use Rattle.node_state.proofs.NameOrder.{KeepsName, row_here, rows_ordered}
+use Rattle.step_refinement.proofs.Appending.{sent_all_is, handed_rows}
 use Rattle.entry_laws.proofs.late_rows.At.{found_in, found}
 use Rattle.entry_laws.proofs.late_rows.Leading.{forgotten_same, late_same}
 

@@ -4,33 +4,33 @@ use Rattle.std.specs.Prelude.{◌==◌, ◌&&◌, ◌||◌, fold, find, map, fil
 use Rattle.std.specs.List.{list_any, last_or}
 use Rattle.std.proofs.lemmas.Bool.{eqb-true, and_parts}
 use Rattle.std.proofs.lemmas.Bool.Decides.{nat_tests}
-use Rattle.row_laws.specs.rsct_packet.declared.ids.ProviderId.{ProviderId}
-use Rattle.row_laws.specs.rsct_packet.Ids.{last_u32}
-use Rattle.row_laws.specs.rsct_packet.Providers.{among}
-use Rattle.row_laws.specs.rsct_packet.Search.{Has}
-use Rattle.row_laws.proofs.rsct_packet_laws.HasLaws.{find_has, has_map, has_filter}
-use Rattle.row_laws.specs.proposal_core.declared.entry.Entry.{Entry}
-use Rattle.row_laws.specs.proposal_core.declared.entry.Entry.TheVariants.{Late}
-use Rattle.row_laws.specs.group_attr.declared.attrs.DefaultVote.{DefaultVote}
-use Rattle.row_laws.specs.proposal_core.declared.entry.Vote.{Vote}
-use Rattle.row_laws.specs.proposal_core.declared.entry.Vote.TheVariants as vote
-use Rattle.row_laws.specs.proposal_core.declared.entry.RowVote.{RowVote}
-use Rattle.row_laws.specs.proposal_core.declared.entry.RowVote.TheVariants as row_vote
-use Rattle.row_laws.specs.proposal_core.declared.entry.Row.{Row}
-use Rattle.row_laws.specs.proposal_core.declared.group_state.GroupState.{GroupState}
-use Rattle.row_laws.specs.proposal_core.declared.group_state.Running.{Running}
-use Rattle.row_laws.specs.proposal_core.GroupView.{GroupView}
-use Rattle.row_laws.specs.proposal_core.Lists.{list_or_new, state_in, has_room, entry_fits}
-use Rattle.row_laws.specs.proposal_core.Fold.{max_phases, runs, fits, voters}
-use Rattle.row_laws.specs.proposal_core.Sizes.{closed_len, entry_len}
-use Rattle.row_laws.specs.vote_phases.declared.voter.Voter.{Voter}
-use Rattle.row_laws.specs.vote_phases.Tally.{TallyView, tally_new, tally_cast, tally_fail, tally_tick, given, given_to, or_vote, is_voter, is_open, has_open, late_if, passes, counted, expires, open_voters, no_vote, row_or, rows_of, outcome, vote_of_row, answer_of}
-use Rattle.row_laws.specs.vote_phases.declared.tally.Cast.{Cast}
-use Rattle.row_laws.specs.vote_phases.declared.tally.Cast.TheVariants.{Recorded, Already}
-use Rattle.row_laws.specs.node_state.declared.group.Given.{Given}
-use Rattle.row_laws.specs.node_state.declared.group.Led.{Led}
-use Rattle.row_laws.specs.node_state.Following.{given_with, vote_cast}
-use Rattle.row_laws.specs.node_state.Leading.{limit_of, fails_if, tally_for, closed_by, closing, closing_of, closing_entry}
+use Rattle.rsct_packet.specs.declared.ids.ProviderId.{ProviderId}
+use Rattle.rsct_packet.specs.Ids.{last_u32}
+use Rattle.rsct_packet.specs.Providers.{among}
+use Rattle.rsct_packet.specs.Search.{Has}
+use Rattle.rsct_packet.proofs.HasLaws.{find_has, has_map, has_filter}
+use Rattle.proposal_core.specs.declared.entry.Entry.{Entry}
+use Rattle.proposal_core.specs.declared.entry.Entry.TheVariants.{Late}
+use Rattle.group_attr.specs.declared.attrs.DefaultVote.{DefaultVote}
+use Rattle.proposal_core.specs.declared.entry.Vote.{Vote}
+use Rattle.proposal_core.specs.declared.entry.Vote.TheVariants as vote
+use Rattle.proposal_core.specs.declared.entry.RowVote.{RowVote}
+use Rattle.proposal_core.specs.declared.entry.RowVote.TheVariants as row_vote
+use Rattle.proposal_core.specs.declared.entry.Row.{Row}
+use Rattle.proposal_core.specs.declared.group_state.GroupState.{GroupState}
+use Rattle.proposal_core.specs.declared.group_state.Running.{Running}
+use Rattle.proposal_core.specs.GroupView.{GroupView}
+use Rattle.proposal_core.specs.Lists.{list_or_new, state_in, has_room, entry_fits}
+use Rattle.proposal_core.specs.Fold.{max_phases, runs, fits, voters}
+use Rattle.proposal_core.specs.Sizes.{closed_len, entry_len}
+use Rattle.vote_phases.specs.declared.voter.Voter.{Voter}
+use Rattle.vote_phases.specs.Tally.{TallyView, tally_new, tally_cast, tally_fail, tally_tick, given, given_to, or_vote, is_voter, is_open, has_open, late_if, passes, counted, expires, open_voters, no_vote, row_or, rows_of, outcome, vote_of_row, answer_of}
+use Rattle.vote_phases.specs.declared.tally.Cast.{Cast}
+use Rattle.vote_phases.specs.declared.tally.Cast.TheVariants.{Recorded, Already}
+use Rattle.node_state.specs.declared.group.Given.{Given}
+use Rattle.node_state.specs.declared.group.Led.{Led}
+use Rattle.node_state.specs.Following.{given_with, vote_cast}
+use Rattle.node_state.specs.Leading.{limit_of, fails_if, tally_for, closed_by, closing, closing_of, closing_entry}
 use Rattle.entry_laws.specs.late_rows.Late.{TimeIsOver, LateVote, EntryLate}
 use Rattle.entry_laws.specs.late_rows.Announced.{late_first, late_in, EntryTold}
 use Rattle.entry_laws.proofs.late_rows.At.{CountedVote, TallyIs, late_vote, late_voters, Settled, settled_same}

@@ -1,13 +1,13 @@
 -- Being told changes no level.
 use Rattle.std.proofs.Common.{◌≡◌, ℕ, [], ◌∷◌, Bool, true, false, refl}
 use Rattle.std.specs.Prelude.{◌||◌, filter, not, if◌then◌else◌}
-use Rattle.row_laws.specs.rsct_packet.declared.ids.ProviderId.{ProviderId}
-use Rattle.row_laws.specs.rsct_packet.Providers.{among}
-use Rattle.row_laws.specs.client_callbacks.declared.told.Why.{Why}
-use Rattle.row_laws.specs.session_state.declared.state.Request.{Request}
-use Rattle.row_laws.specs.session_state.declared.state.SessionState.{SessionState}
-use Rattle.row_laws.specs.session_state.State.{outstanding, without_providers}
-use Rattle.row_laws.specs.session_state.HandOn.{takes_telling, told_of, take_telling, is_join_request, is_dissolved}
+use Rattle.rsct_packet.specs.declared.ids.ProviderId.{ProviderId}
+use Rattle.rsct_packet.specs.Providers.{among}
+use Rattle.client_callbacks.specs.declared.told.Why.{Why}
+use Rattle.session_state.specs.declared.state.Request.{Request}
+use Rattle.session_state.specs.declared.state.SessionState.{SessionState}
+use Rattle.session_state.specs.State.{outstanding, without_providers}
+use Rattle.session_state.specs.HandOn.{takes_telling, told_of, take_telling, is_join_request, is_dissolved}
 
 pub telling_level : (s : SessionState) (p : ProviderId) (r : ℕ) (y : Why) → (take_telling s p r y).level ≡ s.level
 unfolding take_telling told_of without_providers

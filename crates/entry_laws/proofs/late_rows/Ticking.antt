@@ -5,45 +5,45 @@ use Rattle.std.specs.List.{last_or}
 use Rattle.std.specs.Str.{bytes_eq}
 use Rattle.std.proofs.lemmas.List.{reverse-append, reverse-reverse}
 use Rattle.std.proofs.lemmas.Bool.{and_parts, eq-eqb}
-use Rattle.row_laws.specs.rsct_packet.declared.mask.Mask.{Mask}
-use Rattle.row_laws.specs.rsct_packet.Mask.{nodes_of}
-use Rattle.row_laws.specs.rsct_packet.declared.ids.ProviderId.{ProviderId}
-use Rattle.row_laws.specs.rsct_packet.Text.{name_lt}
-use Rattle.row_laws.specs.rsct_packet.Search.{Has}
-use Rattle.row_laws.proofs.rsct_packet_laws.HasLaws.{has_append, append_has_left, has_filter, has_map}
-use Rattle.row_laws.specs.proposal_core.declared.entry.Entry.{Entry}
-use Rattle.row_laws.specs.proposal_core.declared.entry.Entry.TheVariants.{Late}
-use Rattle.row_laws.specs.proposal_core.declared.group_state.GroupState.{GroupState}
-use Rattle.row_laws.specs.proposal_core.declared.group_state.Running.{Running}
-use Rattle.row_laws.specs.proposal_core.Fold.{present}
-use Rattle.row_laws.specs.proposal_core.GroupView.{GroupView}
-use Rattle.row_laws.specs.proposal_core.Lists.{list_or_new, state_in, entry_fits}
-use Rattle.row_laws.specs.adapter_ring.declared.ring.Ring.{Ring}
-use Rattle.row_laws.specs.adapter_ring.declared.ring.RingSet.{RingSet}
-use Rattle.row_laws.specs.adapter_ring.declared.packet.RingSend.{RingSend}
-use Rattle.row_laws.specs.adapter_ring.declared.packet.RingPacket.{RingPacket}
-use Rattle.row_laws.specs.adapter_ring.declared.packet.RingEvent.TheVariants as ring_event
-use Rattle.row_laws.specs.adapter_ring.declared.work.RingWork.{RingWork}
-use Rattle.row_laws.specs.adapter_ring.Rings.{ring_step}
-use Rattle.row_laws.specs.node_reach.Reach as reach
-use Rattle.row_laws.specs.packet_bodies.declared.body.ReportRow.{ReportRow}
-use Rattle.row_laws.specs.vote_phases.Tally.{TallyView, expires, passes, has_open, open_voters, tally_tick}
-use Rattle.row_laws.specs.node_state.declared.group.GroupRow.{GroupRow}
-use Rattle.row_laws.specs.node_state.declared.happened.Happened.{Happened}
-use Rattle.row_laws.specs.node_state.declared.happened.Happened.TheVariants as happened
-use Rattle.row_laws.specs.node_state.declared.packet.Body.TheVariants as body
-use Rattle.row_laws.specs.node_state.declared.state.Core.{Core}
-use Rattle.row_laws.specs.node_state.Settings.{is_rings}
-use Rattle.row_laws.specs.node_state.State.{AllAfter, InNameOrder, row_of, led_of, list_of, state_of, len_of, held_rows, fits_at_end, frozen, leader_of, leads_in, led_groups, others, acked_by, least_acked, with_row, with_led}
-use Rattle.row_laws.specs.node_state.Sending.{sent, send_on, send_if_known, send_requests, send_votes_again}
-use Rattle.row_laws.specs.node_state.HandOn.{Answering}
-use Rattle.row_laws.specs.node_state.Leading.{appended, append_if_fits, with_tally, closing_entry, closes}
-use Rattle.row_laws.specs.node_state.Ticks.{ring_put, set_records, ring_taken, ring_row_of, ring_row, take_report, rings_union, report_of, send_report, rings_tick, tick_rings, is_lost, lost_told, tick_owed, late_appended, announced, ticked_in, tally_ticks, entries_sent, list_sent_again, sent_again, tick_group, tick_led}
-use Rattle.row_laws.specs.run_safety.Past.{records_of}
-use Rattle.row_laws.specs.run_safety.Stays.{stays}
-use Rattle.row_laws.specs.run_safety.Stays as stay
-use Rattle.row_laws.proofs.node_state_laws.NameOrder.{lt_self, text_self, row_here}
-use Rattle.row_laws.proofs.step_refinement_laws.Turns.{has_turned}
+use Rattle.rsct_packet.specs.declared.mask.Mask.{Mask}
+use Rattle.rsct_packet.specs.Mask.{nodes_of}
+use Rattle.rsct_packet.specs.declared.ids.ProviderId.{ProviderId}
+use Rattle.rsct_packet.specs.Text.{name_lt}
+use Rattle.rsct_packet.specs.Search.{Has}
+use Rattle.rsct_packet.proofs.HasLaws.{has_append, append_has_left, has_filter, has_map}
+use Rattle.proposal_core.specs.declared.entry.Entry.{Entry}
+use Rattle.proposal_core.specs.declared.entry.Entry.TheVariants.{Late}
+use Rattle.proposal_core.specs.declared.group_state.GroupState.{GroupState}
+use Rattle.proposal_core.specs.declared.group_state.Running.{Running}
+use Rattle.proposal_core.specs.Fold.{present}
+use Rattle.proposal_core.specs.GroupView.{GroupView}
+use Rattle.proposal_core.specs.Lists.{list_or_new, state_in, entry_fits}
+use Rattle.adapter_ring.specs.declared.ring.Ring.{Ring}
+use Rattle.adapter_ring.specs.declared.ring.RingSet.{RingSet}
+use Rattle.adapter_ring.specs.declared.packet.RingSend.{RingSend}
+use Rattle.adapter_ring.specs.declared.packet.RingPacket.{RingPacket}
+use Rattle.adapter_ring.specs.declared.packet.RingEvent.TheVariants as ring_event
+use Rattle.adapter_ring.specs.declared.work.RingWork.{RingWork}
+use Rattle.adapter_ring.specs.Rings.{ring_step}
+use Rattle.node_reach.specs.Reach as reach
+use Rattle.packet_bodies.specs.declared.body.ReportRow.{ReportRow}
+use Rattle.vote_phases.specs.Tally.{TallyView, expires, passes, has_open, open_voters, tally_tick}
+use Rattle.node_state.specs.declared.group.GroupRow.{GroupRow}
+use Rattle.node_state.specs.declared.happened.Happened.{Happened}
+use Rattle.node_state.specs.declared.happened.Happened.TheVariants as happened
+use Rattle.node_state.specs.declared.packet.Body.TheVariants as body
+use Rattle.node_state.specs.declared.state.Core.{Core}
+use Rattle.node_state.specs.Settings.{is_rings}
+use Rattle.node_state.specs.State.{AllAfter, InNameOrder, row_of, led_of, list_of, state_of, len_of, held_rows, fits_at_end, frozen, leader_of, leads_in, led_groups, others, acked_by, least_acked, with_row, with_led}
+use Rattle.node_state.specs.Sending.{sent, send_on, send_if_known, send_requests, send_votes_again}
+use Rattle.node_state.specs.HandOn.{Answering}
+use Rattle.node_state.specs.Leading.{appended, append_if_fits, with_tally, closing_entry, closes}
+use Rattle.node_state.specs.Ticks.{ring_put, set_records, ring_taken, ring_row_of, ring_row, take_report, rings_union, report_of, send_report, rings_tick, tick_rings, is_lost, lost_told, tick_owed, late_appended, announced, ticked_in, tally_ticks, entries_sent, list_sent_again, sent_again, tick_group, tick_led}
+use Rattle.run_safety.specs.Past.{records_of}
+use Rattle.run_safety.specs.Stays.{stays}
+use Rattle.run_safety.specs.Stays as stay
+use Rattle.node_state.proofs.NameOrder.{lt_self, text_self, row_here}
+use Rattle.step_refinement.proofs.Turns.{has_turned}
 use Rattle.entry_laws.specs.late_rows.Announced.{stay_entries, entries_here}
 use Rattle.entry_laws.proofs.late_rows.At.{Turn, ticks_now, TallyIs, RowIs, Settled, late_voters, Folds, AllPlain, Plain, found, leads_row, At, at_for, at_fold, at_recorded_all, at_row_for, plain_stays}
 use Rattle.entry_laws.proofs.late_rows.Laters.{PutThen, later_appended}

@@ -2,21 +2,21 @@
 use Rattle.std.proofs.Common.{◌≡◌, ℕ, List, Option, Some, None, Bool, true, false, refl, subst}
 use Rattle.std.specs.Prelude.{◌==◌, ◌&&◌, not, max, filter, length, nat_le, nat_lt}
 use Rattle.std.proofs.lemmas.Bool.{and_parts}
-use Rattle.row_laws.specs.rsct_packet.declared.ids.ViewId.{ViewId}
-use Rattle.row_laws.specs.rsct_packet.declared.mask.Mask.{Mask}
-use Rattle.row_laws.specs.rsct_packet.Ids.{last_u32, same_view, is_member}
-use Rattle.row_laws.specs.rsct_packet.Mask.{has_node, with_node, nodes_of}
-use Rattle.row_laws.specs.view_state.declared.answer.Answer.{Answer}
-use Rattle.row_laws.specs.view_state.declared.exchange.Exchange.{Exchange}
-use Rattle.row_laws.specs.view_state.declared.install.Part.{Part}
-use Rattle.row_laws.specs.view_state.declared.install.Install.{Install}
-use Rattle.row_laws.specs.view_state.Answers.{max_parts, opened, has_answered, may_answer, with_answer, all_answered, install_of, is_spelled}
-use Rattle.row_laws.specs.view_state.declared.packet.ViewPacket.{ViewPacket}
-use Rattle.row_laws.specs.view_state.declared.packet.ViewPacket.TheVariants as packet
-use Rattle.row_laws.specs.view_state.declared.views.RingAsk.{RingAsk}
-use Rattle.row_laws.specs.view_state.declared.views.Views.{Views}
-use Rattle.row_laws.specs.view_state.declared.views.ViewWork.{ViewWork}
-use Rattle.row_laws.specs.view_state.Views.{is_frozen, is_coordinator, others_of, view_sent, view_sent_all, gathering_set, promised, begin_install, gathered, gather_on, own_answer, ask_others, next_view, may_ask, ask_if, ask_row, answered, prepare, prepare_row, answer_to, answer_row, refused_by, refuse_to, refuse_row, installed, install_row, taken_row, aged, prepare_again, tick_asks, note_stuck, asks_or_ages, gathering_ticks, install_again_of, install_again, views_at_work}
+use Rattle.rsct_packet.specs.declared.ids.ViewId.{ViewId}
+use Rattle.rsct_packet.specs.declared.mask.Mask.{Mask}
+use Rattle.rsct_packet.specs.Ids.{last_u32, same_view, is_member}
+use Rattle.rsct_packet.specs.Mask.{has_node, with_node, nodes_of}
+use Rattle.view_state.specs.declared.answer.Answer.{Answer}
+use Rattle.view_state.specs.declared.exchange.Exchange.{Exchange}
+use Rattle.view_state.specs.declared.install.Part.{Part}
+use Rattle.view_state.specs.declared.install.Install.{Install}
+use Rattle.view_state.specs.Answers.{max_parts, opened, has_answered, may_answer, with_answer, all_answered, install_of, is_spelled}
+use Rattle.view_state.specs.declared.packet.ViewPacket.{ViewPacket}
+use Rattle.view_state.specs.declared.packet.ViewPacket.TheVariants as packet
+use Rattle.view_state.specs.declared.views.RingAsk.{RingAsk}
+use Rattle.view_state.specs.declared.views.Views.{Views}
+use Rattle.view_state.specs.declared.views.ViewWork.{ViewWork}
+use Rattle.view_state.specs.Views.{is_frozen, is_coordinator, others_of, view_sent, view_sent_all, gathering_set, promised, begin_install, gathered, gather_on, own_answer, ask_others, next_view, may_ask, ask_if, ask_row, answered, prepare, prepare_row, answer_to, answer_row, refused_by, refuse_to, refuse_row, installed, install_row, taken_row, aged, prepare_again, tick_asks, note_stuck, asks_or_ages, gathering_ticks, install_again_of, install_again, views_at_work}
 
 module _ (P : Install → Type 0) (v : Views) where
   pub record Work (w : ViewWork) : Type 0 where

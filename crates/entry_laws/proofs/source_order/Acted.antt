@@ -2,55 +2,55 @@
 use Rattle.std.proofs.Common.{◌≡◌, ℕ, List, [], ◌∷◌, Option, Some, None, Bool, true, false, refl, sym, ap, ◌∙◌, subst, inl, inr, ⊎_elim}
 use Rattle.std.specs.Prelude.{◌==◌, not, filter, fold}
 use Rattle.std.proofs.lemmas.Bool.{eqb-true}
-use Rattle.row_laws.specs.rsct_packet.declared.ids.ViewId.{ViewId}
-use Rattle.row_laws.specs.rsct_packet.declared.ids.ProviderId.{ProviderId}
-use Rattle.row_laws.specs.rsct_packet.declared.mask.Mask.{Mask}
-use Rattle.row_laws.specs.rsct_packet.Mask.{nodes_of}
-use Rattle.row_laws.specs.rsct_packet.Search.{Has}
-use Rattle.row_laws.proofs.rsct_packet_laws.HasLaws.{has_append}
-use Rattle.row_laws.specs.group_attr.declared.attrs.Phases.{Phases}
-use Rattle.row_laws.specs.proposal_core.declared.proposal.Proposal.{Proposal}
-use Rattle.row_laws.specs.adapter_ring.declared.ring.Ring.{Ring}
-use Rattle.row_laws.specs.adapter_ring.declared.ring.RingSet.{RingSet}
-use Rattle.row_laws.specs.adapter_ring.declared.packet.RingSend.{RingSend}
-use Rattle.row_laws.specs.adapter_ring.declared.packet.RingEvent.TheVariants as ring_event
-use Rattle.row_laws.specs.adapter_ring.declared.work.RingWork.{RingWork}
-use Rattle.row_laws.specs.adapter_ring.Rings.{ring_step}
-use Rattle.row_laws.specs.node_reach.Reach as reach
-use Rattle.row_laws.specs.view_state.declared.packet.ViewPacket.{ViewPacket}
-use Rattle.row_laws.specs.view_state.declared.packet.ViewPacket.TheVariants as view
-use Rattle.row_laws.specs.node_state.declared.happened.Happened.{Happened}
-use Rattle.row_laws.specs.node_state.declared.packet.Body.{Body}
-use Rattle.row_laws.specs.node_state.declared.packet.Body.TheVariants as body
-use Rattle.row_laws.specs.node_state.declared.packet.Packet.{Packet}
-use Rattle.row_laws.specs.node_state.declared.state.Core.{Core}
-use Rattle.row_laws.specs.node_state.Settings.{is_rings}
-use Rattle.row_laws.specs.node_state.State.{row_of, leader_in, leads_in, leads, recorded_all}
-use Rattle.row_laws.specs.node_state.Sending.{send_on}
-use Rattle.row_laws.specs.node_state.HandOn.{Answering}
-use Rattle.row_laws.specs.node_state.Ticks.{set_records, ring_put, ring_taken, rings_union, report_of, send_report, rings_tick, tick_rings, tick_views, tick_owed}
-use Rattle.row_laws.specs.node_state.Step.{NodeEvent, Ticks, Asks, Given, Calls, Garbage, take_body, packet_row, at_work}
-use Rattle.row_laws.specs.run_safety.Sight.{lines_of}
-use Rattle.row_laws.specs.run_safety.Group.{kept}
-use Rattle.row_laws.specs.run_safety.Moves.{Quiet}
-use Rattle.row_laws.specs.step_refinement.Tied.{Scene, Begun, lines_now, Tied}
-use Rattle.row_laws.specs.step_refinement.Rows.{acted, Arises}
-use Rattle.row_laws.proofs.step_refinement_laws.Works.{Unseen, lines_none}
-use Rattle.row_laws.proofs.step_refinement_laws.ViewRows.{taken_is_tied, refuse_is_tied, prepare_is_tied}
-use Rattle.row_laws.proofs.step_refinement_laws.Acks.{ack_is_tied}
-use Rattle.row_laws.proofs.step_refinement_laws.Entries.{entry_is_tied}
-use Rattle.row_laws.proofs.step_refinement_laws.Tellings.{tell_is_tied}
-use Rattle.row_laws.proofs.step_refinement_laws.Named.{lookup_is_tied, name_is_tied}
-use Rattle.row_laws.proofs.step_refinement_laws.Requests.{request_is_tied}
-use Rattle.row_laws.proofs.step_refinement_laws.Votes.{vote_is_tied, gone_is_tied}
-use Rattle.row_laws.proofs.step_refinement_laws.Rings.{rings_part_tied, ring_is_tied, report_is_tied, query_is_tied, reply_is_tied}
-use Rattle.row_laws.proofs.step_refinement_laws.Installs.{install_row_tied}
-use Rattle.row_laws.proofs.step_refinement_laws.FoundingRows.{founding_answer_tied, founding_ask_tied, founding_tick_tied}
-use Rattle.row_laws.proofs.step_refinement_laws.Owed.{owed_part_tied}
-use Rattle.row_laws.proofs.step_refinement_laws.LedTicks.{led_part_tied}
-use Rattle.row_laws.proofs.step_refinement_laws.Calls.{call_is_tied}
-use Rattle.row_laws.proofs.step_refinement_laws.Appending.{sent_all_is}
-use Rattle.row_laws.proofs.step_refinement_laws.JoinsFirst.{joins_first}
+use Rattle.rsct_packet.specs.declared.ids.ViewId.{ViewId}
+use Rattle.rsct_packet.specs.declared.ids.ProviderId.{ProviderId}
+use Rattle.rsct_packet.specs.declared.mask.Mask.{Mask}
+use Rattle.rsct_packet.specs.Mask.{nodes_of}
+use Rattle.rsct_packet.specs.Search.{Has}
+use Rattle.rsct_packet.proofs.HasLaws.{has_append}
+use Rattle.group_attr.specs.declared.attrs.Phases.{Phases}
+use Rattle.proposal_core.specs.declared.proposal.Proposal.{Proposal}
+use Rattle.adapter_ring.specs.declared.ring.Ring.{Ring}
+use Rattle.adapter_ring.specs.declared.ring.RingSet.{RingSet}
+use Rattle.adapter_ring.specs.declared.packet.RingSend.{RingSend}
+use Rattle.adapter_ring.specs.declared.packet.RingEvent.TheVariants as ring_event
+use Rattle.adapter_ring.specs.declared.work.RingWork.{RingWork}
+use Rattle.adapter_ring.specs.Rings.{ring_step}
+use Rattle.node_reach.specs.Reach as reach
+use Rattle.view_state.specs.declared.packet.ViewPacket.{ViewPacket}
+use Rattle.view_state.specs.declared.packet.ViewPacket.TheVariants as view
+use Rattle.node_state.specs.declared.happened.Happened.{Happened}
+use Rattle.node_state.specs.declared.packet.Body.{Body}
+use Rattle.node_state.specs.declared.packet.Body.TheVariants as body
+use Rattle.node_state.specs.declared.packet.Packet.{Packet}
+use Rattle.node_state.specs.declared.state.Core.{Core}
+use Rattle.node_state.specs.Settings.{is_rings}
+use Rattle.node_state.specs.State.{row_of, leader_in, leads_in, leads, recorded_all}
+use Rattle.node_state.specs.Sending.{send_on}
+use Rattle.node_state.specs.HandOn.{Answering}
+use Rattle.node_state.specs.Ticks.{set_records, ring_put, ring_taken, rings_union, report_of, send_report, rings_tick, tick_rings, tick_views, tick_owed}
+use Rattle.node_state.specs.Step.{NodeEvent, Ticks, Asks, Given, Calls, Garbage, take_body, packet_row, at_work}
+use Rattle.run_safety.specs.Sight.{lines_of}
+use Rattle.run_safety.specs.Group.{kept}
+use Rattle.run_safety.specs.Moves.{Quiet}
+use Rattle.step_refinement.specs.Tied.{Scene, Begun, lines_now, Tied}
+use Rattle.step_refinement.specs.Rows.{acted, Arises}
+use Rattle.step_refinement.proofs.Works.{Unseen, lines_none}
+use Rattle.step_refinement.proofs.ViewRows.{taken_is_tied, refuse_is_tied, prepare_is_tied}
+use Rattle.step_refinement.proofs.Acks.{ack_is_tied}
+use Rattle.step_refinement.proofs.Entries.{entry_is_tied}
+use Rattle.step_refinement.proofs.Tellings.{tell_is_tied}
+use Rattle.step_refinement.proofs.Named.{lookup_is_tied, name_is_tied}
+use Rattle.step_refinement.proofs.Requests.{request_is_tied}
+use Rattle.step_refinement.proofs.Votes.{vote_is_tied, gone_is_tied}
+use Rattle.step_refinement.proofs.Rings.{rings_part_tied, ring_is_tied, report_is_tied, query_is_tied, reply_is_tied}
+use Rattle.step_refinement.proofs.Installs.{install_row_tied}
+use Rattle.step_refinement.proofs.FoundingRows.{founding_answer_tied, founding_ask_tied, founding_tick_tied}
+use Rattle.step_refinement.proofs.Owed.{owed_part_tied}
+use Rattle.step_refinement.proofs.LedTicks.{led_part_tied}
+use Rattle.step_refinement.proofs.Calls.{call_is_tied}
+use Rattle.step_refinement.proofs.Appending.{sent_all_is}
+use Rattle.step_refinement.proofs.JoinsFirst.{joins_first}
 
 -- ---- rings are no group's
 

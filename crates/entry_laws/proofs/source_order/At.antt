@@ -3,24 +3,24 @@
 use Rattle.std.proofs.Common.{◌≡◌, ◌⊎◌, ℕ, ◌+◌, List, [], ◌∷◌, ◌++◌, length, take, Option, Some, refl, sym, ap, ◌∙◌, subst, inl, inr, append_assoc, append-nil, length-append, arith}
 use Rattle.std.specs.Prelude.{fold, reverse, if◌then◌else◌}
 use Rattle.std.proofs.lemmas.List.{reverse-append}
-use Rattle.row_laws.specs.rsct_packet.declared.ids.ViewId.{ViewId}
-use Rattle.row_laws.specs.rsct_packet.Search.{Has}
-use Rattle.row_laws.specs.proposal_core.declared.proposal.Proposal.{Proposal}
-use Rattle.row_laws.specs.proposal_core.declared.proposal.Proposal.TheVariants.{Join, Leave, Fail, Expel, State, Message, Attributes, Reflect}
-use Rattle.row_laws.specs.proposal_core.declared.entry.Entry.{Entry}
-use Rattle.row_laws.specs.proposal_core.declared.group_state.GroupState.{GroupState}
-use Rattle.row_laws.specs.proposal_core.Fold.{after}
-use Rattle.row_laws.specs.proposal_core.GroupView.{GroupView}
-use Rattle.row_laws.specs.proposal_core.Lists.{list_or_new, state_in, len_in, with_entry}
-use Rattle.row_laws.specs.view_state.declared.views.Views.{Views}
-use Rattle.row_laws.specs.node_state.declared.group.GroupRow.{GroupRow}
-use Rattle.row_laws.specs.node_state.declared.happened.Happened.{Happened}
-use Rattle.row_laws.specs.node_state.declared.happened.Happened.TheVariants as happened
-use Rattle.row_laws.specs.node_state.declared.state.Core.{Core}
-use Rattle.row_laws.specs.node_state.State.{InNameOrder, row_of, with_row, list_of, len_of, recorded, recorded_all}
-use Rattle.row_laws.specs.node_state.Leading.{put}
-use Rattle.row_laws.specs.run_safety.Past.{History, earlier, puts_of, base_of, fold_from, state_at}
-use Rattle.row_laws.proofs.node_state_laws.NameOrder.{KeepsName, rows_ordered}
+use Rattle.rsct_packet.specs.declared.ids.ViewId.{ViewId}
+use Rattle.rsct_packet.specs.Search.{Has}
+use Rattle.proposal_core.specs.declared.proposal.Proposal.{Proposal}
+use Rattle.proposal_core.specs.declared.proposal.Proposal.TheVariants.{Join, Leave, Fail, Expel, State, Message, Attributes, Reflect}
+use Rattle.proposal_core.specs.declared.entry.Entry.{Entry}
+use Rattle.proposal_core.specs.declared.group_state.GroupState.{GroupState}
+use Rattle.proposal_core.specs.Fold.{after}
+use Rattle.proposal_core.specs.GroupView.{GroupView}
+use Rattle.proposal_core.specs.Lists.{list_or_new, state_in, len_in, with_entry}
+use Rattle.view_state.specs.declared.views.Views.{Views}
+use Rattle.node_state.specs.declared.group.GroupRow.{GroupRow}
+use Rattle.node_state.specs.declared.happened.Happened.{Happened}
+use Rattle.node_state.specs.declared.happened.Happened.TheVariants as happened
+use Rattle.node_state.specs.declared.state.Core.{Core}
+use Rattle.node_state.specs.State.{InNameOrder, row_of, with_row, list_of, len_of, recorded, recorded_all}
+use Rattle.node_state.specs.Leading.{put}
+use Rattle.run_safety.specs.Past.{History, earlier, puts_of, base_of, fold_from, state_at}
+use Rattle.node_state.proofs.NameOrder.{KeepsName, rows_ordered}
 use Rattle.entry_laws.proofs.closing_rows.At.{found, StateIs, Silent, Calm, fold_pushed, is_list_self, is_list_other, list_with}
 use Rattle.entry_laws.proofs.closing_rows.Entered.{Since}
 use Rattle.entry_laws.specs.source_order.Sources.{OfBegun, Rises, CarriesLength, BegunFirst}

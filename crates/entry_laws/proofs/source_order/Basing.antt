@@ -3,26 +3,26 @@
 use Rattle.std.proofs.Common.{◌≡◌, ◌⊎◌, ◌≤◌, ◌<◌, ℕ, zero, suc, List, ◌++◌, length, take, Option, Some, None, Bool, true, false, refl, sym, ap, ◌∙◌, subst, inl, inr, arith, ◌+◌, length-append}
 use Rattle.std.specs.Prelude.{slice_get}
 use Rattle.std.proofs.lemmas.Bool.Decides.{nat_tests}
-use Rattle.row_laws.specs.rsct_packet.declared.ids.ViewId.{ViewId}
-use Rattle.row_laws.specs.rsct_packet.declared.ids.ProtoId.{ProtoId}
-use Rattle.row_laws.specs.rsct_packet.Ids.{place_lt}
-use Rattle.row_laws.specs.proposal_core.declared.proposal.Proposal.{Proposal}
-use Rattle.row_laws.specs.proposal_core.declared.entry.Entry.{Entry}
-use Rattle.row_laws.specs.proposal_core.declared.entry.Entry.TheVariants.{Once, Begin, Phase, Approve, Reject, Late}
-use Rattle.row_laws.specs.proposal_core.declared.group_state.GroupState.{GroupState}
-use Rattle.row_laws.specs.proposal_core.declared.group_state.Running.{Running}
-use Rattle.row_laws.specs.proposal_core.Fold.{empty_state, fits, begun, approve, take_rejection, reject, next_phase, advance, apply, after_if, after, replace_proposed, effect, take_value, first_value, first_attrs}
-use Rattle.row_laws.specs.run_safety.ViewOrder.{is_before, Lt}
-use Rattle.row_laws.specs.run_safety.Past.{fold_from}
-use Rattle.row_laws.specs.run_safety.Group.{Origin, Install}
-use Rattle.row_laws.specs.run_safety.Bases.{base_state, state_of_list, side_state, marked, BaseIs, Wins}
-use Rattle.row_laws.specs.run_safety.Moves.{Opening}
-use Rattle.row_laws.proofs.run_safety_laws.Order.{Earlier}
-use Rattle.row_laws.proofs.run_safety_laws.HeardLaw.{take_front}
-use Rattle.row_laws.proofs.run_safety_laws.Prefix.{IsPrefix}
-use Rattle.row_laws.proofs.run_safety_laws.Whole.{Whole}
-use Rattle.row_laws.proofs.run_safety_laws.Lives.{whole}
-use Rattle.row_laws.specs.step_refinement.Ghost.{Ghost, Lives}
+use Rattle.rsct_packet.specs.declared.ids.ViewId.{ViewId}
+use Rattle.rsct_packet.specs.declared.ids.ProtoId.{ProtoId}
+use Rattle.rsct_packet.specs.Ids.{place_lt}
+use Rattle.proposal_core.specs.declared.proposal.Proposal.{Proposal}
+use Rattle.proposal_core.specs.declared.entry.Entry.{Entry}
+use Rattle.proposal_core.specs.declared.entry.Entry.TheVariants.{Once, Begin, Phase, Approve, Reject, Late}
+use Rattle.proposal_core.specs.declared.group_state.GroupState.{GroupState}
+use Rattle.proposal_core.specs.declared.group_state.Running.{Running}
+use Rattle.proposal_core.specs.Fold.{empty_state, fits, begun, approve, take_rejection, reject, next_phase, advance, apply, after_if, after, replace_proposed, effect, take_value, first_value, first_attrs}
+use Rattle.run_safety.specs.ViewOrder.{is_before, Lt}
+use Rattle.run_safety.specs.Past.{fold_from}
+use Rattle.run_safety.specs.Group.{Origin, Install}
+use Rattle.run_safety.specs.Bases.{base_state, state_of_list, side_state, marked, BaseIs, Wins}
+use Rattle.run_safety.specs.Moves.{Opening}
+use Rattle.run_safety.proofs.Order.{Earlier}
+use Rattle.run_safety.proofs.HeardLaw.{take_front}
+use Rattle.run_safety.proofs.Prefix.{IsPrefix}
+use Rattle.run_safety.proofs.Whole.{Whole}
+use Rattle.run_safety.proofs.Lives.{whole}
+use Rattle.step_refinement.specs.Ghost.{Ghost, Lives}
 use Rattle.entry_laws.specs.source_order.Sources.{OfBegun, Rises, reflected_by}
 use Rattle.entry_laws.proofs.source_order.Climbing.{NotBehind, Ahead, attrs_place, valued_same, effect_same, rejected_same, once_same, rises_place}
 use Rattle.entry_laws.proofs.source_order.At.{take_all}

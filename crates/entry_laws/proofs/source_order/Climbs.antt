@@ -1,25 +1,25 @@
 -- Each reflection of a node's list is greater than those before it in the list.
 use Rattle.std.proofs.Common.{◌≡◌, ◌≤◌, ◌<◌, ℕ, zero, suc, ◌+◌, ◌-◌, List, [], ◌∷◌, ◌++◌, length, take, Some, true, refl, sym, ap, ◌∙◌, subst, inl, inr, arith}
 use Rattle.std.specs.Prelude.{slice_get, if◌then◌else◌}
-use Rattle.row_laws.specs.rsct_packet.declared.ids.ViewId.{ViewId}
-use Rattle.row_laws.specs.rsct_packet.declared.ids.ProtoId.{ProtoId}
-use Rattle.row_laws.specs.rsct_packet.Ids.{proto_lt}
-use Rattle.row_laws.specs.rsct_packet.Search.{Has}
-use Rattle.row_laws.proofs.rsct_packet_laws.HasLaws.{append_has_left, append_has_right}
-use Rattle.row_laws.specs.proposal_core.declared.entry.Entry.{Entry}
-use Rattle.row_laws.specs.proposal_core.declared.group_state.GroupState.{GroupState}
-use Rattle.row_laws.specs.proposal_core.declared.group_state.Running.{Running}
-use Rattle.row_laws.specs.proposal_core.Fold.{fits, after}
-use Rattle.row_laws.specs.node_state.declared.happened.Happened.{Happened}
-use Rattle.row_laws.specs.node_state.declared.happened.Happened.TheVariants as happened
-use Rattle.row_laws.specs.run_safety.Past.{History, records_of, earlier, Within, fold_from, puts_of}
-use Rattle.row_laws.specs.run_safety.Sight.{lines_at, lines_with, lines_of}
-use Rattle.row_laws.specs.run_safety.Group.{Line, Put, Based, Kept, Noted, kept}
-use Rattle.row_laws.specs.run_safety.GroupLists as lists
-use Rattle.row_laws.specs.run_safety.Bases.{Bases, base_state, state_of_list}
-use Rattle.row_laws.proofs.run_safety_laws.HeardLaw.{puts_front, get_within}
-use Rattle.row_laws.proofs.run_safety_laws.Prefix.{IsPrefix, prefix_get}
-use Rattle.row_laws.proofs.node_state_laws.NameOrder.{text_self}
+use Rattle.rsct_packet.specs.declared.ids.ViewId.{ViewId}
+use Rattle.rsct_packet.specs.declared.ids.ProtoId.{ProtoId}
+use Rattle.rsct_packet.specs.Ids.{proto_lt}
+use Rattle.rsct_packet.specs.Search.{Has}
+use Rattle.rsct_packet.proofs.HasLaws.{append_has_left, append_has_right}
+use Rattle.proposal_core.specs.declared.entry.Entry.{Entry}
+use Rattle.proposal_core.specs.declared.group_state.GroupState.{GroupState}
+use Rattle.proposal_core.specs.declared.group_state.Running.{Running}
+use Rattle.proposal_core.specs.Fold.{fits, after}
+use Rattle.node_state.specs.declared.happened.Happened.{Happened}
+use Rattle.node_state.specs.declared.happened.Happened.TheVariants as happened
+use Rattle.run_safety.specs.Past.{History, records_of, earlier, Within, fold_from, puts_of}
+use Rattle.run_safety.specs.Sight.{lines_at, lines_with, lines_of}
+use Rattle.run_safety.specs.Group.{Line, Put, Based, Kept, Noted, kept}
+use Rattle.run_safety.specs.GroupLists as lists
+use Rattle.run_safety.specs.Bases.{Bases, base_state, state_of_list}
+use Rattle.run_safety.proofs.HeardLaw.{puts_front, get_within}
+use Rattle.run_safety.proofs.Prefix.{IsPrefix, prefix_get}
+use Rattle.node_state.proofs.NameOrder.{text_self}
 use Rattle.entry_laws.proofs.closing_rows.At.{fold_pushed}
 use Rattle.entry_laws.proofs.closing_rows.Told.{Told, less_many, less_now}
 use Rattle.entry_laws.proofs.closing_rows.Lists.{puts_here}

@@ -2,21 +2,21 @@
 -- length just where it has a source, and what is first put follows from the node's sources.
 use Rattle.std.proofs.Common.{◌≡◌, ℕ, zero, suc, List, [], ◌∷◌, ◌++◌, take, Option, Some, refl, sym, subst, inl, inr, arith}
 use Rattle.std.specs.Prelude.{if◌then◌else◌}
-use Rattle.row_laws.specs.rsct_packet.declared.ids.ViewId.{ViewId}
-use Rattle.row_laws.specs.rsct_packet.Search.{Has}
-use Rattle.row_laws.specs.rsct_packet.declared.ids.ProviderId.{ProviderId}
-use Rattle.row_laws.specs.proposal_core.declared.proposal.Proposal.{Proposal}
-use Rattle.row_laws.specs.proposal_core.declared.proposal.Proposal.TheVariants.{Join, Leave, Fail, Expel, State, Message, Attributes, Reflect}
-use Rattle.row_laws.specs.proposal_core.Fold.{empty_state}
-use Rattle.row_laws.specs.proposal_core.declared.entry.Entry.{Entry}
-use Rattle.row_laws.specs.proposal_core.declared.entry.Entry.TheVariants.{Once, Begin, Phase, Approve, Reject, Late}
-use Rattle.row_laws.specs.node_state.declared.happened.Happened.{Happened}
-use Rattle.row_laws.specs.node_state.declared.happened.Happened.TheVariants as happened
-use Rattle.row_laws.specs.run_safety.Past.{History, records_of, earlier, Within, EachRecord, base_of, state_at}
-use Rattle.row_laws.specs.run_safety.Sight.{lines_at, lines_with, lines_of}
-use Rattle.row_laws.specs.run_safety.Group.{Line, Put, Kept}
-use Rattle.row_laws.specs.run_safety.Bases.{Bases, state_of_list}
-use Rattle.row_laws.proofs.node_state_laws.NameOrder.{text_self}
+use Rattle.rsct_packet.specs.declared.ids.ViewId.{ViewId}
+use Rattle.rsct_packet.specs.Search.{Has}
+use Rattle.rsct_packet.specs.declared.ids.ProviderId.{ProviderId}
+use Rattle.proposal_core.specs.declared.proposal.Proposal.{Proposal}
+use Rattle.proposal_core.specs.declared.proposal.Proposal.TheVariants.{Join, Leave, Fail, Expel, State, Message, Attributes, Reflect}
+use Rattle.proposal_core.specs.Fold.{empty_state}
+use Rattle.proposal_core.specs.declared.entry.Entry.{Entry}
+use Rattle.proposal_core.specs.declared.entry.Entry.TheVariants.{Once, Begin, Phase, Approve, Reject, Late}
+use Rattle.node_state.specs.declared.happened.Happened.{Happened}
+use Rattle.node_state.specs.declared.happened.Happened.TheVariants as happened
+use Rattle.run_safety.specs.Past.{History, records_of, earlier, Within, EachRecord, base_of, state_at}
+use Rattle.run_safety.specs.Sight.{lines_at, lines_with, lines_of}
+use Rattle.run_safety.specs.Group.{Line, Put, Kept}
+use Rattle.run_safety.specs.Bases.{Bases, state_of_list}
+use Rattle.node_state.proofs.NameOrder.{text_self}
 use Rattle.entry_laws.proofs.closing_rows.Told.{Told, less_many, less_now}
 use Rattle.entry_laws.proofs.closing_rows.Lists.{puts_here, state_before}
 use Rattle.entry_laws.specs.source_order.Sources.{HasMemberOn, JoinsOver, JoinsFrom, OfBegun, Rises, CarriesLength, BegunFirst, RecordRises, RecordCarries, RecordFirst, ReflectionsRise, JoinsCarryLengths, FirstsFollowSources}

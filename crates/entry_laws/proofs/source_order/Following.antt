@@ -2,34 +2,34 @@
 use Rattle.std.proofs.Common.{◌≡◌, ℕ, List, Option, Some, None, Bool, true, false, refl}
 use Rattle.std.specs.Prelude.{◌==◌, ◌&&◌, reverse, nat_le, nat_lt}
 use Rattle.std.specs.Option.{unwrap_or}
-use Rattle.row_laws.specs.rsct_packet.declared.ids.ProviderId.{ProviderId}
-use Rattle.row_laws.specs.rsct_packet.declared.ids.ProtoId.{ProtoId}
-use Rattle.row_laws.specs.rsct_packet.Providers.{among}
-use Rattle.row_laws.specs.rsct_packet.Search.{Has}
-use Rattle.row_laws.specs.group_attr.declared.attrs.Phases.{Phases}
-use Rattle.row_laws.specs.proposal_core.declared.proposal.Cause.TheVariants.{Gone}
-use Rattle.row_laws.specs.proposal_core.declared.proposal.Proposal.{Proposal}
-use Rattle.row_laws.specs.proposal_core.declared.entry.Entry.{Entry}
-use Rattle.row_laws.specs.proposal_core.declared.entry.Vote.{Vote}
-use Rattle.row_laws.specs.proposal_core.Fold.{runs, present}
-use Rattle.row_laws.specs.proposal_core.Lists.{len_in}
-use Rattle.row_laws.specs.batch_rules.Waiting.{add_failure, drop_join}
-use Rattle.row_laws.specs.vote_phases.Tally.{TallyView, tally_fail}
-use Rattle.row_laws.specs.name_server.Names as names
-use Rattle.row_laws.specs.client_callbacks.declared.told.Why.{Why}
-use Rattle.row_laws.specs.client_callbacks.declared.told.Why.TheVariants.{GroupsFull}
-use Rattle.row_laws.specs.session_state.declared.state.Request.{Request}
-use Rattle.row_laws.specs.node_state.declared.group.Decision.{Decision}
-use Rattle.row_laws.specs.node_state.declared.packet.Body.{Body}
-use Rattle.row_laws.specs.node_state.declared.packet.Body.TheVariants as body
-use Rattle.row_laws.specs.node_state.declared.state.Core.{Core}
-use Rattle.row_laws.specs.node_state.State.{with_led, led_of, state_of, len_of, holds, fits_at_end, forget_below, coordinates, leads, set_leader, acked_raised, decision_of}
-use Rattle.row_laws.specs.node_state.Sending.{sent, send_request}
-use Rattle.row_laws.specs.node_state.HandOn.{Answering}
-use Rattle.row_laws.specs.node_state.Leading.{put_and_hand, with_waiting, with_tally, closes}
-use Rattle.row_laws.specs.node_state.Following.{take_lookup, take_tell, requests_of, named, is_name_used, take_name, tell_again, decide_new, request_after, request_at, is_group_refused, take_request, entry_next, entry_elsewhere, take_entry, acked, take_ack, vote_cast, take_vote, tally_failed, wait_gone, marked, gone_present, gone_of, take_gone}
-use Rattle.row_laws.specs.run_safety.Past.{History}
-use Rattle.row_laws.specs.run_safety.Requests as requests
+use Rattle.rsct_packet.specs.declared.ids.ProviderId.{ProviderId}
+use Rattle.rsct_packet.specs.declared.ids.ProtoId.{ProtoId}
+use Rattle.rsct_packet.specs.Providers.{among}
+use Rattle.rsct_packet.specs.Search.{Has}
+use Rattle.group_attr.specs.declared.attrs.Phases.{Phases}
+use Rattle.proposal_core.specs.declared.proposal.Cause.TheVariants.{Gone}
+use Rattle.proposal_core.specs.declared.proposal.Proposal.{Proposal}
+use Rattle.proposal_core.specs.declared.entry.Entry.{Entry}
+use Rattle.proposal_core.specs.declared.entry.Vote.{Vote}
+use Rattle.proposal_core.specs.Fold.{runs, present}
+use Rattle.proposal_core.specs.Lists.{len_in}
+use Rattle.batch_rules.specs.Waiting.{add_failure, drop_join}
+use Rattle.vote_phases.specs.Tally.{TallyView, tally_fail}
+use Rattle.name_server.specs.Names as names
+use Rattle.client_callbacks.specs.declared.told.Why.{Why}
+use Rattle.client_callbacks.specs.declared.told.Why.TheVariants.{GroupsFull}
+use Rattle.session_state.specs.declared.state.Request.{Request}
+use Rattle.node_state.specs.declared.group.Decision.{Decision}
+use Rattle.node_state.specs.declared.packet.Body.{Body}
+use Rattle.node_state.specs.declared.packet.Body.TheVariants as body
+use Rattle.node_state.specs.declared.state.Core.{Core}
+use Rattle.node_state.specs.State.{with_led, led_of, state_of, len_of, holds, fits_at_end, forget_below, coordinates, leads, set_leader, acked_raised, decision_of}
+use Rattle.node_state.specs.Sending.{sent, send_request}
+use Rattle.node_state.specs.HandOn.{Answering}
+use Rattle.node_state.specs.Leading.{put_and_hand, with_waiting, with_tally, closes}
+use Rattle.node_state.specs.Following.{take_lookup, take_tell, requests_of, named, is_name_used, take_name, tell_again, decide_new, request_after, request_at, is_group_refused, take_request, entry_next, entry_elsewhere, take_entry, acked, take_ack, vote_cast, take_vote, tally_failed, wait_gone, marked, gone_present, gone_of, take_gone}
+use Rattle.run_safety.specs.Past.{History}
+use Rattle.run_safety.specs.Requests as requests
 use Rattle.entry_laws.proofs.closing_rows.At.{found, calm_fold}
 use Rattle.entry_laws.proofs.closing_rows.Calms.{calm_sent, request_calm}
 use Rattle.entry_laws.proofs.source_order.At.{PutFact, At, at_fold, at_calm}

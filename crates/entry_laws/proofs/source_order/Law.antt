@@ -1,28 +1,28 @@
 -- Each scene that events lead to.
 use Rattle.std.proofs.Common.{◌≡◌, ℕ, ◌+◌, List, [], ◌∷◌, Option, Some, None, take, true, refl, sym, ◌∙◌, subst, inr}
 use Rattle.std.specs.Prelude.{fold, reverse, slice_get}
-use Rattle.row_laws.specs.rsct_packet.declared.ids.ViewId.{ViewId}
-use Rattle.row_laws.specs.rsct_packet.declared.ids.Member.{Member}
-use Rattle.row_laws.specs.rsct_packet.Search.{Has}
-use Rattle.row_laws.specs.rsct_packet.Mask.{nodes_of}
-use Rattle.row_laws.specs.proposal_core.declared.entry.Entry.{Entry}
-use Rattle.row_laws.specs.node_state.declared.config.Config.{Config}
-use Rattle.row_laws.specs.node_state.declared.happened.Happened.{Happened}
-use Rattle.row_laws.specs.node_state.declared.happened.Happened.TheVariants as happened
-use Rattle.row_laws.specs.node_state.declared.state.Core.{Core}
-use Rattle.row_laws.specs.node_state.HandOn.{Answering}
-use Rattle.row_laws.specs.node_state.Step.{NodeEvent, started, stepped}
-use Rattle.row_laws.specs.world_model.declared.event.Event.{Event}
-use Rattle.row_laws.specs.proposal_core.Fold.{fits}
-use Rattle.row_laws.specs.run_safety.Past.{records_of, History, earlier, Within, EachRecord}
-use Rattle.row_laws.specs.run_safety.Sight.{lines_with, lines_of}
-use Rattle.row_laws.specs.run_safety.Bases.{Bases, state_of_list}
-use Rattle.row_laws.specs.run_safety.Group.{Put, kept}
-use Rattle.row_laws.proofs.run_safety_laws.Lives.{whole}
-use Rattle.row_laws.specs.step_refinement.Tied.{Scene, opening_of, Rests}
-use Rattle.row_laws.specs.step_refinement.Rows.{ended, nothing_yet, starts_too, Arises}
-use Rattle.row_laws.specs.step_refinement.Runs.{Reached, Nothing, AllStart, Starts, Stops, Steps, Notes}
-use Rattle.row_laws.proofs.step_refinement_laws.RunLaw.{reached_rests}
+use Rattle.rsct_packet.specs.declared.ids.ViewId.{ViewId}
+use Rattle.rsct_packet.specs.declared.ids.Member.{Member}
+use Rattle.rsct_packet.specs.Search.{Has}
+use Rattle.rsct_packet.specs.Mask.{nodes_of}
+use Rattle.proposal_core.specs.declared.entry.Entry.{Entry}
+use Rattle.node_state.specs.declared.config.Config.{Config}
+use Rattle.node_state.specs.declared.happened.Happened.{Happened}
+use Rattle.node_state.specs.declared.happened.Happened.TheVariants as happened
+use Rattle.node_state.specs.declared.state.Core.{Core}
+use Rattle.node_state.specs.HandOn.{Answering}
+use Rattle.node_state.specs.Step.{NodeEvent, started, stepped}
+use Rattle.world_model.specs.declared.event.Event.{Event}
+use Rattle.proposal_core.specs.Fold.{fits}
+use Rattle.run_safety.specs.Past.{records_of, History, earlier, Within, EachRecord}
+use Rattle.run_safety.specs.Sight.{lines_with, lines_of}
+use Rattle.run_safety.specs.Bases.{Bases, state_of_list}
+use Rattle.run_safety.specs.Group.{Put, kept}
+use Rattle.run_safety.proofs.Lives.{whole}
+use Rattle.step_refinement.specs.Tied.{Scene, opening_of, Rests}
+use Rattle.step_refinement.specs.Rows.{ended, nothing_yet, starts_too, Arises}
+use Rattle.step_refinement.specs.Runs.{Reached, Nothing, AllStart, Starts, Stops, Steps, Notes}
+use Rattle.step_refinement.proofs.RunLaw.{reached_rests}
 use Rattle.entry_laws.proofs.closing_rows.Told.{Told, told_of, less_many, within_all}
 use Rattle.entry_laws.proofs.closing_rows.Evident.{again_within, put_back}
 use Rattle.entry_laws.proofs.closing_rows.Entered.{since_within, PutsNone, note_puts_none, started_puts_none, within_nothing, with_nothing}

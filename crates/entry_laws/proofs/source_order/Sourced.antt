@@ -1,12 +1,12 @@
 -- Each join is over the source by the records of every node that has so many entries of the source's list.
 use Rattle.std.proofs.Common.{ℕ, List, sym, subst, inl, inr, arith}
-use Rattle.row_laws.specs.rsct_packet.declared.ids.ViewId.{ViewId}
-use Rattle.row_laws.specs.proposal_core.declared.proposal.Proposal.{Proposal}
-use Rattle.row_laws.specs.proposal_core.declared.proposal.Proposal.TheVariants.{Join, Leave, Fail, Expel, State, Message, Attributes, Reflect}
-use Rattle.row_laws.specs.proposal_core.declared.entry.Entry.{Entry}
-use Rattle.row_laws.specs.run_safety.Past.{History, records_of, EachRecord}
-use Rattle.row_laws.specs.run_safety.Sight.{lines_of}
-use Rattle.row_laws.specs.run_safety.Bases.{Bases}
+use Rattle.rsct_packet.specs.declared.ids.ViewId.{ViewId}
+use Rattle.proposal_core.specs.declared.proposal.Proposal.{Proposal}
+use Rattle.proposal_core.specs.declared.proposal.Proposal.TheVariants.{Join, Leave, Fail, Expel, State, Message, Attributes, Reflect}
+use Rattle.proposal_core.specs.declared.entry.Entry.{Entry}
+use Rattle.run_safety.specs.Past.{History, records_of, EachRecord}
+use Rattle.run_safety.specs.Sight.{lines_of}
+use Rattle.run_safety.specs.Bases.{Bases}
 use Rattle.entry_laws.proofs.closing_rows.Told.{Told}
 use Rattle.entry_laws.proofs.closing_rows.Lists.{puts_all}
 use Rattle.entry_laws.specs.source_order.Sources.{HasMemberOn, HasFront, OverSource, JoinsOverSources}

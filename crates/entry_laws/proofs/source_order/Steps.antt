@@ -1,26 +1,26 @@
 -- A whole step.
 use Rattle.std.proofs.Common.{◌≡◌, ℕ, List, [], Some, Bool, true, false, refl, sym, subst}
 use Rattle.std.specs.Prelude.{◌==◌}
-use Rattle.row_laws.specs.rsct_packet.declared.mask.Mask.{Mask}
-use Rattle.row_laws.specs.rsct_packet.Search.{Has}
-use Rattle.row_laws.specs.view_state.declared.packet.ViewPacket.{ViewPacket}
-use Rattle.row_laws.specs.view_state.declared.packet.ViewPacket.TheVariants as view
-use Rattle.row_laws.specs.view_state.Views.{views_at_work, ask_row, prepare_row, answer_row, refuse_row, install_row, taken_row}
-use Rattle.row_laws.specs.node_state.declared.packet.Body.{Body}
-use Rattle.row_laws.specs.node_state.declared.packet.Body.TheVariants as body
-use Rattle.row_laws.specs.node_state.declared.packet.Packet.{Packet}
-use Rattle.row_laws.specs.node_state.declared.state.Core.{Core}
-use Rattle.row_laws.specs.node_state.Settings.{is_fixed}
-use Rattle.row_laws.specs.node_state.HandOn.{Answering}
-use Rattle.row_laws.specs.node_state.Following.{take_lookup, take_name, take_request, take_tell, take_entry, take_ack, take_vote, take_gone}
-use Rattle.row_laws.specs.node_state.Applying.{own_parts, views_taken}
-use Rattle.row_laws.specs.node_state.Status.{status_text}
-use Rattle.row_laws.specs.node_state.Ticks.{tick_rings, tick_views, tick_owed, tick_row}
-use Rattle.row_laws.specs.node_state.Ending.{end_step}
-use Rattle.row_laws.specs.node_state.Step.{NodeEvent, Ticks, Asks, Given, Calls, Garbage, is_used, used_if, take_order, view_row, take_body, packet_row, event_row, stepped, at_work}
-use Rattle.row_laws.specs.step_refinement.Tied.{Scene, Begun, Rests, Tied}
-use Rattle.row_laws.specs.step_refinement.Rows.{acted, Arises}
-use Rattle.row_laws.proofs.step_refinement_laws.Begins.{begin_tied}
+use Rattle.rsct_packet.specs.declared.mask.Mask.{Mask}
+use Rattle.rsct_packet.specs.Search.{Has}
+use Rattle.view_state.specs.declared.packet.ViewPacket.{ViewPacket}
+use Rattle.view_state.specs.declared.packet.ViewPacket.TheVariants as view
+use Rattle.view_state.specs.Views.{views_at_work, ask_row, prepare_row, answer_row, refuse_row, install_row, taken_row}
+use Rattle.node_state.specs.declared.packet.Body.{Body}
+use Rattle.node_state.specs.declared.packet.Body.TheVariants as body
+use Rattle.node_state.specs.declared.packet.Packet.{Packet}
+use Rattle.node_state.specs.declared.state.Core.{Core}
+use Rattle.node_state.specs.Settings.{is_fixed}
+use Rattle.node_state.specs.HandOn.{Answering}
+use Rattle.node_state.specs.Following.{take_lookup, take_name, take_request, take_tell, take_entry, take_ack, take_vote, take_gone}
+use Rattle.node_state.specs.Applying.{own_parts, views_taken}
+use Rattle.node_state.specs.Status.{status_text}
+use Rattle.node_state.specs.Ticks.{tick_rings, tick_views, tick_owed, tick_row}
+use Rattle.node_state.specs.Ending.{end_step}
+use Rattle.node_state.specs.Step.{NodeEvent, Ticks, Asks, Given, Calls, Garbage, is_used, used_if, take_order, view_row, take_body, packet_row, event_row, stepped, at_work}
+use Rattle.step_refinement.specs.Tied.{Scene, Begun, Rests, Tied}
+use Rattle.step_refinement.specs.Rows.{acted, Arises}
+use Rattle.step_refinement.proofs.Begins.{begin_tied}
 use Rattle.entry_laws.proofs.closing_rows.Calms.{calm_on, owed_part_calm}
 use Rattle.entry_laws.proofs.source_order.At.{At, at_calm}
 use Rattle.entry_laws.proofs.source_order.Quiet.{at_tell, at_ring, at_report, at_rings_part, at_call}

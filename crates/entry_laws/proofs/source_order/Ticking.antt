@@ -1,17 +1,17 @@
 -- A tick.
 use Rattle.std.proofs.Common.{ℕ, List, Option, Some, None, Bool, true, false}
 use Rattle.std.specs.Prelude.{◌==◌, ◌&&◌, fold}
-use Rattle.row_laws.specs.proposal_core.declared.entry.Entry.TheVariants.{Late}
-use Rattle.row_laws.specs.proposal_core.declared.group_state.Running.{Running}
-use Rattle.row_laws.specs.vote_phases.Tally.{TallyView, expires, open_voters}
-use Rattle.row_laws.specs.view_state.Views.{views_at_work, gathering_ticks, install_again}
-use Rattle.row_laws.specs.node_state.declared.state.Core.{Core}
-use Rattle.row_laws.specs.node_state.State.{led_of, state_of, fits_at_end, frozen, led_groups, others}
-use Rattle.row_laws.specs.node_state.HandOn.{Answering}
-use Rattle.row_laws.specs.node_state.Leading.{with_tally}
-use Rattle.row_laws.specs.node_state.Applying.{own_parts, views_taken}
-use Rattle.row_laws.specs.node_state.Ticks.{ring_ask, tick_views, late_appended, announced, ticked_in, tally_ticks, sent_again, tick_group, tick_led}
-use Rattle.row_laws.specs.run_safety.Past.{History}
+use Rattle.proposal_core.specs.declared.entry.Entry.TheVariants.{Late}
+use Rattle.proposal_core.specs.declared.group_state.Running.{Running}
+use Rattle.vote_phases.specs.Tally.{TallyView, expires, open_voters}
+use Rattle.view_state.specs.Views.{views_at_work, gathering_ticks, install_again}
+use Rattle.node_state.specs.declared.state.Core.{Core}
+use Rattle.node_state.specs.State.{led_of, state_of, fits_at_end, frozen, led_groups, others}
+use Rattle.node_state.specs.HandOn.{Answering}
+use Rattle.node_state.specs.Leading.{with_tally}
+use Rattle.node_state.specs.Applying.{own_parts, views_taken}
+use Rattle.node_state.specs.Ticks.{ring_ask, tick_views, late_appended, announced, ticked_in, tally_ticks, sent_again, tick_group, tick_led}
+use Rattle.run_safety.specs.Past.{History}
 use Rattle.entry_laws.proofs.closing_rows.At.{calm_fold}
 use Rattle.entry_laws.proofs.closing_rows.Calms.{again_calm}
 use Rattle.entry_laws.proofs.source_order.At.{At, at_fold, at_calm}

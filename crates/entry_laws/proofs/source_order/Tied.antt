@@ -3,33 +3,33 @@
 use Rattle.std.proofs.Common.{◌≡◌, ℕ, List, ◌∷◌, length, Some, None, true, refl, sym, ap, ◌∙◌, subst, inr}
 use Rattle.std.specs.Prelude.{◌==◌, reverse, slice_get}
 use Rattle.std.proofs.lemmas.Bool.{eqb-true}
-use Rattle.row_laws.specs.rsct_packet.declared.ids.ViewId.{ViewId}
-use Rattle.row_laws.specs.rsct_packet.declared.ids.ProviderId.{ProviderId}
-use Rattle.row_laws.specs.rsct_packet.Search.{Has}
-use Rattle.row_laws.proofs.rsct_packet_laws.HasLaws.{append_has_right}
-use Rattle.row_laws.specs.group_attr.declared.attrs.Phases.{Phases}
-use Rattle.row_laws.specs.proposal_core.declared.entry.Entry.{Entry}
-use Rattle.row_laws.specs.proposal_core.declared.proposal.Proposal.{Proposal}
-use Rattle.row_laws.specs.proposal_core.Lists.{list_or_new, len_in}
-use Rattle.row_laws.specs.node_state.declared.happened.Happened.TheVariants as happened
-use Rattle.row_laws.specs.node_state.declared.packet.Body.TheVariants as body
-use Rattle.row_laws.specs.node_state.declared.packet.Packet.{Packet}
-use Rattle.row_laws.specs.node_state.declared.state.Core.{Core}
-use Rattle.row_laws.specs.node_state.State.{row_of, list_of, len_of}
-use Rattle.row_laws.specs.node_state.Step.{is_used}
-use Rattle.row_laws.specs.run_safety.Past.{History, records_of, earlier, puts_of}
-use Rattle.row_laws.specs.run_safety.Sight.{lines_of}
-use Rattle.row_laws.specs.run_safety.Group.{Origin, Put, Based, Line, Noted, kept}
-use Rattle.row_laws.specs.run_safety.Group as group
-use Rattle.row_laws.specs.run_safety.GroupLists as lists
-use Rattle.row_laws.specs.run_safety.Requests.{requests_of}
-use Rattle.row_laws.specs.run_safety.Bases.{state_of_list}
-use Rattle.row_laws.proofs.run_safety_laws.Whole.{Whole}
-use Rattle.row_laws.proofs.run_safety_laws.Lives.{whole}
-use Rattle.row_laws.specs.step_refinement.Ghost.{Ghost, Keeps}
-use Rattle.row_laws.specs.step_refinement.Tied.{ShowsBody, ShowsEntry, Scene, opening_of, NodeIs, Tied}
-use Rattle.row_laws.proofs.step_refinement_laws.Acks.{used_is}
-use Rattle.row_laws.proofs.step_refinement_laws.RowWorks.{keeps_of}
+use Rattle.rsct_packet.specs.declared.ids.ViewId.{ViewId}
+use Rattle.rsct_packet.specs.declared.ids.ProviderId.{ProviderId}
+use Rattle.rsct_packet.specs.Search.{Has}
+use Rattle.rsct_packet.proofs.HasLaws.{append_has_right}
+use Rattle.group_attr.specs.declared.attrs.Phases.{Phases}
+use Rattle.proposal_core.specs.declared.entry.Entry.{Entry}
+use Rattle.proposal_core.specs.declared.proposal.Proposal.{Proposal}
+use Rattle.proposal_core.specs.Lists.{list_or_new, len_in}
+use Rattle.node_state.specs.declared.happened.Happened.TheVariants as happened
+use Rattle.node_state.specs.declared.packet.Body.TheVariants as body
+use Rattle.node_state.specs.declared.packet.Packet.{Packet}
+use Rattle.node_state.specs.declared.state.Core.{Core}
+use Rattle.node_state.specs.State.{row_of, list_of, len_of}
+use Rattle.node_state.specs.Step.{is_used}
+use Rattle.run_safety.specs.Past.{History, records_of, earlier, puts_of}
+use Rattle.run_safety.specs.Sight.{lines_of}
+use Rattle.run_safety.specs.Group.{Origin, Put, Based, Line, Noted, kept}
+use Rattle.run_safety.specs.Group as group
+use Rattle.run_safety.specs.GroupLists as lists
+use Rattle.run_safety.specs.Requests.{requests_of}
+use Rattle.run_safety.specs.Bases.{state_of_list}
+use Rattle.run_safety.proofs.Whole.{Whole}
+use Rattle.run_safety.proofs.Lives.{whole}
+use Rattle.step_refinement.specs.Ghost.{Ghost, Keeps}
+use Rattle.step_refinement.specs.Tied.{ShowsBody, ShowsEntry, Scene, opening_of, NodeIs, Tied}
+use Rattle.step_refinement.proofs.Acks.{used_is}
+use Rattle.step_refinement.proofs.RowWorks.{keeps_of}
 use Rattle.entry_laws.proofs.closing_rows.At.{found, StateIs}
 use Rattle.entry_laws.proofs.closing_rows.Told.{Told, told_of}
 use Rattle.entry_laws.proofs.closing_rows.Lists.{puts_all, state_rest}

@@ -1,20 +1,20 @@
 -- Who is late is announced first, in views of level 2.
 use Rattle.std.specs.Prelude.{ℕ, ◌==◌, ◌≡◌, ◌⊎◌, List, [], ◌∷◌, Some, None, if◌then◌else◌}
 use Rattle.std.specs.List.{last_or}
-use Rattle.row_laws.specs.rsct_packet.declared.ids.ProviderId.{ProviderId}
-use Rattle.row_laws.specs.rsct_packet.declared.ids.Member.{Member}
-use Rattle.row_laws.specs.proposal_core.declared.entry.RowVote.{RowVote}
-use Rattle.row_laws.specs.proposal_core.declared.entry.RowVote.TheVariants as row_vote
-use Rattle.row_laws.specs.proposal_core.declared.entry.Row.{Row}
-use Rattle.row_laws.specs.proposal_core.declared.entry.Closed.{Closed}
-use Rattle.row_laws.specs.proposal_core.declared.entry.Entry.{Entry}
-use Rattle.row_laws.specs.proposal_core.declared.entry.Entry.TheVariants.{Once, Begin, Phase, Approve, Reject, Late}
-use Rattle.row_laws.specs.node_state.declared.config.Config.{Config}
-use Rattle.row_laws.specs.node_state.declared.happened.Happened.{Happened}
-use Rattle.row_laws.specs.node_state.declared.happened.Happened.TheVariants as happened
-use Rattle.row_laws.specs.node_state.Settings.{view_level}
-use Rattle.row_laws.specs.run_safety.Past.{History, earlier, EachRecord}
-use Rattle.row_laws.specs.run_safety.Stays.{Stay, stays}
+use Rattle.rsct_packet.specs.declared.ids.ProviderId.{ProviderId}
+use Rattle.rsct_packet.specs.declared.ids.Member.{Member}
+use Rattle.proposal_core.specs.declared.entry.RowVote.{RowVote}
+use Rattle.proposal_core.specs.declared.entry.RowVote.TheVariants as row_vote
+use Rattle.proposal_core.specs.declared.entry.Row.{Row}
+use Rattle.proposal_core.specs.declared.entry.Closed.{Closed}
+use Rattle.proposal_core.specs.declared.entry.Entry.{Entry}
+use Rattle.proposal_core.specs.declared.entry.Entry.TheVariants.{Once, Begin, Phase, Approve, Reject, Late}
+use Rattle.node_state.specs.declared.config.Config.{Config}
+use Rattle.node_state.specs.declared.happened.Happened.{Happened}
+use Rattle.node_state.specs.declared.happened.Happened.TheVariants as happened
+use Rattle.node_state.specs.Settings.{view_level}
+use Rattle.run_safety.specs.Past.{History, earlier, EachRecord}
+use Rattle.run_safety.specs.Stays.{Stay, stays}
 use Rattle.entry_laws.specs.late_rows.Late.{PutBefore}
 
 -- the members of the view that the node is in

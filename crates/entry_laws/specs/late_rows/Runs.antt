@@ -1,11 +1,11 @@
 -- Runs whose ticks are noted, and what holds of who is late in them.
 use Rattle.std.specs.Prelude.{ℕ, ◌≡◌}
-use Rattle.row_laws.specs.node_state.declared.config.Config.{Config}
-use Rattle.row_laws.specs.node_state.Step.{NodeEvent, Ticks}
-use Rattle.row_laws.specs.world_model.declared.event.Event.{Event}
-use Rattle.row_laws.specs.world_model.declared.event.Event.TheVariants as event
-use Rattle.row_laws.specs.step_refinement.Tied.{Scene}
-use Rattle.row_laws.specs.step_refinement.Runs.{Reached, Nothing, AllStart, Starts, Stops, Steps, Notes}
+use Rattle.node_state.specs.declared.config.Config.{Config}
+use Rattle.node_state.specs.Step.{NodeEvent, Ticks}
+use Rattle.world_model.specs.declared.event.Event.{Event}
+use Rattle.world_model.specs.declared.event.Event.TheVariants as event
+use Rattle.step_refinement.specs.Tied.{Scene}
+use Rattle.step_refinement.specs.Runs.{Reached, Nothing, AllStart, Starts, Stops, Steps, Notes}
 use Rattle.entry_laws.specs.late_rows.Late.{LateHadTime}
 use Rattle.entry_laws.specs.late_rows.Announced.{LateWereAnnounced}
 

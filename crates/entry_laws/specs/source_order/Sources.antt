@@ -1,24 +1,24 @@
 -- Source groups and target groups: what begins in a target follows from its source.
 use Rattle.std.specs.Prelude.{ℕ, ◌≡◌, ◌⊎◌, ◌≤◌, ◌<◌, IsTrue, List, length, Option, Some, None}
 use Rattle.std.specs.List.{list_any}
-use Rattle.row_laws.specs.rsct_packet.declared.ids.ViewId.{ViewId}
-use Rattle.row_laws.specs.rsct_packet.declared.ids.ProtoId.{ProtoId}
-use Rattle.row_laws.specs.rsct_packet.declared.ids.ProviderId.{ProviderId}
-use Rattle.row_laws.specs.rsct_packet.Ids.{proto_lt, place_lt}
-use Rattle.row_laws.specs.rsct_packet.Search.{Has}
-use Rattle.row_laws.specs.proposal_core.declared.proposal.Proposal.{Proposal}
-use Rattle.row_laws.specs.proposal_core.declared.proposal.Proposal.TheVariants.{Join, Reflect}
-use Rattle.row_laws.specs.proposal_core.declared.entry.Entry.{Entry}
-use Rattle.row_laws.specs.proposal_core.declared.entry.Entry.TheVariants.{Once, Begin}
-use Rattle.row_laws.specs.proposal_core.declared.group_state.GroupState.{GroupState}
-use Rattle.row_laws.specs.proposal_core.declared.group_state.Running.{Running}
-use Rattle.row_laws.specs.source_target.Due.{is_on}
-use Rattle.row_laws.specs.node_state.declared.config.Config.{Config}
-use Rattle.row_laws.specs.node_state.declared.happened.Happened.{Happened}
-use Rattle.row_laws.specs.node_state.declared.happened.Happened.TheVariants.{Base, Put}
-use Rattle.row_laws.specs.run_safety.Past.{History, records_of, earlier, EachRecord, puts_of, state_at, state_now}
-use Rattle.row_laws.specs.step_refinement.Tied.{Scene}
-use Rattle.row_laws.specs.step_refinement.Runs.{Reached}
+use Rattle.rsct_packet.specs.declared.ids.ViewId.{ViewId}
+use Rattle.rsct_packet.specs.declared.ids.ProtoId.{ProtoId}
+use Rattle.rsct_packet.specs.declared.ids.ProviderId.{ProviderId}
+use Rattle.rsct_packet.specs.Ids.{proto_lt, place_lt}
+use Rattle.rsct_packet.specs.Search.{Has}
+use Rattle.proposal_core.specs.declared.proposal.Proposal.{Proposal}
+use Rattle.proposal_core.specs.declared.proposal.Proposal.TheVariants.{Join, Reflect}
+use Rattle.proposal_core.specs.declared.entry.Entry.{Entry}
+use Rattle.proposal_core.specs.declared.entry.Entry.TheVariants.{Once, Begin}
+use Rattle.proposal_core.specs.declared.group_state.GroupState.{GroupState}
+use Rattle.proposal_core.specs.declared.group_state.Running.{Running}
+use Rattle.source_target.specs.Due.{is_on}
+use Rattle.node_state.specs.declared.config.Config.{Config}
+use Rattle.node_state.specs.declared.happened.Happened.{Happened}
+use Rattle.node_state.specs.declared.happened.Happened.TheVariants.{Base, Put}
+use Rattle.run_safety.specs.Past.{History, records_of, earlier, EachRecord, puts_of, state_at, state_now}
+use Rattle.step_refinement.specs.Tied.{Scene}
+use Rattle.step_refinement.specs.Runs.{Reached}
 
 -- what holds of the proposal that an entry begins
 abbrev pub OfBegun : (Proposal → Type 0) → Entry → Type 0

@@ -2,20 +2,20 @@
 use Rattle.std.proofs.Common.{◌≡◌, ℕ, ◌+◌, List, [], ◌∷◌, ◌++◌, Option, Some, None, Bool, true, false, refl, sym, subst, inl, inr, ⊎_elim, append-nil}
 use Rattle.std.specs.Prelude.{not, filter, length, nat_le, is_none, if◌then◌else◌}
 use Rattle.std.proofs.lemmas.Bool.{and_parts}
-use Rattle.row_laws.specs.rsct_packet.declared.ids.ProviderId.{ProviderId}
-use Rattle.row_laws.specs.rsct_packet.declared.ids.ViewId.{ViewId}
-use Rattle.row_laws.specs.rsct_packet.Providers.{among, none_among, differ}
-use Rattle.row_laws.specs.rsct_packet.Search.{Has}
-use Rattle.row_laws.proofs.rsct_packet_laws.HasLaws.{has_filter, has_append, append_has_left, append_has_right, all_has}
-use Rattle.row_laws.specs.group_attr.declared.attrs.Attrs.{Attrs}
-use Rattle.row_laws.specs.proposal_core.declared.proposal.Proposal.{Proposal}
-use Rattle.row_laws.specs.proposal_core.declared.proposal.Proposal.TheVariants.{Join, Leave, Fail, Expel, State, Message, Attributes, Reflect}
-use Rattle.row_laws.specs.proposal_core.declared.entry.Entry.{Entry}
-use Rattle.row_laws.specs.proposal_core.declared.entry.Entry.TheVariants.{Once, Begin, Phase, Approve, Reject, Late}
-use Rattle.row_laws.specs.proposal_core.declared.group_state.GroupState.{GroupState}
-use Rattle.row_laws.specs.proposal_core.declared.group_state.Running.{Running}
-use Rattle.row_laws.specs.proposal_core.Fold.{max_providers, joins_of, joiners_in, present, fallen_of, can_begin, fits, without, effect, first_value, first_attrs, take_attrs, begun, replace_proposed, take_value, approve, take_rejection, reject, advance, next_phase, apply, after_if, after}
-use Rattle.row_laws.specs.run_safety.Past.{fold_from}
+use Rattle.rsct_packet.specs.declared.ids.ProviderId.{ProviderId}
+use Rattle.rsct_packet.specs.declared.ids.ViewId.{ViewId}
+use Rattle.rsct_packet.specs.Providers.{among, none_among, differ}
+use Rattle.rsct_packet.specs.Search.{Has}
+use Rattle.rsct_packet.proofs.HasLaws.{has_filter, has_append, append_has_left, append_has_right, all_has}
+use Rattle.group_attr.specs.declared.attrs.Attrs.{Attrs}
+use Rattle.proposal_core.specs.declared.proposal.Proposal.{Proposal}
+use Rattle.proposal_core.specs.declared.proposal.Proposal.TheVariants.{Join, Leave, Fail, Expel, State, Message, Attributes, Reflect}
+use Rattle.proposal_core.specs.declared.entry.Entry.{Entry}
+use Rattle.proposal_core.specs.declared.entry.Entry.TheVariants.{Once, Begin, Phase, Approve, Reject, Late}
+use Rattle.proposal_core.specs.declared.group_state.GroupState.{GroupState}
+use Rattle.proposal_core.specs.declared.group_state.Running.{Running}
+use Rattle.proposal_core.specs.Fold.{max_providers, joins_of, joiners_in, present, fallen_of, can_begin, fits, without, effect, first_value, first_attrs, take_attrs, begun, replace_proposed, take_value, approve, take_rejection, reject, advance, next_phase, apply, after_if, after}
+use Rattle.run_safety.specs.Past.{fold_from}
 use Rattle.row_laws.proofs.hearing.Handing.{has_among}
 use Rattle.provider_laws.specs.attending.Places.{Alone, Named}
 

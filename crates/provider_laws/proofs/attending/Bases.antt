@@ -2,19 +2,19 @@
 -- were put name no joiner twice.
 use Rattle.std.proofs.Common.{◌≡◌, ◌⊎◌, ℕ, List, [], ◌∷◌, Option, Some, None, sym, ap, ◌∙◌, subst, inl, inr}
 use Rattle.std.specs.Prelude.{slice_get}
-use Rattle.row_laws.specs.rsct_packet.declared.ids.ViewId.{ViewId}
-use Rattle.row_laws.specs.rsct_packet.Search.{Has}
-use Rattle.row_laws.specs.proposal_core.declared.entry.Entry.{Entry}
-use Rattle.row_laws.specs.proposal_core.Fold.{present}
-use Rattle.row_laws.specs.run_safety.Group.{Standing, Reply, Origin, Packet, Answer, Record, Put, Line, Kept, Noted, kept}
-use Rattle.row_laws.specs.run_safety.Bases.{Bases, base_state, side_state, BaseIs}
-use Rattle.row_laws.specs.run_safety.Moves.{Leads, Opening, Collected, Life, Dawn, NextEvent, Promises, Answers, Appends, Follows, Starts, Enters, Founds, Names, Hears, Asks, Requests, Refuses, IsTold, Acknowledges, Settles}
-use Rattle.row_laws.specs.run_safety.Group as group
-use Rattle.row_laws.proofs.run_safety_laws.Order.{cases_view}
-use Rattle.row_laws.proofs.run_safety_laws.Prefix.{IsPrefix, prefix_get}
-use Rattle.row_laws.proofs.run_safety_laws.Lines.{has_entered, has_inserted, has_place}
-use Rattle.row_laws.proofs.run_safety_laws.Whole.{Whole}
-use Rattle.row_laws.proofs.run_safety_laws.Lives.{whole}
+use Rattle.rsct_packet.specs.declared.ids.ViewId.{ViewId}
+use Rattle.rsct_packet.specs.Search.{Has}
+use Rattle.proposal_core.specs.declared.entry.Entry.{Entry}
+use Rattle.proposal_core.specs.Fold.{present}
+use Rattle.run_safety.specs.Group.{Standing, Reply, Origin, Packet, Answer, Record, Put, Line, Kept, Noted, kept}
+use Rattle.run_safety.specs.Bases.{Bases, base_state, side_state, BaseIs}
+use Rattle.run_safety.specs.Moves.{Leads, Opening, Collected, Life, Dawn, NextEvent, Promises, Answers, Appends, Follows, Starts, Enters, Founds, Names, Hears, Asks, Requests, Refuses, IsTold, Acknowledges, Settles}
+use Rattle.run_safety.specs.Group as group
+use Rattle.run_safety.proofs.Order.{cases_view}
+use Rattle.run_safety.proofs.Prefix.{IsPrefix, prefix_get}
+use Rattle.run_safety.proofs.Lines.{has_entered, has_inserted, has_place}
+use Rattle.run_safety.proofs.Whole.{Whole}
+use Rattle.run_safety.proofs.Lives.{whole}
 use Rattle.provider_laws.specs.attending.Places.{Alone, Named}
 use Rattle.provider_laws.proofs.attending.Alone.{fold_alone}
 

@@ -4,34 +4,34 @@ use Rattle.std.specs.Prelude.{◌==◌, ◌&&◌, reverse, map, find, if◌then�
 use Rattle.std.specs.Option.{option_map}
 use Rattle.std.specs.Str.{bytes_eq}
 use Rattle.std.proofs.lemmas.Bool.{and_parts, eq-eqb, eqb-true}
-use Rattle.row_laws.specs.rsct_packet.declared.ids.ViewId.{ViewId}
-use Rattle.row_laws.specs.rsct_packet.declared.ids.ProviderId.{ProviderId}
-use Rattle.row_laws.specs.rsct_packet.Ids.{same_view}
-use Rattle.row_laws.specs.rsct_packet.Providers.{among}
-use Rattle.row_laws.specs.rsct_packet.Search.{Has}
-use Rattle.row_laws.proofs.rsct_packet_laws.HasLaws.{find_has}
-use Rattle.row_laws.specs.proposal_core.declared.group_state.GroupState.{GroupState}
-use Rattle.row_laws.specs.proposal_core.Fold.{empty_state, present}
-use Rattle.row_laws.specs.proposal_core.Lists.{list_or_new, state_in}
-use Rattle.row_laws.specs.session_state.declared.state.Provider.{Provider}
-use Rattle.row_laws.specs.session_state.State.{provider_of}
-use Rattle.row_laws.specs.view_state.declared.install.Install.{Install}
-use Rattle.row_laws.specs.view_state.declared.install.Base.{Base}
-use Rattle.row_laws.specs.view_state.Bases.{bases_of, base_named}
-use Rattle.row_laws.specs.view_state.Views.{views_entered}
-use Rattle.row_laws.specs.node_state.declared.group.GroupRow.{GroupRow}
-use Rattle.row_laws.specs.node_state.declared.happened.Happened.{Happened}
-use Rattle.row_laws.specs.node_state.declared.happened.Happened.TheVariants as happened
-use Rattle.row_laws.specs.node_state.declared.state.Core.{Core}
-use Rattle.row_laws.specs.node_state.State.{InNameOrder, AllAfter, row_found, row_of, list_of, state_of, len_of, held_rows, recorded_all, has_name}
-use Rattle.row_laws.specs.node_state.Applying.{level_set, base_row, base_record, view_entered, is_in_base, dissolved_if, group_dissolved, sides_dissolved}
-use Rattle.row_laws.specs.run_safety.ViewOrder.{Lt}
-use Rattle.row_laws.specs.run_safety.Past.{History, earlier}
-use Rattle.row_laws.specs.run_safety.SafeHeard.{heard_count}
-use Rattle.row_laws.specs.run_safety.Stays.{Stay, stays, with_base, part}
-use Rattle.row_laws.proofs.run_safety_laws.Order.{lt_not_same, lt_trans}
-use Rattle.row_laws.proofs.node_state_laws.NameOrder.{none_after, text_same}
-use Rattle.row_laws.proofs.step_refinement_laws.BaseOrder.{bases_ordered, row_of_base, base_noted}
+use Rattle.rsct_packet.specs.declared.ids.ViewId.{ViewId}
+use Rattle.rsct_packet.specs.declared.ids.ProviderId.{ProviderId}
+use Rattle.rsct_packet.specs.Ids.{same_view}
+use Rattle.rsct_packet.specs.Providers.{among}
+use Rattle.rsct_packet.specs.Search.{Has}
+use Rattle.rsct_packet.proofs.HasLaws.{find_has}
+use Rattle.proposal_core.specs.declared.group_state.GroupState.{GroupState}
+use Rattle.proposal_core.specs.Fold.{empty_state, present}
+use Rattle.proposal_core.specs.Lists.{list_or_new, state_in}
+use Rattle.session_state.specs.declared.state.Provider.{Provider}
+use Rattle.session_state.specs.State.{provider_of}
+use Rattle.view_state.specs.declared.install.Install.{Install}
+use Rattle.view_state.specs.declared.install.Base.{Base}
+use Rattle.view_state.specs.Bases.{bases_of, base_named}
+use Rattle.view_state.specs.Views.{views_entered}
+use Rattle.node_state.specs.declared.group.GroupRow.{GroupRow}
+use Rattle.node_state.specs.declared.happened.Happened.{Happened}
+use Rattle.node_state.specs.declared.happened.Happened.TheVariants as happened
+use Rattle.node_state.specs.declared.state.Core.{Core}
+use Rattle.node_state.specs.State.{InNameOrder, AllAfter, row_found, row_of, list_of, state_of, len_of, held_rows, recorded_all, has_name}
+use Rattle.node_state.specs.Applying.{level_set, base_row, base_record, view_entered, is_in_base, dissolved_if, group_dissolved, sides_dissolved}
+use Rattle.run_safety.specs.ViewOrder.{Lt}
+use Rattle.run_safety.specs.Past.{History, earlier}
+use Rattle.run_safety.specs.SafeHeard.{heard_count}
+use Rattle.run_safety.specs.Stays.{Stay, stays, with_base, part}
+use Rattle.run_safety.proofs.Order.{lt_not_same, lt_trans}
+use Rattle.node_state.proofs.NameOrder.{none_after, text_same}
+use Rattle.step_refinement.proofs.BaseOrder.{bases_ordered, row_of_base, base_noted}
 use Rattle.row_laws.specs.hearing.Hearing.{last_heard}
 use Rattle.row_laws.specs.hearing.Changes.{Aside, Inner}
 use Rattle.row_laws.proofs.hearing.Attending.{Stance, Before, Left, Gone, Attends, pushed, pushed_reverse}

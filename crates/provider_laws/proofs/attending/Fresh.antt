@@ -4,34 +4,34 @@ use Rattle.std.specs.Prelude.{not, ◌==◌, ◌&&◌, map, is_some, is_none, sl
 use Rattle.std.specs.Option.{option_map}
 use Rattle.std.specs.Str.{bytes_eq}
 use Rattle.std.proofs.lemmas.Bool.{eqb-true}
-use Rattle.row_laws.specs.rsct_packet.declared.ids.ViewId.{ViewId}
-use Rattle.row_laws.specs.rsct_packet.declared.ids.ProviderId.{ProviderId}
-use Rattle.row_laws.specs.rsct_packet.Providers.{among}
-use Rattle.row_laws.specs.rsct_packet.Search.{Has, place_where}
-use Rattle.row_laws.proofs.rsct_packet_laws.HasLaws.{has_append}
-use Rattle.row_laws.specs.proposal_core.declared.proposal.Proposal.{Proposal}
-use Rattle.row_laws.specs.proposal_core.declared.proposal.Proposal.TheVariants.{Join, Leave, Fail, Expel, State, Message, Attributes, Reflect}
-use Rattle.row_laws.specs.proposal_core.declared.entry.Entry.{Entry}
-use Rattle.row_laws.specs.proposal_core.declared.entry.Entry.TheVariants.{Once, Begin, Phase, Approve, Reject, Late}
-use Rattle.row_laws.specs.proposal_core.Fold.{empty_state, joins_of, present}
-use Rattle.row_laws.specs.node_state.declared.config.Config.{Config}
-use Rattle.row_laws.specs.node_state.declared.happened.Happened.{Happened}
-use Rattle.row_laws.specs.node_state.declared.happened.Happened.TheVariants as happened
-use Rattle.row_laws.specs.node_state.declared.state.Core.{Core}
-use Rattle.row_laws.specs.node_state.State.{len_of}
-use Rattle.row_laws.specs.run_safety.Past.{records_of}
-use Rattle.row_laws.specs.run_safety.Stays.{Stay, stays, with_base, with_entry, is_join_of, first_in, part}
-use Rattle.row_laws.specs.run_safety.Requests.{carried, requests_of}
-use Rattle.row_laws.specs.run_safety.Group.{Put, kept}
-use Rattle.row_laws.proofs.run_safety_laws.Order.{lt_not_same}
-use Rattle.row_laws.proofs.run_safety_laws.SightLaws.{put_seen}
-use Rattle.row_laws.proofs.run_safety_laws.Whole.{Whole}
-use Rattle.row_laws.proofs.run_safety_laws.Lives.{whole}
-use Rattle.row_laws.proofs.node_state_laws.NameOrder.{text_same}
-use Rattle.row_laws.specs.step_refinement.Ghost.{asking}
-use Rattle.row_laws.specs.step_refinement.Tied.{Scene, NodeIs, NodeIsIf, Rests, opening_of}
-use Rattle.row_laws.specs.step_refinement.Runs.{Reached}
-use Rattle.row_laws.proofs.step_refinement_laws.RunLaw.{reached_rests}
+use Rattle.rsct_packet.specs.declared.ids.ViewId.{ViewId}
+use Rattle.rsct_packet.specs.declared.ids.ProviderId.{ProviderId}
+use Rattle.rsct_packet.specs.Providers.{among}
+use Rattle.rsct_packet.specs.Search.{Has, place_where}
+use Rattle.rsct_packet.proofs.HasLaws.{has_append}
+use Rattle.proposal_core.specs.declared.proposal.Proposal.{Proposal}
+use Rattle.proposal_core.specs.declared.proposal.Proposal.TheVariants.{Join, Leave, Fail, Expel, State, Message, Attributes, Reflect}
+use Rattle.proposal_core.specs.declared.entry.Entry.{Entry}
+use Rattle.proposal_core.specs.declared.entry.Entry.TheVariants.{Once, Begin, Phase, Approve, Reject, Late}
+use Rattle.proposal_core.specs.Fold.{empty_state, joins_of, present}
+use Rattle.node_state.specs.declared.config.Config.{Config}
+use Rattle.node_state.specs.declared.happened.Happened.{Happened}
+use Rattle.node_state.specs.declared.happened.Happened.TheVariants as happened
+use Rattle.node_state.specs.declared.state.Core.{Core}
+use Rattle.node_state.specs.State.{len_of}
+use Rattle.run_safety.specs.Past.{records_of}
+use Rattle.run_safety.specs.Stays.{Stay, stays, with_base, with_entry, is_join_of, first_in, part}
+use Rattle.run_safety.specs.Requests.{carried, requests_of}
+use Rattle.run_safety.specs.Group.{Put, kept}
+use Rattle.run_safety.proofs.Order.{lt_not_same}
+use Rattle.run_safety.proofs.SightLaws.{put_seen}
+use Rattle.run_safety.proofs.Whole.{Whole}
+use Rattle.run_safety.proofs.Lives.{whole}
+use Rattle.node_state.proofs.NameOrder.{text_same}
+use Rattle.step_refinement.specs.Ghost.{asking}
+use Rattle.step_refinement.specs.Tied.{Scene, NodeIs, NodeIsIf, Rests, opening_of}
+use Rattle.step_refinement.specs.Runs.{Reached}
+use Rattle.step_refinement.proofs.RunLaw.{reached_rests}
 use Rattle.row_laws.specs.hearing.Hearing.{last_heard}
 use Rattle.row_laws.proofs.hearing.Handing.{among_is}
 use Rattle.row_laws.proofs.hearing.Attending.{Stance, Before, Left, Gone, Attends}

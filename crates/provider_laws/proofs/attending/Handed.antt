@@ -2,29 +2,29 @@
 use Rattle.std.proofs.Common.{◌≡◌, ◌≤◌, ◌⊎◌, ℕ, ◌+◌, List, [], ◌∷◌, length, Option, Some, None, Bool, true, false, refl, sym, ap, ◌∙◌, subst, inl, inr, ⊎_elim, arith}
 use Rattle.std.specs.Prelude.{not, flat_map, IsTrue, if◌then◌else◌}
 use Rattle.std.proofs.lemmas.Bool.{eq-eqb}
-use Rattle.row_laws.specs.rsct_packet.declared.ids.ViewId.{ViewId}
-use Rattle.row_laws.specs.rsct_packet.declared.ids.ProviderId.{ProviderId}
-use Rattle.row_laws.specs.rsct_packet.declared.ids.ProtoId.{ProtoId}
-use Rattle.row_laws.specs.rsct_packet.Providers.{among}
-use Rattle.row_laws.specs.rsct_packet.Search.{Has}
-use Rattle.row_laws.specs.proposal_core.declared.entry.Entry.{Entry}
-use Rattle.row_laws.specs.proposal_core.declared.group_state.GroupState.{GroupState}
-use Rattle.row_laws.specs.proposal_core.Fold.{after, present}
-use Rattle.row_laws.specs.client_callbacks.declared.ballot.Filled.{Filled}
-use Rattle.row_laws.specs.client_callbacks.Ballots.{BallotView}
-use Rattle.row_laws.specs.session_state.declared.casts.Cast.{Cast}
-use Rattle.row_laws.specs.session_state.declared.state.Provider.{Provider}
-use Rattle.row_laws.specs.session_state.declared.state.SessionState.{SessionState}
-use Rattle.row_laws.specs.session_state.State.{provider_of}
-use Rattle.row_laws.specs.session_state.HandOn.{beginners, hearers, casts_of, handed_on}
-use Rattle.row_laws.specs.node_state.declared.happened.Happened.{Happened}
-use Rattle.row_laws.specs.node_state.declared.happened.Happened.TheVariants as happened
-use Rattle.row_laws.specs.node_state.HandOn.{cast_record, cast_records}
-use Rattle.row_laws.specs.run_safety.Past.{History, Within, earlier, fold_from}
-use Rattle.row_laws.specs.run_safety.SafeHeard.{heard_count, is_after, InOrder}
-use Rattle.row_laws.specs.run_safety.Stays.{Stay, stays, is_join_of, part, takes_part}
-use Rattle.row_laws.proofs.node_state_laws.NameOrder.{cases_text}
-use Rattle.row_laws.proofs.step_refinement_laws.SessionLaws.{cast_has}
+use Rattle.rsct_packet.specs.declared.ids.ViewId.{ViewId}
+use Rattle.rsct_packet.specs.declared.ids.ProviderId.{ProviderId}
+use Rattle.rsct_packet.specs.declared.ids.ProtoId.{ProtoId}
+use Rattle.rsct_packet.specs.Providers.{among}
+use Rattle.rsct_packet.specs.Search.{Has}
+use Rattle.proposal_core.specs.declared.entry.Entry.{Entry}
+use Rattle.proposal_core.specs.declared.group_state.GroupState.{GroupState}
+use Rattle.proposal_core.specs.Fold.{after, present}
+use Rattle.client_callbacks.specs.declared.ballot.Filled.{Filled}
+use Rattle.client_callbacks.specs.Ballots.{BallotView}
+use Rattle.session_state.specs.declared.casts.Cast.{Cast}
+use Rattle.session_state.specs.declared.state.Provider.{Provider}
+use Rattle.session_state.specs.declared.state.SessionState.{SessionState}
+use Rattle.session_state.specs.State.{provider_of}
+use Rattle.session_state.specs.HandOn.{beginners, hearers, casts_of, handed_on}
+use Rattle.node_state.specs.declared.happened.Happened.{Happened}
+use Rattle.node_state.specs.declared.happened.Happened.TheVariants as happened
+use Rattle.node_state.specs.HandOn.{cast_record, cast_records}
+use Rattle.run_safety.specs.Past.{History, Within, earlier, fold_from}
+use Rattle.run_safety.specs.SafeHeard.{heard_count, is_after, InOrder}
+use Rattle.run_safety.specs.Stays.{Stay, stays, is_join_of, part, takes_part}
+use Rattle.node_state.proofs.NameOrder.{cases_text}
+use Rattle.step_refinement.proofs.SessionLaws.{cast_has}
 use Rattle.row_laws.proofs.hearing.Handing.{Kept, has_among, handed_kept, handed_begun, handed_present, hearer_found, present_hears, new_hears}
 use Rattle.row_laws.proofs.hearing.Attending.{pushed, pushed_append, heard_at, has_cast}
 use Rattle.provider_laws.proofs.attending.Parts.{pushed_stay, part_goes, part_joins, part_waits, takes_at}

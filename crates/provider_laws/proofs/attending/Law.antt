@@ -2,23 +2,23 @@
 use Rattle.std.proofs.Common.{◌≡◌, ℕ, ◌+◌, List, [], ◌∷◌, ◌++◌, Option, Some, None, refl, sym, ap, ◌∙◌, subst, inl, inr, append-nil, arith}
 use Rattle.std.specs.Prelude.{reverse, fold}
 use Rattle.std.proofs.lemmas.List.{reverse-append}
-use Rattle.row_laws.specs.rsct_packet.Search.{Has}
-use Rattle.row_laws.specs.rsct_packet.Mask.{nodes_of}
-use Rattle.row_laws.proofs.rsct_packet_laws.HasLaws.{append_has_left}
-use Rattle.row_laws.specs.node_state.declared.config.Config.{Config}
-use Rattle.row_laws.specs.node_state.declared.happened.Happened.{Happened}
-use Rattle.row_laws.specs.node_state.declared.happened.Happened.TheVariants as happened
-use Rattle.row_laws.specs.node_state.declared.state.Core.{Core}
-use Rattle.row_laws.specs.node_state.State.{list_of, state_of, len_of, row_of}
-use Rattle.row_laws.specs.node_state.HandOn.{Answering}
-use Rattle.row_laws.specs.node_state.Step.{NodeEvent, at_work, started, stepped}
-use Rattle.row_laws.specs.world_model.declared.event.Event.{Event}
-use Rattle.row_laws.specs.run_safety.Past.{History, Within, records_of, inc_now}
-use Rattle.row_laws.specs.step_refinement.Tied.{Scene}
-use Rattle.row_laws.specs.step_refinement.Rows.{ended, nothing_yet, with_records, starts_too, Arises}
-use Rattle.row_laws.specs.step_refinement.Runs.{Reached, Nothing, AllStart, Starts, Stops, Steps, Notes}
-use Rattle.row_laws.proofs.step_refinement_laws.RunLaw.{reached_rests}
-use Rattle.row_laws.proofs.step_refinement_laws.Turns.{has_turned}
+use Rattle.rsct_packet.specs.Search.{Has}
+use Rattle.rsct_packet.specs.Mask.{nodes_of}
+use Rattle.rsct_packet.proofs.HasLaws.{append_has_left}
+use Rattle.node_state.specs.declared.config.Config.{Config}
+use Rattle.node_state.specs.declared.happened.Happened.{Happened}
+use Rattle.node_state.specs.declared.happened.Happened.TheVariants as happened
+use Rattle.node_state.specs.declared.state.Core.{Core}
+use Rattle.node_state.specs.State.{list_of, state_of, len_of, row_of}
+use Rattle.node_state.specs.HandOn.{Answering}
+use Rattle.node_state.specs.Step.{NodeEvent, at_work, started, stepped}
+use Rattle.world_model.specs.declared.event.Event.{Event}
+use Rattle.run_safety.specs.Past.{History, Within, records_of, inc_now}
+use Rattle.step_refinement.specs.Tied.{Scene}
+use Rattle.step_refinement.specs.Rows.{ended, nothing_yet, with_records, starts_too, Arises}
+use Rattle.step_refinement.specs.Runs.{Reached, Nothing, AllStart, Starts, Stops, Steps, Notes}
+use Rattle.step_refinement.proofs.RunLaw.{reached_rests}
+use Rattle.step_refinement.proofs.Turns.{has_turned}
 use Rattle.row_laws.specs.hearing.Changes.{Aside}
 use Rattle.row_laws.proofs.hearing.Listening.{Rested, start_asides, note_aside, reached_attends, steps_change}
 use Rattle.row_laws.proofs.hearing.Incarnations.{incs_of}

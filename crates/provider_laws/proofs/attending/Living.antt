@@ -5,42 +5,42 @@ use Rattle.std.specs.Prelude.{not, ◌==◌, ◌&&◌, reverse, filter, if◌the
 use Rattle.std.specs.Str.{bytes_eq}
 use Rattle.std.proofs.lemmas.Bool.{and_parts, eq-eqb, eqb-true}
 use Rattle.std.proofs.lemmas.Bool.Decides.{nat_tests}
-use Rattle.row_laws.specs.rsct_packet.declared.ids.ViewId.{ViewId}
-use Rattle.row_laws.specs.rsct_packet.declared.ids.Member.{Member}
-use Rattle.row_laws.specs.rsct_packet.declared.ids.ProviderId.{ProviderId}
-use Rattle.row_laws.specs.rsct_packet.Ids.{same_view}
-use Rattle.row_laws.specs.rsct_packet.Providers.{among}
-use Rattle.row_laws.specs.rsct_packet.Search.{Has}
-use Rattle.row_laws.proofs.rsct_packet_laws.HasLaws.{has_append, append_has_left, append_has_right, has_filter, filter_has, has_map}
-use Rattle.row_laws.specs.proposal_core.declared.entry.Entry.{Entry}
-use Rattle.row_laws.specs.proposal_core.declared.group_state.GroupState.{GroupState}
-use Rattle.row_laws.specs.proposal_core.Fold.{present}
-use Rattle.row_laws.specs.node_state.declared.config.Config.{Config}
-use Rattle.row_laws.specs.node_state.declared.happened.Happened.{Happened}
-use Rattle.row_laws.specs.node_state.declared.happened.Happened.TheVariants as happened
-use Rattle.row_laws.specs.node_state.declared.state.Core.{Core}
-use Rattle.row_laws.specs.node_state.HandOn.{Answering}
-use Rattle.row_laws.specs.node_state.Step.{NodeEvent, at_work, stepped}
-use Rattle.row_laws.specs.world_model.declared.event.Event.{Event}
-use Rattle.row_laws.specs.run_safety.ViewOrder.{is_same, Lt, Le}
-use Rattle.row_laws.specs.run_safety.Past.{History, earlier, view_now}
-use Rattle.row_laws.specs.run_safety.Group.{member, Reply, members_of, Origin, Answer, Install, Record, In, Line, Kept, Noted, Based, kept}
-use Rattle.row_laws.specs.run_safety.Group as group
-use Rattle.row_laws.specs.run_safety.GroupLists.{WasIn, From}
-use Rattle.row_laws.specs.run_safety.Bases.{is_live, marked, side_state, BaseIs, Wins}
-use Rattle.row_laws.specs.run_safety.Moves.{Opening, Alone, Together, Born}
-use Rattle.row_laws.specs.run_safety.Sight.{inc_in, lines_at, lines_with, lines_of}
-use Rattle.row_laws.proofs.run_safety_laws.Order.{lt_not_same, le_antisym}
-use Rattle.row_laws.proofs.run_safety_laws.Parts.{member_parts, Entered}
-use Rattle.row_laws.proofs.run_safety_laws.Tests.{any_has, has_any}
-use Rattle.row_laws.proofs.run_safety_laws.Whole.{Whole}
-use Rattle.row_laws.proofs.run_safety_laws.Lives.{whole}
-use Rattle.row_laws.specs.step_refinement.Tied.{Scene, NodeIs, NodeIsIf, Rests, opening_of}
-use Rattle.row_laws.specs.step_refinement.Rows.{ended, Arises}
-use Rattle.row_laws.specs.step_refinement.Runs.{Reached, Steps}
-use Rattle.row_laws.proofs.step_refinement_laws.Changed.{set_here}
-use Rattle.row_laws.proofs.step_refinement_laws.RunLaw.{reached_rests}
-use Rattle.row_laws.proofs.step_refinement_laws.Turns.{has_turned}
+use Rattle.rsct_packet.specs.declared.ids.ViewId.{ViewId}
+use Rattle.rsct_packet.specs.declared.ids.Member.{Member}
+use Rattle.rsct_packet.specs.declared.ids.ProviderId.{ProviderId}
+use Rattle.rsct_packet.specs.Ids.{same_view}
+use Rattle.rsct_packet.specs.Providers.{among}
+use Rattle.rsct_packet.specs.Search.{Has}
+use Rattle.rsct_packet.proofs.HasLaws.{has_append, append_has_left, append_has_right, has_filter, filter_has, has_map}
+use Rattle.proposal_core.specs.declared.entry.Entry.{Entry}
+use Rattle.proposal_core.specs.declared.group_state.GroupState.{GroupState}
+use Rattle.proposal_core.specs.Fold.{present}
+use Rattle.node_state.specs.declared.config.Config.{Config}
+use Rattle.node_state.specs.declared.happened.Happened.{Happened}
+use Rattle.node_state.specs.declared.happened.Happened.TheVariants as happened
+use Rattle.node_state.specs.declared.state.Core.{Core}
+use Rattle.node_state.specs.HandOn.{Answering}
+use Rattle.node_state.specs.Step.{NodeEvent, at_work, stepped}
+use Rattle.world_model.specs.declared.event.Event.{Event}
+use Rattle.run_safety.specs.ViewOrder.{is_same, Lt, Le}
+use Rattle.run_safety.specs.Past.{History, earlier, view_now}
+use Rattle.run_safety.specs.Group.{member, Reply, members_of, Origin, Answer, Install, Record, In, Line, Kept, Noted, Based, kept}
+use Rattle.run_safety.specs.Group as group
+use Rattle.run_safety.specs.GroupLists.{WasIn, From}
+use Rattle.run_safety.specs.Bases.{is_live, marked, side_state, BaseIs, Wins}
+use Rattle.run_safety.specs.Moves.{Opening, Alone, Together, Born}
+use Rattle.run_safety.specs.Sight.{inc_in, lines_at, lines_with, lines_of}
+use Rattle.run_safety.proofs.Order.{lt_not_same, le_antisym}
+use Rattle.run_safety.proofs.Parts.{member_parts, Entered}
+use Rattle.run_safety.proofs.Tests.{any_has, has_any}
+use Rattle.run_safety.proofs.Whole.{Whole}
+use Rattle.run_safety.proofs.Lives.{whole}
+use Rattle.step_refinement.specs.Tied.{Scene, NodeIs, NodeIsIf, Rests, opening_of}
+use Rattle.step_refinement.specs.Rows.{ended, Arises}
+use Rattle.step_refinement.specs.Runs.{Reached, Steps}
+use Rattle.step_refinement.proofs.Changed.{set_here}
+use Rattle.step_refinement.proofs.RunLaw.{reached_rests}
+use Rattle.step_refinement.proofs.Turns.{has_turned}
 use Rattle.row_laws.proofs.hearing.Handing.{among_is, has_among}
 use Rattle.row_laws.proofs.hearing.Listening.{reverse_has, steps_change}
 use Rattle.provider_laws.proofs.attending.Bases.{kept_line}

@@ -3,31 +3,31 @@ use Rattle.std.proofs.Common.{◌≡◌, ◌≢◌, ℕ, ◌+◌, List, [], ◌�
 use Rattle.std.specs.Prelude.{◌==◌, reverse, map, fold, if◌then◌else◌}
 use Rattle.std.proofs.lemmas.Bool.{eqb-true, eq-eqb}
 use Rattle.std.proofs.lemmas.List.{reverse-append}
-use Rattle.row_laws.specs.rsct_packet.declared.ids.ViewId.{ViewId}
-use Rattle.row_laws.specs.rsct_packet.declared.ids.ProviderId.{ProviderId}
-use Rattle.row_laws.specs.rsct_packet.Search.{Has}
-use Rattle.row_laws.specs.rsct_packet.Mask.{nodes_of}
-use Rattle.row_laws.proofs.rsct_packet_laws.HasLaws.{has_map}
-use Rattle.row_laws.specs.proposal_core.Fold.{empty_state}
-use Rattle.row_laws.specs.session_state.declared.state.Provider.{Provider}
-use Rattle.row_laws.specs.session_state.State.{provider_of}
-use Rattle.row_laws.specs.node_state.declared.config.Config.{Config}
-use Rattle.row_laws.specs.node_state.declared.happened.Happened.{Happened}
-use Rattle.row_laws.specs.node_state.declared.happened.Happened.TheVariants as happened
-use Rattle.row_laws.specs.node_state.declared.state.Core.{Core}
-use Rattle.row_laws.specs.node_state.State.{list_of, state_of, len_of, row_of, with_sessions}
-use Rattle.row_laws.specs.node_state.HandOn.{Answering}
-use Rattle.row_laws.specs.node_state.Applying.{level_set}
-use Rattle.row_laws.specs.node_state.Step.{NodeEvent, at_work, started, stepped, first_view, first_members, own_rings, ring_record}
-use Rattle.row_laws.specs.view_state.Views.{views_new}
-use Rattle.row_laws.specs.world_model.declared.event.Event.{Event}
-use Rattle.row_laws.specs.run_safety.Past.{History, EachRecord, Within, records_of}
-use Rattle.row_laws.specs.run_safety.SafeHeard.{heard_count}
-use Rattle.row_laws.specs.run_safety.Stays.{Stay, stays, part}
-use Rattle.row_laws.specs.step_refinement.Tied.{Scene}
-use Rattle.row_laws.specs.step_refinement.Rows.{at_node, nothing_yet, with_records, starts_too, Arises}
-use Rattle.row_laws.specs.step_refinement.Runs.{IsNote, Reached, Nothing, AllStart, Starts, Stops, Steps, Notes}
-use Rattle.row_laws.proofs.step_refinement_laws.Changed.{each_set}
+use Rattle.rsct_packet.specs.declared.ids.ViewId.{ViewId}
+use Rattle.rsct_packet.specs.declared.ids.ProviderId.{ProviderId}
+use Rattle.rsct_packet.specs.Search.{Has}
+use Rattle.rsct_packet.specs.Mask.{nodes_of}
+use Rattle.rsct_packet.proofs.HasLaws.{has_map}
+use Rattle.proposal_core.specs.Fold.{empty_state}
+use Rattle.session_state.specs.declared.state.Provider.{Provider}
+use Rattle.session_state.specs.State.{provider_of}
+use Rattle.node_state.specs.declared.config.Config.{Config}
+use Rattle.node_state.specs.declared.happened.Happened.{Happened}
+use Rattle.node_state.specs.declared.happened.Happened.TheVariants as happened
+use Rattle.node_state.specs.declared.state.Core.{Core}
+use Rattle.node_state.specs.State.{list_of, state_of, len_of, row_of, with_sessions}
+use Rattle.node_state.specs.HandOn.{Answering}
+use Rattle.node_state.specs.Applying.{level_set}
+use Rattle.node_state.specs.Step.{NodeEvent, at_work, started, stepped, first_view, first_members, own_rings, ring_record}
+use Rattle.view_state.specs.Views.{views_new}
+use Rattle.world_model.specs.declared.event.Event.{Event}
+use Rattle.run_safety.specs.Past.{History, EachRecord, Within, records_of}
+use Rattle.run_safety.specs.SafeHeard.{heard_count}
+use Rattle.run_safety.specs.Stays.{Stay, stays, part}
+use Rattle.step_refinement.specs.Tied.{Scene}
+use Rattle.step_refinement.specs.Rows.{at_node, nothing_yet, with_records, starts_too, Arises}
+use Rattle.step_refinement.specs.Runs.{IsNote, Reached, Nothing, AllStart, Starts, Stops, Steps, Notes}
+use Rattle.step_refinement.proofs.Changed.{each_set}
 use Rattle.row_laws.specs.hearing.Changes.{Aside, Inner}
 use Rattle.row_laws.proofs.hearing.Listening.{reverse_has, start_asides, note_aside, steps_change}
 use Rattle.provider_laws.specs.attending.Order.{HeardInOrder}

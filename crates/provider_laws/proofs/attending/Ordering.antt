@@ -3,42 +3,42 @@ use Rattle.std.proofs.Common.{◌≡◌, ◌≢◌, ◌≤◌, ◌<◌, ◌⊎�
 use Rattle.std.specs.Prelude.{reverse, map, flat_map}
 use Rattle.std.proofs.lemmas.List.{reverse-append}
 use Rattle.std.proofs.lemmas.Bool.Decides.{nat_tests}
-use Rattle.row_laws.specs.rsct_packet.declared.ids.ViewId.{ViewId}
-use Rattle.row_laws.specs.rsct_packet.declared.ids.Member.{Member}
-use Rattle.row_laws.specs.rsct_packet.declared.ids.ProviderId.{ProviderId}
-use Rattle.row_laws.specs.rsct_packet.Ids.{same_view}
-use Rattle.row_laws.specs.rsct_packet.Providers.{among}
-use Rattle.row_laws.specs.rsct_packet.Search.{Has}
-use Rattle.row_laws.proofs.rsct_packet_laws.HasLaws.{has_append, append_has_left, append_has_right, has_map}
-use Rattle.row_laws.specs.proposal_core.declared.entry.Entry.{Entry}
-use Rattle.row_laws.specs.proposal_core.declared.group_state.GroupState.{GroupState}
-use Rattle.row_laws.specs.proposal_core.Fold.{after}
-use Rattle.row_laws.specs.proposal_core.Lists.{list_or_new, with_entry}
-use Rattle.row_laws.specs.client_callbacks.declared.ballot.Filled.{Filled}
-use Rattle.row_laws.specs.session_state.declared.casts.Cast.{Cast}
-use Rattle.row_laws.specs.session_state.declared.state.Provider.{Provider}
-use Rattle.row_laws.specs.session_state.declared.state.SessionState.{SessionState}
-use Rattle.row_laws.specs.session_state.State.{provider_of}
-use Rattle.row_laws.specs.session_state.Calls.{new_provider, join_asked, keeps}
-use Rattle.row_laws.specs.session_state.HandOn.{hearers, casts_of, casts_out, handed_on}
-use Rattle.row_laws.specs.view_state.declared.install.Install.{Install}
-use Rattle.row_laws.specs.view_state.declared.install.Base.{Base}
-use Rattle.row_laws.specs.view_state.Bases.{bases_of}
-use Rattle.row_laws.specs.view_state.Views.{views_entered}
-use Rattle.row_laws.specs.node_state.declared.group.GroupRow.{GroupRow}
-use Rattle.row_laws.specs.node_state.declared.happened.Happened.{Happened}
-use Rattle.row_laws.specs.node_state.declared.happened.Happened.TheVariants as happened
-use Rattle.row_laws.specs.node_state.declared.state.Core.{Core}
-use Rattle.row_laws.specs.node_state.State.{InNameOrder, row_of, with_row, list_of, state_of, len_of, held_rows, recorded, recorded_all, with_sessions}
-use Rattle.row_laws.specs.node_state.HandOn.{heard}
-use Rattle.row_laws.specs.node_state.Leading.{put}
-use Rattle.row_laws.specs.node_state.Applying.{base_record, view_entered, sides_dissolved}
-use Rattle.row_laws.specs.run_safety.ViewOrder.{Lt}
-use Rattle.row_laws.specs.run_safety.Past.{History, Within, earlier, records_of}
-use Rattle.row_laws.specs.run_safety.SafeHeard.{heard_count}
-use Rattle.row_laws.specs.run_safety.Stays.{Stay, stays, part}
-use Rattle.row_laws.proofs.node_state_laws.NameOrder.{row_here, row_there}
-use Rattle.row_laws.proofs.step_refinement_laws.SessionLaws.{cast_has}
+use Rattle.rsct_packet.specs.declared.ids.ViewId.{ViewId}
+use Rattle.rsct_packet.specs.declared.ids.Member.{Member}
+use Rattle.rsct_packet.specs.declared.ids.ProviderId.{ProviderId}
+use Rattle.rsct_packet.specs.Ids.{same_view}
+use Rattle.rsct_packet.specs.Providers.{among}
+use Rattle.rsct_packet.specs.Search.{Has}
+use Rattle.rsct_packet.proofs.HasLaws.{has_append, append_has_left, append_has_right, has_map}
+use Rattle.proposal_core.specs.declared.entry.Entry.{Entry}
+use Rattle.proposal_core.specs.declared.group_state.GroupState.{GroupState}
+use Rattle.proposal_core.specs.Fold.{after}
+use Rattle.proposal_core.specs.Lists.{list_or_new, with_entry}
+use Rattle.client_callbacks.specs.declared.ballot.Filled.{Filled}
+use Rattle.session_state.specs.declared.casts.Cast.{Cast}
+use Rattle.session_state.specs.declared.state.Provider.{Provider}
+use Rattle.session_state.specs.declared.state.SessionState.{SessionState}
+use Rattle.session_state.specs.State.{provider_of}
+use Rattle.session_state.specs.Calls.{new_provider, join_asked, keeps}
+use Rattle.session_state.specs.HandOn.{hearers, casts_of, casts_out, handed_on}
+use Rattle.view_state.specs.declared.install.Install.{Install}
+use Rattle.view_state.specs.declared.install.Base.{Base}
+use Rattle.view_state.specs.Bases.{bases_of}
+use Rattle.view_state.specs.Views.{views_entered}
+use Rattle.node_state.specs.declared.group.GroupRow.{GroupRow}
+use Rattle.node_state.specs.declared.happened.Happened.{Happened}
+use Rattle.node_state.specs.declared.happened.Happened.TheVariants as happened
+use Rattle.node_state.specs.declared.state.Core.{Core}
+use Rattle.node_state.specs.State.{InNameOrder, row_of, with_row, list_of, state_of, len_of, held_rows, recorded, recorded_all, with_sessions}
+use Rattle.node_state.specs.HandOn.{heard}
+use Rattle.node_state.specs.Leading.{put}
+use Rattle.node_state.specs.Applying.{base_record, view_entered, sides_dissolved}
+use Rattle.run_safety.specs.ViewOrder.{Lt}
+use Rattle.run_safety.specs.Past.{History, Within, earlier, records_of}
+use Rattle.run_safety.specs.SafeHeard.{heard_count}
+use Rattle.run_safety.specs.Stays.{Stay, stays, part}
+use Rattle.node_state.proofs.NameOrder.{row_here, row_there}
+use Rattle.step_refinement.proofs.SessionLaws.{cast_has}
 use Rattle.row_laws.specs.hearing.Changes.{Same, Aside, Inner, Unentered, handing, voting, Does, Stays, Then, Records, Hands, Loses, Joins, Votes, Enters}
 use Rattle.row_laws.proofs.hearing.Changes.{inner_aside, calm_handing}
 use Rattle.row_laws.proofs.hearing.Handing.{hearer_found}

@@ -2,33 +2,33 @@
 use Rattle.std.proofs.Common.{◌≡◌, ℕ, List, [], ◌∷◌, ◌++◌, Option, Some, None, Bool, true, false, refl, sym, subst, inl, inr, ⊎_elim}
 use Rattle.std.specs.Prelude.{if◌then◌else◌}
 use Rattle.std.specs.Str.{bytes_eq}
-use Rattle.row_laws.specs.rsct_packet.declared.ids.ViewId.{ViewId}
-use Rattle.row_laws.specs.rsct_packet.declared.ids.ProviderId.{ProviderId}
-use Rattle.row_laws.specs.rsct_packet.Search.{Has}
-use Rattle.row_laws.proofs.rsct_packet_laws.HasLaws.{has_append, append_has_right}
-use Rattle.row_laws.specs.proposal_core.declared.entry.Entry.{Entry}
-use Rattle.row_laws.specs.proposal_core.declared.entry.Entry.TheVariants.{Once, Begin, Phase, Approve, Reject, Late}
-use Rattle.row_laws.specs.proposal_core.declared.group_state.GroupState.{GroupState}
-use Rattle.row_laws.specs.proposal_core.GroupView.{GroupView}
-use Rattle.row_laws.specs.proposal_core.Fold.{joins_of, present}
-use Rattle.row_laws.specs.proposal_core.Lists.{list_or_new}
-use Rattle.row_laws.specs.node_state.declared.config.Config.{Config}
-use Rattle.row_laws.specs.node_state.declared.happened.Happened.{Happened}
-use Rattle.row_laws.specs.node_state.declared.happened.Happened.TheVariants as happened
-use Rattle.row_laws.specs.node_state.State.{row_of, list_of, state_of}
-use Rattle.row_laws.specs.run_safety.Past.{History, EachRecord, Within, earlier, records_of, view_now}
-use Rattle.row_laws.specs.run_safety.Group.{Origin, Record, Put, Line, Kept, Noted, Based}
-use Rattle.row_laws.specs.run_safety.Group as group
-use Rattle.row_laws.specs.run_safety.Bases.{base_state, state_of_list}
-use Rattle.row_laws.specs.run_safety.Sight.{told_in, lines_at, lines_with, lines_of}
-use Rattle.row_laws.proofs.run_safety_laws.Prefix.{IsPrefix}
-use Rattle.row_laws.proofs.run_safety_laws.Whole.{Whole}
-use Rattle.row_laws.proofs.run_safety_laws.Lives.{whole}
-use Rattle.row_laws.proofs.node_state_laws.NameOrder.{text_self}
-use Rattle.row_laws.specs.step_refinement.Ghost.{KeepsIf}
-use Rattle.row_laws.specs.step_refinement.Tied.{Scene, NodeIs, NodeIsIf, Rests, opening_of}
-use Rattle.row_laws.specs.step_refinement.Runs.{Reached}
-use Rattle.row_laws.proofs.step_refinement_laws.RunLaw.{reached_rests}
+use Rattle.rsct_packet.specs.declared.ids.ViewId.{ViewId}
+use Rattle.rsct_packet.specs.declared.ids.ProviderId.{ProviderId}
+use Rattle.rsct_packet.specs.Search.{Has}
+use Rattle.rsct_packet.proofs.HasLaws.{has_append, append_has_right}
+use Rattle.proposal_core.specs.declared.entry.Entry.{Entry}
+use Rattle.proposal_core.specs.declared.entry.Entry.TheVariants.{Once, Begin, Phase, Approve, Reject, Late}
+use Rattle.proposal_core.specs.declared.group_state.GroupState.{GroupState}
+use Rattle.proposal_core.specs.GroupView.{GroupView}
+use Rattle.proposal_core.specs.Fold.{joins_of, present}
+use Rattle.proposal_core.specs.Lists.{list_or_new}
+use Rattle.node_state.specs.declared.config.Config.{Config}
+use Rattle.node_state.specs.declared.happened.Happened.{Happened}
+use Rattle.node_state.specs.declared.happened.Happened.TheVariants as happened
+use Rattle.node_state.specs.State.{row_of, list_of, state_of}
+use Rattle.run_safety.specs.Past.{History, EachRecord, Within, earlier, records_of, view_now}
+use Rattle.run_safety.specs.Group.{Origin, Record, Put, Line, Kept, Noted, Based}
+use Rattle.run_safety.specs.Group as group
+use Rattle.run_safety.specs.Bases.{base_state, state_of_list}
+use Rattle.run_safety.specs.Sight.{told_in, lines_at, lines_with, lines_of}
+use Rattle.run_safety.proofs.Prefix.{IsPrefix}
+use Rattle.run_safety.proofs.Whole.{Whole}
+use Rattle.run_safety.proofs.Lives.{whole}
+use Rattle.node_state.proofs.NameOrder.{text_self}
+use Rattle.step_refinement.specs.Ghost.{KeepsIf}
+use Rattle.step_refinement.specs.Tied.{Scene, NodeIs, NodeIsIf, Rests, opening_of}
+use Rattle.step_refinement.specs.Runs.{Reached}
+use Rattle.step_refinement.proofs.RunLaw.{reached_rests}
 use Rattle.row_laws.specs.honest_votes.Casts.{RecordCast, EntryCast}
 use Rattle.row_laws.proofs.honest_votes.Law.{recorded_votes}
 use Rattle.provider_laws.specs.attending.Places.{Alone, Named, PutNamed, EntriesNameOnce, MembersStandOnce}

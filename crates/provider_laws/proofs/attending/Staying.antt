@@ -4,32 +4,32 @@ use Rattle.std.proofs.Common.{◌≡◌, ◌⊎◌, ℕ, ◌+◌, List, [], ◌�
 use Rattle.std.specs.Prelude.{not, ◌==◌, ◌&&◌, find, if◌then◌else◌}
 use Rattle.std.specs.Str.{bytes_eq}
 use Rattle.std.proofs.lemmas.Bool.Decides.{nat_tests}
-use Rattle.row_laws.specs.rsct_packet.declared.ids.ViewId.{ViewId}
-use Rattle.row_laws.specs.rsct_packet.declared.ids.ProviderId.{ProviderId}
-use Rattle.row_laws.specs.rsct_packet.Ids.{same_view}
-use Rattle.row_laws.specs.rsct_packet.Providers.{same_provider}
-use Rattle.row_laws.specs.rsct_packet.Search.{Has}
-use Rattle.row_laws.proofs.rsct_packet_laws.HasLaws.{has_filter, filter_has}
-use Rattle.row_laws.specs.group_attr.declared.attrs.Attrs.{Attrs}
-use Rattle.row_laws.specs.proposal_core.declared.entry.Entry.{Entry}
-use Rattle.row_laws.specs.proposal_core.declared.entry.Entry.TheVariants.{Once, Begin, Phase, Approve, Reject, Late}
-use Rattle.row_laws.specs.proposal_core.declared.group_state.GroupState.{GroupState}
-use Rattle.row_laws.specs.proposal_core.Fold.{after, joins_of}
-use Rattle.row_laws.specs.subscribe_core.declared.subs.ClientToken.{ClientToken}
-use Rattle.row_laws.specs.client_callbacks.declared.ballot.Filled.{Filled}
-use Rattle.row_laws.specs.session_state.declared.state.OpenPhase.{OpenPhase}
-use Rattle.row_laws.specs.session_state.declared.state.Provider.{Provider}
-use Rattle.row_laws.specs.session_state.declared.state.SessionState.{SessionState}
-use Rattle.row_laws.specs.session_state.State.{is_provider, provider_of}
-use Rattle.row_laws.specs.session_state.Calls.{new_provider, join_asked, keeps}
-use Rattle.row_laws.specs.session_state.HandOn.{hears, hearers_in, brought_by, beginners}
-use Rattle.row_laws.specs.node_state.declared.happened.Happened.{Happened}
-use Rattle.row_laws.specs.node_state.declared.happened.Happened.TheVariants as happened
-use Rattle.row_laws.specs.run_safety.Past.{fold_from}
-use Rattle.row_laws.specs.run_safety.SafeHeard.{heard_count}
-use Rattle.row_laws.specs.run_safety.Stays.{Stay, stays, is_join_of, Part, part, with_entry}
-use Rattle.row_laws.proofs.node_state_laws.NameOrder.{text_same, text_self}
-use Rattle.row_laws.proofs.step_refinement_laws.SessionLaws.{provider_same, provider_self}
+use Rattle.rsct_packet.specs.declared.ids.ViewId.{ViewId}
+use Rattle.rsct_packet.specs.declared.ids.ProviderId.{ProviderId}
+use Rattle.rsct_packet.specs.Ids.{same_view}
+use Rattle.rsct_packet.specs.Providers.{same_provider}
+use Rattle.rsct_packet.specs.Search.{Has}
+use Rattle.rsct_packet.proofs.HasLaws.{has_filter, filter_has}
+use Rattle.group_attr.specs.declared.attrs.Attrs.{Attrs}
+use Rattle.proposal_core.specs.declared.entry.Entry.{Entry}
+use Rattle.proposal_core.specs.declared.entry.Entry.TheVariants.{Once, Begin, Phase, Approve, Reject, Late}
+use Rattle.proposal_core.specs.declared.group_state.GroupState.{GroupState}
+use Rattle.proposal_core.specs.Fold.{after, joins_of}
+use Rattle.subscribe_core.specs.declared.subs.ClientToken.{ClientToken}
+use Rattle.client_callbacks.specs.declared.ballot.Filled.{Filled}
+use Rattle.session_state.specs.declared.state.OpenPhase.{OpenPhase}
+use Rattle.session_state.specs.declared.state.Provider.{Provider}
+use Rattle.session_state.specs.declared.state.SessionState.{SessionState}
+use Rattle.session_state.specs.State.{is_provider, provider_of}
+use Rattle.session_state.specs.Calls.{new_provider, join_asked, keeps}
+use Rattle.session_state.specs.HandOn.{hears, hearers_in, brought_by, beginners}
+use Rattle.node_state.specs.declared.happened.Happened.{Happened}
+use Rattle.node_state.specs.declared.happened.Happened.TheVariants as happened
+use Rattle.run_safety.specs.Past.{fold_from}
+use Rattle.run_safety.specs.SafeHeard.{heard_count}
+use Rattle.run_safety.specs.Stays.{Stay, stays, is_join_of, Part, part, with_entry}
+use Rattle.node_state.proofs.NameOrder.{text_same, text_self}
+use Rattle.step_refinement.proofs.SessionLaws.{provider_same, provider_self}
 use Rattle.row_laws.specs.hearing.Hearing.{last_heard}
 use Rattle.row_laws.specs.hearing.Changes.{Aside, Inner, Fewer}
 use Rattle.row_laws.proofs.hearing.Handing.{among_is}

@@ -3,29 +3,29 @@ use Rattle.std.proofs.Common.{◌≡◌, ◌⊎◌, ℕ, ◌+◌, List, [], ◌�
 use Rattle.std.specs.Prelude.{not, filter, flat_map}
 use Rattle.std.specs.Str.{bytes_eq}
 use Rattle.std.proofs.lemmas.Bool.{and_parts}
-use Rattle.row_laws.specs.rsct_packet.declared.ids.ViewId.{ViewId}
-use Rattle.row_laws.specs.rsct_packet.declared.ids.ProviderId.{ProviderId}
-use Rattle.row_laws.specs.rsct_packet.declared.ids.ProtoId.{ProtoId}
-use Rattle.row_laws.specs.rsct_packet.Search.{Has}
-use Rattle.row_laws.proofs.rsct_packet_laws.HasLaws.{has_filter, has_append}
-use Rattle.row_laws.specs.proposal_core.declared.entry.Entry.{Entry}
-use Rattle.row_laws.specs.proposal_core.declared.entry.Entry.TheVariants.{Once, Begin, Phase, Approve, Reject, Late}
-use Rattle.row_laws.specs.proposal_core.declared.group_state.GroupState.{GroupState}
-use Rattle.row_laws.specs.proposal_core.Fold.{joins_of, joiners_in, present}
-use Rattle.row_laws.specs.client_callbacks.declared.ballot.Filled.{Filled}
-use Rattle.row_laws.specs.client_callbacks.Ballots.{BallotView}
-use Rattle.row_laws.specs.session_state.declared.casts.Cast.{Cast}
-use Rattle.row_laws.specs.session_state.declared.state.Provider.{Provider}
-use Rattle.row_laws.specs.session_state.declared.state.SessionState.{SessionState}
-use Rattle.row_laws.specs.session_state.State.{provider_of}
-use Rattle.row_laws.specs.session_state.HandOn.{hears, hearers_in, brought_by, beginners, hearers, cast_of, casts_of}
-use Rattle.row_laws.specs.node_state.declared.happened.Happened.{Happened}
-use Rattle.row_laws.specs.node_state.declared.happened.Happened.TheVariants as happened
-use Rattle.row_laws.specs.node_state.HandOn.{cast_record, cast_records}
-use Rattle.row_laws.specs.run_safety.Past.{History, Within, earlier}
-use Rattle.row_laws.specs.run_safety.Stays.{is_join_of}
-use Rattle.row_laws.proofs.run_safety_laws.Order.{lt_not_same}
-use Rattle.row_laws.proofs.step_refinement_laws.SessionLaws.{cast_has}
+use Rattle.rsct_packet.specs.declared.ids.ViewId.{ViewId}
+use Rattle.rsct_packet.specs.declared.ids.ProviderId.{ProviderId}
+use Rattle.rsct_packet.specs.declared.ids.ProtoId.{ProtoId}
+use Rattle.rsct_packet.specs.Search.{Has}
+use Rattle.rsct_packet.proofs.HasLaws.{has_filter, has_append}
+use Rattle.proposal_core.specs.declared.entry.Entry.{Entry}
+use Rattle.proposal_core.specs.declared.entry.Entry.TheVariants.{Once, Begin, Phase, Approve, Reject, Late}
+use Rattle.proposal_core.specs.declared.group_state.GroupState.{GroupState}
+use Rattle.proposal_core.specs.Fold.{joins_of, joiners_in, present}
+use Rattle.client_callbacks.specs.declared.ballot.Filled.{Filled}
+use Rattle.client_callbacks.specs.Ballots.{BallotView}
+use Rattle.session_state.specs.declared.casts.Cast.{Cast}
+use Rattle.session_state.specs.declared.state.Provider.{Provider}
+use Rattle.session_state.specs.declared.state.SessionState.{SessionState}
+use Rattle.session_state.specs.State.{provider_of}
+use Rattle.session_state.specs.HandOn.{hears, hearers_in, brought_by, beginners, hearers, cast_of, casts_of}
+use Rattle.node_state.specs.declared.happened.Happened.{Happened}
+use Rattle.node_state.specs.declared.happened.Happened.TheVariants as happened
+use Rattle.node_state.specs.HandOn.{cast_record, cast_records}
+use Rattle.run_safety.specs.Past.{History, Within, earlier}
+use Rattle.run_safety.specs.Stays.{is_join_of}
+use Rattle.run_safety.proofs.Order.{lt_not_same}
+use Rattle.step_refinement.proofs.SessionLaws.{cast_has}
 use Rattle.row_laws.specs.hearing.Hearing.{last_heard, next_place}
 use Rattle.row_laws.specs.hearing.Changes.{Aside}
 use Rattle.row_laws.proofs.hearing.Handing.{has_among, hearer_found}

@@ -4,34 +4,34 @@ use Rattle.std.specs.Prelude.{◌||◌, find, filter, fold, if◌then◌else◌,
 use Rattle.std.specs.Option.{option_map}
 use Rattle.std.specs.List.{list_any, last_or}
 use Rattle.std.proofs.lemmas.Bool.{eqb-true, eq-eqb}
-use Rattle.row_laws.specs.rsct_packet.declared.ids.ProviderId.{ProviderId}
-use Rattle.row_laws.specs.rsct_packet.Search.{Has, place_where}
-use Rattle.row_laws.proofs.rsct_packet_laws.HasLaws.{has_append, append_has_right}
-use Rattle.row_laws.specs.group_attr.declared.attrs.Attrs.{Attrs}
-use Rattle.row_laws.specs.group_attr.declared.attrs.Phases.{Phases}
-use Rattle.row_laws.specs.proposal_core.declared.proposal.Proposal.{Proposal}
-use Rattle.row_laws.specs.proposal_core.declared.proposal.Proposal.TheVariants.{Attributes}
-use Rattle.row_laws.specs.client_callbacks.declared.ballot.Filled.{Filled}
-use Rattle.row_laws.specs.subscribe_core.declared.subs.ClientToken.{ClientToken}
-use Rattle.row_laws.specs.session_state.declared.fault.GsFault.{GsFault}
-use Rattle.row_laws.specs.session_state.declared.fault.GsFault.TheVariants as fault
-use Rattle.row_laws.specs.session_state.declared.state.KeptBallot.{KeptBallot}
-use Rattle.row_laws.specs.session_state.declared.state.MemberToken.{MemberToken}
-use Rattle.row_laws.specs.session_state.declared.state.Provider.{Provider}
-use Rattle.row_laws.specs.session_state.declared.state.Request.{Request}
-use Rattle.row_laws.specs.session_state.declared.state.Session.{Session}
-use Rattle.row_laws.specs.session_state.declared.state.SessionState.{SessionState}
-use Rattle.row_laws.specs.session_state.State.{is_member_of, is_session, is_named, is_client_of, client_token}
-use Rattle.row_laws.specs.session_state.Calls.{or_fault, client_fault, unless_fault, if_session, is_empty, init_fault, add_session, inited, join_fault, join_asked, joined, asked, ask_fault, member_asks, request_made, left, expelled, state_changed, message_sent, member_changes, attributes_changed, subscribe_taken, unsubscribe_taken, removed_at, end_session, goodbye_taken}
-use Rattle.row_laws.specs.node_state.declared.call.CallLine.{CallLine}
-use Rattle.row_laws.specs.node_state.declared.call.CallLine.TheVariants as call
-use Rattle.row_laws.specs.node_state.declared.happened.Happened.{Happened}
-use Rattle.row_laws.specs.node_state.declared.happened.Happened.TheVariants as happened
-use Rattle.row_laws.specs.node_state.declared.state.Core.{Core}
-use Rattle.row_laws.specs.node_state.State.{frozen, leader_of, recorded, with_sessions}
-use Rattle.row_laws.specs.node_state.Sending.{send_request_to, send_request, send_kept_to, send_kept}
-use Rattle.row_laws.specs.node_state.Calls.{caller, refuse_call, changed, ask_last, proposed, record_ballot, ballot_sent_if, cast_last, give_ballot, send_gone, send_all_gone, goodbye_said, take_call}
-use Rattle.row_laws.proofs.node_state_laws.NameOrder.{text_self}
+use Rattle.rsct_packet.specs.declared.ids.ProviderId.{ProviderId}
+use Rattle.rsct_packet.specs.Search.{Has, place_where}
+use Rattle.rsct_packet.proofs.HasLaws.{has_append, append_has_right}
+use Rattle.group_attr.specs.declared.attrs.Attrs.{Attrs}
+use Rattle.group_attr.specs.declared.attrs.Phases.{Phases}
+use Rattle.proposal_core.specs.declared.proposal.Proposal.{Proposal}
+use Rattle.proposal_core.specs.declared.proposal.Proposal.TheVariants.{Attributes}
+use Rattle.client_callbacks.specs.declared.ballot.Filled.{Filled}
+use Rattle.subscribe_core.specs.declared.subs.ClientToken.{ClientToken}
+use Rattle.session_state.specs.declared.fault.GsFault.{GsFault}
+use Rattle.session_state.specs.declared.fault.GsFault.TheVariants as fault
+use Rattle.session_state.specs.declared.state.KeptBallot.{KeptBallot}
+use Rattle.session_state.specs.declared.state.MemberToken.{MemberToken}
+use Rattle.session_state.specs.declared.state.Provider.{Provider}
+use Rattle.session_state.specs.declared.state.Request.{Request}
+use Rattle.session_state.specs.declared.state.Session.{Session}
+use Rattle.session_state.specs.declared.state.SessionState.{SessionState}
+use Rattle.session_state.specs.State.{is_member_of, is_session, is_named, is_client_of, client_token}
+use Rattle.session_state.specs.Calls.{or_fault, client_fault, unless_fault, if_session, is_empty, init_fault, add_session, inited, join_fault, join_asked, joined, asked, ask_fault, member_asks, request_made, left, expelled, state_changed, message_sent, member_changes, attributes_changed, subscribe_taken, unsubscribe_taken, removed_at, end_session, goodbye_taken}
+use Rattle.node_state.specs.declared.call.CallLine.{CallLine}
+use Rattle.node_state.specs.declared.call.CallLine.TheVariants as call
+use Rattle.node_state.specs.declared.happened.Happened.{Happened}
+use Rattle.node_state.specs.declared.happened.Happened.TheVariants as happened
+use Rattle.node_state.specs.declared.state.Core.{Core}
+use Rattle.node_state.specs.State.{frozen, leader_of, recorded, with_sessions}
+use Rattle.node_state.specs.Sending.{send_request_to, send_request, send_kept_to, send_kept}
+use Rattle.node_state.specs.Calls.{caller, refuse_call, changed, ask_last, proposed, record_ballot, ballot_sent_if, cast_last, give_ballot, send_gone, send_all_gone, goodbye_said, take_call}
+use Rattle.node_state.proofs.NameOrder.{text_self}
 use Rattle.row_laws.proofs.hearing.Changes.{Sends, sends_nothing, sends_one, sends_known, sends_fold}
 use Rattle.row_laws.proofs.hearing.Sessions.{casts_voted, unless_is}
 use Rattle.row_laws.proofs.failed_rows.Owners.{Owned, known_session}

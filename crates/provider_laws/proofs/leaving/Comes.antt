@@ -2,31 +2,31 @@
 use Rattle.std.proofs.Common.{◌≡◌, ◌≤◌, ◌<◌, ◌⊎◌, ℕ, ◌+◌, List, [], ◌∷◌, Option, Some, None, Bool, true, false, refl, sym, ap, ◌∙◌, subst, inl, inr, arith}
 use Rattle.std.specs.Prelude.{◌&&◌, not, find, fold, is_none}
 use Rattle.std.specs.Str.{bytes_eq}
-use Rattle.row_laws.specs.rsct_packet.declared.ids.ViewId.{ViewId}
-use Rattle.row_laws.specs.rsct_packet.declared.ids.ProviderId.{ProviderId}
-use Rattle.row_laws.specs.rsct_packet.Search.{Has}
-use Rattle.row_laws.proofs.rsct_packet_laws.HasLaws.{has_append, find_has, find_none}
-use Rattle.row_laws.specs.proposal_core.Fold.{present}
-use Rattle.row_laws.specs.proposal_core.Lists.{state_in}
-use Rattle.row_laws.specs.client_callbacks.declared.told.Why.TheVariants.{Dissolved}
-use Rattle.row_laws.specs.client_callbacks.declared.ballot.Filled.{Filled}
-use Rattle.row_laws.specs.group_attr.declared.attrs.Attrs.{Attrs}
-use Rattle.row_laws.specs.proposal_core.declared.entry.Entry.{Entry}
-use Rattle.row_laws.specs.subscribe_core.declared.subs.ClientToken.{ClientToken}
-use Rattle.row_laws.specs.session_state.declared.state.Provider.{Provider}
-use Rattle.row_laws.specs.session_state.declared.state.SessionState.{SessionState}
-use Rattle.row_laws.specs.session_state.State.{provider_of, is_provider, outstanding}
-use Rattle.row_laws.specs.session_state.Calls.{join_asked, keeps, new_provider}
-use Rattle.row_laws.specs.session_state.HandOn.{handed_on, take_telling}
-use Rattle.row_laws.specs.view_state.declared.install.Install.{Install}
-use Rattle.row_laws.specs.view_state.declared.install.Base.{Base}
-use Rattle.row_laws.specs.view_state.Bases.{bases_of, base_named}
-use Rattle.row_laws.specs.node_state.declared.group.GroupRow.{GroupRow}
-use Rattle.row_laws.specs.node_state.declared.state.Core.{Core}
-use Rattle.row_laws.specs.node_state.State.{state_of, len_of, held_rows, with_row, recorded, recorded_all, with_sessions}
-use Rattle.row_laws.specs.node_state.Leading.{put}
-use Rattle.row_laws.specs.node_state.Applying.{level_set, view_entered, is_in_base, number_of, dissolved, dissolved_if, group_dissolved, sides_dissolved}
-use Rattle.row_laws.proofs.step_refinement_laws.SessionLaws.{provider_self, provider_same, handed_later}
+use Rattle.rsct_packet.specs.declared.ids.ViewId.{ViewId}
+use Rattle.rsct_packet.specs.declared.ids.ProviderId.{ProviderId}
+use Rattle.rsct_packet.specs.Search.{Has}
+use Rattle.rsct_packet.proofs.HasLaws.{has_append, find_has, find_none}
+use Rattle.proposal_core.specs.Fold.{present}
+use Rattle.proposal_core.specs.Lists.{state_in}
+use Rattle.client_callbacks.specs.declared.told.Why.TheVariants.{Dissolved}
+use Rattle.client_callbacks.specs.declared.ballot.Filled.{Filled}
+use Rattle.group_attr.specs.declared.attrs.Attrs.{Attrs}
+use Rattle.proposal_core.specs.declared.entry.Entry.{Entry}
+use Rattle.subscribe_core.specs.declared.subs.ClientToken.{ClientToken}
+use Rattle.session_state.specs.declared.state.Provider.{Provider}
+use Rattle.session_state.specs.declared.state.SessionState.{SessionState}
+use Rattle.session_state.specs.State.{provider_of, is_provider, outstanding}
+use Rattle.session_state.specs.Calls.{join_asked, keeps, new_provider}
+use Rattle.session_state.specs.HandOn.{handed_on, take_telling}
+use Rattle.view_state.specs.declared.install.Install.{Install}
+use Rattle.view_state.specs.declared.install.Base.{Base}
+use Rattle.view_state.specs.Bases.{bases_of, base_named}
+use Rattle.node_state.specs.declared.group.GroupRow.{GroupRow}
+use Rattle.node_state.specs.declared.state.Core.{Core}
+use Rattle.node_state.specs.State.{state_of, len_of, held_rows, with_row, recorded, recorded_all, with_sessions}
+use Rattle.node_state.specs.Leading.{put}
+use Rattle.node_state.specs.Applying.{level_set, view_entered, is_in_base, number_of, dissolved, dissolved_if, group_dissolved, sides_dissolved}
+use Rattle.step_refinement.proofs.SessionLaws.{provider_self, provider_same, handed_later}
 use Rattle.row_laws.specs.hearing.Changes.{Same, Fewer, handing, entering, Does, Stays, Then, Records, Hands, Loses, Joins, Votes, Enters}
 use Rattle.row_laws.proofs.failed_rows.Living.{IsLive, Slimmer, told_slim, handed_slim}
 use Rattle.provider_laws.proofs.leaving.Left.{live_slim, told_kept}

@@ -3,23 +3,23 @@ use Rattle.std.proofs.Common.{◌≡◌, ◌≤◌, ◌<◌, ◌⊎◌, ℕ, Lis
 use Rattle.std.specs.Prelude.{◌==◌, ◌&&◌}
 use Rattle.std.specs.List.{list_any}
 use Rattle.std.proofs.lemmas.Bool.{eqb-true}
-use Rattle.row_laws.specs.rsct_packet.declared.ids.ProviderId.{ProviderId}
-use Rattle.row_laws.specs.rsct_packet.Providers.{same_provider}
-use Rattle.row_laws.specs.rsct_packet.Search.{Has}
-use Rattle.row_laws.specs.proposal_core.declared.proposal.Proposal.{Proposal}
-use Rattle.row_laws.specs.session_state.declared.state.Provider.{Provider}
-use Rattle.row_laws.specs.node_state.declared.happened.Happened.{Happened}
-use Rattle.row_laws.specs.node_state.declared.happened.Happened.TheVariants as happened
-use Rattle.row_laws.specs.node_state.declared.state.Core.{Core}
-use Rattle.row_laws.specs.world_model.declared.event.Event.{Event}
-use Rattle.row_laws.specs.run_safety.Past.{History, EachRecord, records_of}
-use Rattle.row_laws.specs.run_safety.SafeHeard.{NotLetGo}
-use Rattle.row_laws.specs.run_safety.Stays.{asks_join, client_of, was_let_go}
-use Rattle.row_laws.specs.run_safety.Group.{Noted}
-use Rattle.row_laws.specs.run_safety.Group as group
-use Rattle.row_laws.specs.step_refinement.Ghost.{Ghost, asking}
-use Rattle.row_laws.specs.step_refinement.Tied.{Scene, NodeIsIf, Rests}
-use Rattle.row_laws.proofs.step_refinement_laws.SessionLaws.{provider_same}
+use Rattle.rsct_packet.specs.declared.ids.ProviderId.{ProviderId}
+use Rattle.rsct_packet.specs.Providers.{same_provider}
+use Rattle.rsct_packet.specs.Search.{Has}
+use Rattle.proposal_core.specs.declared.proposal.Proposal.{Proposal}
+use Rattle.session_state.specs.declared.state.Provider.{Provider}
+use Rattle.node_state.specs.declared.happened.Happened.{Happened}
+use Rattle.node_state.specs.declared.happened.Happened.TheVariants as happened
+use Rattle.node_state.specs.declared.state.Core.{Core}
+use Rattle.world_model.specs.declared.event.Event.{Event}
+use Rattle.run_safety.specs.Past.{History, EachRecord, records_of}
+use Rattle.run_safety.specs.SafeHeard.{NotLetGo}
+use Rattle.run_safety.specs.Stays.{asks_join, client_of, was_let_go}
+use Rattle.run_safety.specs.Group.{Noted}
+use Rattle.run_safety.specs.Group as group
+use Rattle.step_refinement.specs.Ghost.{Ghost, asking}
+use Rattle.step_refinement.specs.Tied.{Scene, NodeIsIf, Rests}
+use Rattle.step_refinement.proofs.SessionLaws.{provider_same}
 use Rattle.row_laws.proofs.failed_rows.Fitting.{asked_seen}
 use Rattle.row_laws.proofs.failed_rows.Living.{slim_same}
 use Rattle.row_laws.proofs.failed_rows.Owners.{Owned, owned_slim}

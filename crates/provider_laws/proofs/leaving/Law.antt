@@ -2,29 +2,29 @@
 use Rattle.std.proofs.Common.{◌≡◌, ◌≢◌, ◌<◌, ◌⊎◌, ℕ, ◌+◌, List, [], ◌∷◌, ◌++◌, Option, Some, None, Bool, true, false, refl, sym, ap, ◌∙◌, subst, inl, inr, arith, ⊎_elim}
 use Rattle.std.specs.Prelude.{◌==◌, ◌&&◌, ◌||◌, fold, reverse}
 use Rattle.std.proofs.lemmas.Bool.{cases_eq, eqb-true}
-use Rattle.row_laws.specs.rsct_packet.declared.ids.ProviderId.{ProviderId}
-use Rattle.row_laws.specs.rsct_packet.Mask.{nodes_of}
-use Rattle.row_laws.specs.rsct_packet.Search.{Has}
-use Rattle.row_laws.proofs.rsct_packet_laws.HasLaws.{has_append}
-use Rattle.row_laws.specs.node_state.declared.call.CallLine.{CallLine}
-use Rattle.row_laws.specs.node_state.declared.call.CallLine.TheVariants as call
-use Rattle.row_laws.specs.node_state.declared.config.Config.{Config}
-use Rattle.row_laws.specs.node_state.declared.happened.Happened.{Happened}
-use Rattle.row_laws.specs.node_state.declared.happened.Happened.TheVariants as happened
-use Rattle.row_laws.specs.node_state.declared.state.Core.{Core}
-use Rattle.row_laws.specs.node_state.Step.{started, ring_record}
-use Rattle.row_laws.specs.world_model.declared.event.Event.{Event}
-use Rattle.row_laws.specs.world_model.declared.event.Event.TheVariants as event
-use Rattle.row_laws.specs.world_model.Run.{Happening}
-use Rattle.row_laws.specs.run_safety.Past.{History, EachRecord, records_of, inc_now}
-use Rattle.row_laws.specs.run_safety.SafeHeard.{NotLetGo}
-use Rattle.row_laws.specs.run_safety.Stays.{asks_join, client_of, is_named, ends, was_let_go}
-use Rattle.row_laws.specs.step_refinement.Tied.{Scene, NodeIsIf, Rests}
-use Rattle.row_laws.specs.step_refinement.Rows.{at_node, over, nothing_yet, with_records, start_with, starts_too, stopped, all_started}
-use Rattle.row_laws.specs.step_refinement.Runs.{IsNote, noted, Reached}
-use Rattle.row_laws.specs.step_refinement.Runs as runs
-use Rattle.row_laws.proofs.step_refinement_laws.Changed.{each_set, set_here, set_there}
-use Rattle.row_laws.proofs.step_refinement_laws.RunLaw.{reached_rests}
+use Rattle.rsct_packet.specs.declared.ids.ProviderId.{ProviderId}
+use Rattle.rsct_packet.specs.Mask.{nodes_of}
+use Rattle.rsct_packet.specs.Search.{Has}
+use Rattle.rsct_packet.proofs.HasLaws.{has_append}
+use Rattle.node_state.specs.declared.call.CallLine.{CallLine}
+use Rattle.node_state.specs.declared.call.CallLine.TheVariants as call
+use Rattle.node_state.specs.declared.config.Config.{Config}
+use Rattle.node_state.specs.declared.happened.Happened.{Happened}
+use Rattle.node_state.specs.declared.happened.Happened.TheVariants as happened
+use Rattle.node_state.specs.declared.state.Core.{Core}
+use Rattle.node_state.specs.Step.{started, ring_record}
+use Rattle.world_model.specs.declared.event.Event.{Event}
+use Rattle.world_model.specs.declared.event.Event.TheVariants as event
+use Rattle.world_model.specs.Run.{Happening}
+use Rattle.run_safety.specs.Past.{History, EachRecord, records_of, inc_now}
+use Rattle.run_safety.specs.SafeHeard.{NotLetGo}
+use Rattle.run_safety.specs.Stays.{asks_join, client_of, is_named, ends, was_let_go}
+use Rattle.step_refinement.specs.Tied.{Scene, NodeIsIf, Rests}
+use Rattle.step_refinement.specs.Rows.{at_node, over, nothing_yet, with_records, start_with, starts_too, stopped, all_started}
+use Rattle.step_refinement.specs.Runs.{IsNote, noted, Reached}
+use Rattle.step_refinement.specs.Runs as runs
+use Rattle.step_refinement.proofs.Changed.{each_set, set_here, set_there}
+use Rattle.step_refinement.proofs.RunLaw.{reached_rests}
 use Rattle.row_laws.proofs.hearing.Listening.{start_each, reverse_has}
 use Rattle.row_laws.proofs.hearing.Incarnations.{incs_of}
 use Rattle.row_laws.proofs.failed_rows.Starting.{Fresh, FreshIf, AllFresh, fold_fresh, started_fresh}

@@ -1,25 +1,25 @@
 -- Since the call of a step providers only leave: who hears was there, and who is told DISSOLVED is there no longer.
 use Rattle.std.proofs.Common.{◌≡◌, ◌⊎◌, ℕ, List, [], ◌∷◌, ◌++◌, Option, Some, None, Bool, true, false, refl, sym, ap, ◌∙◌, subst, inl, inr}
 use Rattle.std.specs.Prelude.{◌&&◌, ◌||◌, not, find, filter, is_some, is_none, if◌then◌else◌}
-use Rattle.row_laws.specs.rsct_packet.declared.ids.ProviderId.{ProviderId}
-use Rattle.row_laws.specs.rsct_packet.Providers.{among, same_provider}
-use Rattle.row_laws.specs.rsct_packet.Search.{Has}
-use Rattle.row_laws.proofs.rsct_packet_laws.HasLaws.{has_append, append_has_left, has_filter, find_none}
-use Rattle.row_laws.specs.proposal_core.declared.entry.Entry.{Entry}
-use Rattle.row_laws.specs.proposal_core.declared.group_state.GroupState.{GroupState}
-use Rattle.row_laws.specs.client_callbacks.declared.ballot.Filled.{Filled}
-use Rattle.row_laws.specs.client_callbacks.declared.told.Why.{Why}
-use Rattle.row_laws.specs.session_state.declared.state.Provider.{Provider}
-use Rattle.row_laws.specs.session_state.declared.state.Request.{Request}
-use Rattle.row_laws.specs.session_state.declared.state.SessionState.{SessionState}
-use Rattle.row_laws.specs.session_state.State.{provider_of, is_provider, outstanding, without_providers}
-use Rattle.row_laws.specs.session_state.HandOn.{is_numbered, is_join_request, is_dissolved, takes_telling, told_of, take_telling, handed_on}
-use Rattle.row_laws.specs.node_state.declared.happened.Happened.{Happened}
-use Rattle.row_laws.specs.node_state.declared.happened.Happened.TheVariants as happened
-use Rattle.row_laws.specs.node_state.declared.state.Core.{Core}
-use Rattle.row_laws.specs.node_state.State.{recorded, with_sessions}
-use Rattle.row_laws.specs.run_safety.Stays.{asks_join}
-use Rattle.row_laws.proofs.step_refinement_laws.SessionLaws.{provider_self, handed_later}
+use Rattle.rsct_packet.specs.declared.ids.ProviderId.{ProviderId}
+use Rattle.rsct_packet.specs.Providers.{among, same_provider}
+use Rattle.rsct_packet.specs.Search.{Has}
+use Rattle.rsct_packet.proofs.HasLaws.{has_append, append_has_left, has_filter, find_none}
+use Rattle.proposal_core.specs.declared.entry.Entry.{Entry}
+use Rattle.proposal_core.specs.declared.group_state.GroupState.{GroupState}
+use Rattle.client_callbacks.specs.declared.ballot.Filled.{Filled}
+use Rattle.client_callbacks.specs.declared.told.Why.{Why}
+use Rattle.session_state.specs.declared.state.Provider.{Provider}
+use Rattle.session_state.specs.declared.state.Request.{Request}
+use Rattle.session_state.specs.declared.state.SessionState.{SessionState}
+use Rattle.session_state.specs.State.{provider_of, is_provider, outstanding, without_providers}
+use Rattle.session_state.specs.HandOn.{is_numbered, is_join_request, is_dissolved, takes_telling, told_of, take_telling, handed_on}
+use Rattle.node_state.specs.declared.happened.Happened.{Happened}
+use Rattle.node_state.specs.declared.happened.Happened.TheVariants as happened
+use Rattle.node_state.specs.declared.state.Core.{Core}
+use Rattle.node_state.specs.State.{recorded, with_sessions}
+use Rattle.run_safety.specs.Stays.{asks_join}
+use Rattle.step_refinement.proofs.SessionLaws.{provider_self, handed_later}
 use Rattle.row_laws.proofs.failed_rows.Living.{IsLive, Slimmer, slim_same, told_slim, handed_slim}
 use Rattle.row_laws.proofs.failed_rows.Origin.{Slim, slim_self, slim_more, slim_on}
 use Rattle.provider_laws.proofs.leaving.Walk.{Fine, Alike, Known, Keeps}

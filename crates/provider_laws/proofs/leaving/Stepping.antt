@@ -2,36 +2,36 @@
 use Rattle.std.proofs.Common.{◌≡◌, ◌≢◌, ◌≤◌, ◌<◌, ◌⊎◌, ℕ, List, [], ◌∷◌, Option, Some, None, Bool, true, false, refl, sym, ap, ◌∙◌, subst, inl, inr, arith, append-nil}
 use Rattle.std.specs.Prelude.{◌==◌, ◌&&◌, reverse, if◌then◌else◌}
 use Rattle.std.specs.List.{list_any}
-use Rattle.row_laws.specs.rsct_packet.declared.ids.ProviderId.{ProviderId}
-use Rattle.row_laws.specs.rsct_packet.Providers.{same_provider}
-use Rattle.row_laws.specs.rsct_packet.Search.{Has}
-use Rattle.row_laws.specs.session_state.declared.fault.GsFault.{GsFault}
-use Rattle.row_laws.specs.session_state.declared.state.Session.{Session}
-use Rattle.row_laws.specs.session_state.declared.state.Provider.{Provider}
-use Rattle.row_laws.specs.session_state.declared.state.SessionState.{SessionState}
-use Rattle.row_laws.specs.node_state.declared.call.CallLine.TheVariants as call
-use Rattle.row_laws.specs.node_state.declared.config.Config.{Config}
-use Rattle.row_laws.specs.node_state.declared.happened.Happened.{Happened}
-use Rattle.row_laws.specs.node_state.declared.happened.Happened.TheVariants as happened
-use Rattle.row_laws.specs.node_state.declared.state.Core.{Core}
-use Rattle.row_laws.specs.node_state.HandOn.{Answering}
-use Rattle.row_laws.specs.node_state.Calls.{take_call}
-use Rattle.row_laws.specs.node_state.Step.{NodeEvent, Ticks, Asks, Given, Calls, Garbage, at_work, stepped}
-use Rattle.row_laws.specs.world_model.declared.event.Event.{Event}
-use Rattle.row_laws.specs.world_model.declared.event.Event.TheVariants as event
-use Rattle.row_laws.specs.run_safety.Past.{History, Within, records_of, inc_now}
-use Rattle.row_laws.specs.run_safety.SafeHeard.{NotLetGo}
-use Rattle.row_laws.specs.run_safety.Stays.{asks_join, joining_client, client_of, is_named, is_refused, ends, was_let_go}
-use Rattle.row_laws.proofs.node_state_laws.NameOrder.{text_same}
-use Rattle.row_laws.specs.step_refinement.Tied.{Scene, NodeIsIf, Rests, Tied}
-use Rattle.row_laws.specs.step_refinement.Rows.{at_node, over, ended}
-use Rattle.row_laws.specs.step_refinement.Runs.{Reached}
-use Rattle.row_laws.proofs.step_refinement_laws.Begins.{begin_tied}
-use Rattle.row_laws.proofs.step_refinement_laws.Calls.{call_is_tied}
-use Rattle.row_laws.proofs.step_refinement_laws.Changed.{each_set, set_here}
-use Rattle.row_laws.proofs.step_refinement_laws.RunLaw.{reached_rests}
-use Rattle.row_laws.proofs.step_refinement_laws.SessionLaws.{provider_same}
-use Rattle.row_laws.proofs.step_refinement_laws.Turns.{has_turned}
+use Rattle.rsct_packet.specs.declared.ids.ProviderId.{ProviderId}
+use Rattle.rsct_packet.specs.Providers.{same_provider}
+use Rattle.rsct_packet.specs.Search.{Has}
+use Rattle.session_state.specs.declared.fault.GsFault.{GsFault}
+use Rattle.session_state.specs.declared.state.Session.{Session}
+use Rattle.session_state.specs.declared.state.Provider.{Provider}
+use Rattle.session_state.specs.declared.state.SessionState.{SessionState}
+use Rattle.node_state.specs.declared.call.CallLine.TheVariants as call
+use Rattle.node_state.specs.declared.config.Config.{Config}
+use Rattle.node_state.specs.declared.happened.Happened.{Happened}
+use Rattle.node_state.specs.declared.happened.Happened.TheVariants as happened
+use Rattle.node_state.specs.declared.state.Core.{Core}
+use Rattle.node_state.specs.HandOn.{Answering}
+use Rattle.node_state.specs.Calls.{take_call}
+use Rattle.node_state.specs.Step.{NodeEvent, Ticks, Asks, Given, Calls, Garbage, at_work, stepped}
+use Rattle.world_model.specs.declared.event.Event.{Event}
+use Rattle.world_model.specs.declared.event.Event.TheVariants as event
+use Rattle.run_safety.specs.Past.{History, Within, records_of, inc_now}
+use Rattle.run_safety.specs.SafeHeard.{NotLetGo}
+use Rattle.run_safety.specs.Stays.{asks_join, joining_client, client_of, is_named, is_refused, ends, was_let_go}
+use Rattle.node_state.proofs.NameOrder.{text_same}
+use Rattle.step_refinement.specs.Tied.{Scene, NodeIsIf, Rests, Tied}
+use Rattle.step_refinement.specs.Rows.{at_node, over, ended}
+use Rattle.step_refinement.specs.Runs.{Reached}
+use Rattle.step_refinement.proofs.Begins.{begin_tied}
+use Rattle.step_refinement.proofs.Calls.{call_is_tied}
+use Rattle.step_refinement.proofs.Changed.{each_set, set_here}
+use Rattle.step_refinement.proofs.RunLaw.{reached_rests}
+use Rattle.step_refinement.proofs.SessionLaws.{provider_same}
+use Rattle.step_refinement.proofs.Turns.{has_turned}
 use Rattle.row_laws.proofs.hearing.Rows.{call_onward}
 use Rattle.row_laws.proofs.hearing.Listening.{reverse_has}
 use Rattle.row_laws.specs.failed_rows.Scenes.{Names}

@@ -1,12 +1,12 @@
 -- After the end of a step the node rests, where it is not frozen; and a node that rests stays as it is at the end of a step.
 use Rattle.std.proofs.Common.{◌≡◌, ◌≤◌, ◌<◌, ◌⊎◌, ℕ, zero, suc, List, [], ◌∷◌, length, fold, Bool, true, false, refl, sym, ap, ◌∙◌, subst, inl, inr, arith}
-use Rattle.row_laws.specs.rsct_packet.Search.{Has}
-use Rattle.row_laws.specs.view_state.Views.{is_frozen}
-use Rattle.row_laws.specs.node_state.declared.group.GroupRow.{GroupRow}
-use Rattle.row_laws.specs.node_state.declared.state.Core.{Core}
-use Rattle.row_laws.specs.node_state.State.{frozen, led_groups}
-use Rattle.row_laws.specs.node_state.HandOn.{Answering}
-use Rattle.row_laws.specs.node_state.Ending.{Pass, quiet, group_begins, one_pass, passes, most_begun, end_step}
+use Rattle.rsct_packet.specs.Search.{Has}
+use Rattle.view_state.specs.Views.{is_frozen}
+use Rattle.node_state.specs.declared.group.GroupRow.{GroupRow}
+use Rattle.node_state.specs.declared.state.Core.{Core}
+use Rattle.node_state.specs.State.{frozen, led_groups}
+use Rattle.node_state.specs.HandOn.{Answering}
+use Rattle.node_state.specs.Ending.{Pass, quiet, group_begins, one_pass, passes, most_begun, end_step}
 use Rattle.provider_laws.proofs.resting.Orderly.{Orderly}
 use Rattle.provider_laws.proofs.resting.Onward.{led_few}
 use Rattle.provider_laws.proofs.resting.Passing.{AllRest, room, room_most, passes_rest, passes_onward, passes_settle}

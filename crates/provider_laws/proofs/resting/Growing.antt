@@ -1,14 +1,14 @@
 -- Changes of a row that keep its name and its leader, do not shorten its list, and let few joins and failures wait.
 use Rattle.std.proofs.Common.{◌≡◌, ◌≤◌, ℕ, Option, Some, None, Bool, true, false, refl, arith}
 use Rattle.std.specs.Prelude.{nat_le, max, drop, ◌-◌, if◌then◌else◌}
-use Rattle.row_laws.specs.rsct_packet.declared.ids.ViewId.{ViewId}
-use Rattle.row_laws.specs.proposal_core.declared.entry.Entry.{Entry}
-use Rattle.row_laws.specs.proposal_core.GroupView.{GroupView}
-use Rattle.row_laws.specs.proposal_core.Lists.{list_or_new, len_in, with_entry, forgotten}
-use Rattle.row_laws.specs.node_state.declared.group.GroupRow.{GroupRow}
-use Rattle.row_laws.specs.node_state.declared.group.Led.{Led}
-use Rattle.row_laws.specs.node_state.State.{list_forgotten}
-use Rattle.row_laws.proofs.node_state_laws.NameOrder.{KeepsName}
+use Rattle.rsct_packet.specs.declared.ids.ViewId.{ViewId}
+use Rattle.proposal_core.specs.declared.entry.Entry.{Entry}
+use Rattle.proposal_core.specs.GroupView.{GroupView}
+use Rattle.proposal_core.specs.Lists.{list_or_new, len_in, with_entry, forgotten}
+use Rattle.node_state.specs.declared.group.GroupRow.{GroupRow}
+use Rattle.node_state.specs.declared.group.Led.{Led}
+use Rattle.node_state.specs.State.{list_forgotten}
+use Rattle.node_state.proofs.NameOrder.{KeepsName}
 use Rattle.provider_laws.proofs.resting.Orderly.{Few, MildLed}
 
 pub record Grows (f : GroupRow → GroupRow) : Type 0 where

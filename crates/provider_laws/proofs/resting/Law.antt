@@ -1,27 +1,27 @@
 -- In every scene: between events each node that is up and not frozen rests, so the event of a goodbye puts nothing.
 use Rattle.std.proofs.Common.{◌≡◌, ℕ, ◌+◌, List, [], ◌∷◌, ◌++◌, Option, Some, None, false, refl, sym, ap, ◌∙◌, subst}
 use Rattle.std.specs.Prelude.{fold, find, reverse}
-use Rattle.row_laws.specs.rsct_packet.Mask.{nodes_of}
-use Rattle.row_laws.specs.rsct_packet.Search.{Has}
-use Rattle.row_laws.specs.view_state.Views.{is_frozen}
-use Rattle.row_laws.specs.node_state.declared.call.CallLine.TheVariants.{Goodbye}
-use Rattle.row_laws.specs.node_state.declared.config.Config.{Config}
-use Rattle.row_laws.specs.node_state.declared.happened.Happened.{Happened}
-use Rattle.row_laws.specs.node_state.declared.happened.Happened.TheVariants as happened
-use Rattle.row_laws.specs.node_state.declared.group.GroupRow.{GroupRow}
-use Rattle.row_laws.specs.node_state.declared.state.Core.{Core}
-use Rattle.row_laws.specs.node_state.State.{row_of, led_of, row_found, frozen, led_groups, with_sessions, has_name}
-use Rattle.row_laws.specs.node_state.HandOn.{Answering}
-use Rattle.row_laws.specs.node_state.Step.{NodeEvent, Calls, at_work, started, stepped}
-use Rattle.row_laws.specs.node_state.Calls.{take_call}
-use Rattle.row_laws.specs.world_model.declared.event.Event.{Event}
-use Rattle.row_laws.specs.world_model.declared.event.Event.TheVariants as event
-use Rattle.row_laws.specs.run_safety.Past.{History, EachEvent}
-use Rattle.row_laws.specs.step_refinement.Tied.{Scene}
-use Rattle.row_laws.specs.step_refinement.Rows.{over, nothing_yet, with_records, starts_too, all_started}
-use Rattle.row_laws.specs.step_refinement.Runs.{Reached}
-use Rattle.row_laws.specs.step_refinement.Runs as runs
-use Rattle.row_laws.proofs.step_refinement_laws.Changed.{each_set}
+use Rattle.rsct_packet.specs.Mask.{nodes_of}
+use Rattle.rsct_packet.specs.Search.{Has}
+use Rattle.view_state.specs.Views.{is_frozen}
+use Rattle.node_state.specs.declared.call.CallLine.TheVariants.{Goodbye}
+use Rattle.node_state.specs.declared.config.Config.{Config}
+use Rattle.node_state.specs.declared.happened.Happened.{Happened}
+use Rattle.node_state.specs.declared.happened.Happened.TheVariants as happened
+use Rattle.node_state.specs.declared.group.GroupRow.{GroupRow}
+use Rattle.node_state.specs.declared.state.Core.{Core}
+use Rattle.node_state.specs.State.{row_of, led_of, row_found, frozen, led_groups, with_sessions, has_name}
+use Rattle.node_state.specs.HandOn.{Answering}
+use Rattle.node_state.specs.Step.{NodeEvent, Calls, at_work, started, stepped}
+use Rattle.node_state.specs.Calls.{take_call}
+use Rattle.world_model.specs.declared.event.Event.{Event}
+use Rattle.world_model.specs.declared.event.Event.TheVariants as event
+use Rattle.run_safety.specs.Past.{History, EachEvent}
+use Rattle.step_refinement.specs.Tied.{Scene}
+use Rattle.step_refinement.specs.Rows.{over, nothing_yet, with_records, starts_too, all_started}
+use Rattle.step_refinement.specs.Runs.{Reached}
+use Rattle.step_refinement.specs.Runs as runs
+use Rattle.step_refinement.proofs.Changed.{each_set}
 use Rattle.row_laws.proofs.hearing.Listening.{reverse_has}
 use Rattle.provider_laws.proofs.leaving.Law.{reached}
 use Rattle.provider_laws.specs.leaving.Scenes.{IsCall, NoCall, Nothing, AllStart, Starts, Stops, Steps, Notes}

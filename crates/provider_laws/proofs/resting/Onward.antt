@@ -2,16 +2,16 @@
 use Rattle.std.proofs.Common.{◌≡◌, ◌≤◌, ◌⊎◌, ℕ, List, [], ◌∷◌, length, Option, Bool, true, false, cond, refl, sym, ap, ◌∙◌, subst, inl, inr, arith}
 use Rattle.std.specs.Prelude.{map, filter, find}
 use Rattle.std.specs.Str.{bytes_eq}
-use Rattle.row_laws.specs.rsct_packet.Text.{name_lt}
-use Rattle.row_laws.specs.rsct_packet.Search.{Has}
-use Rattle.row_laws.proofs.rsct_packet_laws.HasLaws.{has_filter, has_map}
-use Rattle.row_laws.specs.proposal_core.Lists.{len_in}
-use Rattle.row_laws.specs.view_state.declared.views.Views.{Views}
-use Rattle.row_laws.specs.node_state.declared.config.Config.{Config}
-use Rattle.row_laws.specs.node_state.declared.group.GroupRow.{GroupRow}
-use Rattle.row_laws.specs.node_state.declared.state.Core.{Core}
-use Rattle.row_laws.specs.node_state.State.{AllAfter, InNameOrder, new_row, row_found, row_of, rows_with, with_row, list_of, len_of, leader_by, is_this, leader_in, leads_in, led_groups, has_name}
-use Rattle.row_laws.proofs.node_state_laws.NameOrder.{text_self, lt_self, name_lt_trans, cases_text, row_here, row_there}
+use Rattle.rsct_packet.specs.Text.{name_lt}
+use Rattle.rsct_packet.specs.Search.{Has}
+use Rattle.rsct_packet.proofs.HasLaws.{has_filter, has_map}
+use Rattle.proposal_core.specs.Lists.{len_in}
+use Rattle.view_state.specs.declared.views.Views.{Views}
+use Rattle.node_state.specs.declared.config.Config.{Config}
+use Rattle.node_state.specs.declared.group.GroupRow.{GroupRow}
+use Rattle.node_state.specs.declared.state.Core.{Core}
+use Rattle.node_state.specs.State.{AllAfter, InNameOrder, new_row, row_found, row_of, rows_with, with_row, list_of, len_of, leader_by, is_this, leader_in, leads_in, led_groups, has_name}
+use Rattle.node_state.proofs.NameOrder.{text_self, lt_self, name_lt_trans, cases_text, row_here, row_there}
 use Rattle.provider_laws.proofs.resting.Orderly.{Orderly, alike, on_row}
 use Rattle.provider_laws.proofs.resting.Growing.{Grows}
 use Rattle.provider_laws.proofs.resting.Beginning.{Keeps}

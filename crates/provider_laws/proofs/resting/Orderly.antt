@@ -3,34 +3,34 @@ use Rattle.std.proofs.Common.{◌≡◌, ◌≤◌, ◌<◌, ℕ, List, [], ◌�
 use Rattle.std.specs.Prelude.{◌&&◌, not, find, map, filter, nat_lt, nat_le, is_none, if◌then◌else◌}
 use Rattle.std.specs.Str.{bytes_eq}
 use Rattle.std.proofs.lemmas.Bool.{ltb-true, leb-false}
-use Rattle.row_laws.specs.rsct_packet.declared.ids.ProviderId.{ProviderId}
-use Rattle.row_laws.specs.rsct_packet.Text.{name_lt}
-use Rattle.row_laws.specs.rsct_packet.Search.{Has}
-use Rattle.row_laws.specs.rsct_packet.Providers.{without}
-use Rattle.row_laws.proofs.rsct_packet_laws.HasLaws.{find_has, has_map}
-use Rattle.row_laws.specs.group_attr.declared.attrs.Attrs.{Attrs}
-use Rattle.row_laws.specs.group_attr.declared.attrs.Batch.{Batch}
-use Rattle.row_laws.specs.group_attr.Agree.{agree}
-use Rattle.row_laws.specs.proposal_core.declared.proposal.Cause.{Cause}
-use Rattle.row_laws.specs.proposal_core.declared.entry.Vote.{Vote}
-use Rattle.row_laws.specs.proposal_core.declared.group_state.GroupState.{GroupState}
-use Rattle.row_laws.specs.proposal_core.Fold.{max_providers, present}
-use Rattle.row_laws.specs.proposal_core.Lists.{is_at_limit}
-use Rattle.row_laws.specs.vote_phases.Tally.{TallyView}
-use Rattle.row_laws.specs.batch_rules.Waiting.{WaitingView, has_instance, waits_join, is_failing, add_failure, drop_join, batches_joins, batches_failures, left_of, failures_left, joins_left}
-use Rattle.row_laws.specs.client_callbacks.declared.told.Why.{Why}
-use Rattle.row_laws.specs.client_callbacks.declared.told.Why.TheVariants as why
-use Rattle.row_laws.specs.view_state.declared.install.Install.{Install}
-use Rattle.row_laws.specs.view_state.Bases.{bases_of}
-use Rattle.row_laws.specs.node_state.declared.group.GroupRow.{GroupRow}
-use Rattle.row_laws.specs.node_state.declared.group.Led.{Led}
-use Rattle.row_laws.specs.node_state.declared.state.Core.{Core}
-use Rattle.row_laws.specs.node_state.State.{InNameOrder, nothing_led, new_row, row_found, row_of, rows_with, with_row, with_led, led_of, list_of, state_of, decisions_with, has_name}
-use Rattle.row_laws.specs.node_state.Deciding.{keep_decision, lacks_source, source_len, is_idle_empty, meant_attrs, join_refusal, keep_attrs, wait_join}
-use Rattle.row_laws.specs.node_state.Following.{vote_cast}
-use Rattle.row_laws.specs.node_state.Applying.{base_row}
-use Rattle.row_laws.proofs.node_state_laws.NameOrder.{KeepsName, row_here, rows_ordered}
-use Rattle.row_laws.proofs.step_refinement_laws.BaseOrder.{bases_ordered}
+use Rattle.rsct_packet.specs.declared.ids.ProviderId.{ProviderId}
+use Rattle.rsct_packet.specs.Text.{name_lt}
+use Rattle.rsct_packet.specs.Search.{Has}
+use Rattle.rsct_packet.specs.Providers.{without}
+use Rattle.rsct_packet.proofs.HasLaws.{find_has, has_map}
+use Rattle.group_attr.specs.declared.attrs.Attrs.{Attrs}
+use Rattle.group_attr.specs.declared.attrs.Batch.{Batch}
+use Rattle.group_attr.specs.Agree.{agree}
+use Rattle.proposal_core.specs.declared.proposal.Cause.{Cause}
+use Rattle.proposal_core.specs.declared.entry.Vote.{Vote}
+use Rattle.proposal_core.specs.declared.group_state.GroupState.{GroupState}
+use Rattle.proposal_core.specs.Fold.{max_providers, present}
+use Rattle.proposal_core.specs.Lists.{is_at_limit}
+use Rattle.vote_phases.specs.Tally.{TallyView}
+use Rattle.batch_rules.specs.Waiting.{WaitingView, has_instance, waits_join, is_failing, add_failure, drop_join, batches_joins, batches_failures, left_of, failures_left, joins_left}
+use Rattle.client_callbacks.specs.declared.told.Why.{Why}
+use Rattle.client_callbacks.specs.declared.told.Why.TheVariants as why
+use Rattle.view_state.specs.declared.install.Install.{Install}
+use Rattle.view_state.specs.Bases.{bases_of}
+use Rattle.node_state.specs.declared.group.GroupRow.{GroupRow}
+use Rattle.node_state.specs.declared.group.Led.{Led}
+use Rattle.node_state.specs.declared.state.Core.{Core}
+use Rattle.node_state.specs.State.{InNameOrder, nothing_led, new_row, row_found, row_of, rows_with, with_row, with_led, led_of, list_of, state_of, decisions_with, has_name}
+use Rattle.node_state.specs.Deciding.{keep_decision, lacks_source, source_len, is_idle_empty, meant_attrs, join_refusal, keep_attrs, wait_join}
+use Rattle.node_state.specs.Following.{vote_cast}
+use Rattle.node_state.specs.Applying.{base_row}
+use Rattle.node_state.proofs.NameOrder.{KeepsName, row_here, rows_ordered}
+use Rattle.step_refinement.proofs.BaseOrder.{bases_ordered}
 
 abbrev pub Few : WaitingView → Type 0
 Few w = (length w.joins ≤ 64) × (length w.failures ≤ 64)

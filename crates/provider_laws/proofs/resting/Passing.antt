@@ -1,12 +1,12 @@
 -- The end of a step leaves each led group at rest, and where each rests it changes nothing.
 use Rattle.std.proofs.Common.{◌≡◌, ◌≤◌, ◌<◌, ◌⊎◌, ℕ, zero, suc, ◌+◌, ◌*◌, List, [], ◌∷◌, length, fold, Bool, true, false, refl, sym, ap, ◌∙◌, subst, inl, inr, arith}
 use Rattle.std.specs.Prelude.{◌-◌}
-use Rattle.row_laws.specs.rsct_packet.Search.{Has}
-use Rattle.row_laws.specs.node_state.declared.state.Core.{Core}
-use Rattle.row_laws.specs.node_state.State.{row_of, list_of, len_of, led_groups}
-use Rattle.row_laws.specs.node_state.HandOn.{Answering}
-use Rattle.row_laws.specs.node_state.Ending.{Pass, quiet, may_begin, first_begins, group_begins, one_pass, passes}
-use Rattle.row_laws.proofs.node_state_laws.NameOrder.{cases_text}
+use Rattle.rsct_packet.specs.Search.{Has}
+use Rattle.node_state.specs.declared.state.Core.{Core}
+use Rattle.node_state.specs.State.{row_of, list_of, len_of, led_groups}
+use Rattle.node_state.specs.HandOn.{Answering}
+use Rattle.node_state.specs.Ending.{Pass, quiet, may_begin, first_begins, group_begins, one_pass, passes}
+use Rattle.node_state.proofs.NameOrder.{cases_text}
 use Rattle.provider_laws.proofs.resting.Orderly.{Orderly, row_few}
 use Rattle.provider_laws.proofs.resting.Onward.{IsNamed, Onward, self, onward_then, named_on, led_same, led_named}
 use Rattle.provider_laws.proofs.resting.Trying.{Rest, rest_on, Still, still_self, still_then, len_still, len_still_at, count, Outcome, Grown, Used, Rests}

@@ -2,26 +2,26 @@
 use Rattle.std.proofs.Common.{◌≡◌, ◌≤◌, ◌<◌, ℕ, zero, suc, ◌+◌, List, [], length, Option, Some, None, Bool, true, false, refl, sym, ap, ◌∙◌, subst, arith}
 use Rattle.std.specs.Prelude.{◌&&◌, ◌||◌, not, filter, is_none, nat_le}
 use Rattle.std.proofs.lemmas.Bool.{leb-false}
-use Rattle.row_laws.specs.rsct_packet.declared.ids.ProviderId.{ProviderId}
-use Rattle.row_laws.specs.rsct_packet.Lists.{is_empty}
-use Rattle.row_laws.specs.group_attr.declared.attrs.Attrs.{Attrs}
-use Rattle.row_laws.specs.group_attr.declared.attrs.Phases.{Phases}
-use Rattle.row_laws.specs.proposal_core.declared.proposal.Failure.{Failure}
-use Rattle.row_laws.specs.proposal_core.declared.proposal.Proposal.{Proposal}
-use Rattle.row_laws.specs.proposal_core.declared.proposal.Proposal.TheVariants.{Join, Fail, Reflect}
-use Rattle.row_laws.specs.proposal_core.declared.group_state.GroupState.{GroupState}
-use Rattle.row_laws.specs.proposal_core.GroupView.{GroupView}
-use Rattle.row_laws.specs.proposal_core.Lists.{max_places, max_bytes, list_or_new, is_at_limit}
-use Rattle.row_laws.specs.batch_rules.Waiting.{WaitingView, batches_joins, batches_failures, chosen_of, next_joins, joins_left}
-use Rattle.row_laws.specs.source_target.declared.Due.{Due}
-use Rattle.row_laws.specs.source_target.declared.Due.TheVariants as due
-use Rattle.row_laws.specs.source_target.Due as target
-use Rattle.row_laws.specs.node_state.declared.state.Core.{Core}
-use Rattle.row_laws.specs.node_state.State.{row_of, led_of, list_of, state_of}
-use Rattle.row_laws.specs.node_state.HandOn.{Answering}
-use Rattle.row_laws.specs.node_state.Leading.{with_waiting, begins}
-use Rattle.row_laws.specs.node_state.Deciding.{known_state, lacks_source}
-use Rattle.row_laws.specs.node_state.Ending.{Pass, quiet, begun_now, failures_begin, due_begins, source_begins, attrs_for, carried_len, source_refused, joins_begin, or_due, or_joins, may_begin, first_begins}
+use Rattle.rsct_packet.specs.declared.ids.ProviderId.{ProviderId}
+use Rattle.rsct_packet.specs.Lists.{is_empty}
+use Rattle.group_attr.specs.declared.attrs.Attrs.{Attrs}
+use Rattle.group_attr.specs.declared.attrs.Phases.{Phases}
+use Rattle.proposal_core.specs.declared.proposal.Failure.{Failure}
+use Rattle.proposal_core.specs.declared.proposal.Proposal.{Proposal}
+use Rattle.proposal_core.specs.declared.proposal.Proposal.TheVariants.{Join, Fail, Reflect}
+use Rattle.proposal_core.specs.declared.group_state.GroupState.{GroupState}
+use Rattle.proposal_core.specs.GroupView.{GroupView}
+use Rattle.proposal_core.specs.Lists.{max_places, max_bytes, list_or_new, is_at_limit}
+use Rattle.batch_rules.specs.Waiting.{WaitingView, batches_joins, batches_failures, chosen_of, next_joins, joins_left}
+use Rattle.source_target.specs.declared.Due.{Due}
+use Rattle.source_target.specs.declared.Due.TheVariants as due
+use Rattle.source_target.specs.Due as target
+use Rattle.node_state.specs.declared.state.Core.{Core}
+use Rattle.node_state.specs.State.{row_of, led_of, list_of, state_of}
+use Rattle.node_state.specs.HandOn.{Answering}
+use Rattle.node_state.specs.Leading.{with_waiting, begins}
+use Rattle.node_state.specs.Deciding.{known_state, lacks_source}
+use Rattle.node_state.specs.Ending.{Pass, quiet, begun_now, failures_begin, due_begins, source_begins, attrs_for, carried_len, source_refused, joins_begin, or_due, or_joins, may_begin, first_begins}
 use Rattle.provider_laws.proofs.resting.Orderly.{Orderly, joins_few}
 use Rattle.provider_laws.proofs.resting.Onward.{IsNamed, named_on}
 use Rattle.provider_laws.proofs.resting.Trying.{fit_of, lists_of, due_fits, SettledDue, SettledBy, Settled, Rest, Still, still_self, still_then, Held, held_source, still_waiting, waiting_here, begins_on, begins_off, count, Outcome, Grown, Rests, Failing, Ends, Nothing, after_still, begins_try, left_bound, left_fewer, left_less, nothing_long, failures_try}

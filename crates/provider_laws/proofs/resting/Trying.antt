@@ -2,37 +2,37 @@
 use Rattle.std.proofs.Common.{◌≡◌, ◌≤◌, ◌<◌, ◌⊎◌, ℕ, zero, suc, ◌+◌, List, [], ◌∷◌, length, Option, Some, None, Bool, true, false, refl, sym, ap, ◌∙◌, subst, inl, inr, arith}
 use Rattle.std.specs.Prelude.{filter}
 use Rattle.std.specs.Option.{option_map}
-use Rattle.row_laws.specs.rsct_packet.declared.ids.ProviderId.{ProviderId}
-use Rattle.row_laws.specs.rsct_packet.Lists.{is_empty}
-use Rattle.row_laws.specs.rsct_packet.Providers.{among}
-use Rattle.row_laws.specs.group_attr.declared.attrs.Phases.{Phases}
-use Rattle.row_laws.specs.group_attr.declared.attrs.Phases.TheVariants.{One, Many}
-use Rattle.row_laws.specs.proposal_core.declared.proposal.Failure.{Failure}
-use Rattle.row_laws.specs.proposal_core.declared.proposal.Proposal.{Proposal}
-use Rattle.row_laws.specs.proposal_core.declared.proposal.Proposal.TheVariants.{Fail, Reflect}
-use Rattle.row_laws.specs.proposal_core.declared.entry.Entry.{Entry}
-use Rattle.row_laws.specs.proposal_core.declared.entry.Entry.TheVariants.{Once, Begin}
-use Rattle.row_laws.specs.proposal_core.declared.group_state.GroupState.{GroupState}
-use Rattle.row_laws.specs.proposal_core.GroupView.{GroupView}
-use Rattle.row_laws.specs.proposal_core.Lists.{list_or_new, len_in, entry_fits, with_entry}
-use Rattle.row_laws.specs.batch_rules.Waiting.{WaitingView, batches_failures, chosen_of, left_of, next_failures, failures_left}
-use Rattle.row_laws.specs.source_target.declared.Due.{Due}
-use Rattle.row_laws.specs.source_target.declared.Due.TheVariants as due
-use Rattle.row_laws.specs.source_target.Due as target
-use Rattle.row_laws.specs.client_callbacks.declared.told.Why.{Why}
-use Rattle.row_laws.specs.client_callbacks.declared.told.Why.TheVariants.{NoSource}
-use Rattle.row_laws.specs.node_state.declared.group.GroupRow.{GroupRow}
-use Rattle.row_laws.specs.node_state.declared.group.Led.{Led}
-use Rattle.row_laws.specs.node_state.declared.packet.Body.{Body}
-use Rattle.row_laws.specs.node_state.declared.packet.Body.TheVariants as body
-use Rattle.row_laws.specs.node_state.declared.state.Core.{Core}
-use Rattle.row_laws.specs.node_state.State.{row_of, with_row, with_led, led_of, list_of, state_of, len_of, fits_at_end, others, least_acked, leader_of, decisions_with, recorded}
-use Rattle.row_laws.specs.node_state.Sending.{send_on, sent, send_all, network_to}
-use Rattle.row_laws.specs.node_state.HandOn.{Answering}
-use Rattle.row_laws.specs.node_state.Leading.{put, with_waiting, appended, append_if_fits, tally_opened, closes, begin_many, begins}
-use Rattle.row_laws.specs.node_state.Deciding.{keep_decision, refused, source_len}
-use Rattle.row_laws.specs.node_state.Ending.{Pass, begun_now, failures_begin, source_refused, may_begin}
-use Rattle.row_laws.proofs.node_state_laws.NameOrder.{cases_text, row_here, row_there}
+use Rattle.rsct_packet.specs.declared.ids.ProviderId.{ProviderId}
+use Rattle.rsct_packet.specs.Lists.{is_empty}
+use Rattle.rsct_packet.specs.Providers.{among}
+use Rattle.group_attr.specs.declared.attrs.Phases.{Phases}
+use Rattle.group_attr.specs.declared.attrs.Phases.TheVariants.{One, Many}
+use Rattle.proposal_core.specs.declared.proposal.Failure.{Failure}
+use Rattle.proposal_core.specs.declared.proposal.Proposal.{Proposal}
+use Rattle.proposal_core.specs.declared.proposal.Proposal.TheVariants.{Fail, Reflect}
+use Rattle.proposal_core.specs.declared.entry.Entry.{Entry}
+use Rattle.proposal_core.specs.declared.entry.Entry.TheVariants.{Once, Begin}
+use Rattle.proposal_core.specs.declared.group_state.GroupState.{GroupState}
+use Rattle.proposal_core.specs.GroupView.{GroupView}
+use Rattle.proposal_core.specs.Lists.{list_or_new, len_in, entry_fits, with_entry}
+use Rattle.batch_rules.specs.Waiting.{WaitingView, batches_failures, chosen_of, left_of, next_failures, failures_left}
+use Rattle.source_target.specs.declared.Due.{Due}
+use Rattle.source_target.specs.declared.Due.TheVariants as due
+use Rattle.source_target.specs.Due as target
+use Rattle.client_callbacks.specs.declared.told.Why.{Why}
+use Rattle.client_callbacks.specs.declared.told.Why.TheVariants.{NoSource}
+use Rattle.node_state.specs.declared.group.GroupRow.{GroupRow}
+use Rattle.node_state.specs.declared.group.Led.{Led}
+use Rattle.node_state.specs.declared.packet.Body.{Body}
+use Rattle.node_state.specs.declared.packet.Body.TheVariants as body
+use Rattle.node_state.specs.declared.state.Core.{Core}
+use Rattle.node_state.specs.State.{row_of, with_row, with_led, led_of, list_of, state_of, len_of, fits_at_end, others, least_acked, leader_of, decisions_with, recorded}
+use Rattle.node_state.specs.Sending.{send_on, sent, send_all, network_to}
+use Rattle.node_state.specs.HandOn.{Answering}
+use Rattle.node_state.specs.Leading.{put, with_waiting, appended, append_if_fits, tally_opened, closes, begin_many, begins}
+use Rattle.node_state.specs.Deciding.{keep_decision, refused, source_len}
+use Rattle.node_state.specs.Ending.{Pass, begun_now, failures_begin, source_refused, may_begin}
+use Rattle.node_state.proofs.NameOrder.{cases_text, row_here, row_there}
 use Rattle.provider_laws.proofs.resting.Orderly.{Orderly, MildLed, MildWaits, failures_few}
 use Rattle.provider_laws.proofs.resting.Growing.{led_grows, put_grows}
 use Rattle.provider_laws.proofs.resting.Beginning.{on_record, on_sent_all, on_handed, on_forgets_least, on_new_members, on_opened, on_closes}

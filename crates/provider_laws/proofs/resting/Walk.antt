@@ -1,22 +1,22 @@
 -- In appending, closing and beginning groups stay in the order of their names, and few joins and failures wait.
 use Rattle.std.proofs.Common.{ℕ, List, Option, Bool, true, false}
 use Rattle.std.specs.Prelude.{fold}
-use Rattle.row_laws.specs.rsct_packet.declared.ids.ProviderId.{ProviderId}
-use Rattle.row_laws.specs.group_attr.declared.attrs.Phases.{Phases}
-use Rattle.row_laws.specs.proposal_core.declared.proposal.Proposal.{Proposal}
-use Rattle.row_laws.specs.proposal_core.declared.entry.Entry.{Entry}
-use Rattle.row_laws.specs.batch_rules.Waiting.{WaitingView}
-use Rattle.row_laws.specs.vote_phases.Tally.{TallyView}
-use Rattle.row_laws.specs.client_callbacks.declared.told.Why.{Why}
-use Rattle.row_laws.specs.session_state.declared.state.SessionState.{SessionState}
-use Rattle.row_laws.specs.node_state.declared.happened.Happened.{Happened}
-use Rattle.row_laws.specs.node_state.declared.packet.Body.{Body}
-use Rattle.row_laws.specs.node_state.declared.state.Core.{Core}
-use Rattle.row_laws.specs.node_state.State.{forget_below, recorded, recorded_all, with_sessions}
-use Rattle.row_laws.specs.node_state.Sending.{send_on, sent, send_all, send_if_known}
-use Rattle.row_laws.specs.node_state.HandOn.{Answering}
-use Rattle.row_laws.specs.node_state.Leading.{put_and_hand, forget_least, with_waiting, append_if_fits, with_tally, tally_opened, closes, begins}
-use Rattle.row_laws.specs.node_state.Deciding.{keep_decision, refused}
+use Rattle.rsct_packet.specs.declared.ids.ProviderId.{ProviderId}
+use Rattle.group_attr.specs.declared.attrs.Phases.{Phases}
+use Rattle.proposal_core.specs.declared.proposal.Proposal.{Proposal}
+use Rattle.proposal_core.specs.declared.entry.Entry.{Entry}
+use Rattle.batch_rules.specs.Waiting.{WaitingView}
+use Rattle.vote_phases.specs.Tally.{TallyView}
+use Rattle.client_callbacks.specs.declared.told.Why.{Why}
+use Rattle.session_state.specs.declared.state.SessionState.{SessionState}
+use Rattle.node_state.specs.declared.happened.Happened.{Happened}
+use Rattle.node_state.specs.declared.packet.Body.{Body}
+use Rattle.node_state.specs.declared.state.Core.{Core}
+use Rattle.node_state.specs.State.{forget_below, recorded, recorded_all, with_sessions}
+use Rattle.node_state.specs.Sending.{send_on, sent, send_all, send_if_known}
+use Rattle.node_state.specs.HandOn.{Answering}
+use Rattle.node_state.specs.Leading.{put_and_hand, forget_least, with_waiting, append_if_fits, with_tally, tally_opened, closes, begins}
+use Rattle.node_state.specs.Deciding.{keep_decision, refused}
 use Rattle.provider_laws.proofs.resting.Orderly.{Orderly, MildWaits, alike, on_row}
 use Rattle.provider_laws.proofs.resting.Beginning.{Keeps}
 use Rattle.provider_laws.proofs.resting.Beginning as beginning

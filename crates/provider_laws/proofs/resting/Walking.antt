@@ -2,58 +2,58 @@
 use Rattle.std.proofs.Common.{◌≡◌, ℕ, List, Option, Some, None, Bool, true, false, refl}
 use Rattle.std.specs.Prelude.{not, ◌==◌, ◌&&◌, filter, find, fold, flat_map, is_some}
 use Rattle.std.specs.Str.{bytes_eq}
-use Rattle.row_laws.specs.rsct_packet.declared.ids.ViewId.{ViewId}
-use Rattle.row_laws.specs.rsct_packet.declared.ids.ProviderId.{ProviderId}
-use Rattle.row_laws.specs.rsct_packet.declared.mask.Mask.{Mask}
-use Rattle.row_laws.specs.rsct_packet.Providers.{among}
-use Rattle.row_laws.specs.proposal_core.declared.proposal.Cause.TheVariants.{Died}
-use Rattle.row_laws.specs.proposal_core.declared.entry.Entry.{Entry}
-use Rattle.row_laws.specs.proposal_core.Fold.{present}
-use Rattle.row_laws.specs.proposal_core.Lists.{state_in}
-use Rattle.row_laws.specs.batch_rules.Waiting.{add_failure}
-use Rattle.row_laws.specs.rsct_packet.Mask.{nodes_of}
-use Rattle.row_laws.specs.adapter_ring.declared.ring.Ring.{Ring}
-use Rattle.row_laws.specs.adapter_ring.declared.packet.RingPacket.{RingPacket}
-use Rattle.row_laws.specs.adapter_ring.declared.packet.RingSend.{RingSend}
-use Rattle.row_laws.specs.adapter_ring.declared.packet.RingEvent.TheVariants as ring_event
-use Rattle.row_laws.specs.adapter_ring.declared.work.RingWork.{RingWork}
-use Rattle.row_laws.specs.adapter_ring.Rings.{ring_step}
-use Rattle.row_laws.specs.node_reach.Reach as reach
-use Rattle.row_laws.specs.client_callbacks.declared.told.Why.TheVariants.{Dissolved}
-use Rattle.row_laws.specs.session_state.declared.state.Provider.{Provider}
-use Rattle.row_laws.specs.session_state.State.{provider_of, outstanding}
-use Rattle.row_laws.specs.view_state.declared.install.Install.{Install}
-use Rattle.row_laws.specs.view_state.declared.install.Base.{Base}
-use Rattle.row_laws.specs.view_state.Bases.{bases_of, base_named}
-use Rattle.row_laws.specs.view_state.declared.packet.ViewPacket.{ViewPacket}
-use Rattle.row_laws.specs.view_state.declared.packet.ViewPacket.TheVariants as packet
-use Rattle.row_laws.specs.view_state.declared.packet.ViewSend.{ViewSend}
-use Rattle.row_laws.specs.view_state.declared.views.ViewWork.{ViewWork}
-use Rattle.row_laws.specs.view_state.Views.{views_at_work, ask_row, prepare_row, answer_row, refuse_row, install_row, taken_row, gathering_ticks, install_again}
-use Rattle.row_laws.specs.packet_bodies.declared.body.ReportRow.{ReportRow}
-use Rattle.row_laws.specs.node_state.declared.group.GroupRow.{GroupRow}
-use Rattle.row_laws.specs.node_state.declared.happened.Happened.TheVariants as happened
-use Rattle.row_laws.specs.node_state.declared.packet.Body.{Body}
-use Rattle.row_laws.specs.node_state.declared.packet.Body.TheVariants as body
-use Rattle.row_laws.specs.node_state.declared.packet.Packet.{Packet}
-use Rattle.row_laws.specs.node_state.declared.state.Core.{Core}
-use Rattle.row_laws.specs.node_state.Settings.{is_fixed, is_rings}
-use Rattle.row_laws.specs.node_state.State.{state_of, held_rows, led_groups}
-use Rattle.row_laws.specs.node_state.Sending.{send_on, sent}
-use Rattle.row_laws.specs.node_state.HandOn.{Answering}
-use Rattle.row_laws.specs.node_state.Leading.{put_and_hand, with_waiting}
-use Rattle.row_laws.specs.node_state.Applying.{Lacking, lacking, own_parts, fill_lists, level_set, view_entered, is_in_base, number_of, dissolved, dissolved_if, group_dissolved, sides_dissolved, entering_note, entering_noted, taken_sent, owed_sent, wait_failed, phase_reopened, lead, lead_groups, entered, entered_if, apply_install, views_taken}
-use Rattle.row_laws.specs.node_state.Ticks.{row_reported, take_report, ring_put, set_records, ring_taken, ring_row_of, ring_row, rings_union, report_of, send_report, rings_tick, ring_ask, tick_rings, tick_views, tick_row}
-use Rattle.row_laws.specs.node_state.Status.{status_text}
-use Rattle.row_laws.specs.node_state.Step.{NodeEvent, Ticks, Asks, Given, Calls, Garbage, is_used, used_if, take_order, view_row, take_body, packet_row, event_row, stepped, at_work}
-use Rattle.row_laws.specs.node_state.Ticks.{tick_owed, tick_led}
-use Rattle.row_laws.specs.node_state.Ending.{end_step}
-use Rattle.row_laws.specs.node_state.Calls.{take_call}
+use Rattle.rsct_packet.specs.declared.ids.ViewId.{ViewId}
+use Rattle.rsct_packet.specs.declared.ids.ProviderId.{ProviderId}
+use Rattle.rsct_packet.specs.declared.mask.Mask.{Mask}
+use Rattle.rsct_packet.specs.Providers.{among}
+use Rattle.proposal_core.specs.declared.proposal.Cause.TheVariants.{Died}
+use Rattle.proposal_core.specs.declared.entry.Entry.{Entry}
+use Rattle.proposal_core.specs.Fold.{present}
+use Rattle.proposal_core.specs.Lists.{state_in}
+use Rattle.batch_rules.specs.Waiting.{add_failure}
+use Rattle.rsct_packet.specs.Mask.{nodes_of}
+use Rattle.adapter_ring.specs.declared.ring.Ring.{Ring}
+use Rattle.adapter_ring.specs.declared.packet.RingPacket.{RingPacket}
+use Rattle.adapter_ring.specs.declared.packet.RingSend.{RingSend}
+use Rattle.adapter_ring.specs.declared.packet.RingEvent.TheVariants as ring_event
+use Rattle.adapter_ring.specs.declared.work.RingWork.{RingWork}
+use Rattle.adapter_ring.specs.Rings.{ring_step}
+use Rattle.node_reach.specs.Reach as reach
+use Rattle.client_callbacks.specs.declared.told.Why.TheVariants.{Dissolved}
+use Rattle.session_state.specs.declared.state.Provider.{Provider}
+use Rattle.session_state.specs.State.{provider_of, outstanding}
+use Rattle.view_state.specs.declared.install.Install.{Install}
+use Rattle.view_state.specs.declared.install.Base.{Base}
+use Rattle.view_state.specs.Bases.{bases_of, base_named}
+use Rattle.view_state.specs.declared.packet.ViewPacket.{ViewPacket}
+use Rattle.view_state.specs.declared.packet.ViewPacket.TheVariants as packet
+use Rattle.view_state.specs.declared.packet.ViewSend.{ViewSend}
+use Rattle.view_state.specs.declared.views.ViewWork.{ViewWork}
+use Rattle.view_state.specs.Views.{views_at_work, ask_row, prepare_row, answer_row, refuse_row, install_row, taken_row, gathering_ticks, install_again}
+use Rattle.packet_bodies.specs.declared.body.ReportRow.{ReportRow}
+use Rattle.node_state.specs.declared.group.GroupRow.{GroupRow}
+use Rattle.node_state.specs.declared.happened.Happened.TheVariants as happened
+use Rattle.node_state.specs.declared.packet.Body.{Body}
+use Rattle.node_state.specs.declared.packet.Body.TheVariants as body
+use Rattle.node_state.specs.declared.packet.Packet.{Packet}
+use Rattle.node_state.specs.declared.state.Core.{Core}
+use Rattle.node_state.specs.Settings.{is_fixed, is_rings}
+use Rattle.node_state.specs.State.{state_of, held_rows, led_groups}
+use Rattle.node_state.specs.Sending.{send_on, sent}
+use Rattle.node_state.specs.HandOn.{Answering}
+use Rattle.node_state.specs.Leading.{put_and_hand, with_waiting}
+use Rattle.node_state.specs.Applying.{Lacking, lacking, own_parts, fill_lists, level_set, view_entered, is_in_base, number_of, dissolved, dissolved_if, group_dissolved, sides_dissolved, entering_note, entering_noted, taken_sent, owed_sent, wait_failed, phase_reopened, lead, lead_groups, entered, entered_if, apply_install, views_taken}
+use Rattle.node_state.specs.Ticks.{row_reported, take_report, ring_put, set_records, ring_taken, ring_row_of, ring_row, rings_union, report_of, send_report, rings_tick, ring_ask, tick_rings, tick_views, tick_row}
+use Rattle.node_state.specs.Status.{status_text}
+use Rattle.node_state.specs.Step.{NodeEvent, Ticks, Asks, Given, Calls, Garbage, is_used, used_if, take_order, view_row, take_body, packet_row, event_row, stepped, at_work}
+use Rattle.node_state.specs.Ticks.{tick_owed, tick_led}
+use Rattle.node_state.specs.Ending.{end_step}
+use Rattle.node_state.specs.Calls.{take_call}
 use Rattle.provider_laws.proofs.resting.Calling.{on_call}
 use Rattle.provider_laws.proofs.resting.Orderly.{Orderly, alike, based, fails_few}
 use Rattle.provider_laws.proofs.resting.Walk.{on_either, on_fold, on_sent_on, on_sent, on_sent_all, on_records, on_record, on_sessions, on_put_handed, on_waiting, on_opened, on_closes}
-use Rattle.row_laws.specs.session_state.HandOn.{take_telling}
-use Rattle.row_laws.specs.node_state.State.{recorded_all}
+use Rattle.session_state.specs.HandOn.{take_telling}
+use Rattle.node_state.specs.State.{recorded_all}
 use Rattle.provider_laws.proofs.resting.Rows.{on_requests, on_votes, on_owed_part, on_lookup, on_tell, on_name, on_request, on_entry, on_ack, on_vote, on_gone, on_led_part}
 
 -- ---- entering a view

@@ -4,31 +4,31 @@ use Rattle.std.specs.Prelude.{◌&&◌, ◌==◌, reverse, flat_map, map, if◌t
 use Rattle.std.specs.Str.{bytes_eq}
 use Rattle.std.proofs.lemmas.Bool.Decides.{nat_tests}
 use Rattle.std.proofs.lemmas.List.{reverse-append}
-use Rattle.row_laws.specs.rsct_packet.declared.ids.ViewId.{ViewId}
-use Rattle.row_laws.specs.rsct_packet.declared.ids.ProviderId.{ProviderId}
-use Rattle.row_laws.specs.rsct_packet.Ids.{same_view}
-use Rattle.row_laws.specs.rsct_packet.Search.{Has}
-use Rattle.row_laws.specs.proposal_core.declared.entry.Entry.{Entry}
-use Rattle.row_laws.specs.proposal_core.Fold.{after}
-use Rattle.row_laws.specs.proposal_core.Lists.{list_or_new, with_entry}
-use Rattle.row_laws.specs.client_callbacks.declared.ballot.Filled.{Filled}
-use Rattle.row_laws.specs.client_callbacks.declared.told.Why.TheVariants.{Dissolved}
-use Rattle.row_laws.specs.session_state.HandOn.{casts_out}
-use Rattle.row_laws.specs.view_state.declared.install.Install.{Install}
-use Rattle.row_laws.specs.view_state.declared.install.Base.{Base}
-use Rattle.row_laws.specs.view_state.Bases.{bases_of}
-use Rattle.row_laws.specs.view_state.Views.{views_entered}
-use Rattle.row_laws.specs.node_state.declared.group.GroupRow.{GroupRow}
-use Rattle.row_laws.specs.node_state.declared.happened.Happened.{Happened}
-use Rattle.row_laws.specs.node_state.declared.happened.Happened.TheVariants as happened
-use Rattle.row_laws.specs.node_state.declared.state.Core.{Core}
-use Rattle.row_laws.specs.node_state.State.{InNameOrder, row_of, with_row, list_of, state_of, len_of, held_rows, recorded, recorded_all, with_sessions}
-use Rattle.row_laws.specs.node_state.HandOn.{heard}
-use Rattle.row_laws.specs.node_state.Leading.{put}
-use Rattle.row_laws.specs.node_state.Applying.{base_record, view_entered, dissolved}
-use Rattle.row_laws.specs.run_safety.Past.{History, earlier, is_list, puts_after, puts_of}
-use Rattle.row_laws.specs.run_safety.Bases.{Bases, base_state, state_of_list}
-use Rattle.row_laws.proofs.node_state_laws.NameOrder.{cases_text, text_self, text_other, row_here, row_there}
+use Rattle.rsct_packet.specs.declared.ids.ViewId.{ViewId}
+use Rattle.rsct_packet.specs.declared.ids.ProviderId.{ProviderId}
+use Rattle.rsct_packet.specs.Ids.{same_view}
+use Rattle.rsct_packet.specs.Search.{Has}
+use Rattle.proposal_core.specs.declared.entry.Entry.{Entry}
+use Rattle.proposal_core.specs.Fold.{after}
+use Rattle.proposal_core.specs.Lists.{list_or_new, with_entry}
+use Rattle.client_callbacks.specs.declared.ballot.Filled.{Filled}
+use Rattle.client_callbacks.specs.declared.told.Why.TheVariants.{Dissolved}
+use Rattle.session_state.specs.HandOn.{casts_out}
+use Rattle.view_state.specs.declared.install.Install.{Install}
+use Rattle.view_state.specs.declared.install.Base.{Base}
+use Rattle.view_state.specs.Bases.{bases_of}
+use Rattle.view_state.specs.Views.{views_entered}
+use Rattle.node_state.specs.declared.group.GroupRow.{GroupRow}
+use Rattle.node_state.specs.declared.happened.Happened.{Happened}
+use Rattle.node_state.specs.declared.happened.Happened.TheVariants as happened
+use Rattle.node_state.specs.declared.state.Core.{Core}
+use Rattle.node_state.specs.State.{InNameOrder, row_of, with_row, list_of, state_of, len_of, held_rows, recorded, recorded_all, with_sessions}
+use Rattle.node_state.specs.HandOn.{heard}
+use Rattle.node_state.specs.Leading.{put}
+use Rattle.node_state.specs.Applying.{base_record, view_entered, dissolved}
+use Rattle.run_safety.specs.Past.{History, earlier, is_list, puts_after, puts_of}
+use Rattle.run_safety.specs.Bases.{Bases, base_state, state_of_list}
+use Rattle.node_state.proofs.NameOrder.{cases_text, text_self, text_other, row_here, row_there}
 use Rattle.row_laws.specs.hearing.Changes.{Inner, Same, handing, entering, Does, Stays, Then, Records, Hands, Loses, Joins, Votes, Enters}
 use Rattle.row_laws.proofs.hearing.Attending.{pushed, pushed_reverse, heard_at}
 use Rattle.provider_laws.proofs.attending.Parts.{fold_push}

@@ -2,34 +2,34 @@
 use Rattle.std.proofs.Common.{◌≡◌, ◌≤◌, ℕ, ◌+◌, List, [], ◌∷◌, ◌++◌, length, take, Option, true, refl, sym, ap, ◌∙◌, subst, inl, inr, append_assoc, append-nil, length-append, arith}
 use Rattle.std.specs.Prelude.{reverse, flat_map, map}
 use Rattle.std.proofs.lemmas.List.{reverse-append}
-use Rattle.row_laws.specs.rsct_packet.declared.ids.ViewId.{ViewId}
-use Rattle.row_laws.specs.rsct_packet.declared.ids.ProviderId.{ProviderId}
-use Rattle.row_laws.specs.rsct_packet.Search.{Has}
-use Rattle.row_laws.proofs.rsct_packet_laws.HasLaws.{append_has_left, append_has_right, has_map}
-use Rattle.row_laws.specs.proposal_core.declared.entry.Entry.{Entry}
-use Rattle.row_laws.specs.proposal_core.declared.group_state.GroupState.{GroupState}
-use Rattle.row_laws.specs.proposal_core.Fold.{fits, after}
-use Rattle.row_laws.specs.client_callbacks.declared.ballot.Filled.{Filled}
-use Rattle.row_laws.specs.session_state.declared.state.SessionState.{SessionState}
-use Rattle.row_laws.specs.session_state.Calls.{keeps}
-use Rattle.row_laws.specs.session_state.HandOn.{casts_out, handed_on, take_telling}
-use Rattle.row_laws.specs.view_state.declared.install.Install.{Install}
-use Rattle.row_laws.specs.view_state.declared.install.Base.{Base}
-use Rattle.row_laws.specs.view_state.Bases.{bases_of}
-use Rattle.row_laws.specs.view_state.Views.{views_entered}
-use Rattle.row_laws.specs.client_callbacks.declared.told.Why.TheVariants.{Dissolved}
-use Rattle.row_laws.specs.node_state.declared.happened.Happened.{Happened}
-use Rattle.row_laws.specs.node_state.declared.happened.Happened.TheVariants as happened
-use Rattle.row_laws.specs.node_state.declared.state.Core.{Core}
-use Rattle.row_laws.specs.node_state.State.{state_of, len_of, with_row, held_rows, recorded, recorded_all, with_sessions}
-use Rattle.row_laws.specs.node_state.HandOn.{heard}
-use Rattle.row_laws.specs.node_state.Leading.{put}
-use Rattle.row_laws.specs.node_state.Applying.{level_set, base_row, base_leader, base_record, view_entered, dissolved}
-use Rattle.row_laws.specs.run_safety.Past.{History, earlier, records_of, puts_of}
-use Rattle.row_laws.specs.run_safety.Bases.{Bases, state_of_list}
+use Rattle.rsct_packet.specs.declared.ids.ViewId.{ViewId}
+use Rattle.rsct_packet.specs.declared.ids.ProviderId.{ProviderId}
+use Rattle.rsct_packet.specs.Search.{Has}
+use Rattle.rsct_packet.proofs.HasLaws.{append_has_left, append_has_right, has_map}
+use Rattle.proposal_core.specs.declared.entry.Entry.{Entry}
+use Rattle.proposal_core.specs.declared.group_state.GroupState.{GroupState}
+use Rattle.proposal_core.specs.Fold.{fits, after}
+use Rattle.client_callbacks.specs.declared.ballot.Filled.{Filled}
+use Rattle.session_state.specs.declared.state.SessionState.{SessionState}
+use Rattle.session_state.specs.Calls.{keeps}
+use Rattle.session_state.specs.HandOn.{casts_out, handed_on, take_telling}
+use Rattle.view_state.specs.declared.install.Install.{Install}
+use Rattle.view_state.specs.declared.install.Base.{Base}
+use Rattle.view_state.specs.Bases.{bases_of}
+use Rattle.view_state.specs.Views.{views_entered}
+use Rattle.client_callbacks.specs.declared.told.Why.TheVariants.{Dissolved}
+use Rattle.node_state.specs.declared.happened.Happened.{Happened}
+use Rattle.node_state.specs.declared.happened.Happened.TheVariants as happened
+use Rattle.node_state.specs.declared.state.Core.{Core}
+use Rattle.node_state.specs.State.{state_of, len_of, with_row, held_rows, recorded, recorded_all, with_sessions}
+use Rattle.node_state.specs.HandOn.{heard}
+use Rattle.node_state.specs.Leading.{put}
+use Rattle.node_state.specs.Applying.{level_set, base_row, base_leader, base_record, view_entered, dissolved}
+use Rattle.run_safety.specs.Past.{History, earlier, records_of, puts_of}
+use Rattle.run_safety.specs.Bases.{Bases, state_of_list}
 use Rattle.row_laws.specs.hearing.Changes.{Same, handing, entering, Does, Stays, Then, Records, Hands, Loses, Joins, Votes, Enters}
 use Rattle.row_laws.proofs.hearing.Attending.{pushed, pushed_reverse, heard_at}
-use Rattle.row_laws.proofs.step_refinement_laws.Turns.{has_turned}
+use Rattle.step_refinement.proofs.Turns.{has_turned}
 use Rattle.row_laws.proofs.hearing.Sessions.{fewer_same, fewer_told}
 use Rattle.row_laws.proofs.hearing.Doing.{Hearing, hearing_does}
 use Rattle.provider_laws.proofs.single_casts.Asking.{Silent, inner_silent}

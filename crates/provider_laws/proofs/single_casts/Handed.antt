@@ -1,27 +1,27 @@
 -- What handing an entry on leaves of the phases that are open and of the ballots that are kept.
 use Rattle.std.proofs.Common.{◌≡◌, ℕ, List, [], ◌∷◌, ◌++◌, Option, Some, None, Bool, true, false, refl, sym, ap, ◌∙◌, subst, inl, inr, ◌⊎◌, ⊎_elim}
 use Rattle.std.specs.Prelude.{not, ◌==◌, ◌&&◌, find, fold, flat_map, if◌then◌else◌, filter}
-use Rattle.row_laws.specs.rsct_packet.declared.ids.ProviderId.{ProviderId}
-use Rattle.row_laws.specs.rsct_packet.declared.ids.ProtoId.{ProtoId}
-use Rattle.row_laws.specs.rsct_packet.Ids.{same_proto}
-use Rattle.row_laws.specs.rsct_packet.Providers.{same_provider}
-use Rattle.row_laws.specs.rsct_packet.Search.{Has, edit_where}
-use Rattle.row_laws.proofs.rsct_packet_laws.HasLaws.{has_filter, filter_has, has_append, append_has_left, append_has_right}
-use Rattle.row_laws.specs.proposal_core.declared.proposal.Proposal.{Proposal}
-use Rattle.row_laws.specs.proposal_core.declared.proposal.Proposal.TheVariants.{Join, Leave, Fail, Expel, State, Message, Attributes, Reflect}
-use Rattle.row_laws.specs.proposal_core.declared.entry.Entry.{Entry}
-use Rattle.row_laws.specs.proposal_core.declared.entry.Entry.TheVariants.{Once, Begin, Phase, Approve, Reject, Late}
-use Rattle.row_laws.specs.proposal_core.declared.group_state.GroupState.{GroupState}
-use Rattle.row_laws.specs.client_callbacks.declared.ballot.Filled.{Filled}
-use Rattle.row_laws.specs.session_state.declared.casts.Cast.{Cast}
-use Rattle.row_laws.specs.session_state.declared.state.OpenPhase.{OpenPhase}
-use Rattle.row_laws.specs.session_state.declared.state.KeptBallot.{KeptBallot}
-use Rattle.row_laws.specs.session_state.declared.state.Provider.{Provider}
-use Rattle.row_laws.specs.session_state.declared.state.SessionState.{SessionState}
-use Rattle.row_laws.specs.session_state.State.{is_provider, is_kept_in, provider_of, with_provider, end_request, without_providers}
-use Rattle.row_laws.specs.session_state.HandOn.{kept_ended, kept_after, beginners, hearers, taking_part, part_taken, asks, running_phase, is_late, opened_after, open_phases, kept_by, keep_casts, proposal_begun, requests_after, removed_from, casts_out, heard, handed_on}
-use Rattle.row_laws.proofs.node_state_laws.NameOrder.{text_other}
-use Rattle.row_laws.proofs.step_refinement_laws.SessionLaws.{provider_same, provider_self}
+use Rattle.rsct_packet.specs.declared.ids.ProviderId.{ProviderId}
+use Rattle.rsct_packet.specs.declared.ids.ProtoId.{ProtoId}
+use Rattle.rsct_packet.specs.Ids.{same_proto}
+use Rattle.rsct_packet.specs.Providers.{same_provider}
+use Rattle.rsct_packet.specs.Search.{Has, edit_where}
+use Rattle.rsct_packet.proofs.HasLaws.{has_filter, filter_has, has_append, append_has_left, append_has_right}
+use Rattle.proposal_core.specs.declared.proposal.Proposal.{Proposal}
+use Rattle.proposal_core.specs.declared.proposal.Proposal.TheVariants.{Join, Leave, Fail, Expel, State, Message, Attributes, Reflect}
+use Rattle.proposal_core.specs.declared.entry.Entry.{Entry}
+use Rattle.proposal_core.specs.declared.entry.Entry.TheVariants.{Once, Begin, Phase, Approve, Reject, Late}
+use Rattle.proposal_core.specs.declared.group_state.GroupState.{GroupState}
+use Rattle.client_callbacks.specs.declared.ballot.Filled.{Filled}
+use Rattle.session_state.specs.declared.casts.Cast.{Cast}
+use Rattle.session_state.specs.declared.state.OpenPhase.{OpenPhase}
+use Rattle.session_state.specs.declared.state.KeptBallot.{KeptBallot}
+use Rattle.session_state.specs.declared.state.Provider.{Provider}
+use Rattle.session_state.specs.declared.state.SessionState.{SessionState}
+use Rattle.session_state.specs.State.{is_provider, is_kept_in, provider_of, with_provider, end_request, without_providers}
+use Rattle.session_state.specs.HandOn.{kept_ended, kept_after, beginners, hearers, taking_part, part_taken, asks, running_phase, is_late, opened_after, open_phases, kept_by, keep_casts, proposal_begun, requests_after, removed_from, casts_out, heard, handed_on}
+use Rattle.node_state.proofs.NameOrder.{text_other}
+use Rattle.step_refinement.proofs.SessionLaws.{provider_same, provider_self}
 use Rattle.provider_laws.specs.single_casts.Single.{SameBallot, Apart}
 use Rattle.row_laws.proofs.hearing.Sessions.{found_is, fewer_without, fewer_has}
 use Rattle.row_laws.proofs.hearing.Handing.{edit_back, edit_own}

@@ -2,31 +2,31 @@
 use Rattle.std.proofs.Common.{◌≡◌, ◌≢◌, ℕ, ◌+◌, List, [], ◌∷◌, ◌++◌, Option, Some, None, true, refl, sym, ap, ◌∙◌, subst, inl, inr, ◌⊎◌, ⊎_elim, append_assoc}
 use Rattle.std.specs.Prelude.{reverse, fold, find}
 use Rattle.std.proofs.lemmas.List.{append-nil}
-use Rattle.row_laws.specs.rsct_packet.declared.ids.ProviderId.{ProviderId}
-use Rattle.row_laws.specs.rsct_packet.Mask.{nodes_of}
-use Rattle.row_laws.specs.rsct_packet.Search.{Has}
-use Rattle.row_laws.proofs.rsct_packet_laws.HasLaws.{append_has_right}
-use Rattle.row_laws.specs.session_state.State.{is_provider, provider_of}
-use Rattle.row_laws.specs.session_state.declared.state.KeptBallot.{KeptBallot}
-use Rattle.row_laws.specs.session_state.declared.state.Provider.{Provider}
-use Rattle.row_laws.specs.session_state.declared.state.SessionState.{SessionState}
-use Rattle.row_laws.specs.node_state.declared.config.Config.{Config}
-use Rattle.row_laws.specs.node_state.declared.happened.Happened.{Happened}
-use Rattle.row_laws.specs.node_state.declared.happened.Happened.TheVariants as happened
-use Rattle.row_laws.specs.node_state.declared.state.Core.{Core}
-use Rattle.row_laws.specs.node_state.State.{row_of, list_of, len_of, state_of, with_sessions}
-use Rattle.row_laws.specs.node_state.HandOn.{Answering}
-use Rattle.row_laws.specs.node_state.Applying.{level_set}
-use Rattle.row_laws.specs.node_state.Step.{NodeEvent, at_work, stepped, started, ring_record}
-use Rattle.row_laws.specs.world_model.declared.event.Event.{Event}
-use Rattle.row_laws.specs.world_model.Run.{Happening}
-use Rattle.row_laws.specs.run_safety.Past.{History, Within, records_of}
-use Rattle.row_laws.specs.step_refinement.Tied.{Scene}
-use Rattle.row_laws.specs.step_refinement.Rows.{at_node, ended, starts_too, with_records, nothing_yet}
-use Rattle.row_laws.specs.step_refinement.Runs.{IsNote, Reached, Nothing, AllStart, Starts, Stops, Steps, Notes}
-use Rattle.row_laws.proofs.step_refinement_laws.Changed.{set_here, each_set}
-use Rattle.row_laws.proofs.step_refinement_laws.Begins.{idle_start}
-use Rattle.row_laws.proofs.step_refinement_laws.RunLaw.{reached_rests}
+use Rattle.rsct_packet.specs.declared.ids.ProviderId.{ProviderId}
+use Rattle.rsct_packet.specs.Mask.{nodes_of}
+use Rattle.rsct_packet.specs.Search.{Has}
+use Rattle.rsct_packet.proofs.HasLaws.{append_has_right}
+use Rattle.session_state.specs.State.{is_provider, provider_of}
+use Rattle.session_state.specs.declared.state.KeptBallot.{KeptBallot}
+use Rattle.session_state.specs.declared.state.Provider.{Provider}
+use Rattle.session_state.specs.declared.state.SessionState.{SessionState}
+use Rattle.node_state.specs.declared.config.Config.{Config}
+use Rattle.node_state.specs.declared.happened.Happened.{Happened}
+use Rattle.node_state.specs.declared.happened.Happened.TheVariants as happened
+use Rattle.node_state.specs.declared.state.Core.{Core}
+use Rattle.node_state.specs.State.{row_of, list_of, len_of, state_of, with_sessions}
+use Rattle.node_state.specs.HandOn.{Answering}
+use Rattle.node_state.specs.Applying.{level_set}
+use Rattle.node_state.specs.Step.{NodeEvent, at_work, stepped, started, ring_record}
+use Rattle.world_model.specs.declared.event.Event.{Event}
+use Rattle.world_model.specs.Run.{Happening}
+use Rattle.run_safety.specs.Past.{History, Within, records_of}
+use Rattle.step_refinement.specs.Tied.{Scene}
+use Rattle.step_refinement.specs.Rows.{at_node, ended, starts_too, with_records, nothing_yet}
+use Rattle.step_refinement.specs.Runs.{IsNote, Reached, Nothing, AllStart, Starts, Stops, Steps, Notes}
+use Rattle.step_refinement.proofs.Changed.{set_here, each_set}
+use Rattle.step_refinement.proofs.Begins.{idle_start}
+use Rattle.step_refinement.proofs.RunLaw.{reached_rests}
 use Rattle.row_laws.proofs.hearing.Rows.{OneOwner}
 use Rattle.row_laws.proofs.hearing.Viewing.{Once, Makes, once_does, step_comes}
 use Rattle.row_laws.proofs.hearing.Doing.{Hearing, hearing_does}

@@ -1,35 +1,35 @@
 -- What the life of a group says of the records of a scene that events lead to.
 use Rattle.std.proofs.Common.{◌≡◌, ◌≤◌, ◌<◌, ◌⊎◌, ℕ, List, length, take, drop, Option, Some, None, true, refl, sym, ap, ◌∙◌, subst, inl, inr}
-use Rattle.row_laws.specs.rsct_packet.declared.ids.ViewId.{ViewId}
-use Rattle.row_laws.specs.rsct_packet.declared.ids.Member.{Member}
-use Rattle.row_laws.specs.rsct_packet.Search.{Has}
-use Rattle.row_laws.specs.proposal_core.declared.entry.Entry.{Entry}
-use Rattle.row_laws.specs.proposal_core.declared.group_state.GroupState.{GroupState}
-use Rattle.row_laws.specs.proposal_core.GroupView.{GroupView}
-use Rattle.row_laws.specs.proposal_core.Fold.{fits}
-use Rattle.row_laws.specs.proposal_core.Lists.{list_or_new}
-use Rattle.row_laws.specs.node_state.declared.config.Config.{Config}
-use Rattle.row_laws.specs.node_state.declared.happened.Happened.TheVariants as happened
-use Rattle.row_laws.specs.node_state.declared.state.Core.{Core}
-use Rattle.row_laws.specs.node_state.State.{row_of, list_of, state_of, len_of}
-use Rattle.row_laws.specs.run_safety.ViewOrder.{Le}
-use Rattle.row_laws.specs.run_safety.Past.{records_of, puts_of}
-use Rattle.row_laws.specs.run_safety.Group.{Standing, Packet, Origin, In, Put, Line, Noted, Based, kept}
-use Rattle.row_laws.specs.run_safety.Group as group
-use Rattle.row_laws.specs.run_safety.GroupLists.{From}
-use Rattle.row_laws.specs.run_safety.GroupLists as lists
-use Rattle.row_laws.specs.run_safety.Bases.{Bases, base_state, state_of_list, side_state, BaseIs}
-use Rattle.row_laws.specs.run_safety.Sight.{inc_in}
-use Rattle.row_laws.specs.run_safety.Moves.{Opening, Leads, entered, Life, Dawn, NextEvent, Promises, Answers, Appends, Follows, Starts, Enters, Founds, Names, Hears, Asks, Requests, Refuses, IsTold, Acknowledges, Settles}
-use Rattle.row_laws.proofs.run_safety_laws.Lines.{note_entered, kept_entered, had_inserted, kept_inserted}
-use Rattle.row_laws.proofs.run_safety_laws.Tracks.{has_many}
-use Rattle.row_laws.proofs.run_safety_laws.SightLaws.{put_seen}
-use Rattle.row_laws.proofs.run_safety_laws.Whole.{Whole}
-use Rattle.row_laws.proofs.run_safety_laws.Lives.{whole, law_fitted}
-use Rattle.row_laws.specs.step_refinement.Ghost.{Ghost, KeepsIf}
-use Rattle.row_laws.specs.step_refinement.Tied.{Scene, NodeIs, NodeIsIf, Rests, opening_of}
-use Rattle.row_laws.specs.step_refinement.Runs.{Reached}
-use Rattle.row_laws.proofs.step_refinement_laws.RunLaw.{reached_rests}
+use Rattle.rsct_packet.specs.declared.ids.ViewId.{ViewId}
+use Rattle.rsct_packet.specs.declared.ids.Member.{Member}
+use Rattle.rsct_packet.specs.Search.{Has}
+use Rattle.proposal_core.specs.declared.entry.Entry.{Entry}
+use Rattle.proposal_core.specs.declared.group_state.GroupState.{GroupState}
+use Rattle.proposal_core.specs.GroupView.{GroupView}
+use Rattle.proposal_core.specs.Fold.{fits}
+use Rattle.proposal_core.specs.Lists.{list_or_new}
+use Rattle.node_state.specs.declared.config.Config.{Config}
+use Rattle.node_state.specs.declared.happened.Happened.TheVariants as happened
+use Rattle.node_state.specs.declared.state.Core.{Core}
+use Rattle.node_state.specs.State.{row_of, list_of, state_of, len_of}
+use Rattle.run_safety.specs.ViewOrder.{Le}
+use Rattle.run_safety.specs.Past.{records_of, puts_of}
+use Rattle.run_safety.specs.Group.{Standing, Packet, Origin, In, Put, Line, Noted, Based, kept}
+use Rattle.run_safety.specs.Group as group
+use Rattle.run_safety.specs.GroupLists.{From}
+use Rattle.run_safety.specs.GroupLists as lists
+use Rattle.run_safety.specs.Bases.{Bases, base_state, state_of_list, side_state, BaseIs}
+use Rattle.run_safety.specs.Sight.{inc_in}
+use Rattle.run_safety.specs.Moves.{Opening, Leads, entered, Life, Dawn, NextEvent, Promises, Answers, Appends, Follows, Starts, Enters, Founds, Names, Hears, Asks, Requests, Refuses, IsTold, Acknowledges, Settles}
+use Rattle.run_safety.proofs.Lines.{note_entered, kept_entered, had_inserted, kept_inserted}
+use Rattle.run_safety.proofs.Tracks.{has_many}
+use Rattle.run_safety.proofs.SightLaws.{put_seen}
+use Rattle.run_safety.proofs.Whole.{Whole}
+use Rattle.run_safety.proofs.Lives.{whole, law_fitted}
+use Rattle.step_refinement.specs.Ghost.{Ghost, KeepsIf}
+use Rattle.step_refinement.specs.Tied.{Scene, NodeIs, NodeIsIf, Rests, opening_of}
+use Rattle.step_refinement.specs.Runs.{Reached}
+use Rattle.step_refinement.proofs.RunLaw.{reached_rests}
 use Rattle.provider_laws.proofs.single_casts.Seen.{puts_seen, base_seen, base_read, in_seen, in_read}
 
 -- ---- who notes a base is in its view

@@ -1,13 +1,13 @@
 -- No provider hears a phase opened again, so each casts once in a phase.
 use Rattle.std.proofs.Common.{◌≡◌, ℕ, List, [], ◌∷◌, Option, Some, None, sym, ap, ◌∙◌, subst, inl, inr, arith}
-use Rattle.row_laws.specs.rsct_packet.declared.ids.ProviderId.{ProviderId}
-use Rattle.row_laws.specs.rsct_packet.declared.ids.ProtoId.{ProtoId}
-use Rattle.row_laws.specs.rsct_packet.Search.{Has}
-use Rattle.row_laws.specs.client_callbacks.declared.ballot.Filled.{Filled}
-use Rattle.row_laws.specs.proposal_core.declared.entry.Entry.{Entry}
-use Rattle.row_laws.specs.node_state.declared.happened.Happened.{Happened}
-use Rattle.row_laws.specs.node_state.declared.happened.Happened.TheVariants as happened
-use Rattle.row_laws.specs.run_safety.Past.{History, EachRecord, Within, earlier, records_of}
+use Rattle.rsct_packet.specs.declared.ids.ProviderId.{ProviderId}
+use Rattle.rsct_packet.specs.declared.ids.ProtoId.{ProtoId}
+use Rattle.rsct_packet.specs.Search.{Has}
+use Rattle.client_callbacks.specs.declared.ballot.Filled.{Filled}
+use Rattle.proposal_core.specs.declared.entry.Entry.{Entry}
+use Rattle.node_state.specs.declared.happened.Happened.{Happened}
+use Rattle.node_state.specs.declared.happened.Happened.TheVariants as happened
+use Rattle.run_safety.specs.Past.{History, EachRecord, Within, earlier, records_of}
 use Rattle.row_laws.specs.hearing.Hearing.{last_heard}
 use Rattle.provider_laws.specs.attending.Places.{IsNext, NextHeard, PlacesHeardOnce}
 use Rattle.provider_laws.proofs.attending.Law.{places_once}

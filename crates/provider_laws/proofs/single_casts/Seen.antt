@@ -3,22 +3,22 @@ use Rattle.std.proofs.Common.{◌≡◌, ◌⊎◌, ℕ, List, [], ◌∷◌, �
 use Rattle.std.specs.Prelude.{◌&&◌, ◌==◌, if◌then◌else◌}
 use Rattle.std.specs.Str.{bytes_eq}
 use Rattle.std.proofs.lemmas.List.{append-nil}
-use Rattle.row_laws.specs.rsct_packet.declared.ids.ViewId.{ViewId}
-use Rattle.row_laws.specs.rsct_packet.declared.ids.Member.{Member}
-use Rattle.row_laws.specs.rsct_packet.declared.ids.ProviderId.{ProviderId}
-use Rattle.row_laws.specs.rsct_packet.Ids.{same_view}
-use Rattle.row_laws.specs.rsct_packet.Search.{Has}
-use Rattle.row_laws.proofs.rsct_packet_laws.HasLaws.{has_append, append_has_left, append_has_right}
-use Rattle.row_laws.specs.proposal_core.declared.entry.Entry.{Entry}
-use Rattle.row_laws.specs.node_state.declared.happened.Happened.{Happened}
-use Rattle.row_laws.specs.node_state.declared.happened.Happened.TheVariants as happened
-use Rattle.row_laws.specs.run_safety.ViewOrder.{is_same}
-use Rattle.row_laws.specs.run_safety.Past.{History, earlier, records_of, view_now, puts_after, puts_of}
-use Rattle.row_laws.specs.run_safety.Group.{Origin, Record, In, Put, Begins, Line, Kept, Noted, Based, kept}
-use Rattle.row_laws.specs.run_safety.Group as group
-use Rattle.row_laws.specs.run_safety.GroupLists as lists
-use Rattle.row_laws.specs.run_safety.Sight.{inc_in, told_in, lines_at, lines_with, lines_of}
-use Rattle.row_laws.proofs.node_state_laws.NameOrder.{text_same, text_self}
+use Rattle.rsct_packet.specs.declared.ids.ViewId.{ViewId}
+use Rattle.rsct_packet.specs.declared.ids.Member.{Member}
+use Rattle.rsct_packet.specs.declared.ids.ProviderId.{ProviderId}
+use Rattle.rsct_packet.specs.Ids.{same_view}
+use Rattle.rsct_packet.specs.Search.{Has}
+use Rattle.rsct_packet.proofs.HasLaws.{has_append, append_has_left, append_has_right}
+use Rattle.proposal_core.specs.declared.entry.Entry.{Entry}
+use Rattle.node_state.specs.declared.happened.Happened.{Happened}
+use Rattle.node_state.specs.declared.happened.Happened.TheVariants as happened
+use Rattle.run_safety.specs.ViewOrder.{is_same}
+use Rattle.run_safety.specs.Past.{History, earlier, records_of, view_now, puts_after, puts_of}
+use Rattle.run_safety.specs.Group.{Origin, Record, In, Put, Begins, Line, Kept, Noted, Based, kept}
+use Rattle.run_safety.specs.Group as group
+use Rattle.run_safety.specs.GroupLists as lists
+use Rattle.run_safety.specs.Sight.{inc_in, told_in, lines_at, lines_with, lines_of}
+use Rattle.node_state.proofs.NameOrder.{text_same, text_self}
 
 -- ---- puts
 

@@ -1,19 +1,19 @@
 -- Who casts when a ballot is due, in the phase that it heard opened, and hears no phase opened again, casts once in a phase.
 use Rattle.std.proofs.Common.{◌≡◌, ℕ, List, [], ◌∷◌, Option, Some, Bool, true, false, refl, sym, ap, ◌∙◌, subst, inl, inr}
 use Rattle.std.specs.Prelude.{if◌then◌else◌}
-use Rattle.row_laws.specs.rsct_packet.declared.ids.ViewId.{ViewId}
-use Rattle.row_laws.specs.rsct_packet.declared.ids.ProviderId.{ProviderId}
-use Rattle.row_laws.specs.rsct_packet.Providers.{same_provider}
-use Rattle.row_laws.specs.rsct_packet.Search.{Has}
-use Rattle.row_laws.specs.proposal_core.declared.entry.Entry.{Entry}
-use Rattle.row_laws.specs.proposal_core.declared.entry.Entry.TheVariants.{Once, Begin, Phase, Approve, Reject, Late}
-use Rattle.row_laws.specs.proposal_core.declared.entry.Vote.{Vote}
-use Rattle.row_laws.specs.session_state.declared.state.OpenPhase.{OpenPhase}
-use Rattle.row_laws.specs.node_state.declared.happened.Happened.{Happened}
-use Rattle.row_laws.specs.node_state.declared.happened.Happened.TheVariants as happened
-use Rattle.row_laws.specs.run_safety.Past.{History, Within, earlier, records_of}
-use Rattle.row_laws.specs.run_safety.SafeLists.{Each}
-use Rattle.row_laws.proofs.step_refinement_laws.SessionLaws.{provider_same, provider_self}
+use Rattle.rsct_packet.specs.declared.ids.ViewId.{ViewId}
+use Rattle.rsct_packet.specs.declared.ids.ProviderId.{ProviderId}
+use Rattle.rsct_packet.specs.Providers.{same_provider}
+use Rattle.rsct_packet.specs.Search.{Has}
+use Rattle.proposal_core.specs.declared.entry.Entry.{Entry}
+use Rattle.proposal_core.specs.declared.entry.Entry.TheVariants.{Once, Begin, Phase, Approve, Reject, Late}
+use Rattle.proposal_core.specs.declared.entry.Vote.{Vote}
+use Rattle.session_state.specs.declared.state.OpenPhase.{OpenPhase}
+use Rattle.node_state.specs.declared.happened.Happened.{Happened}
+use Rattle.node_state.specs.declared.happened.Happened.TheVariants as happened
+use Rattle.run_safety.specs.Past.{History, Within, earlier, records_of}
+use Rattle.run_safety.specs.SafeLists.{Each}
+use Rattle.step_refinement.proofs.SessionLaws.{provider_same, provider_self}
 use Rattle.provider_laws.specs.single_casts.Ballots.{due_by, ballot_due, opens, open_by, open_phase, CastWhenDue, CastInPhase, CastsWhenDue, CastsInPhase}
 use Rattle.provider_laws.specs.single_casts.Single.{HeardOpened, NotReopened, PhasesOpenOnce, NotCastBefore, CastsOnce, CastAfterNotice, CastsAfterNotice}
 

@@ -4,38 +4,38 @@ use Rattle.std.specs.Prelude.{◌&&◌, ◌==◌, reverse, find, is_none, if◌t
 use Rattle.std.specs.Option.{option_map}
 use Rattle.std.specs.Str.{bytes_eq}
 use Rattle.std.proofs.lemmas.Bool.Decides.{nat_tests}
-use Rattle.row_laws.specs.rsct_packet.declared.ids.ViewId.{ViewId}
-use Rattle.row_laws.specs.rsct_packet.declared.ids.Member.{Member}
-use Rattle.row_laws.specs.rsct_packet.Ids.{same_view}
-use Rattle.row_laws.specs.rsct_packet.Search.{Has}
-use Rattle.row_laws.proofs.rsct_packet_laws.HasLaws.{has_append, append_has_left, append_has_right, find_has, find_none}
-use Rattle.row_laws.specs.proposal_core.declared.entry.Entry.{Entry}
-use Rattle.row_laws.specs.proposal_core.declared.group_state.GroupState.{GroupState}
-use Rattle.row_laws.specs.proposal_core.Fold.{empty_state}
-use Rattle.row_laws.specs.proposal_core.Lists.{list_or_new}
-use Rattle.row_laws.specs.view_state.declared.install.Install.{Install}
-use Rattle.row_laws.specs.view_state.declared.install.Base.{Base}
-use Rattle.row_laws.specs.view_state.Bases.{bases_of, base_named}
-use Rattle.row_laws.specs.node_state.declared.config.Config.{Config}
-use Rattle.row_laws.specs.node_state.declared.group.GroupRow.{GroupRow}
-use Rattle.row_laws.specs.node_state.declared.happened.Happened.{Happened}
-use Rattle.row_laws.specs.node_state.declared.happened.Happened.TheVariants as happened
-use Rattle.row_laws.specs.node_state.declared.state.Core.{Core}
-use Rattle.row_laws.specs.node_state.State.{row_found, row_of, list_of, state_of, len_of, held_rows, recorded_all, has_name}
-use Rattle.row_laws.specs.node_state.Applying.{base_row, view_entered}
-use Rattle.row_laws.specs.node_state.Step.{at_work}
-use Rattle.row_laws.specs.run_safety.ViewOrder.{Lt, Le}
-use Rattle.row_laws.specs.run_safety.Past.{earlier, records_of, puts_after, puts_of, fold_from}
-use Rattle.row_laws.specs.run_safety.Group.{Origin, In, kept}
-use Rattle.row_laws.specs.run_safety.GroupLists.{WasIn, From}
-use Rattle.row_laws.specs.run_safety.Bases.{Bases, base_state, state_of_list}
-use Rattle.row_laws.specs.run_safety.Sight.{inc_in}
-use Rattle.row_laws.proofs.run_safety_laws.Order.{lt_not_same}
-use Rattle.row_laws.proofs.node_state_laws.NameOrder.{text_same, text_self}
-use Rattle.row_laws.specs.step_refinement.Tied.{Scene}
-use Rattle.row_laws.specs.step_refinement.Runs.{Reached}
-use Rattle.row_laws.proofs.step_refinement_laws.BaseOrder.{row_of_base}
-use Rattle.row_laws.proofs.step_refinement_laws.Turns.{has_turned}
+use Rattle.rsct_packet.specs.declared.ids.ViewId.{ViewId}
+use Rattle.rsct_packet.specs.declared.ids.Member.{Member}
+use Rattle.rsct_packet.specs.Ids.{same_view}
+use Rattle.rsct_packet.specs.Search.{Has}
+use Rattle.rsct_packet.proofs.HasLaws.{has_append, append_has_left, append_has_right, find_has, find_none}
+use Rattle.proposal_core.specs.declared.entry.Entry.{Entry}
+use Rattle.proposal_core.specs.declared.group_state.GroupState.{GroupState}
+use Rattle.proposal_core.specs.Fold.{empty_state}
+use Rattle.proposal_core.specs.Lists.{list_or_new}
+use Rattle.view_state.specs.declared.install.Install.{Install}
+use Rattle.view_state.specs.declared.install.Base.{Base}
+use Rattle.view_state.specs.Bases.{bases_of, base_named}
+use Rattle.node_state.specs.declared.config.Config.{Config}
+use Rattle.node_state.specs.declared.group.GroupRow.{GroupRow}
+use Rattle.node_state.specs.declared.happened.Happened.{Happened}
+use Rattle.node_state.specs.declared.happened.Happened.TheVariants as happened
+use Rattle.node_state.specs.declared.state.Core.{Core}
+use Rattle.node_state.specs.State.{row_found, row_of, list_of, state_of, len_of, held_rows, recorded_all, has_name}
+use Rattle.node_state.specs.Applying.{base_row, view_entered}
+use Rattle.node_state.specs.Step.{at_work}
+use Rattle.run_safety.specs.ViewOrder.{Lt, Le}
+use Rattle.run_safety.specs.Past.{earlier, records_of, puts_after, puts_of, fold_from}
+use Rattle.run_safety.specs.Group.{Origin, In, kept}
+use Rattle.run_safety.specs.GroupLists.{WasIn, From}
+use Rattle.run_safety.specs.Bases.{Bases, base_state, state_of_list}
+use Rattle.run_safety.specs.Sight.{inc_in}
+use Rattle.run_safety.proofs.Order.{lt_not_same}
+use Rattle.node_state.proofs.NameOrder.{text_same, text_self}
+use Rattle.step_refinement.specs.Tied.{Scene}
+use Rattle.step_refinement.specs.Runs.{Reached}
+use Rattle.step_refinement.proofs.BaseOrder.{row_of_base}
+use Rattle.step_refinement.proofs.Turns.{has_turned}
 use Rattle.row_laws.specs.hearing.Changes.{Inner, entering, Does, Enters}
 use Rattle.row_laws.proofs.hearing.Viewing.{Once, Stayed, Entered, sides_stand}
 use Rattle.row_laws.proofs.hearing.Doing.{Hearing, hearing_does}

@@ -1,13 +1,13 @@
 -- Who is let go hears nothing.
 use Rattle.std.specs.Prelude.{◌≡◌, ℕ, false, Some}
-use Rattle.row_laws.specs.rsct_packet.Search.{Has}
-use Rattle.row_laws.specs.session_state.declared.state.Provider.{Provider}
-use Rattle.row_laws.specs.node_state.declared.config.Config.{Config}
-use Rattle.row_laws.specs.node_state.declared.state.Core.{Core}
-use Rattle.row_laws.specs.run_safety.Past.{EachRecord}
-use Rattle.row_laws.specs.run_safety.SafeHeard.{NotLetGo}
-use Rattle.row_laws.specs.run_safety.Stays.{was_let_go}
-use Rattle.row_laws.specs.step_refinement.Tied.{Scene}
+use Rattle.rsct_packet.specs.Search.{Has}
+use Rattle.session_state.specs.declared.state.Provider.{Provider}
+use Rattle.node_state.specs.declared.config.Config.{Config}
+use Rattle.node_state.specs.declared.state.Core.{Core}
+use Rattle.run_safety.specs.Past.{EachRecord}
+use Rattle.run_safety.specs.SafeHeard.{NotLetGo}
+use Rattle.run_safety.specs.Stays.{was_let_go}
+use Rattle.step_refinement.specs.Tied.{Scene}
 use Rattle.provider_laws.specs.leaving.Scenes.{Recounted}
 
 -- whoever was let go by an earlier event, as its client said goodbye, it was told DISSOLVED or its node stopped, hears nothing

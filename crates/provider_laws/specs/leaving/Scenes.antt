@@ -1,18 +1,18 @@
 -- Scenes whose history names calls, and calls alone, as calls.
 use Rattle.std.specs.Prelude.{ℕ, ◌+◌, ◌≡◌, ◌≢◌, true, false, Some, None, List}
-use Rattle.row_laws.specs.rsct_packet.Search.{Has}
-use Rattle.row_laws.specs.node_state.declared.call.CallLine.{CallLine}
-use Rattle.row_laws.specs.node_state.declared.config.Config.{Config}
-use Rattle.row_laws.specs.node_state.declared.happened.Happened.{Happened}
-use Rattle.row_laws.specs.node_state.declared.state.Core.{Core}
-use Rattle.row_laws.specs.node_state.Settings.{is_fixed}
-use Rattle.row_laws.specs.node_state.HandOn.{Answering}
-use Rattle.row_laws.specs.node_state.Step.{NodeEvent, Calls, started, stepped}
-use Rattle.row_laws.specs.world_model.declared.event.Event.{Event}
-use Rattle.row_laws.specs.world_model.declared.event.Event.TheVariants.{Call}
-use Rattle.row_laws.specs.step_refinement.Tied.{Scene}
-use Rattle.row_laws.specs.step_refinement.Rows.{nothing_yet, all_started, start_with, stopped, ended, Arises}
-use Rattle.row_laws.specs.step_refinement.Runs.{IsNote, noted}
+use Rattle.rsct_packet.specs.Search.{Has}
+use Rattle.node_state.specs.declared.call.CallLine.{CallLine}
+use Rattle.node_state.specs.declared.config.Config.{Config}
+use Rattle.node_state.specs.declared.happened.Happened.{Happened}
+use Rattle.node_state.specs.declared.state.Core.{Core}
+use Rattle.node_state.specs.Settings.{is_fixed}
+use Rattle.node_state.specs.HandOn.{Answering}
+use Rattle.node_state.specs.Step.{NodeEvent, Calls, started, stepped}
+use Rattle.world_model.specs.declared.event.Event.{Event}
+use Rattle.world_model.specs.declared.event.Event.TheVariants.{Call}
+use Rattle.step_refinement.specs.Tied.{Scene}
+use Rattle.step_refinement.specs.Rows.{nothing_yet, all_started, start_with, stopped, ended, Arises}
+use Rattle.step_refinement.specs.Runs.{IsNote, noted}
 use Rattle.row_laws.specs.failed_rows.Scenes.{Names}
 
 -- what is noted as a call is this call, of this node

@@ -1,21 +1,21 @@
 -- Between events a node rests, and the event of a goodbye puts nothing.
 use Rattle.std.specs.Prelude.{◌≡◌, ℕ, false, Some, List}
 use Rattle.std.specs.List.{list_any}
-use Rattle.row_laws.specs.rsct_packet.declared.ids.ViewId.{ViewId}
-use Rattle.row_laws.specs.rsct_packet.Search.{Has}
-use Rattle.row_laws.specs.proposal_core.declared.entry.Entry.{Entry}
-use Rattle.row_laws.specs.node_state.declared.call.CallLine.TheVariants.{Goodbye}
-use Rattle.row_laws.specs.node_state.declared.config.Config.{Config}
-use Rattle.row_laws.specs.node_state.declared.happened.Happened.TheVariants.{Put}
-use Rattle.row_laws.specs.node_state.declared.state.Core.{Core}
-use Rattle.row_laws.specs.node_state.HandOn.{Answering}
-use Rattle.row_laws.specs.node_state.Ending.{end_step}
-use Rattle.row_laws.specs.world_model.Run.{Happening}
-use Rattle.row_laws.specs.world_model.declared.event.Event.TheVariants.{Call}
-use Rattle.row_laws.specs.run_safety.Past.{EachEvent}
-use Rattle.row_laws.specs.run_safety.Stays.{is_refused}
-use Rattle.row_laws.specs.step_refinement.Tied.{Scene}
-use Rattle.row_laws.specs.step_refinement.Runs.{Reached}
+use Rattle.rsct_packet.specs.declared.ids.ViewId.{ViewId}
+use Rattle.rsct_packet.specs.Search.{Has}
+use Rattle.proposal_core.specs.declared.entry.Entry.{Entry}
+use Rattle.node_state.specs.declared.call.CallLine.TheVariants.{Goodbye}
+use Rattle.node_state.specs.declared.config.Config.{Config}
+use Rattle.node_state.specs.declared.happened.Happened.TheVariants.{Put}
+use Rattle.node_state.specs.declared.state.Core.{Core}
+use Rattle.node_state.specs.HandOn.{Answering}
+use Rattle.node_state.specs.Ending.{end_step}
+use Rattle.world_model.specs.Run.{Happening}
+use Rattle.world_model.specs.declared.event.Event.TheVariants.{Call}
+use Rattle.run_safety.specs.Past.{EachEvent}
+use Rattle.run_safety.specs.Stays.{is_refused}
+use Rattle.step_refinement.specs.Tied.{Scene}
+use Rattle.step_refinement.specs.Runs.{Reached}
 use Rattle.provider_laws.specs.leaving.Scenes.{Recounted}
 
 -- between events the end of a step would change nothing at any node: what waits has begun, as far as it can

@@ -1,20 +1,20 @@
 -- Each provider casts at most once in each phase of each protocol.
 use Rattle.std.specs.Prelude.{◌≡◌, ℕ, List, [], ◌∷◌, Option, Some}
-use Rattle.row_laws.specs.rsct_packet.declared.ids.ViewId.{ViewId}
-use Rattle.row_laws.specs.rsct_packet.declared.ids.ProviderId.{ProviderId}
-use Rattle.row_laws.specs.rsct_packet.Search.{Has}
-use Rattle.row_laws.specs.proposal_core.declared.entry.Entry.{Entry}
-use Rattle.row_laws.specs.proposal_core.declared.entry.Vote.{Vote}
-use Rattle.row_laws.specs.session_state.declared.state.OpenPhase.{OpenPhase}
-use Rattle.row_laws.specs.node_state.declared.config.Config.{Config}
-use Rattle.row_laws.specs.session_state.declared.state.KeptBallot.{KeptBallot}
-use Rattle.row_laws.specs.node_state.declared.state.Core.{Core}
-use Rattle.row_laws.specs.node_state.declared.happened.Happened.{Happened}
-use Rattle.row_laws.specs.node_state.declared.happened.Happened.TheVariants as happened
-use Rattle.row_laws.specs.run_safety.Past.{History}
-use Rattle.row_laws.specs.run_safety.SafeLists.{Each}
-use Rattle.row_laws.specs.step_refinement.Tied.{Scene}
-use Rattle.row_laws.specs.step_refinement.Runs.{Reached}
+use Rattle.rsct_packet.specs.declared.ids.ViewId.{ViewId}
+use Rattle.rsct_packet.specs.declared.ids.ProviderId.{ProviderId}
+use Rattle.rsct_packet.specs.Search.{Has}
+use Rattle.proposal_core.specs.declared.entry.Entry.{Entry}
+use Rattle.proposal_core.specs.declared.entry.Vote.{Vote}
+use Rattle.session_state.specs.declared.state.OpenPhase.{OpenPhase}
+use Rattle.node_state.specs.declared.config.Config.{Config}
+use Rattle.session_state.specs.declared.state.KeptBallot.{KeptBallot}
+use Rattle.node_state.specs.declared.state.Core.{Core}
+use Rattle.node_state.specs.declared.happened.Happened.{Happened}
+use Rattle.node_state.specs.declared.happened.Happened.TheVariants as happened
+use Rattle.run_safety.specs.Past.{History}
+use Rattle.run_safety.specs.SafeLists.{Each}
+use Rattle.step_refinement.specs.Tied.{Scene}
+use Rattle.step_refinement.specs.Runs.{Reached}
 use Rattle.provider_laws.specs.single_casts.Ballots.{opens}
 
 -- the provider heard the entry that opened the phase

@@ -4,52 +4,52 @@ use Rattle.std.specs.Prelude.{◌==◌, ◌&&◌, not, map, filter, fold, revers
 use Rattle.std.specs.List.{list_any}
 use Rattle.std.specs.Str.{bytes_eq}
 use Rattle.std.proofs.lemmas.Bool.{eq-eqb}
-use Rattle.step_refinement.specs.rsct_packet.declared.ids.ViewId.{ViewId}
-use Rattle.step_refinement.specs.rsct_packet.declared.ids.ProviderId.{ProviderId}
-use Rattle.step_refinement.specs.rsct_packet.declared.mask.Mask.{Mask}
-use Rattle.step_refinement.specs.rsct_packet.Mask.{nodes_of}
-use Rattle.step_refinement.specs.rsct_packet.Providers.{among}
-use Rattle.step_refinement.specs.rsct_packet.Search.{Has}
-use Rattle.step_refinement.proofs.rsct_packet_laws.HasLaws.{has_append}
-use Rattle.step_refinement.specs.proposal_core.declared.proposal.Proposal.{Proposal}
-use Rattle.step_refinement.specs.proposal_core.declared.proposal.Proposal.TheVariants.{Join, Leave, Fail, Expel, State, Message, Attributes, Reflect}
-use Rattle.step_refinement.specs.proposal_core.declared.entry.Entry.{Entry}
-use Rattle.step_refinement.specs.proposal_core.declared.entry.Entry.TheVariants.{Once, Begin, Phase, Approve, Reject, Late}
-use Rattle.step_refinement.specs.adapter_ring.declared.ring.Ring.{Ring}
-use Rattle.step_refinement.specs.adapter_ring.declared.ring.RingSet.{RingSet}
-use Rattle.step_refinement.specs.adapter_ring.declared.packet.RingSend.{RingSend}
-use Rattle.step_refinement.specs.adapter_ring.declared.packet.RingEvent.TheVariants as ring_event
-use Rattle.step_refinement.specs.adapter_ring.declared.work.RingWork.{RingWork}
-use Rattle.step_refinement.specs.adapter_ring.Rings.{ring_step}
-use Rattle.step_refinement.specs.node_reach.Reach as reach
-use Rattle.step_refinement.specs.proposal_core.declared.group_state.GroupState.{GroupState}
-use Rattle.step_refinement.specs.proposal_core.Fold.{joins_of, present, after}
-use Rattle.step_refinement.specs.proposal_core.GroupView.{GroupView}
-use Rattle.step_refinement.specs.proposal_core.Lists.{state_in}
-use Rattle.step_refinement.specs.node_state.declared.happened.Happened.{Happened}
-use Rattle.step_refinement.specs.node_state.declared.happened.Happened.TheVariants as happened
-use Rattle.step_refinement.specs.node_state.declared.packet.Body.TheVariants as body
-use Rattle.step_refinement.specs.node_state.declared.state.Core.{Core}
-use Rattle.step_refinement.specs.node_state.Settings.{is_rings}
-use Rattle.step_refinement.specs.node_state.State.{row_of, recorded_all}
-use Rattle.step_refinement.specs.node_state.Sending.{send_on, send_requests}
-use Rattle.step_refinement.specs.node_state.HandOn.{Answering}
-use Rattle.step_refinement.specs.node_state.Ticks.{set_records, ring_put, ring_taken, rings_union, report_of, send_report, rings_tick, tick_rings, tick_views}
-use Rattle.step_refinement.specs.run_safety.Past.{History, records_of, earlier, fold_from, view_now}
-use Rattle.step_refinement.specs.run_safety.Stays.{is_join_of, asks_join}
-use Rattle.step_refinement.specs.run_safety.Requests.{requests_of, carried}
-use Rattle.step_refinement.specs.run_safety.Sight.{told_in, lines_at, lines_with, lines_of}
-use Rattle.step_refinement.specs.run_safety.Group.{Standing, Reply, Origin, Packet, Answer, Record, Put, Line, Kept, Noted, kept}
-use Rattle.step_refinement.specs.run_safety.Group as group
-use Rattle.step_refinement.specs.run_safety.Bases.{Bases, base_state, state_of_list, side_state, BaseIs}
-use Rattle.step_refinement.specs.run_safety.Moves.{Leads, Opening, Collected, Quiet, Life, Dawn, NextEvent, Promises, Answers, Appends, Follows, Starts, Enters, Founds, Names, Hears, Asks, Requests, Refuses, IsTold, Acknowledges, Settles}
-use Rattle.step_refinement.proofs.run_safety_laws.Order.{cases_view}
-use Rattle.step_refinement.proofs.run_safety_laws.Prefix.{IsPrefix, prefix_get}
-use Rattle.step_refinement.proofs.run_safety_laws.Lines.{has_entered, has_inserted, has_place}
-use Rattle.step_refinement.proofs.run_safety_laws.Tests.{has_any}
-use Rattle.step_refinement.proofs.run_safety_laws.Whole.{Whole}
-use Rattle.step_refinement.proofs.run_safety_laws.Lives.{whole}
-use Rattle.step_refinement.proofs.node_state_laws.NameOrder.{text_same}
+use Rattle.rsct_packet.specs.declared.ids.ViewId.{ViewId}
+use Rattle.rsct_packet.specs.declared.ids.ProviderId.{ProviderId}
+use Rattle.rsct_packet.specs.declared.mask.Mask.{Mask}
+use Rattle.rsct_packet.specs.Mask.{nodes_of}
+use Rattle.rsct_packet.specs.Providers.{among}
+use Rattle.rsct_packet.specs.Search.{Has}
+use Rattle.rsct_packet.proofs.HasLaws.{has_append}
+use Rattle.proposal_core.specs.declared.proposal.Proposal.{Proposal}
+use Rattle.proposal_core.specs.declared.proposal.Proposal.TheVariants.{Join, Leave, Fail, Expel, State, Message, Attributes, Reflect}
+use Rattle.proposal_core.specs.declared.entry.Entry.{Entry}
+use Rattle.proposal_core.specs.declared.entry.Entry.TheVariants.{Once, Begin, Phase, Approve, Reject, Late}
+use Rattle.adapter_ring.specs.declared.ring.Ring.{Ring}
+use Rattle.adapter_ring.specs.declared.ring.RingSet.{RingSet}
+use Rattle.adapter_ring.specs.declared.packet.RingSend.{RingSend}
+use Rattle.adapter_ring.specs.declared.packet.RingEvent.TheVariants as ring_event
+use Rattle.adapter_ring.specs.declared.work.RingWork.{RingWork}
+use Rattle.adapter_ring.specs.Rings.{ring_step}
+use Rattle.node_reach.specs.Reach as reach
+use Rattle.proposal_core.specs.declared.group_state.GroupState.{GroupState}
+use Rattle.proposal_core.specs.Fold.{joins_of, present, after}
+use Rattle.proposal_core.specs.GroupView.{GroupView}
+use Rattle.proposal_core.specs.Lists.{state_in}
+use Rattle.node_state.specs.declared.happened.Happened.{Happened}
+use Rattle.node_state.specs.declared.happened.Happened.TheVariants as happened
+use Rattle.node_state.specs.declared.packet.Body.TheVariants as body
+use Rattle.node_state.specs.declared.state.Core.{Core}
+use Rattle.node_state.specs.Settings.{is_rings}
+use Rattle.node_state.specs.State.{row_of, recorded_all}
+use Rattle.node_state.specs.Sending.{send_on, send_requests}
+use Rattle.node_state.specs.HandOn.{Answering}
+use Rattle.node_state.specs.Ticks.{set_records, ring_put, ring_taken, rings_union, report_of, send_report, rings_tick, tick_rings, tick_views}
+use Rattle.run_safety.specs.Past.{History, records_of, earlier, fold_from, view_now}
+use Rattle.run_safety.specs.Stays.{is_join_of, asks_join}
+use Rattle.run_safety.specs.Requests.{requests_of, carried}
+use Rattle.run_safety.specs.Sight.{told_in, lines_at, lines_with, lines_of}
+use Rattle.run_safety.specs.Group.{Standing, Reply, Origin, Packet, Answer, Record, Put, Line, Kept, Noted, kept}
+use Rattle.run_safety.specs.Group as group
+use Rattle.run_safety.specs.Bases.{Bases, base_state, state_of_list, side_state, BaseIs}
+use Rattle.run_safety.specs.Moves.{Leads, Opening, Collected, Quiet, Life, Dawn, NextEvent, Promises, Answers, Appends, Follows, Starts, Enters, Founds, Names, Hears, Asks, Requests, Refuses, IsTold, Acknowledges, Settles}
+use Rattle.run_safety.proofs.Order.{cases_view}
+use Rattle.run_safety.proofs.Prefix.{IsPrefix, prefix_get}
+use Rattle.run_safety.proofs.Lines.{has_entered, has_inserted, has_place}
+use Rattle.run_safety.proofs.Tests.{has_any}
+use Rattle.run_safety.proofs.Whole.{Whole}
+use Rattle.run_safety.proofs.Lives.{whole}
+use Rattle.node_state.proofs.NameOrder.{text_same}
 use Rattle.step_refinement.specs.Ghost.{KeepsIf}
 use Rattle.step_refinement.specs.Tied.{Scene, opening_of, lines_now, Tied}
 use Rattle.step_refinement.proofs.Works.{Unseen, lines_none}

@@ -5,23 +5,23 @@ use Rattle.std.specs.Str.{bytes_eq}
 use Rattle.std.specs.Option.{option_map}
 use Rattle.std.proofs.lemmas.Bool.{eq-eqb}
 use Rattle.std.proofs.lemmas.List.{reverse-append}
-use Rattle.step_refinement.specs.rsct_packet.declared.ids.ViewId.{ViewId}
-use Rattle.step_refinement.specs.rsct_packet.declared.ids.Member.{Member}
-use Rattle.step_refinement.specs.rsct_packet.Text.{name_lt}
-use Rattle.step_refinement.specs.rsct_packet.Search.{Has}
-use Rattle.step_refinement.specs.proposal_core.Fold.{empty_state}
-use Rattle.step_refinement.specs.proposal_core.declared.group_state.GroupState.{GroupState}
-use Rattle.step_refinement.specs.proposal_core.Lists.{len_in, state_in}
-use Rattle.step_refinement.specs.view_state.declared.install.Base.{Base}
-use Rattle.step_refinement.specs.view_state.Bases.{base_named}
-use Rattle.step_refinement.specs.node_state.declared.group.GroupRow.{GroupRow}
-use Rattle.step_refinement.specs.node_state.declared.happened.Happened.{Happened}
-use Rattle.step_refinement.specs.node_state.declared.happened.Happened.TheVariants as happened
-use Rattle.step_refinement.specs.node_state.State.{AllAfter, InNameOrder, row_found, has_name}
-use Rattle.step_refinement.specs.node_state.Applying.{base_row}
-use Rattle.step_refinement.specs.run_safety.Past.{History}
-use Rattle.step_refinement.specs.run_safety.Stays.{Stay, stays, with_base}
-use Rattle.step_refinement.proofs.node_state_laws.NameOrder.{none_after, text_same, text_self, lt_self}
+use Rattle.rsct_packet.specs.declared.ids.ViewId.{ViewId}
+use Rattle.rsct_packet.specs.declared.ids.Member.{Member}
+use Rattle.rsct_packet.specs.Text.{name_lt}
+use Rattle.rsct_packet.specs.Search.{Has}
+use Rattle.proposal_core.specs.Fold.{empty_state}
+use Rattle.proposal_core.specs.declared.group_state.GroupState.{GroupState}
+use Rattle.proposal_core.specs.Lists.{len_in, state_in}
+use Rattle.view_state.specs.declared.install.Base.{Base}
+use Rattle.view_state.specs.Bases.{base_named}
+use Rattle.node_state.specs.declared.group.GroupRow.{GroupRow}
+use Rattle.node_state.specs.declared.happened.Happened.{Happened}
+use Rattle.node_state.specs.declared.happened.Happened.TheVariants as happened
+use Rattle.node_state.specs.State.{AllAfter, InNameOrder, row_found, has_name}
+use Rattle.node_state.specs.Applying.{base_row}
+use Rattle.run_safety.specs.Past.{History}
+use Rattle.run_safety.specs.Stays.{Stay, stays, with_base}
+use Rattle.node_state.proofs.NameOrder.{none_after, text_same, text_self, lt_self}
 use Rattle.step_refinement.proofs.BaseOrder.{row_of_base, base_noted}
 use Rattle.row_laws.specs.failed_rows.Failures.{EachPut}
 use Rattle.row_laws.proofs.failed_rows.Facts.{Track}

@@ -2,27 +2,27 @@
 use Rattle.std.proofs.Common.{◌≡◌, ◌⊎◌, ℕ, List, [], ◌∷◌, ◌++◌, Option, Some, None, Bool, true, false, refl, sym, ap, ◌∙◌, subst, inl, inr}
 use Rattle.std.specs.Prelude.{filter, fold, Result, Ok, Err, not, reverse}
 use Rattle.std.specs.List.{last_or}
-use Rattle.step_refinement.specs.rsct_packet.declared.ids.ProviderId.{ProviderId}
-use Rattle.step_refinement.specs.rsct_packet.Search.{Has}
-use Rattle.step_refinement.proofs.rsct_packet_laws.HasLaws.{has_append, filter_has}
-use Rattle.step_refinement.specs.group_attr.declared.attrs.Attrs.{Attrs}
-use Rattle.step_refinement.specs.subscribe_core.declared.subs.ClientToken.{ClientToken}
-use Rattle.step_refinement.specs.client_callbacks.declared.ballot.Filled.{Filled}
-use Rattle.step_refinement.specs.session_state.declared.fault.GsFault.{GsFault}
-use Rattle.step_refinement.specs.session_state.declared.state.Provider.{Provider}
-use Rattle.step_refinement.specs.session_state.declared.state.Request.{Request}
-use Rattle.step_refinement.specs.session_state.declared.state.KeptBallot.{KeptBallot}
-use Rattle.step_refinement.specs.session_state.declared.state.SessionState.{SessionState}
-use Rattle.step_refinement.specs.session_state.State.{is_client_of, client_token}
-use Rattle.step_refinement.specs.session_state.Calls.{inited, joined, left, expelled, state_changed, message_sent, attributes_changed, voted, subscribe_taken, unsubscribe_taken, goodbye_taken, unless_fault, client_fault, end_session, join_fault, join_asked, new_provider}
-use Rattle.step_refinement.specs.node_state.declared.call.CallLine.{CallLine}
-use Rattle.step_refinement.specs.node_state.declared.call.CallLine.TheVariants as call
-use Rattle.step_refinement.specs.node_state.declared.happened.Happened.TheVariants as happened
-use Rattle.step_refinement.specs.node_state.declared.packet.Body.TheVariants as body
-use Rattle.step_refinement.specs.node_state.declared.state.Core.{Core}
-use Rattle.step_refinement.specs.node_state.State.{holds, frozen, leader_of, with_sessions}
-use Rattle.step_refinement.specs.node_state.Calls.{caller, subscriber, refuse_call, changed, ask_last, proposed, record_ballot, ballot_sent_if, cast_last, give_ballot, send_gone, send_all_gone, goodbye_said, take_call}
-use Rattle.step_refinement.specs.run_safety.Past.{History, records_of}
+use Rattle.rsct_packet.specs.declared.ids.ProviderId.{ProviderId}
+use Rattle.rsct_packet.specs.Search.{Has}
+use Rattle.rsct_packet.proofs.HasLaws.{has_append, filter_has}
+use Rattle.group_attr.specs.declared.attrs.Attrs.{Attrs}
+use Rattle.subscribe_core.specs.declared.subs.ClientToken.{ClientToken}
+use Rattle.client_callbacks.specs.declared.ballot.Filled.{Filled}
+use Rattle.session_state.specs.declared.fault.GsFault.{GsFault}
+use Rattle.session_state.specs.declared.state.Provider.{Provider}
+use Rattle.session_state.specs.declared.state.Request.{Request}
+use Rattle.session_state.specs.declared.state.KeptBallot.{KeptBallot}
+use Rattle.session_state.specs.declared.state.SessionState.{SessionState}
+use Rattle.session_state.specs.State.{is_client_of, client_token}
+use Rattle.session_state.specs.Calls.{inited, joined, left, expelled, state_changed, message_sent, attributes_changed, voted, subscribe_taken, unsubscribe_taken, goodbye_taken, unless_fault, client_fault, end_session, join_fault, join_asked, new_provider}
+use Rattle.node_state.specs.declared.call.CallLine.{CallLine}
+use Rattle.node_state.specs.declared.call.CallLine.TheVariants as call
+use Rattle.node_state.specs.declared.happened.Happened.TheVariants as happened
+use Rattle.node_state.specs.declared.packet.Body.TheVariants as body
+use Rattle.node_state.specs.declared.state.Core.{Core}
+use Rattle.node_state.specs.State.{holds, frozen, leader_of, with_sessions}
+use Rattle.node_state.specs.Calls.{caller, subscriber, refuse_call, changed, ask_last, proposed, record_ballot, ballot_sent_if, cast_last, give_ballot, send_gone, send_all_gone, goodbye_said, take_call}
+use Rattle.run_safety.specs.Past.{History, records_of}
 use Rattle.row_laws.proofs.honest_votes.Ending.{Every, NoGroup}
 use Rattle.row_laws.proofs.hearing.Sessions.{fewer_ended}
 use Rattle.row_laws.proofs.failed_rows.Living.{IsLive, NoLoss, NewAsks, joined_lives, left_lives, expelled_lives, state_lives, message_lives, attributes_lives, left_same, expelled_same, state_same, message_same, attributes_same, inited_lives, voted_lives, subscribe_lives, unsubscribe_lives, NoTaker, same_taker, joined_taker, inited_same, voted_same, subscribe_same, unsubscribe_same}

@@ -2,22 +2,22 @@
 use Rattle.std.proofs.Common.{◌≡◌, ℕ, List, [], ◌∷◌, Option, Some, None, Bool, true, false, refl, sym, ◌∙◌, subst}
 use Rattle.std.specs.Prelude.{not, filter, if◌then◌else◌}
 use Rattle.std.specs.Option.{option_map}
-use Rattle.step_refinement.specs.rsct_packet.declared.ids.ProviderId.{ProviderId}
-use Rattle.step_refinement.specs.rsct_packet.declared.ids.ProtoId.{ProtoId}
-use Rattle.step_refinement.specs.rsct_packet.Ids.{place_lt}
-use Rattle.step_refinement.specs.rsct_packet.Providers.{among}
-use Rattle.step_refinement.specs.rsct_packet.Search.{Has}
-use Rattle.step_refinement.proofs.rsct_packet_laws.HasLaws.{has_filter, has_map}
-use Rattle.step_refinement.specs.proposal_core.declared.proposal.Failure.{Failure}
-use Rattle.step_refinement.specs.proposal_core.declared.group_state.GroupState.{GroupState}
-use Rattle.step_refinement.specs.proposal_core.GroupView.{GroupView}
-use Rattle.step_refinement.specs.proposal_core.Lists.{state_in}
-use Rattle.step_refinement.specs.source_target.declared.Due.TheVariants as due
-use Rattle.step_refinement.specs.source_target.Due as target
-use Rattle.step_refinement.specs.source_target.Due.{allowed, lacks_source, cast_out, cast_outs, reflect_from, reflection_due, due_from}
-use Rattle.step_refinement.specs.node_state.declared.state.Core.{Core}
-use Rattle.step_refinement.specs.node_state.State.{row_of}
-use Rattle.step_refinement.specs.node_state.Deciding.{known_state}
+use Rattle.rsct_packet.specs.declared.ids.ProviderId.{ProviderId}
+use Rattle.rsct_packet.specs.declared.ids.ProtoId.{ProtoId}
+use Rattle.rsct_packet.specs.Ids.{place_lt}
+use Rattle.rsct_packet.specs.Providers.{among}
+use Rattle.rsct_packet.specs.Search.{Has}
+use Rattle.rsct_packet.proofs.HasLaws.{has_filter, has_map}
+use Rattle.proposal_core.specs.declared.proposal.Failure.{Failure}
+use Rattle.proposal_core.specs.declared.group_state.GroupState.{GroupState}
+use Rattle.proposal_core.specs.GroupView.{GroupView}
+use Rattle.proposal_core.specs.Lists.{state_in}
+use Rattle.source_target.specs.declared.Due.TheVariants as due
+use Rattle.source_target.specs.Due as target
+use Rattle.source_target.specs.Due.{allowed, lacks_source, cast_out, cast_outs, reflect_from, reflection_due, due_from}
+use Rattle.node_state.specs.declared.state.Core.{Core}
+use Rattle.node_state.specs.State.{row_of}
+use Rattle.node_state.specs.Deciding.{known_state}
 use Rattle.row_laws.proofs.hearing.Handing.{has_among}
 use Rattle.row_laws.proofs.honest_votes.At.{found}
 use Rattle.row_laws.specs.failed_rows.Failures.{CauseHolds}

@@ -5,46 +5,46 @@ use Rattle.std.specs.Str.{bytes_eq}
 use Rattle.std.specs.Option.{option_map}
 use Rattle.std.proofs.lemmas.Bool.{and_parts, eq-eqb}
 use Rattle.std.proofs.lemmas.List.{reverse-append}
-use Rattle.step_refinement.specs.rsct_packet.declared.ids.ProviderId.{ProviderId}
-use Rattle.step_refinement.specs.rsct_packet.Ids.{same_view}
-use Rattle.step_refinement.specs.rsct_packet.Providers.{among, none_among}
-use Rattle.step_refinement.specs.rsct_packet.Search.{Has}
-use Rattle.step_refinement.proofs.rsct_packet_laws.HasLaws.{has_append, append_has_right, has_map, has_filter, all_has, find_has}
-use Rattle.step_refinement.specs.group_attr.Attrs.{host_membership}
-use Rattle.step_refinement.specs.proposal_core.declared.proposal.Cause.TheVariants.{Died}
-use Rattle.step_refinement.specs.proposal_core.declared.proposal.Proposal.{Proposal}
-use Rattle.step_refinement.specs.proposal_core.declared.proposal.Proposal.TheVariants.{Join, Leave, Fail, Expel, State, Message, Attributes, Reflect}
-use Rattle.step_refinement.specs.proposal_core.declared.entry.Entry.{Entry}
-use Rattle.step_refinement.specs.proposal_core.declared.group_state.GroupState.{GroupState}
-use Rattle.step_refinement.specs.proposal_core.declared.group_state.Running.{Running}
-use Rattle.step_refinement.specs.proposal_core.Fold.{empty_state, present, joins_of, joiners_in, can_begin, joiners_fit_at, joiners_fit}
-use Rattle.step_refinement.specs.proposal_core.Lists.{state_in, len_in}
-use Rattle.step_refinement.specs.batch_rules.Waiting.{add_failure}
-use Rattle.step_refinement.specs.subscribe_core.declared.subs.Subscription.{Subscription}
-use Rattle.step_refinement.specs.client_callbacks.declared.told.Told.TheVariants as told
-use Rattle.step_refinement.specs.client_callbacks.declared.told.Why.TheVariants.{Dissolved}
-use Rattle.step_refinement.specs.session_state.declared.state.Provider.{Provider}
-use Rattle.step_refinement.specs.session_state.State.{is_provider, provider_of, outstanding}
-use Rattle.step_refinement.specs.view_state.declared.install.Install.{Install}
-use Rattle.step_refinement.specs.view_state.declared.install.Base.{Base}
-use Rattle.step_refinement.specs.view_state.Bases.{bases_of, base_named}
-use Rattle.step_refinement.specs.view_state.declared.packet.ViewPacket.TheVariants as packet
-use Rattle.step_refinement.specs.view_state.declared.packet.ViewSend.{ViewSend}
-use Rattle.step_refinement.specs.view_state.declared.views.ViewWork.{ViewWork}
-use Rattle.step_refinement.specs.view_state.Views.{views_entered}
-use Rattle.step_refinement.specs.node_state.declared.group.GroupRow.{GroupRow}
-use Rattle.step_refinement.specs.node_state.declared.happened.Happened.{Happened}
-use Rattle.step_refinement.specs.node_state.declared.happened.Happened.TheVariants as happened
-use Rattle.step_refinement.specs.node_state.declared.packet.Body.TheVariants as body
-use Rattle.step_refinement.specs.node_state.declared.state.Core.{Core}
-use Rattle.step_refinement.specs.node_state.State.{row_found, row_of, list_of, state_of, held_rows, recorded, recorded_all, with_sessions, with_row, with_led, has_name}
-use Rattle.step_refinement.specs.node_state.Sending.{sent, send_requests}
-use Rattle.step_refinement.specs.node_state.HandOn.{Answering, subscriber_name, note_of}
-use Rattle.step_refinement.specs.node_state.Leading.{put_and_hand, with_waiting, tally_opened}
-use Rattle.step_refinement.specs.node_state.Applying.{Lacking, lacking, fill_lists, level_set, base_row, base_record, view_entered, is_in_base, number_of, dissolved, dissolved_if, group_dissolved, sides_dissolved, base_note, entering_note, entering_noted, taken_sent, owed_sent, wait_failed, phase_reopened, lead, lead_groups, entered, entered_if, apply_install, views_taken}
-use Rattle.step_refinement.specs.run_safety.Past.{History, records_of, inc_now}
-use Rattle.step_refinement.specs.run_safety.Stays.{Stay, asks_join, is_refused, stays, with_base}
-use Rattle.step_refinement.proofs.node_state_laws.NameOrder.{row_here, text_same}
+use Rattle.rsct_packet.specs.declared.ids.ProviderId.{ProviderId}
+use Rattle.rsct_packet.specs.Ids.{same_view}
+use Rattle.rsct_packet.specs.Providers.{among, none_among}
+use Rattle.rsct_packet.specs.Search.{Has}
+use Rattle.rsct_packet.proofs.HasLaws.{has_append, append_has_right, has_map, has_filter, all_has, find_has}
+use Rattle.group_attr.specs.Attrs.{host_membership}
+use Rattle.proposal_core.specs.declared.proposal.Cause.TheVariants.{Died}
+use Rattle.proposal_core.specs.declared.proposal.Proposal.{Proposal}
+use Rattle.proposal_core.specs.declared.proposal.Proposal.TheVariants.{Join, Leave, Fail, Expel, State, Message, Attributes, Reflect}
+use Rattle.proposal_core.specs.declared.entry.Entry.{Entry}
+use Rattle.proposal_core.specs.declared.group_state.GroupState.{GroupState}
+use Rattle.proposal_core.specs.declared.group_state.Running.{Running}
+use Rattle.proposal_core.specs.Fold.{empty_state, present, joins_of, joiners_in, can_begin, joiners_fit_at, joiners_fit}
+use Rattle.proposal_core.specs.Lists.{state_in, len_in}
+use Rattle.batch_rules.specs.Waiting.{add_failure}
+use Rattle.subscribe_core.specs.declared.subs.Subscription.{Subscription}
+use Rattle.client_callbacks.specs.declared.told.Told.TheVariants as told
+use Rattle.client_callbacks.specs.declared.told.Why.TheVariants.{Dissolved}
+use Rattle.session_state.specs.declared.state.Provider.{Provider}
+use Rattle.session_state.specs.State.{is_provider, provider_of, outstanding}
+use Rattle.view_state.specs.declared.install.Install.{Install}
+use Rattle.view_state.specs.declared.install.Base.{Base}
+use Rattle.view_state.specs.Bases.{bases_of, base_named}
+use Rattle.view_state.specs.declared.packet.ViewPacket.TheVariants as packet
+use Rattle.view_state.specs.declared.packet.ViewSend.{ViewSend}
+use Rattle.view_state.specs.declared.views.ViewWork.{ViewWork}
+use Rattle.view_state.specs.Views.{views_entered}
+use Rattle.node_state.specs.declared.group.GroupRow.{GroupRow}
+use Rattle.node_state.specs.declared.happened.Happened.{Happened}
+use Rattle.node_state.specs.declared.happened.Happened.TheVariants as happened
+use Rattle.node_state.specs.declared.packet.Body.TheVariants as body
+use Rattle.node_state.specs.declared.state.Core.{Core}
+use Rattle.node_state.specs.State.{row_found, row_of, list_of, state_of, held_rows, recorded, recorded_all, with_sessions, with_row, with_led, has_name}
+use Rattle.node_state.specs.Sending.{sent, send_requests}
+use Rattle.node_state.specs.HandOn.{Answering, subscriber_name, note_of}
+use Rattle.node_state.specs.Leading.{put_and_hand, with_waiting, tally_opened}
+use Rattle.node_state.specs.Applying.{Lacking, lacking, fill_lists, level_set, base_row, base_record, view_entered, is_in_base, number_of, dissolved, dissolved_if, group_dissolved, sides_dissolved, base_note, entering_note, entering_noted, taken_sent, owed_sent, wait_failed, phase_reopened, lead, lead_groups, entered, entered_if, apply_install, views_taken}
+use Rattle.run_safety.specs.Past.{History, records_of, inc_now}
+use Rattle.run_safety.specs.Stays.{Stay, asks_join, is_refused, stays, with_base}
+use Rattle.node_state.proofs.NameOrder.{row_here, text_same}
 use Rattle.step_refinement.proofs.SessionLaws.{provider_same}
 use Rattle.step_refinement.proofs.BaseOrder.{bases_ordered, row_of_base, base_noted}
 use Rattle.row_laws.proofs.hearing.Handing.{among_is, has_among}

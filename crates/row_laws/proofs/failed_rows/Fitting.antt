@@ -2,28 +2,28 @@
 use Rattle.std.proofs.Common.{◌≡◌, ◌⊎◌, ℕ, ◌+◌, List, [], ◌∷◌, Option, Some, None, Bool, true, false, refl, sym, ap, ◌∙◌, subst, inl, inr, ⊎_elim}
 use Rattle.std.specs.Prelude.{if◌then◌else◌}
 use Rattle.std.specs.Str.{bytes_eq}
-use Rattle.step_refinement.specs.rsct_packet.declared.ids.ViewId.{ViewId}
-use Rattle.step_refinement.specs.rsct_packet.declared.ids.ProviderId.{ProviderId}
-use Rattle.step_refinement.specs.rsct_packet.Search.{Has}
-use Rattle.step_refinement.proofs.rsct_packet_laws.HasLaws.{has_append, append_has_left, append_has_right}
-use Rattle.step_refinement.specs.proposal_core.declared.entry.Entry.{Entry}
-use Rattle.step_refinement.specs.proposal_core.declared.proposal.Proposal.{Proposal}
-use Rattle.step_refinement.specs.proposal_core.declared.proposal.Proposal.TheVariants.{Join, Leave, Fail, Expel, State, Message, Attributes, Reflect}
-use Rattle.step_refinement.specs.proposal_core.declared.group_state.GroupState.{GroupState}
-use Rattle.step_refinement.specs.proposal_core.declared.group_state.Running.{Running}
-use Rattle.step_refinement.specs.proposal_core.Fold.{empty_state, can_begin, joiners_fit_at, joiners_fit, after}
-use Rattle.step_refinement.specs.node_state.declared.happened.Happened.{Happened}
-use Rattle.step_refinement.specs.node_state.declared.happened.Happened.TheVariants as happened
-use Rattle.step_refinement.specs.run_safety.Past.{History, records_of, earlier, fold_from, view_now}
-use Rattle.step_refinement.specs.run_safety.Sight.{told_in, lines_at, lines_with, lines_of}
-use Rattle.step_refinement.specs.run_safety.Group.{Standing, Reply, Origin, Packet, Line, Kept, Noted, Put, Based, kept}
-use Rattle.step_refinement.specs.run_safety.Group as group
-use Rattle.step_refinement.specs.run_safety.Bases.{Bases, base_state, state_of_list, marked, BaseIs}
-use Rattle.step_refinement.specs.run_safety.Moves.{Leads, Opening, SetAt, Life, Dawn, NextEvent, Promises, Answers, Appends, Follows, Starts, Enters, Founds, Names, Hears, Asks, Requests, Refuses, IsTold, Acknowledges, Settles}
-use Rattle.step_refinement.proofs.run_safety_laws.Order.{cases_view}
-use Rattle.step_refinement.proofs.run_safety_laws.SightLaws.{kept_append}
-use Rattle.step_refinement.proofs.run_safety_laws.Lives.{whole}
-use Rattle.step_refinement.proofs.node_state_laws.NameOrder.{text_same, text_self}
+use Rattle.rsct_packet.specs.declared.ids.ViewId.{ViewId}
+use Rattle.rsct_packet.specs.declared.ids.ProviderId.{ProviderId}
+use Rattle.rsct_packet.specs.Search.{Has}
+use Rattle.rsct_packet.proofs.HasLaws.{has_append, append_has_left, append_has_right}
+use Rattle.proposal_core.specs.declared.entry.Entry.{Entry}
+use Rattle.proposal_core.specs.declared.proposal.Proposal.{Proposal}
+use Rattle.proposal_core.specs.declared.proposal.Proposal.TheVariants.{Join, Leave, Fail, Expel, State, Message, Attributes, Reflect}
+use Rattle.proposal_core.specs.declared.group_state.GroupState.{GroupState}
+use Rattle.proposal_core.specs.declared.group_state.Running.{Running}
+use Rattle.proposal_core.specs.Fold.{empty_state, can_begin, joiners_fit_at, joiners_fit, after}
+use Rattle.node_state.specs.declared.happened.Happened.{Happened}
+use Rattle.node_state.specs.declared.happened.Happened.TheVariants as happened
+use Rattle.run_safety.specs.Past.{History, records_of, earlier, fold_from, view_now}
+use Rattle.run_safety.specs.Sight.{told_in, lines_at, lines_with, lines_of}
+use Rattle.run_safety.specs.Group.{Standing, Reply, Origin, Packet, Line, Kept, Noted, Put, Based, kept}
+use Rattle.run_safety.specs.Group as group
+use Rattle.run_safety.specs.Bases.{Bases, base_state, state_of_list, marked, BaseIs}
+use Rattle.run_safety.specs.Moves.{Leads, Opening, SetAt, Life, Dawn, NextEvent, Promises, Answers, Appends, Follows, Starts, Enters, Founds, Names, Hears, Asks, Requests, Refuses, IsTold, Acknowledges, Settles}
+use Rattle.run_safety.proofs.Order.{cases_view}
+use Rattle.run_safety.proofs.SightLaws.{kept_append}
+use Rattle.run_safety.proofs.Lives.{whole}
+use Rattle.node_state.proofs.NameOrder.{text_same, text_self}
 use Rattle.step_refinement.specs.Tied.{Scene, Rests}
 use Rattle.row_laws.proofs.failed_rows.Facts.{BasesFit}
 use Rattle.row_laws.proofs.failed_rows.Puts.{apart_after}

@@ -1,25 +1,25 @@
 -- A provider's join is asked for in one group alone, since its number is given once.
 use Rattle.std.proofs.Common.{◌≡◌, ◌⊎◌, ◌≤◌, ℕ, ◌+◌, List, [], ◌∷◌, ◌++◌, Some, None, true, false, refl, sym, ◌∙◌, subst, inl, inr, ⊎_elim, arith}
 use Rattle.std.specs.Prelude.{fold, reverse}
-use Rattle.step_refinement.specs.rsct_packet.declared.ids.ProviderId.{ProviderId}
-use Rattle.step_refinement.specs.rsct_packet.Mask.{nodes_of}
-use Rattle.step_refinement.specs.rsct_packet.Search.{Has}
-use Rattle.step_refinement.proofs.rsct_packet_laws.HasLaws.{has_append}
-use Rattle.step_refinement.specs.proposal_core.declared.proposal.Proposal.{Proposal}
-use Rattle.step_refinement.specs.node_state.declared.config.Config.{Config}
-use Rattle.step_refinement.specs.node_state.declared.happened.Happened.{Happened}
-use Rattle.step_refinement.specs.node_state.declared.happened.Happened.TheVariants as happened
-use Rattle.step_refinement.specs.node_state.declared.state.Core.{Core}
-use Rattle.step_refinement.specs.node_state.HandOn.{Answering}
-use Rattle.step_refinement.specs.node_state.Step.{NodeEvent, Ticks, Asks, Given, Calls, Garbage, at_work, started, stepped}
-use Rattle.step_refinement.specs.world_model.declared.event.Event.{Event}
-use Rattle.step_refinement.specs.run_safety.Past.{records_of}
-use Rattle.step_refinement.specs.run_safety.Group as group
-use Rattle.step_refinement.specs.run_safety.Group.{Noted}
+use Rattle.rsct_packet.specs.declared.ids.ProviderId.{ProviderId}
+use Rattle.rsct_packet.specs.Mask.{nodes_of}
+use Rattle.rsct_packet.specs.Search.{Has}
+use Rattle.rsct_packet.proofs.HasLaws.{has_append}
+use Rattle.proposal_core.specs.declared.proposal.Proposal.{Proposal}
+use Rattle.node_state.specs.declared.config.Config.{Config}
+use Rattle.node_state.specs.declared.happened.Happened.{Happened}
+use Rattle.node_state.specs.declared.happened.Happened.TheVariants as happened
+use Rattle.node_state.specs.declared.state.Core.{Core}
+use Rattle.node_state.specs.HandOn.{Answering}
+use Rattle.node_state.specs.Step.{NodeEvent, Ticks, Asks, Given, Calls, Garbage, at_work, started, stepped}
+use Rattle.world_model.specs.declared.event.Event.{Event}
+use Rattle.run_safety.specs.Past.{records_of}
+use Rattle.run_safety.specs.Group as group
+use Rattle.run_safety.specs.Group.{Noted}
 use Rattle.row_laws.proofs.failed_rows.Fitting.{asked_seen}
 use Rattle.row_laws.proofs.failed_rows.Asked.{asks_it}
-use Rattle.step_refinement.specs.run_safety.Stays.{asks_join}
-use Rattle.step_refinement.proofs.run_safety_laws.Tests.{has_any}
+use Rattle.run_safety.specs.Stays.{asks_join}
+use Rattle.run_safety.proofs.Tests.{has_any}
 use Rattle.step_refinement.specs.Ghost.{asking}
 use Rattle.step_refinement.specs.Tied.{Scene, NodeIs, NodeIsIf, Rests}
 use Rattle.step_refinement.specs.Rows.{nothing_yet, starts_too, ended, Arises}

@@ -3,33 +3,33 @@ use Rattle.std.proofs.Common.{◌≡◌, ◌⊎◌, ℕ, List, [], ◌∷◌, le
 use Rattle.std.specs.Prelude.{not, map, filter, flat_map, reverse}
 use Rattle.std.specs.Str.{bytes_eq}
 use Rattle.std.proofs.lemmas.Bool.{and_parts}
-use Rattle.step_refinement.specs.rsct_packet.declared.ids.ProviderId.{ProviderId}
-use Rattle.step_refinement.specs.rsct_packet.declared.ids.ProtoId.{ProtoId}
-use Rattle.step_refinement.specs.rsct_packet.declared.ids.ViewId.{ViewId}
-use Rattle.step_refinement.specs.rsct_packet.Search.{Has}
-use Rattle.step_refinement.proofs.rsct_packet_laws.HasLaws.{has_append, has_filter, append_has_left, append_has_right}
-use Rattle.step_refinement.specs.proposal_core.declared.entry.Entry.{Entry}
-use Rattle.step_refinement.specs.proposal_core.declared.entry.Entry.TheVariants.{Once, Begin, Phase, Approve, Reject, Late}
-use Rattle.step_refinement.specs.proposal_core.Fold.{joins_of}
-use Rattle.step_refinement.specs.session_state.declared.state.Provider.{Provider}
-use Rattle.step_refinement.specs.session_state.State.{provider_of}
-use Rattle.step_refinement.specs.proposal_core.declared.group_state.GroupState.{GroupState}
-use Rattle.step_refinement.specs.subscribe_core.declared.subs.Subscription.{Subscription}
-use Rattle.step_refinement.specs.subscribe_core.Subs.{is_of_group, differs}
-use Rattle.step_refinement.specs.client_callbacks.declared.ballot.Filled.{Filled}
-use Rattle.step_refinement.specs.client_callbacks.Ballots.{BallotView}
-use Rattle.step_refinement.specs.session_state.declared.casts.Cast.{Cast}
-use Rattle.step_refinement.specs.session_state.declared.state.SessionState.{SessionState}
-use Rattle.step_refinement.specs.session_state.HandOn.{hears, hearers_in, brought_by, beginners, hearers, cast_of, casts_of, casts_out, is_present}
-use Rattle.step_refinement.specs.session_state.HandOn as session
-use Rattle.step_refinement.specs.node_state.declared.happened.Happened.{Happened}
-use Rattle.step_refinement.specs.node_state.declared.happened.Happened.TheVariants as happened
-use Rattle.step_refinement.specs.node_state.declared.state.Core.{Core}
-use Rattle.step_refinement.specs.node_state.State.{recorded_all, with_sessions}
-use Rattle.step_refinement.specs.node_state.HandOn.{Answering, fills, cast_record, cast_records, heard, note_of, notes, noted, hand_on}
-use Rattle.step_refinement.specs.run_safety.Past.{History, records_of}
-use Rattle.step_refinement.specs.run_safety.Stays.{is_join_of}
-use Rattle.step_refinement.proofs.node_state_laws.NameOrder.{text_same}
+use Rattle.rsct_packet.specs.declared.ids.ProviderId.{ProviderId}
+use Rattle.rsct_packet.specs.declared.ids.ProtoId.{ProtoId}
+use Rattle.rsct_packet.specs.declared.ids.ViewId.{ViewId}
+use Rattle.rsct_packet.specs.Search.{Has}
+use Rattle.rsct_packet.proofs.HasLaws.{has_append, has_filter, append_has_left, append_has_right}
+use Rattle.proposal_core.specs.declared.entry.Entry.{Entry}
+use Rattle.proposal_core.specs.declared.entry.Entry.TheVariants.{Once, Begin, Phase, Approve, Reject, Late}
+use Rattle.proposal_core.specs.Fold.{joins_of}
+use Rattle.session_state.specs.declared.state.Provider.{Provider}
+use Rattle.session_state.specs.State.{provider_of}
+use Rattle.proposal_core.specs.declared.group_state.GroupState.{GroupState}
+use Rattle.subscribe_core.specs.declared.subs.Subscription.{Subscription}
+use Rattle.subscribe_core.specs.Subs.{is_of_group, differs}
+use Rattle.client_callbacks.specs.declared.ballot.Filled.{Filled}
+use Rattle.client_callbacks.specs.Ballots.{BallotView}
+use Rattle.session_state.specs.declared.casts.Cast.{Cast}
+use Rattle.session_state.specs.declared.state.SessionState.{SessionState}
+use Rattle.session_state.specs.HandOn.{hears, hearers_in, brought_by, beginners, hearers, cast_of, casts_of, casts_out, is_present}
+use Rattle.session_state.specs.HandOn as session
+use Rattle.node_state.specs.declared.happened.Happened.{Happened}
+use Rattle.node_state.specs.declared.happened.Happened.TheVariants as happened
+use Rattle.node_state.specs.declared.state.Core.{Core}
+use Rattle.node_state.specs.State.{recorded_all, with_sessions}
+use Rattle.node_state.specs.HandOn.{Answering, fills, cast_record, cast_records, heard, note_of, notes, noted, hand_on}
+use Rattle.run_safety.specs.Past.{History, records_of}
+use Rattle.run_safety.specs.Stays.{is_join_of}
+use Rattle.node_state.proofs.NameOrder.{text_same}
 use Rattle.row_laws.proofs.hearing.Handing.{has_among, handed_kept}
 use Rattle.row_laws.specs.failed_rows.Failures.{TakenOff}
 use Rattle.row_laws.proofs.failed_rows.Living.{IsLive, handed_lives, handed_slim}

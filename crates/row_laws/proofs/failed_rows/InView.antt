@@ -1,19 +1,19 @@
 -- A row of views leaves the node in its view.
 use Rattle.std.proofs.Common.{◌≡◌, ℕ, List, length, Option, Some, None, Bool, true, false, refl}
 use Rattle.std.specs.Prelude.{not, ◌==◌, ◌&&◌, filter, nat_le}
-use Rattle.step_refinement.specs.rsct_packet.declared.ids.ViewId.{ViewId}
-use Rattle.step_refinement.specs.rsct_packet.declared.mask.Mask.{Mask}
-use Rattle.step_refinement.specs.rsct_packet.Ids.{same_view, view_lt, is_member}
-use Rattle.step_refinement.specs.rsct_packet.Mask.{has_node, with_node, nodes_of}
-use Rattle.step_refinement.specs.view_state.declared.answer.Answer.{Answer}
-use Rattle.step_refinement.specs.view_state.declared.exchange.Exchange.{Exchange}
-use Rattle.step_refinement.specs.view_state.declared.install.Part.{Part}
-use Rattle.step_refinement.specs.view_state.declared.install.Install.{Install}
-use Rattle.step_refinement.specs.view_state.Answers.{max_parts, opened, with_answer, may_answer, all_answered, install_of, is_spelled}
-use Rattle.step_refinement.specs.view_state.declared.packet.ViewPacket.TheVariants as packet
-use Rattle.step_refinement.specs.view_state.declared.views.RingAsk.{RingAsk}
-use Rattle.step_refinement.specs.view_state.declared.views.ViewWork.{ViewWork}
-use Rattle.step_refinement.specs.view_state.Views.{view_sent, view_sent_all, gathering_set, promised, begin_install, gathered, gather_on, own_answer, ask_others, next_view, may_ask, ask_if, ask_row, answered, prepare, prepare_row, answer_to, answer_row, refused_by, refuse_to, refuse_row, installed, install_row, taken_row, prepare_again, note_stuck, tick_asks, asks_or_ages, gathering_ticks, install_again_of, install_again, is_coordinator, is_frozen}
+use Rattle.rsct_packet.specs.declared.ids.ViewId.{ViewId}
+use Rattle.rsct_packet.specs.declared.mask.Mask.{Mask}
+use Rattle.rsct_packet.specs.Ids.{same_view, view_lt, is_member}
+use Rattle.rsct_packet.specs.Mask.{has_node, with_node, nodes_of}
+use Rattle.view_state.specs.declared.answer.Answer.{Answer}
+use Rattle.view_state.specs.declared.exchange.Exchange.{Exchange}
+use Rattle.view_state.specs.declared.install.Part.{Part}
+use Rattle.view_state.specs.declared.install.Install.{Install}
+use Rattle.view_state.specs.Answers.{max_parts, opened, with_answer, may_answer, all_answered, install_of, is_spelled}
+use Rattle.view_state.specs.declared.packet.ViewPacket.TheVariants as packet
+use Rattle.view_state.specs.declared.views.RingAsk.{RingAsk}
+use Rattle.view_state.specs.declared.views.ViewWork.{ViewWork}
+use Rattle.view_state.specs.Views.{view_sent, view_sent_all, gathering_set, promised, begin_install, gathered, gather_on, own_answer, ask_others, next_view, may_ask, ask_if, ask_row, answered, prepare, prepare_row, answer_to, answer_row, refused_by, refuse_to, refuse_row, installed, install_row, taken_row, prepare_again, note_stuck, tick_asks, asks_or_ages, gathering_ticks, install_again_of, install_again, is_coordinator, is_frozen}
 
 -- the node, its view and its incarnation stay
 abbrev pub InView : ViewWork → ViewWork → Type 0

@@ -3,29 +3,29 @@ use Rattle.std.proofs.Common.{◌≡◌, ◌⊎◌, ℕ, List, [], ◌∷◌, �
 use Rattle.std.specs.Prelude.{◌&&◌, ◌||◌, fold, reverse, if◌then◌else◌}
 use Rattle.std.specs.List.{list_any}
 use Rattle.std.proofs.lemmas.Bool.{eq-eqb}
-use Rattle.step_refinement.specs.rsct_packet.declared.ids.ProviderId.{ProviderId}
-use Rattle.step_refinement.specs.rsct_packet.Mask.{nodes_of}
-use Rattle.step_refinement.specs.rsct_packet.Search.{Has}
-use Rattle.step_refinement.proofs.rsct_packet_laws.HasLaws.{has_append, append_has_left, has_filter}
-use Rattle.step_refinement.specs.proposal_core.Lists.{state_in}
-use Rattle.step_refinement.specs.session_state.declared.state.Provider.{Provider}
-use Rattle.step_refinement.specs.session_state.State.{is_client_of, client_token}
-use Rattle.step_refinement.specs.node_state.declared.call.CallLine.{CallLine}
-use Rattle.step_refinement.specs.node_state.declared.call.CallLine.TheVariants as call
-use Rattle.step_refinement.specs.node_state.declared.config.Config.{Config}
-use Rattle.step_refinement.specs.node_state.declared.happened.Happened.{Happened}
-use Rattle.step_refinement.specs.node_state.declared.happened.Happened.TheVariants as happened
-use Rattle.step_refinement.specs.proposal_core.declared.proposal.Proposal.{Proposal}
-use Rattle.step_refinement.specs.node_state.declared.packet.Body.{Body}
-use Rattle.step_refinement.specs.node_state.declared.packet.Body.TheVariants as body
-use Rattle.step_refinement.specs.node_state.declared.packet.Packet.{Packet}
-use Rattle.step_refinement.specs.node_state.declared.state.Core.{Core}
-use Rattle.step_refinement.specs.node_state.HandOn.{Answering}
-use Rattle.step_refinement.specs.node_state.Calls.{take_call}
-use Rattle.step_refinement.specs.node_state.Step.{NodeEvent, Ticks, Asks, Given, Calls, Garbage, at_work, stepped}
-use Rattle.step_refinement.specs.world_model.declared.event.Event.{Event}
-use Rattle.step_refinement.specs.run_safety.Past.{records_of, inc_now}
-use Rattle.step_refinement.specs.run_safety.Stays.{is_refused, asks_join, client_of, joining_client, goodbye_of, is_named}
+use Rattle.rsct_packet.specs.declared.ids.ProviderId.{ProviderId}
+use Rattle.rsct_packet.specs.Mask.{nodes_of}
+use Rattle.rsct_packet.specs.Search.{Has}
+use Rattle.rsct_packet.proofs.HasLaws.{has_append, append_has_left, has_filter}
+use Rattle.proposal_core.specs.Lists.{state_in}
+use Rattle.session_state.specs.declared.state.Provider.{Provider}
+use Rattle.session_state.specs.State.{is_client_of, client_token}
+use Rattle.node_state.specs.declared.call.CallLine.{CallLine}
+use Rattle.node_state.specs.declared.call.CallLine.TheVariants as call
+use Rattle.node_state.specs.declared.config.Config.{Config}
+use Rattle.node_state.specs.declared.happened.Happened.{Happened}
+use Rattle.node_state.specs.declared.happened.Happened.TheVariants as happened
+use Rattle.proposal_core.specs.declared.proposal.Proposal.{Proposal}
+use Rattle.node_state.specs.declared.packet.Body.{Body}
+use Rattle.node_state.specs.declared.packet.Body.TheVariants as body
+use Rattle.node_state.specs.declared.packet.Packet.{Packet}
+use Rattle.node_state.specs.declared.state.Core.{Core}
+use Rattle.node_state.specs.HandOn.{Answering}
+use Rattle.node_state.specs.Calls.{take_call}
+use Rattle.node_state.specs.Step.{NodeEvent, Ticks, Asks, Given, Calls, Garbage, at_work, stepped}
+use Rattle.world_model.specs.declared.event.Event.{Event}
+use Rattle.run_safety.specs.Past.{records_of, inc_now}
+use Rattle.run_safety.specs.Stays.{is_refused, asks_join, client_of, joining_client, goodbye_of, is_named}
 use Rattle.step_refinement.specs.Tied.{Scene, NodeIs, NodeIsIf, Rests}
 use Rattle.step_refinement.specs.Rows.{over, ended, nothing_yet, starts_too, Arises}
 use Rattle.step_refinement.specs.Runs.{IsNote, noted, Reached}

@@ -2,44 +2,44 @@
 use Rattle.std.proofs.Common.{◌≡◌, ◌⊎◌, ℕ, zero, suc, ◌-◌, max, List, [], ◌∷◌, drop, Option, Some, None, Bool, true, false, refl, sym, ap, ◌∙◌, subst, inl, inr}
 use Rattle.std.specs.Prelude.{not, filter, find, fold, nat_le, if◌then◌else◌, reverse, ◌++◌}
 use Rattle.std.proofs.lemmas.Bool.{and_parts}
-use Rattle.step_refinement.specs.rsct_packet.declared.ids.ViewId.{ViewId}
-use Rattle.step_refinement.specs.rsct_packet.declared.ids.ProtoId.{ProtoId}
-use Rattle.step_refinement.specs.rsct_packet.declared.ids.ProviderId.{ProviderId}
-use Rattle.step_refinement.specs.rsct_packet.Providers.{among}
-use Rattle.step_refinement.specs.rsct_packet.Search.{Has}
-use Rattle.step_refinement.proofs.rsct_packet_laws.HasLaws.{has_filter}
-use Rattle.step_refinement.specs.group_attr.declared.attrs.Attrs.{Attrs}
-use Rattle.step_refinement.specs.group_attr.declared.attrs.Phases.{Phases}
-use Rattle.step_refinement.specs.group_attr.declared.attrs.Phases.TheVariants.{One, Many}
-use Rattle.step_refinement.specs.proposal_core.declared.proposal.Cause.{Cause}
-use Rattle.step_refinement.specs.proposal_core.declared.proposal.Cause.TheVariants.{Died, Gone, Cast}
-use Rattle.step_refinement.specs.proposal_core.declared.proposal.Failure.{Failure}
-use Rattle.step_refinement.specs.proposal_core.declared.proposal.Proposal.{Proposal}
-use Rattle.step_refinement.specs.proposal_core.declared.entry.Vote.{Vote}
-use Rattle.step_refinement.specs.proposal_core.declared.entry.Vote.TheVariants as vote
-use Rattle.step_refinement.specs.proposal_core.declared.entry.Entry.{Entry}
-use Rattle.step_refinement.specs.proposal_core.declared.entry.Entry.TheVariants.{Once, Begin, Phase, Approve, Reject, Late}
-use Rattle.step_refinement.specs.proposal_core.declared.group_state.GroupState.{GroupState}
-use Rattle.step_refinement.specs.proposal_core.declared.group_state.Running.{Running}
-use Rattle.step_refinement.specs.proposal_core.Fold.{max_phases, joins_of, joiners_in, fits, take_attrs, first_attrs, begun, next_phase, apply, after_if, after}
-use Rattle.step_refinement.proofs.proposal_core_laws.FoldLaws.{idle_approved, idle_rejected}
-use Rattle.step_refinement.specs.proposal_core.GroupView.{GroupView}
-use Rattle.step_refinement.specs.proposal_core.Lists.{list_or_new, state_in, len_in, has_room, entry_fits, with_entry, forgotten}
-use Rattle.step_refinement.specs.batch_rules.Waiting.{WaitingView, add_failure}
-use Rattle.step_refinement.specs.vote_phases.Tally.{TallyView, outcome}
-use Rattle.step_refinement.specs.view_state.declared.views.Views.{Views}
-use Rattle.step_refinement.specs.node_state.declared.group.GroupRow.{GroupRow}
-use Rattle.step_refinement.specs.node_state.declared.group.Led.{Led}
-use Rattle.step_refinement.specs.node_state.declared.packet.Body.TheVariants as body
-use Rattle.step_refinement.specs.node_state.declared.happened.Happened.{Happened}
-use Rattle.step_refinement.specs.node_state.declared.happened.Happened.TheVariants as happened
-use Rattle.step_refinement.specs.node_state.declared.state.Core.{Core}
-use Rattle.step_refinement.specs.node_state.State.{InNameOrder, row_found, row_of, with_row, with_led, led_of, list_of, state_of, len_of, fits_at_end, list_forgotten, forget_below, leader_of, others, least_acked, recorded, has_name}
-use Rattle.step_refinement.specs.node_state.Sending.{send_all}
-use Rattle.step_refinement.specs.node_state.HandOn.{Answering, hand_on}
-use Rattle.step_refinement.specs.node_state.Leading.{put, forget_least, with_waiting, wait_if, new_members_wait, appended, append_if_fits, tally_for, tally_set, tally_opened, closing, closing_of, closing_entry, is_phase, closes_from, closes, begin_many, begins}
-use Rattle.step_refinement.specs.run_safety.Past.{History, records_of}
-use Rattle.step_refinement.proofs.node_state_laws.NameOrder.{row_here}
+use Rattle.rsct_packet.specs.declared.ids.ViewId.{ViewId}
+use Rattle.rsct_packet.specs.declared.ids.ProtoId.{ProtoId}
+use Rattle.rsct_packet.specs.declared.ids.ProviderId.{ProviderId}
+use Rattle.rsct_packet.specs.Providers.{among}
+use Rattle.rsct_packet.specs.Search.{Has}
+use Rattle.rsct_packet.proofs.HasLaws.{has_filter}
+use Rattle.group_attr.specs.declared.attrs.Attrs.{Attrs}
+use Rattle.group_attr.specs.declared.attrs.Phases.{Phases}
+use Rattle.group_attr.specs.declared.attrs.Phases.TheVariants.{One, Many}
+use Rattle.proposal_core.specs.declared.proposal.Cause.{Cause}
+use Rattle.proposal_core.specs.declared.proposal.Cause.TheVariants.{Died, Gone, Cast}
+use Rattle.proposal_core.specs.declared.proposal.Failure.{Failure}
+use Rattle.proposal_core.specs.declared.proposal.Proposal.{Proposal}
+use Rattle.proposal_core.specs.declared.entry.Vote.{Vote}
+use Rattle.proposal_core.specs.declared.entry.Vote.TheVariants as vote
+use Rattle.proposal_core.specs.declared.entry.Entry.{Entry}
+use Rattle.proposal_core.specs.declared.entry.Entry.TheVariants.{Once, Begin, Phase, Approve, Reject, Late}
+use Rattle.proposal_core.specs.declared.group_state.GroupState.{GroupState}
+use Rattle.proposal_core.specs.declared.group_state.Running.{Running}
+use Rattle.proposal_core.specs.Fold.{max_phases, joins_of, joiners_in, fits, take_attrs, first_attrs, begun, next_phase, apply, after_if, after}
+use Rattle.proposal_core.proofs.FoldLaws.{idle_approved, idle_rejected}
+use Rattle.proposal_core.specs.GroupView.{GroupView}
+use Rattle.proposal_core.specs.Lists.{list_or_new, state_in, len_in, has_room, entry_fits, with_entry, forgotten}
+use Rattle.batch_rules.specs.Waiting.{WaitingView, add_failure}
+use Rattle.vote_phases.specs.Tally.{TallyView, outcome}
+use Rattle.view_state.specs.declared.views.Views.{Views}
+use Rattle.node_state.specs.declared.group.GroupRow.{GroupRow}
+use Rattle.node_state.specs.declared.group.Led.{Led}
+use Rattle.node_state.specs.declared.packet.Body.TheVariants as body
+use Rattle.node_state.specs.declared.happened.Happened.{Happened}
+use Rattle.node_state.specs.declared.happened.Happened.TheVariants as happened
+use Rattle.node_state.specs.declared.state.Core.{Core}
+use Rattle.node_state.specs.State.{InNameOrder, row_found, row_of, with_row, with_led, led_of, list_of, state_of, len_of, fits_at_end, list_forgotten, forget_below, leader_of, others, least_acked, recorded, has_name}
+use Rattle.node_state.specs.Sending.{send_all}
+use Rattle.node_state.specs.HandOn.{Answering, hand_on}
+use Rattle.node_state.specs.Leading.{put, forget_least, with_waiting, wait_if, new_members_wait, appended, append_if_fits, tally_for, tally_set, tally_opened, closing, closing_of, closing_entry, is_phase, closes_from, closes, begin_many, begins}
+use Rattle.run_safety.specs.Past.{History, records_of}
+use Rattle.node_state.proofs.NameOrder.{row_here}
 use Rattle.step_refinement.proofs.Appending.{handed_rows}
 use Rattle.row_laws.proofs.honest_votes.At.{found, leads_row}
 use Rattle.row_laws.specs.failed_rows.Failures.{GoneCause, EntryFails, LeavesFail}

@@ -2,10 +2,10 @@
 use Rattle.std.proofs.Common.{◌≡◌, [], ◌∷◌, ◌++◌, Bool, true, false, refl, ap, ◌∙◌}
 use Rattle.std.specs.Prelude.{◌&&◌, ◌||◌, not}
 use Rattle.std.specs.List.{list_any}
-use Rattle.step_refinement.specs.rsct_packet.declared.ids.ProviderId.{ProviderId}
-use Rattle.step_refinement.specs.world_model.Run.{Happening}
-use Rattle.step_refinement.specs.run_safety.Past.{History}
-use Rattle.step_refinement.specs.run_safety.Stays.{client_of, goodbye_of, is_refused, lets_go, was_let_go}
+use Rattle.rsct_packet.specs.declared.ids.ProviderId.{ProviderId}
+use Rattle.world_model.specs.Run.{Happening}
+use Rattle.run_safety.specs.Past.{History}
+use Rattle.run_safety.specs.Stays.{client_of, goodbye_of, is_refused, lets_go, was_let_go}
 use Rattle.row_laws.specs.failed_rows.Failures.{GoodbyesLetGo}
 
 or_true : (a b : Bool) → b ≡ true → (a || b) ≡ true

@@ -2,39 +2,39 @@
 use Rattle.std.proofs.Common.{◌≡◌, ◌⊎◌, ℕ, List, [], ◌∷◌, ◌++◌, Option, Some, None, Bool, true, false, refl, sym, ap, ◌∙◌, subst, inl, inr}
 use Rattle.std.specs.Prelude.{◌+◌, not, cond, ◌||◌, find, fold, filter, if◌then◌else◌, Result, Ok, Err}
 use Rattle.std.specs.List.{last_or, list_any}
-use Rattle.step_refinement.specs.rsct_packet.declared.ids.ProviderId.{ProviderId}
-use Rattle.step_refinement.specs.rsct_packet.Providers.{among, same_provider}
-use Rattle.step_refinement.specs.rsct_packet.Search.{Has, edit_where}
-use Rattle.step_refinement.proofs.rsct_packet_laws.HasLaws.{has_append, has_filter, filter_has, append_has_left, append_has_right, find_has}
-use Rattle.step_refinement.specs.group_attr.declared.attrs.Attrs.{Attrs}
-use Rattle.step_refinement.specs.group_attr.declared.attrs.Phases.{Phases}
-use Rattle.step_refinement.specs.group_attr.declared.attrs.Phases.TheVariants.{One}
-use Rattle.step_refinement.specs.proposal_core.declared.entry.Entry.{Entry}
-use Rattle.step_refinement.specs.proposal_core.declared.entry.Entry.TheVariants.{Once, Begin, Phase, Approve, Reject, Late}
-use Rattle.step_refinement.specs.proposal_core.declared.proposal.Proposal.{Proposal}
-use Rattle.step_refinement.specs.proposal_core.declared.proposal.Proposal.TheVariants.{Join, Leave, Fail, Expel, State, Message, Attributes, Reflect}
-use Rattle.step_refinement.specs.proposal_core.declared.group_state.GroupState.{GroupState}
-use Rattle.step_refinement.specs.proposal_core.Fold.{joins_of, joiners_in, present}
-use Rattle.step_refinement.specs.client_callbacks.declared.ballot.Filled.{Filled}
-use Rattle.step_refinement.specs.client_callbacks.declared.told.Why.{Why}
-use Rattle.step_refinement.specs.subscribe_core.declared.subs.ClientToken.{ClientToken}
-use Rattle.step_refinement.specs.subscribe_core.declared.subs.SubToken.{SubToken}
-use Rattle.step_refinement.specs.subscribe_core.Subs.{subs_add, subs_remove}
-use Rattle.step_refinement.specs.proposal_core.declared.entry.Vote.{Vote}
-use Rattle.step_refinement.specs.client_callbacks.Ballots.{is_within, value_limit}
-use Rattle.step_refinement.specs.session_state.declared.state.OpenPhase.{OpenPhase}
-use Rattle.step_refinement.specs.session_state.declared.fault.GsFault.TheVariants as fault
-use Rattle.step_refinement.specs.session_state.declared.fault.Field.TheVariants as field
-use Rattle.step_refinement.specs.session_state.declared.fault.GsFault.{GsFault}
-use Rattle.step_refinement.specs.session_state.declared.state.MemberToken.{MemberToken}
-use Rattle.step_refinement.specs.session_state.declared.state.Provider.{Provider}
-use Rattle.step_refinement.specs.session_state.declared.state.Request.{Request}
-use Rattle.step_refinement.specs.session_state.declared.state.SessionState.{SessionState}
-use Rattle.step_refinement.specs.session_state.State.{provider_of, is_kept_for, is_provider, is_member_of, with_provider, end_request, without_providers, outstanding}
-use Rattle.step_refinement.specs.session_state.Calls.{unless_fault, if_session, is_empty, new_provider, join_asked, joined, join_fault, asked, ask_fault, member_asks, request_made, left, expelled, state_changed, message_sent, member_changes, attributes_changed, targets_fault, value_fault, message_fault, attributes_fault, inited, init_fault, add_session, subscribe_taken, subscribe_fault, unsubscribe_taken, unsubscribe_fault, voted, member_votes, vote_in, keeps, fault_if}
-use Rattle.step_refinement.specs.group_attr.Attrs.{first_fault}
-use Rattle.step_refinement.specs.session_state.HandOn.{hears, hearers_in, brought_by, kept_ended, kept_after, beginners, hearers, part_taken, taking_part, opened_after, open_phases, keep_casts, proposal_begun, requests_after, is_present, removed_from, casts_out, heard, handed_on, takes_telling, told_of, take_telling, is_join_request, is_dissolved}
-use Rattle.step_refinement.specs.run_safety.Stays.{is_join_of}
+use Rattle.rsct_packet.specs.declared.ids.ProviderId.{ProviderId}
+use Rattle.rsct_packet.specs.Providers.{among, same_provider}
+use Rattle.rsct_packet.specs.Search.{Has, edit_where}
+use Rattle.rsct_packet.proofs.HasLaws.{has_append, has_filter, filter_has, append_has_left, append_has_right, find_has}
+use Rattle.group_attr.specs.declared.attrs.Attrs.{Attrs}
+use Rattle.group_attr.specs.declared.attrs.Phases.{Phases}
+use Rattle.group_attr.specs.declared.attrs.Phases.TheVariants.{One}
+use Rattle.proposal_core.specs.declared.entry.Entry.{Entry}
+use Rattle.proposal_core.specs.declared.entry.Entry.TheVariants.{Once, Begin, Phase, Approve, Reject, Late}
+use Rattle.proposal_core.specs.declared.proposal.Proposal.{Proposal}
+use Rattle.proposal_core.specs.declared.proposal.Proposal.TheVariants.{Join, Leave, Fail, Expel, State, Message, Attributes, Reflect}
+use Rattle.proposal_core.specs.declared.group_state.GroupState.{GroupState}
+use Rattle.proposal_core.specs.Fold.{joins_of, joiners_in, present}
+use Rattle.client_callbacks.specs.declared.ballot.Filled.{Filled}
+use Rattle.client_callbacks.specs.declared.told.Why.{Why}
+use Rattle.subscribe_core.specs.declared.subs.ClientToken.{ClientToken}
+use Rattle.subscribe_core.specs.declared.subs.SubToken.{SubToken}
+use Rattle.subscribe_core.specs.Subs.{subs_add, subs_remove}
+use Rattle.proposal_core.specs.declared.entry.Vote.{Vote}
+use Rattle.client_callbacks.specs.Ballots.{is_within, value_limit}
+use Rattle.session_state.specs.declared.state.OpenPhase.{OpenPhase}
+use Rattle.session_state.specs.declared.fault.GsFault.TheVariants as fault
+use Rattle.session_state.specs.declared.fault.Field.TheVariants as field
+use Rattle.session_state.specs.declared.fault.GsFault.{GsFault}
+use Rattle.session_state.specs.declared.state.MemberToken.{MemberToken}
+use Rattle.session_state.specs.declared.state.Provider.{Provider}
+use Rattle.session_state.specs.declared.state.Request.{Request}
+use Rattle.session_state.specs.declared.state.SessionState.{SessionState}
+use Rattle.session_state.specs.State.{provider_of, is_kept_for, is_provider, is_member_of, with_provider, end_request, without_providers, outstanding}
+use Rattle.session_state.specs.Calls.{unless_fault, if_session, is_empty, new_provider, join_asked, joined, join_fault, asked, ask_fault, member_asks, request_made, left, expelled, state_changed, message_sent, member_changes, attributes_changed, targets_fault, value_fault, message_fault, attributes_fault, inited, init_fault, add_session, subscribe_taken, subscribe_fault, unsubscribe_taken, unsubscribe_fault, voted, member_votes, vote_in, keeps, fault_if}
+use Rattle.group_attr.specs.Attrs.{first_fault}
+use Rattle.session_state.specs.HandOn.{hears, hearers_in, brought_by, kept_ended, kept_after, beginners, hearers, part_taken, taking_part, opened_after, open_phases, keep_casts, proposal_begun, requests_after, is_present, removed_from, casts_out, heard, handed_on, takes_telling, told_of, take_telling, is_join_request, is_dissolved}
+use Rattle.run_safety.specs.Stays.{is_join_of}
 use Rattle.step_refinement.proofs.SessionLaws.{provider_same}
 use Rattle.row_laws.proofs.hearing.Handing.{among_is, has_among}
 

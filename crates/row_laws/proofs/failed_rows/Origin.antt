@@ -4,18 +4,18 @@ use Rattle.std.specs.Prelude.{◌==◌, ◌&&◌, reverse}
 use Rattle.std.specs.List.{list_any}
 use Rattle.std.proofs.lemmas.Bool.{eq-eqb}
 use Rattle.std.proofs.lemmas.List.{reverse-append}
-use Rattle.step_refinement.specs.rsct_packet.declared.ids.ProviderId.{ProviderId}
-use Rattle.step_refinement.specs.rsct_packet.Providers.{same_provider}
-use Rattle.step_refinement.specs.rsct_packet.Search.{Has}
-use Rattle.step_refinement.proofs.rsct_packet_laws.HasLaws.{has_append}
-use Rattle.step_refinement.specs.proposal_core.declared.proposal.Proposal.{Proposal}
-use Rattle.step_refinement.specs.session_state.declared.state.SessionState.{SessionState}
-use Rattle.step_refinement.specs.node_state.declared.happened.Happened.{Happened}
-use Rattle.step_refinement.specs.node_state.declared.happened.Happened.TheVariants as happened
-use Rattle.step_refinement.specs.node_state.declared.state.Core.{Core}
-use Rattle.step_refinement.specs.node_state.Calls.{take_call}
-use Rattle.step_refinement.specs.node_state.Step.{NodeEvent, Ticks, Asks, Given, Calls, Garbage}
-use Rattle.step_refinement.specs.run_safety.Stays.{asks_join}
+use Rattle.rsct_packet.specs.declared.ids.ProviderId.{ProviderId}
+use Rattle.rsct_packet.specs.Providers.{same_provider}
+use Rattle.rsct_packet.specs.Search.{Has}
+use Rattle.rsct_packet.proofs.HasLaws.{has_append}
+use Rattle.proposal_core.specs.declared.proposal.Proposal.{Proposal}
+use Rattle.session_state.specs.declared.state.SessionState.{SessionState}
+use Rattle.node_state.specs.declared.happened.Happened.{Happened}
+use Rattle.node_state.specs.declared.happened.Happened.TheVariants as happened
+use Rattle.node_state.specs.declared.state.Core.{Core}
+use Rattle.node_state.specs.Calls.{take_call}
+use Rattle.node_state.specs.Step.{NodeEvent, Ticks, Asks, Given, Calls, Garbage}
+use Rattle.run_safety.specs.Stays.{asks_join}
 use Rattle.step_refinement.proofs.SessionLaws.{provider_self}
 use Rattle.row_laws.proofs.hearing.Listening.{reverse_has}
 use Rattle.row_laws.proofs.failed_rows.Living.{Slimmer, slim_same, slim_then}

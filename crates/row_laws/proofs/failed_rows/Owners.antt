@@ -4,19 +4,19 @@ use Rattle.std.specs.Prelude.{◌==◌, ◌||◌, not, find, if◌then◌else◌
 use Rattle.std.specs.Option.{option_map}
 use Rattle.std.specs.List.{list_any}
 use Rattle.std.proofs.lemmas.Bool.{eqb-true}
-use Rattle.step_refinement.specs.rsct_packet.declared.ids.ProviderId.{ProviderId}
-use Rattle.step_refinement.specs.rsct_packet.Search.{Has, place_where}
-use Rattle.step_refinement.proofs.rsct_packet_laws.HasLaws.{has_append, append_has_left, has_filter, find_has}
-use Rattle.step_refinement.specs.subscribe_core.declared.subs.ClientToken.{ClientToken}
-use Rattle.step_refinement.specs.session_state.declared.fault.GsFault.{GsFault}
-use Rattle.step_refinement.specs.session_state.declared.fault.GsFault.TheVariants as fault
-use Rattle.step_refinement.specs.session_state.declared.state.Provider.{Provider}
-use Rattle.step_refinement.specs.session_state.declared.state.Session.{Session}
-use Rattle.step_refinement.specs.session_state.declared.state.SessionState.{SessionState}
-use Rattle.step_refinement.specs.session_state.State.{is_session, is_named, is_client_of, token_in, client_token, client_place}
-use Rattle.step_refinement.specs.session_state.Calls.{or_fault, fault_if, no_session_fault, client_fault, add_session, end_session, removed_at}
-use Rattle.step_refinement.specs.run_safety.Stays as stays
-use Rattle.step_refinement.proofs.node_state_laws.NameOrder.{text_same, text_self}
+use Rattle.rsct_packet.specs.declared.ids.ProviderId.{ProviderId}
+use Rattle.rsct_packet.specs.Search.{Has, place_where}
+use Rattle.rsct_packet.proofs.HasLaws.{has_append, append_has_left, has_filter, find_has}
+use Rattle.subscribe_core.specs.declared.subs.ClientToken.{ClientToken}
+use Rattle.session_state.specs.declared.fault.GsFault.{GsFault}
+use Rattle.session_state.specs.declared.fault.GsFault.TheVariants as fault
+use Rattle.session_state.specs.declared.state.Provider.{Provider}
+use Rattle.session_state.specs.declared.state.Session.{Session}
+use Rattle.session_state.specs.declared.state.SessionState.{SessionState}
+use Rattle.session_state.specs.State.{is_session, is_named, is_client_of, token_in, client_token, client_place}
+use Rattle.session_state.specs.Calls.{or_fault, fault_if, no_session_fault, client_fault, add_session, end_session, removed_at}
+use Rattle.run_safety.specs.Stays as stays
+use Rattle.node_state.proofs.NameOrder.{text_same, text_self}
 use Rattle.row_laws.proofs.failed_rows.Living.{Slimmer}
 
 -- each provider has a session of its client; and tokens tell sessions apart

@@ -4,33 +4,33 @@ use Rattle.std.specs.Prelude.{◌==◌, ◌&&◌, reverse, if◌then◌else◌}
 use Rattle.std.specs.Str.{bytes_eq}
 use Rattle.std.proofs.lemmas.Bool.{eq-eqb}
 use Rattle.std.proofs.lemmas.List.{reverse-append}
-use Rattle.step_refinement.specs.rsct_packet.declared.ids.ViewId.{ViewId}
-use Rattle.step_refinement.specs.rsct_packet.declared.ids.ProviderId.{ProviderId}
-use Rattle.step_refinement.specs.rsct_packet.Providers.{among}
-use Rattle.step_refinement.specs.rsct_packet.Search.{Has}
-use Rattle.step_refinement.proofs.rsct_packet_laws.HasLaws.{has_append, append_has_left}
-use Rattle.step_refinement.specs.proposal_core.declared.entry.Entry.{Entry}
-use Rattle.step_refinement.specs.proposal_core.declared.group_state.GroupState.{GroupState}
-use Rattle.step_refinement.specs.proposal_core.Fold.{fits, after, after_if, joiners_fit, present, joiners_in}
-use Rattle.step_refinement.proofs.proposal_core_laws.FoldLaws.{joiners_fit_after}
-use Rattle.step_refinement.specs.proposal_core.Lists.{list_or_new, state_in, len_in, with_entry}
-use Rattle.step_refinement.specs.node_state.declared.group.GroupRow.{GroupRow}
-use Rattle.step_refinement.specs.node_state.declared.happened.Happened.{Happened}
-use Rattle.step_refinement.specs.node_state.declared.happened.Happened.TheVariants as happened
-use Rattle.step_refinement.specs.node_state.declared.state.Core.{Core}
-use Rattle.step_refinement.specs.node_state.State.{row_of, with_row, len_of, list_of, state_of, recorded}
-use Rattle.step_refinement.specs.node_state.HandOn.{Answering}
-use Rattle.step_refinement.specs.node_state.Leading.{put, put_and_hand}
-use Rattle.step_refinement.specs.run_safety.Past.{History, records_of, fold_from}
-use Rattle.step_refinement.specs.run_safety.Stays.{Stay, stays, is_join_of, asks_join, is_refused}
-use Rattle.step_refinement.specs.run_safety.Stays as kept
-use Rattle.step_refinement.proofs.node_state_laws.NameOrder.{cases_text, text_self, text_other, row_here, row_there, rows_ordered}
+use Rattle.rsct_packet.specs.declared.ids.ViewId.{ViewId}
+use Rattle.rsct_packet.specs.declared.ids.ProviderId.{ProviderId}
+use Rattle.rsct_packet.specs.Providers.{among}
+use Rattle.rsct_packet.specs.Search.{Has}
+use Rattle.rsct_packet.proofs.HasLaws.{has_append, append_has_left}
+use Rattle.proposal_core.specs.declared.entry.Entry.{Entry}
+use Rattle.proposal_core.specs.declared.group_state.GroupState.{GroupState}
+use Rattle.proposal_core.specs.Fold.{fits, after, after_if, joiners_fit, present, joiners_in}
+use Rattle.proposal_core.proofs.FoldLaws.{joiners_fit_after}
+use Rattle.proposal_core.specs.Lists.{list_or_new, state_in, len_in, with_entry}
+use Rattle.node_state.specs.declared.group.GroupRow.{GroupRow}
+use Rattle.node_state.specs.declared.happened.Happened.{Happened}
+use Rattle.node_state.specs.declared.happened.Happened.TheVariants as happened
+use Rattle.node_state.specs.declared.state.Core.{Core}
+use Rattle.node_state.specs.State.{row_of, with_row, len_of, list_of, state_of, recorded}
+use Rattle.node_state.specs.HandOn.{Answering}
+use Rattle.node_state.specs.Leading.{put, put_and_hand}
+use Rattle.run_safety.specs.Past.{History, records_of, fold_from}
+use Rattle.run_safety.specs.Stays.{Stay, stays, is_join_of, asks_join, is_refused}
+use Rattle.run_safety.specs.Stays as kept
+use Rattle.node_state.proofs.NameOrder.{cases_text, text_self, text_other, row_here, row_there, rows_ordered}
 use Rattle.row_laws.proofs.honest_votes.At.{found, leads_row}
 use Rattle.row_laws.specs.failed_rows.Failures.{GoneCause, PutHolds, EntryFails, EachPut, state_held, state_of_stay, state_in_stays}
 use Rattle.row_laws.proofs.failed_rows.Facts.{Whys, takers_pushed, TallyIs, QueueIs, Track, BasesFit, Stepped, BodyFails, body_on, own_pushed, PutOff}
 use Rattle.row_laws.proofs.failed_rows.Origin.{Origin, slim_more}
 use Rattle.row_laws.proofs.failed_rows.At.{At}
-use Rattle.step_refinement.specs.session_state.HandOn.{hearers, is_present}
+use Rattle.session_state.specs.HandOn.{hearers, is_present}
 use Rattle.row_laws.proofs.failed_rows.Queues.{among_both}
 use Rattle.row_laws.proofs.failed_rows.Living.{hearer_was}
 use Rattle.row_laws.proofs.failed_rows.Hands.{at_handed}

@@ -4,33 +4,33 @@ use Rattle.std.specs.Prelude.{◌==◌, ◌&&◌, fold, map, reverse, if◌then�
 use Rattle.std.specs.List.{list_any}
 use Rattle.std.proofs.lemmas.Bool.{eq-eqb}
 use Rattle.std.proofs.lemmas.List.{reverse-append}
-use Rattle.step_refinement.specs.rsct_packet.declared.ids.ViewId.{ViewId}
-use Rattle.step_refinement.specs.rsct_packet.declared.ids.Member.{Member}
-use Rattle.step_refinement.specs.rsct_packet.declared.ids.ProviderId.{ProviderId}
-use Rattle.step_refinement.specs.rsct_packet.Providers.{among, same_provider}
-use Rattle.step_refinement.specs.rsct_packet.Search.{Has}
-use Rattle.step_refinement.proofs.rsct_packet_laws.HasLaws.{has_append, has_map}
-use Rattle.step_refinement.specs.proposal_core.Fold.{empty_state, joiners_fit_at, joiners_fit}
-use Rattle.step_refinement.specs.proposal_core.Lists.{len_in, state_in}
-use Rattle.step_refinement.specs.proposal_core.declared.proposal.Proposal.{Proposal}
-use Rattle.step_refinement.specs.view_state.Views.{views_new}
-use Rattle.step_refinement.specs.node_state.declared.config.Config.{Config}
-use Rattle.step_refinement.specs.node_state.declared.group.GroupRow.{GroupRow}
-use Rattle.step_refinement.specs.node_state.declared.happened.Happened.{Happened}
-use Rattle.step_refinement.specs.node_state.declared.happened.Happened.TheVariants as happened
-use Rattle.step_refinement.specs.node_state.declared.packet.Packet.{Packet}
-use Rattle.step_refinement.specs.session_state.declared.state.Provider.{Provider}
-use Rattle.step_refinement.specs.session_state.State.{is_provider, provider_of}
-use Rattle.step_refinement.specs.node_state.declared.state.Core.{Core}
-use Rattle.step_refinement.specs.node_state.State.{InNameOrder, with_sessions}
-use Rattle.step_refinement.specs.node_state.Applying.{level_set}
-use Rattle.step_refinement.specs.node_state.Step.{started, first_view, first_members, own_rings, ring_record}
-use Rattle.step_refinement.specs.world_model.Run.{Happening}
-use Rattle.step_refinement.specs.world_model.declared.event.Event.{Event}
-use Rattle.step_refinement.specs.run_safety.Past.{History, records_of}
-use Rattle.step_refinement.specs.run_safety.Stays.{Stay, stays, asks_join}
-use Rattle.step_refinement.specs.run_safety.Group.{Noted}
-use Rattle.step_refinement.specs.run_safety.Group as group
+use Rattle.rsct_packet.specs.declared.ids.ViewId.{ViewId}
+use Rattle.rsct_packet.specs.declared.ids.Member.{Member}
+use Rattle.rsct_packet.specs.declared.ids.ProviderId.{ProviderId}
+use Rattle.rsct_packet.specs.Providers.{among, same_provider}
+use Rattle.rsct_packet.specs.Search.{Has}
+use Rattle.rsct_packet.proofs.HasLaws.{has_append, has_map}
+use Rattle.proposal_core.specs.Fold.{empty_state, joiners_fit_at, joiners_fit}
+use Rattle.proposal_core.specs.Lists.{len_in, state_in}
+use Rattle.proposal_core.specs.declared.proposal.Proposal.{Proposal}
+use Rattle.view_state.specs.Views.{views_new}
+use Rattle.node_state.specs.declared.config.Config.{Config}
+use Rattle.node_state.specs.declared.group.GroupRow.{GroupRow}
+use Rattle.node_state.specs.declared.happened.Happened.{Happened}
+use Rattle.node_state.specs.declared.happened.Happened.TheVariants as happened
+use Rattle.node_state.specs.declared.packet.Packet.{Packet}
+use Rattle.session_state.specs.declared.state.Provider.{Provider}
+use Rattle.session_state.specs.State.{is_provider, provider_of}
+use Rattle.node_state.specs.declared.state.Core.{Core}
+use Rattle.node_state.specs.State.{InNameOrder, with_sessions}
+use Rattle.node_state.specs.Applying.{level_set}
+use Rattle.node_state.specs.Step.{started, first_view, first_members, own_rings, ring_record}
+use Rattle.world_model.specs.Run.{Happening}
+use Rattle.world_model.specs.declared.event.Event.{Event}
+use Rattle.run_safety.specs.Past.{History, records_of}
+use Rattle.run_safety.specs.Stays.{Stay, stays, asks_join}
+use Rattle.run_safety.specs.Group.{Noted}
+use Rattle.run_safety.specs.Group as group
 use Rattle.step_refinement.specs.Ghost.{asking}
 use Rattle.step_refinement.specs.Tied.{Scene, NodeIsIf, Rests}
 use Rattle.step_refinement.proofs.SessionLaws.{provider_same}

@@ -1,23 +1,23 @@
 -- The default rows of a tally, and of the entry that it makes.
 use Rattle.std.proofs.Common.{◌≡◌, ◌⊎◌, ℕ, List, [], ◌∷◌, Option, Some, None, Bool, true, false, refl, sym, subst, inl, inr}
 use Rattle.std.specs.Prelude.{◌||◌, fold, map, nat_le, if◌then◌else◌}
-use Rattle.step_refinement.specs.rsct_packet.declared.ids.ProviderId.{ProviderId}
-use Rattle.step_refinement.specs.rsct_packet.Providers.{among}
-use Rattle.step_refinement.specs.rsct_packet.Search.{Has}
-use Rattle.step_refinement.proofs.rsct_packet_laws.HasLaws.{has_map}
-use Rattle.step_refinement.specs.proposal_core.declared.entry.Entry.{Entry}
-use Rattle.step_refinement.specs.proposal_core.declared.entry.Vote.{Vote}
-use Rattle.step_refinement.specs.proposal_core.declared.entry.Vote.TheVariants as vote
-use Rattle.step_refinement.specs.proposal_core.declared.entry.RowVote.{RowVote}
-use Rattle.step_refinement.specs.proposal_core.declared.entry.RowVote.TheVariants as row_vote
-use Rattle.step_refinement.specs.proposal_core.declared.entry.Row.{Row}
-use Rattle.step_refinement.specs.proposal_core.declared.group_state.GroupState.{GroupState}
-use Rattle.step_refinement.specs.proposal_core.declared.group_state.Running.{Running}
-use Rattle.step_refinement.specs.proposal_core.Fold.{max_phases, voters}
-use Rattle.step_refinement.specs.vote_phases.declared.voter.Voter.{Voter}
-use Rattle.step_refinement.specs.vote_phases.Tally.{TallyView, tally_new, tally_cast, tally_fail, tally_tick, given, given_to, or_vote, is_voter, late_if, passes, no_vote, row_or, rows_of, outcome}
-use Rattle.step_refinement.specs.node_state.declared.group.Led.{Led}
-use Rattle.step_refinement.specs.node_state.Leading.{limit_of, fails_if, tally_for, closed_by, closing, closing_of, closing_entry}
+use Rattle.rsct_packet.specs.declared.ids.ProviderId.{ProviderId}
+use Rattle.rsct_packet.specs.Providers.{among}
+use Rattle.rsct_packet.specs.Search.{Has}
+use Rattle.rsct_packet.proofs.HasLaws.{has_map}
+use Rattle.proposal_core.specs.declared.entry.Entry.{Entry}
+use Rattle.proposal_core.specs.declared.entry.Vote.{Vote}
+use Rattle.proposal_core.specs.declared.entry.Vote.TheVariants as vote
+use Rattle.proposal_core.specs.declared.entry.RowVote.{RowVote}
+use Rattle.proposal_core.specs.declared.entry.RowVote.TheVariants as row_vote
+use Rattle.proposal_core.specs.declared.entry.Row.{Row}
+use Rattle.proposal_core.specs.declared.group_state.GroupState.{GroupState}
+use Rattle.proposal_core.specs.declared.group_state.Running.{Running}
+use Rattle.proposal_core.specs.Fold.{max_phases, voters}
+use Rattle.vote_phases.specs.declared.voter.Voter.{Voter}
+use Rattle.vote_phases.specs.Tally.{TallyView, tally_new, tally_cast, tally_fail, tally_tick, given, given_to, or_vote, is_voter, late_if, passes, no_vote, row_or, rows_of, outcome}
+use Rattle.node_state.specs.declared.group.Led.{Led}
+use Rattle.node_state.specs.Leading.{limit_of, fails_if, tally_for, closed_by, closing, closing_of, closing_entry}
 use Rattle.step_refinement.proofs.SessionLaws.{provider_same}
 use Rattle.row_laws.specs.failed_rows.Failures.{RowFails, EntryFails}
 use Rattle.row_laws.proofs.failed_rows.Facts.{VoterFails, TallyRuns, TallyWhile, TallyFails}

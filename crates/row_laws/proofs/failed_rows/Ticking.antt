@@ -3,44 +3,44 @@ use Rattle.std.proofs.Common.{◌⊎◌, ◌≡◌, ℕ, ◌+◌, ◌-◌, List,
 use Rattle.std.specs.Prelude.{◌==◌, ◌&&◌, not, filter, fold, find, reverse, is_none, is_some}
 use Rattle.std.specs.List.{list_any}
 use Rattle.std.proofs.lemmas.Bool.{eqb-true, and_parts}
-use Rattle.step_refinement.specs.rsct_packet.declared.ids.ProviderId.{ProviderId}
-use Rattle.step_refinement.specs.rsct_packet.declared.mask.Mask.{Mask}
-use Rattle.step_refinement.specs.rsct_packet.Mask.{nodes_of}
-use Rattle.step_refinement.specs.rsct_packet.Providers.{among, same_provider}
-use Rattle.step_refinement.specs.rsct_packet.Search.{Has}
-use Rattle.step_refinement.proofs.rsct_packet_laws.HasLaws.{has_filter, find_none}
-use Rattle.step_refinement.specs.proposal_core.declared.entry.Entry.{Entry}
-use Rattle.step_refinement.specs.proposal_core.declared.group_state.GroupState.{GroupState}
-use Rattle.step_refinement.specs.proposal_core.declared.group_state.Running.{Running}
-use Rattle.step_refinement.specs.proposal_core.Fold.{present}
-use Rattle.step_refinement.specs.proposal_core.GroupView.{GroupView}
-use Rattle.step_refinement.specs.proposal_core.Lists.{state_in}
-use Rattle.step_refinement.specs.adapter_ring.declared.ring.Ring.{Ring}
-use Rattle.step_refinement.specs.adapter_ring.declared.ring.RingSet.{RingSet}
-use Rattle.step_refinement.specs.adapter_ring.declared.packet.RingSend.{RingSend}
-use Rattle.step_refinement.specs.adapter_ring.declared.packet.RingPacket.{RingPacket}
-use Rattle.step_refinement.specs.adapter_ring.declared.packet.RingEvent.TheVariants as ring_event
-use Rattle.step_refinement.specs.adapter_ring.declared.work.RingWork.{RingWork}
-use Rattle.step_refinement.specs.adapter_ring.Rings.{ring_step}
-use Rattle.step_refinement.specs.node_reach.declared.reach.Reach.{Reach}
-use Rattle.step_refinement.specs.node_reach.Reach as reach
-use Rattle.step_refinement.specs.packet_bodies.declared.body.ReportRow.{ReportRow}
-use Rattle.step_refinement.specs.vote_phases.Tally.{TallyView, expires, open_voters}
-use Rattle.step_refinement.specs.session_state.State.{is_provider, provider_of}
-use Rattle.step_refinement.specs.view_state.Views.{views_at_work, gathering_ticks, install_again}
-use Rattle.step_refinement.specs.node_state.declared.group.GroupRow.{GroupRow}
-use Rattle.step_refinement.specs.node_state.declared.happened.Happened.{Happened}
-use Rattle.step_refinement.specs.node_state.declared.packet.Body.TheVariants as body
-use Rattle.step_refinement.specs.node_state.declared.state.Core.{Core}
-use Rattle.step_refinement.specs.node_state.Settings.{is_rings}
-use Rattle.step_refinement.specs.node_state.State.{row_found, row_of, led_of, state_of, held_rows, frozen, leader_of, led_groups, others, acked_by, least_acked, with_led, has_name}
-use Rattle.step_refinement.specs.node_state.Sending.{sent, send_on, send_if_known, send_requests, send_votes_again}
-use Rattle.step_refinement.specs.node_state.HandOn.{Answering}
-use Rattle.step_refinement.specs.node_state.Leading.{with_tally}
-use Rattle.step_refinement.specs.node_state.Applying.{own_parts, views_taken}
-use Rattle.step_refinement.specs.node_state.Ticks.{ring_put, set_records, ring_taken, ring_row_of, ring_row, row_reported, take_report, rings_union, report_of, send_report, rings_tick, tick_rings, ring_ask, tick_views, is_lost, lost_told, tick_owed, late_appended, announced, ticked_in, tally_ticks, entries_sent, list_sent_again, sent_again, tick_group, tick_led}
-use Rattle.step_refinement.specs.run_safety.Past.{History, records_of}
-use Rattle.step_refinement.specs.run_safety.Stays.{stays, asks_join}
+use Rattle.rsct_packet.specs.declared.ids.ProviderId.{ProviderId}
+use Rattle.rsct_packet.specs.declared.mask.Mask.{Mask}
+use Rattle.rsct_packet.specs.Mask.{nodes_of}
+use Rattle.rsct_packet.specs.Providers.{among, same_provider}
+use Rattle.rsct_packet.specs.Search.{Has}
+use Rattle.rsct_packet.proofs.HasLaws.{has_filter, find_none}
+use Rattle.proposal_core.specs.declared.entry.Entry.{Entry}
+use Rattle.proposal_core.specs.declared.group_state.GroupState.{GroupState}
+use Rattle.proposal_core.specs.declared.group_state.Running.{Running}
+use Rattle.proposal_core.specs.Fold.{present}
+use Rattle.proposal_core.specs.GroupView.{GroupView}
+use Rattle.proposal_core.specs.Lists.{state_in}
+use Rattle.adapter_ring.specs.declared.ring.Ring.{Ring}
+use Rattle.adapter_ring.specs.declared.ring.RingSet.{RingSet}
+use Rattle.adapter_ring.specs.declared.packet.RingSend.{RingSend}
+use Rattle.adapter_ring.specs.declared.packet.RingPacket.{RingPacket}
+use Rattle.adapter_ring.specs.declared.packet.RingEvent.TheVariants as ring_event
+use Rattle.adapter_ring.specs.declared.work.RingWork.{RingWork}
+use Rattle.adapter_ring.specs.Rings.{ring_step}
+use Rattle.node_reach.specs.declared.reach.Reach.{Reach}
+use Rattle.node_reach.specs.Reach as reach
+use Rattle.packet_bodies.specs.declared.body.ReportRow.{ReportRow}
+use Rattle.vote_phases.specs.Tally.{TallyView, expires, open_voters}
+use Rattle.session_state.specs.State.{is_provider, provider_of}
+use Rattle.view_state.specs.Views.{views_at_work, gathering_ticks, install_again}
+use Rattle.node_state.specs.declared.group.GroupRow.{GroupRow}
+use Rattle.node_state.specs.declared.happened.Happened.{Happened}
+use Rattle.node_state.specs.declared.packet.Body.TheVariants as body
+use Rattle.node_state.specs.declared.state.Core.{Core}
+use Rattle.node_state.specs.Settings.{is_rings}
+use Rattle.node_state.specs.State.{row_found, row_of, led_of, state_of, held_rows, frozen, leader_of, led_groups, others, acked_by, least_acked, with_led, has_name}
+use Rattle.node_state.specs.Sending.{sent, send_on, send_if_known, send_requests, send_votes_again}
+use Rattle.node_state.specs.HandOn.{Answering}
+use Rattle.node_state.specs.Leading.{with_tally}
+use Rattle.node_state.specs.Applying.{own_parts, views_taken}
+use Rattle.node_state.specs.Ticks.{ring_put, set_records, ring_taken, ring_row_of, ring_row, row_reported, take_report, rings_union, report_of, send_report, rings_tick, tick_rings, ring_ask, tick_views, is_lost, lost_told, tick_owed, late_appended, announced, ticked_in, tally_ticks, entries_sent, list_sent_again, sent_again, tick_group, tick_led}
+use Rattle.run_safety.specs.Past.{History, records_of}
+use Rattle.run_safety.specs.Stays.{stays, asks_join}
 use Rattle.step_refinement.proofs.SessionLaws.{provider_self}
 use Rattle.row_laws.proofs.hearing.Handing.{has_among}
 use Rattle.row_laws.proofs.honest_votes.At.{found, leads_row}

@@ -1,13 +1,13 @@
 -- Who waits as a failure.
 use Rattle.std.proofs.Common.{◌≡◌, ◌⊎◌, ℕ, zero, suc, ◌≤◌, List, [], ◌∷◌, ◌++◌, length, take, drop, Bool, true, false, refl, sym, subst, inl, inr, arith}
 use Rattle.std.specs.Prelude.{if◌then◌else◌}
-use Rattle.step_refinement.specs.rsct_packet.declared.ids.ProviderId.{ProviderId}
-use Rattle.step_refinement.specs.rsct_packet.Search.{Has}
-use Rattle.step_refinement.proofs.rsct_packet_laws.HasLaws.{has_append}
-use Rattle.step_refinement.specs.proposal_core.declared.proposal.Cause.{Cause}
-use Rattle.step_refinement.specs.proposal_core.declared.proposal.Failure.{Failure}
-use Rattle.step_refinement.specs.proposal_core.declared.group_state.GroupState.{GroupState}
-use Rattle.step_refinement.specs.batch_rules.Waiting.{WaitingView, takes_failure, add_failure, chosen_of, left_of}
+use Rattle.rsct_packet.specs.declared.ids.ProviderId.{ProviderId}
+use Rattle.rsct_packet.specs.Search.{Has}
+use Rattle.rsct_packet.proofs.HasLaws.{has_append}
+use Rattle.proposal_core.specs.declared.proposal.Cause.{Cause}
+use Rattle.proposal_core.specs.declared.proposal.Failure.{Failure}
+use Rattle.proposal_core.specs.declared.group_state.GroupState.{GroupState}
+use Rattle.batch_rules.specs.Waiting.{WaitingView, takes_failure, add_failure, chosen_of, left_of}
 use Rattle.row_laws.proofs.failed_rows.Facts.{Waits, AllWait}
 
 pub has_dropped : {A : Type 0} (n : ℕ) (xs : List A) (x : A) → Has x (drop n xs) → Has x xs

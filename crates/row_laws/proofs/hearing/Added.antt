@@ -3,35 +3,35 @@ use Rattle.std.proofs.Common.{◌≡◌, ◌⊎◌, ℕ, List, [], ◌∷◌, �
 use Rattle.std.specs.Prelude.{not, ◌&&◌, reverse, map, fold, flat_map, if◌then◌else◌}
 use Rattle.std.specs.Str.{bytes_eq}
 use Rattle.std.proofs.lemmas.Bool.{eq-eqb}
-use Rattle.step_refinement.specs.rsct_packet.declared.ids.ViewId.{ViewId}
-use Rattle.step_refinement.specs.rsct_packet.Search.{Has}
-use Rattle.step_refinement.proofs.rsct_packet_laws.HasLaws.{has_append, append_has_left, has_map}
-use Rattle.step_refinement.specs.proposal_core.declared.entry.Entry.{Entry}
-use Rattle.step_refinement.specs.proposal_core.declared.group_state.GroupState.{GroupState}
-use Rattle.step_refinement.specs.proposal_core.Fold.{present}
-use Rattle.step_refinement.specs.proposal_core.Lists.{state_in}
-use Rattle.step_refinement.specs.rsct_packet.declared.ids.ProtoId.{ProtoId}
-use Rattle.step_refinement.specs.client_callbacks.declared.ballot.Filled.{Filled}
-use Rattle.step_refinement.specs.client_callbacks.Ballots.{BallotView}
-use Rattle.step_refinement.specs.session_state.declared.casts.Cast.{Cast}
-use Rattle.step_refinement.specs.session_state.declared.state.OpenPhase.{OpenPhase}
-use Rattle.step_refinement.specs.session_state.declared.state.Provider.{Provider}
-use Rattle.step_refinement.specs.session_state.State.{provider_of, outstanding}
-use Rattle.step_refinement.specs.session_state.HandOn.{casts_out}
-use Rattle.step_refinement.specs.client_callbacks.declared.told.Why.TheVariants.{Dissolved}
-use Rattle.step_refinement.specs.view_state.declared.install.Install.{Install}
-use Rattle.step_refinement.specs.view_state.declared.install.Base.{Base}
-use Rattle.step_refinement.specs.view_state.Bases.{bases_of, base_named}
-use Rattle.step_refinement.specs.view_state.Views.{views_entered}
-use Rattle.step_refinement.specs.node_state.declared.group.GroupRow.{GroupRow}
-use Rattle.step_refinement.specs.node_state.declared.happened.Happened.{Happened}
-use Rattle.step_refinement.specs.node_state.declared.happened.Happened.TheVariants as happened
-use Rattle.step_refinement.specs.node_state.declared.state.Core.{Core}
-use Rattle.step_refinement.specs.node_state.State.{with_row, state_of, len_of, held_rows, recorded, recorded_all, with_sessions}
-use Rattle.step_refinement.specs.node_state.HandOn.{cast_record, cast_records, heard}
-use Rattle.step_refinement.specs.node_state.Leading.{put}
-use Rattle.step_refinement.specs.node_state.Applying.{base_record, view_entered, is_in_base, number_of, dissolved, dissolved_if, group_dissolved, sides_dissolved}
-use Rattle.step_refinement.specs.run_safety.Past.{History, earlier, view_now, inc_now}
+use Rattle.rsct_packet.specs.declared.ids.ViewId.{ViewId}
+use Rattle.rsct_packet.specs.Search.{Has}
+use Rattle.rsct_packet.proofs.HasLaws.{has_append, append_has_left, has_map}
+use Rattle.proposal_core.specs.declared.entry.Entry.{Entry}
+use Rattle.proposal_core.specs.declared.group_state.GroupState.{GroupState}
+use Rattle.proposal_core.specs.Fold.{present}
+use Rattle.proposal_core.specs.Lists.{state_in}
+use Rattle.rsct_packet.specs.declared.ids.ProtoId.{ProtoId}
+use Rattle.client_callbacks.specs.declared.ballot.Filled.{Filled}
+use Rattle.client_callbacks.specs.Ballots.{BallotView}
+use Rattle.session_state.specs.declared.casts.Cast.{Cast}
+use Rattle.session_state.specs.declared.state.OpenPhase.{OpenPhase}
+use Rattle.session_state.specs.declared.state.Provider.{Provider}
+use Rattle.session_state.specs.State.{provider_of, outstanding}
+use Rattle.session_state.specs.HandOn.{casts_out}
+use Rattle.client_callbacks.specs.declared.told.Why.TheVariants.{Dissolved}
+use Rattle.view_state.specs.declared.install.Install.{Install}
+use Rattle.view_state.specs.declared.install.Base.{Base}
+use Rattle.view_state.specs.Bases.{bases_of, base_named}
+use Rattle.view_state.specs.Views.{views_entered}
+use Rattle.node_state.specs.declared.group.GroupRow.{GroupRow}
+use Rattle.node_state.specs.declared.happened.Happened.{Happened}
+use Rattle.node_state.specs.declared.happened.Happened.TheVariants as happened
+use Rattle.node_state.specs.declared.state.Core.{Core}
+use Rattle.node_state.specs.State.{with_row, state_of, len_of, held_rows, recorded, recorded_all, with_sessions}
+use Rattle.node_state.specs.HandOn.{cast_record, cast_records, heard}
+use Rattle.node_state.specs.Leading.{put}
+use Rattle.node_state.specs.Applying.{base_record, view_entered, is_in_base, number_of, dissolved, dissolved_if, group_dissolved, sides_dissolved}
+use Rattle.run_safety.specs.Past.{History, earlier, view_now, inc_now}
 use Rattle.row_laws.specs.hearing.Changes.{Same, Aside, Inner, handing, voting, Does, Stays, Then, Records, Hands, Loses, Joins, Votes, Enters}
 use Rattle.row_laws.proofs.hearing.Changes.{inner_aside}
 use Rattle.row_laws.proofs.hearing.Attending.{pushed, pushed_reverse}

@@ -4,33 +4,33 @@ use Rattle.std.specs.Prelude.{◌&&◌, ◌==◌, reverse, find, flat_map, if◌
 use Rattle.std.specs.Str.{bytes_eq}
 use Rattle.std.proofs.lemmas.Bool.Decides.{nat_tests}
 use Rattle.std.proofs.lemmas.List.{append-nil, reverse-append}
-use Rattle.step_refinement.specs.rsct_packet.declared.ids.ViewId.{ViewId}
-use Rattle.step_refinement.specs.rsct_packet.declared.ids.ProviderId.{ProviderId}
-use Rattle.step_refinement.specs.rsct_packet.declared.ids.ProtoId.{ProtoId}
-use Rattle.step_refinement.specs.rsct_packet.Ids.{same_view}
-use Rattle.step_refinement.specs.rsct_packet.Providers.{same_provider}
-use Rattle.step_refinement.specs.rsct_packet.Search.{Has}
-use Rattle.step_refinement.specs.group_attr.declared.attrs.Attrs.{Attrs}
-use Rattle.step_refinement.specs.proposal_core.declared.entry.Entry.{Entry}
-use Rattle.step_refinement.specs.proposal_core.declared.group_state.GroupState.{GroupState}
-use Rattle.step_refinement.specs.proposal_core.Fold.{present}
-use Rattle.step_refinement.specs.client_callbacks.declared.ballot.Filled.{Filled}
-use Rattle.step_refinement.specs.client_callbacks.Ballots.{BallotView}
-use Rattle.step_refinement.specs.subscribe_core.declared.subs.ClientToken.{ClientToken}
-use Rattle.step_refinement.specs.session_state.declared.casts.Cast.{Cast}
-use Rattle.step_refinement.specs.session_state.declared.state.Provider.{Provider}
-use Rattle.step_refinement.specs.session_state.declared.state.SessionState.{SessionState}
-use Rattle.step_refinement.specs.session_state.State.{is_provider, provider_of}
-use Rattle.step_refinement.specs.session_state.Calls.{new_provider, join_asked}
-use Rattle.step_refinement.specs.session_state.HandOn.{beginners, hearers, casts_out, casts_of, cast_of, handed_on}
-use Rattle.step_refinement.specs.node_state.declared.happened.Happened.{Happened}
-use Rattle.step_refinement.specs.node_state.declared.happened.Happened.TheVariants as happened
-use Rattle.step_refinement.specs.node_state.HandOn.{cast_record, cast_records}
-use Rattle.step_refinement.specs.run_safety.ViewOrder.{Lt}
-use Rattle.step_refinement.specs.run_safety.Past.{History, Within, earlier, is_list, records_of}
-use Rattle.step_refinement.specs.run_safety.SafeHeard.{latest_put}
-use Rattle.step_refinement.proofs.run_safety_laws.Order.{lt_not_same}
-use Rattle.step_refinement.proofs.node_state_laws.NameOrder.{cases_text, text_same, text_self}
+use Rattle.rsct_packet.specs.declared.ids.ViewId.{ViewId}
+use Rattle.rsct_packet.specs.declared.ids.ProviderId.{ProviderId}
+use Rattle.rsct_packet.specs.declared.ids.ProtoId.{ProtoId}
+use Rattle.rsct_packet.specs.Ids.{same_view}
+use Rattle.rsct_packet.specs.Providers.{same_provider}
+use Rattle.rsct_packet.specs.Search.{Has}
+use Rattle.group_attr.specs.declared.attrs.Attrs.{Attrs}
+use Rattle.proposal_core.specs.declared.entry.Entry.{Entry}
+use Rattle.proposal_core.specs.declared.group_state.GroupState.{GroupState}
+use Rattle.proposal_core.specs.Fold.{present}
+use Rattle.client_callbacks.specs.declared.ballot.Filled.{Filled}
+use Rattle.client_callbacks.specs.Ballots.{BallotView}
+use Rattle.subscribe_core.specs.declared.subs.ClientToken.{ClientToken}
+use Rattle.session_state.specs.declared.casts.Cast.{Cast}
+use Rattle.session_state.specs.declared.state.Provider.{Provider}
+use Rattle.session_state.specs.declared.state.SessionState.{SessionState}
+use Rattle.session_state.specs.State.{is_provider, provider_of}
+use Rattle.session_state.specs.Calls.{new_provider, join_asked}
+use Rattle.session_state.specs.HandOn.{beginners, hearers, casts_out, casts_of, cast_of, handed_on}
+use Rattle.node_state.specs.declared.happened.Happened.{Happened}
+use Rattle.node_state.specs.declared.happened.Happened.TheVariants as happened
+use Rattle.node_state.specs.HandOn.{cast_record, cast_records}
+use Rattle.run_safety.specs.ViewOrder.{Lt}
+use Rattle.run_safety.specs.Past.{History, Within, earlier, is_list, records_of}
+use Rattle.run_safety.specs.SafeHeard.{latest_put}
+use Rattle.run_safety.proofs.Order.{lt_not_same}
+use Rattle.node_state.proofs.NameOrder.{cases_text, text_same, text_self}
 use Rattle.step_refinement.proofs.SessionLaws.{provider_same, provider_self, Later, handed_later, cast_has}
 use Rattle.row_laws.specs.hearing.Hearing.{last_heard, next_place, Follows, AtPut}
 use Rattle.row_laws.specs.hearing.Changes.{Aside, Fewer}

@@ -1,39 +1,39 @@
 -- What the leader of a group does, change by change: it appends, closes phases, begins protocols, and ends a step.
 use Rattle.std.proofs.Common.{◌≡◌, ℕ, zero, suc, List, [], ◌∷◌, length, Option, Some, None, Bool, true, false, refl, sym, ◌∙◌, subst}
 use Rattle.std.specs.Prelude.{◌-◌, drop, max, nat_le, if◌then◌else◌, not, filter, fold}
-use Rattle.step_refinement.specs.rsct_packet.declared.ids.ProviderId.{ProviderId}
-use Rattle.step_refinement.specs.rsct_packet.Lists.{is_empty}
-use Rattle.step_refinement.specs.rsct_packet.Providers.{among}
-use Rattle.step_refinement.specs.group_attr.declared.attrs.Phases.{Phases}
-use Rattle.step_refinement.specs.group_attr.declared.attrs.Phases.TheVariants.{One, Many}
-use Rattle.step_refinement.specs.group_attr.declared.attrs.Attrs.{Attrs}
-use Rattle.step_refinement.specs.proposal_core.declared.proposal.Cause.{Cause}
-use Rattle.step_refinement.specs.proposal_core.declared.proposal.Cause.TheVariants.{Died, Gone}
-use Rattle.step_refinement.specs.proposal_core.declared.proposal.Failure.{Failure}
-use Rattle.step_refinement.specs.proposal_core.declared.proposal.Proposal.{Proposal}
-use Rattle.step_refinement.specs.proposal_core.declared.proposal.Proposal.TheVariants.{Join, Fail, Reflect}
-use Rattle.step_refinement.specs.proposal_core.declared.entry.Entry.{Entry}
-use Rattle.step_refinement.specs.proposal_core.declared.entry.Entry.TheVariants.{Once, Begin}
-use Rattle.step_refinement.specs.proposal_core.declared.group_state.GroupState.{GroupState}
-use Rattle.step_refinement.specs.proposal_core.GroupView.{GroupView}
-use Rattle.step_refinement.specs.proposal_core.Lists.{list_or_new, len_in, state_in, forgotten}
-use Rattle.step_refinement.specs.batch_rules.Waiting.{add_failure, batches_failures, chosen_of, next_failures, failures_left, next_joins, joins_left}
-use Rattle.step_refinement.specs.source_target.declared.Due.{Due}
-use Rattle.step_refinement.specs.source_target.declared.Due.TheVariants as due
-use Rattle.step_refinement.specs.source_target.Due as target
-use Rattle.step_refinement.specs.client_callbacks.declared.told.Why.{Why}
-use Rattle.step_refinement.specs.client_callbacks.declared.told.Why.TheVariants.{NoSource}
-use Rattle.step_refinement.specs.vote_phases.Tally.{TallyView}
-use Rattle.step_refinement.specs.node_state.declared.group.GroupRow.{GroupRow}
-use Rattle.step_refinement.specs.node_state.declared.packet.Body.TheVariants as body
-use Rattle.step_refinement.specs.node_state.declared.state.Core.{Core}
-use Rattle.step_refinement.specs.node_state.State.{InNameOrder, row_of, with_led, led_of, state_of, len_of, list_forgotten, forget_below, frozen, led_groups, leader_of, others, least_acked, fits_at_end, decisions_with}
-use Rattle.step_refinement.specs.node_state.Sending.{send_all}
-use Rattle.step_refinement.specs.node_state.HandOn.{Answering, hand_on}
-use Rattle.step_refinement.specs.node_state.Leading.{put, forget_least, with_waiting, wait_if, new_members_wait, appended, append_if_fits, begin_many, begins, tally_set, tally_for, tally_opened, closing_entry, is_phase, closes_from, closes}
-use Rattle.step_refinement.specs.proposal_core.Fold.{max_phases}
-use Rattle.step_refinement.specs.node_state.Deciding.{keep_decision, refused, known_state, lacks_source, source_len}
-use Rattle.step_refinement.specs.node_state.Ending.{Pass, quiet, begun_now, failures_begin, due_begins, source_begins, attrs_for, carried_len, source_refused, joins_begin, or_due, or_joins, may_begin, first_begins, group_begins, one_pass, passes, most_begun, end_step}
+use Rattle.rsct_packet.specs.declared.ids.ProviderId.{ProviderId}
+use Rattle.rsct_packet.specs.Lists.{is_empty}
+use Rattle.rsct_packet.specs.Providers.{among}
+use Rattle.group_attr.specs.declared.attrs.Phases.{Phases}
+use Rattle.group_attr.specs.declared.attrs.Phases.TheVariants.{One, Many}
+use Rattle.group_attr.specs.declared.attrs.Attrs.{Attrs}
+use Rattle.proposal_core.specs.declared.proposal.Cause.{Cause}
+use Rattle.proposal_core.specs.declared.proposal.Cause.TheVariants.{Died, Gone}
+use Rattle.proposal_core.specs.declared.proposal.Failure.{Failure}
+use Rattle.proposal_core.specs.declared.proposal.Proposal.{Proposal}
+use Rattle.proposal_core.specs.declared.proposal.Proposal.TheVariants.{Join, Fail, Reflect}
+use Rattle.proposal_core.specs.declared.entry.Entry.{Entry}
+use Rattle.proposal_core.specs.declared.entry.Entry.TheVariants.{Once, Begin}
+use Rattle.proposal_core.specs.declared.group_state.GroupState.{GroupState}
+use Rattle.proposal_core.specs.GroupView.{GroupView}
+use Rattle.proposal_core.specs.Lists.{list_or_new, len_in, state_in, forgotten}
+use Rattle.batch_rules.specs.Waiting.{add_failure, batches_failures, chosen_of, next_failures, failures_left, next_joins, joins_left}
+use Rattle.source_target.specs.declared.Due.{Due}
+use Rattle.source_target.specs.declared.Due.TheVariants as due
+use Rattle.source_target.specs.Due as target
+use Rattle.client_callbacks.specs.declared.told.Why.{Why}
+use Rattle.client_callbacks.specs.declared.told.Why.TheVariants.{NoSource}
+use Rattle.vote_phases.specs.Tally.{TallyView}
+use Rattle.node_state.specs.declared.group.GroupRow.{GroupRow}
+use Rattle.node_state.specs.declared.packet.Body.TheVariants as body
+use Rattle.node_state.specs.declared.state.Core.{Core}
+use Rattle.node_state.specs.State.{InNameOrder, row_of, with_led, led_of, state_of, len_of, list_forgotten, forget_below, frozen, led_groups, leader_of, others, least_acked, fits_at_end, decisions_with}
+use Rattle.node_state.specs.Sending.{send_all}
+use Rattle.node_state.specs.HandOn.{Answering, hand_on}
+use Rattle.node_state.specs.Leading.{put, forget_least, with_waiting, wait_if, new_members_wait, appended, append_if_fits, begin_many, begins, tally_set, tally_for, tally_opened, closing_entry, is_phase, closes_from, closes}
+use Rattle.proposal_core.specs.Fold.{max_phases}
+use Rattle.node_state.specs.Deciding.{keep_decision, refused, known_state, lacks_source, source_len}
+use Rattle.node_state.specs.Ending.{Pass, quiet, begun_now, failures_begin, due_begins, source_begins, attrs_for, carried_len, source_refused, joins_begin, or_due, or_joins, may_begin, first_begins, group_begins, one_pass, passes, most_begun, end_step}
 use Rattle.row_laws.proofs.hearing.Changes.{Sends, Onward, onward_same, onward_then, onward_sends, onward_row, onward_led, sends_one, sends_all, same_sends, put_order, put_views, handed_onward}
 
 -- ---- appending

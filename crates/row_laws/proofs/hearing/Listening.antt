@@ -3,28 +3,28 @@ use Rattle.std.proofs.Common.{◌≡◌, ◌≢◌, ◌≤◌, ◌<◌, ℕ, ◌
 use Rattle.std.specs.Prelude.{reverse, map, fold, find}
 use Rattle.std.proofs.lemmas.List.{append-nil, reverse-append}
 use Rattle.std.proofs.lemmas.Bool.{cases_eq}
-use Rattle.step_refinement.specs.rsct_packet.declared.ids.ViewId.{ViewId}
-use Rattle.step_refinement.specs.rsct_packet.declared.ids.ProviderId.{ProviderId}
-use Rattle.step_refinement.specs.rsct_packet.declared.ids.Member.{Member}
-use Rattle.step_refinement.specs.rsct_packet.Mask.{nodes_of}
-use Rattle.step_refinement.specs.rsct_packet.Search.{Has}
-use Rattle.step_refinement.proofs.rsct_packet_laws.HasLaws.{has_append, has_map}
-use Rattle.step_refinement.specs.adapter_ring.declared.ring.Ring.{Ring}
-use Rattle.step_refinement.specs.session_state.State.{is_provider, provider_of}
-use Rattle.step_refinement.specs.session_state.declared.state.Provider.{Provider}
-use Rattle.step_refinement.specs.view_state.Views.{views_new}
+use Rattle.rsct_packet.specs.declared.ids.ViewId.{ViewId}
+use Rattle.rsct_packet.specs.declared.ids.ProviderId.{ProviderId}
+use Rattle.rsct_packet.specs.declared.ids.Member.{Member}
+use Rattle.rsct_packet.specs.Mask.{nodes_of}
+use Rattle.rsct_packet.specs.Search.{Has}
+use Rattle.rsct_packet.proofs.HasLaws.{has_append, has_map}
+use Rattle.adapter_ring.specs.declared.ring.Ring.{Ring}
+use Rattle.session_state.specs.State.{is_provider, provider_of}
+use Rattle.session_state.specs.declared.state.Provider.{Provider}
+use Rattle.view_state.specs.Views.{views_new}
 use Rattle.view_core.proofs.Promises.{views_begin}
-use Rattle.step_refinement.specs.node_state.declared.config.Config.{Config}
-use Rattle.step_refinement.specs.node_state.declared.happened.Happened.{Happened}
-use Rattle.step_refinement.specs.node_state.declared.happened.Happened.TheVariants as happened
-use Rattle.step_refinement.specs.node_state.declared.state.Core.{Core}
-use Rattle.step_refinement.specs.node_state.State.{row_of, list_of, len_of, state_of, with_sessions}
-use Rattle.step_refinement.specs.node_state.HandOn.{Answering}
-use Rattle.step_refinement.specs.node_state.Applying.{level_set}
-use Rattle.step_refinement.specs.node_state.Step.{NodeEvent, at_work, stepped, started, ring_record, own_rings, first_view, first_members}
-use Rattle.step_refinement.specs.world_model.declared.event.Event.{Event}
-use Rattle.step_refinement.specs.world_model.Run.{Happening}
-use Rattle.step_refinement.specs.run_safety.Past.{History, Within, records_of}
+use Rattle.node_state.specs.declared.config.Config.{Config}
+use Rattle.node_state.specs.declared.happened.Happened.{Happened}
+use Rattle.node_state.specs.declared.happened.Happened.TheVariants as happened
+use Rattle.node_state.specs.declared.state.Core.{Core}
+use Rattle.node_state.specs.State.{row_of, list_of, len_of, state_of, with_sessions}
+use Rattle.node_state.specs.HandOn.{Answering}
+use Rattle.node_state.specs.Applying.{level_set}
+use Rattle.node_state.specs.Step.{NodeEvent, at_work, stepped, started, ring_record, own_rings, first_view, first_members}
+use Rattle.world_model.specs.declared.event.Event.{Event}
+use Rattle.world_model.specs.Run.{Happening}
+use Rattle.run_safety.specs.Past.{History, Within, records_of}
 use Rattle.step_refinement.specs.Tied.{Scene}
 use Rattle.step_refinement.specs.Rows.{at_node, starts_too, with_records, nothing_yet}
 use Rattle.step_refinement.specs.Runs.{IsNote, Reached, Nothing, AllStart, Starts, Stops, Steps, Notes}

@@ -3,16 +3,16 @@ use Rattle.std.proofs.Common.{◌≡◌, ◌≤◌, ◌<◌, ℕ, ◌+◌, List,
 use Rattle.std.specs.Prelude.{◌&&◌, nat_le, if◌then◌else◌}
 use Rattle.std.proofs.lemmas.Bool.Decides.{nat_tests}
 use Rattle.std.specs.Str.{bytes_eq}
-use Rattle.step_refinement.specs.rsct_packet.declared.ids.ViewId.{ViewId}
-use Rattle.step_refinement.specs.rsct_packet.declared.ids.ProviderId.{ProviderId}
-use Rattle.step_refinement.specs.rsct_packet.Ids.{same_view}
-use Rattle.step_refinement.specs.rsct_packet.Providers.{same_provider}
-use Rattle.step_refinement.specs.rsct_packet.Search.{Has}
-use Rattle.step_refinement.specs.node_state.declared.happened.Happened.{Happened}
-use Rattle.step_refinement.specs.node_state.declared.happened.Happened.TheVariants as happened
-use Rattle.step_refinement.specs.run_safety.Past.{History, Within, records_of}
+use Rattle.rsct_packet.specs.declared.ids.ViewId.{ViewId}
+use Rattle.rsct_packet.specs.declared.ids.ProviderId.{ProviderId}
+use Rattle.rsct_packet.specs.Ids.{same_view}
+use Rattle.rsct_packet.specs.Providers.{same_provider}
+use Rattle.rsct_packet.specs.Search.{Has}
+use Rattle.node_state.specs.declared.happened.Happened.{Happened}
+use Rattle.node_state.specs.declared.happened.Happened.TheVariants as happened
+use Rattle.run_safety.specs.Past.{History, Within, records_of}
 use Rattle.row_laws.specs.hearing.Hearing.{last_heard, Follows, InARow, AtPut, HeardInARow, HeardPlace, HeardLeavesNoGap}
-use Rattle.step_refinement.proofs.node_state_laws.NameOrder.{text_same}
+use Rattle.node_state.proofs.NameOrder.{text_same}
 use Rattle.step_refinement.proofs.SessionLaws.{provider_same}
 use Rattle.row_laws.proofs.hearing.Attending.{heard_own}
 use Rattle.row_laws.proofs.hearing.Listening.{providers_hear}

@@ -2,30 +2,30 @@
 use Rattle.std.proofs.Common.{◌≡◌, ◌≤◌, ℕ, List, [], ◌∷◌, Option, Some, None, Bool, true, false, refl, sym, ap, ◌∙◌, subst, inl, inr, arith}
 use Rattle.std.specs.List.{list_any}
 use Rattle.std.specs.Prelude.{not, ◌==◌, ◌&&◌, ◌||◌, filter, find, if◌then◌else◌, Result, Ok, Err}
-use Rattle.step_refinement.specs.rsct_packet.declared.ids.ProviderId.{ProviderId}
-use Rattle.step_refinement.specs.rsct_packet.Providers.{same_provider, among}
-use Rattle.step_refinement.specs.rsct_packet.Search.{Has}
-use Rattle.step_refinement.proofs.rsct_packet_laws.HasLaws.{find_has, has_filter, filter_has}
-use Rattle.step_refinement.specs.group_attr.declared.attrs.Phases.{Phases}
-use Rattle.step_refinement.specs.proposal_core.declared.entry.Vote.{Vote}
-use Rattle.step_refinement.specs.proposal_core.declared.proposal.Proposal.{Proposal}
-use Rattle.step_refinement.specs.client_callbacks.declared.told.Why.{Why}
-use Rattle.step_refinement.specs.client_callbacks.declared.ballot.Filled.{Filled}
-use Rattle.step_refinement.specs.client_callbacks.Ballots.{is_within, value_limit}
-use Rattle.step_refinement.specs.subscribe_core.declared.subs.ClientToken.{ClientToken}
-use Rattle.step_refinement.specs.session_state.declared.fault.GsFault.{GsFault}
-use Rattle.step_refinement.specs.session_state.declared.fault.GsFault.TheVariants as fault
-use Rattle.step_refinement.specs.session_state.declared.fault.Field.TheVariants as field
-use Rattle.step_refinement.specs.group_attr.declared.attrs.Attrs.{Attrs}
-use Rattle.step_refinement.specs.proposal_core.declared.proposal.Proposal.TheVariants.{Attributes}
-use Rattle.step_refinement.specs.session_state.declared.state.KeptBallot.{KeptBallot}
-use Rattle.step_refinement.specs.session_state.declared.state.MemberToken.{MemberToken}
-use Rattle.step_refinement.specs.session_state.declared.state.OpenPhase.{OpenPhase}
-use Rattle.step_refinement.specs.session_state.declared.state.Provider.{Provider}
-use Rattle.step_refinement.specs.session_state.declared.state.SessionState.{SessionState}
-use Rattle.step_refinement.specs.session_state.State.{is_provider, is_client_of, is_member_of, is_kept_for, provider_of, outstanding, without_providers}
-use Rattle.step_refinement.specs.session_state.Calls.{is_empty, fault_if, unless_fault, if_session, ask_fault, asked, member_asks, member_changes, vote_in, member_votes, voted, keeps, is_owned, end_session}
-use Rattle.step_refinement.specs.session_state.HandOn.{takes_telling, told_of, take_telling, is_join_request, is_dissolved}
+use Rattle.rsct_packet.specs.declared.ids.ProviderId.{ProviderId}
+use Rattle.rsct_packet.specs.Providers.{same_provider, among}
+use Rattle.rsct_packet.specs.Search.{Has}
+use Rattle.rsct_packet.proofs.HasLaws.{find_has, has_filter, filter_has}
+use Rattle.group_attr.specs.declared.attrs.Phases.{Phases}
+use Rattle.proposal_core.specs.declared.entry.Vote.{Vote}
+use Rattle.proposal_core.specs.declared.proposal.Proposal.{Proposal}
+use Rattle.client_callbacks.specs.declared.told.Why.{Why}
+use Rattle.client_callbacks.specs.declared.ballot.Filled.{Filled}
+use Rattle.client_callbacks.specs.Ballots.{is_within, value_limit}
+use Rattle.subscribe_core.specs.declared.subs.ClientToken.{ClientToken}
+use Rattle.session_state.specs.declared.fault.GsFault.{GsFault}
+use Rattle.session_state.specs.declared.fault.GsFault.TheVariants as fault
+use Rattle.session_state.specs.declared.fault.Field.TheVariants as field
+use Rattle.group_attr.specs.declared.attrs.Attrs.{Attrs}
+use Rattle.proposal_core.specs.declared.proposal.Proposal.TheVariants.{Attributes}
+use Rattle.session_state.specs.declared.state.KeptBallot.{KeptBallot}
+use Rattle.session_state.specs.declared.state.MemberToken.{MemberToken}
+use Rattle.session_state.specs.declared.state.OpenPhase.{OpenPhase}
+use Rattle.session_state.specs.declared.state.Provider.{Provider}
+use Rattle.session_state.specs.declared.state.SessionState.{SessionState}
+use Rattle.session_state.specs.State.{is_provider, is_client_of, is_member_of, is_kept_for, provider_of, outstanding, without_providers}
+use Rattle.session_state.specs.Calls.{is_empty, fault_if, unless_fault, if_session, ask_fault, asked, member_asks, member_changes, vote_in, member_votes, voted, keeps, is_owned, end_session}
+use Rattle.session_state.specs.HandOn.{takes_telling, told_of, take_telling, is_join_request, is_dissolved}
 use Rattle.step_refinement.proofs.SessionLaws.{provider_same, provider_self}
 use Rattle.row_laws.specs.hearing.Changes.{Fewer}
 

@@ -2,55 +2,55 @@
 use Rattle.std.proofs.Common.{◌≡◌, ℕ, List, [], ◌∷◌, Option, Some, None, Bool, true, false, refl, sym, ap, ◌∙◌, subst, inl, inr, ⊎_elim}
 use Rattle.std.specs.Prelude.{not, ◌==◌, ◌&&◌, filter, fold, flat_map, is_some}
 use Rattle.std.specs.Str.{bytes_eq}
-use Rattle.step_refinement.specs.rsct_packet.declared.ids.ViewId.{ViewId}
-use Rattle.step_refinement.specs.rsct_packet.declared.ids.ProviderId.{ProviderId}
-use Rattle.step_refinement.specs.rsct_packet.declared.mask.Mask.{Mask}
-use Rattle.step_refinement.specs.rsct_packet.Providers.{among}
-use Rattle.step_refinement.specs.rsct_packet.Search.{Has}
-use Rattle.step_refinement.proofs.rsct_packet_laws.HasLaws.{has_append}
-use Rattle.step_refinement.specs.group_attr.Attrs.{host_membership}
-use Rattle.step_refinement.specs.proposal_core.declared.proposal.Cause.TheVariants.{Died}
-use Rattle.step_refinement.specs.proposal_core.declared.entry.Entry.{Entry}
-use Rattle.step_refinement.specs.proposal_core.Fold.{present}
-use Rattle.step_refinement.specs.proposal_core.Lists.{state_in}
-use Rattle.step_refinement.specs.batch_rules.Waiting.{add_failure}
-use Rattle.step_refinement.specs.subscribe_core.declared.subs.Subscription.{Subscription}
-use Rattle.step_refinement.specs.client_callbacks.declared.told.Told.TheVariants as told
-use Rattle.step_refinement.specs.session_state.declared.state.Provider.{Provider}
-use Rattle.step_refinement.specs.session_state.State.{provider_of, outstanding}
-use Rattle.step_refinement.specs.view_state.declared.answer.Answer.{Answer}
-use Rattle.step_refinement.specs.view_state.declared.install.Install.{Install}
-use Rattle.step_refinement.specs.view_state.declared.install.Base.{Base}
-use Rattle.step_refinement.specs.view_state.Bases.{bases_of, base_named}
-use Rattle.step_refinement.specs.view_state.declared.packet.ViewPacket.{ViewPacket}
-use Rattle.step_refinement.specs.view_state.declared.packet.ViewPacket.TheVariants as packet
-use Rattle.step_refinement.specs.view_state.declared.packet.ViewSend.{ViewSend}
+use Rattle.rsct_packet.specs.declared.ids.ViewId.{ViewId}
+use Rattle.rsct_packet.specs.declared.ids.ProviderId.{ProviderId}
+use Rattle.rsct_packet.specs.declared.mask.Mask.{Mask}
+use Rattle.rsct_packet.specs.Providers.{among}
+use Rattle.rsct_packet.specs.Search.{Has}
+use Rattle.rsct_packet.proofs.HasLaws.{has_append}
+use Rattle.group_attr.specs.Attrs.{host_membership}
+use Rattle.proposal_core.specs.declared.proposal.Cause.TheVariants.{Died}
+use Rattle.proposal_core.specs.declared.entry.Entry.{Entry}
+use Rattle.proposal_core.specs.Fold.{present}
+use Rattle.proposal_core.specs.Lists.{state_in}
+use Rattle.batch_rules.specs.Waiting.{add_failure}
+use Rattle.subscribe_core.specs.declared.subs.Subscription.{Subscription}
+use Rattle.client_callbacks.specs.declared.told.Told.TheVariants as told
+use Rattle.session_state.specs.declared.state.Provider.{Provider}
+use Rattle.session_state.specs.State.{provider_of, outstanding}
+use Rattle.view_state.specs.declared.answer.Answer.{Answer}
+use Rattle.view_state.specs.declared.install.Install.{Install}
+use Rattle.view_state.specs.declared.install.Base.{Base}
+use Rattle.view_state.specs.Bases.{bases_of, base_named}
+use Rattle.view_state.specs.declared.packet.ViewPacket.{ViewPacket}
+use Rattle.view_state.specs.declared.packet.ViewPacket.TheVariants as packet
+use Rattle.view_state.specs.declared.packet.ViewSend.{ViewSend}
 use Rattle.view_core.specs.declared.step.ViewEvent.TheVariants as event
-use Rattle.step_refinement.specs.view_state.declared.views.ViewWork.{ViewWork}
-use Rattle.step_refinement.specs.view_state.Views.{views_entered, is_coordinator, is_frozen, install_again_of, view_sent_all, views_at_work, ask_row, prepare_row, answer_row, refuse_row, install_row, taken_row, gathering_ticks, install_again}
+use Rattle.view_state.specs.declared.views.ViewWork.{ViewWork}
+use Rattle.view_state.specs.Views.{views_entered, is_coordinator, is_frozen, install_again_of, view_sent_all, views_at_work, ask_row, prepare_row, answer_row, refuse_row, install_row, taken_row, gathering_ticks, install_again}
 use Rattle.view_core.specs.Steps.{view_stepped}
 use Rattle.view_core.specs.Steps as steps
 use Rattle.view_core.specs.Laws.{AreViews, IsNext, AppliesNext, Goes}
 use Rattle.view_core.proofs.Promises.{promises_stand, views_rise}
-use Rattle.step_refinement.specs.node_state.declared.group.GroupRow.{GroupRow}
-use Rattle.step_refinement.specs.node_state.declared.happened.Happened.{Happened}
-use Rattle.step_refinement.specs.node_state.declared.happened.Happened.TheVariants as happened
-use Rattle.step_refinement.specs.node_state.declared.packet.Body.{Body}
-use Rattle.step_refinement.specs.node_state.declared.packet.Body.TheVariants as body
-use Rattle.step_refinement.specs.node_state.declared.packet.Packet.{Packet}
-use Rattle.step_refinement.specs.node_state.declared.state.Core.{Core}
-use Rattle.step_refinement.specs.node_state.Settings.{is_fixed}
-use Rattle.step_refinement.specs.node_state.State.{InNameOrder, state_of, len_of, list_of, row_of, held_rows, led_groups, recorded, recorded_all, with_sessions}
-use Rattle.step_refinement.specs.node_state.Sending.{sent, send_requests, send_votes_again}
-use Rattle.step_refinement.specs.node_state.HandOn.{Answering, note_of, subscriber_name}
-use Rattle.step_refinement.specs.node_state.Leading.{put_and_hand, with_waiting, tally_opened, closes}
-use Rattle.step_refinement.specs.node_state.Applying.{Lacking, lacking, own_parts, fill_lists, view_entered, is_in_base, number_of, dissolved, dissolved_if, group_dissolved, sides_dissolved, base_note, entering_note, entering_noted, taken_sent, owed_sent, wait_failed, phase_reopened, lead, lead_groups, entered, entered_if, apply_install, views_taken}
-use Rattle.step_refinement.specs.node_state.Ticks.{ring_ask, tick_views, tick_rings, tick_owed, tick_led, tick_row}
-use Rattle.step_refinement.specs.node_state.Ending.{end_step}
-use Rattle.step_refinement.specs.node_state.Status.{status_text}
-use Rattle.step_refinement.specs.node_state.Calls.{take_call}
-use Rattle.step_refinement.specs.node_state.Step.{NodeEvent, Ticks, Asks, Given, Calls, Garbage, is_used, used_if, take_order, view_row, take_body, packet_row, event_row, stepped, at_work}
-use Rattle.step_refinement.specs.run_safety.ViewOrder.{is_before, Lt}
+use Rattle.node_state.specs.declared.group.GroupRow.{GroupRow}
+use Rattle.node_state.specs.declared.happened.Happened.{Happened}
+use Rattle.node_state.specs.declared.happened.Happened.TheVariants as happened
+use Rattle.node_state.specs.declared.packet.Body.{Body}
+use Rattle.node_state.specs.declared.packet.Body.TheVariants as body
+use Rattle.node_state.specs.declared.packet.Packet.{Packet}
+use Rattle.node_state.specs.declared.state.Core.{Core}
+use Rattle.node_state.specs.Settings.{is_fixed}
+use Rattle.node_state.specs.State.{InNameOrder, state_of, len_of, list_of, row_of, held_rows, led_groups, recorded, recorded_all, with_sessions}
+use Rattle.node_state.specs.Sending.{sent, send_requests, send_votes_again}
+use Rattle.node_state.specs.HandOn.{Answering, note_of, subscriber_name}
+use Rattle.node_state.specs.Leading.{put_and_hand, with_waiting, tally_opened, closes}
+use Rattle.node_state.specs.Applying.{Lacking, lacking, own_parts, fill_lists, view_entered, is_in_base, number_of, dissolved, dissolved_if, group_dissolved, sides_dissolved, base_note, entering_note, entering_noted, taken_sent, owed_sent, wait_failed, phase_reopened, lead, lead_groups, entered, entered_if, apply_install, views_taken}
+use Rattle.node_state.specs.Ticks.{ring_ask, tick_views, tick_rings, tick_owed, tick_led, tick_row}
+use Rattle.node_state.specs.Ending.{end_step}
+use Rattle.node_state.specs.Status.{status_text}
+use Rattle.node_state.specs.Calls.{take_call}
+use Rattle.node_state.specs.Step.{NodeEvent, Ticks, Asks, Given, Calls, Garbage, is_used, used_if, take_order, view_row, take_body, packet_row, event_row, stepped, at_work}
+use Rattle.run_safety.specs.ViewOrder.{is_before, Lt}
 use Rattle.step_refinement.proofs.BaseOrder.{bases_ordered}
 use Rattle.row_laws.specs.hearing.Changes.{Same, Does, Stays, Then, Enters, Inner, entering, Unentered}
 use Rattle.row_laws.proofs.hearing.Changes.{Sends, sends_nothing, sends_fold, sends_on, sends_one, Keeps, Onward, onward_same, onward_then, onward_sends, onward_records, put_handed_onward}

@@ -3,23 +3,23 @@ use Rattle.std.proofs.Common.{◌≡◌, ◌⊎◌, ℕ, List, [], ◌∷◌, �
 use Rattle.std.specs.Prelude.{fold, find, reverse}
 use Rattle.std.specs.Str.{bytes_eq}
 use Rattle.std.proofs.lemmas.List.{reverse-append}
-use Rattle.step_refinement.specs.rsct_packet.Providers.{differ}
-use Rattle.step_refinement.specs.rsct_packet.Search.{Has}
-use Rattle.step_refinement.specs.rsct_packet.Text.{name_lt}
-use Rattle.step_refinement.proofs.rsct_packet_laws.HasLaws.{has_append, append_has_left, append_has_right}
-use Rattle.step_refinement.specs.proposal_core.Lists.{state_in}
-use Rattle.step_refinement.specs.session_state.declared.state.KeptBallot.{KeptBallot}
-use Rattle.step_refinement.specs.session_state.declared.state.SessionState.{SessionState}
-use Rattle.step_refinement.specs.view_state.declared.views.Views.{Views}
-use Rattle.step_refinement.specs.node_state.declared.group.GroupRow.{GroupRow}
-use Rattle.step_refinement.specs.node_state.declared.happened.Happened.{Happened}
-use Rattle.step_refinement.specs.node_state.declared.packet.Body.{Body}
-use Rattle.step_refinement.specs.node_state.declared.packet.Packet.{Packet}
-use Rattle.step_refinement.specs.node_state.declared.state.Core.{Core}
-use Rattle.step_refinement.specs.node_state.State.{InNameOrder, new_row, row_found, row_of, rows_with, with_row, is_this, leader_by, leader_in, leads_in, leads, recorded, recorded_all, with_sessions, has_name}
-use Rattle.step_refinement.specs.node_state.Sending.{packet_on, send_on, sent, network_to}
-use Rattle.step_refinement.specs.run_safety.Past.{History, records_of, Within}
-use Rattle.step_refinement.proofs.node_state_laws.NameOrder.{KeepsName, cases_text, row_here, row_there, rows_ordered}
+use Rattle.rsct_packet.specs.Providers.{differ}
+use Rattle.rsct_packet.specs.Search.{Has}
+use Rattle.rsct_packet.specs.Text.{name_lt}
+use Rattle.rsct_packet.proofs.HasLaws.{has_append, append_has_left, append_has_right}
+use Rattle.proposal_core.specs.Lists.{state_in}
+use Rattle.session_state.specs.declared.state.KeptBallot.{KeptBallot}
+use Rattle.session_state.specs.declared.state.SessionState.{SessionState}
+use Rattle.view_state.specs.declared.views.Views.{Views}
+use Rattle.node_state.specs.declared.group.GroupRow.{GroupRow}
+use Rattle.node_state.specs.declared.happened.Happened.{Happened}
+use Rattle.node_state.specs.declared.packet.Body.{Body}
+use Rattle.node_state.specs.declared.packet.Packet.{Packet}
+use Rattle.node_state.specs.declared.state.Core.{Core}
+use Rattle.node_state.specs.State.{InNameOrder, new_row, row_found, row_of, rows_with, with_row, is_this, leader_by, leader_in, leads_in, leads, recorded, recorded_all, with_sessions, has_name}
+use Rattle.node_state.specs.Sending.{packet_on, send_on, sent, network_to}
+use Rattle.run_safety.specs.Past.{History, records_of, Within}
+use Rattle.node_state.proofs.NameOrder.{KeepsName, cases_text, row_here, row_there, rows_ordered}
 use Rattle.row_laws.specs.honest_votes.Casts.{RecordCast, ListCast, BodyCast, KeptCast, ViewsCast, TallyCast}
 use Rattle.row_laws.proofs.honest_votes.More.{entries_on, body_on, ballot_on, views_on, tally_on}
 

@@ -1,36 +1,36 @@
 -- What a leader decides, and what begins at the end of a step.
 use Rattle.std.proofs.Common.{◌≡◌, ℕ, zero, suc, List, [], ◌∷◌, length, Option, Some, None, Bool, true, false, refl, ap, ◌∙◌, inl, inr}
 use Rattle.std.specs.Prelude.{not, ◌&&◌, ◌++◌, fold, filter, nat_le, is_none}
-use Rattle.step_refinement.specs.rsct_packet.declared.ids.ProviderId.{ProviderId}
-use Rattle.step_refinement.specs.rsct_packet.Lists.{is_empty}
-use Rattle.step_refinement.specs.rsct_packet.Providers.{among, differ}
-use Rattle.step_refinement.specs.rsct_packet.Search.{Has}
-use Rattle.step_refinement.specs.group_attr.declared.attrs.Attrs.{Attrs}
-use Rattle.step_refinement.specs.group_attr.declared.attrs.Phases.{Phases}
-use Rattle.step_refinement.specs.proposal_core.declared.proposal.Failure.{Failure}
-use Rattle.step_refinement.specs.proposal_core.declared.proposal.Proposal.{Proposal}
-use Rattle.step_refinement.specs.proposal_core.declared.proposal.Proposal.TheVariants.{Join, Leave, Fail, Expel, State, Message, Attributes, Reflect}
-use Rattle.step_refinement.specs.proposal_core.declared.group_state.GroupState.{GroupState}
-use Rattle.step_refinement.specs.proposal_core.Fold.{max_providers, present}
-use Rattle.step_refinement.specs.proposal_core.Lists.{list_or_new, is_at_limit}
-use Rattle.step_refinement.specs.group_attr.Agree.{agree}
-use Rattle.step_refinement.specs.batch_rules.Waiting.{batches_failures, batches_joins, has_instance, chosen_of, next_failures, failures_left, next_joins, joins_left, waits_join}
-use Rattle.step_refinement.specs.source_target.declared.Due.{Due}
-use Rattle.step_refinement.specs.source_target.declared.Due.TheVariants as due
-use Rattle.step_refinement.specs.source_target.Due as target
-use Rattle.step_refinement.specs.client_callbacks.declared.told.Why.{Why}
-use Rattle.step_refinement.specs.client_callbacks.declared.told.Why.TheVariants as why
-use Rattle.step_refinement.specs.client_callbacks.declared.told.Why.TheVariants.{NoSource}
-use Rattle.step_refinement.specs.node_state.declared.group.GroupRow.{GroupRow}
-use Rattle.step_refinement.specs.node_state.declared.packet.Body.TheVariants as body
-use Rattle.step_refinement.specs.node_state.declared.state.Core.{Core}
-use Rattle.step_refinement.specs.node_state.State.{row_of, led_of, list_of, state_of, with_led, frozen, led_groups, decisions_with}
-use Rattle.step_refinement.specs.node_state.HandOn.{Answering}
-use Rattle.step_refinement.specs.node_state.Leading.{with_waiting, begins}
-use Rattle.step_refinement.specs.node_state.Deciding.{keep_decision, refused, known_state, lacks_source, source_len, is_idle_empty, meant_attrs, join_refusal, keep_attrs, wait_join, decide_join, other_refusal, decide_change, decided}
-use Rattle.step_refinement.specs.node_state.Ending.{Pass, quiet, begun_now, failures_begin, due_begins, source_begins, attrs_for, carried_len, source_refused, joins_begin, or_due, or_joins, may_begin, first_begins, group_begins, one_pass, passes, most_begun, end_step}
-use Rattle.step_refinement.specs.run_safety.Past.{History}
-use Rattle.step_refinement.proofs.node_state_laws.NameOrder.{row_here}
+use Rattle.rsct_packet.specs.declared.ids.ProviderId.{ProviderId}
+use Rattle.rsct_packet.specs.Lists.{is_empty}
+use Rattle.rsct_packet.specs.Providers.{among, differ}
+use Rattle.rsct_packet.specs.Search.{Has}
+use Rattle.group_attr.specs.declared.attrs.Attrs.{Attrs}
+use Rattle.group_attr.specs.declared.attrs.Phases.{Phases}
+use Rattle.proposal_core.specs.declared.proposal.Failure.{Failure}
+use Rattle.proposal_core.specs.declared.proposal.Proposal.{Proposal}
+use Rattle.proposal_core.specs.declared.proposal.Proposal.TheVariants.{Join, Leave, Fail, Expel, State, Message, Attributes, Reflect}
+use Rattle.proposal_core.specs.declared.group_state.GroupState.{GroupState}
+use Rattle.proposal_core.specs.Fold.{max_providers, present}
+use Rattle.proposal_core.specs.Lists.{list_or_new, is_at_limit}
+use Rattle.group_attr.specs.Agree.{agree}
+use Rattle.batch_rules.specs.Waiting.{batches_failures, batches_joins, has_instance, chosen_of, next_failures, failures_left, next_joins, joins_left, waits_join}
+use Rattle.source_target.specs.declared.Due.{Due}
+use Rattle.source_target.specs.declared.Due.TheVariants as due
+use Rattle.source_target.specs.Due as target
+use Rattle.client_callbacks.specs.declared.told.Why.{Why}
+use Rattle.client_callbacks.specs.declared.told.Why.TheVariants as why
+use Rattle.client_callbacks.specs.declared.told.Why.TheVariants.{NoSource}
+use Rattle.node_state.specs.declared.group.GroupRow.{GroupRow}
+use Rattle.node_state.specs.declared.packet.Body.TheVariants as body
+use Rattle.node_state.specs.declared.state.Core.{Core}
+use Rattle.node_state.specs.State.{row_of, led_of, list_of, state_of, with_led, frozen, led_groups, decisions_with}
+use Rattle.node_state.specs.HandOn.{Answering}
+use Rattle.node_state.specs.Leading.{with_waiting, begins}
+use Rattle.node_state.specs.Deciding.{keep_decision, refused, known_state, lacks_source, source_len, is_idle_empty, meant_attrs, join_refusal, keep_attrs, wait_join, decide_join, other_refusal, decide_change, decided}
+use Rattle.node_state.specs.Ending.{Pass, quiet, begun_now, failures_begin, due_begins, source_begins, attrs_for, carried_len, source_refused, joins_begin, or_due, or_joins, may_begin, first_begins, group_begins, one_pass, passes, most_begun, end_step}
+use Rattle.run_safety.specs.Past.{History}
+use Rattle.node_state.proofs.NameOrder.{row_here}
 use Rattle.step_refinement.proofs.LedGroups.{led_are_led}
 use Rattle.step_refinement.proofs.Decisions.{differ_push, apart_instances}
 use Rattle.row_laws.specs.honest_votes.Casts.{NamesOnce}

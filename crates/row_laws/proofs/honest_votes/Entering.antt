@@ -3,47 +3,47 @@ use Rattle.std.proofs.Common.{◌≡◌, ℕ, ◌-◌, List, [], ◌∷◌, ◌+
 use Rattle.std.specs.Prelude.{◌==◌, ◌&&◌, not, map, filter, fold, find, flat_map, nat_le, nat_lt, is_some}
 use Rattle.std.specs.Option.{option_map}
 use Rattle.std.specs.Str.{bytes_eq}
-use Rattle.step_refinement.specs.rsct_packet.declared.ids.ViewId.{ViewId}
-use Rattle.step_refinement.specs.rsct_packet.declared.ids.ProviderId.{ProviderId}
-use Rattle.step_refinement.specs.rsct_packet.Ids.{same_view}
-use Rattle.step_refinement.specs.rsct_packet.Providers.{among, differ}
-use Rattle.step_refinement.specs.rsct_packet.Search.{Has}
-use Rattle.step_refinement.proofs.rsct_packet_laws.HasLaws.{has_append, append_has_left, append_has_right, has_map, has_filter, find_has}
-use Rattle.step_refinement.specs.group_attr.Attrs.{host_membership}
-use Rattle.step_refinement.specs.proposal_core.declared.proposal.Cause.TheVariants.{Died}
-use Rattle.step_refinement.specs.proposal_core.declared.entry.Entry.{Entry}
-use Rattle.step_refinement.specs.proposal_core.Fold.{present}
-use Rattle.step_refinement.specs.proposal_core.GroupView.{GroupView}
-use Rattle.step_refinement.specs.proposal_core.Lists.{list_or_new, state_in}
-use Rattle.step_refinement.specs.batch_rules.Waiting.{add_failure}
-use Rattle.step_refinement.specs.subscribe_core.declared.subs.Subscription.{Subscription}
-use Rattle.step_refinement.specs.client_callbacks.declared.told.Told.TheVariants as told
-use Rattle.step_refinement.specs.client_callbacks.declared.told.Why.TheVariants.{Dissolved}
-use Rattle.step_refinement.specs.session_state.declared.state.Provider.{Provider}
-use Rattle.step_refinement.specs.session_state.State.{provider_of, outstanding}
-use Rattle.step_refinement.specs.session_state.HandOn.{take_telling}
-use Rattle.step_refinement.specs.view_state.declared.install.Part.{Part}
-use Rattle.step_refinement.specs.view_state.declared.install.Source.{Source}
-use Rattle.step_refinement.specs.view_state.declared.install.Install.{Install}
-use Rattle.step_refinement.specs.view_state.declared.install.Base.{Base}
-use Rattle.step_refinement.specs.view_state.Parts.{part_len}
-use Rattle.step_refinement.specs.view_state.Bases.{source_at, parts_in, parts_from, bases_of, base_named}
-use Rattle.step_refinement.specs.view_state.Cut.{all_fit, lacking_if, lacking_of}
-use Rattle.step_refinement.specs.view_state.declared.packet.ViewPacket.TheVariants as packet
-use Rattle.step_refinement.specs.view_state.declared.packet.ViewSend.{ViewSend}
-use Rattle.step_refinement.specs.view_state.declared.views.ViewWork.{ViewWork}
-use Rattle.step_refinement.specs.view_state.Views.{own_install, views_entered}
-use Rattle.step_refinement.specs.node_state.declared.group.GroupRow.{GroupRow}
-use Rattle.step_refinement.specs.node_state.declared.happened.Happened.{Happened}
-use Rattle.step_refinement.specs.node_state.declared.happened.Happened.TheVariants as happened
-use Rattle.step_refinement.specs.node_state.declared.packet.Body.TheVariants as body
-use Rattle.step_refinement.specs.node_state.declared.state.Core.{Core}
-use Rattle.step_refinement.specs.node_state.State.{row_found, list_of, state_of, len_of, held_rows, recorded, with_row, with_sessions}
-use Rattle.step_refinement.specs.node_state.Sending.{sent, send_on, send_requests}
-use Rattle.step_refinement.specs.node_state.HandOn.{Answering, subscriber_name, note_of}
-use Rattle.step_refinement.specs.node_state.Leading.{put, put_and_hand, with_waiting, tally_opened}
-use Rattle.step_refinement.specs.node_state.Applying.{part_of_list, own_parts, Lacking, lacking_in, lacking, fill_lists, level_set, base_row, base_leader, base_record, view_entered, is_in_base, number_of, dissolved, dissolved_if, group_dissolved, sides_dissolved, base_note, entering_note, entering_noted, taken_sent, owed_sent, wait_failed, phase_reopened, lead, lead_groups, entered, entered_if, apply_install, views_taken}
-use Rattle.step_refinement.specs.run_safety.Past.{History, records_of}
+use Rattle.rsct_packet.specs.declared.ids.ViewId.{ViewId}
+use Rattle.rsct_packet.specs.declared.ids.ProviderId.{ProviderId}
+use Rattle.rsct_packet.specs.Ids.{same_view}
+use Rattle.rsct_packet.specs.Providers.{among, differ}
+use Rattle.rsct_packet.specs.Search.{Has}
+use Rattle.rsct_packet.proofs.HasLaws.{has_append, append_has_left, append_has_right, has_map, has_filter, find_has}
+use Rattle.group_attr.specs.Attrs.{host_membership}
+use Rattle.proposal_core.specs.declared.proposal.Cause.TheVariants.{Died}
+use Rattle.proposal_core.specs.declared.entry.Entry.{Entry}
+use Rattle.proposal_core.specs.Fold.{present}
+use Rattle.proposal_core.specs.GroupView.{GroupView}
+use Rattle.proposal_core.specs.Lists.{list_or_new, state_in}
+use Rattle.batch_rules.specs.Waiting.{add_failure}
+use Rattle.subscribe_core.specs.declared.subs.Subscription.{Subscription}
+use Rattle.client_callbacks.specs.declared.told.Told.TheVariants as told
+use Rattle.client_callbacks.specs.declared.told.Why.TheVariants.{Dissolved}
+use Rattle.session_state.specs.declared.state.Provider.{Provider}
+use Rattle.session_state.specs.State.{provider_of, outstanding}
+use Rattle.session_state.specs.HandOn.{take_telling}
+use Rattle.view_state.specs.declared.install.Part.{Part}
+use Rattle.view_state.specs.declared.install.Source.{Source}
+use Rattle.view_state.specs.declared.install.Install.{Install}
+use Rattle.view_state.specs.declared.install.Base.{Base}
+use Rattle.view_state.specs.Parts.{part_len}
+use Rattle.view_state.specs.Bases.{source_at, parts_in, parts_from, bases_of, base_named}
+use Rattle.view_state.specs.Cut.{all_fit, lacking_if, lacking_of}
+use Rattle.view_state.specs.declared.packet.ViewPacket.TheVariants as packet
+use Rattle.view_state.specs.declared.packet.ViewSend.{ViewSend}
+use Rattle.view_state.specs.declared.views.ViewWork.{ViewWork}
+use Rattle.view_state.specs.Views.{own_install, views_entered}
+use Rattle.node_state.specs.declared.group.GroupRow.{GroupRow}
+use Rattle.node_state.specs.declared.happened.Happened.{Happened}
+use Rattle.node_state.specs.declared.happened.Happened.TheVariants as happened
+use Rattle.node_state.specs.declared.packet.Body.TheVariants as body
+use Rattle.node_state.specs.declared.state.Core.{Core}
+use Rattle.node_state.specs.State.{row_found, list_of, state_of, len_of, held_rows, recorded, with_row, with_sessions}
+use Rattle.node_state.specs.Sending.{sent, send_on, send_requests}
+use Rattle.node_state.specs.HandOn.{Answering, subscriber_name, note_of}
+use Rattle.node_state.specs.Leading.{put, put_and_hand, with_waiting, tally_opened}
+use Rattle.node_state.specs.Applying.{part_of_list, own_parts, Lacking, lacking_in, lacking, fill_lists, level_set, base_row, base_leader, base_record, view_entered, is_in_base, number_of, dissolved, dissolved_if, group_dissolved, sides_dissolved, base_note, entering_note, entering_noted, taken_sent, owed_sent, wait_failed, phase_reopened, lead, lead_groups, entered, entered_if, apply_install, views_taken}
+use Rattle.run_safety.specs.Past.{History, records_of}
 use Rattle.step_refinement.proofs.BaseOrder.{bases_ordered, row_of_base}
 use Rattle.row_laws.specs.honest_votes.Casts.{RecordCast, EntriesCast, PartsCast, InstallCast, InstallIfCast, ViewPacketCast}
 use Rattle.row_laws.proofs.honest_votes.More.{entry_on, entries_on, install_on}

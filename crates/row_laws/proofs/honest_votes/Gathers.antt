@@ -1,29 +1,29 @@
 -- What nodes gather for a view, and install.
 use Rattle.std.proofs.Common.{◌≡◌, ◌⊎◌, ℕ, List, [], ◌∷◌, Option, Some, None, Bool, true, false, refl, sym, subst, inl, inr, ⊎_elim}
 use Rattle.std.specs.Prelude.{◌==◌, ◌&&◌, not, map, filter, length, nat_le, if◌then◌else◌}
-use Rattle.step_refinement.specs.rsct_packet.declared.ids.ViewId.{ViewId}
-use Rattle.step_refinement.specs.rsct_packet.declared.mask.Mask.{Mask}
-use Rattle.step_refinement.specs.rsct_packet.Ids.{same_view, is_member}
-use Rattle.step_refinement.specs.rsct_packet.Mask.{has_node, with_node, nodes_of}
-use Rattle.step_refinement.specs.rsct_packet.Search.{Has, place_where, edit_where, insert_before}
-use Rattle.step_refinement.proofs.rsct_packet_laws.HasLaws.{has_append, has_map}
-use Rattle.step_refinement.specs.view_state.declared.answer.Answer.{Answer}
-use Rattle.step_refinement.specs.view_state.declared.exchange.Exchange.{Exchange}
-use Rattle.step_refinement.specs.view_state.declared.sides.Kept.{Kept}
-use Rattle.step_refinement.specs.view_state.declared.sides.Side.{Side}
-use Rattle.step_refinement.specs.view_state.declared.install.Part.{Part}
-use Rattle.step_refinement.specs.view_state.declared.install.Source.{Source}
-use Rattle.step_refinement.specs.view_state.declared.install.Install.{Install}
-use Rattle.step_refinement.specs.view_state.Parts.{part_len}
-use Rattle.step_refinement.specs.view_state.Answers.{max_parts, opened, may_answer, has_answered, kept_of, is_beaten, better_of, is_kept_of, is_kept_above, with_kept_at, with_kept, with_parts, side_with, side_from, is_side_of, is_side_above, with_side_at, with_side, with_answer, all_answered, source_of, install_of, is_spelled}
-use Rattle.step_refinement.specs.view_state.declared.packet.ViewPacket.{ViewPacket}
-use Rattle.step_refinement.specs.view_state.declared.packet.ViewPacket.TheVariants as packet
-use Rattle.step_refinement.specs.view_state.declared.packet.ViewSend.{ViewSend}
-use Rattle.step_refinement.specs.view_state.declared.views.Views.{Views}
-use Rattle.step_refinement.specs.view_state.declared.views.RingAsk.{RingAsk}
-use Rattle.step_refinement.specs.view_state.declared.views.ViewWork.{ViewWork}
-use Rattle.step_refinement.specs.view_state.Views.{is_frozen, is_coordinator, others_of, view_sent, view_sent_all, gathering_set, promised, begin_install, gathered, gather_on, own_answer, ask_others, next_view, may_ask, ask_if, ask_row, answered, prepare, prepare_row, answer_to, answer_row, refused_by, refuse_to, refuse_row, installed, install_row, taken_row, aged, prepare_again, tick_asks, note_stuck, asks_or_ages, gathering_ticks, install_again_of, install_again, views_at_work}
-use Rattle.step_refinement.specs.node_state.declared.happened.Happened.{Happened}
+use Rattle.rsct_packet.specs.declared.ids.ViewId.{ViewId}
+use Rattle.rsct_packet.specs.declared.mask.Mask.{Mask}
+use Rattle.rsct_packet.specs.Ids.{same_view, is_member}
+use Rattle.rsct_packet.specs.Mask.{has_node, with_node, nodes_of}
+use Rattle.rsct_packet.specs.Search.{Has, place_where, edit_where, insert_before}
+use Rattle.rsct_packet.proofs.HasLaws.{has_append, has_map}
+use Rattle.view_state.specs.declared.answer.Answer.{Answer}
+use Rattle.view_state.specs.declared.exchange.Exchange.{Exchange}
+use Rattle.view_state.specs.declared.sides.Kept.{Kept}
+use Rattle.view_state.specs.declared.sides.Side.{Side}
+use Rattle.view_state.specs.declared.install.Part.{Part}
+use Rattle.view_state.specs.declared.install.Source.{Source}
+use Rattle.view_state.specs.declared.install.Install.{Install}
+use Rattle.view_state.specs.Parts.{part_len}
+use Rattle.view_state.specs.Answers.{max_parts, opened, may_answer, has_answered, kept_of, is_beaten, better_of, is_kept_of, is_kept_above, with_kept_at, with_kept, with_parts, side_with, side_from, is_side_of, is_side_above, with_side_at, with_side, with_answer, all_answered, source_of, install_of, is_spelled}
+use Rattle.view_state.specs.declared.packet.ViewPacket.{ViewPacket}
+use Rattle.view_state.specs.declared.packet.ViewPacket.TheVariants as packet
+use Rattle.view_state.specs.declared.packet.ViewSend.{ViewSend}
+use Rattle.view_state.specs.declared.views.Views.{Views}
+use Rattle.view_state.specs.declared.views.RingAsk.{RingAsk}
+use Rattle.view_state.specs.declared.views.ViewWork.{ViewWork}
+use Rattle.view_state.specs.Views.{is_frozen, is_coordinator, others_of, view_sent, view_sent_all, gathering_set, promised, begin_install, gathered, gather_on, own_answer, ask_others, next_view, may_ask, ask_if, ask_row, answered, prepare, prepare_row, answer_to, answer_row, refused_by, refuse_to, refuse_row, installed, install_row, taken_row, aged, prepare_again, tick_asks, note_stuck, asks_or_ages, gathering_ticks, install_again_of, install_again, views_at_work}
+use Rattle.node_state.specs.declared.happened.Happened.{Happened}
 use Rattle.row_laws.specs.honest_votes.Casts.{EntriesCast, PartsCast, InstallCast, ExchangeCast, ViewPacketCast, GatheringCast, InstallIfCast, ViewsCast}
 
 has_insert : {A : Type 0} (test : A → Bool) (x y : A) (xs : List A) → Has y (insert_before test x xs) → (y ≡ x) ⊎ Has y xs

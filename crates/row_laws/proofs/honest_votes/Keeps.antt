@@ -2,26 +2,26 @@
 use Rattle.std.proofs.Common.{◌≡◌, ◌⊎◌, ℕ, List, [], ◌∷◌, ◌++◌, Option, Some, None, Bool, true, false, refl, sym, ◌∙◌, subst, inl, inr, ⊎_elim}
 use Rattle.std.specs.Prelude.{◌||◌, fold, filter, not, if◌then◌else◌}
 use Rattle.std.specs.List.{flat_map}
-use Rattle.step_refinement.specs.rsct_packet.declared.ids.ProviderId.{ProviderId}
-use Rattle.step_refinement.specs.rsct_packet.declared.ids.ProtoId.{ProtoId}
-use Rattle.step_refinement.specs.rsct_packet.Providers.{among}
-use Rattle.step_refinement.specs.rsct_packet.Search.{Has}
-use Rattle.step_refinement.proofs.rsct_packet_laws.HasLaws.{has_append, has_filter}
-use Rattle.step_refinement.specs.proposal_core.declared.entry.Entry.{Entry}
-use Rattle.step_refinement.specs.proposal_core.declared.entry.Entry.TheVariants.{Once, Begin, Phase, Approve, Reject, Late}
-use Rattle.step_refinement.specs.proposal_core.declared.proposal.Proposal.{Proposal}
-use Rattle.step_refinement.specs.proposal_core.declared.proposal.Proposal.TheVariants.{Join, Leave, Fail, Expel, State, Message, Attributes, Reflect}
-use Rattle.step_refinement.specs.proposal_core.declared.group_state.GroupState.{GroupState}
-use Rattle.step_refinement.specs.client_callbacks.declared.ballot.Filled.{Filled}
-use Rattle.step_refinement.specs.client_callbacks.declared.told.Why.{Why}
-use Rattle.step_refinement.specs.client_callbacks.Ballots.{BallotView}
-use Rattle.step_refinement.specs.session_state.declared.casts.Cast.{Cast}
-use Rattle.step_refinement.specs.session_state.declared.state.KeptBallot.{KeptBallot}
-use Rattle.step_refinement.specs.session_state.declared.state.Request.{Request}
-use Rattle.step_refinement.specs.session_state.declared.state.SessionState.{SessionState}
-use Rattle.step_refinement.specs.session_state.State.{is_kept_in, outstanding, with_provider, end_request, without_providers}
-use Rattle.step_refinement.specs.session_state.HandOn.{kept_ended, kept_after, beginners, hearers, part_taken, taking_part, opened_after, open_phases, kept_by, keep_casts, proposal_begun, requests_after, removed_from, casts_out, heard, handed_on, takes_telling, told_of, take_telling, is_join_request, is_dissolved}
-use Rattle.step_refinement.specs.node_state.declared.happened.Happened.{Happened}
+use Rattle.rsct_packet.specs.declared.ids.ProviderId.{ProviderId}
+use Rattle.rsct_packet.specs.declared.ids.ProtoId.{ProtoId}
+use Rattle.rsct_packet.specs.Providers.{among}
+use Rattle.rsct_packet.specs.Search.{Has}
+use Rattle.rsct_packet.proofs.HasLaws.{has_append, has_filter}
+use Rattle.proposal_core.specs.declared.entry.Entry.{Entry}
+use Rattle.proposal_core.specs.declared.entry.Entry.TheVariants.{Once, Begin, Phase, Approve, Reject, Late}
+use Rattle.proposal_core.specs.declared.proposal.Proposal.{Proposal}
+use Rattle.proposal_core.specs.declared.proposal.Proposal.TheVariants.{Join, Leave, Fail, Expel, State, Message, Attributes, Reflect}
+use Rattle.proposal_core.specs.declared.group_state.GroupState.{GroupState}
+use Rattle.client_callbacks.specs.declared.ballot.Filled.{Filled}
+use Rattle.client_callbacks.specs.declared.told.Why.{Why}
+use Rattle.client_callbacks.specs.Ballots.{BallotView}
+use Rattle.session_state.specs.declared.casts.Cast.{Cast}
+use Rattle.session_state.specs.declared.state.KeptBallot.{KeptBallot}
+use Rattle.session_state.specs.declared.state.Request.{Request}
+use Rattle.session_state.specs.declared.state.SessionState.{SessionState}
+use Rattle.session_state.specs.State.{is_kept_in, outstanding, with_provider, end_request, without_providers}
+use Rattle.session_state.specs.HandOn.{kept_ended, kept_after, beginners, hearers, part_taken, taking_part, opened_after, open_phases, kept_by, keep_casts, proposal_begun, requests_after, removed_from, casts_out, heard, handed_on, takes_telling, told_of, take_telling, is_join_request, is_dissolved}
+use Rattle.node_state.specs.declared.happened.Happened.{Happened}
 use Rattle.row_laws.specs.honest_votes.Casts.{KeptCast}
 use Rattle.row_laws.proofs.honest_votes.Sends.{CastIs}
 

@@ -1,25 +1,25 @@
 -- What was cast stays so where more is recorded.
 use Rattle.std.proofs.Common.{ℕ, List, Option, Some, None}
-use Rattle.step_refinement.specs.rsct_packet.declared.ids.ProviderId.{ProviderId}
-use Rattle.step_refinement.specs.rsct_packet.declared.ids.ProtoId.{ProtoId}
-use Rattle.step_refinement.specs.rsct_packet.Search.{Has}
-use Rattle.step_refinement.specs.proposal_core.declared.entry.Vote.{Vote}
-use Rattle.step_refinement.specs.proposal_core.declared.entry.RowVote.{RowVote}
-use Rattle.step_refinement.specs.proposal_core.declared.entry.RowVote.TheVariants as row_vote
-use Rattle.step_refinement.specs.proposal_core.declared.entry.Entry.{Entry}
-use Rattle.step_refinement.specs.proposal_core.declared.entry.Entry.TheVariants.{Once, Begin, Phase, Approve, Reject, Late}
-use Rattle.step_refinement.specs.proposal_core.declared.group_state.Running.{Running}
-use Rattle.step_refinement.specs.vote_phases.Tally.{TallyView}
-use Rattle.step_refinement.specs.client_callbacks.declared.ballot.Filled.{Filled}
-use Rattle.step_refinement.specs.view_state.declared.install.Part.{Part}
-use Rattle.step_refinement.specs.view_state.declared.install.Install.{Install}
-use Rattle.step_refinement.specs.view_state.declared.exchange.Exchange.{Exchange}
-use Rattle.step_refinement.specs.view_state.declared.packet.ViewPacket.{ViewPacket}
-use Rattle.step_refinement.specs.view_state.declared.packet.ViewPacket.TheVariants as view
-use Rattle.step_refinement.specs.view_state.declared.views.Views.{Views}
-use Rattle.step_refinement.specs.node_state.declared.happened.Happened.{Happened}
-use Rattle.step_refinement.specs.node_state.declared.packet.Body.{Body}
-use Rattle.step_refinement.specs.node_state.declared.packet.Body.TheVariants as body
+use Rattle.rsct_packet.specs.declared.ids.ProviderId.{ProviderId}
+use Rattle.rsct_packet.specs.declared.ids.ProtoId.{ProtoId}
+use Rattle.rsct_packet.specs.Search.{Has}
+use Rattle.proposal_core.specs.declared.entry.Vote.{Vote}
+use Rattle.proposal_core.specs.declared.entry.RowVote.{RowVote}
+use Rattle.proposal_core.specs.declared.entry.RowVote.TheVariants as row_vote
+use Rattle.proposal_core.specs.declared.entry.Entry.{Entry}
+use Rattle.proposal_core.specs.declared.entry.Entry.TheVariants.{Once, Begin, Phase, Approve, Reject, Late}
+use Rattle.proposal_core.specs.declared.group_state.Running.{Running}
+use Rattle.vote_phases.specs.Tally.{TallyView}
+use Rattle.client_callbacks.specs.declared.ballot.Filled.{Filled}
+use Rattle.view_state.specs.declared.install.Part.{Part}
+use Rattle.view_state.specs.declared.install.Install.{Install}
+use Rattle.view_state.specs.declared.exchange.Exchange.{Exchange}
+use Rattle.view_state.specs.declared.packet.ViewPacket.{ViewPacket}
+use Rattle.view_state.specs.declared.packet.ViewPacket.TheVariants as view
+use Rattle.view_state.specs.declared.views.Views.{Views}
+use Rattle.node_state.specs.declared.happened.Happened.{Happened}
+use Rattle.node_state.specs.declared.packet.Body.{Body}
+use Rattle.node_state.specs.declared.packet.Body.TheVariants as body
 use Rattle.row_laws.specs.honest_votes.Casts.{IsCast, RowCast, EntryCast, EntriesCast, PartsCast, InstallCast, ExchangeCast, ViewPacketCast, BodyCast, BallotCast, GatheringCast, InstallIfCast, ViewsCast, VoterCast, TallyCast}
 
 module _ (rs ts : List Happened) (more : (r : Happened) → Has r rs → Has r ts) where

@@ -2,41 +2,41 @@
 use Rattle.std.proofs.Common.{◌≡◌, ℕ, List, [], ◌∷◌, ◌++◌, length, Some, Bool, true, false, refl, sym, ap, ◌∙◌, subst}
 use Rattle.std.specs.Prelude.{◌==◌, slice_get}
 use Rattle.std.proofs.lemmas.Bool.{eqb-true, eq-eqb}
-use Rattle.step_refinement.specs.rsct_packet.declared.ids.ViewId.{ViewId}
-use Rattle.step_refinement.specs.rsct_packet.declared.ids.ProviderId.{ProviderId}
-use Rattle.step_refinement.specs.rsct_packet.declared.mask.Mask.{Mask}
-use Rattle.step_refinement.specs.rsct_packet.Search.{Has}
-use Rattle.step_refinement.proofs.rsct_packet_laws.HasLaws.{append_has_right}
-use Rattle.step_refinement.specs.group_attr.declared.attrs.Phases.{Phases}
-use Rattle.step_refinement.specs.proposal_core.declared.entry.Entry.{Entry}
-use Rattle.step_refinement.specs.proposal_core.declared.proposal.Proposal.{Proposal}
-use Rattle.step_refinement.specs.view_state.declared.packet.ViewPacket.{ViewPacket}
-use Rattle.step_refinement.specs.view_state.declared.packet.ViewPacket.TheVariants as view
-use Rattle.step_refinement.specs.view_state.declared.views.ViewWork.{ViewWork}
-use Rattle.step_refinement.specs.view_state.Views.{views_at_work, ask_row, prepare_row, answer_row, refuse_row, install_row, taken_row}
-use Rattle.step_refinement.specs.node_state.declared.config.Mode.{Mode}
-use Rattle.step_refinement.specs.node_state.declared.config.Mode.TheVariants.{Fixed, Asked, Rings}
-use Rattle.step_refinement.specs.node_state.declared.group.GroupRow.{GroupRow}
-use Rattle.step_refinement.specs.node_state.declared.packet.Body.{Body}
-use Rattle.step_refinement.specs.node_state.declared.packet.Body.TheVariants as body
-use Rattle.step_refinement.specs.node_state.declared.packet.Packet.{Packet}
-use Rattle.step_refinement.specs.node_state.declared.state.Core.{Core}
-use Rattle.step_refinement.specs.node_state.Settings.{is_fixed}
-use Rattle.step_refinement.specs.node_state.State.{row_of, with_row, len_of, is_this, leader_by, leader_in, leads_in, leads, set_leader}
-use Rattle.step_refinement.specs.node_state.HandOn.{Answering}
-use Rattle.step_refinement.specs.node_state.Following.{take_lookup, take_name, take_request, take_tell, take_entry, take_ack, take_vote, take_gone}
-use Rattle.step_refinement.specs.node_state.Applying.{own_parts, views_taken}
-use Rattle.step_refinement.specs.node_state.Status.{status_text}
-use Rattle.step_refinement.specs.node_state.Ticks.{tick_rings, tick_views, tick_owed, tick_row}
-use Rattle.step_refinement.specs.node_state.Ending.{end_step}
-use Rattle.step_refinement.specs.node_state.Step.{NodeEvent, Ticks, Asks, Given, Calls, Garbage, is_used, used_if, take_order, view_row, take_body, packet_row, event_row, stepped, at_work}
-use Rattle.step_refinement.specs.run_safety.Past.{records_of}
-use Rattle.step_refinement.specs.run_safety.Group.{member}
-use Rattle.step_refinement.specs.run_safety.Group as group
-use Rattle.step_refinement.proofs.run_safety_laws.Whole.{Whole}
-use Rattle.step_refinement.proofs.run_safety_laws.Lives.{whole}
-use Rattle.step_refinement.proofs.run_safety_laws.Parts.{member_parts}
-use Rattle.step_refinement.proofs.node_state_laws.NameOrder.{row_here}
+use Rattle.rsct_packet.specs.declared.ids.ViewId.{ViewId}
+use Rattle.rsct_packet.specs.declared.ids.ProviderId.{ProviderId}
+use Rattle.rsct_packet.specs.declared.mask.Mask.{Mask}
+use Rattle.rsct_packet.specs.Search.{Has}
+use Rattle.rsct_packet.proofs.HasLaws.{append_has_right}
+use Rattle.group_attr.specs.declared.attrs.Phases.{Phases}
+use Rattle.proposal_core.specs.declared.entry.Entry.{Entry}
+use Rattle.proposal_core.specs.declared.proposal.Proposal.{Proposal}
+use Rattle.view_state.specs.declared.packet.ViewPacket.{ViewPacket}
+use Rattle.view_state.specs.declared.packet.ViewPacket.TheVariants as view
+use Rattle.view_state.specs.declared.views.ViewWork.{ViewWork}
+use Rattle.view_state.specs.Views.{views_at_work, ask_row, prepare_row, answer_row, refuse_row, install_row, taken_row}
+use Rattle.node_state.specs.declared.config.Mode.{Mode}
+use Rattle.node_state.specs.declared.config.Mode.TheVariants.{Fixed, Asked, Rings}
+use Rattle.node_state.specs.declared.group.GroupRow.{GroupRow}
+use Rattle.node_state.specs.declared.packet.Body.{Body}
+use Rattle.node_state.specs.declared.packet.Body.TheVariants as body
+use Rattle.node_state.specs.declared.packet.Packet.{Packet}
+use Rattle.node_state.specs.declared.state.Core.{Core}
+use Rattle.node_state.specs.Settings.{is_fixed}
+use Rattle.node_state.specs.State.{row_of, with_row, len_of, is_this, leader_by, leader_in, leads_in, leads, set_leader}
+use Rattle.node_state.specs.HandOn.{Answering}
+use Rattle.node_state.specs.Following.{take_lookup, take_name, take_request, take_tell, take_entry, take_ack, take_vote, take_gone}
+use Rattle.node_state.specs.Applying.{own_parts, views_taken}
+use Rattle.node_state.specs.Status.{status_text}
+use Rattle.node_state.specs.Ticks.{tick_rings, tick_views, tick_owed, tick_row}
+use Rattle.node_state.specs.Ending.{end_step}
+use Rattle.node_state.specs.Step.{NodeEvent, Ticks, Asks, Given, Calls, Garbage, is_used, used_if, take_order, view_row, take_body, packet_row, event_row, stepped, at_work}
+use Rattle.run_safety.specs.Past.{records_of}
+use Rattle.run_safety.specs.Group.{member}
+use Rattle.run_safety.specs.Group as group
+use Rattle.run_safety.proofs.Whole.{Whole}
+use Rattle.run_safety.proofs.Lives.{whole}
+use Rattle.run_safety.proofs.Parts.{member_parts}
+use Rattle.node_state.proofs.NameOrder.{row_here}
 use Rattle.step_refinement.specs.Tied.{ShowsBody, ShowsEntry, ShowsLeader, ShowsRequest, Scene, opening_of, Tied}
 use Rattle.step_refinement.specs.Rows.{acted, Arises}
 use Rattle.step_refinement.proofs.Acks.{used_is}

@@ -1,41 +1,41 @@
 -- A tick keeps that votes were cast.
 use Rattle.std.proofs.Common.{◌≡◌, ℕ, zero, suc, ◌+◌, ◌-◌, List, [], ◌∷◌, ◌++◌, take, drop, Option, Some, None, Bool, true, false, refl, sym, ap, subst, inl, inr}
 use Rattle.std.specs.Prelude.{◌==◌, ◌&&◌, not, filter, fold, find}
-use Rattle.step_refinement.specs.rsct_packet.declared.mask.Mask.{Mask}
-use Rattle.step_refinement.specs.rsct_packet.Mask.{nodes_of}
-use Rattle.step_refinement.specs.rsct_packet.declared.ids.ProviderId.{ProviderId}
-use Rattle.step_refinement.specs.rsct_packet.Search.{Has}
-use Rattle.step_refinement.proofs.rsct_packet_laws.HasLaws.{find_has}
-use Rattle.step_refinement.specs.proposal_core.declared.entry.Entry.{Entry}
-use Rattle.step_refinement.specs.proposal_core.declared.entry.Entry.TheVariants.{Late}
-use Rattle.step_refinement.specs.proposal_core.declared.group_state.Running.{Running}
-use Rattle.step_refinement.specs.proposal_core.Fold.{present, apply}
-use Rattle.step_refinement.specs.proposal_core.GroupView.{GroupView}
-use Rattle.step_refinement.specs.proposal_core.Lists.{state_in}
-use Rattle.step_refinement.specs.adapter_ring.declared.ring.Ring.{Ring}
-use Rattle.step_refinement.specs.adapter_ring.declared.ring.RingSet.{RingSet}
-use Rattle.step_refinement.specs.adapter_ring.declared.packet.RingSend.{RingSend}
-use Rattle.step_refinement.specs.adapter_ring.declared.packet.RingPacket.{RingPacket}
-use Rattle.step_refinement.specs.adapter_ring.declared.packet.RingEvent.TheVariants as ring_event
-use Rattle.step_refinement.specs.adapter_ring.declared.work.RingWork.{RingWork}
-use Rattle.step_refinement.specs.adapter_ring.Rings.{ring_step}
-use Rattle.step_refinement.specs.node_reach.declared.reach.Reach.{Reach}
-use Rattle.step_refinement.specs.node_reach.Reach as reach
-use Rattle.step_refinement.specs.packet_bodies.declared.body.ReportRow.{ReportRow}
-use Rattle.step_refinement.specs.vote_phases.Tally.{TallyView, expires, open_voters}
-use Rattle.step_refinement.specs.view_state.Views.{views_at_work, gathering_ticks, install_again}
-use Rattle.step_refinement.specs.node_state.declared.group.GroupRow.{GroupRow}
-use Rattle.step_refinement.specs.node_state.declared.happened.Happened.{Happened}
-use Rattle.step_refinement.specs.node_state.declared.packet.Body.TheVariants as body
-use Rattle.step_refinement.specs.node_state.declared.state.Core.{Core}
-use Rattle.step_refinement.specs.node_state.Settings.{is_rings}
-use Rattle.step_refinement.specs.node_state.State.{row_found, row_of, led_of, state_of, held_rows, fits_at_end, frozen, leader_of, led_groups, others, acked_by, least_acked, with_led, has_name}
-use Rattle.step_refinement.specs.node_state.Sending.{sent, send_on, send_if_known, send_requests, send_votes_again}
-use Rattle.step_refinement.specs.node_state.HandOn.{Answering}
-use Rattle.step_refinement.specs.node_state.Leading.{append_if_fits, with_tally}
-use Rattle.step_refinement.specs.node_state.Applying.{own_parts, views_taken}
-use Rattle.step_refinement.specs.node_state.Ticks.{ring_put, set_records, ring_taken, ring_row_of, ring_row, row_reported, take_report, rings_union, report_of, send_report, rings_tick, tick_rings, ring_ask, tick_views, is_lost, lost_told, tick_owed, late_appended, announced, ticked_in, tally_ticks, entries_sent, list_sent_again, sent_again, tick_group, tick_led}
-use Rattle.step_refinement.specs.run_safety.Past.{History, records_of}
+use Rattle.rsct_packet.specs.declared.mask.Mask.{Mask}
+use Rattle.rsct_packet.specs.Mask.{nodes_of}
+use Rattle.rsct_packet.specs.declared.ids.ProviderId.{ProviderId}
+use Rattle.rsct_packet.specs.Search.{Has}
+use Rattle.rsct_packet.proofs.HasLaws.{find_has}
+use Rattle.proposal_core.specs.declared.entry.Entry.{Entry}
+use Rattle.proposal_core.specs.declared.entry.Entry.TheVariants.{Late}
+use Rattle.proposal_core.specs.declared.group_state.Running.{Running}
+use Rattle.proposal_core.specs.Fold.{present, apply}
+use Rattle.proposal_core.specs.GroupView.{GroupView}
+use Rattle.proposal_core.specs.Lists.{state_in}
+use Rattle.adapter_ring.specs.declared.ring.Ring.{Ring}
+use Rattle.adapter_ring.specs.declared.ring.RingSet.{RingSet}
+use Rattle.adapter_ring.specs.declared.packet.RingSend.{RingSend}
+use Rattle.adapter_ring.specs.declared.packet.RingPacket.{RingPacket}
+use Rattle.adapter_ring.specs.declared.packet.RingEvent.TheVariants as ring_event
+use Rattle.adapter_ring.specs.declared.work.RingWork.{RingWork}
+use Rattle.adapter_ring.specs.Rings.{ring_step}
+use Rattle.node_reach.specs.declared.reach.Reach.{Reach}
+use Rattle.node_reach.specs.Reach as reach
+use Rattle.packet_bodies.specs.declared.body.ReportRow.{ReportRow}
+use Rattle.vote_phases.specs.Tally.{TallyView, expires, open_voters}
+use Rattle.view_state.specs.Views.{views_at_work, gathering_ticks, install_again}
+use Rattle.node_state.specs.declared.group.GroupRow.{GroupRow}
+use Rattle.node_state.specs.declared.happened.Happened.{Happened}
+use Rattle.node_state.specs.declared.packet.Body.TheVariants as body
+use Rattle.node_state.specs.declared.state.Core.{Core}
+use Rattle.node_state.specs.Settings.{is_rings}
+use Rattle.node_state.specs.State.{row_found, row_of, led_of, state_of, held_rows, fits_at_end, frozen, leader_of, led_groups, others, acked_by, least_acked, with_led, has_name}
+use Rattle.node_state.specs.Sending.{sent, send_on, send_if_known, send_requests, send_votes_again}
+use Rattle.node_state.specs.HandOn.{Answering}
+use Rattle.node_state.specs.Leading.{append_if_fits, with_tally}
+use Rattle.node_state.specs.Applying.{own_parts, views_taken}
+use Rattle.node_state.specs.Ticks.{ring_put, set_records, ring_taken, ring_row_of, ring_row, row_reported, take_report, rings_union, report_of, send_report, rings_tick, tick_rings, ring_ask, tick_views, is_lost, lost_told, tick_owed, late_appended, announced, ticked_in, tally_ticks, entries_sent, list_sent_again, sent_again, tick_group, tick_led}
+use Rattle.run_safety.specs.Past.{History, records_of}
 use Rattle.row_laws.specs.honest_votes.Casts.{RecordCast, EntriesCast, ListCast, TallyCast}
 use Rattle.row_laws.proofs.honest_votes.At.{found, leads_row, RowIs, At, at_fold, at_sent, at_sent_on, at_recorded_all, at_row}
 use Rattle.row_laws.proofs.honest_votes.Sends.{at_sent_all, at_sent_if_known, at_requests_sent, at_votes_again}

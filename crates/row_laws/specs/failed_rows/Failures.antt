@@ -1,32 +1,32 @@
 -- Why entries say that providers failed: the default rows of those who failed, and what failure leaves name.
 use Rattle.std.specs.Prelude.{◌≡◌, ◌⊎◌, ℕ, true, false, List, [], ◌∷◌, ◌++◌, Some}
 use Rattle.std.specs.List.{list_any}
-use Rattle.step_refinement.specs.rsct_packet.declared.ids.ViewId.{ViewId}
-use Rattle.step_refinement.specs.rsct_packet.declared.ids.ProviderId.{ProviderId}
-use Rattle.step_refinement.specs.rsct_packet.Ids.{same_view}
-use Rattle.step_refinement.specs.rsct_packet.Providers.{among}
-use Rattle.step_refinement.specs.rsct_packet.Search.{Has}
-use Rattle.step_refinement.specs.proposal_core.declared.entry.RowVote.{RowVote}
-use Rattle.step_refinement.specs.proposal_core.declared.entry.RowVote.TheVariants as row_vote
-use Rattle.step_refinement.specs.proposal_core.declared.entry.Row.{Row}
-use Rattle.step_refinement.specs.proposal_core.declared.entry.Closed.{Closed}
-use Rattle.step_refinement.specs.proposal_core.declared.entry.Entry.{Entry}
-use Rattle.step_refinement.specs.proposal_core.declared.entry.Entry.TheVariants.{Once, Begin, Phase, Approve, Reject, Late}
-use Rattle.step_refinement.specs.proposal_core.declared.proposal.Cause.{Cause}
-use Rattle.step_refinement.specs.proposal_core.declared.proposal.Cause.TheVariants.{Died, Gone, Cast}
-use Rattle.step_refinement.specs.proposal_core.declared.proposal.Failure.{Failure}
-use Rattle.step_refinement.specs.proposal_core.declared.proposal.Proposal.{Proposal}
-use Rattle.step_refinement.specs.proposal_core.declared.proposal.Proposal.TheVariants.{Join, Leave, Fail, Expel, State, Message, Attributes, Reflect}
-use Rattle.step_refinement.specs.proposal_core.declared.group_state.GroupState.{GroupState}
-use Rattle.step_refinement.specs.proposal_core.Fold.{empty_state, present}
-use Rattle.step_refinement.specs.source_target.Due.{allowed}
-use Rattle.step_refinement.specs.client_callbacks.declared.told.Why.{Why}
-use Rattle.step_refinement.specs.session_state.HandOn.{is_dissolved}
-use Rattle.step_refinement.specs.node_state.declared.happened.Happened.{Happened}
-use Rattle.step_refinement.specs.node_state.declared.happened.Happened.TheVariants.{In, Base, Put, Heard, Told}
-use Rattle.step_refinement.specs.world_model.Run.{Happening}
-use Rattle.step_refinement.specs.run_safety.Past.{History, records_of, earlier, fold_from, view_now, inc_now, EachEvent}
-use Rattle.step_refinement.specs.run_safety.Stays.{Stay, stays, is_join_of, is_refused, client_of, goodbye_of, was_let_go}
+use Rattle.rsct_packet.specs.declared.ids.ViewId.{ViewId}
+use Rattle.rsct_packet.specs.declared.ids.ProviderId.{ProviderId}
+use Rattle.rsct_packet.specs.Ids.{same_view}
+use Rattle.rsct_packet.specs.Providers.{among}
+use Rattle.rsct_packet.specs.Search.{Has}
+use Rattle.proposal_core.specs.declared.entry.RowVote.{RowVote}
+use Rattle.proposal_core.specs.declared.entry.RowVote.TheVariants as row_vote
+use Rattle.proposal_core.specs.declared.entry.Row.{Row}
+use Rattle.proposal_core.specs.declared.entry.Closed.{Closed}
+use Rattle.proposal_core.specs.declared.entry.Entry.{Entry}
+use Rattle.proposal_core.specs.declared.entry.Entry.TheVariants.{Once, Begin, Phase, Approve, Reject, Late}
+use Rattle.proposal_core.specs.declared.proposal.Cause.{Cause}
+use Rattle.proposal_core.specs.declared.proposal.Cause.TheVariants.{Died, Gone, Cast}
+use Rattle.proposal_core.specs.declared.proposal.Failure.{Failure}
+use Rattle.proposal_core.specs.declared.proposal.Proposal.{Proposal}
+use Rattle.proposal_core.specs.declared.proposal.Proposal.TheVariants.{Join, Leave, Fail, Expel, State, Message, Attributes, Reflect}
+use Rattle.proposal_core.specs.declared.group_state.GroupState.{GroupState}
+use Rattle.proposal_core.specs.Fold.{empty_state, present}
+use Rattle.source_target.specs.Due.{allowed}
+use Rattle.client_callbacks.specs.declared.told.Why.{Why}
+use Rattle.session_state.specs.HandOn.{is_dissolved}
+use Rattle.node_state.specs.declared.happened.Happened.{Happened}
+use Rattle.node_state.specs.declared.happened.Happened.TheVariants.{In, Base, Put, Heard, Told}
+use Rattle.world_model.specs.Run.{Happening}
+use Rattle.run_safety.specs.Past.{History, records_of, earlier, fold_from, view_now, inc_now, EachEvent}
+use Rattle.run_safety.specs.Stays.{Stay, stays, is_join_of, is_refused, client_of, goodbye_of, was_let_go}
 
 -- ---- the group's state at a node, by its records
 

@@ -1,35 +1,35 @@
 -- What a node does in a step, change by change: what it records of puts and of what is heard, and what it makes of its clients.
 use Rattle.std.specs.Prelude.{◌≡◌, ◌≤◌, ℕ, Bool, false, List, [], filter, flat_map, Option, Some}
 use Rattle.std.specs.List.{list_any}
-use Rattle.step_refinement.specs.rsct_packet.declared.ids.ProviderId.{ProviderId}
-use Rattle.step_refinement.specs.rsct_packet.Search.{Has}
-use Rattle.step_refinement.specs.group_attr.declared.attrs.Attrs.{Attrs}
-use Rattle.step_refinement.specs.proposal_core.declared.entry.Entry.{Entry}
-use Rattle.step_refinement.specs.proposal_core.declared.group_state.GroupState.{GroupState}
-use Rattle.step_refinement.specs.subscribe_core.declared.subs.ClientToken.{ClientToken}
-use Rattle.step_refinement.specs.client_callbacks.declared.ballot.Filled.{Filled}
-use Rattle.step_refinement.specs.session_state.declared.state.OpenPhase.{OpenPhase}
-use Rattle.step_refinement.specs.session_state.declared.state.Provider.{Provider}
-use Rattle.step_refinement.specs.session_state.declared.state.KeptBallot.{KeptBallot}
-use Rattle.step_refinement.specs.session_state.declared.state.SessionState.{SessionState}
-use Rattle.step_refinement.specs.session_state.State.{is_kept_for, provider_of}
-use Rattle.step_refinement.specs.session_state.Calls.{join_asked, keeps}
-use Rattle.step_refinement.specs.session_state.HandOn.{casts_out}
-use Rattle.step_refinement.specs.session_state.HandOn as session
-use Rattle.step_refinement.specs.view_state.declared.install.Install.{Install}
-use Rattle.step_refinement.specs.view_state.Bases.{bases_of}
-use Rattle.step_refinement.specs.node_state.declared.happened.Happened.{Happened}
-use Rattle.step_refinement.specs.node_state.declared.happened.Happened.TheVariants as happened
-use Rattle.step_refinement.specs.node_state.declared.state.Core.{Core}
-use Rattle.step_refinement.specs.node_state.State.{InNameOrder, state_of, len_of, held_rows, recorded, recorded_all, with_sessions}
-use Rattle.step_refinement.specs.node_state.HandOn.{Answering, heard}
-use Rattle.step_refinement.specs.node_state.Leading.{put}
-use Rattle.step_refinement.specs.node_state.Applying.{view_entered, sides_dissolved}
-use Rattle.step_refinement.specs.node_state.Step.{NodeEvent, at_work, stepped}
-use Rattle.step_refinement.specs.run_safety.ViewOrder.{Lt}
+use Rattle.rsct_packet.specs.declared.ids.ProviderId.{ProviderId}
+use Rattle.rsct_packet.specs.Search.{Has}
+use Rattle.group_attr.specs.declared.attrs.Attrs.{Attrs}
+use Rattle.proposal_core.specs.declared.entry.Entry.{Entry}
+use Rattle.proposal_core.specs.declared.group_state.GroupState.{GroupState}
+use Rattle.subscribe_core.specs.declared.subs.ClientToken.{ClientToken}
+use Rattle.client_callbacks.specs.declared.ballot.Filled.{Filled}
+use Rattle.session_state.specs.declared.state.OpenPhase.{OpenPhase}
+use Rattle.session_state.specs.declared.state.Provider.{Provider}
+use Rattle.session_state.specs.declared.state.KeptBallot.{KeptBallot}
+use Rattle.session_state.specs.declared.state.SessionState.{SessionState}
+use Rattle.session_state.specs.State.{is_kept_for, provider_of}
+use Rattle.session_state.specs.Calls.{join_asked, keeps}
+use Rattle.session_state.specs.HandOn.{casts_out}
+use Rattle.session_state.specs.HandOn as session
+use Rattle.view_state.specs.declared.install.Install.{Install}
+use Rattle.view_state.specs.Bases.{bases_of}
+use Rattle.node_state.specs.declared.happened.Happened.{Happened}
+use Rattle.node_state.specs.declared.happened.Happened.TheVariants as happened
+use Rattle.node_state.specs.declared.state.Core.{Core}
+use Rattle.node_state.specs.State.{InNameOrder, state_of, len_of, held_rows, recorded, recorded_all, with_sessions}
+use Rattle.node_state.specs.HandOn.{Answering, heard}
+use Rattle.node_state.specs.Leading.{put}
+use Rattle.node_state.specs.Applying.{view_entered, sides_dissolved}
+use Rattle.node_state.specs.Step.{NodeEvent, at_work, stepped}
+use Rattle.run_safety.specs.ViewOrder.{Lt}
 use Rattle.step_refinement.specs.Tied.{Scene}
 use Rattle.step_refinement.specs.Runs.{Reached}
-use Rattle.step_refinement.specs.node_state.declared.config.Config.{Config}
+use Rattle.node_state.specs.declared.config.Config.{Config}
 
 -- what a provider's hearing depends on stays
 pub record Same (s t : Core) : Type 0 where

@@ -1,13 +1,13 @@
 -- Of every scene that events lead to.
 use Rattle.std.specs.Prelude.{ℕ, ◌≡◌, List, Some}
-use Rattle.step_refinement.specs.rsct_packet.Search.{Has}
-use Rattle.step_refinement.specs.node_state.declared.config.Config.{Config}
-use Rattle.step_refinement.specs.node_state.declared.packet.Packet.{Packet}
-use Rattle.step_refinement.specs.node_state.declared.group.GroupRow.{GroupRow}
-use Rattle.step_refinement.specs.node_state.declared.state.Core.{Core}
-use Rattle.step_refinement.specs.node_state.State.{led_of, state_of}
-use Rattle.step_refinement.specs.session_state.declared.state.KeptBallot.{KeptBallot}
-use Rattle.step_refinement.specs.run_safety.Past.{records_of}
+use Rattle.rsct_packet.specs.Search.{Has}
+use Rattle.node_state.specs.declared.config.Config.{Config}
+use Rattle.node_state.specs.declared.packet.Packet.{Packet}
+use Rattle.node_state.specs.declared.group.GroupRow.{GroupRow}
+use Rattle.node_state.specs.declared.state.Core.{Core}
+use Rattle.node_state.specs.State.{led_of, state_of}
+use Rattle.session_state.specs.declared.state.KeptBallot.{KeptBallot}
+use Rattle.run_safety.specs.Past.{records_of}
 use Rattle.step_refinement.specs.Tied.{Scene}
 use Rattle.step_refinement.specs.Runs.{Reached}
 use Rattle.row_laws.specs.honest_votes.Casts.{BodyCast, KeptCast, ListCast, ViewsCast, TallyCast, VotesWereCast}

@@ -4,32 +4,32 @@ use Rattle.std.specs.Prelude.{◌==◌, ◌&&◌, reverse, map, if◌then◌else
 use Rattle.std.specs.Str.{bytes_eq}
 use Rattle.std.proofs.lemmas.Bool.{eq-eqb}
 use Rattle.std.proofs.lemmas.Bool.Decides.{nat_tests}
-use Rattle.entry_laws.specs.rsct_packet.declared.ids.ViewId.{ViewId}
-use Rattle.entry_laws.specs.rsct_packet.declared.ids.Member.{Member}
-use Rattle.entry_laws.specs.rsct_packet.Ids.{same_view}
-use Rattle.entry_laws.specs.proposal_core.declared.group_state.GroupState.{GroupState}
-use Rattle.entry_laws.specs.proposal_core.Fold.{empty_state}
-use Rattle.entry_laws.specs.view_state.declared.install.Install.{Install}
-use Rattle.entry_laws.specs.view_state.declared.install.Base.{Base}
-use Rattle.entry_laws.specs.view_state.Bases.{bases_of}
-use Rattle.entry_laws.specs.view_state.Views.{views_entered}
-use Rattle.entry_laws.specs.node_state.declared.config.Config.{Config}
-use Rattle.entry_laws.specs.node_state.declared.happened.Happened.{Happened}
-use Rattle.entry_laws.specs.node_state.declared.happened.Happened.TheVariants as happened
-use Rattle.entry_laws.specs.node_state.declared.state.Core.{Core}
-use Rattle.entry_laws.specs.node_state.State.{with_row, held_rows, recorded, recorded_all, with_sessions}
-use Rattle.entry_laws.specs.node_state.Leading.{put}
-use Rattle.entry_laws.specs.node_state.Applying.{base_record, view_entered, sides_dissolved}
-use Rattle.entry_laws.specs.node_state.Step.{stepped, at_work}
-use Rattle.entry_laws.specs.run_safety.Past.{History, EachRecord, Within, earlier}
-use Rattle.entry_laws.specs.run_safety.Stays.{Stay, stays, with_base}
-use Rattle.entry_laws.specs.step_refinement.Tied.{Scene}
-use Rattle.entry_laws.specs.step_refinement.Runs.{Reached}
-use Rattle.entry_laws.proofs.step_refinement_laws.BaseOrder.{base_noted}
-use Rattle.entry_laws.specs.row_laws.hearing.Changes.{Inner, Does, Stays, Then, Records, Hands, Loses, Joins, Votes, Enters}
-use Rattle.entry_laws.proofs.row_laws_laws.hearing.Attending.{pushed, pushed_reverse}
-use Rattle.entry_laws.proofs.row_laws_laws.hearing.Listening.{steps_change}
-use Rattle.entry_laws.proofs.row_laws_laws.hearing.Added.{Adds, sides_add}
+use Rattle.rsct_packet.specs.declared.ids.ViewId.{ViewId}
+use Rattle.rsct_packet.specs.declared.ids.Member.{Member}
+use Rattle.rsct_packet.specs.Ids.{same_view}
+use Rattle.proposal_core.specs.declared.group_state.GroupState.{GroupState}
+use Rattle.proposal_core.specs.Fold.{empty_state}
+use Rattle.view_state.specs.declared.install.Install.{Install}
+use Rattle.view_state.specs.declared.install.Base.{Base}
+use Rattle.view_state.specs.Bases.{bases_of}
+use Rattle.view_state.specs.Views.{views_entered}
+use Rattle.node_state.specs.declared.config.Config.{Config}
+use Rattle.node_state.specs.declared.happened.Happened.{Happened}
+use Rattle.node_state.specs.declared.happened.Happened.TheVariants as happened
+use Rattle.node_state.specs.declared.state.Core.{Core}
+use Rattle.node_state.specs.State.{with_row, held_rows, recorded, recorded_all, with_sessions}
+use Rattle.node_state.specs.Leading.{put}
+use Rattle.node_state.specs.Applying.{base_record, view_entered, sides_dissolved}
+use Rattle.node_state.specs.Step.{stepped, at_work}
+use Rattle.run_safety.specs.Past.{History, EachRecord, Within, earlier}
+use Rattle.run_safety.specs.Stays.{Stay, stays, with_base}
+use Rattle.step_refinement.specs.Tied.{Scene}
+use Rattle.step_refinement.specs.Runs.{Reached}
+use Rattle.step_refinement.proofs.BaseOrder.{base_noted}
+use Rattle.row_laws.specs.hearing.Changes.{Inner, Does, Stays, Then, Records, Hands, Loses, Joins, Votes, Enters}
+use Rattle.row_laws.proofs.hearing.Attending.{pushed, pushed_reverse}
+use Rattle.row_laws.proofs.hearing.Listening.{steps_change}
+use Rattle.row_laws.proofs.hearing.Added.{Adds, sides_add}
 use Rattle.entry_laws.proofs.closing_rows.Told.{each_map}
 use Rattle.run_laws.proofs.failed_causes.Records.{NoBase, inner_none, none_pushed, turned_none, hands_none, each_scene}
 use Rattle.run_laws.specs.failed_causes.Passed.{latest_entries, BaseFirst, BasesComeFirst}

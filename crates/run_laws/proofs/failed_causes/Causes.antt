@@ -1,23 +1,23 @@
 -- So it is with the causes of each entry.
 use Rattle.std.proofs.Common.{◌≡◌, ◌⊎◌, ℕ, List, [], ◌∷◌, ◌++◌, true, refl, sym, ◌∙◌, inl, inr, append_assoc}
-use Rattle.entry_laws.specs.rsct_packet.declared.ids.ViewId.{ViewId}
-use Rattle.entry_laws.specs.rsct_packet.declared.ids.ProviderId.{ProviderId}
-use Rattle.entry_laws.specs.rsct_packet.Providers.{among}
-use Rattle.entry_laws.specs.proposal_core.declared.entry.RowVote.{RowVote}
-use Rattle.entry_laws.specs.proposal_core.declared.entry.RowVote.TheVariants as row_vote
-use Rattle.entry_laws.specs.proposal_core.declared.entry.Closed.{Closed}
-use Rattle.entry_laws.specs.proposal_core.declared.entry.Entry.{Entry}
-use Rattle.entry_laws.specs.proposal_core.declared.entry.Entry.TheVariants.{Once, Begin, Phase, Approve, Reject, Late}
-use Rattle.entry_laws.specs.proposal_core.declared.proposal.Cause.{Cause}
-use Rattle.entry_laws.specs.proposal_core.declared.proposal.Cause.TheVariants.{Died, Gone, Cast}
-use Rattle.entry_laws.specs.proposal_core.declared.proposal.Proposal.{Proposal}
-use Rattle.entry_laws.specs.proposal_core.declared.proposal.Proposal.TheVariants.{Join, Leave, Fail, Expel, State, Message, Attributes, Reflect}
-use Rattle.entry_laws.specs.proposal_core.declared.group_state.GroupState.{GroupState}
-use Rattle.entry_laws.specs.node_state.declared.happened.Happened.{Happened}
-use Rattle.entry_laws.specs.node_state.declared.happened.Happened.TheVariants as happened
-use Rattle.entry_laws.specs.run_safety.Past.{History, records_of, earlier, EachEvent}
-use Rattle.entry_laws.specs.row_laws.failed_rows.Failures.{GoneCause, RowFails, RowsFail, CauseHolds, LeavesFail, EntryFails, PutHolds, Since, EachPut, FailuresHaveCauses, state_held}
-use Rattle.entry_laws.proofs.row_laws_laws.failed_rows.Law.{reached, failures_are_honest}
+use Rattle.rsct_packet.specs.declared.ids.ViewId.{ViewId}
+use Rattle.rsct_packet.specs.declared.ids.ProviderId.{ProviderId}
+use Rattle.rsct_packet.specs.Providers.{among}
+use Rattle.proposal_core.specs.declared.entry.RowVote.{RowVote}
+use Rattle.proposal_core.specs.declared.entry.RowVote.TheVariants as row_vote
+use Rattle.proposal_core.specs.declared.entry.Closed.{Closed}
+use Rattle.proposal_core.specs.declared.entry.Entry.{Entry}
+use Rattle.proposal_core.specs.declared.entry.Entry.TheVariants.{Once, Begin, Phase, Approve, Reject, Late}
+use Rattle.proposal_core.specs.declared.proposal.Cause.{Cause}
+use Rattle.proposal_core.specs.declared.proposal.Cause.TheVariants.{Died, Gone, Cast}
+use Rattle.proposal_core.specs.declared.proposal.Proposal.{Proposal}
+use Rattle.proposal_core.specs.declared.proposal.Proposal.TheVariants.{Join, Leave, Fail, Expel, State, Message, Attributes, Reflect}
+use Rattle.proposal_core.specs.declared.group_state.GroupState.{GroupState}
+use Rattle.node_state.specs.declared.happened.Happened.{Happened}
+use Rattle.node_state.specs.declared.happened.Happened.TheVariants as happened
+use Rattle.run_safety.specs.Past.{History, records_of, earlier, EachEvent}
+use Rattle.row_laws.specs.failed_rows.Failures.{GoneCause, RowFails, RowsFail, CauseHolds, LeavesFail, EntryFails, PutHolds, Since, EachPut, FailuresHaveCauses, state_held}
+use Rattle.row_laws.proofs.failed_rows.Law.{reached, failures_are_honest}
 use Rattle.provider_laws.proofs.attending.OrderLaw.{heard_in_order}
 use Rattle.run_laws.specs.seen_runs.Seen.{Seen}
 use Rattle.run_laws.proofs.seen_runs.Scenes.{all_show}

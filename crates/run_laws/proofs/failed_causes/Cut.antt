@@ -4,17 +4,17 @@ use Rattle.std.specs.Prelude.{◌==◌, ◌&&◌, ◌||◌, is_some, is_none, if
 use Rattle.std.specs.List.{list_any}
 use Rattle.std.specs.Str.{bytes_eq}
 use Rattle.std.proofs.lemmas.Bool.{eqb-true}
-use Rattle.entry_laws.specs.rsct_packet.declared.ids.ViewId.{ViewId}
-use Rattle.entry_laws.specs.rsct_packet.declared.ids.ProviderId.{ProviderId}
-use Rattle.entry_laws.specs.rsct_packet.Ids.{same_view}
-use Rattle.entry_laws.specs.rsct_packet.Providers.{among}
-use Rattle.entry_laws.specs.proposal_core.declared.entry.Entry.{Entry}
-use Rattle.entry_laws.specs.proposal_core.Fold.{empty_state, present}
-use Rattle.entry_laws.specs.node_state.declared.happened.Happened.{Happened}
-use Rattle.entry_laws.specs.node_state.declared.happened.Happened.TheVariants as happened
-use Rattle.entry_laws.specs.run_safety.Stays.{Stay, stays, with_base, with_entry, is_join_of, part, passes, first_in}
-use Rattle.entry_laws.specs.row_laws.failed_rows.Failures.{state_of_stay}
-use Rattle.entry_laws.proofs.row_laws_laws.failed_rows.Grows.{there_first}
+use Rattle.rsct_packet.specs.declared.ids.ViewId.{ViewId}
+use Rattle.rsct_packet.specs.declared.ids.ProviderId.{ProviderId}
+use Rattle.rsct_packet.specs.Ids.{same_view}
+use Rattle.rsct_packet.specs.Providers.{among}
+use Rattle.proposal_core.specs.declared.entry.Entry.{Entry}
+use Rattle.proposal_core.specs.Fold.{empty_state, present}
+use Rattle.node_state.specs.declared.happened.Happened.{Happened}
+use Rattle.node_state.specs.declared.happened.Happened.TheVariants as happened
+use Rattle.run_safety.specs.Stays.{Stay, stays, with_base, with_entry, is_join_of, part, passes, first_in}
+use Rattle.row_laws.specs.failed_rows.Failures.{state_of_stay}
+use Rattle.row_laws.proofs.failed_rows.Grows.{there_first}
 use Rattle.run_laws.specs.failed_causes.Passed.{puts_join}
 use Rattle.run_laws.specs.failed_causes.Entering.{just_entered, FollowsEntering}
 use Rattle.run_laws.proofs.failed_causes.Ended.{Out, Firsts, none_named, any_more, out_step}

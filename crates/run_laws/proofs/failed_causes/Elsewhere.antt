@@ -3,42 +3,42 @@ use Rattle.std.proofs.Common.{◌≡◌, ℕ, List, [], ◌∷◌, ◌++◌, Som
 use Rattle.std.specs.Prelude.{◌==◌, ◌&&◌, reverse, map, if◌then◌else◌}
 use Rattle.std.specs.Str.{bytes_eq}
 use Rattle.std.proofs.lemmas.Bool.{eq-eqb}
-use Rattle.entry_laws.specs.rsct_packet.declared.ids.ViewId.{ViewId}
-use Rattle.entry_laws.specs.rsct_packet.declared.ids.Member.{Member}
-use Rattle.entry_laws.specs.rsct_packet.declared.ids.ProviderId.{ProviderId}
-use Rattle.entry_laws.specs.rsct_packet.Providers.{among}
-use Rattle.entry_laws.specs.rsct_packet.Search.{Has}
-use Rattle.entry_laws.specs.proposal_core.declared.group_state.GroupState.{GroupState}
-use Rattle.entry_laws.specs.proposal_core.Fold.{empty_state, present}
-use Rattle.entry_laws.specs.view_state.declared.install.Install.{Install}
-use Rattle.entry_laws.specs.view_state.declared.install.Base.{Base}
-use Rattle.entry_laws.specs.view_state.Bases.{bases_of}
-use Rattle.entry_laws.specs.view_state.Views.{views_entered}
-use Rattle.entry_laws.specs.node_state.declared.config.Config.{Config}
-use Rattle.entry_laws.specs.node_state.declared.happened.Happened.{Happened}
-use Rattle.entry_laws.specs.node_state.declared.happened.Happened.TheVariants as happened
-use Rattle.entry_laws.specs.node_state.declared.state.Core.{Core}
-use Rattle.entry_laws.specs.node_state.State.{row_of, with_row, list_of, state_of, len_of, held_rows, recorded, recorded_all, with_sessions}
-use Rattle.entry_laws.specs.node_state.HandOn.{Answering}
-use Rattle.entry_laws.specs.node_state.Leading.{put}
-use Rattle.entry_laws.specs.node_state.Applying.{base_record, view_entered, sides_dissolved}
-use Rattle.entry_laws.specs.node_state.Step.{NodeEvent, stepped, at_work}
-use Rattle.entry_laws.specs.world_model.declared.event.Event.{Event}
-use Rattle.entry_laws.specs.run_safety.ViewOrder.{Lt}
-use Rattle.entry_laws.specs.run_safety.Past.{History, EachRecord, Within, earlier, records_of, inc_now}
-use Rattle.entry_laws.specs.run_safety.Stays.{Stay, stays, with_base}
-use Rattle.entry_laws.specs.step_refinement.Tied.{Scene}
-use Rattle.entry_laws.specs.step_refinement.Rows.{Arises}
-use Rattle.entry_laws.specs.step_refinement.Runs.{Reached}
-use Rattle.entry_laws.proofs.step_refinement_laws.BaseOrder.{base_noted}
-use Rattle.entry_laws.specs.row_laws.hearing.Changes.{Inner, Unentered, Does, Stays, Then, Records, Hands, Loses, Joins, Votes, Enters}
-use Rattle.entry_laws.proofs.row_laws_laws.hearing.Attending.{pushed, pushed_reverse}
-use Rattle.entry_laws.proofs.row_laws_laws.hearing.Listening.{steps_change}
+use Rattle.rsct_packet.specs.declared.ids.ViewId.{ViewId}
+use Rattle.rsct_packet.specs.declared.ids.Member.{Member}
+use Rattle.rsct_packet.specs.declared.ids.ProviderId.{ProviderId}
+use Rattle.rsct_packet.specs.Providers.{among}
+use Rattle.rsct_packet.specs.Search.{Has}
+use Rattle.proposal_core.specs.declared.group_state.GroupState.{GroupState}
+use Rattle.proposal_core.specs.Fold.{empty_state, present}
+use Rattle.view_state.specs.declared.install.Install.{Install}
+use Rattle.view_state.specs.declared.install.Base.{Base}
+use Rattle.view_state.specs.Bases.{bases_of}
+use Rattle.view_state.specs.Views.{views_entered}
+use Rattle.node_state.specs.declared.config.Config.{Config}
+use Rattle.node_state.specs.declared.happened.Happened.{Happened}
+use Rattle.node_state.specs.declared.happened.Happened.TheVariants as happened
+use Rattle.node_state.specs.declared.state.Core.{Core}
+use Rattle.node_state.specs.State.{row_of, with_row, list_of, state_of, len_of, held_rows, recorded, recorded_all, with_sessions}
+use Rattle.node_state.specs.HandOn.{Answering}
+use Rattle.node_state.specs.Leading.{put}
+use Rattle.node_state.specs.Applying.{base_record, view_entered, sides_dissolved}
+use Rattle.node_state.specs.Step.{NodeEvent, stepped, at_work}
+use Rattle.world_model.specs.declared.event.Event.{Event}
+use Rattle.run_safety.specs.ViewOrder.{Lt}
+use Rattle.run_safety.specs.Past.{History, EachRecord, Within, earlier, records_of, inc_now}
+use Rattle.run_safety.specs.Stays.{Stay, stays, with_base}
+use Rattle.step_refinement.specs.Tied.{Scene}
+use Rattle.step_refinement.specs.Rows.{Arises}
+use Rattle.step_refinement.specs.Runs.{Reached}
+use Rattle.step_refinement.proofs.BaseOrder.{base_noted}
+use Rattle.row_laws.specs.hearing.Changes.{Inner, Unentered, Does, Stays, Then, Records, Hands, Loses, Joins, Votes, Enters}
+use Rattle.row_laws.proofs.hearing.Attending.{pushed, pushed_reverse}
+use Rattle.row_laws.proofs.hearing.Listening.{steps_change}
 use Rattle.provider_laws.proofs.attending.Doing.{AllFine}
-use Rattle.entry_laws.proofs.row_laws_laws.hearing.Added.{Adds, sides_add, does_grow}
+use Rattle.row_laws.proofs.hearing.Added.{Adds, sides_add, does_grow}
 use Rattle.provider_laws.proofs.attending.Fresh.{fresh_now}
 use Rattle.provider_laws.proofs.attending.Law.{begin_strict, step_fine}
-use Rattle.entry_laws.proofs.row_laws_laws.hearing.Incarnations.{incs_of}
+use Rattle.row_laws.proofs.hearing.Incarnations.{incs_of}
 use Rattle.provider_laws.proofs.attending.Living.{lively_now, failed_now}
 use Rattle.provider_laws.proofs.attending.OrderLaw.{reached_orderly}
 use Rattle.provider_laws.proofs.attending.Ordering.{Ordered, Fresh, Lively, ordered_does, entering_recorded, base_recorded_at}

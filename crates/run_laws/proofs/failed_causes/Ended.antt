@@ -5,22 +5,22 @@ use Rattle.std.specs.Option.{option_map}
 use Rattle.std.specs.List.{list_any}
 use Rattle.std.specs.Str.{bytes_eq}
 use Rattle.std.proofs.lemmas.Bool.{eqb-true}
-use Rattle.entry_laws.specs.rsct_packet.declared.ids.ViewId.{ViewId}
-use Rattle.entry_laws.specs.rsct_packet.declared.ids.ProviderId.{ProviderId}
-use Rattle.entry_laws.specs.rsct_packet.Providers.{among}
-use Rattle.entry_laws.specs.rsct_packet.Search.{place_where}
-use Rattle.entry_laws.specs.proposal_core.declared.entry.Entry.{Entry}
-use Rattle.entry_laws.specs.proposal_core.declared.group_state.GroupState.{GroupState}
-use Rattle.entry_laws.specs.proposal_core.Fold.{empty_state, after, present}
-use Rattle.entry_laws.specs.node_state.declared.happened.Happened.{Happened}
-use Rattle.entry_laws.specs.node_state.declared.happened.Happened.TheVariants as happened
-use Rattle.entry_laws.specs.run_safety.Past.{fold_from}
-use Rattle.entry_laws.specs.run_safety.Stays.{Stay, stays, with_base, with_entry, is_join_of, Part, part, passes, first_in, last_in, last_from}
-use Rattle.entry_laws.proofs.node_state_laws.NameOrder.{text_same}
-use Rattle.entry_laws.specs.row_laws.failed_rows.Failures.{state_of_stay}
+use Rattle.rsct_packet.specs.declared.ids.ViewId.{ViewId}
+use Rattle.rsct_packet.specs.declared.ids.ProviderId.{ProviderId}
+use Rattle.rsct_packet.specs.Providers.{among}
+use Rattle.rsct_packet.specs.Search.{place_where}
+use Rattle.proposal_core.specs.declared.entry.Entry.{Entry}
+use Rattle.proposal_core.specs.declared.group_state.GroupState.{GroupState}
+use Rattle.proposal_core.specs.Fold.{empty_state, after, present}
+use Rattle.node_state.specs.declared.happened.Happened.{Happened}
+use Rattle.node_state.specs.declared.happened.Happened.TheVariants as happened
+use Rattle.run_safety.specs.Past.{fold_from}
+use Rattle.run_safety.specs.Stays.{Stay, stays, with_base, with_entry, is_join_of, Part, part, passes, first_in, last_in, last_from}
+use Rattle.node_state.proofs.NameOrder.{text_same}
+use Rattle.row_laws.specs.failed_rows.Failures.{state_of_stay}
 use Rattle.provider_laws.proofs.attending.Parts.{first_stays, last_comes, fold_push, pushed_stay}
 use Rattle.run_laws.specs.failed_causes.Passed.{puts_join, latest_entries, BaseFirst}
-use Rattle.entry_laws.proofs.row_laws_laws.failed_rows.Grows.{there_before, there_first}
+use Rattle.row_laws.proofs.failed_rows.Grows.{there_before, there_first}
 
 -- it has a first place and no last one
 abbrev pub goes_on : Part → Bool

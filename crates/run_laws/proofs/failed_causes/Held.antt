@@ -3,34 +3,34 @@ use Rattle.std.proofs.Common.{◌≡◌, ◌⊎◌, ℕ, List, [], ◌∷◌, So
 use Rattle.std.specs.Prelude.{◌==◌, ◌&&◌, slice_get, if◌then◌else◌}
 use Rattle.std.specs.Str.{bytes_eq}
 use Rattle.std.proofs.lemmas.Bool.{eqb-true}
-use Rattle.entry_laws.specs.rsct_packet.declared.ids.ViewId.{ViewId}
-use Rattle.entry_laws.specs.rsct_packet.declared.ids.ProviderId.{ProviderId}
-use Rattle.entry_laws.specs.rsct_packet.Providers.{among}
-use Rattle.entry_laws.specs.rsct_packet.Search.{Has}
-use Rattle.entry_laws.proofs.rsct_packet_laws.HasLaws.{has_append}
-use Rattle.entry_laws.specs.proposal_core.declared.entry.Entry.{Entry}
-use Rattle.entry_laws.specs.proposal_core.declared.proposal.Proposal.{Proposal}
-use Rattle.entry_laws.specs.proposal_core.declared.group_state.GroupState.{GroupState}
-use Rattle.entry_laws.specs.proposal_core.Fold.{empty_state, present}
-use Rattle.entry_laws.specs.node_state.declared.config.Config.{Config}
-use Rattle.entry_laws.specs.node_state.declared.happened.Happened.{Happened}
-use Rattle.entry_laws.specs.node_state.declared.happened.Happened.TheVariants as happened
-use Rattle.entry_laws.specs.run_safety.Past.{records_of}
-use Rattle.entry_laws.specs.run_safety.Stays.{Stay, stays, with_base, with_entry, is_join_of}
-use Rattle.entry_laws.specs.run_safety.Bases.{base_state}
-use Rattle.entry_laws.specs.run_safety.Group.{Record, Put, Line, Kept, Noted, Based, kept}
-use Rattle.entry_laws.specs.run_safety.Group as group
-use Rattle.entry_laws.proofs.run_safety_laws.SightLaws.{put_seen}
-use Rattle.entry_laws.proofs.run_safety_laws.Whole.{Whole}
-use Rattle.entry_laws.proofs.run_safety_laws.Lives.{whole}
-use Rattle.entry_laws.proofs.node_state_laws.NameOrder.{text_same}
-use Rattle.entry_laws.specs.step_refinement.Tied.{Scene, Rests, opening_of}
-use Rattle.entry_laws.specs.step_refinement.Runs.{Reached}
-use Rattle.entry_laws.proofs.step_refinement_laws.RunLaw.{reached_rests}
-use Rattle.entry_laws.proofs.row_laws_laws.hearing.Handing.{among_is}
-use Rattle.entry_laws.specs.row_laws.failed_rows.Failures.{state_of_stay}
-use Rattle.entry_laws.proofs.row_laws_laws.failed_rows.Fitting.{base_seen}
-use Rattle.entry_laws.proofs.row_laws_laws.failed_rows.Asked.{Joins, AllJoin, AllThere, fold_there, based_there, join_carried, asked_back}
+use Rattle.rsct_packet.specs.declared.ids.ViewId.{ViewId}
+use Rattle.rsct_packet.specs.declared.ids.ProviderId.{ProviderId}
+use Rattle.rsct_packet.specs.Providers.{among}
+use Rattle.rsct_packet.specs.Search.{Has}
+use Rattle.rsct_packet.proofs.HasLaws.{has_append}
+use Rattle.proposal_core.specs.declared.entry.Entry.{Entry}
+use Rattle.proposal_core.specs.declared.proposal.Proposal.{Proposal}
+use Rattle.proposal_core.specs.declared.group_state.GroupState.{GroupState}
+use Rattle.proposal_core.specs.Fold.{empty_state, present}
+use Rattle.node_state.specs.declared.config.Config.{Config}
+use Rattle.node_state.specs.declared.happened.Happened.{Happened}
+use Rattle.node_state.specs.declared.happened.Happened.TheVariants as happened
+use Rattle.run_safety.specs.Past.{records_of}
+use Rattle.run_safety.specs.Stays.{Stay, stays, with_base, with_entry, is_join_of}
+use Rattle.run_safety.specs.Bases.{base_state}
+use Rattle.run_safety.specs.Group.{Record, Put, Line, Kept, Noted, Based, kept}
+use Rattle.run_safety.specs.Group as group
+use Rattle.run_safety.proofs.SightLaws.{put_seen}
+use Rattle.run_safety.proofs.Whole.{Whole}
+use Rattle.run_safety.proofs.Lives.{whole}
+use Rattle.node_state.proofs.NameOrder.{text_same}
+use Rattle.step_refinement.specs.Tied.{Scene, Rests, opening_of}
+use Rattle.step_refinement.specs.Runs.{Reached}
+use Rattle.step_refinement.proofs.RunLaw.{reached_rests}
+use Rattle.row_laws.proofs.hearing.Handing.{among_is}
+use Rattle.row_laws.specs.failed_rows.Failures.{state_of_stay}
+use Rattle.row_laws.proofs.failed_rows.Fitting.{base_seen}
+use Rattle.row_laws.proofs.failed_rows.Asked.{Joins, AllJoin, AllThere, fold_there, based_there, join_carried, asked_back}
 
 -- ---- what stands in a stay, where puts and bases are such
 

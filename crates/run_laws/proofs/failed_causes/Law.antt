@@ -4,33 +4,33 @@ use Rattle.std.specs.Prelude.{not, ◌==◌, ◌&&◌, ◌||◌, is_some, is_non
 use Rattle.std.specs.List.{list_any}
 use Rattle.std.specs.Str.{bytes_eq}
 use Rattle.std.proofs.lemmas.Bool.{eqb-true, eq-eqb}
-use Rattle.entry_laws.specs.rsct_packet.declared.ids.ViewId.{ViewId}
-use Rattle.entry_laws.specs.rsct_packet.declared.ids.Member.{Member}
-use Rattle.entry_laws.specs.rsct_packet.declared.ids.ProviderId.{ProviderId}
-use Rattle.entry_laws.specs.rsct_packet.Providers.{among}
-use Rattle.entry_laws.specs.rsct_packet.Search.{Has}
-use Rattle.entry_laws.proofs.rsct_packet_laws.HasLaws.{append_has_right}
-use Rattle.entry_laws.specs.client_callbacks.declared.told.Why.{Why}
-use Rattle.entry_laws.specs.session_state.HandOn.{is_dissolved}
-use Rattle.entry_laws.specs.proposal_core.declared.entry.Entry.{Entry}
-use Rattle.entry_laws.specs.proposal_core.declared.proposal.Proposal.{Proposal}
-use Rattle.entry_laws.specs.proposal_core.declared.group_state.GroupState.{GroupState}
-use Rattle.entry_laws.specs.proposal_core.Fold.{present}
-use Rattle.entry_laws.specs.node_state.declared.happened.Happened.{Happened}
-use Rattle.entry_laws.specs.node_state.declared.happened.Happened.TheVariants as happened
-use Rattle.entry_laws.specs.run_safety.Past.{History, EachRecord, Within, records_of, earlier}
-use Rattle.entry_laws.specs.run_safety.SafeLists.{Each}
-use Rattle.entry_laws.specs.run_safety.SafeHeard.{heard_count, is_after, InOrder}
-use Rattle.entry_laws.specs.run_safety.Stays.{Stay, stays, with_entry, is_join_of, Part, part, passes}
-use Rattle.entry_laws.specs.run_safety.Sight.{inc_in}
-use Rattle.entry_laws.specs.run_safety.ViewOrder.{Le}
-use Rattle.entry_laws.proofs.run_safety_laws.Order.{le_antisym}
-use Rattle.entry_laws.proofs.run_safety_laws.Tests.{has_any}
-use Rattle.entry_laws.proofs.node_state_laws.NameOrder.{text_same, text_self}
-use Rattle.entry_laws.proofs.row_laws_laws.hearing.Handing.{among_is}
+use Rattle.rsct_packet.specs.declared.ids.ViewId.{ViewId}
+use Rattle.rsct_packet.specs.declared.ids.Member.{Member}
+use Rattle.rsct_packet.specs.declared.ids.ProviderId.{ProviderId}
+use Rattle.rsct_packet.specs.Providers.{among}
+use Rattle.rsct_packet.specs.Search.{Has}
+use Rattle.rsct_packet.proofs.HasLaws.{append_has_right}
+use Rattle.client_callbacks.specs.declared.told.Why.{Why}
+use Rattle.session_state.specs.HandOn.{is_dissolved}
+use Rattle.proposal_core.specs.declared.entry.Entry.{Entry}
+use Rattle.proposal_core.specs.declared.proposal.Proposal.{Proposal}
+use Rattle.proposal_core.specs.declared.group_state.GroupState.{GroupState}
+use Rattle.proposal_core.specs.Fold.{present}
+use Rattle.node_state.specs.declared.happened.Happened.{Happened}
+use Rattle.node_state.specs.declared.happened.Happened.TheVariants as happened
+use Rattle.run_safety.specs.Past.{History, EachRecord, Within, records_of, earlier}
+use Rattle.run_safety.specs.SafeLists.{Each}
+use Rattle.run_safety.specs.SafeHeard.{heard_count, is_after, InOrder}
+use Rattle.run_safety.specs.Stays.{Stay, stays, with_entry, is_join_of, Part, part, passes}
+use Rattle.run_safety.specs.Sight.{inc_in}
+use Rattle.run_safety.specs.ViewOrder.{Le}
+use Rattle.run_safety.proofs.Order.{le_antisym}
+use Rattle.run_safety.proofs.Tests.{has_any}
+use Rattle.node_state.proofs.NameOrder.{text_same, text_self}
+use Rattle.row_laws.proofs.hearing.Handing.{among_is}
 use Rattle.provider_laws.proofs.attending.OrderLaw.{heard_in_order}
-use Rattle.entry_laws.specs.row_laws.failed_rows.Failures.{state_in_stays, state_held, FromElsewhere, IsCut, IsRefused, WasTold, TakenOff, StoodThere}
-use Rattle.entry_laws.proofs.row_laws_laws.failed_rows.Asked.{join_carried}
+use Rattle.row_laws.specs.failed_rows.Failures.{state_in_stays, state_held, FromElsewhere, IsCut, IsRefused, WasTold, TakenOff, StoodThere}
+use Rattle.row_laws.proofs.failed_rows.Asked.{join_carried}
 use Rattle.run_laws.specs.seen_runs.Seen.{Seen, SeenAt, OnceSeen, BeginsOnce, WasTold as WasRefused}
 use Rattle.run_laws.proofs.seen_runs.Scenes.{all_show}
 use Rattle.run_laws.proofs.seen_runs.Law.{traces_seen}

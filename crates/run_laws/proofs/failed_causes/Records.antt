@@ -2,33 +2,33 @@
 use Rattle.std.proofs.Common.{◌≡◌, ◌⊎◌, ℕ, ◌+◌, List, [], ◌∷◌, ◌++◌, Option, Some, None, refl, sym, subst, inl, inr, append-nil}
 use Rattle.std.specs.Prelude.{reverse, map, flat_map, fold}
 use Rattle.std.proofs.lemmas.List.{reverse-append}
-use Rattle.entry_laws.specs.rsct_packet.declared.ids.ProtoId.{ProtoId}
-use Rattle.entry_laws.specs.rsct_packet.Search.{Has}
-use Rattle.entry_laws.specs.rsct_packet.Mask.{nodes_of}
-use Rattle.entry_laws.proofs.rsct_packet_laws.HasLaws.{has_append, has_map}
-use Rattle.entry_laws.specs.adapter_ring.declared.ring.Ring.{Ring}
-use Rattle.entry_laws.specs.proposal_core.declared.entry.Entry.{Entry}
-use Rattle.entry_laws.specs.proposal_core.declared.group_state.GroupState.{GroupState}
-use Rattle.entry_laws.specs.client_callbacks.declared.ballot.Filled.{Filled}
-use Rattle.entry_laws.specs.client_callbacks.Ballots.{BallotView}
-use Rattle.entry_laws.specs.session_state.declared.casts.Cast.{Cast}
-use Rattle.entry_laws.specs.session_state.HandOn.{casts_out}
-use Rattle.entry_laws.specs.node_state.declared.config.Config.{Config}
-use Rattle.entry_laws.specs.node_state.declared.happened.Happened.{Happened}
-use Rattle.entry_laws.specs.node_state.declared.happened.Happened.TheVariants as happened
-use Rattle.entry_laws.specs.node_state.declared.state.Core.{Core}
-use Rattle.entry_laws.specs.node_state.State.{with_row, state_of, len_of, recorded, recorded_all, with_sessions}
-use Rattle.entry_laws.specs.node_state.HandOn.{Answering, heard, cast_record, cast_records}
-use Rattle.entry_laws.specs.node_state.Leading.{put}
-use Rattle.entry_laws.specs.node_state.Step.{NodeEvent, started, stepped, first_view, first_members, own_rings, ring_record}
-use Rattle.entry_laws.specs.world_model.declared.event.Event.{Event}
-use Rattle.entry_laws.specs.run_safety.Past.{History, EachRecord, Within}
-use Rattle.entry_laws.specs.step_refinement.Tied.{Scene}
-use Rattle.entry_laws.specs.step_refinement.Rows.{Arises, nothing_yet, with_records, starts_too}
-use Rattle.entry_laws.specs.step_refinement.Runs.{IsNote, Reached, Nothing, AllStart, Starts, Stops, Steps, Notes}
-use Rattle.entry_laws.specs.row_laws.hearing.Changes.{Same, handing, Inner}
-use Rattle.entry_laws.proofs.row_laws_laws.hearing.Attending.{pushed, pushed_reverse}
-use Rattle.entry_laws.proofs.row_laws_laws.hearing.Listening.{reverse_has}
+use Rattle.rsct_packet.specs.declared.ids.ProtoId.{ProtoId}
+use Rattle.rsct_packet.specs.Search.{Has}
+use Rattle.rsct_packet.specs.Mask.{nodes_of}
+use Rattle.rsct_packet.proofs.HasLaws.{has_append, has_map}
+use Rattle.adapter_ring.specs.declared.ring.Ring.{Ring}
+use Rattle.proposal_core.specs.declared.entry.Entry.{Entry}
+use Rattle.proposal_core.specs.declared.group_state.GroupState.{GroupState}
+use Rattle.client_callbacks.specs.declared.ballot.Filled.{Filled}
+use Rattle.client_callbacks.specs.Ballots.{BallotView}
+use Rattle.session_state.specs.declared.casts.Cast.{Cast}
+use Rattle.session_state.specs.HandOn.{casts_out}
+use Rattle.node_state.specs.declared.config.Config.{Config}
+use Rattle.node_state.specs.declared.happened.Happened.{Happened}
+use Rattle.node_state.specs.declared.happened.Happened.TheVariants as happened
+use Rattle.node_state.specs.declared.state.Core.{Core}
+use Rattle.node_state.specs.State.{with_row, state_of, len_of, recorded, recorded_all, with_sessions}
+use Rattle.node_state.specs.HandOn.{Answering, heard, cast_record, cast_records}
+use Rattle.node_state.specs.Leading.{put}
+use Rattle.node_state.specs.Step.{NodeEvent, started, stepped, first_view, first_members, own_rings, ring_record}
+use Rattle.world_model.specs.declared.event.Event.{Event}
+use Rattle.run_safety.specs.Past.{History, EachRecord, Within}
+use Rattle.step_refinement.specs.Tied.{Scene}
+use Rattle.step_refinement.specs.Rows.{Arises, nothing_yet, with_records, starts_too}
+use Rattle.step_refinement.specs.Runs.{IsNote, Reached, Nothing, AllStart, Starts, Stops, Steps, Notes}
+use Rattle.row_laws.specs.hearing.Changes.{Same, handing, Inner}
+use Rattle.row_laws.proofs.hearing.Attending.{pushed, pushed_reverse}
+use Rattle.row_laws.proofs.hearing.Listening.{reverse_has}
 
 -- a record of no base
 abbrev pub NoBase : Happened → Type 0

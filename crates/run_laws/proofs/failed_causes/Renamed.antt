@@ -2,21 +2,21 @@
 -- group alone in each of them.
 use Rattle.std.proofs.Common.{◌≡◌, ℕ, ◌+◌, List, [], ◌∷◌, ◌++◌, Some, refl, sym, ap, subst}
 use Rattle.std.specs.Prelude.{reverse}
-use Rattle.entry_laws.specs.rsct_packet.declared.ids.ProviderId.{ProviderId}
-use Rattle.entry_laws.specs.rsct_packet.Search.{Has}
-use Rattle.entry_laws.specs.proposal_core.declared.proposal.Proposal.{Proposal}
-use Rattle.entry_laws.specs.node_state.declared.config.Config.{Config}
-use Rattle.entry_laws.specs.node_state.declared.happened.Happened.TheVariants.{Asked, Down}
-use Rattle.entry_laws.specs.node_state.Step.{NodeEvent, Ticks, Asks, Given, Calls, Garbage, started, stepped}
-use Rattle.entry_laws.specs.world_model.declared.event.Event.{Event}
-use Rattle.entry_laws.specs.world_model.declared.event.Event.TheVariants.{Call}
-use Rattle.entry_laws.specs.run_safety.Past.{History, records_of}
-use Rattle.entry_laws.specs.step_refinement.Tied.{Scene}
-use Rattle.entry_laws.specs.step_refinement.Rows.{all_started, over, Arises}
-use Rattle.entry_laws.specs.step_refinement.Runs.{Reached}
-use Rattle.entry_laws.specs.step_refinement.Runs as runs
-use Rattle.entry_laws.specs.row_laws.failed_rows.Scenes.{Names, Played, Nothing, AllStart, Starts, Stops, Steps, Notes}
-use Rattle.entry_laws.proofs.row_laws_laws.failed_rows.Groups.{joins_have_one_group}
+use Rattle.rsct_packet.specs.declared.ids.ProviderId.{ProviderId}
+use Rattle.rsct_packet.specs.Search.{Has}
+use Rattle.proposal_core.specs.declared.proposal.Proposal.{Proposal}
+use Rattle.node_state.specs.declared.config.Config.{Config}
+use Rattle.node_state.specs.declared.happened.Happened.TheVariants.{Asked, Down}
+use Rattle.node_state.specs.Step.{NodeEvent, Ticks, Asks, Given, Calls, Garbage, started, stepped}
+use Rattle.world_model.specs.declared.event.Event.{Event}
+use Rattle.world_model.specs.declared.event.Event.TheVariants.{Call}
+use Rattle.run_safety.specs.Past.{History, records_of}
+use Rattle.step_refinement.specs.Tied.{Scene}
+use Rattle.step_refinement.specs.Rows.{all_started, over, Arises}
+use Rattle.step_refinement.specs.Runs.{Reached}
+use Rattle.step_refinement.specs.Runs as runs
+use Rattle.row_laws.specs.failed_rows.Scenes.{Names, Played, Nothing, AllStart, Starts, Stops, Steps, Notes}
+use Rattle.row_laws.proofs.failed_rows.Groups.{joins_have_one_group}
 
 -- the same scene with another history
 abbrev told_as : Scene → History → Scene

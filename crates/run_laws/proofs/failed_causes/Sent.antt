@@ -1,32 +1,32 @@
 -- What any node's put of a join says of the provider's own node, in the whole run.
 use Rattle.std.proofs.Common.{◌≡◌, ◌⊎◌, ℕ, List, [], ◌∷◌, ◌++◌, Some, true, refl, sym, subst, inl, inr, ⊎_elim}
 use Rattle.std.specs.Prelude.{slice_get}
-use Rattle.entry_laws.specs.rsct_packet.declared.ids.ViewId.{ViewId}
-use Rattle.entry_laws.specs.rsct_packet.declared.ids.Member.{Member}
-use Rattle.entry_laws.specs.rsct_packet.declared.ids.ProviderId.{ProviderId}
-use Rattle.entry_laws.specs.rsct_packet.Search.{Has}
-use Rattle.entry_laws.proofs.rsct_packet_laws.HasLaws.{append_has_left, append_has_right}
-use Rattle.entry_laws.specs.client_callbacks.declared.told.Why.{Why}
-use Rattle.entry_laws.specs.proposal_core.declared.entry.Entry.{Entry}
-use Rattle.entry_laws.specs.proposal_core.declared.proposal.Proposal.{Proposal}
-use Rattle.entry_laws.specs.node_state.declared.config.Config.{Config}
-use Rattle.entry_laws.specs.node_state.declared.happened.Happened.{Happened}
-use Rattle.entry_laws.specs.node_state.declared.happened.Happened.TheVariants as happened
-use Rattle.entry_laws.specs.run_safety.Group.{Request, Refusal, In, Put, Line, Noted, Asked, Told, kept}
-use Rattle.entry_laws.specs.run_safety.GroupLists.{WasIn}
-use Rattle.entry_laws.specs.run_safety.Past.{History, records_of, view_now}
-use Rattle.entry_laws.specs.run_safety.Requests.{carried, Meets}
-use Rattle.entry_laws.specs.run_safety.Sight.{inc_in, told_in, lines_at, lines_of}
-use Rattle.entry_laws.specs.run_safety.Stays.{is_join_of}
-use Rattle.entry_laws.specs.run_safety.ViewOrder.{Lt, Le}
-use Rattle.entry_laws.proofs.run_safety_laws.SightLaws.{put_seen}
-use Rattle.entry_laws.proofs.run_safety_laws.Whole.{Whole}
-use Rattle.entry_laws.proofs.run_safety_laws.Lives.{whole}
-use Rattle.entry_laws.specs.step_refinement.Tied.{Scene, Rests, opening_of}
-use Rattle.entry_laws.specs.step_refinement.Runs.{Reached}
-use Rattle.entry_laws.proofs.step_refinement_laws.RunLaw.{reached_rests}
-use Rattle.entry_laws.proofs.step_refinement_laws.ViewRows.{before_of}
-use Rattle.entry_laws.proofs.row_laws_laws.failed_rows.Asked.{join_carried, asked_back}
+use Rattle.rsct_packet.specs.declared.ids.ViewId.{ViewId}
+use Rattle.rsct_packet.specs.declared.ids.Member.{Member}
+use Rattle.rsct_packet.specs.declared.ids.ProviderId.{ProviderId}
+use Rattle.rsct_packet.specs.Search.{Has}
+use Rattle.rsct_packet.proofs.HasLaws.{append_has_left, append_has_right}
+use Rattle.client_callbacks.specs.declared.told.Why.{Why}
+use Rattle.proposal_core.specs.declared.entry.Entry.{Entry}
+use Rattle.proposal_core.specs.declared.proposal.Proposal.{Proposal}
+use Rattle.node_state.specs.declared.config.Config.{Config}
+use Rattle.node_state.specs.declared.happened.Happened.{Happened}
+use Rattle.node_state.specs.declared.happened.Happened.TheVariants as happened
+use Rattle.run_safety.specs.Group.{Request, Refusal, In, Put, Line, Noted, Asked, Told, kept}
+use Rattle.run_safety.specs.GroupLists.{WasIn}
+use Rattle.run_safety.specs.Past.{History, records_of, view_now}
+use Rattle.run_safety.specs.Requests.{carried, Meets}
+use Rattle.run_safety.specs.Sight.{inc_in, told_in, lines_at, lines_of}
+use Rattle.run_safety.specs.Stays.{is_join_of}
+use Rattle.run_safety.specs.ViewOrder.{Lt, Le}
+use Rattle.run_safety.proofs.SightLaws.{put_seen}
+use Rattle.run_safety.proofs.Whole.{Whole}
+use Rattle.run_safety.proofs.Lives.{whole}
+use Rattle.step_refinement.specs.Tied.{Scene, Rests, opening_of}
+use Rattle.step_refinement.specs.Runs.{Reached}
+use Rattle.step_refinement.proofs.RunLaw.{reached_rests}
+use Rattle.step_refinement.proofs.ViewRows.{before_of}
+use Rattle.row_laws.proofs.failed_rows.Asked.{join_carried, asked_back}
 use Rattle.run_laws.proofs.seen_runs.Sights.{cut}
 use Rattle.run_laws.proofs.seen_runs.Froms.{in_kept}
 

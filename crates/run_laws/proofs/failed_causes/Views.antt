@@ -3,23 +3,23 @@ use Rattle.std.proofs.Common.{◌≡◌, ℕ, List, [], ◌∷◌, ◌++◌, Som
 use Rattle.std.specs.Prelude.{◌==◌, ◌&&◌, if◌then◌else◌}
 use Rattle.std.specs.Str.{bytes_eq}
 use Rattle.std.proofs.lemmas.Bool.{eqb-true, eq-eqb}
-use Rattle.entry_laws.specs.rsct_packet.declared.ids.ViewId.{ViewId}
-use Rattle.entry_laws.specs.rsct_packet.declared.ids.Member.{Member}
-use Rattle.entry_laws.specs.rsct_packet.Search.{Has}
-use Rattle.entry_laws.proofs.rsct_packet_laws.HasLaws.{append_has_left, append_has_right}
-use Rattle.entry_laws.specs.proposal_core.declared.entry.Entry.{Entry}
-use Rattle.entry_laws.specs.proposal_core.declared.group_state.GroupState.{GroupState}
-use Rattle.entry_laws.specs.proposal_core.Fold.{empty_state}
-use Rattle.entry_laws.specs.node_state.declared.happened.Happened.{Happened}
-use Rattle.entry_laws.specs.node_state.declared.happened.Happened.TheVariants as happened
-use Rattle.entry_laws.specs.run_safety.Group.{In, kept}
-use Rattle.entry_laws.specs.run_safety.Past.{History, records_of, view_now}
-use Rattle.entry_laws.specs.run_safety.SafeLists.{InItsView}
-use Rattle.entry_laws.specs.run_safety.Sight.{inc_in, lines_of}
-use Rattle.entry_laws.specs.run_safety.Stays.{Stay, stays, with_base, with_entry}
-use Rattle.entry_laws.specs.run_safety.ViewOrder.{Lt, Le}
-use Rattle.entry_laws.proofs.run_safety_laws.Order.{lt_refl, lt_le, lt_not_same}
-use Rattle.entry_laws.proofs.node_state_laws.NameOrder.{text_same, text_self}
+use Rattle.rsct_packet.specs.declared.ids.ViewId.{ViewId}
+use Rattle.rsct_packet.specs.declared.ids.Member.{Member}
+use Rattle.rsct_packet.specs.Search.{Has}
+use Rattle.rsct_packet.proofs.HasLaws.{append_has_left, append_has_right}
+use Rattle.proposal_core.specs.declared.entry.Entry.{Entry}
+use Rattle.proposal_core.specs.declared.group_state.GroupState.{GroupState}
+use Rattle.proposal_core.specs.Fold.{empty_state}
+use Rattle.node_state.specs.declared.happened.Happened.{Happened}
+use Rattle.node_state.specs.declared.happened.Happened.TheVariants as happened
+use Rattle.run_safety.specs.Group.{In, kept}
+use Rattle.run_safety.specs.Past.{History, records_of, view_now}
+use Rattle.run_safety.specs.SafeLists.{InItsView}
+use Rattle.run_safety.specs.Sight.{inc_in, lines_of}
+use Rattle.run_safety.specs.Stays.{Stay, stays, with_base, with_entry}
+use Rattle.run_safety.specs.ViewOrder.{Lt, Le}
+use Rattle.run_safety.proofs.Order.{lt_refl, lt_le, lt_not_same}
+use Rattle.node_state.proofs.NameOrder.{text_same, text_self}
 use Rattle.run_laws.specs.seen_runs.Seen.{Seen}
 use Rattle.run_laws.proofs.seen_runs.LineRules.{bare}
 use Rattle.run_laws.proofs.seen_runs.BareLines.{kept_bare}

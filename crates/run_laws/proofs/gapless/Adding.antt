@@ -1,28 +1,28 @@
 -- What a step records since its call: puts of its own node, and nothing that is started, stopped, asked or refused.
 use Rattle.std.proofs.Common.{◌≡◌, ◌⊎◌, ℕ, List, [], ◌∷◌, ◌++◌, Option, sym, ◌∙◌, subst, inl, inr}
 use Rattle.std.specs.Prelude.{map, flat_map}
-use Rattle.entry_laws.specs.rsct_packet.declared.ids.ProviderId.{ProviderId}
-use Rattle.entry_laws.specs.rsct_packet.Search.{Has}
-use Rattle.entry_laws.proofs.rsct_packet_laws.HasLaws.{has_append, has_map}
-use Rattle.entry_laws.specs.proposal_core.declared.entry.Entry.{Entry}
-use Rattle.entry_laws.specs.proposal_core.declared.group_state.GroupState.{GroupState}
-use Rattle.entry_laws.specs.client_callbacks.declared.ballot.Filled.{Filled}
-use Rattle.entry_laws.specs.client_callbacks.declared.told.Why.{Why}
-use Rattle.entry_laws.specs.session_state.State.{provider_of}
-use Rattle.entry_laws.specs.session_state.HandOn.{casts_out, take_telling}
-use Rattle.entry_laws.specs.view_state.declared.install.Install.{Install}
-use Rattle.entry_laws.specs.view_state.Bases.{bases_of}
-use Rattle.entry_laws.specs.view_state.Views.{views_entered}
-use Rattle.entry_laws.specs.node_state.declared.happened.Happened.{Happened}
-use Rattle.entry_laws.specs.node_state.declared.happened.Happened.TheVariants as happened
-use Rattle.entry_laws.specs.node_state.declared.state.Core.{Core}
-use Rattle.entry_laws.specs.node_state.State.{InNameOrder, with_row, state_of, len_of, recorded, recorded_all, with_sessions}
-use Rattle.entry_laws.specs.node_state.HandOn.{heard}
-use Rattle.entry_laws.specs.node_state.Leading.{put}
-use Rattle.entry_laws.specs.node_state.Applying.{level_set, base_record, view_entered}
-use Rattle.entry_laws.proofs.step_refinement_laws.BaseOrder.{bases_ordered}
-use Rattle.entry_laws.specs.row_laws.hearing.Changes.{Same, handing}
-use Rattle.entry_laws.proofs.row_laws_laws.hearing.Attending.{heard_at}
+use Rattle.rsct_packet.specs.declared.ids.ProviderId.{ProviderId}
+use Rattle.rsct_packet.specs.Search.{Has}
+use Rattle.rsct_packet.proofs.HasLaws.{has_append, has_map}
+use Rattle.proposal_core.specs.declared.entry.Entry.{Entry}
+use Rattle.proposal_core.specs.declared.group_state.GroupState.{GroupState}
+use Rattle.client_callbacks.specs.declared.ballot.Filled.{Filled}
+use Rattle.client_callbacks.specs.declared.told.Why.{Why}
+use Rattle.session_state.specs.State.{provider_of}
+use Rattle.session_state.specs.HandOn.{casts_out, take_telling}
+use Rattle.view_state.specs.declared.install.Install.{Install}
+use Rattle.view_state.specs.Bases.{bases_of}
+use Rattle.view_state.specs.Views.{views_entered}
+use Rattle.node_state.specs.declared.happened.Happened.{Happened}
+use Rattle.node_state.specs.declared.happened.Happened.TheVariants as happened
+use Rattle.node_state.specs.declared.state.Core.{Core}
+use Rattle.node_state.specs.State.{InNameOrder, with_row, state_of, len_of, recorded, recorded_all, with_sessions}
+use Rattle.node_state.specs.HandOn.{heard}
+use Rattle.node_state.specs.Leading.{put}
+use Rattle.node_state.specs.Applying.{level_set, base_record, view_entered}
+use Rattle.step_refinement.proofs.BaseOrder.{bases_ordered}
+use Rattle.row_laws.specs.hearing.Changes.{Same, handing}
+use Rattle.row_laws.proofs.hearing.Attending.{heard_at}
 use Rattle.run_laws.proofs.gapless.Growing.{Inert}
 use Rattle.run_laws.proofs.gapless.Standing.{JoinWaits, told_joins, handed_joins}
 use Rattle.run_laws.proofs.gapless.Putting.{heards_inert}

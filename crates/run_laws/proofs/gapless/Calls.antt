@@ -2,39 +2,39 @@
 use Rattle.std.proofs.Common.{◌≡◌, ◌⊎◌, ◌≤◌, ℕ, ◌+◌, List, [], ◌∷◌, ◌++◌, Option, Some, None, Bool, true, false, refl, sym, ap, ◌∙◌, subst, inl, inr, ⊎_elim, arith}
 use Rattle.std.specs.Prelude.{not, find, filter, fold, if◌then◌else◌, Result, Ok, Err}
 use Rattle.std.specs.List.{last_or}
-use Rattle.entry_laws.specs.rsct_packet.declared.ids.ProviderId.{ProviderId}
-use Rattle.entry_laws.specs.rsct_packet.Providers.{among}
-use Rattle.entry_laws.specs.rsct_packet.Search.{Has}
-use Rattle.entry_laws.proofs.rsct_packet_laws.HasLaws.{has_append, has_filter, append_has_right, find_has}
-use Rattle.entry_laws.specs.group_attr.declared.attrs.Attrs.{Attrs}
-use Rattle.entry_laws.specs.group_attr.declared.attrs.Phases.{Phases}
-use Rattle.entry_laws.specs.group_attr.declared.attrs.Phases.TheVariants.{One}
-use Rattle.entry_laws.specs.proposal_core.declared.proposal.Proposal.{Proposal}
-use Rattle.entry_laws.specs.proposal_core.declared.proposal.Proposal.TheVariants.{Join, Attributes}
-use Rattle.entry_laws.specs.proposal_core.Fold.{joins_of}
-use Rattle.entry_laws.specs.client_callbacks.declared.ballot.Filled.{Filled}
-use Rattle.entry_laws.specs.subscribe_core.declared.subs.ClientToken.{ClientToken}
-use Rattle.entry_laws.specs.session_state.declared.fault.GsFault.{GsFault}
-use Rattle.entry_laws.specs.session_state.declared.state.KeptBallot.{KeptBallot}
-use Rattle.entry_laws.specs.session_state.declared.state.MemberToken.{MemberToken}
-use Rattle.entry_laws.specs.session_state.declared.state.Provider.{Provider}
-use Rattle.entry_laws.specs.session_state.declared.state.Request.{Request}
-use Rattle.entry_laws.specs.session_state.declared.state.SessionState.{SessionState}
-use Rattle.entry_laws.specs.session_state.State.{provider_of, is_provider, is_member_of, is_client_of, client_token}
-use Rattle.entry_laws.specs.session_state.Calls.{unless_fault, if_session, is_empty, new_provider, add_session, inited, join_fault, join_asked, joined, asked, ask_fault, member_asks, request_made, left, expelled, state_changed, message_sent, member_changes, attributes_changed, subscribe_taken, unsubscribe_taken, end_session, goodbye_taken}
-use Rattle.entry_laws.specs.session_state.HandOn.{is_join}
-use Rattle.entry_laws.specs.node_state.declared.call.CallLine.{CallLine}
-use Rattle.entry_laws.specs.node_state.declared.call.CallLine.TheVariants as call
-use Rattle.entry_laws.specs.node_state.declared.happened.Happened.{Happened}
-use Rattle.entry_laws.specs.node_state.declared.happened.Happened.TheVariants as happened
-use Rattle.entry_laws.specs.node_state.declared.state.Core.{Core}
-use Rattle.entry_laws.specs.node_state.State.{frozen, leader_of, recorded, with_sessions}
-use Rattle.entry_laws.specs.node_state.Sending.{send_request_to, send_request, send_kept_to, send_kept}
-use Rattle.entry_laws.specs.node_state.Calls.{caller, refuse_call, changed, ask_last, proposed, record_ballot, ballot_sent_if, cast_last, give_ballot, send_gone, send_all_gone, goodbye_said, take_call}
-use Rattle.entry_laws.proofs.step_refinement_laws.SessionLaws.{provider_self, provider_same}
-use Rattle.entry_laws.proofs.row_laws_laws.hearing.Changes.{Sends, sends_nothing, sends_one, sends_known, sends_fold}
-use Rattle.entry_laws.proofs.row_laws_laws.hearing.Rows.{OneOwner}
-use Rattle.entry_laws.proofs.row_laws_laws.hearing.Sessions.{Casts, casts_voted, unless_is, fewer_ended}
+use Rattle.rsct_packet.specs.declared.ids.ProviderId.{ProviderId}
+use Rattle.rsct_packet.specs.Providers.{among}
+use Rattle.rsct_packet.specs.Search.{Has}
+use Rattle.rsct_packet.proofs.HasLaws.{has_append, has_filter, append_has_right, find_has}
+use Rattle.group_attr.specs.declared.attrs.Attrs.{Attrs}
+use Rattle.group_attr.specs.declared.attrs.Phases.{Phases}
+use Rattle.group_attr.specs.declared.attrs.Phases.TheVariants.{One}
+use Rattle.proposal_core.specs.declared.proposal.Proposal.{Proposal}
+use Rattle.proposal_core.specs.declared.proposal.Proposal.TheVariants.{Join, Attributes}
+use Rattle.proposal_core.specs.Fold.{joins_of}
+use Rattle.client_callbacks.specs.declared.ballot.Filled.{Filled}
+use Rattle.subscribe_core.specs.declared.subs.ClientToken.{ClientToken}
+use Rattle.session_state.specs.declared.fault.GsFault.{GsFault}
+use Rattle.session_state.specs.declared.state.KeptBallot.{KeptBallot}
+use Rattle.session_state.specs.declared.state.MemberToken.{MemberToken}
+use Rattle.session_state.specs.declared.state.Provider.{Provider}
+use Rattle.session_state.specs.declared.state.Request.{Request}
+use Rattle.session_state.specs.declared.state.SessionState.{SessionState}
+use Rattle.session_state.specs.State.{provider_of, is_provider, is_member_of, is_client_of, client_token}
+use Rattle.session_state.specs.Calls.{unless_fault, if_session, is_empty, new_provider, add_session, inited, join_fault, join_asked, joined, asked, ask_fault, member_asks, request_made, left, expelled, state_changed, message_sent, member_changes, attributes_changed, subscribe_taken, unsubscribe_taken, end_session, goodbye_taken}
+use Rattle.session_state.specs.HandOn.{is_join}
+use Rattle.node_state.specs.declared.call.CallLine.{CallLine}
+use Rattle.node_state.specs.declared.call.CallLine.TheVariants as call
+use Rattle.node_state.specs.declared.happened.Happened.{Happened}
+use Rattle.node_state.specs.declared.happened.Happened.TheVariants as happened
+use Rattle.node_state.specs.declared.state.Core.{Core}
+use Rattle.node_state.specs.State.{frozen, leader_of, recorded, with_sessions}
+use Rattle.node_state.specs.Sending.{send_request_to, send_request, send_kept_to, send_kept}
+use Rattle.node_state.specs.Calls.{caller, refuse_call, changed, ask_last, proposed, record_ballot, ballot_sent_if, cast_last, give_ballot, send_gone, send_all_gone, goodbye_said, take_call}
+use Rattle.step_refinement.proofs.SessionLaws.{provider_self, provider_same}
+use Rattle.row_laws.proofs.hearing.Changes.{Sends, sends_nothing, sends_one, sends_known, sends_fold}
+use Rattle.row_laws.proofs.hearing.Rows.{OneOwner}
+use Rattle.row_laws.proofs.hearing.Sessions.{Casts, casts_voted, unless_is, fewer_ended}
 use Rattle.run_laws.specs.gapless.Takers.{Stood, AskedJoin}
 use Rattle.run_laws.proofs.gapless.Standing.{JoinWaits}
 

@@ -5,51 +5,51 @@ use Rattle.std.specs.Prelude.{not, ◌&&◌, reverse, map, is_some, is_none, IsT
 use Rattle.std.specs.List.{list_any}
 use Rattle.std.proofs.lemmas.Bool.{and_parts, eq-eqb, eqb-true}
 use Rattle.std.proofs.lemmas.Bool.Decides.{nat_tests}
-use Rattle.entry_laws.specs.rsct_packet.declared.ids.ViewId.{ViewId}
-use Rattle.entry_laws.specs.rsct_packet.declared.ids.ProviderId.{ProviderId}
-use Rattle.entry_laws.specs.rsct_packet.declared.ids.Member.{Member}
-use Rattle.entry_laws.specs.rsct_packet.Ids.{same_view}
-use Rattle.entry_laws.specs.rsct_packet.Providers.{among}
-use Rattle.entry_laws.specs.rsct_packet.Search.{Has}
-use Rattle.entry_laws.proofs.rsct_packet_laws.HasLaws.{has_append, append_has_left, has_map}
-use Rattle.entry_laws.specs.proposal_core.declared.group_state.GroupState.{GroupState}
-use Rattle.entry_laws.specs.proposal_core.Fold.{present}
-use Rattle.entry_laws.specs.proposal_core.Lists.{state_in}
-use Rattle.entry_laws.specs.client_callbacks.declared.told.Why.TheVariants.{Dissolved}
-use Rattle.entry_laws.specs.session_state.declared.state.Provider.{Provider}
-use Rattle.entry_laws.specs.session_state.State.{provider_of}
-use Rattle.entry_laws.specs.view_state.declared.install.Install.{Install}
-use Rattle.entry_laws.specs.view_state.declared.install.Base.{Base}
-use Rattle.entry_laws.specs.view_state.Bases.{bases_of, base_named}
-use Rattle.entry_laws.specs.view_state.Views.{views_entered}
-use Rattle.entry_laws.specs.node_state.declared.config.Config.{Config}
-use Rattle.entry_laws.specs.node_state.declared.group.GroupRow.{GroupRow}
-use Rattle.entry_laws.specs.node_state.declared.happened.Happened.{Happened}
-use Rattle.entry_laws.specs.node_state.declared.happened.Happened.TheVariants as happened
-use Rattle.entry_laws.specs.node_state.declared.state.Core.{Core}
-use Rattle.entry_laws.specs.node_state.State.{held_rows, len_of, list_of, state_of, row_of, recorded_all}
-use Rattle.entry_laws.specs.node_state.HandOn.{Answering}
-use Rattle.entry_laws.specs.node_state.Applying.{level_set, base_record, view_entered, is_in_base}
-use Rattle.entry_laws.specs.node_state.Step.{NodeEvent, at_work, stepped}
-use Rattle.entry_laws.specs.world_model.declared.event.Event.{Event}
-use Rattle.entry_laws.specs.run_safety.ViewOrder.{Lt}
-use Rattle.entry_laws.specs.run_safety.Past.{History, earlier}
-use Rattle.entry_laws.specs.run_safety.SafeHeard.{is_left_behind, enters}
-use Rattle.entry_laws.specs.run_safety.Stays.{stays, Part, part, passes, was_let_go}
-use Rattle.entry_laws.proofs.run_safety_laws.Tests.{any_has, has_any}
-use Rattle.entry_laws.specs.step_refinement.Tied.{Scene}
-use Rattle.entry_laws.specs.step_refinement.Rows.{Arises}
-use Rattle.entry_laws.specs.step_refinement.Runs.{Reached}
-use Rattle.entry_laws.proofs.step_refinement_laws.Turns.{has_turned}
-use Rattle.entry_laws.specs.row_laws.hearing.Changes.{Inner, Does, entering}
-use Rattle.entry_laws.proofs.row_laws_laws.hearing.Attending.{pushed_reverse}
-use Rattle.entry_laws.proofs.row_laws_laws.hearing.Handing.{among_is}
-use Rattle.entry_laws.proofs.row_laws_laws.hearing.Listening.{reverse_has}
-use Rattle.entry_laws.proofs.row_laws_laws.hearing.Doing.{present_row, rows_stay}
-use Rattle.entry_laws.proofs.row_laws_laws.failed_rows.Living.{IsLive}
-use Rattle.entry_laws.proofs.row_laws_laws.hearing.Added.{Adds, sides_add, enters_add}
+use Rattle.rsct_packet.specs.declared.ids.ViewId.{ViewId}
+use Rattle.rsct_packet.specs.declared.ids.ProviderId.{ProviderId}
+use Rattle.rsct_packet.specs.declared.ids.Member.{Member}
+use Rattle.rsct_packet.specs.Ids.{same_view}
+use Rattle.rsct_packet.specs.Providers.{among}
+use Rattle.rsct_packet.specs.Search.{Has}
+use Rattle.rsct_packet.proofs.HasLaws.{has_append, append_has_left, has_map}
+use Rattle.proposal_core.specs.declared.group_state.GroupState.{GroupState}
+use Rattle.proposal_core.specs.Fold.{present}
+use Rattle.proposal_core.specs.Lists.{state_in}
+use Rattle.client_callbacks.specs.declared.told.Why.TheVariants.{Dissolved}
+use Rattle.session_state.specs.declared.state.Provider.{Provider}
+use Rattle.session_state.specs.State.{provider_of}
+use Rattle.view_state.specs.declared.install.Install.{Install}
+use Rattle.view_state.specs.declared.install.Base.{Base}
+use Rattle.view_state.specs.Bases.{bases_of, base_named}
+use Rattle.view_state.specs.Views.{views_entered}
+use Rattle.node_state.specs.declared.config.Config.{Config}
+use Rattle.node_state.specs.declared.group.GroupRow.{GroupRow}
+use Rattle.node_state.specs.declared.happened.Happened.{Happened}
+use Rattle.node_state.specs.declared.happened.Happened.TheVariants as happened
+use Rattle.node_state.specs.declared.state.Core.{Core}
+use Rattle.node_state.specs.State.{held_rows, len_of, list_of, state_of, row_of, recorded_all}
+use Rattle.node_state.specs.HandOn.{Answering}
+use Rattle.node_state.specs.Applying.{level_set, base_record, view_entered, is_in_base}
+use Rattle.node_state.specs.Step.{NodeEvent, at_work, stepped}
+use Rattle.world_model.specs.declared.event.Event.{Event}
+use Rattle.run_safety.specs.ViewOrder.{Lt}
+use Rattle.run_safety.specs.Past.{History, earlier}
+use Rattle.run_safety.specs.SafeHeard.{is_left_behind, enters}
+use Rattle.run_safety.specs.Stays.{stays, Part, part, passes, was_let_go}
+use Rattle.run_safety.proofs.Tests.{any_has, has_any}
+use Rattle.step_refinement.specs.Tied.{Scene}
+use Rattle.step_refinement.specs.Rows.{Arises}
+use Rattle.step_refinement.specs.Runs.{Reached}
+use Rattle.step_refinement.proofs.Turns.{has_turned}
+use Rattle.row_laws.specs.hearing.Changes.{Inner, Does, entering}
+use Rattle.row_laws.proofs.hearing.Attending.{pushed_reverse}
+use Rattle.row_laws.proofs.hearing.Handing.{among_is}
+use Rattle.row_laws.proofs.hearing.Listening.{reverse_has}
+use Rattle.row_laws.proofs.hearing.Doing.{present_row, rows_stay}
+use Rattle.row_laws.proofs.failed_rows.Living.{IsLive}
+use Rattle.row_laws.proofs.hearing.Added.{Adds, sides_add, enters_add}
 use Rattle.provider_laws.proofs.attending.Law.{begin_strict, step_fine}
-use Rattle.entry_laws.proofs.row_laws_laws.hearing.Incarnations.{incs_of}
+use Rattle.row_laws.proofs.hearing.Incarnations.{incs_of}
 use Rattle.provider_laws.proofs.attending.Ordering.{view_same, Ordered, entering_recorded, base_recorded_at, ordered_does}
 use Rattle.provider_laws.proofs.attending.OrderLaw.{reached_orderly}
 use Rattle.provider_laws.proofs.attending.Entering.{named_has, base_is, new_stay, entered_stays}

@@ -2,22 +2,22 @@
 use Rattle.std.proofs.Common.{◌≡◌, ◌⊎◌, ℕ, List, [], ◌∷◌, ◌++◌, Option, Some, None, Bool, true, false, refl, sym, ap, ◌∙◌, subst, inl, inr, ⊎_elim, append_assoc, append-nil}
 use Rattle.std.specs.Prelude.{find}
 use Rattle.std.specs.Str.{bytes_eq}
-use Rattle.entry_laws.specs.rsct_packet.declared.ids.ProviderId.{ProviderId}
-use Rattle.entry_laws.specs.rsct_packet.Providers.{same_provider}
-use Rattle.entry_laws.specs.rsct_packet.Search.{Has}
-use Rattle.entry_laws.specs.rsct_packet.Text.{name_lt}
-use Rattle.entry_laws.proofs.rsct_packet_laws.HasLaws.{has_append, append_has_left, find_has}
-use Rattle.entry_laws.specs.client_callbacks.declared.told.Why.{Why}
-use Rattle.entry_laws.specs.node_state.declared.group.Decision.{Decision}
-use Rattle.entry_laws.specs.node_state.declared.group.GroupRow.{GroupRow}
-use Rattle.entry_laws.specs.node_state.declared.group.Led.{Led}
-use Rattle.entry_laws.specs.node_state.declared.happened.Happened.{Happened}
-use Rattle.entry_laws.specs.node_state.declared.packet.Body.{Body}
-use Rattle.entry_laws.specs.node_state.declared.packet.Packet.{Packet}
-use Rattle.entry_laws.specs.node_state.declared.state.Core.{Core}
-use Rattle.entry_laws.specs.node_state.State.{new_row, row_found, row_of, rows_with, with_row, with_led, led_of, decision_of, decisions_with, recorded}
-use Rattle.entry_laws.specs.node_state.Sending.{packet_on, send_on}
-use Rattle.entry_laws.specs.node_state.Deciding.{keep_decision}
+use Rattle.rsct_packet.specs.declared.ids.ProviderId.{ProviderId}
+use Rattle.rsct_packet.specs.Providers.{same_provider}
+use Rattle.rsct_packet.specs.Search.{Has}
+use Rattle.rsct_packet.specs.Text.{name_lt}
+use Rattle.rsct_packet.proofs.HasLaws.{has_append, append_has_left, find_has}
+use Rattle.client_callbacks.specs.declared.told.Why.{Why}
+use Rattle.node_state.specs.declared.group.Decision.{Decision}
+use Rattle.node_state.specs.declared.group.GroupRow.{GroupRow}
+use Rattle.node_state.specs.declared.group.Led.{Led}
+use Rattle.node_state.specs.declared.happened.Happened.{Happened}
+use Rattle.node_state.specs.declared.packet.Body.{Body}
+use Rattle.node_state.specs.declared.packet.Packet.{Packet}
+use Rattle.node_state.specs.declared.state.Core.{Core}
+use Rattle.node_state.specs.State.{new_row, row_found, row_of, rows_with, with_row, with_led, led_of, decision_of, decisions_with, recorded}
+use Rattle.node_state.specs.Sending.{packet_on, send_on}
+use Rattle.node_state.specs.Deciding.{keep_decision}
 use Rattle.run_laws.proofs.gapless.FairWalk.{Fairly, FairBody, Mild, Alike, Keeps}
 
 -- what is sent and decided

@@ -3,53 +3,53 @@
 use Rattle.std.proofs.Common.{◌≡◌, ℕ, zero, suc, List, [], ◌∷◌, length, Option, Some, None, Bool, true, false, refl, sym, ap, ◌∙◌, subst, inl, inr, ⊎_elim, append_assoc, append-nil}
 use Rattle.std.specs.Prelude.{not, map, filter, fold, flat_map}
 use Rattle.std.specs.Str.{bytes_eq}
-use Rattle.entry_laws.specs.rsct_packet.declared.ids.ProviderId.{ProviderId}
-use Rattle.entry_laws.specs.rsct_packet.declared.ids.ProtoId.{ProtoId}
-use Rattle.entry_laws.specs.rsct_packet.Lists.{is_empty}
-use Rattle.entry_laws.specs.rsct_packet.Providers.{among}
-use Rattle.entry_laws.specs.rsct_packet.Search.{Has}
-use Rattle.entry_laws.specs.rsct_packet.Text.{name_lt}
-use Rattle.entry_laws.proofs.rsct_packet_laws.HasLaws.{has_append, has_map}
-use Rattle.entry_laws.specs.group_attr.declared.attrs.Attrs.{Attrs}
-use Rattle.entry_laws.specs.group_attr.declared.attrs.Phases.{Phases}
-use Rattle.entry_laws.specs.group_attr.declared.attrs.Phases.TheVariants.{One, Many}
-use Rattle.entry_laws.specs.proposal_core.declared.proposal.Cause.TheVariants.{Died, Gone}
-use Rattle.entry_laws.specs.proposal_core.declared.proposal.Failure.{Failure}
-use Rattle.entry_laws.specs.proposal_core.declared.proposal.Proposal.{Proposal}
-use Rattle.entry_laws.specs.proposal_core.declared.proposal.Proposal.TheVariants.{Join, Fail, Reflect}
-use Rattle.entry_laws.specs.proposal_core.declared.entry.Entry.{Entry}
-use Rattle.entry_laws.specs.proposal_core.declared.entry.Entry.TheVariants.{Once, Begin}
-use Rattle.entry_laws.specs.proposal_core.declared.group_state.GroupState.{GroupState}
-use Rattle.entry_laws.specs.proposal_core.Fold.{max_phases}
-use Rattle.entry_laws.specs.proposal_core.Lists.{list_or_new, with_entry}
-use Rattle.entry_laws.specs.batch_rules.Waiting.{WaitingView, add_failure, batches_failures, chosen_of, next_failures, failures_left, next_joins, joins_left}
-use Rattle.entry_laws.specs.vote_phases.Tally.{TallyView}
-use Rattle.entry_laws.specs.source_target.declared.Due.{Due}
-use Rattle.entry_laws.specs.source_target.declared.Due.TheVariants as due
-use Rattle.entry_laws.specs.source_target.Due as target
-use Rattle.entry_laws.specs.subscribe_core.Subs.{is_of_group, differs}
-use Rattle.entry_laws.specs.client_callbacks.declared.told.Why.{Why}
-use Rattle.entry_laws.specs.client_callbacks.declared.told.Why.TheVariants.{NoSource}
-use Rattle.entry_laws.specs.client_callbacks.declared.ballot.Filled.{Filled}
-use Rattle.entry_laws.specs.client_callbacks.Ballots.{BallotView}
-use Rattle.entry_laws.specs.session_state.declared.casts.Cast.{Cast}
-use Rattle.entry_laws.specs.session_state.declared.state.SessionState.{SessionState}
-use Rattle.entry_laws.specs.session_state.HandOn.{hearers, casts_out, is_dissolved}
-use Rattle.entry_laws.specs.session_state.HandOn as session
-use Rattle.entry_laws.specs.node_state.declared.group.Decision.{Decision}
-use Rattle.entry_laws.specs.node_state.declared.group.GroupRow.{GroupRow}
-use Rattle.entry_laws.specs.node_state.declared.group.Led.{Led}
-use Rattle.entry_laws.specs.node_state.declared.happened.Happened.{Happened}
-use Rattle.entry_laws.specs.node_state.declared.happened.Happened.TheVariants as happened
-use Rattle.entry_laws.specs.node_state.declared.packet.Body.{Body}
-use Rattle.entry_laws.specs.node_state.declared.packet.Body.TheVariants as body
-use Rattle.entry_laws.specs.node_state.declared.state.Core.{Core}
-use Rattle.entry_laws.specs.node_state.State.{new_row, row_of, rows_with, with_row, with_led, led_of, state_of, len_of, list_forgotten, fits_at_end, forget_below, frozen, leader_of, led_groups, others, least_acked, decision_of, recorded, recorded_all, with_sessions}
-use Rattle.entry_laws.specs.node_state.Sending.{send_on, sent, send_all, send_if_known, network_to, vote_of}
-use Rattle.entry_laws.specs.node_state.HandOn.{Answering, fills, cast_record, cast_records, heard, note_of, notes, noted, ballot_sent, cast_sent_of, casts_sent, hand_on}
-use Rattle.entry_laws.specs.node_state.Leading.{put, put_and_hand, forget_least, with_waiting, wait_if, new_members_wait, appended, append_if_fits, with_tally, tally_set, tally_for, tally_opened, closing_entry, is_phase, closes_from, closes, begin_many, begins}
-use Rattle.entry_laws.specs.node_state.Deciding.{keep_decision, refused, known_state, lacks_source, source_len}
-use Rattle.entry_laws.specs.node_state.Ending.{Pass, quiet, begun_now, failures_begin, due_begins, source_begins, attrs_for, carried_len, source_refused, joins_begin, or_due, or_joins, may_begin, first_begins, group_begins, one_pass, passes, most_begun, end_step}
+use Rattle.rsct_packet.specs.declared.ids.ProviderId.{ProviderId}
+use Rattle.rsct_packet.specs.declared.ids.ProtoId.{ProtoId}
+use Rattle.rsct_packet.specs.Lists.{is_empty}
+use Rattle.rsct_packet.specs.Providers.{among}
+use Rattle.rsct_packet.specs.Search.{Has}
+use Rattle.rsct_packet.specs.Text.{name_lt}
+use Rattle.rsct_packet.proofs.HasLaws.{has_append, has_map}
+use Rattle.group_attr.specs.declared.attrs.Attrs.{Attrs}
+use Rattle.group_attr.specs.declared.attrs.Phases.{Phases}
+use Rattle.group_attr.specs.declared.attrs.Phases.TheVariants.{One, Many}
+use Rattle.proposal_core.specs.declared.proposal.Cause.TheVariants.{Died, Gone}
+use Rattle.proposal_core.specs.declared.proposal.Failure.{Failure}
+use Rattle.proposal_core.specs.declared.proposal.Proposal.{Proposal}
+use Rattle.proposal_core.specs.declared.proposal.Proposal.TheVariants.{Join, Fail, Reflect}
+use Rattle.proposal_core.specs.declared.entry.Entry.{Entry}
+use Rattle.proposal_core.specs.declared.entry.Entry.TheVariants.{Once, Begin}
+use Rattle.proposal_core.specs.declared.group_state.GroupState.{GroupState}
+use Rattle.proposal_core.specs.Fold.{max_phases}
+use Rattle.proposal_core.specs.Lists.{list_or_new, with_entry}
+use Rattle.batch_rules.specs.Waiting.{WaitingView, add_failure, batches_failures, chosen_of, next_failures, failures_left, next_joins, joins_left}
+use Rattle.vote_phases.specs.Tally.{TallyView}
+use Rattle.source_target.specs.declared.Due.{Due}
+use Rattle.source_target.specs.declared.Due.TheVariants as due
+use Rattle.source_target.specs.Due as target
+use Rattle.subscribe_core.specs.Subs.{is_of_group, differs}
+use Rattle.client_callbacks.specs.declared.told.Why.{Why}
+use Rattle.client_callbacks.specs.declared.told.Why.TheVariants.{NoSource}
+use Rattle.client_callbacks.specs.declared.ballot.Filled.{Filled}
+use Rattle.client_callbacks.specs.Ballots.{BallotView}
+use Rattle.session_state.specs.declared.casts.Cast.{Cast}
+use Rattle.session_state.specs.declared.state.SessionState.{SessionState}
+use Rattle.session_state.specs.HandOn.{hearers, casts_out, is_dissolved}
+use Rattle.session_state.specs.HandOn as session
+use Rattle.node_state.specs.declared.group.Decision.{Decision}
+use Rattle.node_state.specs.declared.group.GroupRow.{GroupRow}
+use Rattle.node_state.specs.declared.group.Led.{Led}
+use Rattle.node_state.specs.declared.happened.Happened.{Happened}
+use Rattle.node_state.specs.declared.happened.Happened.TheVariants as happened
+use Rattle.node_state.specs.declared.packet.Body.{Body}
+use Rattle.node_state.specs.declared.packet.Body.TheVariants as body
+use Rattle.node_state.specs.declared.state.Core.{Core}
+use Rattle.node_state.specs.State.{new_row, row_of, rows_with, with_row, with_led, led_of, state_of, len_of, list_forgotten, fits_at_end, forget_below, frozen, leader_of, led_groups, others, least_acked, decision_of, recorded, recorded_all, with_sessions}
+use Rattle.node_state.specs.Sending.{send_on, sent, send_all, send_if_known, network_to, vote_of}
+use Rattle.node_state.specs.HandOn.{Answering, fills, cast_record, cast_records, heard, note_of, notes, noted, ballot_sent, cast_sent_of, casts_sent, hand_on}
+use Rattle.node_state.specs.Leading.{put, put_and_hand, forget_least, with_waiting, wait_if, new_members_wait, appended, append_if_fits, with_tally, tally_set, tally_for, tally_opened, closing_entry, is_phase, closes_from, closes, begin_many, begins}
+use Rattle.node_state.specs.Deciding.{keep_decision, refused, known_state, lacks_source, source_len}
+use Rattle.node_state.specs.Ending.{Pass, quiet, begun_now, failures_begin, due_begins, source_begins, attrs_for, carried_len, source_refused, joins_begin, or_due, or_joins, may_begin, first_begins, group_begins, one_pass, passes, most_begun, end_step}
 
 -- it is not that a group was dissolved
 abbrev pub Fairly : Option Why → Type 0

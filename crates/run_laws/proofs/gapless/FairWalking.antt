@@ -2,46 +2,46 @@
 use Rattle.std.proofs.Common.{ℕ, List, [], ◌∷◌, Option, Some, None, Bool, true, false, refl, sym, subst, inl, inr, ⊎_elim}
 use Rattle.std.specs.Prelude.{not, ◌==◌, filter, find, fold, flat_map, is_some}
 use Rattle.std.specs.Str.{bytes_eq}
-use Rattle.entry_laws.specs.rsct_packet.declared.ids.ProviderId.{ProviderId}
-use Rattle.entry_laws.specs.rsct_packet.Mask.{nodes_of}
-use Rattle.entry_laws.specs.rsct_packet.Providers.{among}
-use Rattle.entry_laws.specs.rsct_packet.Search.{Has}
-use Rattle.entry_laws.proofs.rsct_packet_laws.HasLaws.{has_append}
-use Rattle.entry_laws.specs.group_attr.Attrs.{host_membership}
-use Rattle.entry_laws.specs.proposal_core.declared.proposal.Cause.TheVariants.{Died}
-use Rattle.entry_laws.specs.proposal_core.declared.entry.Entry.{Entry}
-use Rattle.entry_laws.specs.batch_rules.Waiting.{add_failure}
-use Rattle.entry_laws.specs.adapter_ring.declared.ring.Ring.{Ring}
-use Rattle.entry_laws.specs.adapter_ring.declared.ring.RingSet.{RingSet}
-use Rattle.entry_laws.specs.adapter_ring.declared.packet.RingPacket.{RingPacket}
-use Rattle.entry_laws.specs.adapter_ring.declared.packet.RingSend.{RingSend}
-use Rattle.entry_laws.specs.adapter_ring.declared.packet.RingEvent.TheVariants as ring_event
-use Rattle.entry_laws.specs.adapter_ring.declared.work.RingWork.{RingWork}
-use Rattle.entry_laws.specs.adapter_ring.Rings.{ring_step}
-use Rattle.entry_laws.specs.node_reach.Reach as reach
-use Rattle.entry_laws.specs.subscribe_core.declared.subs.Subscription.{Subscription}
-use Rattle.entry_laws.specs.client_callbacks.declared.told.Told.TheVariants as told
-use Rattle.entry_laws.specs.view_state.declared.install.Base.{Base}
-use Rattle.entry_laws.specs.view_state.Bases.{base_named}
-use Rattle.entry_laws.specs.view_state.declared.packet.ViewPacket.TheVariants as packet
-use Rattle.entry_laws.specs.view_state.declared.packet.ViewSend.{ViewSend}
-use Rattle.entry_laws.specs.view_state.declared.views.ViewWork.{ViewWork}
-use Rattle.entry_laws.specs.packet_bodies.declared.body.ReportRow.{ReportRow}
-use Rattle.entry_laws.specs.node_state.declared.happened.Happened.{Happened}
-use Rattle.entry_laws.specs.node_state.declared.happened.Happened.TheVariants as happened
-use Rattle.entry_laws.specs.node_state.declared.packet.Body.{Body}
-use Rattle.entry_laws.specs.node_state.declared.packet.Body.TheVariants as body
-use Rattle.entry_laws.specs.node_state.declared.packet.Packet.{Packet}
-use Rattle.entry_laws.specs.node_state.declared.state.Core.{Core}
-use Rattle.entry_laws.specs.node_state.Settings.{is_rings}
-use Rattle.entry_laws.specs.node_state.State.{state_of, led_groups}
-use Rattle.entry_laws.specs.node_state.Sending.{send_on, sent}
-use Rattle.entry_laws.specs.node_state.HandOn.{Answering, note_of, subscriber_name}
-use Rattle.entry_laws.specs.node_state.Leading.{put_and_hand, with_waiting}
-use Rattle.entry_laws.specs.node_state.Applying.{Lacking, fill_lists, base_note, entering_note, entering_noted, taken_sent, owed_sent, wait_failed, phase_reopened, lead, lead_groups}
-use Rattle.entry_laws.specs.node_state.Ticks.{row_reported, take_report, ring_put, set_records, ring_taken, ring_row_of, ring_row, rings_union, report_of, send_report, rings_tick, tick_rings}
-use Rattle.entry_laws.specs.node_state.Status.{status_text}
-use Rattle.entry_laws.specs.node_state.Step.{is_used, used_if, take_body}
+use Rattle.rsct_packet.specs.declared.ids.ProviderId.{ProviderId}
+use Rattle.rsct_packet.specs.Mask.{nodes_of}
+use Rattle.rsct_packet.specs.Providers.{among}
+use Rattle.rsct_packet.specs.Search.{Has}
+use Rattle.rsct_packet.proofs.HasLaws.{has_append}
+use Rattle.group_attr.specs.Attrs.{host_membership}
+use Rattle.proposal_core.specs.declared.proposal.Cause.TheVariants.{Died}
+use Rattle.proposal_core.specs.declared.entry.Entry.{Entry}
+use Rattle.batch_rules.specs.Waiting.{add_failure}
+use Rattle.adapter_ring.specs.declared.ring.Ring.{Ring}
+use Rattle.adapter_ring.specs.declared.ring.RingSet.{RingSet}
+use Rattle.adapter_ring.specs.declared.packet.RingPacket.{RingPacket}
+use Rattle.adapter_ring.specs.declared.packet.RingSend.{RingSend}
+use Rattle.adapter_ring.specs.declared.packet.RingEvent.TheVariants as ring_event
+use Rattle.adapter_ring.specs.declared.work.RingWork.{RingWork}
+use Rattle.adapter_ring.specs.Rings.{ring_step}
+use Rattle.node_reach.specs.Reach as reach
+use Rattle.subscribe_core.specs.declared.subs.Subscription.{Subscription}
+use Rattle.client_callbacks.specs.declared.told.Told.TheVariants as told
+use Rattle.view_state.specs.declared.install.Base.{Base}
+use Rattle.view_state.specs.Bases.{base_named}
+use Rattle.view_state.specs.declared.packet.ViewPacket.TheVariants as packet
+use Rattle.view_state.specs.declared.packet.ViewSend.{ViewSend}
+use Rattle.view_state.specs.declared.views.ViewWork.{ViewWork}
+use Rattle.packet_bodies.specs.declared.body.ReportRow.{ReportRow}
+use Rattle.node_state.specs.declared.happened.Happened.{Happened}
+use Rattle.node_state.specs.declared.happened.Happened.TheVariants as happened
+use Rattle.node_state.specs.declared.packet.Body.{Body}
+use Rattle.node_state.specs.declared.packet.Body.TheVariants as body
+use Rattle.node_state.specs.declared.packet.Packet.{Packet}
+use Rattle.node_state.specs.declared.state.Core.{Core}
+use Rattle.node_state.specs.Settings.{is_rings}
+use Rattle.node_state.specs.State.{state_of, led_groups}
+use Rattle.node_state.specs.Sending.{send_on, sent}
+use Rattle.node_state.specs.HandOn.{Answering, note_of, subscriber_name}
+use Rattle.node_state.specs.Leading.{put_and_hand, with_waiting}
+use Rattle.node_state.specs.Applying.{Lacking, fill_lists, base_note, entering_note, entering_noted, taken_sent, owed_sent, wait_failed, phase_reopened, lead, lead_groups}
+use Rattle.node_state.specs.Ticks.{row_reported, take_report, ring_put, set_records, ring_taken, ring_row_of, ring_row, rings_union, report_of, send_report, rings_tick, tick_rings}
+use Rattle.node_state.specs.Status.{status_text}
+use Rattle.node_state.specs.Step.{is_used, used_if, take_body}
 use Rattle.run_laws.proofs.gapless.FairWalk.{FairBody, Mild, alike_groups, Keeps, on_either, on_fold, on_sent, on_sent_all, on_records, on_put_handed, on_waiting, on_opened, on_closes}
 use Rattle.run_laws.proofs.gapless.FairRows.{on_requests, on_votes, on_lookup, on_tell, on_name, on_request, on_entry, on_ack, on_vote, on_gone}
 

@@ -2,23 +2,23 @@
 use Rattle.std.proofs.Common.{◌≡◌, ◌⊎◌, ℕ, List, [], ◌∷◌, Option, Some, None, Bool, true, false, refl, sym, ap, ◌∙◌, inl, inr, ⊎_elim}
 use Rattle.std.specs.Prelude.{◌==◌, ◌&&◌, ◌||◌, not, find, filter, is_some, is_none, if◌then◌else◌}
 use Rattle.std.proofs.lemmas.Bool.{eqb-true}
-use Rattle.entry_laws.specs.rsct_packet.declared.ids.ProviderId.{ProviderId}
-use Rattle.entry_laws.specs.rsct_packet.Providers.{among, same_provider}
-use Rattle.entry_laws.specs.rsct_packet.Search.{Has}
-use Rattle.entry_laws.proofs.rsct_packet_laws.HasLaws.{has_append, find_has, find_none}
-use Rattle.entry_laws.specs.proposal_core.declared.entry.Entry.{Entry}
-use Rattle.entry_laws.specs.proposal_core.declared.group_state.GroupState.{GroupState}
-use Rattle.entry_laws.specs.proposal_core.Fold.{joiners_in, present}
-use Rattle.entry_laws.specs.client_callbacks.declared.told.Why.{Why}
-use Rattle.entry_laws.specs.client_callbacks.declared.ballot.Filled.{Filled}
-use Rattle.entry_laws.specs.session_state.declared.state.Provider.{Provider}
-use Rattle.entry_laws.specs.session_state.declared.state.Request.{Request}
-use Rattle.entry_laws.specs.session_state.declared.state.SessionState.{SessionState}
-use Rattle.entry_laws.specs.session_state.State.{provider_of, is_provider, is_asked_by, outstanding, without_providers}
-use Rattle.entry_laws.specs.session_state.HandOn.{is_join, is_join_request, is_numbered, is_dissolved, takes_telling, told_of, take_telling, beginners, hearers, is_present, handed_on}
-use Rattle.entry_laws.proofs.step_refinement_laws.SessionLaws.{provider_self, provider_same}
-use Rattle.entry_laws.proofs.row_laws_laws.hearing.Handing.{has_among, handed_kept, handed_begun, hearer_found, new_hears}
-use Rattle.entry_laws.proofs.row_laws_laws.failed_rows.Living.{IsLive, handed_lives}
+use Rattle.rsct_packet.specs.declared.ids.ProviderId.{ProviderId}
+use Rattle.rsct_packet.specs.Providers.{among, same_provider}
+use Rattle.rsct_packet.specs.Search.{Has}
+use Rattle.rsct_packet.proofs.HasLaws.{has_append, find_has, find_none}
+use Rattle.proposal_core.specs.declared.entry.Entry.{Entry}
+use Rattle.proposal_core.specs.declared.group_state.GroupState.{GroupState}
+use Rattle.proposal_core.specs.Fold.{joiners_in, present}
+use Rattle.client_callbacks.specs.declared.told.Why.{Why}
+use Rattle.client_callbacks.specs.declared.ballot.Filled.{Filled}
+use Rattle.session_state.specs.declared.state.Provider.{Provider}
+use Rattle.session_state.specs.declared.state.Request.{Request}
+use Rattle.session_state.specs.declared.state.SessionState.{SessionState}
+use Rattle.session_state.specs.State.{provider_of, is_provider, is_asked_by, outstanding, without_providers}
+use Rattle.session_state.specs.HandOn.{is_join, is_join_request, is_numbered, is_dissolved, takes_telling, told_of, take_telling, beginners, hearers, is_present, handed_on}
+use Rattle.step_refinement.proofs.SessionLaws.{provider_self, provider_same}
+use Rattle.row_laws.proofs.hearing.Handing.{has_among, handed_kept, handed_begun, hearer_found, new_hears}
+use Rattle.row_laws.proofs.failed_rows.Living.{IsLive, handed_lives}
 use Rattle.run_laws.specs.gapless.Takers.{Stood}
 
 pub some_is : {a b : Provider} → Some a ≡ Some b → a ≡ b

@@ -1,26 +1,26 @@
 -- In each scene whose history names calls, and calls alone, as calls: each put is heard by whoever takes part.
 use Rattle.std.proofs.Common.{◌≡◌, ◌⊎◌, ℕ, ◌+◌, List, [], ◌∷◌, ◌++◌, Some, None, false, refl, sym, ◌∙◌, subst, inl, inr, append_assoc}
 use Rattle.std.specs.Prelude.{reverse, IsTrue}
-use Rattle.entry_laws.specs.rsct_packet.declared.ids.ProviderId.{ProviderId}
-use Rattle.entry_laws.specs.rsct_packet.Mask.{nodes_of}
-use Rattle.entry_laws.specs.rsct_packet.Search.{Has}
-use Rattle.entry_laws.proofs.rsct_packet_laws.HasLaws.{append_has_right}
-use Rattle.entry_laws.specs.node_state.declared.config.Config.{Config}
-use Rattle.entry_laws.specs.node_state.declared.happened.Happened.{Happened}
-use Rattle.entry_laws.specs.node_state.declared.happened.Happened.TheVariants as happened
-use Rattle.entry_laws.specs.node_state.declared.state.Core.{Core}
-use Rattle.entry_laws.specs.node_state.HandOn.{Answering}
-use Rattle.entry_laws.specs.node_state.Step.{NodeEvent, at_work, started, stepped}
-use Rattle.entry_laws.specs.world_model.declared.event.Event.{Event}
-use Rattle.entry_laws.specs.world_model.Run.{Happening}
-use Rattle.entry_laws.specs.run_safety.Past.{History, Within, earlier}
-use Rattle.entry_laws.specs.run_safety.Stays.{stays, part, takes_part, was_let_go}
-use Rattle.entry_laws.specs.step_refinement.Tied.{Scene}
-use Rattle.entry_laws.specs.step_refinement.Rows.{over, nothing_yet, Arises}
-use Rattle.entry_laws.specs.step_refinement.Runs.{Reached}
-use Rattle.entry_laws.proofs.row_laws_laws.hearing.Listening.{reverse_has}
-use Rattle.entry_laws.specs.row_laws.failed_rows.Scenes.{Names}
-use Rattle.entry_laws.proofs.row_laws_laws.failed_rows.Origin.{root_of}
+use Rattle.rsct_packet.specs.declared.ids.ProviderId.{ProviderId}
+use Rattle.rsct_packet.specs.Mask.{nodes_of}
+use Rattle.rsct_packet.specs.Search.{Has}
+use Rattle.rsct_packet.proofs.HasLaws.{append_has_right}
+use Rattle.node_state.specs.declared.config.Config.{Config}
+use Rattle.node_state.specs.declared.happened.Happened.{Happened}
+use Rattle.node_state.specs.declared.happened.Happened.TheVariants as happened
+use Rattle.node_state.specs.declared.state.Core.{Core}
+use Rattle.node_state.specs.HandOn.{Answering}
+use Rattle.node_state.specs.Step.{NodeEvent, at_work, started, stepped}
+use Rattle.world_model.specs.declared.event.Event.{Event}
+use Rattle.world_model.specs.Run.{Happening}
+use Rattle.run_safety.specs.Past.{History, Within, earlier}
+use Rattle.run_safety.specs.Stays.{stays, part, takes_part, was_let_go}
+use Rattle.step_refinement.specs.Tied.{Scene}
+use Rattle.step_refinement.specs.Rows.{over, nothing_yet, Arises}
+use Rattle.step_refinement.specs.Runs.{Reached}
+use Rattle.row_laws.proofs.hearing.Listening.{reverse_has}
+use Rattle.row_laws.specs.failed_rows.Scenes.{Names}
+use Rattle.row_laws.proofs.failed_rows.Origin.{root_of}
 use Rattle.provider_laws.specs.leaving.Scenes.{IsCall, Nothing, AllStart, Starts, Stops, Steps, Notes}
 use Rattle.provider_laws.proofs.leaving.Keeping.{Clean}
 use Rattle.provider_laws.proofs.leaving.Law.{reached, clean}

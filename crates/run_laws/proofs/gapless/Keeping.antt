@@ -3,38 +3,38 @@ use Rattle.std.proofs.Common.{◌≡◌, ℕ, ◌+◌, List, [], ◌∷◌, ◌+
 use Rattle.std.specs.Prelude.{reverse, flat_map, map, if◌then◌else◌}
 use Rattle.std.proofs.lemmas.Bool.{eq-eqb}
 use Rattle.std.proofs.lemmas.List.{reverse-append}
-use Rattle.entry_laws.specs.rsct_packet.declared.ids.ViewId.{ViewId}
-use Rattle.entry_laws.specs.rsct_packet.declared.ids.ProviderId.{ProviderId}
-use Rattle.entry_laws.specs.rsct_packet.Search.{Has}
-use Rattle.entry_laws.proofs.rsct_packet_laws.HasLaws.{append_has_left, append_has_right, has_map}
-use Rattle.entry_laws.specs.proposal_core.declared.entry.Entry.{Entry}
-use Rattle.entry_laws.specs.proposal_core.declared.group_state.GroupState.{GroupState}
-use Rattle.entry_laws.specs.proposal_core.Fold.{empty_state, after}
-use Rattle.entry_laws.specs.proposal_core.Lists.{list_or_new, with_entry}
-use Rattle.entry_laws.specs.client_callbacks.declared.ballot.Filled.{Filled}
-use Rattle.entry_laws.specs.client_callbacks.declared.told.Why.{Why}
-use Rattle.entry_laws.specs.session_state.declared.state.SessionState.{SessionState}
-use Rattle.entry_laws.specs.session_state.State.{provider_of}
-use Rattle.entry_laws.specs.session_state.HandOn.{casts_out, take_telling, handed_on}
-use Rattle.entry_laws.specs.view_state.declared.install.Install.{Install}
-use Rattle.entry_laws.specs.view_state.declared.install.Base.{Base}
-use Rattle.entry_laws.specs.view_state.Bases.{bases_of, base_named}
-use Rattle.entry_laws.specs.view_state.Views.{views_entered}
-use Rattle.entry_laws.specs.node_state.declared.group.GroupRow.{GroupRow}
-use Rattle.entry_laws.specs.node_state.declared.happened.Happened.{Happened}
-use Rattle.entry_laws.specs.node_state.declared.happened.Happened.TheVariants as happened
-use Rattle.entry_laws.specs.node_state.declared.state.Core.{Core}
-use Rattle.entry_laws.specs.node_state.State.{InNameOrder, row_of, with_row, list_of, state_of, len_of, recorded, recorded_all, with_sessions}
-use Rattle.entry_laws.specs.node_state.HandOn.{heard}
-use Rattle.entry_laws.specs.node_state.Leading.{put}
-use Rattle.entry_laws.specs.node_state.Applying.{level_set, base_row, base_record, view_entered}
-use Rattle.entry_laws.specs.run_safety.Past.{History, Within, earlier, records_of}
-use Rattle.entry_laws.specs.run_safety.Stays.{stays}
-use Rattle.entry_laws.proofs.node_state_laws.NameOrder.{row_here, row_there}
-use Rattle.entry_laws.proofs.step_refinement_laws.BaseOrder.{bases_ordered, base_noted}
-use Rattle.entry_laws.specs.row_laws.hearing.Changes.{Same, handing}
-use Rattle.entry_laws.proofs.row_laws_laws.hearing.Attending.{pushed, pushed_reverse, heard_at}
-use Rattle.entry_laws.proofs.row_laws_laws.hearing.Doing.{base_len, entered_groups}
+use Rattle.rsct_packet.specs.declared.ids.ViewId.{ViewId}
+use Rattle.rsct_packet.specs.declared.ids.ProviderId.{ProviderId}
+use Rattle.rsct_packet.specs.Search.{Has}
+use Rattle.rsct_packet.proofs.HasLaws.{append_has_left, append_has_right, has_map}
+use Rattle.proposal_core.specs.declared.entry.Entry.{Entry}
+use Rattle.proposal_core.specs.declared.group_state.GroupState.{GroupState}
+use Rattle.proposal_core.specs.Fold.{empty_state, after}
+use Rattle.proposal_core.specs.Lists.{list_or_new, with_entry}
+use Rattle.client_callbacks.specs.declared.ballot.Filled.{Filled}
+use Rattle.client_callbacks.specs.declared.told.Why.{Why}
+use Rattle.session_state.specs.declared.state.SessionState.{SessionState}
+use Rattle.session_state.specs.State.{provider_of}
+use Rattle.session_state.specs.HandOn.{casts_out, take_telling, handed_on}
+use Rattle.view_state.specs.declared.install.Install.{Install}
+use Rattle.view_state.specs.declared.install.Base.{Base}
+use Rattle.view_state.specs.Bases.{bases_of, base_named}
+use Rattle.view_state.specs.Views.{views_entered}
+use Rattle.node_state.specs.declared.group.GroupRow.{GroupRow}
+use Rattle.node_state.specs.declared.happened.Happened.{Happened}
+use Rattle.node_state.specs.declared.happened.Happened.TheVariants as happened
+use Rattle.node_state.specs.declared.state.Core.{Core}
+use Rattle.node_state.specs.State.{InNameOrder, row_of, with_row, list_of, state_of, len_of, recorded, recorded_all, with_sessions}
+use Rattle.node_state.specs.HandOn.{heard}
+use Rattle.node_state.specs.Leading.{put}
+use Rattle.node_state.specs.Applying.{level_set, base_row, base_record, view_entered}
+use Rattle.run_safety.specs.Past.{History, Within, earlier, records_of}
+use Rattle.run_safety.specs.Stays.{stays}
+use Rattle.node_state.proofs.NameOrder.{row_here, row_there}
+use Rattle.step_refinement.proofs.BaseOrder.{bases_ordered, base_noted}
+use Rattle.row_laws.specs.hearing.Changes.{Same, handing}
+use Rattle.row_laws.proofs.hearing.Attending.{pushed, pushed_reverse, heard_at}
+use Rattle.row_laws.proofs.hearing.Doing.{base_len, entered_groups}
 use Rattle.provider_laws.proofs.attending.Entering.{bases_stay, with_state, base_is, new_stay, state_named}
 use Rattle.run_laws.specs.seen_runs.Seen.{Seen, SeenAt}
 use Rattle.run_laws.specs.gapless.Takers.{Taker, Stood, AskedJoin, Dissolving}

@@ -2,30 +2,30 @@
 use Rattle.std.proofs.Common.{◌≡◌, ◌⊎◌, ℕ, ◌+◌, List, [], ◌∷◌, ◌++◌, Option, Some, None, true, false, refl, sym, ap, ◌∙◌, subst, inl, inr, ⊎_elim}
 use Rattle.std.specs.Prelude.{IsTrue, fold, reverse}
 use Rattle.std.specs.List.{list_any}
-use Rattle.entry_laws.specs.rsct_packet.declared.ids.ProviderId.{ProviderId}
-use Rattle.entry_laws.specs.rsct_packet.Mask.{nodes_of}
-use Rattle.entry_laws.specs.rsct_packet.Search.{Has}
-use Rattle.entry_laws.proofs.rsct_packet_laws.HasLaws.{has_append}
-use Rattle.entry_laws.specs.client_callbacks.declared.told.Why.TheVariants.{Dissolved}
-use Rattle.entry_laws.specs.session_state.declared.state.Request.{Request}
-use Rattle.entry_laws.specs.node_state.declared.config.Config.{Config}
-use Rattle.entry_laws.specs.node_state.declared.happened.Happened.{Happened}
-use Rattle.entry_laws.specs.node_state.declared.happened.Happened.TheVariants as happened
-use Rattle.entry_laws.specs.node_state.declared.state.Core.{Core}
-use Rattle.entry_laws.specs.node_state.HandOn.{Answering}
-use Rattle.entry_laws.specs.node_state.Step.{NodeEvent, Ticks, Asks, Given, Calls, Garbage, at_work, ring_record, started, stepped}
-use Rattle.entry_laws.specs.world_model.declared.event.Event.{Event}
-use Rattle.entry_laws.specs.world_model.Run.{Happening}
-use Rattle.entry_laws.specs.run_safety.Past.{History, EachEvent, earlier}
-use Rattle.entry_laws.specs.run_safety.SafeHeard.{LeftBehind, is_left_behind, enters}
-use Rattle.entry_laws.specs.run_safety.Stays.{stays, was_let_go}
-use Rattle.entry_laws.specs.step_refinement.Tied.{Scene, NodeIsIf, Rests}
-use Rattle.entry_laws.specs.step_refinement.Rows.{over, nothing_yet, with_records, starts_too, Arises}
-use Rattle.entry_laws.specs.step_refinement.Runs.{IsNote}
-use Rattle.entry_laws.proofs.step_refinement_laws.RunLaw.{reached_rests}
-use Rattle.entry_laws.proofs.row_laws_laws.hearing.Listening.{reverse_has, start_each}
-use Rattle.entry_laws.proofs.row_laws_laws.failed_rows.Living.{IsLive}
-use Rattle.entry_laws.proofs.row_laws_laws.failed_rows.Origin.{root_of}
+use Rattle.rsct_packet.specs.declared.ids.ProviderId.{ProviderId}
+use Rattle.rsct_packet.specs.Mask.{nodes_of}
+use Rattle.rsct_packet.specs.Search.{Has}
+use Rattle.rsct_packet.proofs.HasLaws.{has_append}
+use Rattle.client_callbacks.specs.declared.told.Why.TheVariants.{Dissolved}
+use Rattle.session_state.specs.declared.state.Request.{Request}
+use Rattle.node_state.specs.declared.config.Config.{Config}
+use Rattle.node_state.specs.declared.happened.Happened.{Happened}
+use Rattle.node_state.specs.declared.happened.Happened.TheVariants as happened
+use Rattle.node_state.specs.declared.state.Core.{Core}
+use Rattle.node_state.specs.HandOn.{Answering}
+use Rattle.node_state.specs.Step.{NodeEvent, Ticks, Asks, Given, Calls, Garbage, at_work, ring_record, started, stepped}
+use Rattle.world_model.specs.declared.event.Event.{Event}
+use Rattle.world_model.specs.Run.{Happening}
+use Rattle.run_safety.specs.Past.{History, EachEvent, earlier}
+use Rattle.run_safety.specs.SafeHeard.{LeftBehind, is_left_behind, enters}
+use Rattle.run_safety.specs.Stays.{stays, was_let_go}
+use Rattle.step_refinement.specs.Tied.{Scene, NodeIsIf, Rests}
+use Rattle.step_refinement.specs.Rows.{over, nothing_yet, with_records, starts_too, Arises}
+use Rattle.step_refinement.specs.Runs.{IsNote}
+use Rattle.step_refinement.proofs.RunLaw.{reached_rests}
+use Rattle.row_laws.proofs.hearing.Listening.{reverse_has, start_each}
+use Rattle.row_laws.proofs.failed_rows.Living.{IsLive}
+use Rattle.row_laws.proofs.failed_rows.Origin.{root_of}
 use Rattle.provider_laws.specs.leaving.Scenes.{Recounted, Nothing, AllStart, Starts, Stops, Steps, Notes}
 use Rattle.provider_laws.proofs.leaving.Walk.{Known}
 use Rattle.provider_laws.proofs.leaving.Walking.{on_stepped}

@@ -1,24 +1,24 @@
 -- Up to where a step enters a view, whoever takes part by the records, and was not let go, is a provider of the node that takes part.
 use Rattle.std.proofs.Common.{◌≡◌, ◌⊎◌, ℕ, List, ◌++◌, Some, true, false, sym, ◌∙◌, subst, inl, inr}
 use Rattle.std.specs.Prelude.{reverse}
-use Rattle.entry_laws.specs.rsct_packet.declared.ids.ProviderId.{ProviderId}
-use Rattle.entry_laws.specs.rsct_packet.Search.{Has}
-use Rattle.entry_laws.proofs.rsct_packet_laws.HasLaws.{has_append}
-use Rattle.entry_laws.specs.session_state.declared.state.Provider.{Provider}
-use Rattle.entry_laws.specs.session_state.State.{provider_of}
-use Rattle.entry_laws.specs.node_state.declared.config.Config.{Config}
-use Rattle.entry_laws.specs.node_state.declared.happened.Happened.{Happened}
-use Rattle.entry_laws.specs.node_state.declared.happened.Happened.TheVariants as happened
-use Rattle.entry_laws.specs.node_state.declared.state.Core.{Core}
-use Rattle.entry_laws.specs.node_state.HandOn.{Answering}
-use Rattle.entry_laws.specs.node_state.Step.{NodeEvent, at_work, stepped}
-use Rattle.entry_laws.specs.world_model.declared.event.Event.{Event}
-use Rattle.entry_laws.specs.run_safety.Past.{earlier, records_of}
-use Rattle.entry_laws.specs.step_refinement.Tied.{Scene}
-use Rattle.entry_laws.specs.step_refinement.Rows.{ended, Arises}
-use Rattle.entry_laws.specs.step_refinement.Runs.{Reached, Steps}
-use Rattle.entry_laws.specs.node_state.State.{InNameOrder}
-use Rattle.entry_laws.proofs.row_laws_laws.hearing.Listening.{reverse_has}
+use Rattle.rsct_packet.specs.declared.ids.ProviderId.{ProviderId}
+use Rattle.rsct_packet.specs.Search.{Has}
+use Rattle.rsct_packet.proofs.HasLaws.{has_append}
+use Rattle.session_state.specs.declared.state.Provider.{Provider}
+use Rattle.session_state.specs.State.{provider_of}
+use Rattle.node_state.specs.declared.config.Config.{Config}
+use Rattle.node_state.specs.declared.happened.Happened.{Happened}
+use Rattle.node_state.specs.declared.happened.Happened.TheVariants as happened
+use Rattle.node_state.specs.declared.state.Core.{Core}
+use Rattle.node_state.specs.HandOn.{Answering}
+use Rattle.node_state.specs.Step.{NodeEvent, at_work, stepped}
+use Rattle.world_model.specs.declared.event.Event.{Event}
+use Rattle.run_safety.specs.Past.{earlier, records_of}
+use Rattle.step_refinement.specs.Tied.{Scene}
+use Rattle.step_refinement.specs.Rows.{ended, Arises}
+use Rattle.step_refinement.specs.Runs.{Reached, Steps}
+use Rattle.node_state.specs.State.{InNameOrder}
+use Rattle.row_laws.proofs.hearing.Listening.{reverse_has}
 use Rattle.provider_laws.proofs.leaving.Events.{same_dissolved}
 use Rattle.run_laws.specs.seen_runs.Seen.{Seen}
 use Rattle.run_laws.proofs.seen_runs.Law.{traces_seen}

@@ -2,45 +2,45 @@
 -- and a call enters no view.
 use Rattle.std.proofs.Common.{◌≡◌, ℕ, List, Option, Some, None, Bool, true, false, refl, sym, ap, ◌∙◌, subst}
 use Rattle.std.specs.Prelude.{not, ◌==◌, ◌&&◌, map, fold}
-use Rattle.entry_laws.specs.rsct_packet.declared.mask.Mask.{Mask}
-use Rattle.entry_laws.specs.rsct_packet.Search.{Has}
-use Rattle.entry_laws.proofs.rsct_packet_laws.HasLaws.{has_map}
-use Rattle.entry_laws.specs.proposal_core.declared.entry.Entry.{Entry}
-use Rattle.entry_laws.specs.view_state.declared.answer.Answer.{Answer}
-use Rattle.entry_laws.specs.view_state.declared.install.Install.{Install}
-use Rattle.entry_laws.specs.view_state.declared.install.Base.{Base}
-use Rattle.entry_laws.specs.view_state.Bases.{bases_of}
-use Rattle.entry_laws.specs.view_state.declared.packet.ViewPacket.{ViewPacket}
-use Rattle.entry_laws.specs.view_state.declared.packet.ViewPacket.TheVariants as packet
-use Rattle.entry_laws.specs.view_state.declared.packet.ViewSend.{ViewSend}
-use Rattle.entry_laws.specs.view_core.declared.step.ViewEvent.TheVariants as event
-use Rattle.entry_laws.specs.view_state.declared.views.ViewWork.{ViewWork}
-use Rattle.entry_laws.specs.view_state.Views.{is_coordinator, is_frozen, install_again_of, view_sent_all, views_at_work, ask_row, prepare_row, answer_row, refuse_row, install_row, taken_row, gathering_ticks, install_again}
-use Rattle.entry_laws.specs.view_core.Steps.{view_stepped}
-use Rattle.entry_laws.specs.view_core.Steps as steps
-use Rattle.entry_laws.specs.view_core.Laws.{AreViews, IsNext, AppliesNext, Goes}
-use Rattle.entry_laws.proofs.view_core_laws.Promises.{promises_stand}
-use Rattle.entry_laws.specs.node_state.declared.group.Decision.{Decision}
-use Rattle.entry_laws.specs.node_state.declared.group.GroupRow.{GroupRow}
-use Rattle.entry_laws.specs.node_state.declared.packet.Body.{Body}
-use Rattle.entry_laws.specs.node_state.declared.packet.Body.TheVariants as body
-use Rattle.entry_laws.specs.node_state.declared.packet.Packet.{Packet}
-use Rattle.entry_laws.specs.node_state.declared.state.Core.{Core}
-use Rattle.entry_laws.specs.node_state.Settings.{is_fixed}
-use Rattle.entry_laws.specs.node_state.State.{InNameOrder, row_of, list_of, state_of, len_of, held_rows, recorded_all}
-use Rattle.entry_laws.specs.node_state.Sending.{sent}
-use Rattle.entry_laws.specs.node_state.HandOn.{Answering}
-use Rattle.entry_laws.specs.node_state.Leading.{put_and_hand}
-use Rattle.entry_laws.specs.node_state.Applying.{Lacking, lacking, own_parts, fill_lists, base_row, view_entered, entered, entered_if, apply_install, views_taken}
-use Rattle.entry_laws.specs.node_state.Ticks.{ring_ask, tick_rings, tick_views, tick_owed, tick_led, tick_row}
-use Rattle.entry_laws.specs.node_state.Step.{NodeEvent, Ticks, Asks, Given, Calls, Garbage, take_order, view_row, take_body, packet_row, event_row, stepped, at_work}
-use Rattle.entry_laws.specs.node_state.Ending.{end_step}
-use Rattle.entry_laws.specs.run_safety.ViewOrder.{is_before, Lt}
-use Rattle.entry_laws.specs.row_laws.hearing.Changes.{Same, Does, Stays, Then, entering}
-use Rattle.entry_laws.proofs.row_laws_laws.hearing.Changes.{Sends, sends_fold, sends_one, Onward, same_sends, put_handed_onward}
-use Rattle.entry_laws.proofs.row_laws_laws.hearing.Rows.{onward_fold, rings_onward}
-use Rattle.entry_laws.proofs.row_laws_laws.hearing.Viewing.{Fit, sides_stand}
-use Rattle.entry_laws.proofs.row_laws_laws.hearing.Whose.{whose_asks, whose_prepares, whose_answers, whose_refuses, whose_installs, whose_takes, whose_ticks}
+use Rattle.rsct_packet.specs.declared.mask.Mask.{Mask}
+use Rattle.rsct_packet.specs.Search.{Has}
+use Rattle.rsct_packet.proofs.HasLaws.{has_map}
+use Rattle.proposal_core.specs.declared.entry.Entry.{Entry}
+use Rattle.view_state.specs.declared.answer.Answer.{Answer}
+use Rattle.view_state.specs.declared.install.Install.{Install}
+use Rattle.view_state.specs.declared.install.Base.{Base}
+use Rattle.view_state.specs.Bases.{bases_of}
+use Rattle.view_state.specs.declared.packet.ViewPacket.{ViewPacket}
+use Rattle.view_state.specs.declared.packet.ViewPacket.TheVariants as packet
+use Rattle.view_state.specs.declared.packet.ViewSend.{ViewSend}
+use Rattle.view_core.specs.declared.step.ViewEvent.TheVariants as event
+use Rattle.view_state.specs.declared.views.ViewWork.{ViewWork}
+use Rattle.view_state.specs.Views.{is_coordinator, is_frozen, install_again_of, view_sent_all, views_at_work, ask_row, prepare_row, answer_row, refuse_row, install_row, taken_row, gathering_ticks, install_again}
+use Rattle.view_core.specs.Steps.{view_stepped}
+use Rattle.view_core.specs.Steps as steps
+use Rattle.view_core.specs.Laws.{AreViews, IsNext, AppliesNext, Goes}
+use Rattle.view_core.proofs.Promises.{promises_stand}
+use Rattle.node_state.specs.declared.group.Decision.{Decision}
+use Rattle.node_state.specs.declared.group.GroupRow.{GroupRow}
+use Rattle.node_state.specs.declared.packet.Body.{Body}
+use Rattle.node_state.specs.declared.packet.Body.TheVariants as body
+use Rattle.node_state.specs.declared.packet.Packet.{Packet}
+use Rattle.node_state.specs.declared.state.Core.{Core}
+use Rattle.node_state.specs.Settings.{is_fixed}
+use Rattle.node_state.specs.State.{InNameOrder, row_of, list_of, state_of, len_of, held_rows, recorded_all}
+use Rattle.node_state.specs.Sending.{sent}
+use Rattle.node_state.specs.HandOn.{Answering}
+use Rattle.node_state.specs.Leading.{put_and_hand}
+use Rattle.node_state.specs.Applying.{Lacking, lacking, own_parts, fill_lists, base_row, view_entered, entered, entered_if, apply_install, views_taken}
+use Rattle.node_state.specs.Ticks.{ring_ask, tick_rings, tick_views, tick_owed, tick_led, tick_row}
+use Rattle.node_state.specs.Step.{NodeEvent, Ticks, Asks, Given, Calls, Garbage, take_order, view_row, take_body, packet_row, event_row, stepped, at_work}
+use Rattle.node_state.specs.Ending.{end_step}
+use Rattle.run_safety.specs.ViewOrder.{is_before, Lt}
+use Rattle.row_laws.specs.hearing.Changes.{Same, Does, Stays, Then, entering}
+use Rattle.row_laws.proofs.hearing.Changes.{Sends, sends_fold, sends_one, Onward, same_sends, put_handed_onward}
+use Rattle.row_laws.proofs.hearing.Rows.{onward_fold, rings_onward}
+use Rattle.row_laws.proofs.hearing.Viewing.{Fit, sides_stand}
+use Rattle.row_laws.proofs.hearing.Whose.{whose_asks, whose_prepares, whose_answers, whose_refuses, whose_installs, whose_takes, whose_ticks}
 use Rattle.run_laws.proofs.gapless.FairWalk.{Fairly, FairBody, on_ended}
 use Rattle.run_laws.proofs.gapless.FairRows.{on_owed_part, on_led_part, on_call}
 use Rattle.run_laws.proofs.gapless.FairWalking.{on_filled, on_views_sent, on_rest, on_rings, on_body}

@@ -3,20 +3,20 @@ use Rattle.std.proofs.Common.{◌≡◌, ◌≢◌, ℕ, ◌+◌, List, [], ◌�
 use Rattle.std.specs.Prelude.{fold, reverse}
 use Rattle.std.specs.List.{list_any}
 use Rattle.std.proofs.lemmas.Bool.{cases_eq}
-use Rattle.entry_laws.specs.rsct_packet.declared.ids.ProviderId.{ProviderId}
-use Rattle.entry_laws.specs.rsct_packet.Search.{Has}
-use Rattle.entry_laws.specs.node_state.declared.config.Config.{Config}
-use Rattle.entry_laws.specs.node_state.declared.happened.Happened.{Happened}
-use Rattle.entry_laws.specs.node_state.declared.happened.Happened.TheVariants as happened
-use Rattle.entry_laws.specs.node_state.declared.state.Core.{Core}
-use Rattle.entry_laws.specs.node_state.Step.{started}
-use Rattle.entry_laws.specs.run_safety.Past.{records_of}
-use Rattle.entry_laws.specs.run_safety.SafeHeard.{is_left_behind, enters}
-use Rattle.entry_laws.specs.run_safety.Stays.{stays}
-use Rattle.entry_laws.proofs.run_safety_laws.Tests.{any_has}
-use Rattle.entry_laws.specs.step_refinement.Tied.{Scene}
-use Rattle.entry_laws.specs.step_refinement.Rows.{starts_too}
-use Rattle.entry_laws.specs.step_refinement.Runs.{IsNote}
+use Rattle.rsct_packet.specs.declared.ids.ProviderId.{ProviderId}
+use Rattle.rsct_packet.specs.Search.{Has}
+use Rattle.node_state.specs.declared.config.Config.{Config}
+use Rattle.node_state.specs.declared.happened.Happened.{Happened}
+use Rattle.node_state.specs.declared.happened.Happened.TheVariants as happened
+use Rattle.node_state.specs.declared.state.Core.{Core}
+use Rattle.node_state.specs.Step.{started}
+use Rattle.run_safety.specs.Past.{records_of}
+use Rattle.run_safety.specs.SafeHeard.{is_left_behind, enters}
+use Rattle.run_safety.specs.Stays.{stays}
+use Rattle.run_safety.proofs.Tests.{any_has}
+use Rattle.step_refinement.specs.Tied.{Scene}
+use Rattle.step_refinement.specs.Rows.{starts_too}
+use Rattle.step_refinement.specs.Runs.{IsNote}
 use Rattle.provider_laws.proofs.attending.OrderLaw.{with_is, started_stays, others_stay}
 use Rattle.run_laws.proofs.gapless.FairWalk.{Mild}
 

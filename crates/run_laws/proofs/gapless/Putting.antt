@@ -2,31 +2,31 @@
 use Rattle.std.proofs.Common.{◌≡◌, ◌⊎◌, ℕ, ◌+◌, List, [], ◌∷◌, ◌++◌, length, Option, Some, None, Bool, true, false, refl, sym, ap, ◌∙◌, subst, inl, inr, ⊎_elim}
 use Rattle.std.specs.Prelude.{reverse, flat_map, IsTrue}
 use Rattle.std.proofs.lemmas.List.{reverse-append}
-use Rattle.entry_laws.specs.rsct_packet.declared.ids.ViewId.{ViewId}
-use Rattle.entry_laws.specs.rsct_packet.declared.ids.ProviderId.{ProviderId}
-use Rattle.entry_laws.specs.rsct_packet.Providers.{among}
-use Rattle.entry_laws.specs.rsct_packet.Search.{Has}
-use Rattle.entry_laws.proofs.rsct_packet_laws.HasLaws.{append_has_right}
-use Rattle.entry_laws.specs.proposal_core.declared.entry.Entry.{Entry}
-use Rattle.entry_laws.specs.proposal_core.declared.entry.Entry.TheVariants.{Once, Begin, Phase, Approve, Reject, Late}
-use Rattle.entry_laws.specs.proposal_core.declared.proposal.Proposal.{Proposal}
-use Rattle.entry_laws.specs.proposal_core.declared.group_state.GroupState.{GroupState}
-use Rattle.entry_laws.specs.proposal_core.Fold.{after, joins_of, present}
-use Rattle.entry_laws.specs.client_callbacks.declared.ballot.Filled.{Filled}
-use Rattle.entry_laws.specs.session_state.declared.casts.Cast.{Cast}
-use Rattle.entry_laws.specs.session_state.declared.state.SessionState.{SessionState}
-use Rattle.entry_laws.specs.session_state.HandOn.{beginners, hearers, casts_of, handed_on}
-use Rattle.entry_laws.specs.node_state.declared.happened.Happened.{Happened}
-use Rattle.entry_laws.specs.node_state.declared.happened.Happened.TheVariants as happened
-use Rattle.entry_laws.specs.node_state.HandOn.{cast_record, cast_records}
-use Rattle.entry_laws.specs.client_callbacks.Ballots.{BallotView}
-use Rattle.entry_laws.specs.rsct_packet.declared.ids.ProtoId.{ProtoId}
-use Rattle.entry_laws.specs.run_safety.Past.{History, earlier, fold_from}
-use Rattle.entry_laws.specs.run_safety.Requests.{proposal_of, IsJoin}
-use Rattle.entry_laws.specs.run_safety.Stays.{Stay, stays, is_join_of, part, takes_part}
-use Rattle.entry_laws.proofs.node_state_laws.NameOrder.{cases_text}
-use Rattle.entry_laws.proofs.row_laws_laws.hearing.Attending.{heard_at, has_cast}
-use Rattle.entry_laws.proofs.row_laws_laws.hearing.Handing.{among_is, new_hears, present_hears}
+use Rattle.rsct_packet.specs.declared.ids.ViewId.{ViewId}
+use Rattle.rsct_packet.specs.declared.ids.ProviderId.{ProviderId}
+use Rattle.rsct_packet.specs.Providers.{among}
+use Rattle.rsct_packet.specs.Search.{Has}
+use Rattle.rsct_packet.proofs.HasLaws.{append_has_right}
+use Rattle.proposal_core.specs.declared.entry.Entry.{Entry}
+use Rattle.proposal_core.specs.declared.entry.Entry.TheVariants.{Once, Begin, Phase, Approve, Reject, Late}
+use Rattle.proposal_core.specs.declared.proposal.Proposal.{Proposal}
+use Rattle.proposal_core.specs.declared.group_state.GroupState.{GroupState}
+use Rattle.proposal_core.specs.Fold.{after, joins_of, present}
+use Rattle.client_callbacks.specs.declared.ballot.Filled.{Filled}
+use Rattle.session_state.specs.declared.casts.Cast.{Cast}
+use Rattle.session_state.specs.declared.state.SessionState.{SessionState}
+use Rattle.session_state.specs.HandOn.{beginners, hearers, casts_of, handed_on}
+use Rattle.node_state.specs.declared.happened.Happened.{Happened}
+use Rattle.node_state.specs.declared.happened.Happened.TheVariants as happened
+use Rattle.node_state.specs.HandOn.{cast_record, cast_records}
+use Rattle.client_callbacks.specs.Ballots.{BallotView}
+use Rattle.rsct_packet.specs.declared.ids.ProtoId.{ProtoId}
+use Rattle.run_safety.specs.Past.{History, earlier, fold_from}
+use Rattle.run_safety.specs.Requests.{proposal_of, IsJoin}
+use Rattle.run_safety.specs.Stays.{Stay, stays, is_join_of, part, takes_part}
+use Rattle.node_state.proofs.NameOrder.{cases_text}
+use Rattle.row_laws.proofs.hearing.Attending.{heard_at, has_cast}
+use Rattle.row_laws.proofs.hearing.Handing.{among_is, new_hears, present_hears}
 use Rattle.provider_laws.proofs.attending.Fresh.{join_carried}
 use Rattle.provider_laws.proofs.attending.Parts.{pushed_stay}
 use Rattle.provider_laws.proofs.attending.Turns.{begins_by_join}

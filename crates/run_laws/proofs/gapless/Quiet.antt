@@ -3,16 +3,16 @@ use Rattle.std.proofs.Common.{◌≡◌, ℕ, List, [], ◌∷◌, ◌++◌, Opt
 use Rattle.std.specs.Prelude.{not, IsTrue}
 use Rattle.std.specs.List.{list_any}
 use Rattle.std.proofs.lemmas.Bool.{and_parts}
-use Rattle.entry_laws.specs.rsct_packet.declared.ids.ProviderId.{ProviderId}
-use Rattle.entry_laws.specs.rsct_packet.Search.{Has}
-use Rattle.entry_laws.proofs.rsct_packet_laws.HasLaws.{append_has_right}
-use Rattle.entry_laws.specs.node_state.declared.happened.Happened.{Happened}
-use Rattle.entry_laws.specs.node_state.declared.happened.Happened.TheVariants as happened
-use Rattle.entry_laws.specs.world_model.Run.{Happening}
-use Rattle.entry_laws.specs.world_model.declared.event.Event.{Event}
-use Rattle.entry_laws.specs.run_safety.Past.{History, EachEvent, Within, earlier}
-use Rattle.entry_laws.specs.run_safety.SafeHeard.{AllHear}
-use Rattle.entry_laws.specs.run_safety.Stays.{stays, part, takes_part, client_of, goodbye_of, is_refused, was_let_go}
+use Rattle.rsct_packet.specs.declared.ids.ProviderId.{ProviderId}
+use Rattle.rsct_packet.specs.Search.{Has}
+use Rattle.rsct_packet.proofs.HasLaws.{append_has_right}
+use Rattle.node_state.specs.declared.happened.Happened.{Happened}
+use Rattle.node_state.specs.declared.happened.Happened.TheVariants as happened
+use Rattle.world_model.specs.Run.{Happening}
+use Rattle.world_model.specs.declared.event.Event.{Event}
+use Rattle.run_safety.specs.Past.{History, EachEvent, Within, earlier}
+use Rattle.run_safety.specs.SafeHeard.{AllHear}
+use Rattle.run_safety.specs.Stays.{stays, part, takes_part, client_of, goodbye_of, is_refused, was_let_go}
 use Rattle.provider_laws.proofs.leaving.Events.{goodbye_is}
 use Rattle.run_laws.specs.gapless.Heard.{leaves, AllHearUnlessLeaving, EachIsHeard, AllHearEachPut}
 use Rattle.provider_laws.specs.resting.Rest.{GoodbyePutsNothing}

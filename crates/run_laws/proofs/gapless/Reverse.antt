@@ -2,22 +2,22 @@
 use Rattle.std.proofs.Common.{◌≡◌, ℕ, List, ◌++◌, Some, true, sym, ap, ◌∙◌, subst, append_assoc}
 use Rattle.std.specs.Prelude.{reverse}
 use Rattle.std.specs.List.{list_any}
-use Rattle.entry_laws.specs.rsct_packet.declared.ids.ProviderId.{ProviderId}
-use Rattle.entry_laws.specs.rsct_packet.Search.{Has}
-use Rattle.entry_laws.specs.client_callbacks.declared.told.Why.TheVariants.{Dissolved}
-use Rattle.entry_laws.specs.node_state.declared.config.Config.{Config}
-use Rattle.entry_laws.specs.node_state.declared.happened.Happened.{Happened}
-use Rattle.entry_laws.specs.node_state.declared.happened.Happened.TheVariants as happened
-use Rattle.entry_laws.specs.node_state.declared.state.Core.{Core}
-use Rattle.entry_laws.specs.node_state.HandOn.{Answering}
-use Rattle.entry_laws.specs.node_state.Step.{NodeEvent, at_work, stepped}
-use Rattle.entry_laws.specs.world_model.declared.event.Event.{Event}
-use Rattle.entry_laws.specs.run_safety.SafeHeard.{LeftBehind, enters}
-use Rattle.entry_laws.specs.step_refinement.Tied.{Scene}
-use Rattle.entry_laws.specs.step_refinement.Rows.{over, Arises}
-use Rattle.entry_laws.specs.step_refinement.Runs.{Reached}
-use Rattle.entry_laws.proofs.row_laws_laws.hearing.Listening.{reverse_has}
-use Rattle.entry_laws.proofs.row_laws_laws.hearing.Added.{enters_add}
+use Rattle.rsct_packet.specs.declared.ids.ProviderId.{ProviderId}
+use Rattle.rsct_packet.specs.Search.{Has}
+use Rattle.client_callbacks.specs.declared.told.Why.TheVariants.{Dissolved}
+use Rattle.node_state.specs.declared.config.Config.{Config}
+use Rattle.node_state.specs.declared.happened.Happened.{Happened}
+use Rattle.node_state.specs.declared.happened.Happened.TheVariants as happened
+use Rattle.node_state.specs.declared.state.Core.{Core}
+use Rattle.node_state.specs.HandOn.{Answering}
+use Rattle.node_state.specs.Step.{NodeEvent, at_work, stepped}
+use Rattle.world_model.specs.declared.event.Event.{Event}
+use Rattle.run_safety.specs.SafeHeard.{LeftBehind, enters}
+use Rattle.step_refinement.specs.Tied.{Scene}
+use Rattle.step_refinement.specs.Rows.{over, Arises}
+use Rattle.step_refinement.specs.Runs.{Reached}
+use Rattle.row_laws.proofs.hearing.Listening.{reverse_has}
+use Rattle.row_laws.proofs.hearing.Added.{enters_add}
 use Rattle.run_laws.proofs.gapless.Fair.{Fair}
 use Rattle.run_laws.proofs.gapless.Moving.{Carries, Moves, Remains, Enters, NotCall}
 use Rattle.run_laws.proofs.gapless.Spoken.{Nought, nought_carries, spoken_moves, reached_spoken}

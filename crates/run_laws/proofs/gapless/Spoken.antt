@@ -1,22 +1,22 @@
 -- In each scene that events lead to: no refusal that was sent, or that a leader keeps, is that a group was dissolved.
 use Rattle.std.proofs.Common.{◌≡◌, ℕ, ◌+◌, List, [], ◌∷◌, Option, Some, None, subst, ⊎_elim}
 use Rattle.std.specs.Prelude.{fold}
-use Rattle.entry_laws.specs.rsct_packet.Mask.{nodes_of}
-use Rattle.entry_laws.specs.rsct_packet.Search.{Has}
-use Rattle.entry_laws.proofs.rsct_packet_laws.HasLaws.{has_append}
-use Rattle.entry_laws.specs.node_state.declared.config.Config.{Config}
-use Rattle.entry_laws.specs.node_state.declared.group.Decision.{Decision}
-use Rattle.entry_laws.specs.node_state.declared.group.GroupRow.{GroupRow}
-use Rattle.entry_laws.specs.node_state.declared.packet.Packet.{Packet}
-use Rattle.entry_laws.specs.node_state.declared.state.Core.{Core}
-use Rattle.entry_laws.specs.node_state.State.{with_sessions}
-use Rattle.entry_laws.specs.node_state.HandOn.{Answering}
-use Rattle.entry_laws.specs.node_state.Step.{NodeEvent, Ticks, Asks, Given, Calls, Garbage, at_work, started, stepped}
-use Rattle.entry_laws.specs.step_refinement.Tied.{Scene}
-use Rattle.entry_laws.specs.step_refinement.Rows.{at_node, nothing_yet, starts_too, Arises}
-use Rattle.entry_laws.specs.step_refinement.Runs.{Reached, Nothing, AllStart, Starts, Stops, Steps, Notes}
-use Rattle.entry_laws.proofs.step_refinement_laws.Changed.{each_set}
-use Rattle.entry_laws.proofs.row_laws_laws.hearing.Listening.{reached_attends}
+use Rattle.rsct_packet.specs.Mask.{nodes_of}
+use Rattle.rsct_packet.specs.Search.{Has}
+use Rattle.rsct_packet.proofs.HasLaws.{has_append}
+use Rattle.node_state.specs.declared.config.Config.{Config}
+use Rattle.node_state.specs.declared.group.Decision.{Decision}
+use Rattle.node_state.specs.declared.group.GroupRow.{GroupRow}
+use Rattle.node_state.specs.declared.packet.Packet.{Packet}
+use Rattle.node_state.specs.declared.state.Core.{Core}
+use Rattle.node_state.specs.State.{with_sessions}
+use Rattle.node_state.specs.HandOn.{Answering}
+use Rattle.node_state.specs.Step.{NodeEvent, Ticks, Asks, Given, Calls, Garbage, at_work, started, stepped}
+use Rattle.step_refinement.specs.Tied.{Scene}
+use Rattle.step_refinement.specs.Rows.{at_node, nothing_yet, starts_too, Arises}
+use Rattle.step_refinement.specs.Runs.{Reached, Nothing, AllStart, Starts, Stops, Steps, Notes}
+use Rattle.step_refinement.proofs.Changed.{each_set}
+use Rattle.row_laws.proofs.hearing.Listening.{reached_attends}
 use Rattle.run_laws.proofs.gapless.FairWalk.{Fairly, FairBody}
 use Rattle.run_laws.proofs.gapless.Fair.{Speaks}
 use Rattle.run_laws.proofs.gapless.Moving.{Carries, Moves, Remains, Enters, NotCall, FairEvent, step_moves}

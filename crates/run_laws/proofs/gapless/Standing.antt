@@ -3,29 +3,29 @@
 use Rattle.std.proofs.Common.{◌≡◌, ◌⊎◌, ℕ, List, [], ◌∷◌, ◌++◌, Option, Some, Bool, true, false, refl, sym, ap, ◌∙◌, subst, inl, inr, ⊎_elim, append_assoc}
 use Rattle.std.specs.Prelude.{reverse, IsTrue}
 use Rattle.std.proofs.lemmas.List.{reverse-append}
-use Rattle.entry_laws.specs.rsct_packet.declared.ids.ViewId.{ViewId}
-use Rattle.entry_laws.specs.rsct_packet.declared.ids.ProviderId.{ProviderId}
-use Rattle.entry_laws.specs.rsct_packet.Search.{Has}
-use Rattle.entry_laws.specs.proposal_core.declared.entry.Entry.{Entry}
-use Rattle.entry_laws.specs.proposal_core.declared.group_state.GroupState.{GroupState}
-use Rattle.entry_laws.specs.proposal_core.Fold.{after}
-use Rattle.entry_laws.specs.client_callbacks.declared.ballot.Filled.{Filled}
-use Rattle.entry_laws.specs.client_callbacks.declared.told.Why.{Why}
-use Rattle.entry_laws.specs.client_callbacks.declared.told.Why.TheVariants as why
-use Rattle.entry_laws.specs.session_state.declared.state.Provider.{Provider}
-use Rattle.entry_laws.specs.session_state.declared.state.Request.{Request}
-use Rattle.entry_laws.specs.session_state.declared.state.SessionState.{SessionState}
-use Rattle.entry_laws.specs.session_state.State.{provider_of}
-use Rattle.entry_laws.specs.session_state.HandOn.{is_join, is_dissolved, take_telling, beginners, handed_on}
-use Rattle.entry_laws.specs.node_state.declared.happened.Happened.{Happened}
-use Rattle.entry_laws.specs.node_state.declared.happened.Happened.TheVariants as happened
-use Rattle.entry_laws.specs.run_safety.Past.{History, Within, earlier, view_now}
-use Rattle.entry_laws.specs.run_safety.Requests.{carried}
-use Rattle.entry_laws.specs.run_safety.Stays.{Stay, stays, is_join_of, part, takes_part}
-use Rattle.entry_laws.specs.run_safety.Stays as stay
-use Rattle.entry_laws.proofs.step_refinement_laws.SessionLaws.{handed_later, handed_gone}
-use Rattle.entry_laws.proofs.row_laws_laws.hearing.Handing.{handed_kept}
-use Rattle.entry_laws.proofs.row_laws_laws.hearing.Sessions.{fewer_told}
+use Rattle.rsct_packet.specs.declared.ids.ViewId.{ViewId}
+use Rattle.rsct_packet.specs.declared.ids.ProviderId.{ProviderId}
+use Rattle.rsct_packet.specs.Search.{Has}
+use Rattle.proposal_core.specs.declared.entry.Entry.{Entry}
+use Rattle.proposal_core.specs.declared.group_state.GroupState.{GroupState}
+use Rattle.proposal_core.specs.Fold.{after}
+use Rattle.client_callbacks.specs.declared.ballot.Filled.{Filled}
+use Rattle.client_callbacks.specs.declared.told.Why.{Why}
+use Rattle.client_callbacks.specs.declared.told.Why.TheVariants as why
+use Rattle.session_state.specs.declared.state.Provider.{Provider}
+use Rattle.session_state.specs.declared.state.Request.{Request}
+use Rattle.session_state.specs.declared.state.SessionState.{SessionState}
+use Rattle.session_state.specs.State.{provider_of}
+use Rattle.session_state.specs.HandOn.{is_join, is_dissolved, take_telling, beginners, handed_on}
+use Rattle.node_state.specs.declared.happened.Happened.{Happened}
+use Rattle.node_state.specs.declared.happened.Happened.TheVariants as happened
+use Rattle.run_safety.specs.Past.{History, Within, earlier, view_now}
+use Rattle.run_safety.specs.Requests.{carried}
+use Rattle.run_safety.specs.Stays.{Stay, stays, is_join_of, part, takes_part}
+use Rattle.run_safety.specs.Stays as stay
+use Rattle.step_refinement.proofs.SessionLaws.{handed_later, handed_gone}
+use Rattle.row_laws.proofs.hearing.Handing.{handed_kept}
+use Rattle.row_laws.proofs.hearing.Sessions.{fewer_told}
 use Rattle.provider_laws.proofs.attending.Fresh.{join_carried}
 use Rattle.provider_laws.proofs.attending.Turns.{begins_by_join}
 use Rattle.provider_laws.proofs.attending.Staying.{InStay}

@@ -2,12 +2,12 @@
 use Rattle.std.proofs.Common.{◌≡◌, ℕ, List, [], ◌∷◌, ◌++◌, Bool, true, false, refl, ap, ◌∙◌, inl, inr}
 use Rattle.std.specs.Prelude.{◌==◌, ◌&&◌, if◌then◌else◌}
 use Rattle.std.specs.Str.{bytes_eq}
-use Rattle.entry_laws.specs.rsct_packet.Search.{Has}
-use Rattle.entry_laws.specs.node_state.declared.happened.Happened.{Happened}
-use Rattle.entry_laws.specs.node_state.declared.happened.Happened.TheVariants as happened
-use Rattle.entry_laws.specs.run_safety.Past.{History, earlier}
-use Rattle.entry_laws.specs.run_safety.Stays.{Stay, stays, with_entry}
-use Rattle.entry_laws.proofs.row_laws_laws.hearing.Attending.{pushed}
+use Rattle.rsct_packet.specs.Search.{Has}
+use Rattle.node_state.specs.declared.happened.Happened.{Happened}
+use Rattle.node_state.specs.declared.happened.Happened.TheVariants as happened
+use Rattle.run_safety.specs.Past.{History, earlier}
+use Rattle.run_safety.specs.Stays.{Stay, stays, with_entry}
+use Rattle.row_laws.proofs.hearing.Attending.{pushed}
 use Rattle.run_laws.proofs.gapless.FairWalk.{Mild}
 
 -- the latest stay has the base, and those are before it

@@ -3,44 +3,44 @@ use Rattle.std.proofs.Common.{◌≡◌, ◌≢◌, ◌⊎◌, ℕ, List, [], �
 use Rattle.std.specs.Prelude.{◌&&◌, ◌||◌, not, reverse, IsTrue}
 use Rattle.std.specs.List.{list_any}
 use Rattle.std.proofs.lemmas.Bool.{eq-eqb}
-use Rattle.entry_laws.specs.rsct_packet.declared.ids.ProviderId.{ProviderId}
-use Rattle.entry_laws.specs.rsct_packet.declared.ids.ViewId.{ViewId}
-use Rattle.entry_laws.specs.rsct_packet.Search.{Has}
-use Rattle.entry_laws.proofs.rsct_packet_laws.HasLaws.{has_append, append_has_right, find_has}
-use Rattle.entry_laws.specs.proposal_core.declared.proposal.Proposal.{Proposal}
-use Rattle.entry_laws.specs.proposal_core.declared.group_state.GroupState.{GroupState}
-use Rattle.entry_laws.specs.session_state.declared.state.Provider.{Provider}
-use Rattle.entry_laws.specs.session_state.declared.state.SessionState.{SessionState}
-use Rattle.entry_laws.specs.session_state.State.{provider_of, is_provider}
-use Rattle.entry_laws.specs.node_state.declared.call.CallLine.{CallLine}
-use Rattle.entry_laws.specs.node_state.declared.call.CallLine.TheVariants as call
-use Rattle.entry_laws.specs.node_state.declared.config.Config.{Config}
-use Rattle.entry_laws.specs.node_state.declared.group.GroupRow.{GroupRow}
-use Rattle.entry_laws.specs.node_state.declared.happened.Happened.{Happened}
-use Rattle.entry_laws.specs.node_state.declared.happened.Happened.TheVariants as happened
-use Rattle.entry_laws.specs.node_state.declared.state.Core.{Core}
-use Rattle.entry_laws.specs.node_state.State.{InNameOrder, row_of, list_of, state_of, len_of}
-use Rattle.entry_laws.specs.node_state.HandOn.{Answering}
-use Rattle.entry_laws.specs.node_state.Calls.{take_call}
-use Rattle.entry_laws.specs.node_state.Step.{NodeEvent, Ticks, Asks, Given, Calls, Garbage, at_work, stepped}
-use Rattle.entry_laws.specs.view_state.declared.views.Views.{Views}
-use Rattle.entry_laws.specs.world_model.declared.event.Event.{Event}
-use Rattle.entry_laws.specs.world_model.declared.event.Event.TheVariants as event
-use Rattle.entry_laws.specs.run_safety.Past.{History, Within, earlier, records_of, inc_now}
-use Rattle.entry_laws.specs.run_safety.Stays.{Stay, stays, part, takes_part, client_of, is_named, goodbye_of, is_refused, ends, lets_go, was_let_go}
-use Rattle.entry_laws.specs.step_refinement.Tied.{Scene, NodeIsIf, Rests, InTurn}
-use Rattle.entry_laws.specs.step_refinement.Rows.{over, ended, Arises}
-use Rattle.entry_laws.specs.step_refinement.Runs.{Reached}
-use Rattle.entry_laws.specs.step_refinement.Runs as runs
-use Rattle.entry_laws.proofs.step_refinement_laws.Begins.{begin_tied}
-use Rattle.entry_laws.proofs.step_refinement_laws.Calls.{call_is_tied}
-use Rattle.entry_laws.proofs.step_refinement_laws.Changed.{each_set}
-use Rattle.entry_laws.proofs.step_refinement_laws.RunLaw.{reached_rests}
-use Rattle.entry_laws.proofs.step_refinement_laws.SessionLaws.{provider_same}
-use Rattle.entry_laws.proofs.step_refinement_laws.Turns.{has_turned}
-use Rattle.entry_laws.proofs.row_laws_laws.hearing.Listening.{steps_change, reverse_has}
+use Rattle.rsct_packet.specs.declared.ids.ProviderId.{ProviderId}
+use Rattle.rsct_packet.specs.declared.ids.ViewId.{ViewId}
+use Rattle.rsct_packet.specs.Search.{Has}
+use Rattle.rsct_packet.proofs.HasLaws.{has_append, append_has_right, find_has}
+use Rattle.proposal_core.specs.declared.proposal.Proposal.{Proposal}
+use Rattle.proposal_core.specs.declared.group_state.GroupState.{GroupState}
+use Rattle.session_state.specs.declared.state.Provider.{Provider}
+use Rattle.session_state.specs.declared.state.SessionState.{SessionState}
+use Rattle.session_state.specs.State.{provider_of, is_provider}
+use Rattle.node_state.specs.declared.call.CallLine.{CallLine}
+use Rattle.node_state.specs.declared.call.CallLine.TheVariants as call
+use Rattle.node_state.specs.declared.config.Config.{Config}
+use Rattle.node_state.specs.declared.group.GroupRow.{GroupRow}
+use Rattle.node_state.specs.declared.happened.Happened.{Happened}
+use Rattle.node_state.specs.declared.happened.Happened.TheVariants as happened
+use Rattle.node_state.specs.declared.state.Core.{Core}
+use Rattle.node_state.specs.State.{InNameOrder, row_of, list_of, state_of, len_of}
+use Rattle.node_state.specs.HandOn.{Answering}
+use Rattle.node_state.specs.Calls.{take_call}
+use Rattle.node_state.specs.Step.{NodeEvent, Ticks, Asks, Given, Calls, Garbage, at_work, stepped}
+use Rattle.view_state.specs.declared.views.Views.{Views}
+use Rattle.world_model.specs.declared.event.Event.{Event}
+use Rattle.world_model.specs.declared.event.Event.TheVariants as event
+use Rattle.run_safety.specs.Past.{History, Within, earlier, records_of, inc_now}
+use Rattle.run_safety.specs.Stays.{Stay, stays, part, takes_part, client_of, is_named, goodbye_of, is_refused, ends, lets_go, was_let_go}
+use Rattle.step_refinement.specs.Tied.{Scene, NodeIsIf, Rests, InTurn}
+use Rattle.step_refinement.specs.Rows.{over, ended, Arises}
+use Rattle.step_refinement.specs.Runs.{Reached}
+use Rattle.step_refinement.specs.Runs as runs
+use Rattle.step_refinement.proofs.Begins.{begin_tied}
+use Rattle.step_refinement.proofs.Calls.{call_is_tied}
+use Rattle.step_refinement.proofs.Changed.{each_set}
+use Rattle.step_refinement.proofs.RunLaw.{reached_rests}
+use Rattle.step_refinement.proofs.SessionLaws.{provider_same}
+use Rattle.step_refinement.proofs.Turns.{has_turned}
+use Rattle.row_laws.proofs.hearing.Listening.{steps_change, reverse_has}
 use Rattle.provider_laws.proofs.attending.Law.{begin_strict, step_fine}
-use Rattle.entry_laws.proofs.row_laws_laws.hearing.Incarnations.{incs_of}
+use Rattle.row_laws.proofs.hearing.Incarnations.{incs_of}
 use Rattle.provider_laws.proofs.attending.Staying.{InStay}
 use Rattle.provider_laws.proofs.attending.Ordering.{Ordered, ordered_does}
 use Rattle.provider_laws.proofs.attending.OrderLaw.{reached_orderly}
@@ -48,9 +48,9 @@ use Rattle.provider_laws.proofs.attending.Fresh.{fresh_now}
 use Rattle.provider_laws.proofs.attending.Living.{lively_now}
 use Rattle.run_laws.specs.seen_runs.Seen.{Seen}
 use Rattle.run_laws.proofs.seen_runs.Law.{traces_seen}
-use Rattle.entry_laws.specs.row_laws.failed_rows.Scenes.{Names}
-use Rattle.entry_laws.proofs.row_laws_laws.failed_rows.Origin.{root_of}
-use Rattle.entry_laws.proofs.row_laws_laws.failed_rows.Owners.{goodbye_named}
+use Rattle.row_laws.specs.failed_rows.Scenes.{Names}
+use Rattle.row_laws.proofs.failed_rows.Origin.{root_of}
+use Rattle.row_laws.proofs.failed_rows.Owners.{goodbye_named}
 use Rattle.provider_laws.specs.leaving.Scenes.{IsCall}
 use Rattle.provider_laws.proofs.leaving.Events.{any_none}
 use Rattle.provider_laws.proofs.leaving.Keeping.{KeptIf, Clean}

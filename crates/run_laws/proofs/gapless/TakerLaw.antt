@@ -2,37 +2,37 @@
 use Rattle.std.proofs.Common.{◌≡◌, ◌≢◌, ◌⊎◌, ℕ, ◌+◌, List, [], ◌∷◌, ◌++◌, Option, Some, None, Bool, true, false, refl, sym, ap, ◌∙◌, subst, inl, inr}
 use Rattle.std.specs.Prelude.{◌==◌, ◌&&◌, ◌||◌, not, fold, reverse, if◌then◌else◌}
 use Rattle.std.proofs.lemmas.Bool.{eqb-true, eq-eqb}
-use Rattle.entry_laws.specs.rsct_packet.declared.ids.ProviderId.{ProviderId}
-use Rattle.entry_laws.specs.rsct_packet.Mask.{nodes_of}
-use Rattle.entry_laws.specs.rsct_packet.Search.{Has}
-use Rattle.entry_laws.proofs.rsct_packet_laws.HasLaws.{has_append, find_has}
-use Rattle.entry_laws.specs.proposal_core.Fold.{empty_state}
-use Rattle.entry_laws.specs.session_state.declared.state.Provider.{Provider}
-use Rattle.entry_laws.specs.session_state.State.{provider_of, is_provider}
-use Rattle.entry_laws.specs.node_state.declared.config.Config.{Config}
-use Rattle.entry_laws.specs.node_state.declared.group.GroupRow.{GroupRow}
-use Rattle.entry_laws.specs.node_state.declared.happened.Happened.{Happened}
-use Rattle.entry_laws.specs.node_state.declared.happened.Happened.TheVariants as happened
-use Rattle.entry_laws.specs.node_state.declared.state.Core.{Core}
-use Rattle.entry_laws.specs.node_state.State.{row_of, list_of, state_of, len_of, with_sessions}
-use Rattle.entry_laws.specs.node_state.Applying.{level_set}
-use Rattle.entry_laws.specs.node_state.Step.{started, ring_record}
-use Rattle.entry_laws.specs.world_model.declared.event.Event.{Event}
-use Rattle.entry_laws.specs.world_model.Run.{Happening}
-use Rattle.entry_laws.specs.run_safety.Past.{History, Within, records_of, inc_now}
-use Rattle.entry_laws.specs.run_safety.Stays.{stays, asks_join, client_of, goodbye_of, was_let_go}
-use Rattle.entry_laws.specs.step_refinement.Tied.{Scene, NodeIsIf}
-use Rattle.entry_laws.specs.step_refinement.Rows.{over, nothing_yet, with_records, start_with, starts_too, stopped, all_started}
-use Rattle.entry_laws.specs.step_refinement.Runs.{IsNote, noted, Reached}
-use Rattle.entry_laws.specs.step_refinement.Runs as runs
-use Rattle.entry_laws.proofs.step_refinement_laws.Changed.{each_set, set_here}
-use Rattle.entry_laws.proofs.step_refinement_laws.RunLaw.{reached_rests}
-use Rattle.entry_laws.proofs.step_refinement_laws.SessionLaws.{provider_self, provider_same}
-use Rattle.entry_laws.proofs.row_laws_laws.hearing.Listening.{start_each, reverse_has}
-use Rattle.entry_laws.proofs.row_laws_laws.hearing.Incarnations.{incs_of}
+use Rattle.rsct_packet.specs.declared.ids.ProviderId.{ProviderId}
+use Rattle.rsct_packet.specs.Mask.{nodes_of}
+use Rattle.rsct_packet.specs.Search.{Has}
+use Rattle.rsct_packet.proofs.HasLaws.{has_append, find_has}
+use Rattle.proposal_core.specs.Fold.{empty_state}
+use Rattle.session_state.specs.declared.state.Provider.{Provider}
+use Rattle.session_state.specs.State.{provider_of, is_provider}
+use Rattle.node_state.specs.declared.config.Config.{Config}
+use Rattle.node_state.specs.declared.group.GroupRow.{GroupRow}
+use Rattle.node_state.specs.declared.happened.Happened.{Happened}
+use Rattle.node_state.specs.declared.happened.Happened.TheVariants as happened
+use Rattle.node_state.specs.declared.state.Core.{Core}
+use Rattle.node_state.specs.State.{row_of, list_of, state_of, len_of, with_sessions}
+use Rattle.node_state.specs.Applying.{level_set}
+use Rattle.node_state.specs.Step.{started, ring_record}
+use Rattle.world_model.specs.declared.event.Event.{Event}
+use Rattle.world_model.specs.Run.{Happening}
+use Rattle.run_safety.specs.Past.{History, Within, records_of, inc_now}
+use Rattle.run_safety.specs.Stays.{stays, asks_join, client_of, goodbye_of, was_let_go}
+use Rattle.step_refinement.specs.Tied.{Scene, NodeIsIf}
+use Rattle.step_refinement.specs.Rows.{over, nothing_yet, with_records, start_with, starts_too, stopped, all_started}
+use Rattle.step_refinement.specs.Runs.{IsNote, noted, Reached}
+use Rattle.step_refinement.specs.Runs as runs
+use Rattle.step_refinement.proofs.Changed.{each_set, set_here}
+use Rattle.step_refinement.proofs.RunLaw.{reached_rests}
+use Rattle.step_refinement.proofs.SessionLaws.{provider_self, provider_same}
+use Rattle.row_laws.proofs.hearing.Listening.{start_each, reverse_has}
+use Rattle.row_laws.proofs.hearing.Incarnations.{incs_of}
 use Rattle.provider_laws.proofs.attending.Staying.{InStay}
 use Rattle.provider_laws.proofs.attending.OrderLaw.{inner_all, others_stay, note_inner, reached_orderly}
-use Rattle.entry_laws.proofs.row_laws_laws.failed_rows.Starting.{FreshIf, AllFresh, fold_fresh}
+use Rattle.row_laws.proofs.failed_rows.Starting.{FreshIf, AllFresh, fold_fresh}
 use Rattle.provider_laws.specs.leaving.Scenes.{Recounted, Nothing, AllStart, Starts, Stops, Steps, Notes}
 use Rattle.provider_laws.proofs.leaving.Events.{any_one}
 use Rattle.provider_laws.proofs.leaving.Law.{reached, clean}

@@ -4,45 +4,45 @@ use Rattle.std.proofs.Common.{◌≡◌, ◌⊎◌, ℕ, List, [], ◌∷◌, �
 use Rattle.std.specs.Prelude.{◌&&◌, not, reverse, IsTrue, is_some, is_none}
 use Rattle.std.proofs.lemmas.Bool.{and_parts}
 use Rattle.std.proofs.lemmas.List.{reverse-append}
-use Rattle.entry_laws.specs.rsct_packet.declared.ids.ProviderId.{ProviderId}
-use Rattle.entry_laws.specs.rsct_packet.declared.ids.ViewId.{ViewId}
-use Rattle.entry_laws.specs.rsct_packet.Providers.{among}
-use Rattle.entry_laws.specs.rsct_packet.Search.{Has}
-use Rattle.entry_laws.proofs.rsct_packet_laws.HasLaws.{has_append, append_has_right}
-use Rattle.entry_laws.specs.proposal_core.declared.entry.Entry.{Entry}
-use Rattle.entry_laws.specs.proposal_core.declared.proposal.Proposal.{Proposal}
-use Rattle.entry_laws.specs.proposal_core.declared.group_state.GroupState.{GroupState}
-use Rattle.entry_laws.specs.proposal_core.Fold.{joins_of, present}
-use Rattle.entry_laws.specs.client_callbacks.declared.told.Why.{Why}
-use Rattle.entry_laws.specs.client_callbacks.declared.told.Why.TheVariants as why
-use Rattle.entry_laws.specs.session_state.declared.state.Provider.{Provider}
-use Rattle.entry_laws.specs.session_state.State.{provider_of}
-use Rattle.entry_laws.specs.view_state.declared.install.Install.{Install}
-use Rattle.entry_laws.specs.view_state.Bases.{bases_of, base_named}
-use Rattle.entry_laws.specs.node_state.declared.config.Config.{Config}
-use Rattle.entry_laws.specs.node_state.declared.happened.Happened.{Happened}
-use Rattle.entry_laws.specs.node_state.declared.happened.Happened.TheVariants as happened
-use Rattle.entry_laws.specs.node_state.declared.state.Core.{Core}
-use Rattle.entry_laws.specs.node_state.State.{recorded_all}
-use Rattle.entry_laws.specs.node_state.HandOn.{Answering}
-use Rattle.entry_laws.specs.node_state.Applying.{level_set, view_entered, is_in_base}
-use Rattle.entry_laws.specs.node_state.Step.{NodeEvent, Ticks, Asks, Given, Calls, Garbage, at_work, stepped}
-use Rattle.entry_laws.specs.world_model.declared.event.Event.{Event}
-use Rattle.entry_laws.specs.run_safety.Past.{earlier, records_of}
-use Rattle.entry_laws.specs.run_safety.Requests.{IsJoin}
-use Rattle.entry_laws.specs.run_safety.Stays.{Stay, stays, is_join_of, is_dissolved, passes, first_in, last_in, part, from_first, up_to_last, takes_part, was_let_go}
-use Rattle.entry_laws.specs.run_safety.ViewOrder.{Lt}
-use Rattle.entry_laws.specs.step_refinement.Tied.{Scene}
-use Rattle.entry_laws.specs.step_refinement.Rows.{Arises}
-use Rattle.entry_laws.specs.step_refinement.Runs.{Reached}
-use Rattle.entry_laws.specs.row_laws.hearing.Changes.{Aside, entering, Does}
-use Rattle.entry_laws.proofs.row_laws_laws.hearing.Added.{Adds, enters_add}
-use Rattle.entry_laws.proofs.row_laws_laws.hearing.Listening.{reverse_has}
+use Rattle.rsct_packet.specs.declared.ids.ProviderId.{ProviderId}
+use Rattle.rsct_packet.specs.declared.ids.ViewId.{ViewId}
+use Rattle.rsct_packet.specs.Providers.{among}
+use Rattle.rsct_packet.specs.Search.{Has}
+use Rattle.rsct_packet.proofs.HasLaws.{has_append, append_has_right}
+use Rattle.proposal_core.specs.declared.entry.Entry.{Entry}
+use Rattle.proposal_core.specs.declared.proposal.Proposal.{Proposal}
+use Rattle.proposal_core.specs.declared.group_state.GroupState.{GroupState}
+use Rattle.proposal_core.specs.Fold.{joins_of, present}
+use Rattle.client_callbacks.specs.declared.told.Why.{Why}
+use Rattle.client_callbacks.specs.declared.told.Why.TheVariants as why
+use Rattle.session_state.specs.declared.state.Provider.{Provider}
+use Rattle.session_state.specs.State.{provider_of}
+use Rattle.view_state.specs.declared.install.Install.{Install}
+use Rattle.view_state.specs.Bases.{bases_of, base_named}
+use Rattle.node_state.specs.declared.config.Config.{Config}
+use Rattle.node_state.specs.declared.happened.Happened.{Happened}
+use Rattle.node_state.specs.declared.happened.Happened.TheVariants as happened
+use Rattle.node_state.specs.declared.state.Core.{Core}
+use Rattle.node_state.specs.State.{recorded_all}
+use Rattle.node_state.specs.HandOn.{Answering}
+use Rattle.node_state.specs.Applying.{level_set, view_entered, is_in_base}
+use Rattle.node_state.specs.Step.{NodeEvent, Ticks, Asks, Given, Calls, Garbage, at_work, stepped}
+use Rattle.world_model.specs.declared.event.Event.{Event}
+use Rattle.run_safety.specs.Past.{earlier, records_of}
+use Rattle.run_safety.specs.Requests.{IsJoin}
+use Rattle.run_safety.specs.Stays.{Stay, stays, is_join_of, is_dissolved, passes, first_in, last_in, part, from_first, up_to_last, takes_part, was_let_go}
+use Rattle.run_safety.specs.ViewOrder.{Lt}
+use Rattle.step_refinement.specs.Tied.{Scene}
+use Rattle.step_refinement.specs.Rows.{Arises}
+use Rattle.step_refinement.specs.Runs.{Reached}
+use Rattle.row_laws.specs.hearing.Changes.{Aside, entering, Does}
+use Rattle.row_laws.proofs.hearing.Added.{Adds, enters_add}
+use Rattle.row_laws.proofs.hearing.Listening.{reverse_has}
 use Rattle.provider_laws.proofs.attending.Entering.{base_is, new_stay, entered_stays}
 use Rattle.provider_laws.proofs.attending.Fresh.{join_carried}
 use Rattle.run_laws.specs.seen_runs.Seen.{Seen, BeginsOnce, WasTold}
-use Rattle.entry_laws.specs.row_laws.failed_rows.Scenes.{Names}
-use Rattle.entry_laws.proofs.row_laws_laws.failed_rows.Origin.{root_of}
+use Rattle.row_laws.specs.failed_rows.Scenes.{Names}
+use Rattle.row_laws.proofs.failed_rows.Origin.{root_of}
 use Rattle.provider_laws.specs.leaving.Scenes.{IsCall}
 use Rattle.provider_laws.proofs.leaving.Keeping.{Clean}
 use Rattle.run_laws.specs.gapless.Takers.{Taker, Stood, AskedJoin, Dissolving}

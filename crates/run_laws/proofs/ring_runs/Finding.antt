@@ -2,10 +2,10 @@
 use Rattle.std.proofs.Common.{◌≡◌, ◌≢◌, ◌⊎◌, ℕ, List, [], ◌∷◌, Some, None, Bool, true, false, refl, sym, ap, ◌∙◌, subst, inl, inr, ⊎_elim}
 use Rattle.std.specs.Prelude.{◌==◌, not, map, filter, find, if◌then◌else◌}
 use Rattle.std.proofs.lemmas.Bool.{eqb-true, eqb-false}
-use Rattle.entry_laws.specs.rsct_packet.Search.{Has}
-use Rattle.entry_laws.specs.adapter_ring.declared.ring.Ring.{Ring}
-use Rattle.entry_laws.specs.adapter_ring.Network.{with_ring}
-use Rattle.entry_laws.specs.node_state.Ticks.{ring_put}
+use Rattle.rsct_packet.specs.Search.{Has}
+use Rattle.adapter_ring.specs.declared.ring.Ring.{Ring}
+use Rattle.adapter_ring.specs.Network.{with_ring}
+use Rattle.node_state.specs.Ticks.{ring_put}
 
 abbrev pub is_on : ℕ → Ring → Bool
 is_on net r = r.net == net

@@ -3,28 +3,28 @@ use Rattle.std.proofs.Common.{◌≡◌, ◌≤◌, ◌⊎◌, ℕ, ◌+◌, Lis
 use Rattle.std.specs.Prelude.{◌==◌, fold, reverse, if◌then◌else◌}
 use Rattle.std.proofs.lemmas.Bool.{eqb-true}
 use Rattle.std.proofs.lemmas.List.{reverse-append}
-use Rattle.entry_laws.specs.rsct_packet.Mask.{nodes_of}
-use Rattle.entry_laws.specs.rsct_packet.Search.{Has}
-use Rattle.entry_laws.proofs.rsct_packet_laws.HasLaws.{has_append, append_has_left, append_has_right}
-use Rattle.entry_laws.specs.adapter_ring.declared.ring.RingSettings.{RingSettings}
-use Rattle.entry_laws.specs.adapter_ring.Network.{Told, Started, Network, quiet, ring_at, happens}
-use Rattle.entry_laws.specs.adapter_ring.Network as network
-use Rattle.entry_laws.specs.adapter_ring.Agreement.{AddressesDiffer, RingsAgree}
-use Rattle.entry_laws.proofs.adapter_ring_laws.Runs.{rings_agree}
-use Rattle.entry_laws.specs.node_state.declared.config.Config.{Config}
-use Rattle.entry_laws.specs.node_state.declared.happened.Happened.{Happened}
-use Rattle.entry_laws.specs.node_state.declared.happened.Happened.TheVariants as happened
-use Rattle.entry_laws.specs.node_state.declared.state.Core.{Core}
-use Rattle.entry_laws.specs.node_state.Settings.{is_fixed, addresses_on}
-use Rattle.entry_laws.specs.node_state.State.{with_sessions}
-use Rattle.entry_laws.specs.node_state.HandOn.{Answering}
-use Rattle.entry_laws.specs.node_state.Step.{NodeEvent, started, stepped, at_work}
-use Rattle.entry_laws.specs.world_model.declared.event.Event.{Event}
-use Rattle.entry_laws.specs.run_safety.Past.{History, records_of}
-use Rattle.entry_laws.specs.step_refinement.Tied.{Scene}
-use Rattle.entry_laws.specs.step_refinement.Rows.{at_node, ended, stopped, nothing_yet, with_records, starts_too, Arises}
-use Rattle.entry_laws.specs.step_refinement.Runs.{IsNote, Reached, Nothing, AllStart, Starts, Stops, Steps, Notes}
-use Rattle.entry_laws.proofs.step_refinement_laws.Changed.{each_set}
+use Rattle.rsct_packet.specs.Mask.{nodes_of}
+use Rattle.rsct_packet.specs.Search.{Has}
+use Rattle.rsct_packet.proofs.HasLaws.{has_append, append_has_left, append_has_right}
+use Rattle.adapter_ring.specs.declared.ring.RingSettings.{RingSettings}
+use Rattle.adapter_ring.specs.Network.{Told, Started, Network, quiet, ring_at, happens}
+use Rattle.adapter_ring.specs.Network as network
+use Rattle.adapter_ring.specs.Agreement.{AddressesDiffer, RingsAgree}
+use Rattle.adapter_ring.proofs.Runs.{rings_agree}
+use Rattle.node_state.specs.declared.config.Config.{Config}
+use Rattle.node_state.specs.declared.happened.Happened.{Happened}
+use Rattle.node_state.specs.declared.happened.Happened.TheVariants as happened
+use Rattle.node_state.specs.declared.state.Core.{Core}
+use Rattle.node_state.specs.Settings.{is_fixed, addresses_on}
+use Rattle.node_state.specs.State.{with_sessions}
+use Rattle.node_state.specs.HandOn.{Answering}
+use Rattle.node_state.specs.Step.{NodeEvent, started, stepped, at_work}
+use Rattle.world_model.specs.declared.event.Event.{Event}
+use Rattle.run_safety.specs.Past.{History, records_of}
+use Rattle.step_refinement.specs.Tied.{Scene}
+use Rattle.step_refinement.specs.Rows.{at_node, ended, stopped, nothing_yet, with_records, starts_too, Arises}
+use Rattle.step_refinement.specs.Runs.{IsNote, Reached, Nothing, AllStart, Starts, Stops, Steps, Notes}
+use Rattle.step_refinement.proofs.Changed.{each_set}
 use Rattle.run_laws.specs.ring_runs.Rings.{ring_settings, told_on, rings_told, RingsAgreeInRuns}
 use Rattle.run_laws.proofs.ring_runs.Finding.{gone_here, gone_there}
 use Rattle.run_laws.proofs.ring_runs.Playing.{ring_on, Own, Tells, comes_on, At, Played, played_keeps}

@@ -3,28 +3,28 @@
 use Rattle.std.proofs.Common.{◌≡◌, ◌≢◌, ◌≤◌, ℕ, List, [], ◌∷◌, ◌++◌, Option, Some, None, refl, sym, ap, ◌∙◌, subst, inl, inr, ⊎_elim}
 use Rattle.std.specs.Prelude.{map, fold, find}
 use Rattle.std.proofs.lemmas.List.Sums.{fold-append}
-use Rattle.entry_laws.specs.rsct_packet.Search.{Has}
-use Rattle.entry_laws.proofs.rsct_packet_laws.HasLaws.{has_append, append_has_left, append_has_right, find_has}
-use Rattle.entry_laws.specs.adapter_ring.declared.packet.RingSend.{RingSend}
-use Rattle.entry_laws.specs.adapter_ring.declared.packet.RingEvent.{RingEvent}
-use Rattle.entry_laws.specs.adapter_ring.declared.ring.Ring.{Ring}
-use Rattle.entry_laws.specs.adapter_ring.declared.ring.RingSet.{RingSet}
-use Rattle.entry_laws.specs.adapter_ring.declared.ring.RingSettings.{RingSettings}
-use Rattle.entry_laws.specs.adapter_ring.declared.work.RingWork.{RingWork}
-use Rattle.entry_laws.specs.adapter_ring.Rings.{ring_step}
-use Rattle.entry_laws.specs.adapter_ring.Network.{Happening, Sent, Told, Started, Network, quiet, ring_at, sent_by, told_by, step_taken, happens, after}
-use Rattle.entry_laws.specs.node_state.declared.happened.Happened.{Happened}
-use Rattle.entry_laws.specs.node_state.declared.happened.Happened.TheVariants as happened
-use Rattle.entry_laws.specs.node_state.declared.packet.Body.{Body}
-use Rattle.entry_laws.specs.node_state.declared.packet.Body.TheVariants as body
-use Rattle.entry_laws.specs.node_state.declared.packet.Packet.{Packet}
-use Rattle.entry_laws.specs.node_state.declared.state.Core.{Core}
-use Rattle.entry_laws.specs.node_state.State.{recorded, recorded_all}
-use Rattle.entry_laws.specs.node_state.Sending.{packet_on, send_on}
-use Rattle.entry_laws.specs.node_state.Ticks.{ring_put, set_records, ring_taken}
-use Rattle.entry_laws.specs.run_safety.Past.{records_of}
-use Rattle.entry_laws.specs.step_refinement.Tied.{Scene}
-use Rattle.entry_laws.proofs.step_refinement_laws.Changed.{has_pushed}
+use Rattle.rsct_packet.specs.Search.{Has}
+use Rattle.rsct_packet.proofs.HasLaws.{has_append, append_has_left, append_has_right, find_has}
+use Rattle.adapter_ring.specs.declared.packet.RingSend.{RingSend}
+use Rattle.adapter_ring.specs.declared.packet.RingEvent.{RingEvent}
+use Rattle.adapter_ring.specs.declared.ring.Ring.{Ring}
+use Rattle.adapter_ring.specs.declared.ring.RingSet.{RingSet}
+use Rattle.adapter_ring.specs.declared.ring.RingSettings.{RingSettings}
+use Rattle.adapter_ring.specs.declared.work.RingWork.{RingWork}
+use Rattle.adapter_ring.specs.Rings.{ring_step}
+use Rattle.adapter_ring.specs.Network.{Happening, Sent, Told, Started, Network, quiet, ring_at, sent_by, told_by, step_taken, happens, after}
+use Rattle.node_state.specs.declared.happened.Happened.{Happened}
+use Rattle.node_state.specs.declared.happened.Happened.TheVariants as happened
+use Rattle.node_state.specs.declared.packet.Body.{Body}
+use Rattle.node_state.specs.declared.packet.Body.TheVariants as body
+use Rattle.node_state.specs.declared.packet.Packet.{Packet}
+use Rattle.node_state.specs.declared.state.Core.{Core}
+use Rattle.node_state.specs.State.{recorded, recorded_all}
+use Rattle.node_state.specs.Sending.{packet_on, send_on}
+use Rattle.node_state.specs.Ticks.{ring_put, set_records, ring_taken}
+use Rattle.run_safety.specs.Past.{records_of}
+use Rattle.step_refinement.specs.Tied.{Scene}
+use Rattle.step_refinement.proofs.Changed.{has_pushed}
 use Rattle.run_laws.specs.ring_runs.Rings.{ring_settings}
 use Rattle.run_laws.proofs.ring_runs.Stepping.{OwnWork, own_step}
 use Rattle.run_laws.proofs.ring_runs.Leading.{NoRing, Aside, Keeps}

@@ -5,18 +5,18 @@ use Rattle.std.specs.List.{list_all, list_any}
 use Rattle.std.specs.Option.{unwrap_or}
 use Rattle.std.proofs.lemmas.List.{length-replicate}
 use Rattle.std.proofs.lemmas.Bool.{and_parts, or_parts, ltb-true, leb-true, eq-eqb}
-use Rattle.entry_laws.specs.rsct_packet.Lists.{is_empty}
-use Rattle.entry_laws.specs.rsct_packet.Mask.{has_node, node_numbers, is_node}
-use Rattle.entry_laws.specs.rsct_packet.Search.{Has}
-use Rattle.entry_laws.proofs.rsct_packet_laws.HasLaws.{all_has, has_map, get_has}
-use Rattle.entry_laws.specs.adapter_ring.Addresses.{addr_of}
-use Rattle.entry_laws.specs.node_state.declared.config.Config.{Config}
-use Rattle.entry_laws.specs.node_state.Settings.{addresses_on, address_at}
-use Rattle.entry_laws.specs.world_model.declared.script.LineWhy.{LineWhy}
-use Rattle.entry_laws.specs.world_model.declared.script.LineWhy.TheVariants.{BadByte, MissingWord, ExtraWord, UnknownNode, UnknownClient, OutOfPlace}
-use Rattle.entry_laws.specs.world_model.Words.{split_on, chosen}
-use Rattle.entry_laws.specs.world_model.Lines.{Form, forms, Boxed, Scripted, Votes, Said, SaysMode, SaysNode, SaysAdapter, SaysHb, SaysPort, SaysLevel, SaysDomain, SaysBegin, SaysLine, SaysClient, SaysCall, said}
-use Rattle.entry_laws.specs.world_model.Reading.{Reading, Read, Good, Bad, nothing_read, plain_address, settled_if, settled, nodes_said, is_known_client, is_second_adapter, misplaced, last_reason, reason, with_line, with_client, with_config, with_address, taken, taken_unless, said_line, is_extra, counted_line, formed_line, skipped_line, worded_line, is_comment, words_in, is_bad_byte, read_line, ScriptRead, IsScript, IsNone, finished, input_limit, read_from, script_of}
+use Rattle.rsct_packet.specs.Lists.{is_empty}
+use Rattle.rsct_packet.specs.Mask.{has_node, node_numbers, is_node}
+use Rattle.rsct_packet.specs.Search.{Has}
+use Rattle.rsct_packet.proofs.HasLaws.{all_has, has_map, get_has}
+use Rattle.adapter_ring.specs.Addresses.{addr_of}
+use Rattle.node_state.specs.declared.config.Config.{Config}
+use Rattle.node_state.specs.Settings.{addresses_on, address_at}
+use Rattle.world_model.specs.declared.script.LineWhy.{LineWhy}
+use Rattle.world_model.specs.declared.script.LineWhy.TheVariants.{BadByte, MissingWord, ExtraWord, UnknownNode, UnknownClient, OutOfPlace}
+use Rattle.world_model.specs.Words.{split_on, chosen}
+use Rattle.world_model.specs.Lines.{Form, forms, Boxed, Scripted, Votes, Said, SaysMode, SaysNode, SaysAdapter, SaysHb, SaysPort, SaysLevel, SaysDomain, SaysBegin, SaysLine, SaysClient, SaysCall, said}
+use Rattle.world_model.specs.Reading.{Reading, Read, Good, Bad, nothing_read, plain_address, settled_if, settled, nodes_said, is_known_client, is_second_adapter, misplaced, last_reason, reason, with_line, with_client, with_config, with_address, taken, taken_unless, said_line, is_extra, counted_line, formed_line, skipped_line, worded_line, is_comment, words_in, is_bad_byte, read_line, ScriptRead, IsScript, IsNone, finished, input_limit, read_from, script_of}
 use Rattle.run_laws.specs.ring_runs.Rings.{AddressesFit, ScriptAddressesFit}
 use Rattle.run_laws.proofs.ring_runs.Finding.{Differ}
 

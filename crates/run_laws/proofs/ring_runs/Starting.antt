@@ -5,26 +5,26 @@ use Rattle.std.specs.List.{list_all}
 use Rattle.std.proofs.lemmas.Bool.{cases_lt, le-leb, eq-eqb, eqb-true}
 use Rattle.std.proofs.lemmas.List.{get_or_past}
 use Rattle.std.proofs.lemmas.Option.{unwrap_or-slice_get}
-use Rattle.entry_laws.specs.rsct_packet.Mask.{is_node}
-use Rattle.entry_laws.specs.rsct_packet.Search.{Has}
-use Rattle.entry_laws.proofs.rsct_packet_laws.HasLaws.{has_append, append_has_left, append_has_right, has_map, has_filter, find_has, find_none}
-use Rattle.entry_laws.specs.adapter_ring.declared.ring.Ring.{Ring}
-use Rattle.entry_laws.specs.adapter_ring.Addresses.{addr_of, has_addr}
-use Rattle.entry_laws.specs.adapter_ring.Rings.{ring_new, neighbour}
-use Rattle.entry_laws.specs.adapter_ring.Network.{Starts, Told, Started, Network, ring_at, may_start, ring_told, ring_started, happens}
-use Rattle.entry_laws.specs.node_state.declared.config.Config.{Config}
-use Rattle.entry_laws.specs.node_state.declared.config.Mode.{Mode}
-use Rattle.entry_laws.specs.node_state.declared.config.Mode.TheVariants.{Fixed, Asked, Rings}
-use Rattle.entry_laws.specs.node_state.declared.happened.Happened.{Happened}
-use Rattle.entry_laws.specs.node_state.declared.happened.Happened.TheVariants as happened
-use Rattle.entry_laws.specs.node_state.declared.packet.Packet.{Packet}
-use Rattle.entry_laws.specs.node_state.declared.state.Core.{Core}
-use Rattle.entry_laws.specs.node_state.Settings.{is_fixed, networks, addresses_on, address_at, has_adapter, networks_of}
-use Rattle.entry_laws.specs.node_state.State.{with_sessions}
-use Rattle.entry_laws.specs.node_state.Step.{own_ring, own_rings, first_view, first_members, ring_record, started}
-use Rattle.entry_laws.specs.view_state.Views.{views_new}
-use Rattle.entry_laws.specs.step_refinement.Rows.{at_node}
-use Rattle.entry_laws.proofs.step_refinement_laws.Changed.{set_here, set_there, each_set}
+use Rattle.rsct_packet.specs.Mask.{is_node}
+use Rattle.rsct_packet.specs.Search.{Has}
+use Rattle.rsct_packet.proofs.HasLaws.{has_append, append_has_left, append_has_right, has_map, has_filter, find_has, find_none}
+use Rattle.adapter_ring.specs.declared.ring.Ring.{Ring}
+use Rattle.adapter_ring.specs.Addresses.{addr_of, has_addr}
+use Rattle.adapter_ring.specs.Rings.{ring_new, neighbour}
+use Rattle.adapter_ring.specs.Network.{Starts, Told, Started, Network, ring_at, may_start, ring_told, ring_started, happens}
+use Rattle.node_state.specs.declared.config.Config.{Config}
+use Rattle.node_state.specs.declared.config.Mode.{Mode}
+use Rattle.node_state.specs.declared.config.Mode.TheVariants.{Fixed, Asked, Rings}
+use Rattle.node_state.specs.declared.happened.Happened.{Happened}
+use Rattle.node_state.specs.declared.happened.Happened.TheVariants as happened
+use Rattle.node_state.specs.declared.packet.Packet.{Packet}
+use Rattle.node_state.specs.declared.state.Core.{Core}
+use Rattle.node_state.specs.Settings.{is_fixed, networks, addresses_on, address_at, has_adapter, networks_of}
+use Rattle.node_state.specs.State.{with_sessions}
+use Rattle.node_state.specs.Step.{own_ring, own_rings, first_view, first_members, ring_record, started}
+use Rattle.view_state.specs.Views.{views_new}
+use Rattle.step_refinement.specs.Rows.{at_node}
+use Rattle.step_refinement.proofs.Changed.{set_here, set_there, each_set}
 use Rattle.run_laws.specs.ring_runs.Rings.{ring_settings}
 use Rattle.run_laws.proofs.ring_runs.Finding.{is_on, is_of, nets_of, Differ, first_here, first_there}
 use Rattle.run_laws.proofs.ring_runs.Playing.{ring_on, Own, Carried, Tells, Comes, comes_on, Grows, carried_on, tells_on}

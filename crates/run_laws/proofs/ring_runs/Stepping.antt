@@ -1,24 +1,24 @@
 -- A ring's step leaves the ring's network, node and incarnation, and sends on that network alone.
 use Rattle.std.proofs.Common.{◌≡◌, ℕ, ◌+◌, ◌*◌, List, [], ◌∷◌, ◌++◌, Option, Some, None, Bool, true, false, refl, ap, ◌∙◌, subst, ⊎_elim}
 use Rattle.std.specs.Prelude.{◌==◌, ◌&&◌, nat_le, map, is_none}
-use Rattle.entry_laws.specs.rsct_packet.declared.ids.RingId.{RingId}
-use Rattle.entry_laws.specs.rsct_packet.declared.mask.Mask.{Mask}
-use Rattle.entry_laws.specs.rsct_packet.Ids.{same_ring, last_u32, risen}
-use Rattle.entry_laws.specs.rsct_packet.Mask.{no_nodes, has_node, with_node, without_node, union_of, nodes_of}
-use Rattle.entry_laws.specs.rsct_packet.Search.{Has}
-use Rattle.entry_laws.proofs.rsct_packet_laws.HasLaws.{has_append, has_map}
-use Rattle.entry_laws.specs.ring_commit.declared.gather.Gather.{Gather}
-use Rattle.entry_laws.specs.ring_commit.Gather.{gather_opened, gather_acked, all_acked}
-use Rattle.entry_laws.specs.adapter_ring.declared.packet.RingPacket.{RingPacket}
-use Rattle.entry_laws.specs.adapter_ring.declared.packet.RingPacket.TheVariants.{Heartbeat, Proclaim, Join, Ptc, PtcAck, Commit, Death}
-use Rattle.entry_laws.specs.adapter_ring.declared.packet.RingSend.{RingSend}
-use Rattle.entry_laws.specs.adapter_ring.declared.packet.RingEvent.{RingEvent}
-use Rattle.entry_laws.specs.adapter_ring.declared.packet.RingEvent.TheVariants.{Tick, Packet}
-use Rattle.entry_laws.specs.adapter_ring.declared.ring.Ring.{Ring}
-use Rattle.entry_laws.specs.adapter_ring.declared.ring.Gathering.{Gathering}
-use Rattle.entry_laws.specs.adapter_ring.declared.work.RingWork.{RingWork}
-use Rattle.entry_laws.specs.adapter_ring.Addresses.{outside}
-use Rattle.entry_laws.specs.adapter_ring.Rings.{ring_send, ring_send_all, ring_set, ring_close, ring_gathering, next_ring, ring_numbered, ring_gather_on, ring_gather, ring_alone, send_heartbeat, ring_proclaim, ring_beat, death_counts, death_row, tell_death, ring_wait_on, ring_wait, ring_ages_of, ring_age, ring_tick, heartbeat_row, proclaim_row, takes_join, join_row, ptc_row, ack_row_of, ack_row, commit_row, packet_row, ring_row, at_work, ring_step, is_shared, neighbour, upstream, death_told_to, patience, ring_leads, answers_proclaim, may_promise, is_promised}
+use Rattle.rsct_packet.specs.declared.ids.RingId.{RingId}
+use Rattle.rsct_packet.specs.declared.mask.Mask.{Mask}
+use Rattle.rsct_packet.specs.Ids.{same_ring, last_u32, risen}
+use Rattle.rsct_packet.specs.Mask.{no_nodes, has_node, with_node, without_node, union_of, nodes_of}
+use Rattle.rsct_packet.specs.Search.{Has}
+use Rattle.rsct_packet.proofs.HasLaws.{has_append, has_map}
+use Rattle.ring_commit.specs.declared.gather.Gather.{Gather}
+use Rattle.ring_commit.specs.Gather.{gather_opened, gather_acked, all_acked}
+use Rattle.adapter_ring.specs.declared.packet.RingPacket.{RingPacket}
+use Rattle.adapter_ring.specs.declared.packet.RingPacket.TheVariants.{Heartbeat, Proclaim, Join, Ptc, PtcAck, Commit, Death}
+use Rattle.adapter_ring.specs.declared.packet.RingSend.{RingSend}
+use Rattle.adapter_ring.specs.declared.packet.RingEvent.{RingEvent}
+use Rattle.adapter_ring.specs.declared.packet.RingEvent.TheVariants.{Tick, Packet}
+use Rattle.adapter_ring.specs.declared.ring.Ring.{Ring}
+use Rattle.adapter_ring.specs.declared.ring.Gathering.{Gathering}
+use Rattle.adapter_ring.specs.declared.work.RingWork.{RingWork}
+use Rattle.adapter_ring.specs.Addresses.{outside}
+use Rattle.adapter_ring.specs.Rings.{ring_send, ring_send_all, ring_set, ring_close, ring_gathering, next_ring, ring_numbered, ring_gather_on, ring_gather, ring_alone, send_heartbeat, ring_proclaim, ring_beat, death_counts, death_row, tell_death, ring_wait_on, ring_wait, ring_ages_of, ring_age, ring_tick, heartbeat_row, proclaim_row, takes_join, join_row, ptc_row, ack_row_of, ack_row, commit_row, packet_row, ring_row, at_work, ring_step, is_shared, neighbour, upstream, death_told_to, patience, ring_leads, answers_proclaim, may_promise, is_promised}
 
 -- of this network, node and incarnation
 pub record OwnWork (net n j : ℕ) (w : RingWork) : Type 0 where

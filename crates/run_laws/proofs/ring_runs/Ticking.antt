@@ -2,26 +2,26 @@
 use Rattle.std.proofs.Common.{◌≡◌, ◌≢◌, ℕ, zero, suc, List, [], ◌∷◌, ◌++◌, Option, Some, None, Bool, true, false, refl, sym, ap, ◌∙◌, subst, inl, inr, ⊎_elim}
 use Rattle.std.specs.Prelude.{◌==◌, not, filter, fold, find, slice_get}
 use Rattle.std.proofs.lemmas.Bool.{cases_eq, eqb-true}
-use Rattle.entry_laws.specs.rsct_packet.declared.mask.Mask.{Mask}
-use Rattle.entry_laws.specs.rsct_packet.Mask.{nodes_of}
-use Rattle.entry_laws.specs.rsct_packet.Search.{Has}
-use Rattle.entry_laws.proofs.rsct_packet_laws.HasLaws.{append_has_right, find_has}
-use Rattle.entry_laws.specs.adapter_ring.declared.packet.RingPacket.{RingPacket}
-use Rattle.entry_laws.specs.adapter_ring.declared.packet.RingSend.{RingSend}
-use Rattle.entry_laws.specs.adapter_ring.declared.packet.RingEvent.TheVariants as ring_event
-use Rattle.entry_laws.specs.adapter_ring.declared.ring.Ring.{Ring}
-use Rattle.entry_laws.specs.adapter_ring.declared.work.RingWork.{RingWork}
-use Rattle.entry_laws.specs.adapter_ring.Rings.{ring_step}
-use Rattle.entry_laws.specs.adapter_ring.Network.{Ticks, Given, Sent, Network, ring_at, step_taken, stepped_in, given_in, happens}
-use Rattle.entry_laws.specs.node_reach.Reach as reach
-use Rattle.entry_laws.specs.node_state.declared.packet.Body.TheVariants as body
-use Rattle.entry_laws.specs.node_state.declared.packet.Packet.{Packet}
-use Rattle.entry_laws.specs.node_state.declared.state.Core.{Core}
-use Rattle.entry_laws.specs.node_state.Settings.{is_rings}
-use Rattle.entry_laws.specs.node_state.State.{recorded_all}
-use Rattle.entry_laws.specs.node_state.Sending.{send_on}
-use Rattle.entry_laws.specs.node_state.Ticks.{ring_put, ring_taken, ring_row_of, ring_row, rings_union, report_of, send_report, rings_tick, tick_rings}
-use Rattle.entry_laws.specs.step_refinement.Tied.{Scene}
+use Rattle.rsct_packet.specs.declared.mask.Mask.{Mask}
+use Rattle.rsct_packet.specs.Mask.{nodes_of}
+use Rattle.rsct_packet.specs.Search.{Has}
+use Rattle.rsct_packet.proofs.HasLaws.{append_has_right, find_has}
+use Rattle.adapter_ring.specs.declared.packet.RingPacket.{RingPacket}
+use Rattle.adapter_ring.specs.declared.packet.RingSend.{RingSend}
+use Rattle.adapter_ring.specs.declared.packet.RingEvent.TheVariants as ring_event
+use Rattle.adapter_ring.specs.declared.ring.Ring.{Ring}
+use Rattle.adapter_ring.specs.declared.work.RingWork.{RingWork}
+use Rattle.adapter_ring.specs.Rings.{ring_step}
+use Rattle.adapter_ring.specs.Network.{Ticks, Given, Sent, Network, ring_at, step_taken, stepped_in, given_in, happens}
+use Rattle.node_reach.specs.Reach as reach
+use Rattle.node_state.specs.declared.packet.Body.TheVariants as body
+use Rattle.node_state.specs.declared.packet.Packet.{Packet}
+use Rattle.node_state.specs.declared.state.Core.{Core}
+use Rattle.node_state.specs.Settings.{is_rings}
+use Rattle.node_state.specs.State.{recorded_all}
+use Rattle.node_state.specs.Sending.{send_on}
+use Rattle.node_state.specs.Ticks.{ring_put, ring_taken, ring_row_of, ring_row, rings_union, report_of, send_report, rings_tick, tick_rings}
+use Rattle.step_refinement.specs.Tied.{Scene}
 use Rattle.run_laws.specs.ring_runs.Rings.{ring_settings}
 use Rattle.run_laws.proofs.ring_runs.Stepping.{own_step}
 use Rattle.run_laws.proofs.ring_runs.Leading.{on_sent_all, Keeps}

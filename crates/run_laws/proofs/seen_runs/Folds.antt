@@ -3,33 +3,33 @@ use Rattle.std.proofs.Common.{◌≡◌, ◌<◌, ℕ, ◌+◌, List, [], ◌∷
 use Rattle.std.specs.Prelude.{◌==◌, ◌&&◌, if◌then◌else◌}
 use Rattle.std.specs.Str.{bytes_eq}
 use Rattle.std.proofs.lemmas.Bool.{eqb-true, and_parts}
-use Rattle.entry_laws.specs.rsct_packet.declared.ids.ViewId.{ViewId}
-use Rattle.entry_laws.specs.rsct_packet.declared.ids.ProviderId.{ProviderId}
-use Rattle.entry_laws.specs.rsct_packet.Ids.{same_view}
-use Rattle.entry_laws.specs.rsct_packet.Search.{Has}
-use Rattle.entry_laws.proofs.rsct_packet_laws.HasLaws.{append_has_left, append_has_right}
-use Rattle.entry_laws.proofs.view_state_laws.ViewOrder.{same_view_is}
-use Rattle.entry_laws.specs.proposal_core.declared.entry.Entry.{Entry}
-use Rattle.entry_laws.specs.proposal_core.declared.group_state.GroupState.{GroupState}
-use Rattle.entry_laws.proofs.node_state_laws.NameOrder.{text_same, text_self}
-use Rattle.entry_laws.specs.node_state.declared.config.Config.{Config}
-use Rattle.entry_laws.specs.node_state.declared.happened.Happened.{Happened}
-use Rattle.entry_laws.specs.node_state.declared.happened.Happened.TheVariants as happened
-use Rattle.entry_laws.specs.run_safety.Past.{History, earlier, records_of, Within, EachRecord, is_list, puts_of, base_of, fold_from, state_at}
-use Rattle.entry_laws.specs.run_safety.Sight.{lines_at, lines_with, lines_of}
-use Rattle.entry_laws.specs.run_safety.Group.{Origin, Record, Put, Based, Heard, Line, Kept, Noted, kept}
-use Rattle.entry_laws.specs.run_safety.GroupLists as lists
-use Rattle.entry_laws.specs.run_safety.Bases.{Bases, base_state, state_of_list}
-use Rattle.entry_laws.specs.run_safety.SafeHeard.{latest_put, put_after, HeardState}
-use Rattle.entry_laws.proofs.run_safety_laws.HeardLaw.{puts_front, take_front, HeardAt, HeardOk, put_within}
-use Rattle.entry_laws.proofs.run_safety_laws.Lives.{whole}
-use Rattle.entry_laws.specs.row_laws.hearing.Hearing.{AtPut}
-use Rattle.entry_laws.proofs.row_laws_laws.hearing.Listening.{providers_hear}
+use Rattle.rsct_packet.specs.declared.ids.ViewId.{ViewId}
+use Rattle.rsct_packet.specs.declared.ids.ProviderId.{ProviderId}
+use Rattle.rsct_packet.specs.Ids.{same_view}
+use Rattle.rsct_packet.specs.Search.{Has}
+use Rattle.rsct_packet.proofs.HasLaws.{append_has_left, append_has_right}
+use Rattle.view_state.proofs.ViewOrder.{same_view_is}
+use Rattle.proposal_core.specs.declared.entry.Entry.{Entry}
+use Rattle.proposal_core.specs.declared.group_state.GroupState.{GroupState}
+use Rattle.node_state.proofs.NameOrder.{text_same, text_self}
+use Rattle.node_state.specs.declared.config.Config.{Config}
+use Rattle.node_state.specs.declared.happened.Happened.{Happened}
+use Rattle.node_state.specs.declared.happened.Happened.TheVariants as happened
+use Rattle.run_safety.specs.Past.{History, earlier, records_of, Within, EachRecord, is_list, puts_of, base_of, fold_from, state_at}
+use Rattle.run_safety.specs.Sight.{lines_at, lines_with, lines_of}
+use Rattle.run_safety.specs.Group.{Origin, Record, Put, Based, Heard, Line, Kept, Noted, kept}
+use Rattle.run_safety.specs.GroupLists as lists
+use Rattle.run_safety.specs.Bases.{Bases, base_state, state_of_list}
+use Rattle.run_safety.specs.SafeHeard.{latest_put, put_after, HeardState}
+use Rattle.run_safety.proofs.HeardLaw.{puts_front, take_front, HeardAt, HeardOk, put_within}
+use Rattle.run_safety.proofs.Lives.{whole}
+use Rattle.row_laws.specs.hearing.Hearing.{AtPut}
+use Rattle.row_laws.proofs.hearing.Listening.{providers_hear}
 use Rattle.entry_laws.proofs.closing_rows.Orders.{Clause, Ordered}
 use Rattle.entry_laws.proofs.closing_rows.Told.{Told, less_many, each_told, each_all}
 use Rattle.entry_laws.proofs.closing_rows.Law.{bases_in, logs_in, told_in}
-use Rattle.entry_laws.specs.step_refinement.Tied.{Scene, Rests, opening_of}
-use Rattle.entry_laws.proofs.step_refinement_laws.RunLaw.{reached_rests}
+use Rattle.step_refinement.specs.Tied.{Scene, Rests, opening_of}
+use Rattle.step_refinement.proofs.RunLaw.{reached_rests}
 use Rattle.run_laws.specs.seen_runs.Law.{EveryHeardIsFold}
 use Rattle.run_laws.proofs.seen_runs.BareLines.{kept_bare, base_is}
 use Rattle.run_laws.proofs.seen_runs.Sights.{cut, puts_same, base_same}

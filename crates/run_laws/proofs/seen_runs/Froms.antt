@@ -3,18 +3,18 @@ use Rattle.std.proofs.Common.{refl, ◌≡◌, ℕ, ◌⊎◌, ⊎_elim, inl, in
 use Rattle.std.specs.Prelude.{◌==◌, ◌&&◌, if◌then◌else◌}
 use Rattle.std.proofs.lemmas.Bool.{eqb-true, and_parts}
 use Rattle.std.proofs.lemmas.Bool.Decides.{nat_tests}
-use Rattle.entry_laws.specs.rsct_packet.declared.ids.Member.{Member}
-use Rattle.entry_laws.specs.rsct_packet.declared.ids.ViewId.{ViewId}
-use Rattle.entry_laws.specs.rsct_packet.Ids.{view_lt}
-use Rattle.entry_laws.specs.rsct_packet.Search.{Has}
-use Rattle.entry_laws.specs.node_state.declared.happened.Happened.{Happened}
-use Rattle.entry_laws.specs.node_state.declared.happened.Happened.TheVariants as happened
-use Rattle.entry_laws.specs.run_safety.ViewOrder.{is_before, Lt, Le}
-use Rattle.entry_laws.specs.run_safety.Group.{In, Put, Begins, Note, Line, Kept, Noted, kept, Record}
-use Rattle.entry_laws.specs.run_safety.GroupLists.{WasIn, From}
-use Rattle.entry_laws.specs.run_safety.Past.{History, records_of}
-use Rattle.entry_laws.specs.run_safety.Sight.{inc_in, lines_at, lines_of}
-use Rattle.entry_laws.proofs.run_safety_laws.Order.{lt_refl, le_lt_trans, lt_le, le_antisym}
+use Rattle.rsct_packet.specs.declared.ids.Member.{Member}
+use Rattle.rsct_packet.specs.declared.ids.ViewId.{ViewId}
+use Rattle.rsct_packet.specs.Ids.{view_lt}
+use Rattle.rsct_packet.specs.Search.{Has}
+use Rattle.node_state.specs.declared.happened.Happened.{Happened}
+use Rattle.node_state.specs.declared.happened.Happened.TheVariants as happened
+use Rattle.run_safety.specs.ViewOrder.{is_before, Lt, Le}
+use Rattle.run_safety.specs.Group.{In, Put, Begins, Note, Line, Kept, Noted, kept, Record}
+use Rattle.run_safety.specs.GroupLists.{WasIn, From}
+use Rattle.run_safety.specs.Past.{History, records_of}
+use Rattle.run_safety.specs.Sight.{inc_in, lines_at, lines_of}
+use Rattle.run_safety.proofs.Order.{lt_refl, le_lt_trans, lt_le, le_antisym}
 use Rattle.run_laws.specs.seen_runs.Seen.{greater, from_after, from_of}
 use Rattle.run_laws.proofs.seen_runs.Sights.{LineOf, Enters, Puts, Bases, Hears, Asks, Tells, Else, line_of, line_in, recorded}
 

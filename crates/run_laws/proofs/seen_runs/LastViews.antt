@@ -2,14 +2,14 @@
 use Rattle.std.proofs.Common.{refl, ◌≡◌, ℕ, ◌+◌, ◌<◌, ◌⊎◌, inl, inr, sym, ◌∙◌, ap, subst, true, false, Bool, List, [], ◌∷◌, length, Option, Some, None, arith}
 use Rattle.std.specs.Prelude.{◌==◌, ◌≢◌, drop}
 use Rattle.std.proofs.lemmas.Bool.Decides.{nat_tests}
-use Rattle.entry_laws.specs.rsct_packet.declared.ids.Member.{Member}
-use Rattle.entry_laws.specs.rsct_packet.declared.ids.ViewId.{ViewId}
-use Rattle.entry_laws.specs.proposal_core.declared.entry.Entry.{Entry}
-use Rattle.entry_laws.specs.run_safety.Group.{member, Standing, Reply, members_of, Origin, Packet, Record, In, Put, Begins, Line, Kept, kept, puts_from}
-use Rattle.entry_laws.specs.run_safety.Bases.{Bases}
-use Rattle.entry_laws.specs.run_safety.Moves.{Leads, Changes, Opening, entered, grown, Life, Dawn, NextEvent, Promises, Answers, Appends, Follows, Starts, Enters, Founds, Names, Hears, Asks, Requests, Refuses, IsTold, Acknowledges, Settles}
-use Rattle.entry_laws.proofs.run_safety_laws.Keep.{each}
-use Rattle.entry_laws.proofs.run_safety_laws.Lines.{kept_entered, kept_inserted}
+use Rattle.rsct_packet.specs.declared.ids.Member.{Member}
+use Rattle.rsct_packet.specs.declared.ids.ViewId.{ViewId}
+use Rattle.proposal_core.specs.declared.entry.Entry.{Entry}
+use Rattle.run_safety.specs.Group.{member, Standing, Reply, members_of, Origin, Packet, Record, In, Put, Begins, Line, Kept, kept, puts_from}
+use Rattle.run_safety.specs.Bases.{Bases}
+use Rattle.run_safety.specs.Moves.{Leads, Changes, Opening, entered, grown, Life, Dawn, NextEvent, Promises, Answers, Appends, Follows, Starts, Enters, Founds, Names, Hears, Asks, Requests, Refuses, IsTold, Acknowledges, Settles}
+use Rattle.run_safety.proofs.Keep.{each}
+use Rattle.run_safety.proofs.Lines.{kept_entered, kept_inserted}
 use Rattle.run_laws.proofs.seen_runs.LineRules.{Entered, last_in}
 use Rattle.run_laws.proofs.seen_runs.LineFacts.{last_puts}
 

@@ -1,16 +1,16 @@
 -- The law: what every run records shows itself.
 use Rattle.std.proofs.Common.{◌≡◌, ℕ, subst, refl, Bool, true, false, List, [], ◌∷◌, ◌++◌, Option, Some, None}
 use Rattle.std.specs.Prelude.{if◌then◌else◌}
-use Rattle.entry_laws.specs.rsct_packet.declared.ids.ViewId.{ViewId}
-use Rattle.entry_laws.specs.proposal_core.declared.entry.Entry.{Entry}
-use Rattle.entry_laws.specs.node_state.declared.config.Config.{Config}
-use Rattle.entry_laws.specs.node_state.declared.happened.Happened.{Happened}
-use Rattle.entry_laws.specs.node_state.declared.happened.Happened.TheVariants as happened
-use Rattle.entry_laws.specs.run_safety.Past.{History, records_of, earlier, Within, EachRecord, is_list}
-use Rattle.entry_laws.specs.run_safety.SafeHeard.{latest_put, put_after, HeardState}
-use Rattle.entry_laws.specs.row_laws.hearing.Hearing.{AtPut}
-use Rattle.entry_laws.proofs.row_laws_laws.hearing.Listening.{providers_hear}
-use Rattle.entry_laws.specs.row_laws.honest_votes.Casts.{RecordCast}
+use Rattle.rsct_packet.specs.declared.ids.ViewId.{ViewId}
+use Rattle.proposal_core.specs.declared.entry.Entry.{Entry}
+use Rattle.node_state.specs.declared.config.Config.{Config}
+use Rattle.node_state.specs.declared.happened.Happened.{Happened}
+use Rattle.node_state.specs.declared.happened.Happened.TheVariants as happened
+use Rattle.run_safety.specs.Past.{History, records_of, earlier, Within, EachRecord, is_list}
+use Rattle.run_safety.specs.SafeHeard.{latest_put, put_after, HeardState}
+use Rattle.row_laws.specs.hearing.Hearing.{AtPut}
+use Rattle.row_laws.proofs.hearing.Listening.{providers_hear}
+use Rattle.row_laws.specs.honest_votes.Casts.{RecordCast}
 use Rattle.entry_laws.specs.closing_rows.Rows.{RecordRows}
 use Rattle.entry_laws.proofs.closing_rows.Law.{rows_are_voters}
 use Rattle.provider_laws.specs.attending.Places.{NextHeard}
@@ -18,9 +18,9 @@ use Rattle.provider_laws.proofs.attending.Law.{places_once}
 use Rattle.provider_laws.specs.single_casts.Single.{CastAfterNotice, NotCastBefore}
 use Rattle.provider_laws.proofs.single_casts.Law.{cast_after_notice}
 use Rattle.provider_laws.proofs.single_casts.Once.{cast_once}
-use Rattle.entry_laws.proofs.row_laws_laws.honest_votes.Law.{recorded_votes}
-use Rattle.entry_laws.specs.step_refinement.Tied.{Scene}
-use Rattle.entry_laws.specs.step_refinement.Runs.{Reached}
+use Rattle.row_laws.proofs.honest_votes.Law.{recorded_votes}
+use Rattle.step_refinement.specs.Tied.{Scene}
+use Rattle.step_refinement.specs.Runs.{Reached}
 use Rattle.run_laws.specs.seen_runs.Seen.{SeenAt, Seen, VotesSeen, RowsSeen, HeardSeen}
 use Rattle.run_laws.specs.seen_runs.Law.{EveryTraceIsSeen}
 use Rattle.run_laws.proofs.seen_runs.Pairs.{Two, each_both}

@@ -2,32 +2,32 @@
 use Rattle.std.proofs.Common.{refl, ◌≡◌, ℕ, zero, suc, ◌+◌, ◌≤◌, ◌<◌, ◌⊎◌, inl, inr, sym, ◌∙◌, ap, subst, true, false, Bool, List, [], ◌∷◌, ◌++◌, length, Option, Some, None, arith, append_assoc}
 use Rattle.std.specs.Prelude.{slice_get, drop, take}
 use Rattle.std.proofs.lemmas.List.{take_all}
-use Rattle.entry_laws.specs.rsct_packet.declared.ids.Member.{Member}
-use Rattle.entry_laws.specs.rsct_packet.declared.ids.ProviderId.{ProviderId}
-use Rattle.entry_laws.specs.rsct_packet.declared.ids.ViewId.{ViewId}
-use Rattle.entry_laws.specs.rsct_packet.Search.{Has}
-use Rattle.entry_laws.proofs.rsct_packet_laws.HasLaws.{append_has_right}
-use Rattle.entry_laws.specs.proposal_core.declared.entry.Entry.{Entry}
-use Rattle.entry_laws.specs.proposal_core.declared.group_state.GroupState.{GroupState}
-use Rattle.entry_laws.specs.proposal_core.Fold.{fits}
-use Rattle.entry_laws.specs.run_safety.ViewOrder.{Lt, Le}
-use Rattle.entry_laws.specs.run_safety.Group.{member, Standing, Reply, members_of, Origin, Packet, Answer, Install, Record, In, Put, Begins, Note, Based, Heard, Asked, Told, Line, Kept, Noted, kept, puts_from, lines_from}
-use Rattle.entry_laws.specs.run_safety.GroupLists.{OneEntryOf, Rises, puts_of, held, InOrder, WasIn, From, SameLists, SameMembers, IsCut}
-use Rattle.entry_laws.specs.run_safety.GroupLaws.{AskedFirst, Brought}
-use Rattle.entry_laws.specs.run_safety.Bases.{Bases, base_state, state_of_list, side_state, marked, Wins, BaseIs}
-use Rattle.entry_laws.specs.run_safety.Requests.{carried, Meets}
-use Rattle.entry_laws.specs.run_safety.Past.{fold_from}
-use Rattle.entry_laws.specs.run_safety.Moves.{Leads, Changes, Opening, based, entered, grown, SetAt, Life, Dawn, NextEvent, Promises, Answers, Appends, Follows, Starts, Enters, Founds, Names, Hears, Asks, Requests, Refuses, IsTold, Acknowledges, Settles}
-use Rattle.entry_laws.proofs.run_safety_laws.Prefix.{IsPrefix, prefix_both}
-use Rattle.entry_laws.proofs.run_safety_laws.Order.{lt_refl, lt_not_same}
-use Rattle.entry_laws.proofs.run_safety_laws.Tracks.{was_many}
-use Rattle.entry_laws.proofs.run_safety_laws.Lines.{kept_lines, kept_entered, note_lines, has_lines}
-use Rattle.entry_laws.proofs.run_safety_laws.HeardLaw.{puts_front, take_front, front_of, get_within}
-use Rattle.entry_laws.proofs.run_safety_laws.Founds.{found_new}
-use Rattle.entry_laws.proofs.run_safety_laws.CutLaw.{law_same_members, law_same_lists}
-use Rattle.entry_laws.proofs.run_safety_laws.Whole.{Whole}
-use Rattle.entry_laws.proofs.run_safety_laws.OnceLaw.{begun_once}
-use Rattle.entry_laws.proofs.run_safety_laws.Lives.{whole, law_one_entry, law_one_base, law_base}
+use Rattle.rsct_packet.specs.declared.ids.Member.{Member}
+use Rattle.rsct_packet.specs.declared.ids.ProviderId.{ProviderId}
+use Rattle.rsct_packet.specs.declared.ids.ViewId.{ViewId}
+use Rattle.rsct_packet.specs.Search.{Has}
+use Rattle.rsct_packet.proofs.HasLaws.{append_has_right}
+use Rattle.proposal_core.specs.declared.entry.Entry.{Entry}
+use Rattle.proposal_core.specs.declared.group_state.GroupState.{GroupState}
+use Rattle.proposal_core.specs.Fold.{fits}
+use Rattle.run_safety.specs.ViewOrder.{Lt, Le}
+use Rattle.run_safety.specs.Group.{member, Standing, Reply, members_of, Origin, Packet, Answer, Install, Record, In, Put, Begins, Note, Based, Heard, Asked, Told, Line, Kept, Noted, kept, puts_from, lines_from}
+use Rattle.run_safety.specs.GroupLists.{OneEntryOf, Rises, puts_of, held, InOrder, WasIn, From, SameLists, SameMembers, IsCut}
+use Rattle.run_safety.specs.GroupLaws.{AskedFirst, Brought}
+use Rattle.run_safety.specs.Bases.{Bases, base_state, state_of_list, side_state, marked, Wins, BaseIs}
+use Rattle.run_safety.specs.Requests.{carried, Meets}
+use Rattle.run_safety.specs.Past.{fold_from}
+use Rattle.run_safety.specs.Moves.{Leads, Changes, Opening, based, entered, grown, SetAt, Life, Dawn, NextEvent, Promises, Answers, Appends, Follows, Starts, Enters, Founds, Names, Hears, Asks, Requests, Refuses, IsTold, Acknowledges, Settles}
+use Rattle.run_safety.proofs.Prefix.{IsPrefix, prefix_both}
+use Rattle.run_safety.proofs.Order.{lt_refl, lt_not_same}
+use Rattle.run_safety.proofs.Tracks.{was_many}
+use Rattle.run_safety.proofs.Lines.{kept_lines, kept_entered, note_lines, has_lines}
+use Rattle.run_safety.proofs.HeardLaw.{puts_front, take_front, front_of, get_within}
+use Rattle.run_safety.proofs.Founds.{found_new}
+use Rattle.run_safety.proofs.CutLaw.{law_same_members, law_same_lists}
+use Rattle.run_safety.proofs.Whole.{Whole}
+use Rattle.run_safety.proofs.OnceLaw.{begun_once}
+use Rattle.run_safety.proofs.Lives.{whole, law_one_entry, law_one_base, law_base}
 use Rattle.run_laws.proofs.seen_runs.LineRules.{bare, Entered, last_in, GoesOn, base_in, InSeen, OnceLine, PutSeen, BasedSeen, LineSeen, LinesSeen}
 use Rattle.run_laws.proofs.seen_runs.BareLines.{kept_bare, had_bare, has_bare, bare_inserted, base_bare, base_is}
 use Rattle.run_laws.proofs.seen_runs.LineFacts.{order_older, asked_older, kept_older, lines_split, last_puts, put_at, held_puts, from_in}

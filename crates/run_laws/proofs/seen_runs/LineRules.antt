@@ -1,21 +1,21 @@
 -- What holds of each line of a group's life and of those before it, the latest first. Lines of what is heard are left out, since
 -- they come in between.
 use Rattle.std.specs.Prelude.{ℕ, ◌≡◌, ◌≢◌, ◌≤◌, true, Bool, ◌==◌, ◌&&◌, List, [], ◌∷◌, length, take, Option, Some, None, if◌then◌else◌}
-use Rattle.entry_laws.specs.rsct_packet.declared.ids.Member.{Member}
-use Rattle.entry_laws.specs.rsct_packet.declared.ids.ProviderId.{ProviderId}
-use Rattle.entry_laws.specs.rsct_packet.declared.ids.ViewId.{ViewId}
-use Rattle.entry_laws.specs.rsct_packet.Search.{Has}
-use Rattle.entry_laws.specs.proposal_core.declared.entry.Entry.{Entry}
-use Rattle.entry_laws.specs.proposal_core.declared.proposal.Proposal.{Proposal}
-use Rattle.entry_laws.specs.proposal_core.declared.group_state.GroupState.{GroupState}
-use Rattle.entry_laws.specs.proposal_core.Fold.{fits, empty_state}
-use Rattle.entry_laws.specs.run_safety.ViewOrder.{is_same, Lt}
-use Rattle.entry_laws.specs.run_safety.Group.{member, Reply, members_of, Origin, Record, In, Put, Begins, Note, Based, Heard, Asked, Told, Line, Kept, Noted, kept}
-use Rattle.entry_laws.specs.run_safety.GroupLists.{puts_of, From}
-use Rattle.entry_laws.specs.run_safety.Past.{fold_from}
-use Rattle.entry_laws.specs.run_safety.Bases.{marked}
-use Rattle.entry_laws.specs.run_safety.Requests.{carried, Meets}
-use Rattle.entry_laws.specs.run_safety.Tallies.{IsTallied}
+use Rattle.rsct_packet.specs.declared.ids.Member.{Member}
+use Rattle.rsct_packet.specs.declared.ids.ProviderId.{ProviderId}
+use Rattle.rsct_packet.specs.declared.ids.ViewId.{ViewId}
+use Rattle.rsct_packet.specs.Search.{Has}
+use Rattle.proposal_core.specs.declared.entry.Entry.{Entry}
+use Rattle.proposal_core.specs.declared.proposal.Proposal.{Proposal}
+use Rattle.proposal_core.specs.declared.group_state.GroupState.{GroupState}
+use Rattle.proposal_core.specs.Fold.{fits, empty_state}
+use Rattle.run_safety.specs.ViewOrder.{is_same, Lt}
+use Rattle.run_safety.specs.Group.{member, Reply, members_of, Origin, Record, In, Put, Begins, Note, Based, Heard, Asked, Told, Line, Kept, Noted, kept}
+use Rattle.run_safety.specs.GroupLists.{puts_of, From}
+use Rattle.run_safety.specs.Past.{fold_from}
+use Rattle.run_safety.specs.Bases.{marked}
+use Rattle.run_safety.specs.Requests.{carried, Meets}
+use Rattle.run_safety.specs.Tallies.{IsTallied}
 
 -- without what is heard
 abbrev pub without_heard : Note → List Line → List Line

@@ -4,19 +4,19 @@ use Rattle.std.proofs.Common.{refl, ◌≡◌, ℕ, ◌+◌, ◌<◌, ◌≤◌,
 use Rattle.std.specs.Prelude.{◌==◌, ◌&&◌, ◌≢◌, reverse, map, IsTrue, if◌then◌else◌}
 use Rattle.std.proofs.lemmas.Bool.{eqb-true}
 use Rattle.std.proofs.lemmas.Bool.Decides.{nat_tests}
-use Rattle.entry_laws.specs.rsct_packet.declared.ids.Member.{Member}
-use Rattle.entry_laws.specs.rsct_packet.declared.ids.ViewId.{ViewId}
-use Rattle.entry_laws.specs.rsct_packet.Ids.{view_lt, is_member}
-use Rattle.entry_laws.specs.rsct_packet.Search.{Has}
-use Rattle.entry_laws.proofs.rsct_packet_laws.HasLaws.{has_append, append_has_left, append_has_right}
-use Rattle.entry_laws.specs.node_state.declared.happened.Happened.{Happened}
-use Rattle.entry_laws.specs.node_state.declared.happened.Happened.TheVariants as happened
-use Rattle.entry_laws.specs.run_safety.ViewOrder.{is_before, Lt}
-use Rattle.entry_laws.specs.run_safety.Group.{member, Record, In, Put, Begins, Line, kept}
-use Rattle.entry_laws.specs.run_safety.Past.{History, records_of, Within, view_now, place_after, inc_now, inc_after}
-use Rattle.entry_laws.specs.run_safety.Sight.{inc_in, lines_of}
-use Rattle.entry_laws.specs.run_safety.SafeLists.{Each, InItsView, is_later, Rising, AmongMembers}
-use Rattle.entry_laws.proofs.run_safety_laws.Tests.{has_any}
+use Rattle.rsct_packet.specs.declared.ids.Member.{Member}
+use Rattle.rsct_packet.specs.declared.ids.ViewId.{ViewId}
+use Rattle.rsct_packet.specs.Ids.{view_lt, is_member}
+use Rattle.rsct_packet.specs.Search.{Has}
+use Rattle.rsct_packet.proofs.HasLaws.{has_append, append_has_left, append_has_right}
+use Rattle.node_state.specs.declared.happened.Happened.{Happened}
+use Rattle.node_state.specs.declared.happened.Happened.TheVariants as happened
+use Rattle.run_safety.specs.ViewOrder.{is_before, Lt}
+use Rattle.run_safety.specs.Group.{member, Record, In, Put, Begins, Line, kept}
+use Rattle.run_safety.specs.Past.{History, records_of, Within, view_now, place_after, inc_now, inc_after}
+use Rattle.run_safety.specs.Sight.{inc_in, lines_of}
+use Rattle.run_safety.specs.SafeLists.{Each, InItsView, is_later, Rising, AmongMembers}
+use Rattle.run_safety.proofs.Tests.{has_any}
 use Rattle.run_laws.specs.seen_runs.Seen.{StartsLater}
 use Rattle.run_laws.proofs.seen_runs.LineRules.{bare, Entered, last_in, GoesOn, InSeen, PutSeen, LinesSeen}
 use Rattle.run_laws.proofs.seen_runs.BareLines.{kept_bare}

@@ -1,7 +1,7 @@
 -- Laws of each record, one with another.
 use Rattle.std.proofs.Common.{List, [], ◌∷◌}
-use Rattle.entry_laws.specs.node_state.declared.happened.Happened.{Happened}
-use Rattle.entry_laws.specs.run_safety.Past.{History, Within, EachRecord}
+use Rattle.node_state.specs.declared.happened.Happened.{Happened}
+use Rattle.run_safety.specs.Past.{History, Within, EachRecord}
 
 -- two laws of each record together
 module _ {P Q R : List Happened → History → Happened → Type 0} (both : (now : List Happened) (before : History) (r : Happened) → P now before r → Q now before r → R now before r) where

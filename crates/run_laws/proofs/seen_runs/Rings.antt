@@ -2,17 +2,17 @@
 use Rattle.std.proofs.Common.{◌≡◌, ℕ, List, [], ◌∷◌, Bool, true, refl, sym, subst, inl, inr}
 use Rattle.std.specs.Prelude.{◌==◌, if◌then◌else◌}
 use Rattle.std.proofs.lemmas.Bool.{eq-eqb}
-use Rattle.entry_laws.specs.rsct_packet.declared.ids.RingId.{RingId}
-use Rattle.entry_laws.specs.rsct_packet.declared.mask.Mask.{Mask}
-use Rattle.entry_laws.specs.rsct_packet.Search.{Has}
-use Rattle.entry_laws.proofs.rsct_packet_laws.HasLaws.{append_has_left, append_has_right}
-use Rattle.entry_laws.specs.adapter_ring.declared.ring.RingSettings.{RingSettings}
-use Rattle.entry_laws.specs.adapter_ring.Network.{Told}
-use Rattle.entry_laws.specs.adapter_ring.Agreement.{RingsAgree}
-use Rattle.entry_laws.specs.node_state.declared.config.Config.{Config}
-use Rattle.entry_laws.specs.node_state.declared.happened.Happened.{Happened}
-use Rattle.entry_laws.specs.node_state.declared.happened.Happened.TheVariants as happened
-use Rattle.entry_laws.specs.run_safety.Past.{records_of}
+use Rattle.rsct_packet.specs.declared.ids.RingId.{RingId}
+use Rattle.rsct_packet.specs.declared.mask.Mask.{Mask}
+use Rattle.rsct_packet.specs.Search.{Has}
+use Rattle.rsct_packet.proofs.HasLaws.{append_has_left, append_has_right}
+use Rattle.adapter_ring.specs.declared.ring.RingSettings.{RingSettings}
+use Rattle.adapter_ring.specs.Network.{Told}
+use Rattle.adapter_ring.specs.Agreement.{RingsAgree}
+use Rattle.node_state.specs.declared.config.Config.{Config}
+use Rattle.node_state.specs.declared.happened.Happened.{Happened}
+use Rattle.node_state.specs.declared.happened.Happened.TheVariants as happened
+use Rattle.run_safety.specs.Past.{records_of}
 use Rattle.run_laws.specs.ring_runs.Rings.{ring_settings, told_on, rings_told}
 use Rattle.run_laws.proofs.ring_runs.Law.{rings_agree_in_runs}
 use Rattle.run_laws.specs.seen_runs.Rings.{RingSeenAt, RingSeen, RingsSeen, SeenWithRings}

@@ -4,34 +4,34 @@ use Rattle.std.specs.Prelude.{◌==◌, ◌&&◌, ◌≢◌, reverse, map, fold}
 use Rattle.std.proofs.lemmas.List.{append-nil}
 use Rattle.std.proofs.lemmas.Bool.{cases_eq}
 use Rattle.std.proofs.lemmas.Bool.Decides.{nat_tests}
-use Rattle.entry_laws.specs.rsct_packet.declared.ids.Member.{Member}
-use Rattle.entry_laws.specs.rsct_packet.declared.ids.ViewId.{ViewId}
-use Rattle.entry_laws.specs.rsct_packet.Ids.{is_member}
-use Rattle.entry_laws.specs.rsct_packet.Mask.{nodes_of}
-use Rattle.entry_laws.specs.rsct_packet.Search.{Has}
-use Rattle.entry_laws.proofs.rsct_packet_laws.HasLaws.{has_append, append_has_left}
-use Rattle.entry_laws.specs.node_state.declared.config.Config.{Config}
-use Rattle.entry_laws.specs.node_state.declared.config.Mode.{Mode}
-use Rattle.entry_laws.specs.node_state.declared.config.Mode.TheVariants.{Fixed, Asked, Rings}
-use Rattle.entry_laws.specs.node_state.declared.happened.Happened.{Happened}
-use Rattle.entry_laws.specs.node_state.declared.happened.Happened.TheVariants as happened
-use Rattle.entry_laws.specs.node_state.declared.state.Core.{Core}
-use Rattle.entry_laws.specs.node_state.Settings.{is_fixed}
-use Rattle.entry_laws.specs.node_state.HandOn.{Answering}
-use Rattle.entry_laws.specs.node_state.Step.{NodeEvent, stepped, started, first_view, first_members, own_rings, ring_record}
-use Rattle.entry_laws.specs.world_model.declared.event.Event.{Event}
-use Rattle.entry_laws.specs.run_safety.Group.{member, Standing, In, kept}
-use Rattle.entry_laws.specs.run_safety.Past.{History, records_of, inc_now, inc_after, view_now}
-use Rattle.entry_laws.specs.run_safety.Sight.{inc_in, lines_of}
-use Rattle.entry_laws.specs.run_safety.SafeLists.{Each}
-use Rattle.entry_laws.proofs.run_safety_laws.Tests.{has_any}
-use Rattle.entry_laws.proofs.run_safety_laws.Lives.{whole}
-use Rattle.entry_laws.specs.step_refinement.Tied.{Scene, NodeIs, NodeIsIf}
-use Rattle.entry_laws.specs.step_refinement.Rows.{at_node, over, ended, starts_too, with_records, nothing_yet, Arises}
-use Rattle.entry_laws.specs.step_refinement.Runs.{IsNote, Reached, Nothing, AllStart, Starts, Stops, Steps, Notes}
-use Rattle.entry_laws.proofs.step_refinement_laws.Changed.{set_here, set_there, each_set}
-use Rattle.entry_laws.proofs.step_refinement_laws.RunLaw.{reached_rests}
-use Rattle.entry_laws.proofs.row_laws_laws.hearing.Listening.{reverse_has, steps_change}
+use Rattle.rsct_packet.specs.declared.ids.Member.{Member}
+use Rattle.rsct_packet.specs.declared.ids.ViewId.{ViewId}
+use Rattle.rsct_packet.specs.Ids.{is_member}
+use Rattle.rsct_packet.specs.Mask.{nodes_of}
+use Rattle.rsct_packet.specs.Search.{Has}
+use Rattle.rsct_packet.proofs.HasLaws.{has_append, append_has_left}
+use Rattle.node_state.specs.declared.config.Config.{Config}
+use Rattle.node_state.specs.declared.config.Mode.{Mode}
+use Rattle.node_state.specs.declared.config.Mode.TheVariants.{Fixed, Asked, Rings}
+use Rattle.node_state.specs.declared.happened.Happened.{Happened}
+use Rattle.node_state.specs.declared.happened.Happened.TheVariants as happened
+use Rattle.node_state.specs.declared.state.Core.{Core}
+use Rattle.node_state.specs.Settings.{is_fixed}
+use Rattle.node_state.specs.HandOn.{Answering}
+use Rattle.node_state.specs.Step.{NodeEvent, stepped, started, first_view, first_members, own_rings, ring_record}
+use Rattle.world_model.specs.declared.event.Event.{Event}
+use Rattle.run_safety.specs.Group.{member, Standing, In, kept}
+use Rattle.run_safety.specs.Past.{History, records_of, inc_now, inc_after, view_now}
+use Rattle.run_safety.specs.Sight.{inc_in, lines_of}
+use Rattle.run_safety.specs.SafeLists.{Each}
+use Rattle.run_safety.proofs.Tests.{has_any}
+use Rattle.run_safety.proofs.Lives.{whole}
+use Rattle.step_refinement.specs.Tied.{Scene, NodeIs, NodeIsIf}
+use Rattle.step_refinement.specs.Rows.{at_node, over, ended, starts_too, with_records, nothing_yet, Arises}
+use Rattle.step_refinement.specs.Runs.{IsNote, Reached, Nothing, AllStart, Starts, Stops, Steps, Notes}
+use Rattle.step_refinement.proofs.Changed.{set_here, set_there, each_set}
+use Rattle.step_refinement.proofs.RunLaw.{reached_rests}
+use Rattle.row_laws.proofs.hearing.Listening.{reverse_has, steps_change}
 use Rattle.run_laws.proofs.seen_runs.LineRules.{bare, Entered, last_in, LinesSeen}
 use Rattle.run_laws.proofs.seen_runs.LineLaws.{lines_seen}
 use Rattle.run_laws.proofs.seen_runs.LastViews.{entered_by, at_last}

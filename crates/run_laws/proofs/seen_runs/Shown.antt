@@ -6,29 +6,29 @@ use Rattle.std.specs.List.{list_any}
 use Rattle.std.proofs.lemmas.Slice.Eq.{bytes_eq-Decides}
 use Rattle.std.proofs.lemmas.Bool.{eqb-true, and_parts}
 use Rattle.std.proofs.lemmas.Bool.Decides.{nat_tests}
-use Rattle.entry_laws.specs.rsct_packet.declared.ids.Member.{Member}
-use Rattle.entry_laws.specs.rsct_packet.declared.ids.ProviderId.{ProviderId}
-use Rattle.entry_laws.specs.rsct_packet.declared.ids.ViewId.{ViewId}
-use Rattle.entry_laws.specs.rsct_packet.Ids.{same_view, is_member}
-use Rattle.entry_laws.specs.rsct_packet.Search.{Has}
-use Rattle.entry_laws.proofs.rsct_packet_laws.HasLaws.{append_has_right}
-use Rattle.entry_laws.specs.proposal_core.declared.entry.Entry.{Entry}
-use Rattle.entry_laws.specs.proposal_core.declared.proposal.Proposal.{Proposal}
-use Rattle.entry_laws.specs.proposal_core.declared.group_state.GroupState.{GroupState}
-use Rattle.entry_laws.specs.proposal_core.Fold.{fits, present}
-use Rattle.entry_laws.specs.node_state.declared.happened.Happened.{Happened}
-use Rattle.entry_laws.specs.node_state.declared.happened.Happened.TheVariants as happened
-use Rattle.entry_laws.specs.run_safety.ViewOrder.{is_same}
-use Rattle.entry_laws.specs.run_safety.Group.{member, Reply, members_of, Origin, Record, In, Put, Begins, Note, Based, Asked, Told, Line, Kept, Noted, kept}
-use Rattle.entry_laws.specs.run_safety.GroupLists as lists
-use Rattle.entry_laws.specs.run_safety.Bases as bases
-use Rattle.entry_laws.specs.run_safety.Past.{History, records_of, Within, EachRecord, puts_of, base_of, state_now, fold_from}
-use Rattle.entry_laws.specs.run_safety.Sight.{inc_in, told_in, lines_at, lines_with, lines_of}
-use Rattle.entry_laws.specs.run_safety.SafeLists.{Each, NextPlace, Fitting}
-use Rattle.entry_laws.specs.run_safety.Tallies.{IsTallied}
-use Rattle.entry_laws.proofs.run_safety_laws.Past.{member_reply, reply_member}
-use Rattle.entry_laws.proofs.run_safety_laws.Tests.{any_has, has_any}
-use Rattle.entry_laws.proofs.step_refinement_laws.Acks.{has_member}
+use Rattle.rsct_packet.specs.declared.ids.Member.{Member}
+use Rattle.rsct_packet.specs.declared.ids.ProviderId.{ProviderId}
+use Rattle.rsct_packet.specs.declared.ids.ViewId.{ViewId}
+use Rattle.rsct_packet.specs.Ids.{same_view, is_member}
+use Rattle.rsct_packet.specs.Search.{Has}
+use Rattle.rsct_packet.proofs.HasLaws.{append_has_right}
+use Rattle.proposal_core.specs.declared.entry.Entry.{Entry}
+use Rattle.proposal_core.specs.declared.proposal.Proposal.{Proposal}
+use Rattle.proposal_core.specs.declared.group_state.GroupState.{GroupState}
+use Rattle.proposal_core.specs.Fold.{fits, present}
+use Rattle.node_state.specs.declared.happened.Happened.{Happened}
+use Rattle.node_state.specs.declared.happened.Happened.TheVariants as happened
+use Rattle.run_safety.specs.ViewOrder.{is_same}
+use Rattle.run_safety.specs.Group.{member, Reply, members_of, Origin, Record, In, Put, Begins, Note, Based, Asked, Told, Line, Kept, Noted, kept}
+use Rattle.run_safety.specs.GroupLists as lists
+use Rattle.run_safety.specs.Bases as bases
+use Rattle.run_safety.specs.Past.{History, records_of, Within, EachRecord, puts_of, base_of, state_now, fold_from}
+use Rattle.run_safety.specs.Sight.{inc_in, told_in, lines_at, lines_with, lines_of}
+use Rattle.run_safety.specs.SafeLists.{Each, NextPlace, Fitting}
+use Rattle.run_safety.specs.Tallies.{IsTallied}
+use Rattle.run_safety.proofs.Past.{member_reply, reply_member}
+use Rattle.run_safety.proofs.Tests.{any_has, has_any}
+use Rattle.step_refinement.proofs.Acks.{has_member}
 use Rattle.run_laws.specs.seen_runs.Seen.{SameSeen, LeavesTogether, lives, marked, CutFrom, BaseSeenAt, BaseSeen, SameBases, SameEntry, TallySeen, WasTold, BeginsOnce, OnceSeen, from_of, is_from}
 use Rattle.run_laws.proofs.seen_runs.LineRules as rules
 use Rattle.run_laws.proofs.seen_runs.LineRules.{bare, InSeen, OnceLine, PutSeen, BasedSeen, LineSeen, LinesSeen}

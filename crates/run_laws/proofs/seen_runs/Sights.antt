@@ -3,24 +3,24 @@ use Rattle.std.proofs.Common.{refl, ◌≡◌, ℕ, ◌⊎◌, ⊎_elim, inl, in
 use Rattle.std.specs.Prelude.{◌==◌, ◌&&◌, if◌then◌else◌}
 use Rattle.std.specs.Str.{bytes_eq}
 use Rattle.std.proofs.lemmas.Slice.Eq.{bytes_eq-Decides}
-use Rattle.entry_laws.specs.rsct_packet.declared.ids.Member.{Member}
-use Rattle.entry_laws.specs.rsct_packet.declared.ids.ProviderId.{ProviderId}
-use Rattle.entry_laws.specs.rsct_packet.declared.ids.ViewId.{ViewId}
-use Rattle.entry_laws.specs.rsct_packet.Ids.{same_view}
-use Rattle.entry_laws.specs.rsct_packet.Search.{Has}
-use Rattle.entry_laws.proofs.rsct_packet_laws.HasLaws.{has_append, append_has_left, append_has_right}
-use Rattle.entry_laws.specs.client_callbacks.declared.told.Why.{Why}
-use Rattle.entry_laws.specs.proposal_core.declared.entry.Entry.{Entry}
-use Rattle.entry_laws.specs.proposal_core.declared.proposal.Proposal.{Proposal}
-use Rattle.entry_laws.specs.proposal_core.declared.group_state.GroupState.{GroupState}
-use Rattle.entry_laws.specs.node_state.declared.happened.Happened.{Happened}
-use Rattle.entry_laws.specs.node_state.declared.happened.Happened.TheVariants as happened
-use Rattle.entry_laws.specs.run_safety.ViewOrder.{is_same}
-use Rattle.entry_laws.specs.run_safety.Group.{Origin, Record, In, Put, Begins, Note, Based, Heard, Asked, Told, Line, Kept, Noted, kept}
-use Rattle.entry_laws.specs.run_safety.GroupLists as lists
-use Rattle.entry_laws.specs.run_safety.Past.{History, records_of, view_now, puts_of, puts_after, base_of, base_after}
-use Rattle.entry_laws.specs.run_safety.Sight.{inc_in, told_in, lines_at, lines_with, lines_of}
-use Rattle.entry_laws.proofs.run_safety_laws.SightLaws.{kept_append}
+use Rattle.rsct_packet.specs.declared.ids.Member.{Member}
+use Rattle.rsct_packet.specs.declared.ids.ProviderId.{ProviderId}
+use Rattle.rsct_packet.specs.declared.ids.ViewId.{ViewId}
+use Rattle.rsct_packet.specs.Ids.{same_view}
+use Rattle.rsct_packet.specs.Search.{Has}
+use Rattle.rsct_packet.proofs.HasLaws.{has_append, append_has_left, append_has_right}
+use Rattle.client_callbacks.specs.declared.told.Why.{Why}
+use Rattle.proposal_core.specs.declared.entry.Entry.{Entry}
+use Rattle.proposal_core.specs.declared.proposal.Proposal.{Proposal}
+use Rattle.proposal_core.specs.declared.group_state.GroupState.{GroupState}
+use Rattle.node_state.specs.declared.happened.Happened.{Happened}
+use Rattle.node_state.specs.declared.happened.Happened.TheVariants as happened
+use Rattle.run_safety.specs.ViewOrder.{is_same}
+use Rattle.run_safety.specs.Group.{Origin, Record, In, Put, Begins, Note, Based, Heard, Asked, Told, Line, Kept, Noted, kept}
+use Rattle.run_safety.specs.GroupLists as lists
+use Rattle.run_safety.specs.Past.{History, records_of, view_now, puts_of, puts_after, base_of, base_after}
+use Rattle.run_safety.specs.Sight.{inc_in, told_in, lines_at, lines_with, lines_of}
+use Rattle.run_safety.proofs.SightLaws.{kept_append}
 use Rattle.run_laws.specs.seen_runs.Seen.{from_after}
 use Rattle.run_laws.proofs.seen_runs.LineRules as rules
 

@@ -3,21 +3,21 @@ use Rattle.std.proofs.Common.{refl, ◌≡◌, ℕ, ◌+◌, ◌<◌, ◌≤◌,
 use Rattle.std.specs.Prelude.{◌==◌, ◌&&◌, ◌≢◌, reverse, map, IsTrue, if◌then◌else◌}
 use Rattle.std.proofs.lemmas.List.{append-nil, reverse-append}
 use Rattle.std.proofs.lemmas.Bool.Decides.{nat_tests}
-use Rattle.entry_laws.specs.rsct_packet.declared.ids.Member.{Member}
-use Rattle.entry_laws.specs.rsct_packet.declared.ids.ViewId.{ViewId}
-use Rattle.entry_laws.specs.rsct_packet.Ids.{is_member}
-use Rattle.entry_laws.specs.rsct_packet.Search.{Has}
-use Rattle.entry_laws.proofs.rsct_packet_laws.HasLaws.{has_append, has_map}
-use Rattle.entry_laws.specs.adapter_ring.declared.ring.Ring.{Ring}
-use Rattle.entry_laws.specs.node_state.declared.config.Config.{Config}
-use Rattle.entry_laws.specs.node_state.declared.happened.Happened.{Happened}
-use Rattle.entry_laws.specs.node_state.declared.happened.Happened.TheVariants as happened
-use Rattle.entry_laws.specs.node_state.declared.state.Core.{Core}
-use Rattle.entry_laws.specs.node_state.State.{with_sessions}
-use Rattle.entry_laws.specs.node_state.Step.{started, ring_record, own_rings, first_view, first_members}
-use Rattle.entry_laws.specs.run_safety.Past.{History, records_of, Within, view_now, inc_now}
-use Rattle.entry_laws.specs.run_safety.SafeLists.{is_later}
-use Rattle.entry_laws.proofs.row_laws_laws.hearing.Listening.{reverse_has}
+use Rattle.rsct_packet.specs.declared.ids.Member.{Member}
+use Rattle.rsct_packet.specs.declared.ids.ViewId.{ViewId}
+use Rattle.rsct_packet.specs.Ids.{is_member}
+use Rattle.rsct_packet.specs.Search.{Has}
+use Rattle.rsct_packet.proofs.HasLaws.{has_append, has_map}
+use Rattle.adapter_ring.specs.declared.ring.Ring.{Ring}
+use Rattle.node_state.specs.declared.config.Config.{Config}
+use Rattle.node_state.specs.declared.happened.Happened.{Happened}
+use Rattle.node_state.specs.declared.happened.Happened.TheVariants as happened
+use Rattle.node_state.specs.declared.state.Core.{Core}
+use Rattle.node_state.specs.State.{with_sessions}
+use Rattle.node_state.specs.Step.{started, ring_record, own_rings, first_view, first_members}
+use Rattle.run_safety.specs.Past.{History, records_of, Within, view_now, inc_now}
+use Rattle.run_safety.specs.SafeLists.{is_later}
+use Rattle.row_laws.proofs.hearing.Listening.{reverse_has}
 use Rattle.run_laws.proofs.seen_runs.Nodes.{NodeShown}
 
 abbrev pub ShownIn : History → List Happened → Happened → Type 0

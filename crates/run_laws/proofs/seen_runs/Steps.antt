@@ -1,38 +1,38 @@
 -- What a step records: no node starts or stops, and what is entered, put, or taken as a base is the node's own.
 use Rattle.std.proofs.Common.{refl, ◌≡◌, ℕ, ◌⊎◌, ⊎_elim, inl, inr, sym, ◌∙◌, ap, subst, true, false, Bool, List, [], ◌∷◌, ◌++◌, Option, Some, None}
 use Rattle.std.specs.Prelude.{fold, map, flat_map, not, ◌&&◌}
-use Rattle.entry_laws.specs.view_state.Views.{views_entered}
+use Rattle.view_state.specs.Views.{views_entered}
 use Rattle.std.specs.Str.{bytes_eq}
-use Rattle.entry_laws.specs.rsct_packet.declared.ids.ProviderId.{ProviderId}
-use Rattle.entry_laws.specs.rsct_packet.declared.ids.ProtoId.{ProtoId}
-use Rattle.entry_laws.specs.rsct_packet.declared.ids.ViewId.{ViewId}
-use Rattle.entry_laws.specs.rsct_packet.Search.{Has}
-use Rattle.entry_laws.proofs.rsct_packet_laws.HasLaws.{has_append, has_map}
-use Rattle.entry_laws.specs.proposal_core.declared.entry.Entry.{Entry}
-use Rattle.entry_laws.specs.proposal_core.Fold.{present}
-use Rattle.entry_laws.specs.proposal_core.Lists.{state_in}
-use Rattle.entry_laws.specs.proposal_core.declared.group_state.GroupState.{GroupState}
-use Rattle.entry_laws.specs.client_callbacks.declared.ballot.Filled.{Filled}
-use Rattle.entry_laws.specs.client_callbacks.declared.told.Why.TheVariants.{Dissolved}
-use Rattle.entry_laws.specs.client_callbacks.Ballots.{BallotView}
-use Rattle.entry_laws.specs.session_state.declared.state.Provider.{Provider}
-use Rattle.entry_laws.specs.session_state.declared.casts.Cast.{Cast}
-use Rattle.entry_laws.specs.session_state.HandOn.{casts_out}
-use Rattle.entry_laws.specs.session_state.State.{provider_of, outstanding}
-use Rattle.entry_laws.specs.view_state.declared.install.Base.{Base}
-use Rattle.entry_laws.specs.view_state.declared.install.Install.{Install}
-use Rattle.entry_laws.specs.view_state.Bases.{bases_of, base_named}
-use Rattle.entry_laws.specs.node_state.declared.group.GroupRow.{GroupRow}
-use Rattle.entry_laws.specs.node_state.declared.happened.Happened.{Happened}
-use Rattle.entry_laws.specs.node_state.declared.happened.Happened.TheVariants as happened
-use Rattle.entry_laws.specs.node_state.declared.state.Core.{Core}
-use Rattle.entry_laws.specs.node_state.State.{recorded, recorded_all, with_sessions, with_row, held_rows, state_of, len_of}
-use Rattle.entry_laws.specs.node_state.HandOn.{Answering, heard, cast_records, cast_record}
-use Rattle.entry_laws.specs.node_state.Leading.{put}
-use Rattle.entry_laws.specs.node_state.Applying.{base_record, view_entered, is_in_base, number_of, dissolved, dissolved_if, group_dissolved, sides_dissolved}
-use Rattle.entry_laws.specs.node_state.Step.{NodeEvent, at_work, stepped}
-use Rattle.entry_laws.specs.row_laws.hearing.Changes.{Same, Inner, entering, voting, handing, Does, Stays, Then, Records, Hands, Loses, Joins, Votes, Enters}
-use Rattle.entry_laws.proofs.row_laws_laws.hearing.Viewing.{sides_stand}
+use Rattle.rsct_packet.specs.declared.ids.ProviderId.{ProviderId}
+use Rattle.rsct_packet.specs.declared.ids.ProtoId.{ProtoId}
+use Rattle.rsct_packet.specs.declared.ids.ViewId.{ViewId}
+use Rattle.rsct_packet.specs.Search.{Has}
+use Rattle.rsct_packet.proofs.HasLaws.{has_append, has_map}
+use Rattle.proposal_core.specs.declared.entry.Entry.{Entry}
+use Rattle.proposal_core.specs.Fold.{present}
+use Rattle.proposal_core.specs.Lists.{state_in}
+use Rattle.proposal_core.specs.declared.group_state.GroupState.{GroupState}
+use Rattle.client_callbacks.specs.declared.ballot.Filled.{Filled}
+use Rattle.client_callbacks.specs.declared.told.Why.TheVariants.{Dissolved}
+use Rattle.client_callbacks.specs.Ballots.{BallotView}
+use Rattle.session_state.specs.declared.state.Provider.{Provider}
+use Rattle.session_state.specs.declared.casts.Cast.{Cast}
+use Rattle.session_state.specs.HandOn.{casts_out}
+use Rattle.session_state.specs.State.{provider_of, outstanding}
+use Rattle.view_state.specs.declared.install.Base.{Base}
+use Rattle.view_state.specs.declared.install.Install.{Install}
+use Rattle.view_state.specs.Bases.{bases_of, base_named}
+use Rattle.node_state.specs.declared.group.GroupRow.{GroupRow}
+use Rattle.node_state.specs.declared.happened.Happened.{Happened}
+use Rattle.node_state.specs.declared.happened.Happened.TheVariants as happened
+use Rattle.node_state.specs.declared.state.Core.{Core}
+use Rattle.node_state.specs.State.{recorded, recorded_all, with_sessions, with_row, held_rows, state_of, len_of}
+use Rattle.node_state.specs.HandOn.{Answering, heard, cast_records, cast_record}
+use Rattle.node_state.specs.Leading.{put}
+use Rattle.node_state.specs.Applying.{base_record, view_entered, is_in_base, number_of, dissolved, dissolved_if, group_dissolved, sides_dissolved}
+use Rattle.node_state.specs.Step.{NodeEvent, at_work, stepped}
+use Rattle.row_laws.specs.hearing.Changes.{Same, Inner, entering, voting, handing, Does, Stays, Then, Records, Hands, Loses, Joins, Votes, Enters}
+use Rattle.row_laws.proofs.hearing.Viewing.{sides_stand}
 
 -- of node n
 abbrev pub Mine : ℕ → Happened → Type 0

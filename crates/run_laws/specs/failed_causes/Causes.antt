@@ -1,14 +1,14 @@
 -- Why entries say that providers failed, where whoever is gone without a goodbye did not pass.
 use Rattle.std.specs.Prelude.{◌⊎◌, ℕ, List, [], ◌∷◌}
-use Rattle.entry_laws.specs.rsct_packet.declared.ids.ViewId.{ViewId}
-use Rattle.entry_laws.specs.rsct_packet.declared.ids.ProviderId.{ProviderId}
-use Rattle.entry_laws.specs.node_state.declared.config.Config.{Config}
-use Rattle.entry_laws.specs.node_state.declared.happened.Happened.{Happened}
-use Rattle.entry_laws.specs.node_state.declared.happened.Happened.TheVariants.{Put}
-use Rattle.entry_laws.specs.run_safety.Past.{History, records_of, earlier, EachEvent}
-use Rattle.entry_laws.specs.step_refinement.Tied.{Scene}
-use Rattle.entry_laws.specs.row_laws.failed_rows.Failures.{SaidGoodbye, EntryFails, IsFirst, Since, state_held}
-use Rattle.entry_laws.specs.row_laws.failed_rows.Scenes.{Played}
+use Rattle.rsct_packet.specs.declared.ids.ViewId.{ViewId}
+use Rattle.rsct_packet.specs.declared.ids.ProviderId.{ProviderId}
+use Rattle.node_state.specs.declared.config.Config.{Config}
+use Rattle.node_state.specs.declared.happened.Happened.{Happened}
+use Rattle.node_state.specs.declared.happened.Happened.TheVariants.{Put}
+use Rattle.run_safety.specs.Past.{History, records_of, earlier, EachEvent}
+use Rattle.step_refinement.specs.Tied.{Scene}
+use Rattle.row_laws.specs.failed_rows.Failures.{SaidGoodbye, EntryFails, IsFirst, Since, state_held}
+use Rattle.row_laws.specs.failed_rows.Scenes.{Played}
 use Rattle.run_laws.specs.failed_causes.Passed.{DidNotPass}
 
 -- by these events its own client said goodbye, or it did not pass into the view of the run

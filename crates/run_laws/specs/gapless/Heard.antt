@@ -1,16 +1,16 @@
 -- Each put is heard by each provider of the node that takes part at its place.
 use Rattle.std.specs.Prelude.{◌≡◌, ℕ, false, not, ◌&&◌, Bool, List, ◌∷◌, IsTrue}
 use Rattle.std.specs.List.{list_any}
-use Rattle.entry_laws.specs.rsct_packet.declared.ids.ProviderId.{ProviderId}
-use Rattle.entry_laws.specs.rsct_packet.Search.{Has}
-use Rattle.entry_laws.specs.node_state.declared.config.Config.{Config}
-use Rattle.entry_laws.specs.node_state.declared.happened.Happened.{Happened}
-use Rattle.entry_laws.specs.node_state.declared.happened.Happened.TheVariants.{Put, Heard}
-use Rattle.entry_laws.specs.world_model.Run.{Happening}
-use Rattle.entry_laws.specs.run_safety.Past.{History, EachEvent, Within, earlier}
-use Rattle.entry_laws.specs.run_safety.SafeHeard.{AllHear}
-use Rattle.entry_laws.specs.run_safety.Stays.{stays, part, takes_part, client_of, goodbye_of, is_refused, was_let_go}
-use Rattle.entry_laws.specs.step_refinement.Tied.{Scene}
+use Rattle.rsct_packet.specs.declared.ids.ProviderId.{ProviderId}
+use Rattle.rsct_packet.specs.Search.{Has}
+use Rattle.node_state.specs.declared.config.Config.{Config}
+use Rattle.node_state.specs.declared.happened.Happened.{Happened}
+use Rattle.node_state.specs.declared.happened.Happened.TheVariants.{Put, Heard}
+use Rattle.world_model.specs.Run.{Happening}
+use Rattle.run_safety.specs.Past.{History, EachEvent, Within, earlier}
+use Rattle.run_safety.specs.SafeHeard.{AllHear}
+use Rattle.run_safety.specs.Stays.{stays, part, takes_part, client_of, goodbye_of, is_refused, was_let_go}
+use Rattle.step_refinement.specs.Tied.{Scene}
 use Rattle.provider_laws.specs.leaving.Scenes.{Recounted}
 
 -- in this very event the provider's client says goodbye, and the call is taken

@@ -1,14 +1,14 @@
 -- In the event of a put each provider of the node that takes part hears it.
 use Rattle.std.specs.Prelude.{◌≡◌, ℕ, false, List, ◌∷◌, IsTrue}
-use Rattle.entry_laws.specs.rsct_packet.declared.ids.ProviderId.{ProviderId}
-use Rattle.entry_laws.specs.rsct_packet.Search.{Has}
-use Rattle.entry_laws.specs.node_state.declared.config.Config.{Config}
-use Rattle.entry_laws.specs.node_state.declared.happened.Happened.{Happened}
-use Rattle.entry_laws.specs.node_state.declared.happened.Happened.TheVariants.{Put, Heard}
-use Rattle.entry_laws.specs.world_model.Run.{Happening}
-use Rattle.entry_laws.specs.run_safety.Past.{History, EachEvent, Within, earlier}
-use Rattle.entry_laws.specs.run_safety.Stays.{stays, part, takes_part, lets_go, was_let_go}
-use Rattle.entry_laws.specs.step_refinement.Tied.{Scene}
+use Rattle.rsct_packet.specs.declared.ids.ProviderId.{ProviderId}
+use Rattle.rsct_packet.specs.Search.{Has}
+use Rattle.node_state.specs.declared.config.Config.{Config}
+use Rattle.node_state.specs.declared.happened.Happened.{Happened}
+use Rattle.node_state.specs.declared.happened.Happened.TheVariants.{Put, Heard}
+use Rattle.world_model.specs.Run.{Happening}
+use Rattle.run_safety.specs.Past.{History, EachEvent, Within, earlier}
+use Rattle.run_safety.specs.Stays.{stays, part, takes_part, lets_go, was_let_go}
+use Rattle.step_refinement.specs.Tied.{Scene}
 use Rattle.provider_laws.specs.leaving.Scenes.{Recounted}
 
 -- each provider of the node that takes part at the place of the put hears it in that event, unless it was let go, by an earlier

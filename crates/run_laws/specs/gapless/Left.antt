@@ -1,14 +1,14 @@
 -- Just who is left behind is told DISSOLVED.
 use Rattle.std.specs.Prelude.{ℕ}
-use Rattle.entry_laws.specs.rsct_packet.declared.ids.ProviderId.{ProviderId}
-use Rattle.entry_laws.specs.rsct_packet.Search.{Has}
-use Rattle.entry_laws.specs.client_callbacks.declared.told.Why.TheVariants.{Dissolved}
-use Rattle.entry_laws.specs.node_state.declared.config.Config.{Config}
-use Rattle.entry_laws.specs.node_state.declared.happened.Happened.TheVariants.{Told}
-use Rattle.entry_laws.specs.world_model.Run.{Happening}
-use Rattle.entry_laws.specs.run_safety.Past.{History, EachEvent}
-use Rattle.entry_laws.specs.run_safety.SafeHeard.{LeftBehind, Dissolves}
-use Rattle.entry_laws.specs.step_refinement.Tied.{Scene}
+use Rattle.rsct_packet.specs.declared.ids.ProviderId.{ProviderId}
+use Rattle.rsct_packet.specs.Search.{Has}
+use Rattle.client_callbacks.specs.declared.told.Why.TheVariants.{Dissolved}
+use Rattle.node_state.specs.declared.config.Config.{Config}
+use Rattle.node_state.specs.declared.happened.Happened.TheVariants.{Told}
+use Rattle.world_model.specs.Run.{Happening}
+use Rattle.run_safety.specs.Past.{History, EachEvent}
+use Rattle.run_safety.specs.SafeHeard.{LeftBehind, Dissolves}
+use Rattle.step_refinement.specs.Tied.{Scene}
 use Rattle.provider_laws.specs.leaving.Scenes.{Recounted}
 
 -- whoever is told DISSOLVED in the event is left behind in it

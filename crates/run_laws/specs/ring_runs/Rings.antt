@@ -1,17 +1,17 @@
 -- What is asked of the ring records of a run: that the rings of each network agree.
 use Rattle.std.specs.Prelude.{ℕ, ◌≡◌, ◌≤◌, ◌==◌, List, [], ◌∷◌, length, flat_map, if◌then◌else◌}
-use Rattle.entry_laws.specs.adapter_ring.declared.ring.RingSettings.{RingSettings}
-use Rattle.entry_laws.specs.adapter_ring.Network.{Told}
-use Rattle.entry_laws.specs.adapter_ring.Agreement.{AddressesDiffer, RingsAgree}
-use Rattle.entry_laws.specs.node_state.declared.config.Config.{Config}
-use Rattle.entry_laws.specs.node_state.declared.happened.Happened.{Happened}
-use Rattle.entry_laws.specs.node_state.declared.happened.Happened.TheVariants as happened
-use Rattle.entry_laws.specs.node_state.Settings.{addresses_on}
-use Rattle.entry_laws.specs.world_model.declared.script.Script.{Script}
-use Rattle.entry_laws.specs.world_model.Reading.{IsScript, script_of}
-use Rattle.entry_laws.specs.run_safety.Past.{History, records_of}
-use Rattle.entry_laws.specs.step_refinement.Tied.{Scene}
-use Rattle.entry_laws.specs.step_refinement.Runs.{Reached}
+use Rattle.adapter_ring.specs.declared.ring.RingSettings.{RingSettings}
+use Rattle.adapter_ring.specs.Network.{Told}
+use Rattle.adapter_ring.specs.Agreement.{AddressesDiffer, RingsAgree}
+use Rattle.node_state.specs.declared.config.Config.{Config}
+use Rattle.node_state.specs.declared.happened.Happened.{Happened}
+use Rattle.node_state.specs.declared.happened.Happened.TheVariants as happened
+use Rattle.node_state.specs.Settings.{addresses_on}
+use Rattle.world_model.specs.declared.script.Script.{Script}
+use Rattle.world_model.specs.Reading.{IsScript, script_of}
+use Rattle.run_safety.specs.Past.{History, records_of}
+use Rattle.step_refinement.specs.Tied.{Scene}
+use Rattle.step_refinement.specs.Runs.{Reached}
 
 -- the settings of the rings of a network
 abbrev pub ring_settings : Config → ℕ → RingSettings

@@ -1,10 +1,10 @@
 -- Of every scene that events lead to.
 use Rattle.std.specs.Prelude.{ℕ, ◌≡◌}
-use Rattle.entry_laws.specs.node_state.declared.config.Config.{Config}
-use Rattle.entry_laws.specs.run_safety.Past.{records_of}
-use Rattle.entry_laws.specs.run_safety.SafeHeard.{FoldHeard}
-use Rattle.entry_laws.specs.step_refinement.Tied.{Scene}
-use Rattle.entry_laws.specs.step_refinement.Runs.{Reached}
+use Rattle.node_state.specs.declared.config.Config.{Config}
+use Rattle.run_safety.specs.Past.{records_of}
+use Rattle.run_safety.specs.SafeHeard.{FoldHeard}
+use Rattle.step_refinement.specs.Tied.{Scene}
+use Rattle.step_refinement.specs.Runs.{Reached}
 use Rattle.run_laws.specs.ring_runs.Rings.{AddressesFit}
 use Rattle.run_laws.specs.seen_runs.Seen.{Seen}
 use Rattle.run_laws.specs.seen_runs.Rings.{RingsSeen, SeenWithRings}

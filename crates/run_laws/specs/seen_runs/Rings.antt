@@ -1,12 +1,12 @@
 -- What the ring records of a network show by themselves, one after another. They have no addresses, so they do not tell that the
 -- leader's is the greatest, nor that the neighbour is the next lower member.
 use Rattle.std.specs.Prelude.{ℕ, ◌≡◌, List, [], ◌∷◌, IsTrue}
-use Rattle.entry_laws.specs.rsct_packet.declared.ids.RingId.{RingId}
-use Rattle.entry_laws.specs.rsct_packet.declared.mask.Mask.{Mask}
-use Rattle.entry_laws.specs.rsct_packet.Mask.{has_node}
-use Rattle.entry_laws.specs.rsct_packet.Search.{Has}
-use Rattle.entry_laws.specs.node_state.declared.happened.Happened.{Happened}
-use Rattle.entry_laws.specs.node_state.declared.happened.Happened.TheVariants as happened
+use Rattle.rsct_packet.specs.declared.ids.RingId.{RingId}
+use Rattle.rsct_packet.specs.declared.mask.Mask.{Mask}
+use Rattle.rsct_packet.specs.Mask.{has_node}
+use Rattle.rsct_packet.specs.Search.{Has}
+use Rattle.node_state.specs.declared.happened.Happened.{Happened}
+use Rattle.node_state.specs.declared.happened.Happened.TheVariants as happened
 use Rattle.run_laws.specs.seen_runs.Seen.{Seen}
 
 -- a ring has the members that it had in each earlier record of its id; the node that is set to it, the id's leader and the

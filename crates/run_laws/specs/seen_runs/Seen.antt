@@ -1,25 +1,25 @@
 -- What the records of a safe run show by themselves, one after another: what holds of each record and of those before it, the
 -- latest first. It asks for no events, so a transcript alone tells it. What is shown of rings stands in Rings.
 use Rattle.std.specs.Prelude.{ℕ, ◌≡◌, ◌⊎◌, ◌<◌, ◌≤◌, Bool, false, not, ◌==◌, ◌&&◌, List, [], ◌∷◌, filter, length, take, Option, Some, None, if◌then◌else◌}
-use Rattle.entry_laws.specs.rsct_packet.declared.ids.Member.{Member}
-use Rattle.entry_laws.specs.rsct_packet.declared.ids.ProviderId.{ProviderId}
-use Rattle.entry_laws.specs.rsct_packet.declared.ids.ViewId.{ViewId}
-use Rattle.entry_laws.specs.rsct_packet.Ids.{same_view, view_lt, is_member}
-use Rattle.entry_laws.specs.rsct_packet.Search.{Has}
-use Rattle.entry_laws.specs.proposal_core.declared.entry.Entry.{Entry}
-use Rattle.entry_laws.specs.proposal_core.declared.proposal.Proposal.{Proposal}
-use Rattle.entry_laws.specs.proposal_core.declared.group_state.GroupState.{GroupState}
-use Rattle.entry_laws.specs.proposal_core.Fold.{present}
-use Rattle.entry_laws.specs.node_state.declared.happened.Happened.{Happened}
-use Rattle.entry_laws.specs.node_state.declared.happened.Happened.TheVariants.{Up, In, Base, Put, Heard, Asked, Told}
-use Rattle.entry_laws.specs.run_safety.Past.{puts_of, base_of, fold_from, state_at, view_now}
-use Rattle.entry_laws.specs.run_safety.Sight.{inc_in}
-use Rattle.entry_laws.specs.run_safety.SafeLists.{NextPlace, InItsView, Fitting, Rising, AmongMembers}
-use Rattle.entry_laws.specs.run_safety.Requests.{carried, Meets}
-use Rattle.entry_laws.specs.run_safety.Tallies.{IsTallied}
-use Rattle.entry_laws.specs.run_safety.SafeHeard.{latest_put, HeardState}
-use Rattle.entry_laws.specs.row_laws.hearing.Hearing.{last_heard}
-use Rattle.entry_laws.specs.row_laws.honest_votes.Casts.{EntryCast}
+use Rattle.rsct_packet.specs.declared.ids.Member.{Member}
+use Rattle.rsct_packet.specs.declared.ids.ProviderId.{ProviderId}
+use Rattle.rsct_packet.specs.declared.ids.ViewId.{ViewId}
+use Rattle.rsct_packet.specs.Ids.{same_view, view_lt, is_member}
+use Rattle.rsct_packet.specs.Search.{Has}
+use Rattle.proposal_core.specs.declared.entry.Entry.{Entry}
+use Rattle.proposal_core.specs.declared.proposal.Proposal.{Proposal}
+use Rattle.proposal_core.specs.declared.group_state.GroupState.{GroupState}
+use Rattle.proposal_core.specs.Fold.{present}
+use Rattle.node_state.specs.declared.happened.Happened.{Happened}
+use Rattle.node_state.specs.declared.happened.Happened.TheVariants.{Up, In, Base, Put, Heard, Asked, Told}
+use Rattle.run_safety.specs.Past.{puts_of, base_of, fold_from, state_at, view_now}
+use Rattle.run_safety.specs.Sight.{inc_in}
+use Rattle.run_safety.specs.SafeLists.{NextPlace, InItsView, Fitting, Rising, AmongMembers}
+use Rattle.run_safety.specs.Requests.{carried, Meets}
+use Rattle.run_safety.specs.Tallies.{IsTallied}
+use Rattle.run_safety.specs.SafeHeard.{latest_put, HeardState}
+use Rattle.row_laws.specs.hearing.Hearing.{last_heard}
+use Rattle.row_laws.specs.honest_votes.Casts.{EntryCast}
 use Rattle.entry_laws.specs.closing_rows.Rows.{HasRows}
 use Rattle.provider_laws.specs.attending.Places.{IsNext, IsUp}
 use Rattle.provider_laws.specs.single_casts.Single.{CastAfterNotice, NotCastBefore}

@@ -1,15 +1,15 @@
 -- Whatever clients answer, what is recorded is only added to.
 use Rattle.std.proofs.Common.{ℕ, List, [], ◌∷◌, Option, Some, None, refl}
-use Rattle.world_model.specs.node_state.declared.call.CallLine.{CallLine}
-use Rattle.world_model.specs.node_state.declared.happened.Happened.{Happened}
-use Rattle.world_model.specs.node_state.declared.happened.Happened.TheVariants as happened
-use Rattle.world_model.specs.session_state.declared.fault.GsFault.TheVariants.{NoInit}
-use Rattle.world_model.specs.node_state.declared.packet.Packet.{Packet}
-use Rattle.world_model.specs.node_state.declared.state.Core.{Core}
-use Rattle.world_model.specs.node_state.Calls.{caller_of}
-use Rattle.world_model.specs.node_state.HandOn.{Answering}
-use Rattle.world_model.specs.node_state.Step.{NodeEvent, Ticks, Asks, Given, Calls, stepped}
-use Rattle.world_model.specs.node_state.Step as step
+use Rattle.node_state.specs.declared.call.CallLine.{CallLine}
+use Rattle.node_state.specs.declared.happened.Happened.{Happened}
+use Rattle.node_state.specs.declared.happened.Happened.TheVariants as happened
+use Rattle.session_state.specs.declared.fault.GsFault.TheVariants.{NoInit}
+use Rattle.node_state.specs.declared.packet.Packet.{Packet}
+use Rattle.node_state.specs.declared.state.Core.{Core}
+use Rattle.node_state.specs.Calls.{caller_of}
+use Rattle.node_state.specs.HandOn.{Answering}
+use Rattle.node_state.specs.Step.{NodeEvent, Ticks, Asks, Given, Calls, stepped}
+use Rattle.node_state.specs.Step as step
 use Rattle.world_model.specs.declared.event.Event.{Event}
 use Rattle.world_model.specs.declared.event.Event.TheVariants as event
 use Rattle.world_model.specs.World.{Node, World, node_at, kth_between, handled, traced, scripts_after, happens}

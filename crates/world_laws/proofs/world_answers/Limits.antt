@@ -1,9 +1,9 @@
 -- A limited run of answered events, part by part.
 use Rattle.std.proofs.Common.{◌≡◌, ℕ, List, [], ◌∷◌, ◌++◌, append_assoc, Option, Some, None, refl, ap, ◌∙◌}
 use Rattle.std.specs.Prelude.{fold}
-use Rattle.world_model.specs.rsct_packet.Lists.{reverse_onto}
-use Rattle.world_model.specs.node_state.declared.happened.Happened.{Happened}
-use Rattle.world_model.specs.node_state.declared.packet.Packet.{Packet}
+use Rattle.rsct_packet.specs.Lists.{reverse_onto}
+use Rattle.node_state.specs.declared.happened.Happened.{Happened}
+use Rattle.node_state.specs.declared.packet.Packet.{Packet}
 use Rattle.world_model.specs.World.{World}
 use Rattle.world_model.specs.Kept.{Bytes, with_packet, sent_since, Ended, runs_from}
 use Rattle.world_laws.specs.world_runs.Runs.{Recorded}

@@ -1,12 +1,12 @@
 -- Whatever clients answer, what waits in a world is not read by what happens in it.
 use Rattle.std.proofs.Common.{ℕ, List, [], ◌∷◌, Option, Some, None, refl, sym, subst}
 use Rattle.std.specs.Prelude.{fold, find}
-use Rattle.world_model.specs.node_state.declared.call.CallLine.{CallLine}
-use Rattle.world_model.specs.node_state.declared.packet.Packet.{Packet}
-use Rattle.world_model.specs.node_state.declared.state.Core.{Core}
-use Rattle.world_model.specs.node_state.HandOn.{Answering}
-use Rattle.world_model.specs.node_state.Step.{NodeEvent, Ticks, Asks, Given, Calls, stepped}
-use Rattle.world_model.specs.node_state.Step as step
+use Rattle.node_state.specs.declared.call.CallLine.{CallLine}
+use Rattle.node_state.specs.declared.packet.Packet.{Packet}
+use Rattle.node_state.specs.declared.state.Core.{Core}
+use Rattle.node_state.specs.HandOn.{Answering}
+use Rattle.node_state.specs.Step.{NodeEvent, Ticks, Asks, Given, Calls, stepped}
+use Rattle.node_state.specs.Step as step
 use Rattle.world_model.specs.declared.event.Event.{Event}
 use Rattle.world_model.specs.declared.event.Event.TheVariants as event
 use Rattle.world_model.specs.World.{Script, Node, Sent, World, is_node, node_at, nodes_with, is_pair, kth_in, kth_between, posted, handled, traced, after_step, scripts_after, happens}

@@ -1,10 +1,10 @@
 -- A world whose clients vote by the words of a script is one for clients of any kind.
 use Rattle.std.proofs.Common.{◌≡◌, ℕ, List, [], ◌∷◌, fold, Option, Some, None, refl, sym, ap, ◌∙◌}
-use Rattle.world_model.specs.node_state.declared.call.CallLine.{CallLine}
-use Rattle.world_model.specs.node_state.declared.config.Config.{Config}
-use Rattle.world_model.specs.node_state.declared.packet.Packet.{Packet}
-use Rattle.world_model.specs.node_state.Step.{NodeEvent, Ticks, Asks}
-use Rattle.world_model.specs.node_state.Step as step
+use Rattle.node_state.specs.declared.call.CallLine.{CallLine}
+use Rattle.node_state.specs.declared.config.Config.{Config}
+use Rattle.node_state.specs.declared.packet.Packet.{Packet}
+use Rattle.node_state.specs.Step.{NodeEvent, Ticks, Asks}
+use Rattle.node_state.specs.Step as step
 use Rattle.world_model.specs.declared.event.Event.{Event}
 use Rattle.world_model.specs.declared.event.Event.TheVariants as event
 use Rattle.world_model.specs.World.{Node, World, by_scripts, node_at, kth_between, steps, steps_if, node_steps, calls_if, delivers_if, delivers, happens, world_new, world_after}

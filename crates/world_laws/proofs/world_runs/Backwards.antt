@@ -2,7 +2,7 @@
 use Rattle.std.proofs.Common.{◌≡◌, ◌-◌, List, [], ◌∷◌, ◌++◌, length, take, refl, sym, ap, ◌∙◌, arith}
 use Rattle.std.proofs.Math.Seq.{take-append_seam}
 use Rattle.std.proofs.lemmas.List.{length-append}
-use Rattle.world_model.specs.rsct_packet.Lists.{reverse_onto}
+use Rattle.rsct_packet.specs.Lists.{reverse_onto}
 
 -- some and then more
 pub reversed : {A : Type 0} (xs ys zs : List A) → reverse_onto ys (reverse_onto xs zs) ≡ reverse_onto (xs ++ ys) zs

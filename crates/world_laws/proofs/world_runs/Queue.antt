@@ -1,13 +1,13 @@
 -- What waits in a world is not read by what happens in it.
 use Rattle.std.proofs.Common.{◌≡◌, ℕ, ◌==◌, ◌+◌, Bool, true, false, List, [], ◌∷◌, Option, Some, None, refl, sym, ap, subst}
 use Rattle.std.specs.Prelude.{fold, find}
-use Rattle.world_model.specs.rsct_packet.Ids.{last_u32}
-use Rattle.world_model.specs.node_state.declared.call.CallLine.{CallLine}
-use Rattle.world_model.specs.node_state.declared.packet.Packet.{Packet}
-use Rattle.world_model.specs.node_state.declared.state.Core.{Core}
-use Rattle.world_model.specs.node_state.Step.{NodeEvent, Ticks, Asks, Given, Calls, stepped}
-use Rattle.world_model.specs.node_state.Step as step
-use Rattle.world_model.specs.packet_bodies.declared.body.What.{What}
+use Rattle.rsct_packet.specs.Ids.{last_u32}
+use Rattle.node_state.specs.declared.call.CallLine.{CallLine}
+use Rattle.node_state.specs.declared.packet.Packet.{Packet}
+use Rattle.node_state.specs.declared.state.Core.{Core}
+use Rattle.node_state.specs.Step.{NodeEvent, Ticks, Asks, Given, Calls, stepped}
+use Rattle.node_state.specs.Step as step
+use Rattle.packet_bodies.specs.declared.body.What.{What}
 use Rattle.world_model.specs.declared.event.Event.{Event}
 use Rattle.world_model.specs.declared.event.Event.TheVariants as event
 use Rattle.world_model.specs.World.{Script, Node, Sent, Started, World, by_scripts, is_node, node_at, nodes_with, is_pair, kth_in, kth_between, posted, handled, traced, after_step, steps, steps_if, node_steps, inc_in, started_at, starts_if, node_starts, stops_if, shows_if, scripts_after, calls_if, delivers_if, delivers, happens}

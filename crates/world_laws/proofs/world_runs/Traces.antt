@@ -1,19 +1,19 @@
 -- What is sent and what is recorded is only added to.
 use Rattle.std.proofs.Common.{◌≡◌, ℕ, ◌==◌, ◌+◌, ◌-◌, Bool, true, false, List, [], ◌∷◌, ◌++◌, length, map, take, Option, Some, None, refl, ap, ◌∙◌}
 use Rattle.std.specs.Prelude.{fold, find}
-use Rattle.world_model.specs.rsct_packet.Lists.{reverse_onto}
-use Rattle.world_model.specs.rsct_packet.Ids.{last_u32}
-use Rattle.world_model.specs.node_state.declared.call.CallLine.{CallLine}
-use Rattle.world_model.specs.node_state.declared.happened.Happened.{Happened}
-use Rattle.world_model.specs.node_state.declared.happened.Happened.TheVariants as happened
-use Rattle.world_model.specs.session_state.declared.fault.GsFault.TheVariants.{NoInit}
-use Rattle.world_model.specs.node_state.declared.packet.Packet.{Packet}
-use Rattle.world_model.specs.node_state.declared.state.Core.{Core}
-use Rattle.world_model.specs.node_state.Calls.{caller_of}
-use Rattle.world_model.specs.node_state.Status.{status_of}
-use Rattle.world_model.specs.node_state.Step.{NodeEvent, Ticks, Asks, Given, Calls, stepped, started}
-use Rattle.world_model.specs.node_state.Step as step
-use Rattle.world_model.specs.packet_bodies.declared.body.What.{What}
+use Rattle.rsct_packet.specs.Lists.{reverse_onto}
+use Rattle.rsct_packet.specs.Ids.{last_u32}
+use Rattle.node_state.specs.declared.call.CallLine.{CallLine}
+use Rattle.node_state.specs.declared.happened.Happened.{Happened}
+use Rattle.node_state.specs.declared.happened.Happened.TheVariants as happened
+use Rattle.session_state.specs.declared.fault.GsFault.TheVariants.{NoInit}
+use Rattle.node_state.specs.declared.packet.Packet.{Packet}
+use Rattle.node_state.specs.declared.state.Core.{Core}
+use Rattle.node_state.specs.Calls.{caller_of}
+use Rattle.node_state.specs.Status.{status_of}
+use Rattle.node_state.specs.Step.{NodeEvent, Ticks, Asks, Given, Calls, stepped, started}
+use Rattle.node_state.specs.Step as step
+use Rattle.packet_bodies.specs.declared.body.What.{What}
 use Rattle.world_model.specs.declared.event.Event.{Event}
 use Rattle.world_model.specs.declared.event.Event.TheVariants as event
 use Rattle.world_model.specs.World.{Script, Node, Started, World, by_scripts, node_at, nodes_with, kth_between, posted, handled, traced, after_step, steps, steps_if, node_steps, inc_in, started_at, starts_if, node_starts, stops_if, shows_if, scripts_after, calls_if, delivers_if, delivers, happens}

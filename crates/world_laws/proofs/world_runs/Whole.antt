@@ -1,13 +1,13 @@
 -- The run of a whole script.
 use Rattle.std.proofs.Common.{◌≡◌, ℕ, ◌==◌, ◌+◌, Bool, true, false, List, [], ◌∷◌, ◌++◌, append-nil, Option, Some, None, refl, sym, ap, ◌∙◌}
 use Rattle.std.specs.Prelude.{fold, find}
-use Rattle.world_model.specs.rsct_packet.Lists.{reverse_onto}
-use Rattle.world_model.specs.rsct_packet.Ids.{last_u32}
-use Rattle.world_model.specs.rsct_packet.Mask.{nodes_of}
-use Rattle.world_model.specs.node_state.declared.config.Config.{Config}
-use Rattle.world_model.specs.node_state.declared.happened.Happened.{Happened}
-use Rattle.world_model.specs.node_state.declared.config.Mode.{Mode}
-use Rattle.world_model.specs.node_state.declared.config.Mode.TheVariants.{Fixed, Asked, Rings}
+use Rattle.rsct_packet.specs.Lists.{reverse_onto}
+use Rattle.rsct_packet.specs.Ids.{last_u32}
+use Rattle.rsct_packet.specs.Mask.{nodes_of}
+use Rattle.node_state.specs.declared.config.Config.{Config}
+use Rattle.node_state.specs.declared.happened.Happened.{Happened}
+use Rattle.node_state.specs.declared.config.Mode.{Mode}
+use Rattle.node_state.specs.declared.config.Mode.TheVariants.{Fixed, Asked, Rings}
 use Rattle.world_model.specs.declared.event.Event.{Event}
 use Rattle.world_model.specs.declared.script.Script.{Script}
 use Rattle.world_model.specs.World.{Node, Started, World, node_at, traced, inc_in, started_at, starts_if, node_starts, empty_world, world_of, world_new}

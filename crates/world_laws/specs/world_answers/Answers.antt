@@ -1,18 +1,18 @@
 -- The world for clients of any kind: what they answer is an input of each event. Those that vote by the words of a
 -- script are one kind of them.
 use Rattle.std.specs.Prelude.{◌≡◌, ℕ, List, [], ◌∷◌, map, fold, Option, Some, None}
-use Rattle.world_model.specs.rsct_packet.Lists.{reverse_onto}
-use Rattle.world_model.specs.client_callbacks.declared.votes.VoteItem.{VoteItem}
-use Rattle.world_model.specs.session_state.declared.fault.GsFault.TheVariants.{NoInit}
-use Rattle.world_model.specs.node_state.declared.call.CallLine.{CallLine}
-use Rattle.world_model.specs.node_state.declared.config.Config.{Config}
-use Rattle.world_model.specs.node_state.declared.happened.Happened.{Happened}
-use Rattle.world_model.specs.node_state.declared.happened.Happened.TheVariants as happened
-use Rattle.world_model.specs.node_state.declared.packet.Packet.{Packet}
-use Rattle.world_model.specs.node_state.Calls.{caller_of}
-use Rattle.world_model.specs.node_state.HandOn.{Answering}
-use Rattle.world_model.specs.node_state.Step.{NodeEvent, Ticks, Asks, Given, Calls, stepped}
-use Rattle.world_model.specs.node_state.Step as step
+use Rattle.rsct_packet.specs.Lists.{reverse_onto}
+use Rattle.client_callbacks.specs.declared.votes.VoteItem.{VoteItem}
+use Rattle.session_state.specs.declared.fault.GsFault.TheVariants.{NoInit}
+use Rattle.node_state.specs.declared.call.CallLine.{CallLine}
+use Rattle.node_state.specs.declared.config.Config.{Config}
+use Rattle.node_state.specs.declared.happened.Happened.{Happened}
+use Rattle.node_state.specs.declared.happened.Happened.TheVariants as happened
+use Rattle.node_state.specs.declared.packet.Packet.{Packet}
+use Rattle.node_state.specs.Calls.{caller_of}
+use Rattle.node_state.specs.HandOn.{Answering}
+use Rattle.node_state.specs.Step.{NodeEvent, Ticks, Asks, Given, Calls, stepped}
+use Rattle.node_state.specs.Step as step
 use Rattle.world_model.specs.declared.event.Event.{Event}
 use Rattle.world_model.specs.declared.event.Event.TheVariants as event
 use Rattle.world_model.specs.World.{Script, Node, World, by_scripts, node_at, kth_between, handled, traced, after_step, node_starts, stops_if, shows_if, scripts_after, happens, world_new}

@@ -1,6 +1,6 @@
 -- The laws of worlds whose clients are of any kind.
 use Rattle.std.specs.Prelude.{◌≡◌, List, Option}
-use Rattle.world_model.specs.node_state.declared.config.Config.{Config}
+use Rattle.node_state.specs.declared.config.Config.{Config}
 use Rattle.world_model.specs.declared.event.Event.{Event}
 use Rattle.world_model.specs.declared.script.Line.{Line}
 use Rattle.world_model.specs.World.{World, happens}

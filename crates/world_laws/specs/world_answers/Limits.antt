@@ -1,8 +1,8 @@
 -- Answered events whose packets may have so many bytes, and how such runs go on part by part.
 use Rattle.std.specs.Prelude.{◌≡◌, ℕ, List, [], ◌∷◌, ◌++◌, fold, Some, None}
-use Rattle.world_model.specs.rsct_packet.Lists.{reverse_onto}
-use Rattle.world_model.specs.node_state.declared.config.Config.{Config}
-use Rattle.world_model.specs.node_state.declared.happened.Happened.{Happened}
+use Rattle.rsct_packet.specs.Lists.{reverse_onto}
+use Rattle.node_state.specs.declared.config.Config.{Config}
+use Rattle.node_state.specs.declared.happened.Happened.{Happened}
 use Rattle.world_model.specs.World.{World, happens, world_new}
 use Rattle.world_model.specs.Kept.{Bytes, with_packet, sent_since, Ended}
 use Rattle.world_laws.specs.world_answers.Answers.{Answered, goes_on}

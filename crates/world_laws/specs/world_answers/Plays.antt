@@ -1,7 +1,7 @@
 -- What the lines of a script make of a world whose clients are of any kind: each event that happens is answered somehow.
 use Rattle.std.specs.Prelude.{◌≡◌, ℕ, zero, suc, Bool, true, false, List, [], ◌∷◌, map, is_some, Option}
-use Rattle.world_model.specs.node_state.declared.config.Config.{Config}
-use Rattle.world_model.specs.node_state.HandOn.{Answering}
+use Rattle.node_state.specs.declared.config.Config.{Config}
+use Rattle.node_state.specs.HandOn.{Answering}
 use Rattle.world_model.specs.declared.event.Event.{Event}
 use Rattle.world_model.specs.declared.event.Event.TheVariants as event
 use Rattle.world_model.specs.declared.script.Line.{Line}

@@ -1,7 +1,7 @@
 -- The laws of worlds and of limited runs.
 use Rattle.std.specs.Prelude.{◌≡◌, ℕ, List}
-use Rattle.world_model.specs.rsct_packet.Lists.{reverse_onto}
-use Rattle.world_model.specs.node_state.declared.happened.Happened.{Happened}
+use Rattle.rsct_packet.specs.Lists.{reverse_onto}
+use Rattle.node_state.specs.declared.happened.Happened.{Happened}
 use Rattle.world_model.specs.declared.event.Event.{Event}
 use Rattle.world_model.specs.World.{World, happens}
 use Rattle.world_model.specs.Kept.{runs_from}

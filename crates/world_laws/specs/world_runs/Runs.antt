@@ -1,8 +1,8 @@
 -- How limited runs, records and plays go on, part by part.
 use Rattle.std.specs.Prelude.{◌≡◌, ℕ, List, [], ◌++◌, Some}
-use Rattle.world_model.specs.rsct_packet.Lists.{reverse_onto}
-use Rattle.world_model.specs.node_state.declared.config.Config.{Config}
-use Rattle.world_model.specs.node_state.declared.happened.Happened.{Happened}
+use Rattle.rsct_packet.specs.Lists.{reverse_onto}
+use Rattle.node_state.specs.declared.config.Config.{Config}
+use Rattle.node_state.specs.declared.happened.Happened.{Happened}
 use Rattle.world_model.specs.declared.event.Event.{Event}
 use Rattle.world_model.specs.World.{World, world_new}
 use Rattle.world_model.specs.Play.{Played}

@@ -1,7 +1,7 @@
 -- What was sent so far.
 use Rattle.std.proofs.Common.{◌≡◌, take}
 use Rattle.std.specs.List.{fold}
-use Rattle.node_sending.specs.node_state.HandOn.{cast_sent_of}
+use Rattle.node_state.specs.HandOn.{cast_sent_of}
 use Rattle.entry_delivery.proofs.delivery.send_each_cast.Given as goal
 
 abbrev pub invariant-loop-c : goal.invariant-loop-c

@@ -1,6 +1,6 @@
 -- One subscription after another.
 use Rattle.std.proofs.Common.{◌++◌, ◌∷◌, [], length, map, refl, sym, ap, ◌∙◌, append-nil, append_assoc}
-use Rattle.node_sending.specs.subscribe_core.Subs.{is_of_group}
+use Rattle.subscribe_core.specs.Subs.{is_of_group}
 use Rattle.entry_delivery.specs.Telling.{note_in, note_handing}
 use Rattle.entry_delivery.proofs.DoingLaws.{receive_nothing, receive_then}
 use Rattle.entry_delivery.proofs.ReceiveLaws.{kept_more, left_more}

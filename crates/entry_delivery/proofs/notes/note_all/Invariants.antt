@@ -1,6 +1,6 @@
 -- What was told and recorded so far.
 use Rattle.std.proofs.Common.{◌≡◌, ◌++◌, take, map, filter, length}
-use Rattle.node_sending.specs.subscribe_core.Subs.{is_of_group}
+use Rattle.subscribe_core.specs.Subs.{is_of_group}
 use Rattle.entry_delivery.specs.Telling.{note_in, note_handing}
 use Rattle.entry_delivery.specs.Received.{Receive}
 use Rattle.entry_delivery.proofs.notes.note_all.Given as goal

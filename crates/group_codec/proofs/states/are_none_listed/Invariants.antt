@@ -1,5 +1,5 @@
 use Rattle.std.proofs.Common.{◌≡◌, length}
-use Rattle.proposal_core.specs.rsct_packet.Providers.{none_among}
+use Rattle.rsct_packet.specs.Providers.{none_among}
 use Rattle.group_codec.proofs.states.are_none_listed.Given as goal
 
 abbrev pub invariant-loop-p : goal.invariant-loop-p

@@ -1,6 +1,6 @@
 use Rattle.std.proofs.Common.{◌≡◌, length}
 use Rattle.std.specs.List.{list_all}
-use Rattle.proposal_core.specs.rsct_packet.Providers.{among}
+use Rattle.rsct_packet.specs.Providers.{among}
 use Rattle.proposal_core.specs.Fold.{present}
 use Rattle.group_codec.specs.InPlace.{parts_in}
 use Rattle.group_codec.proofs.states.are_present.Given as goal

@@ -1,9 +1,9 @@
 -- A refusal is kept and sent.
 use Rattle.std.proofs.Common.{sym, ◌∙◌}
 use Rattle.std.proofs.lemmas.Result.{on_ok_weaker}
-use Rattle.group_leading.proofs.entry_delivery_laws.DoingLaws.{receive_nothing}
+use Rattle.entry_delivery.proofs.DoingLaws.{receive_nothing}
 use Rattle.group_leading.proofs.WorkLaws.{on_ok_both}
-use Rattle.group_leading.specs.node_state.Deciding.{decide_change}
+use Rattle.node_state.specs.Deciding.{decide_change}
 use Rattle.group_deciding.proofs.DecidingLaws.{refused_does}
 use Rattle.group_deciding.proofs.changes.decide_change.Goals as goal
 

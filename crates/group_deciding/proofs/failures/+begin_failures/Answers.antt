@@ -1,6 +1,6 @@
 -- A choice that is left out whole, and one that begins.
 use Rattle.std.proofs.lemmas.Result.{IfOk-weaker}
-use Rattle.group_leading.proofs.entry_delivery_laws.DoingLaws.{receive_nothing}
+use Rattle.entry_delivery.proofs.DoingLaws.{receive_nothing}
 use Rattle.group_deciding.proofs.EndingLaws.{failures_none, failures_on, failures_began}
 use Rattle.group_deciding.proofs.failures.+begin_failures.Goals as goal
 

@@ -1,7 +1,7 @@
 -- The row is there.
 use Rattle.std.proofs.Common.{◌<◌, ◌∙◌, length, ap}
-use Rattle.group_leading.specs.node_state.declared.state.Core.{Core}
-use Rattle.group_leading.proofs.node_groups_laws.RowLaws.{opened_within}
+use Rattle.node_state.specs.declared.state.Core.{Core}
+use Rattle.node_groups.proofs.RowLaws.{opened_within}
 use Rattle.group_deciding.proofs.join_requests.wait_join.Goals as goal
 
 pub index_mut-requires : goal.index_mut-requires

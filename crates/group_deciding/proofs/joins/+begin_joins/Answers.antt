@@ -1,7 +1,7 @@
 -- A choice that is left out whole, and one that begins.
 use Rattle.std.proofs.Common.{◌∙◌, sym}
 use Rattle.std.proofs.lemmas.Result.{IfOk-weaker}
-use Rattle.group_leading.proofs.entry_delivery_laws.DoingLaws.{receive_nothing}
+use Rattle.entry_delivery.proofs.DoingLaws.{receive_nothing}
 use Rattle.group_deciding.proofs.EndingLaws.{joins_none, joins_on, joins_began}
 use Rattle.group_deciding.proofs.joins.+begin_joins.Goals as goal
 

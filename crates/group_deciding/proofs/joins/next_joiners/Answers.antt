@@ -1,6 +1,6 @@
 -- What is read once the joins are taken out.
 use Rattle.std.proofs.Common.{◌∙◌}
-use Rattle.group_leading.proofs.node_groups_laws.KeepLaws.{keeps_as}
+use Rattle.node_groups.proofs.KeepLaws.{keeps_as}
 use Rattle.group_deciding.proofs.TakingLaws.{attrs_taken, sourced_taken, joins_taken, joins_keep, sourced_apart}
 use Rattle.group_deciding.proofs.joins.next_joiners.Goals as goal
 

@@ -1,8 +1,8 @@
 -- Those so far are refused.
 use Rattle.std.proofs.Common.{◌≡◌, take}
 use Rattle.std.specs.List.{fold}
-use Rattle.group_leading.specs.client_callbacks.declared.told.Why.TheVariants.{NoSource}
-use Rattle.group_leading.specs.node_state.Deciding.{refused, source_len}
+use Rattle.client_callbacks.specs.declared.told.Why.TheVariants.{NoSource}
+use Rattle.node_state.specs.Deciding.{refused, source_len}
 use Rattle.group_deciding.proofs.joins.refuse_unsourced.Given as goal
 
 abbrev pub invariant-loop-p : goal.invariant-loop-p

@@ -1,7 +1,7 @@
 -- With no such entry nothing happens; else it is appended where it fits.
 use Rattle.std.proofs.Common.{sym, ◌∙◌}
 use Rattle.std.proofs.lemmas.Result.{on_ok_weaker}
-use Rattle.group_leading.proofs.entry_delivery_laws.DoingLaws.{receive_nothing}
+use Rattle.entry_delivery.proofs.DoingLaws.{receive_nothing}
 use Rattle.group_deciding.proofs.TickLaws.{announced_none, announced_some}
 use Rattle.group_deciding.proofs.late_votes.announce.Goals as goal
 

@@ -2,10 +2,10 @@
 use Rattle.std.proofs.Common.{◌-◌, drop, length, subst, take}
 use Rattle.std.specs.Prelude.{fold}
 use Rattle.std.proofs.lemmas.Result.{on_ok_weaker}
-use Rattle.group_leading.specs.node_state.Ticks.{tick_group}
-use Rattle.group_leading.specs.entry_delivery.Received.{Receive}
-use Rattle.group_leading.specs.entry_delivery.Doing.{Does}
-use Rattle.group_leading.proofs.entry_delivery_laws.DoingLaws.{receive_nothing, receive_then}
+use Rattle.node_state.specs.Ticks.{tick_group}
+use Rattle.entry_delivery.specs.Received.{Receive}
+use Rattle.entry_delivery.specs.Doing.{Does}
+use Rattle.entry_delivery.proofs.DoingLaws.{receive_nothing, receive_then}
 use Rattle.group_deciding.proofs.TickLaws.{Scripts, groups_none, groups_do}
 use Rattle.group_deciding.proofs.leader_tick.+tick_groups.Goals as goal
 

@@ -1,7 +1,7 @@
 -- A frozen node does nothing.
 use Rattle.std.proofs.Common.{sym, ◌∙◌}
 use Rattle.std.proofs.lemmas.Result.{on_ok_weaker}
-use Rattle.group_leading.proofs.entry_delivery_laws.DoingLaws.{receive_nothing}
+use Rattle.entry_delivery.proofs.DoingLaws.{receive_nothing}
 use Rattle.group_deciding.proofs.TickLaws.{led_frozen, led_runs}
 use Rattle.group_deciding.proofs.leader_tick.tick_led.Goals as goal
 

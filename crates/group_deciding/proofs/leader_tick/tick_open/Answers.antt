@@ -1,10 +1,10 @@
 -- Announced, ticked and closed.
 use Rattle.std.proofs.Common.{subst}
 use Rattle.std.proofs.lemmas.Result.{on_ok_weaker}
-use Rattle.group_leading.specs.node_state.Leading.{closes}
-use Rattle.group_leading.specs.entry_delivery.Received.{Receive}
-use Rattle.group_leading.specs.entry_delivery.Doing.{Does}
-use Rattle.group_leading.proofs.entry_delivery_laws.DoingLaws.{receive_then}
+use Rattle.node_state.specs.Leading.{closes}
+use Rattle.entry_delivery.specs.Received.{Receive}
+use Rattle.entry_delivery.specs.Doing.{Does}
+use Rattle.entry_delivery.proofs.DoingLaws.{receive_then}
 use Rattle.group_deciding.proofs.TickLaws.{Scripts, phase_does}
 use Rattle.group_deciding.proofs.leader_tick.tick_open.Goals as goal
 

@@ -1,6 +1,6 @@
 -- No tally is open.
 use Rattle.std.proofs.Common.{sym, ◌∙◌}
-use Rattle.group_leading.proofs.entry_delivery_laws.DoingLaws.{receive_nothing}
+use Rattle.entry_delivery.proofs.DoingLaws.{receive_nothing}
 use Rattle.group_deciding.proofs.TickLaws.{phase_rests}
 use Rattle.group_deciding.proofs.leader_tick.tick_phase.Goals as goal
 

@@ -1,7 +1,7 @@
 -- The first group, and then the others.
 use Rattle.std.proofs.lemmas.List.{take_rest}
 use Rattle.std.proofs.lemmas.Result.{IfOk-weaker}
-use Rattle.group_leading.proofs.entry_delivery_laws.DoingLaws.{receive_nothing, receive_then}
+use Rattle.entry_delivery.proofs.DoingLaws.{receive_nothing, receive_then}
 use Rattle.group_deciding.proofs.EndingLaws.{each_none, head_rest, each_on}
 use Rattle.group_deciding.proofs.passes.+begin_in_each.Goals as goal
 

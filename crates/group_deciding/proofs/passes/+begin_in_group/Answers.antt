@@ -1,6 +1,6 @@
 -- Nothing begins any more, or something does and more may.
 use Rattle.std.proofs.lemmas.Result.{IfOk-weaker}
-use Rattle.group_leading.proofs.entry_delivery_laws.DoingLaws.{receive_nothing, receive_then}
+use Rattle.entry_delivery.proofs.DoingLaws.{receive_nothing, receive_then}
 use Rattle.group_deciding.proofs.EndingLaws.{group_none, group_ends, group_on}
 use Rattle.group_deciding.proofs.passes.+begin_in_group.Goals as goal
 

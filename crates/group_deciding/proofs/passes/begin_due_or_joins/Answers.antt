@@ -1,6 +1,6 @@
 -- What is due, or else the joins.
 use Rattle.std.proofs.lemmas.Result.{IfOk-weaker}
-use Rattle.group_leading.proofs.entry_delivery_laws.DoingLaws.{receive_then}
+use Rattle.entry_delivery.proofs.DoingLaws.{receive_then}
 use Rattle.group_deciding.proofs.EndingLaws.{due_began, due_joins}
 use Rattle.group_deciding.proofs.passes.begin_due_or_joins.Goals as goal
 

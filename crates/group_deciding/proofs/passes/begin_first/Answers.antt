@@ -1,7 +1,7 @@
 -- Something runs, or the list is full, or what waits begins.
 use Rattle.std.proofs.Common.{sym, ◌∙◌}
 use Rattle.std.proofs.lemmas.Result.{IfOk-weaker}
-use Rattle.group_leading.proofs.entry_delivery_laws.DoingLaws.{receive_nothing}
+use Rattle.entry_delivery.proofs.DoingLaws.{receive_nothing}
 use Rattle.group_deciding.proofs.EndingLaws.{first_none, first_some}
 use Rattle.group_deciding.proofs.passes.begin_first.Goals as goal
 

@@ -1,6 +1,6 @@
 -- The failures, or else what is due or the joins.
 use Rattle.std.proofs.lemmas.Result.{IfOk-weaker}
-use Rattle.group_leading.proofs.entry_delivery_laws.DoingLaws.{receive_then}
+use Rattle.entry_delivery.proofs.DoingLaws.{receive_then}
 use Rattle.group_deciding.proofs.EndingLaws.{waiting_began, waiting_on}
 use Rattle.group_deciding.proofs.passes.begin_waiting.Goals as goal
 

@@ -1,5 +1,5 @@
 -- The groups are those that the node leads.
-use Rattle.group_leading.specs.node_state.Ending.{one_pass}
+use Rattle.node_state.specs.Ending.{one_pass}
 use Rattle.group_deciding.proofs.passes.pass.Goals as goal
 
 pub returns-clause-does : goal.returns-clause-does

@@ -1,8 +1,8 @@
 -- The search from here on is what is left of it.
 use Rattle.std.proofs.Common.{◌≡◌}
-use Rattle.group_leading.specs.rsct_packet.Search.{place_where}
-use Rattle.group_leading.proofs.rsct_packet_laws.SearchLaws.{place_from}
-use Rattle.group_leading.specs.node_groups.Places.{are_attrs_of}
+use Rattle.rsct_packet.specs.Search.{place_where}
+use Rattle.rsct_packet.proofs.SearchLaws.{place_from}
+use Rattle.node_groups.specs.Places.{are_attrs_of}
 use Rattle.group_deciding.proofs.queue.attrs_place.Given as goal
 
 abbrev pub invariant-loop-i : goal.invariant-loop-i

@@ -1,6 +1,6 @@
 -- A join waits or is refused.
 use Rattle.std.proofs.lemmas.Result.{on_ok_weaker}
-use Rattle.group_leading.proofs.entry_delivery_laws.DoingLaws.{receive_nothing}
+use Rattle.entry_delivery.proofs.DoingLaws.{receive_nothing}
 use Rattle.group_leading.proofs.WorkLaws.{on_ok_both}
 use Rattle.group_deciding.proofs.DecidingLaws.{join_does, change_does}
 use Rattle.group_deciding.proofs.requests.decide.Goals as goal

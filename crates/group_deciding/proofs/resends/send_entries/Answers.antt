@@ -1,5 +1,5 @@
 -- What is sent keeps what it is to keep.
-use Rattle.group_leading.proofs.node_groups_laws.KeepLaws.{keeps_as}
+use Rattle.node_groups.proofs.KeepLaws.{keeps_as}
 use Rattle.group_deciding.proofs.ResendLaws.{keeps_entries}
 use Rattle.group_deciding.proofs.resends.send_entries.Goals as goal
 

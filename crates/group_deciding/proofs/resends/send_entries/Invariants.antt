@@ -1,6 +1,6 @@
 -- What was sent so far.
 use Rattle.std.proofs.Common.{◌≡◌, ◌+◌, length}
-use Rattle.group_leading.specs.node_state.Ticks.{entries_sent}
+use Rattle.node_state.specs.Ticks.{entries_sent}
 use Rattle.group_deciding.proofs.resends.send_entries.Given as goal
 
 abbrev pub invariant-loop-entry : goal.invariant-loop-entry

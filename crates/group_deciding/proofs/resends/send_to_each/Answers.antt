@@ -1,6 +1,6 @@
 -- What is sent keeps what it is to keep.
 use Rattle.std.proofs.Common.{take}
-use Rattle.group_leading.proofs.node_groups_laws.KeepLaws.{keeps_as}
+use Rattle.node_groups.proofs.KeepLaws.{keeps_as}
 use Rattle.group_deciding.proofs.ResendLaws.{keeps_each_again}
 use Rattle.group_deciding.proofs.resends.send_to_each.Goals as goal
 

@@ -1,7 +1,7 @@
 -- To whom entries were sent so far.
 use Rattle.std.proofs.Common.{◌≡◌, take}
 use Rattle.std.specs.Prelude.{fold}
-use Rattle.group_leading.specs.node_state.Ticks.{sent_again}
+use Rattle.node_state.specs.Ticks.{sent_again}
 use Rattle.group_deciding.proofs.resends.send_to_each.Given as goal
 
 abbrev pub invariant-loop-n : goal.invariant-loop-n

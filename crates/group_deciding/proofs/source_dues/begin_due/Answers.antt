@@ -1,6 +1,6 @@
 -- What is owed to the group's source begins.
 use Rattle.std.proofs.lemmas.Result.{IfOk-weaker}
-use Rattle.group_leading.proofs.entry_delivery_laws.DoingLaws.{receive_nothing}
+use Rattle.entry_delivery.proofs.DoingLaws.{receive_nothing}
 use Rattle.group_deciding.proofs.EndingLaws.{none_due, source_owed}
 use Rattle.group_deciding.proofs.source_dues.begin_due.Goals as goal
 

@@ -1,9 +1,9 @@
 -- What is owed begins.
 use Rattle.std.proofs.Common.{None, ◌≡◌, Some}
-use Rattle.group_leading.specs.source_target.declared.owed.Due.TheVariants as due
-use Rattle.group_leading.specs.source_target.Due as target
-use Rattle.group_leading.specs.node_state.Deciding.{known_state}
-use Rattle.group_leading.proofs.entry_delivery_laws.DoingLaws.{receive_nothing}
+use Rattle.source_target.specs.declared.owed.Due.TheVariants as due
+use Rattle.source_target.specs.Due as target
+use Rattle.node_state.specs.Deciding.{known_state}
+use Rattle.entry_delivery.proofs.DoingLaws.{receive_nothing}
 use Rattle.group_deciding.proofs.EndingLaws.{none_owed, cast_out, reflected}
 use Rattle.group_deciding.proofs.source_dues.begin_owed.Goals as goal
 

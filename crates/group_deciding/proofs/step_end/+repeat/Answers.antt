@@ -1,6 +1,6 @@
 -- Nothing begins any more, or something has begun and more may.
 use Rattle.std.proofs.lemmas.Result.{on_ok_weaker}
-use Rattle.group_leading.proofs.entry_delivery_laws.DoingLaws.{receive_nothing, receive_then}
+use Rattle.entry_delivery.proofs.DoingLaws.{receive_nothing, receive_then}
 use Rattle.group_deciding.proofs.EndingLaws.{passes_none, passes_end, passes_on}
 use Rattle.group_deciding.proofs.step_end.+repeat.Goals as goal
 

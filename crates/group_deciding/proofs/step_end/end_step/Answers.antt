@@ -1,7 +1,7 @@
 -- A frozen node does nothing; another one goes through its groups again and again.
 use Rattle.std.proofs.Common.{sym, ◌∙◌}
 use Rattle.std.proofs.lemmas.Result.{on_ok_weaker}
-use Rattle.group_leading.proofs.entry_delivery_laws.DoingLaws.{receive_nothing}
+use Rattle.entry_delivery.proofs.DoingLaws.{receive_nothing}
 use Rattle.group_deciding.proofs.EndingLaws.{ended_frozen, ended_thawed}
 use Rattle.group_deciding.proofs.step_end.end_step.Goals as goal
 

@@ -1,8 +1,8 @@
 -- What was sent so far; the view is as it was.
 use Rattle.std.proofs.Common.{◌≡◌, take}
 use Rattle.std.specs.List.{fold}
-use Rattle.node_groups.specs.node_state.declared.packet.Body.TheVariants as body
-use Rattle.node_groups.specs.node_state.Sending.{sent}
+use Rattle.node_state.specs.declared.packet.Body.TheVariants as body
+use Rattle.node_state.specs.Sending.{sent}
 use Rattle.group_leading.proofs.entries.send_entry_to.Given as goal
 
 abbrev pub invariant-loop-n : goal.invariant-loop-n

@@ -1,5 +1,5 @@
 -- By the phases.
-use Rattle.node_groups.specs.node_state.Leading.{begins}
+use Rattle.node_state.specs.Leading.{begins}
 use Rattle.group_leading.proofs.protocols.begin.Goals as goal
 
 pub returns-in-One-clause-does : goal.returns-in-One-clause-does

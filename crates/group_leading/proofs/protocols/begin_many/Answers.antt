@@ -1,6 +1,6 @@
 -- The entry has the proposal.
 use Rattle.std.proofs.Common.{ap}
-use Rattle.node_groups.specs.proposal_core.declared.entry.Entry.TheVariants.{Begin}
+use Rattle.proposal_core.specs.declared.entry.Entry.TheVariants.{Begin}
 use Rattle.group_leading.proofs.protocols.begin_many.Goals as goal
 
 pub returns-clause-does : goal.returns-clause-does

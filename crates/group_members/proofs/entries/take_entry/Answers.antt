@@ -2,9 +2,9 @@
 use Rattle.std.proofs.Common.{◌≡◌, refl, sym, ◌∙◌}
 use Rattle.std.specs.Prelude.{nat_lt}
 use Rattle.std.proofs.lemmas.Result.{on_ok_weaker}
-use Rattle.group_leading.specs.node_state.State.{len_of}
-use Rattle.group_leading.proofs.node_groups_laws.KeepLaws.{keeps_itself}
-use Rattle.group_leading.proofs.entry_delivery_laws.DoingLaws.{receive_nothing, does_as}
+use Rattle.node_state.specs.State.{len_of}
+use Rattle.node_groups.proofs.KeepLaws.{keeps_itself}
+use Rattle.entry_delivery.proofs.DoingLaws.{receive_nothing, does_as}
 use Rattle.group_leading.proofs.RowLaws.{does_row, work_row}
 use Rattle.group_members.proofs.EntryLaws.{elsewhere_keeps, entry_passed, entry_unfit, entry_fit}
 use Rattle.group_members.proofs.entries.take_entry.Goals as goal

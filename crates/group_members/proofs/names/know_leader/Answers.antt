@@ -1,6 +1,6 @@
 -- The leader is kept, and requests are sent.
 use Rattle.std.proofs.lemmas.Result.{on_ok_weaker}
-use Rattle.group_leading.proofs.node_groups_laws.KeepLaws.{keeps_then}
+use Rattle.node_groups.proofs.KeepLaws.{keeps_then}
 use Rattle.group_members.proofs.names.know_leader.Goals as goal
 
 pub returns-clause-keeps : goal.returns-clause-keeps

@@ -1,9 +1,9 @@
 -- By whether the leader is news, and whether there is one.
 use Rattle.std.proofs.Common.{◌≡◌, true, refl, sym}
 use Rattle.std.proofs.lemmas.Result.{on_ok_weaker}
-use Rattle.group_leading.specs.node_state.Following.{is_name_used, take_name}
-use Rattle.group_leading.proofs.node_groups_laws.KeepLaws.{keeps_itself}
-use Rattle.group_leading.proofs.entry_delivery_laws.DoingLaws.{receive_nothing, does_plain, does_as}
+use Rattle.node_state.specs.Following.{is_name_used, take_name}
+use Rattle.node_groups.proofs.KeepLaws.{keeps_itself}
+use Rattle.entry_delivery.proofs.DoingLaws.{receive_nothing, does_plain, does_as}
 use Rattle.group_leading.proofs.WorkLaws.{keeps_follows}
 use Rattle.group_leading.proofs.RowLaws.{does_row, work_told, on_ok_two}
 use Rattle.group_members.proofs.NameLaws.{name_unused, name_refused, name_led, refused_stays}

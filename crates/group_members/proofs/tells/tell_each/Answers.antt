@@ -1,8 +1,8 @@
 -- One request after another.
 use Rattle.std.proofs.Common.{refl, ◌∙◌, get_or}
 use Rattle.std.proofs.lemmas.List.{get_or_default}
-use Rattle.group_leading.specs.node_state.Following.{take_tell}
-use Rattle.group_leading.proofs.entry_delivery_laws.DoingLaws.{receive_then, receive_nothing, does_nothing, does_more, does_all}
+use Rattle.node_state.specs.Following.{take_tell}
+use Rattle.entry_delivery.proofs.DoingLaws.{receive_then, receive_nothing, does_nothing, does_more, does_all}
 use Rattle.group_members.proofs.tells.tell_each.Goals as goal
 
 pub loop-p-init : goal.loop-p-init

@@ -1,10 +1,10 @@
 -- Who was told so far.
 use Rattle.std.proofs.Common.{◌≡◌, ℕ, take, map, length}
 use Rattle.std.specs.List.{fold}
-use Rattle.group_leading.specs.rsct_packet.declared.ids.ProviderId.{ProviderId}
-use Rattle.group_leading.specs.node_state.Following.{take_tell}
-use Rattle.group_leading.specs.entry_delivery.Received.{Receive}
-use Rattle.group_leading.specs.entry_delivery.Doing.{Does}
+use Rattle.rsct_packet.specs.declared.ids.ProviderId.{ProviderId}
+use Rattle.node_state.specs.Following.{take_tell}
+use Rattle.entry_delivery.specs.Received.{Receive}
+use Rattle.entry_delivery.specs.Doing.{Does}
 use Rattle.group_members.proofs.tells.tell_each.Given as goal
 
 abbrev pub invariant-loop-p : goal.invariant-loop-p

@@ -2,7 +2,7 @@
 use Rattle.std.proofs.Common.{true, false, refl}
 use Rattle.std.specs.Option.{option_copied}
 use Rattle.std.proofs.lemmas.Result.{on_ok_weaker}
-use Rattle.group_deciding.proofs.group_leading_laws.RowLaws.{copied_is}
+use Rattle.group_leading.proofs.RowLaws.{copied_is}
 use Rattle.group_requests.proofs.GoneLaws.{join_none, join_some}
 use Rattle.group_requests.proofs.goodbyes.drop_waiting.Goals as goal
 

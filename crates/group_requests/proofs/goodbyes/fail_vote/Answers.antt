@@ -1,9 +1,9 @@
 -- A vote fails where a tally is open.
 use Rattle.std.proofs.Common.{◌≡◌, true, is_some}
 use Rattle.std.proofs.lemmas.Result.{on_ok_weaker}
-use Rattle.group_deciding.specs.node_state.State.{led_of}
-use Rattle.group_deciding.proofs.entry_delivery_laws.DoingLaws.{receive_nothing}
-use Rattle.group_deciding.proofs.group_leading_laws.RowLaws.{copied_is}
+use Rattle.node_state.specs.State.{led_of}
+use Rattle.entry_delivery.proofs.DoingLaws.{receive_nothing}
+use Rattle.group_leading.proofs.RowLaws.{copied_is}
 use Rattle.group_requests.proofs.GoneLaws.{unfailed_does, failing_does}
 use Rattle.group_requests.proofs.goodbyes.fail_vote.Goals as goal
 

@@ -1,6 +1,6 @@
 -- Marked, failed, and then it waits.
 use Rattle.std.proofs.lemmas.Result.{on_ok_weaker}
-use Rattle.group_deciding.proofs.group_leading_laws.RowLaws.{work_row}
+use Rattle.group_leading.proofs.RowLaws.{work_row}
 use Rattle.group_requests.proofs.GoneLaws.{gone_waits_keeps, present_does}
 use Rattle.group_requests.proofs.goodbyes.leave.Goals as goal
 

@@ -1,9 +1,9 @@
 -- By whether the node leads, and whether the provider is present.
 use Rattle.std.proofs.Common.{refl, sym}
 use Rattle.std.proofs.lemmas.Result.{on_ok_weaker}
-use Rattle.group_deciding.proofs.node_groups_laws.KeepLaws.{keeps_itself}
-use Rattle.group_deciding.proofs.entry_delivery_laws.DoingLaws.{receive_nothing, does_as}
-use Rattle.group_deciding.proofs.group_leading_laws.RowLaws.{does_row, on_ok_two}
+use Rattle.node_groups.proofs.KeepLaws.{keeps_itself}
+use Rattle.entry_delivery.proofs.DoingLaws.{receive_nothing, does_as}
+use Rattle.group_leading.proofs.RowLaws.{does_row, on_ok_two}
 use Rattle.group_requests.proofs.GoneLaws.{gone_unled, gone_here, away_does}
 use Rattle.group_requests.proofs.goodbyes.take_gone.Goals as goal
 

@@ -1,11 +1,11 @@
 -- By whether the group is refused, and which request of the provider was decided last.
 use Rattle.std.proofs.Common.{◌≡◌, false, Some, None, refl, sym}
 use Rattle.std.proofs.lemmas.Result.{on_ok_weaker}
-use Rattle.group_deciding.specs.node_state.State.{led_of, decision_of}
-use Rattle.group_deciding.specs.node_state.Following.{is_group_refused}
-use Rattle.group_deciding.proofs.node_groups_laws.KeepLaws.{keeps_itself, sent_keeps}
-use Rattle.group_deciding.proofs.entry_delivery_laws.DoingLaws.{receive_nothing, does_as}
-use Rattle.group_deciding.proofs.group_leading_laws.RowLaws.{does_row, work_row}
+use Rattle.node_state.specs.State.{led_of, decision_of}
+use Rattle.node_state.specs.Following.{is_group_refused}
+use Rattle.node_groups.proofs.KeepLaws.{keeps_itself, sent_keeps}
+use Rattle.entry_delivery.proofs.DoingLaws.{receive_nothing, does_as}
+use Rattle.group_leading.proofs.RowLaws.{does_row, work_row}
 use Rattle.group_requests.proofs.RequestLaws.{again_keeps, request_refused, request_first, request_late, request_same, request_next}
 use Rattle.group_requests.proofs.requests.take_request.Goals as goal
 

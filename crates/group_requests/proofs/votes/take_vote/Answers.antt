@@ -1,9 +1,9 @@
 -- By whether the phase runs in a group that the node leads.
 use Rattle.std.proofs.Common.{refl, sym}
 use Rattle.std.proofs.lemmas.Result.{on_ok_weaker}
-use Rattle.group_deciding.proofs.node_groups_laws.KeepLaws.{keeps_itself}
-use Rattle.group_deciding.proofs.entry_delivery_laws.DoingLaws.{receive_nothing}
-use Rattle.group_deciding.proofs.group_leading_laws.RowLaws.{does_row}
+use Rattle.node_groups.proofs.KeepLaws.{keeps_itself}
+use Rattle.entry_delivery.proofs.DoingLaws.{receive_nothing}
+use Rattle.group_leading.proofs.RowLaws.{does_row}
 use Rattle.group_requests.proofs.VoteLaws.{vote_unused, vote_does}
 use Rattle.group_requests.proofs.votes.take_vote.Goals as goal
 

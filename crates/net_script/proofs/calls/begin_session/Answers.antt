@@ -1,8 +1,8 @@
 -- The client is there, and votes as its word says.
 use Rattle.std.proofs.lemmas.Result.{IfOk-weaker}
-use Rattle.node_core.specs.session_state.Calls.{inited}
-use Rattle.node_core.specs.node_state.declared.call.CallLine.TheVariants.{Init}
-use Rattle.node_core.specs.node_state.Step.{Calls}
+use Rattle.session_state.specs.Calls.{inited}
+use Rattle.node_state.specs.declared.call.CallLine.TheVariants.{Init}
+use Rattle.node_state.specs.Step.{Calls}
 use Rattle.net_script.proofs.CallLaws.{init_done}
 use Rattle.net_script.proofs.HandLaws.{handed_with, hears_from}
 use Rattle.net_script.proofs.calls.begin_session.Goals as goal

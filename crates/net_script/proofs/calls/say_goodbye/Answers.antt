@@ -1,8 +1,8 @@
 -- The client has gone.
 use Rattle.std.proofs.lemmas.Result.{IfOk-weaker}
-use Rattle.node_core.specs.session_state.State.{client_token, client_place}
-use Rattle.node_core.specs.node_state.declared.call.CallLine.TheVariants.{Goodbye}
-use Rattle.node_core.specs.node_state.Step.{Calls}
+use Rattle.session_state.specs.State.{client_token, client_place}
+use Rattle.node_state.specs.declared.call.CallLine.TheVariants.{Goodbye}
+use Rattle.node_state.specs.Step.{Calls}
 use Rattle.net_script.proofs.CallLaws.{goodbye_done}
 use Rattle.net_script.proofs.HandLaws.{handed_without, hears_from}
 use Rattle.net_script.proofs.calls.say_goodbye.Goals as goal

@@ -1,6 +1,6 @@
 use Rattle.std.proofs.Common.{◌≡◌, Some, None, sym, ◌∙◌, arith}
-use Rattle.play_state.specs.world_model.Play.{flow_limit}
-use Rattle.play_state.specs.world_packets.Packets.{first_of}
+use Rattle.world_model.specs.Play.{flow_limit}
+use Rattle.world_packets.specs.Packets.{first_of}
 use Rattle.net_script.proofs.StageLaws.{leads_stopped}
 use Rattle.net_script.proofs.FlowLaws.{flow_begins, flow_next, flow_stops, flow_over, flow_ends}
 use Rattle.net_script.proofs.flow.flow.Goals as goal

@@ -1,5 +1,5 @@
 use Rattle.std.proofs.Common.{◌-◌, ◌≤◌}
-use Rattle.play_state.specs.world_model.Play.{flow_limit}
+use Rattle.world_model.specs.Play.{flow_limit}
 use Rattle.net_script.proofs.FlowLaws.{FlowsTo}
 use Rattle.net_script.proofs.flow.flow.Given as goal
 

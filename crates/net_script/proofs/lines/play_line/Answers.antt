@@ -1,6 +1,6 @@
 use Rattle.std.proofs.Common.{refl, sym, ap, subst}
-use Rattle.play_state.specs.world_model.Play.{drops, with_cuts, healed, networks_in}
-use Rattle.world_safety.specs.world_laws.world_answers.Plays.{in_that_world, PlaysLine}
+use Rattle.world_model.specs.Play.{drops, with_cuts, healed, networks_in}
+use Rattle.world_laws.specs.world_answers.Plays.{in_that_world, PlaysLine}
 use Rattle.play_state.specs.declared.play_fault.PlayFault.TheVariants as play_fault
 use Rattle.net_script.specs.Stage.{LeadsTo}
 use Rattle.net_script.proofs.StageLaws.{leads_stopped}

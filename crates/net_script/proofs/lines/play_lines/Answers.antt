@@ -1,6 +1,6 @@
 use Rattle.std.proofs.Common.{arith}
-use Rattle.play_state.specs.world_model.declared.script.Line.{Line}
-use Rattle.world_safety.specs.world_laws.world_answers.Plays.{PlaysLine}
+use Rattle.world_model.specs.declared.script.Line.{Line}
+use Rattle.world_laws.specs.world_answers.Plays.{PlaysLine}
 use Rattle.net_script.proofs.LineLaws.{lines_playable}
 use Rattle.net_script.proofs.StageLaws.{leads_stopped}
 use Rattle.net_script.proofs.ListLaws.{list_begins, list_next, list_stops, list_ends}

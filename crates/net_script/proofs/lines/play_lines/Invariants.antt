@@ -1,6 +1,6 @@
 use Rattle.std.proofs.Common.{◌≤◌, drop}
-use Rattle.play_state.specs.world_model.declared.script.Line.{Line}
-use Rattle.world_safety.specs.world_laws.world_answers.Plays.{PlaysLine}
+use Rattle.world_model.specs.declared.script.Line.{Line}
+use Rattle.world_laws.specs.world_answers.Plays.{PlaysLine}
 use Rattle.net_script.proofs.ListLaws.{ComesTo}
 use Rattle.net_script.proofs.lines.play_lines.Given as goal
 

@@ -1,6 +1,6 @@
 use Rattle.std.proofs.Common.{◌≡◌}
-use Rattle.node_core.specs.rsct_packet.Search.{front_len}
-use Rattle.node_core.proofs.rsct_packet_laws.SearchLaws.{front_from}
+use Rattle.rsct_packet.specs.Search.{front_len}
+use Rattle.rsct_packet.proofs.SearchLaws.{front_from}
 use Rattle.net_script.specs.Standing.{comes_before}
 use Rattle.net_script.proofs.nodes.front.Given as goal
 

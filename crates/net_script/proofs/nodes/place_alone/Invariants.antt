@@ -1,6 +1,6 @@
 use Rattle.std.proofs.Common.{◌≡◌}
-use Rattle.node_core.specs.rsct_packet.Search.{place_where}
-use Rattle.node_core.proofs.rsct_packet_laws.SearchLaws.{place_from}
+use Rattle.rsct_packet.specs.Search.{place_where}
+use Rattle.rsct_packet.proofs.SearchLaws.{place_from}
 use Rattle.net_script.specs.Standing.{is_me}
 use Rattle.net_script.proofs.nodes.place_alone.Given as goal
 

@@ -1,6 +1,6 @@
 use Rattle.std.proofs.Common.{◌∙◌}
-use Rattle.world_safety.proofs.world_laws_laws.world_answers.Adding.{ticks_add}
-use Rattle.world_safety.proofs.world_laws_laws.world_answers.Going.{ticks_go}
+use Rattle.world_laws.proofs.world_answers.Adding.{ticks_add}
+use Rattle.world_laws.proofs.world_answers.Going.{ticks_go}
 use Rattle.play_state.specs.declared.play_fault.PlayFault.TheVariants as play_fault
 use Rattle.net_script.proofs.StageLaws.{leads_stopped, broke_none}
 use Rattle.net_script.proofs.RoundLaws.{all_ticked}

@@ -1,5 +1,5 @@
 use Rattle.std.proofs.Common.{ℕ, get_or, arith}
-use Rattle.world_safety.specs.world_laws.world_answers.Plays.{PlaysTick}
+use Rattle.world_laws.specs.world_answers.Plays.{PlaysTick}
 use Rattle.net_script.proofs.TextLaws.{same_item}
 use Rattle.net_script.proofs.StageLaws.{leads_stopped}
 use Rattle.net_script.proofs.ListLaws.{list_begins, list_next, list_stops, list_ends}

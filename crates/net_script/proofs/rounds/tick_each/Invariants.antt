@@ -1,5 +1,5 @@
 use Rattle.std.proofs.Common.{ℕ, ◌≤◌, drop}
-use Rattle.world_safety.specs.world_laws.world_answers.Plays.{PlaysTick}
+use Rattle.world_laws.specs.world_answers.Plays.{PlaysTick}
 use Rattle.net_script.proofs.ListLaws.{ComesTo}
 use Rattle.net_script.proofs.rounds.tick_each.Given as goal
 

@@ -1,8 +1,8 @@
 -- A change that is taken, or refused.
 use Rattle.std.proofs.Common.{refl}
 use Rattle.std.proofs.lemmas.Result.{on_ok_weaker}
-use Rattle.group_leading.specs.node_state.Calls.{changed}
-use Rattle.group_leading.proofs.node_groups_laws.KeepLaws.{stays_then}
+use Rattle.node_state.specs.Calls.{changed}
+use Rattle.node_groups.proofs.KeepLaws.{stays_then}
 use Rattle.group_leading.proofs.WorkLaws.{on_ok_both}
 use Rattle.node_calls.proofs.CallLaws.{changed_leaves, refused_leaves, sessions_keep}
 use Rattle.node_calls.proofs.answers.change.Goals as goal

@@ -1,8 +1,8 @@
 -- A ballot that is given, or refused.
 use Rattle.std.proofs.Common.{refl}
 use Rattle.std.proofs.lemmas.Result.{on_ok_weaker}
-use Rattle.group_leading.specs.node_state.Calls.{give_ballot}
-use Rattle.group_leading.proofs.node_groups_laws.KeepLaws.{stays_then}
+use Rattle.node_state.specs.Calls.{give_ballot}
+use Rattle.node_groups.proofs.KeepLaws.{stays_then}
 use Rattle.group_leading.proofs.WorkLaws.{on_ok_both}
 use Rattle.node_calls.proofs.CallLaws.{given_leaves, refused_leaves, sessions_keep}
 use Rattle.node_calls.proofs.ballots.give_ballot.Goals as goal

@@ -1,6 +1,6 @@
 -- Providers are expelled.
 use Rattle.std.proofs.Common.{refl}
-use Rattle.group_leading.specs.node_state.State.{with_sessions}
+use Rattle.node_state.specs.State.{with_sessions}
 use Rattle.node_calls.proofs.calls.expel.Goals as goal
 
 pub returns-clause-row : goal.returns-clause-row

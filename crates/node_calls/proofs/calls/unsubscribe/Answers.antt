@@ -1,6 +1,6 @@
 -- A subscription ends.
 use Rattle.std.proofs.Common.{refl}
-use Rattle.group_leading.specs.node_state.State.{with_sessions}
+use Rattle.node_state.specs.State.{with_sessions}
 use Rattle.node_calls.proofs.CallLaws.{always_answers}
 use Rattle.node_calls.proofs.calls.unsubscribe.Goals as goal
 

@@ -1,6 +1,6 @@
 -- The providers of the client so far.
 use Rattle.std.proofs.Common.{◌≡◌, take, filter}
-use Rattle.group_leading.specs.session_state.State.{is_client_of}
+use Rattle.session_state.specs.State.{is_client_of}
 use Rattle.node_calls.proofs.sessions.providers_of.Given as goal
 
 abbrev pub invariant-loop-x : goal.invariant-loop-x

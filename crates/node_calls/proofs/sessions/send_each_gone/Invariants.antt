@@ -1,8 +1,8 @@
 -- The leaders that were told so far.
 use Rattle.std.proofs.Common.{◌≡◌, take}
 use Rattle.std.specs.List.{fold}
-use Rattle.group_leading.specs.node_state.Calls.{send_gone}
-use Rattle.group_leading.specs.node_groups.Keeps.{Stays}
+use Rattle.node_state.specs.Calls.{send_gone}
+use Rattle.node_groups.specs.Keeps.{Stays}
 use Rattle.node_calls.proofs.sessions.send_each_gone.Given as goal
 
 abbrev pub invariant-loop-x : goal.invariant-loop-x

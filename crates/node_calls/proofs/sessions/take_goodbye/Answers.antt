@@ -1,10 +1,10 @@
 -- A session that ends, or is refused.
 use Rattle.std.proofs.Common.{List, filter, refl}
 use Rattle.std.proofs.lemmas.Result.{on_ok_weaker}
-use Rattle.group_leading.specs.session_state.declared.state.Provider.{Provider}
-use Rattle.group_leading.specs.session_state.State.{is_client_of, client_token}
-use Rattle.group_leading.specs.node_state.Calls.{goodbye_said, take_call}
-use Rattle.group_leading.specs.node_state.State.{with_sessions}
+use Rattle.session_state.specs.declared.state.Provider.{Provider}
+use Rattle.session_state.specs.State.{is_client_of, client_token}
+use Rattle.node_state.specs.Calls.{goodbye_said, take_call}
+use Rattle.node_state.specs.State.{with_sessions}
 use Rattle.group_leading.proofs.WorkLaws.{on_ok_both}
 use Rattle.node_calls.proofs.CallLaws.{said_leaves, refused_leaves, refused_place}
 use Rattle.node_calls.proofs.sessions.take_goodbye.Goals as goal

@@ -1,8 +1,8 @@
 -- A session that begins, or is refused.
 use Rattle.std.proofs.Common.{refl}
 use Rattle.std.proofs.lemmas.Result.{on_ok_weaker}
-use Rattle.group_leading.specs.node_state.Calls.{changed}
-use Rattle.group_leading.specs.node_state.State.{with_sessions}
+use Rattle.node_state.specs.Calls.{changed}
+use Rattle.node_state.specs.State.{with_sessions}
 use Rattle.group_leading.proofs.WorkLaws.{on_ok_both}
 use Rattle.node_calls.proofs.CallLaws.{changed_leaves, refused_leaves}
 use Rattle.node_calls.proofs.sessions.take_init.Goals as goal

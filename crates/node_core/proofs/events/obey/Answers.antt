@@ -1,6 +1,6 @@
 -- An order, and the end of the step.
 use Rattle.std.proofs.lemmas.Result.{on_ok_weaker}
-use Rattle.node_calls.proofs.entry_delivery_laws.DoingLaws.{receive_then}
+use Rattle.entry_delivery.proofs.DoingLaws.{receive_then}
 use Rattle.node_core.proofs.StepLaws.{does_by, order_does}
 use Rattle.node_core.proofs.events.obey.Goals as goal
 

@@ -1,7 +1,7 @@
 -- A datagram, and the end of the step.
 use Rattle.std.proofs.lemmas.Result.{on_ok_weaker}
-use Rattle.packet_codec.specs.node_state.Bytes.{packet_of, event_of}
-use Rattle.node_calls.proofs.entry_delivery_laws.DoingLaws.{receive_then}
+use Rattle.node_state.specs.Bytes.{packet_of, event_of}
+use Rattle.entry_delivery.proofs.DoingLaws.{receive_then}
 use Rattle.node_core.proofs.StepLaws.{does_by, datagram_does}
 use Rattle.node_core.proofs.events.receive.Goals as goal
 

@@ -1,7 +1,7 @@
 -- Each kind of event.
-use Rattle.packet_codec.specs.node_state.Step.{event_row}
+use Rattle.node_state.specs.Step.{event_row}
 use Rattle.std.proofs.lemmas.Result.{on_ok_weaker}
-use Rattle.packet_codec.specs.node_state.Bytes.{packet_of, event_of}
+use Rattle.node_state.specs.Bytes.{packet_of, event_of}
 use Rattle.node_core.proofs.StepLaws.{received_does}
 use Rattle.node_core.proofs.events.take_cleared.Goals as goal
 

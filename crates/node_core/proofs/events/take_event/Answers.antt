@@ -1,5 +1,5 @@
 -- An event of a node that lets go what was left of an earlier step.
-use Rattle.packet_codec.specs.node_state.Step.{stepped}
+use Rattle.node_state.specs.Step.{stepped}
 use Rattle.node_core.proofs.events.take_event.Goals as goal
 
 pub returns-clause-does : goal.returns-clause-does

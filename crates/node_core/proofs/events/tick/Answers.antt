@@ -1,7 +1,7 @@
 -- The parts of a tick, one after another.
 use Rattle.std.proofs.Common.{◌∙◌}
 use Rattle.std.proofs.lemmas.Result.{on_ok_weaker}
-use Rattle.node_calls.proofs.entry_delivery_laws.DoingLaws.{receive_then}
+use Rattle.entry_delivery.proofs.DoingLaws.{receive_then}
 use Rattle.node_core.proofs.StepLaws.{does_by, tick_does}
 use Rattle.node_core.proofs.events.tick.Goals as goal
 

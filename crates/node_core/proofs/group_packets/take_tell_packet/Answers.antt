@@ -1,6 +1,6 @@
 -- TELL, which is used or is not.
 use Rattle.std.proofs.lemmas.Result.{on_ok_weaker}
-use Rattle.node_calls.proofs.entry_delivery_laws.DoingLaws.{receive_nothing}
+use Rattle.entry_delivery.proofs.DoingLaws.{receive_nothing}
 use Rattle.node_core.proofs.StepLaws.{used_does, unused_does}
 use Rattle.node_core.proofs.group_packets.take_tell_packet.Goals as goal
 

@@ -1,8 +1,8 @@
 -- Each kind of packet is its row.
-use Rattle.packet_codec.specs.node_state.Step.{take_body}
+use Rattle.node_state.specs.Step.{take_body}
 use Rattle.std.proofs.lemmas.Result.{on_ok_weaker}
-use Rattle.node_calls.proofs.entry_delivery_laws.DoingLaws.{receive_nothing, does_nothing}
-use Rattle.node_calls.proofs.group_leading_laws.WorkLaws.{on_ok_both}
+use Rattle.entry_delivery.proofs.DoingLaws.{receive_nothing, does_nothing}
+use Rattle.group_leading.proofs.WorkLaws.{on_ok_both}
 use Rattle.node_core.proofs.StepLaws.{plain_does}
 use Rattle.node_core.proofs.packets.take_body.Goals as goal
 

@@ -2,7 +2,7 @@
 use Rattle.std.proofs.Common.{sym, ap, ◌∙◌}
 use Rattle.std.specs.Option.{option_map}
 use Rattle.std.proofs.lemmas.Result.{on_ok_weaker}
-use Rattle.node_calls.proofs.entry_delivery_laws.DoingLaws.{receive_nothing}
+use Rattle.entry_delivery.proofs.DoingLaws.{receive_nothing}
 use Rattle.packet_codec.specs.InPlace.{packet_in}
 use Rattle.node_core.proofs.StepLaws.{dropped_does, given_does}
 use Rattle.node_core.proofs.packets.take_datagram.Goals as goal

@@ -1,6 +1,6 @@
 -- A packet for another node is dropped, one for this node is taken.
 use Rattle.std.proofs.lemmas.Result.{on_ok_weaker}
-use Rattle.node_calls.proofs.entry_delivery_laws.DoingLaws.{receive_nothing}
+use Rattle.entry_delivery.proofs.DoingLaws.{receive_nothing}
 use Rattle.packet_codec.specs.InPlace.{packet_in}
 use Rattle.node_core.proofs.StepLaws.{away_does, here_does}
 use Rattle.node_core.proofs.packets.take_packet.Goals as goal

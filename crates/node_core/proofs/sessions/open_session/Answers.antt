@@ -1,9 +1,9 @@
 -- A session that begins, and the end of the step.
 use Rattle.std.proofs.Common.{sym}
 use Rattle.std.proofs.lemmas.Result.{on_ok_weaker}
-use Rattle.packet_codec.specs.node_state.declared.call.CallLine.TheVariants as call
-use Rattle.packet_codec.specs.node_state.Calls.{take_call}
-use Rattle.node_calls.proofs.group_leading_laws.WorkLaws.{on_ok_both}
+use Rattle.node_state.specs.declared.call.CallLine.TheVariants as call
+use Rattle.node_state.specs.Calls.{take_call}
+use Rattle.group_leading.proofs.WorkLaws.{on_ok_both}
 use Rattle.node_core.proofs.StepLaws.{does_by, session_does}
 use Rattle.node_core.proofs.sessions.open_session.Goals as goal
 

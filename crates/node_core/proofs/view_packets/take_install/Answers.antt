@@ -1,7 +1,7 @@
 -- It is the install that was read.
-use Rattle.node_views.specs.view_core.Steps.{view_stepped}
-use Rattle.node_views.specs.view_core.Steps as steps
-use Rattle.packet_codec.specs.node_state.Step.{view_row}
+use Rattle.view_core.specs.Steps.{view_stepped}
+use Rattle.view_core.specs.Steps as steps
+use Rattle.node_state.specs.Step.{view_row}
 use Rattle.node_core.proofs.view_packets.take_install.Goals as goal
 
 pub returns-clause-does : goal.returns-clause-does

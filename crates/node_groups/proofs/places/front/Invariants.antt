@@ -1,7 +1,7 @@
 -- No row so far has the name or comes after it.
 use Rattle.std.proofs.Common.{◌≡◌}
-use Rattle.node_state.specs.rsct_packet.Search.{front_len}
-use Rattle.node_state.proofs.rsct_packet_laws.SearchLaws.{front_from}
+use Rattle.rsct_packet.specs.Search.{front_len}
+use Rattle.rsct_packet.proofs.SearchLaws.{front_from}
 use Rattle.node_groups.specs.Places.{stops_at}
 use Rattle.node_groups.proofs.places.front.Given as goal
 

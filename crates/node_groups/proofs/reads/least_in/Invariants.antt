@@ -1,8 +1,8 @@
 -- The least length so far.
 use Rattle.std.proofs.Common.{◌≡◌, min, take}
 use Rattle.std.specs.List.{fold}
-use Rattle.node_state.specs.rsct_packet.declared.ids.Member.{Member}
-use Rattle.node_state.specs.proposal_core.Lists.{len_in}
+use Rattle.rsct_packet.specs.declared.ids.Member.{Member}
+use Rattle.proposal_core.specs.Lists.{len_in}
 use Rattle.node_state.specs.State.{acked_by}
 use Rattle.node_groups.proofs.reads.least_in.Given as goal
 

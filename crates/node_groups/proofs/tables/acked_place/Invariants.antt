@@ -1,7 +1,7 @@
 -- No row so far is that.
 use Rattle.std.proofs.Common.{◌≡◌}
-use Rattle.node_state.specs.rsct_packet.Search.{place_where}
-use Rattle.node_state.proofs.rsct_packet_laws.SearchLaws.{place_from}
+use Rattle.rsct_packet.specs.Search.{place_where}
+use Rattle.rsct_packet.proofs.SearchLaws.{place_from}
 use Rattle.node_groups.specs.Places.{is_acked_by}
 use Rattle.node_groups.proofs.tables.acked_place.Given as goal
 

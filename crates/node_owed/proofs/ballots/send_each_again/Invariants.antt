@@ -1,7 +1,7 @@
 -- What was sent so far.
 use Rattle.std.proofs.Common.{◌≡◌, take}
 use Rattle.std.specs.List.{fold}
-use Rattle.node_groups.specs.node_state.Sending.{kept_sent_again}
+use Rattle.node_state.specs.Sending.{kept_sent_again}
 use Rattle.node_owed.proofs.ballots.send_each_again.Given as goal
 
 abbrev pub invariant-loop-k : goal.invariant-loop-k

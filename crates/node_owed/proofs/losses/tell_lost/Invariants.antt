@@ -1,7 +1,7 @@
 -- Who was told of so far; the rows stay.
 use Rattle.std.proofs.Common.{◌≡◌, take}
 use Rattle.std.specs.Prelude.{filter, fold, is_some}
-use Rattle.node_groups.specs.node_state.Ticks.{lost_told}
+use Rattle.node_state.specs.Ticks.{lost_told}
 use Rattle.node_owed.proofs.losses.tell_lost.Given as goal
 
 abbrev pub invariant-loop-i : goal.invariant-loop-i

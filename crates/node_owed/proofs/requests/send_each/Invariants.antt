@@ -1,7 +1,7 @@
 -- What was sent so far.
 use Rattle.std.proofs.Common.{◌≡◌, take}
 use Rattle.std.specs.List.{fold}
-use Rattle.node_groups.specs.node_state.Sending.{send_request}
+use Rattle.node_state.specs.Sending.{send_request}
 use Rattle.node_owed.proofs.requests.send_each.Given as goal
 
 abbrev pub invariant-loop-q : goal.invariant-loop-q

@@ -2,8 +2,8 @@
 use Rattle.std.proofs.Common.{◌≡◌, take, filter}
 use Rattle.std.specs.List.{fold}
 use Rattle.std.specs.Str.{bytes_eq}
-use Rattle.node_groups.specs.session_state.declared.state.Request.{Request}
-use Rattle.node_groups.specs.node_state.Sending.{send_request}
+use Rattle.session_state.specs.declared.state.Request.{Request}
+use Rattle.node_state.specs.Sending.{send_request}
 use Rattle.node_owed.proofs.requests.send_each_of.Given as goal
 
 abbrev pub invariant-loop-q : goal.invariant-loop-q

@@ -1,7 +1,7 @@
 -- The requests that were taken out are back.
 use Rattle.std.proofs.lemmas.Result.{on_ok_weaker}
-use Rattle.node_groups.specs.node_state.Sending.{send_request}
-use Rattle.node_groups.specs.node_state.Following.{requests_of}
+use Rattle.node_state.specs.Sending.{send_request}
+use Rattle.node_state.specs.Following.{requests_of}
 use Rattle.node_owed.proofs.SendLaws.{requests_of_back, request_sends, each_keeps}
 use Rattle.node_owed.proofs.requests.send_requests_of.Goals as goal
 

@@ -1,8 +1,8 @@
 -- The rows so far.
 use Rattle.std.proofs.Common.{◌≡◌, take}
 use Rattle.std.specs.Prelude.{flat_map}
-use Rattle.node_groups.specs.node_reach.Reach.{row_of}
-use Rattle.node_groups.specs.node_state.Ticks.{row_listed}
+use Rattle.node_reach.specs.Reach.{row_of}
+use Rattle.node_state.specs.Ticks.{row_listed}
 use Rattle.node_rings.proofs.reports.rows_of.Given as goal
 
 abbrev pub invariant-loop-n : goal.invariant-loop-n

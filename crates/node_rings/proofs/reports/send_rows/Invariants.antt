@@ -1,8 +1,8 @@
 -- What was sent so far.
 use Rattle.std.proofs.Common.{◌≡◌, take}
 use Rattle.std.specs.Prelude.{fold}
-use Rattle.node_groups.specs.node_state.declared.packet.Body.TheVariants as body
-use Rattle.node_groups.specs.node_state.Sending.{sent}
+use Rattle.node_state.specs.declared.packet.Body.TheVariants as body
+use Rattle.node_state.specs.Sending.{sent}
 use Rattle.node_rings.proofs.reports.send_rows.Given as goal
 
 abbrev pub invariant-loop-n : goal.invariant-loop-n

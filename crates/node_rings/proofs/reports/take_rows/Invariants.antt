@@ -1,7 +1,7 @@
 -- What was taken so far.
 use Rattle.std.proofs.Common.{◌≡◌, take}
 use Rattle.std.specs.Prelude.{fold}
-use Rattle.node_groups.specs.node_state.Ticks.{row_reported}
+use Rattle.node_state.specs.Ticks.{row_reported}
 use Rattle.node_rings.proofs.reports.take_rows.Given as goal
 
 abbrev pub invariant-loop-row : goal.invariant-loop-row

@@ -1,9 +1,9 @@
 -- What was sent so far.
 use Rattle.std.proofs.Common.{◌≡◌, take}
 use Rattle.std.specs.Prelude.{fold}
-use Rattle.node_groups.specs.adapter_ring.declared.packet.RingSend.{RingSend}
-use Rattle.node_groups.specs.node_state.declared.packet.Body.TheVariants as body
-use Rattle.node_groups.specs.node_state.Sending.{send_on}
+use Rattle.adapter_ring.specs.declared.packet.RingSend.{RingSend}
+use Rattle.node_state.specs.declared.packet.Body.TheVariants as body
+use Rattle.node_state.specs.Sending.{send_on}
 use Rattle.node_rings.proofs.rings.send_each.Given as goal
 
 abbrev pub invariant-loop-x : goal.invariant-loop-x

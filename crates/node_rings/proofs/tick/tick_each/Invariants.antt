@@ -1,10 +1,10 @@
 -- The rings that ticked so far.
 use Rattle.std.proofs.Common.{◌≡◌, take}
 use Rattle.std.specs.Prelude.{fold}
-use Rattle.node_groups.specs.adapter_ring.declared.ring.Ring.{Ring}
-use Rattle.node_groups.specs.adapter_ring.declared.packet.RingEvent.TheVariants as ring_event
-use Rattle.node_groups.specs.adapter_ring.Rings.{ring_step}
-use Rattle.node_groups.specs.node_state.Ticks.{ring_taken}
+use Rattle.adapter_ring.specs.declared.ring.Ring.{Ring}
+use Rattle.adapter_ring.specs.declared.packet.RingEvent.TheVariants as ring_event
+use Rattle.adapter_ring.specs.Rings.{ring_step}
+use Rattle.node_state.specs.Ticks.{ring_taken}
 use Rattle.node_rings.proofs.tick.tick_each.Given as goal
 
 abbrev pub invariant-loop-ring : goal.invariant-loop-ring

@@ -1,7 +1,7 @@
 -- The rings of the networks so far.
 use Rattle.std.proofs.Common.{◌≡◌, take, map, filter}
-use Rattle.node_sending.specs.node_state.Settings.{has_adapter, networks}
-use Rattle.node_sending.specs.node_state.Step.{own_ring}
+use Rattle.node_state.specs.Settings.{has_adapter, networks}
+use Rattle.node_state.specs.Step.{own_ring}
 use Rattle.node_start.proofs.start.adapter_rings.Given as goal
 
 abbrev pub invariant-loop-network : goal.invariant-loop-network

@@ -1,6 +1,6 @@
 -- The records so far.
 use Rattle.std.proofs.Common.{◌≡◌, ◌++◌, take, map}
-use Rattle.node_sending.specs.node_state.Step.{ring_record}
+use Rattle.node_state.specs.Step.{ring_record}
 use Rattle.node_start.proofs.start.record_rings.Given as goal
 
 abbrev pub invariant-loop-ring : goal.invariant-loop-ring

@@ -1,6 +1,6 @@
 -- The records so far.
 use Rattle.std.proofs.Common.{◌≡◌, ◌++◌, map}
-use Rattle.node_groups.specs.node_state.declared.happened.Happened.TheVariants as happened
+use Rattle.node_state.specs.declared.happened.Happened.TheVariants as happened
 use Rattle.node_text.proofs.status.record_lines.Given as goal
 
 abbrev pub invariant-loop-line : goal.invariant-loop-line

@@ -1,6 +1,6 @@
 -- The lines so far.
 use Rattle.std.proofs.Common.{◌≡◌, take, map}
-use Rattle.node_groups.specs.node_state.Status.{ring_line}
+use Rattle.node_state.specs.Status.{ring_line}
 use Rattle.node_text.proofs.status.ring_lines.Given as goal
 
 abbrev pub invariant-loop-ring : goal.invariant-loop-ring

@@ -1,8 +1,8 @@
 -- The lines so far.
 use Rattle.std.proofs.Common.{◌≡◌, take}
 use Rattle.std.specs.Prelude.{filter, flat_map, is_some}
-use Rattle.node_groups.specs.proposal_core.Lists.{state_in}
-use Rattle.node_groups.specs.node_state.Status.{vote_lines}
+use Rattle.proposal_core.specs.Lists.{state_in}
+use Rattle.node_state.specs.Status.{vote_lines}
 use Rattle.node_text.proofs.status.vote_lines.Given as goal
 
 abbrev pub invariant-loop-row : goal.invariant-loop-row

@@ -1,5 +1,5 @@
 -- One byte more.
-use Rattle.node_groups.specs.node_state.Wording.{byte_text}
+use Rattle.node_state.specs.Wording.{byte_text}
 use Rattle.node_text.proofs.TextLaws.{item_on}
 use Rattle.node_text.proofs.words.put_escaped.Goals as goal
 

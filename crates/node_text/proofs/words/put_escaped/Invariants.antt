@@ -1,6 +1,6 @@
 use Rattle.std.proofs.Common.{◌≡◌, ◌++◌, take}
 use Rattle.std.specs.Prelude.{flat_map}
-use Rattle.node_groups.specs.node_state.Wording.{byte_text}
+use Rattle.node_state.specs.Wording.{byte_text}
 use Rattle.node_text.proofs.words.put_escaped.Given as goal
 
 abbrev pub invariant-loop-b : goal.invariant-loop-b

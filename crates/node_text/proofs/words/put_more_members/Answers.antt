@@ -1,7 +1,7 @@
 -- One member more.
 use Rattle.std.proofs.Common.{◌++◌, refl}
 use Rattle.std.specs.Prelude.{codes}
-use Rattle.node_groups.specs.node_state.Wording.{member_text}
+use Rattle.node_state.specs.Wording.{member_text}
 use Rattle.node_text.proofs.TextLaws.{pieces_on}
 use Rattle.node_text.proofs.words.put_more_members.Goals as goal
 

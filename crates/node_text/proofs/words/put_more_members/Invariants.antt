@@ -1,6 +1,6 @@
 use Rattle.std.proofs.Common.{◌≡◌, ◌++◌, take}
 use Rattle.std.specs.Prelude.{codes, flat_map}
-use Rattle.node_groups.specs.node_state.Wording.{member_text}
+use Rattle.node_state.specs.Wording.{member_text}
 use Rattle.node_text.proofs.words.put_more_members.Given as goal
 
 abbrev pub invariant-loop-m : goal.invariant-loop-m

@@ -1,7 +1,7 @@
 -- One provider more.
 use Rattle.std.proofs.Common.{◌++◌, refl}
 use Rattle.std.specs.Prelude.{codes}
-use Rattle.node_groups.specs.node_state.Wording.{provider_text}
+use Rattle.node_state.specs.Wording.{provider_text}
 use Rattle.node_text.proofs.TextLaws.{pieces_on}
 use Rattle.node_text.proofs.words.put_more_providers.Goals as goal
 

@@ -1,6 +1,6 @@
 use Rattle.std.proofs.Common.{◌≡◌, ◌++◌, take}
 use Rattle.std.specs.Prelude.{codes, flat_map}
-use Rattle.node_groups.specs.node_state.Wording.{provider_text}
+use Rattle.node_state.specs.Wording.{provider_text}
 use Rattle.node_text.proofs.words.put_more_providers.Given as goal
 
 abbrev pub invariant-loop-p : goal.invariant-loop-p

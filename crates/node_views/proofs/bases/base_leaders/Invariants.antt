@@ -1,6 +1,6 @@
 -- Who leads the groups of the bases so far.
 use Rattle.std.proofs.Common.{◌≡◌, take, map}
-use Rattle.group_leading.specs.node_state.Applying.{base_leader}
+use Rattle.node_state.specs.Applying.{base_leader}
 use Rattle.node_views.proofs.bases.base_leaders.Given as goal
 
 abbrev pub invariant-loop-base : goal.invariant-loop-base

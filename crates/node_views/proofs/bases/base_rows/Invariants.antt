@@ -1,6 +1,6 @@
 -- The rows of the bases so far.
 use Rattle.std.proofs.Common.{◌≡◌, take, map}
-use Rattle.group_leading.specs.node_state.Applying.{base_row}
+use Rattle.node_state.specs.Applying.{base_row}
 use Rattle.node_views.proofs.bases.base_rows.Given as goal
 
 abbrev pub invariant-loop-base : goal.invariant-loop-base

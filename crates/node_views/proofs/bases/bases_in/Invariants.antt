@@ -1,6 +1,6 @@
 -- The bases of the names so far.
 use Rattle.std.proofs.Common.{◌≡◌, take}
-use Rattle.group_leading.specs.view_state.Bases.{names_in, bases_for}
+use Rattle.view_state.specs.Bases.{names_in, bases_for}
 use Rattle.node_views.proofs.bases.bases_in.Given as goal
 
 abbrev pub invariant-loop-k : goal.invariant-loop-k

@@ -2,8 +2,8 @@
 use Rattle.std.proofs.Common.{refl, ◌∙◌, arith}
 use Rattle.std.specs.Prelude.{option_copied}
 use Rattle.std.proofs.lemmas.List.{get_or_default}
-use Rattle.group_leading.proofs.node_groups_laws.KeepLaws.{stays_itself, stays_then}
-use Rattle.group_leading.proofs.entry_delivery_laws.DoingLaws.{does_nothing, does_more, does_all, receive_nothing, receive_then}
+use Rattle.node_groups.proofs.KeepLaws.{stays_itself, stays_then}
+use Rattle.entry_delivery.proofs.DoingLaws.{does_nothing, does_more, does_all, receive_nothing, receive_then}
 use Rattle.node_views.proofs.SideLaws.{one_dissolved}
 use Rattle.node_views.proofs.dissolved.dissolve_each.Goals as goal
 

@@ -2,11 +2,11 @@
 use Rattle.std.proofs.Common.{◌≡◌, take, map, length}
 use Rattle.std.specs.Prelude.{option_copied}
 use Rattle.std.specs.List.{fold}
-use Rattle.group_leading.specs.session_state.State.{provider_of}
-use Rattle.group_leading.specs.node_groups.Keeps.{Stays}
-use Rattle.group_leading.specs.node_state.Applying.{dissolved_if}
-use Rattle.group_leading.specs.entry_delivery.Received.{Receive}
-use Rattle.group_leading.specs.entry_delivery.Doing.{Does}
+use Rattle.session_state.specs.State.{provider_of}
+use Rattle.node_groups.specs.Keeps.{Stays}
+use Rattle.node_state.specs.Applying.{dissolved_if}
+use Rattle.entry_delivery.specs.Received.{Receive}
+use Rattle.entry_delivery.specs.Doing.{Does}
 use Rattle.node_views.proofs.dissolved.dissolve_each.Given as goal
 
 abbrev pub invariant-loop-p : goal.invariant-loop-p

@@ -1,6 +1,6 @@
 -- The members, and then the running joiners.
 use Rattle.std.proofs.lemmas.Result.{on_ok_weaker}
-use Rattle.group_leading.proofs.entry_delivery_laws.DoingLaws.{receive_nothing, receive_then}
+use Rattle.entry_delivery.proofs.DoingLaws.{receive_nothing, receive_then}
 use Rattle.node_views.proofs.SideLaws.{unheld_does, list_does}
 use Rattle.node_views.proofs.dissolved.dissolve_group.Goals as goal
 

@@ -1,6 +1,6 @@
 -- Nobody is dissolved where no provider is found, or where it lives in the base.
 use Rattle.std.proofs.lemmas.Result.{on_ok_weaker}
-use Rattle.group_leading.proofs.entry_delivery_laws.DoingLaws.{receive_nothing}
+use Rattle.entry_delivery.proofs.DoingLaws.{receive_nothing}
 use Rattle.group_leading.proofs.WorkLaws.{on_ok_both}
 use Rattle.node_views.proofs.ToldLaws.{unfound_does, spared_does, left_out_does}
 use Rattle.node_views.proofs.dissolved.dissolve_if.Goals as goal

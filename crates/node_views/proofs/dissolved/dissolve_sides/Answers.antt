@@ -1,7 +1,7 @@
 -- One group after another.
 use Rattle.std.proofs.Common.{refl, ◌∙◌, arith}
-use Rattle.group_leading.proofs.node_groups_laws.KeepLaws.{stays_itself, stays_then}
-use Rattle.group_leading.proofs.entry_delivery_laws.DoingLaws.{does_nothing, receive_nothing, receive_then}
+use Rattle.node_groups.proofs.KeepLaws.{stays_itself, stays_then}
+use Rattle.entry_delivery.proofs.DoingLaws.{does_nothing, receive_nothing, receive_then}
 use Rattle.node_views.proofs.SideLaws.{sides_more, sides_all}
 use Rattle.node_views.proofs.dissolved.dissolve_sides.Goals as goal
 

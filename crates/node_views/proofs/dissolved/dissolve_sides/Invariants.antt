@@ -2,11 +2,11 @@
 use Rattle.std.proofs.Common.{◌≡◌, take, map, filter, length}
 use Rattle.std.specs.Prelude.{is_some}
 use Rattle.std.specs.List.{fold}
-use Rattle.group_leading.specs.node_groups.Keeps.{Stays}
-use Rattle.group_leading.specs.node_state.declared.group.GroupRow.{GroupRow}
-use Rattle.group_leading.specs.node_state.Applying.{group_dissolved}
-use Rattle.group_leading.specs.entry_delivery.Received.{Receive}
-use Rattle.group_leading.specs.entry_delivery.Doing.{Does}
+use Rattle.node_groups.specs.Keeps.{Stays}
+use Rattle.node_state.specs.declared.group.GroupRow.{GroupRow}
+use Rattle.node_state.specs.Applying.{group_dissolved}
+use Rattle.entry_delivery.specs.Received.{Receive}
+use Rattle.entry_delivery.specs.Doing.{Does}
 use Rattle.node_views.proofs.dissolved.dissolve_sides.Given as goal
 
 abbrev pub invariant-loop-row : goal.invariant-loop-row

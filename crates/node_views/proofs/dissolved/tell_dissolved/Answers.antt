@@ -1,6 +1,6 @@
 -- Who is not live has no client that is told.
 use Rattle.std.proofs.Common.{refl}
-use Rattle.group_leading.proofs.entry_delivery_laws.ReceiveLaws.{receive_one}
+use Rattle.entry_delivery.proofs.ReceiveLaws.{receive_one}
 use Rattle.node_views.proofs.ToldLaws.{untold_receive}
 use Rattle.node_views.proofs.dissolved.tell_dissolved.Goals as goal
 

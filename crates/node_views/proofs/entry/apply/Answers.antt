@@ -1,6 +1,6 @@
 -- The lists go on to the install, or nothing is done.
 use Rattle.std.proofs.lemmas.Result.{on_ok_weaker}
-use Rattle.group_leading.proofs.entry_delivery_laws.DoingLaws.{receive_then}
+use Rattle.entry_delivery.proofs.DoingLaws.{receive_then}
 use Rattle.node_views.proofs.WorkLaws.{stays_does, applied_does}
 use Rattle.node_views.proofs.entry.apply.Goals as goal
 

@@ -1,7 +1,7 @@
 -- The view is entered, and then told of and sent in.
 use Rattle.std.proofs.Common.{◌∙◌}
 use Rattle.std.proofs.lemmas.Result.{on_ok_weaker}
-use Rattle.group_leading.proofs.entry_delivery_laws.DoingLaws.{receive_then}
+use Rattle.entry_delivery.proofs.DoingLaws.{receive_then}
 use Rattle.group_leading.proofs.WorkLaws.{on_ok_both}
 use Rattle.node_views.proofs.BaseOrder.{leaders_differ}
 use Rattle.node_views.proofs.WorkLaws.{arrive_does, arrived_work, entered_aligned, stays_aligned}

@@ -1,7 +1,7 @@
 -- The bases are those of the install, in the order of their names.
 use Rattle.std.proofs.Common.{◌∙◌}
 use Rattle.std.proofs.lemmas.Result.{on_ok_weaker}
-use Rattle.group_leading.proofs.entry_delivery_laws.DoingLaws.{receive_then}
+use Rattle.entry_delivery.proofs.DoingLaws.{receive_then}
 use Rattle.node_views.proofs.BaseOrder.{bases_ordered}
 use Rattle.node_views.proofs.WorkLaws.{enter_does}
 use Rattle.node_views.proofs.entry.enter.Goals as goal

@@ -1,7 +1,7 @@
 -- One group after another.
 use Rattle.std.proofs.Common.{refl, ◌∙◌, arith}
-use Rattle.group_leading.specs.node_state.Applying.{lead}
-use Rattle.group_leading.proofs.entry_delivery_laws.DoingLaws.{does_nothing, does_more, does_all, receive_nothing, receive_then}
+use Rattle.node_state.specs.Applying.{lead}
+use Rattle.entry_delivery.proofs.DoingLaws.{does_nothing, does_more, does_all, receive_nothing, receive_then}
 use Rattle.node_views.proofs.led_groups.lead_each.Goals as goal
 
 pub loop-g-init : goal.loop-g-init

@@ -1,10 +1,10 @@
 -- The groups that are led so far.
 use Rattle.std.proofs.Common.{◌≡◌, take, map}
 use Rattle.std.specs.List.{fold}
-use Rattle.group_leading.specs.entry_delivery.Received.{Receive}
-use Rattle.group_leading.specs.entry_delivery.Doing.{Does}
+use Rattle.entry_delivery.specs.Received.{Receive}
+use Rattle.entry_delivery.specs.Doing.{Does}
 use Rattle.group_leading.specs.Working.{AtWork}
-use Rattle.group_leading.specs.node_state.Applying.{lead}
+use Rattle.node_state.specs.Applying.{lead}
 use Rattle.node_views.proofs.led_groups.lead_each.Given as goal
 
 abbrev pub invariant-loop-g : goal.invariant-loop-g

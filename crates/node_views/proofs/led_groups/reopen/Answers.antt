@@ -1,6 +1,6 @@
 -- The phase is left as it is, or opened and then closed.
 use Rattle.std.proofs.lemmas.Result.{on_ok_weaker}
-use Rattle.group_leading.proofs.entry_delivery_laws.DoingLaws.{receive_nothing}
+use Rattle.entry_delivery.proofs.DoingLaws.{receive_nothing}
 use Rattle.node_views.proofs.WorkLaws.{left_does, reopened_does}
 use Rattle.node_views.proofs.led_groups.reopen.Goals as goal
 

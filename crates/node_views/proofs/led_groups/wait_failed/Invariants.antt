@@ -1,10 +1,10 @@
 -- Those so far wait.
 use Rattle.std.proofs.Common.{◌≡◌, take}
 use Rattle.std.specs.List.{fold}
-use Rattle.group_leading.specs.proposal_core.declared.proposal.Cause.TheVariants.{Died}
-use Rattle.group_leading.specs.batch_rules.Waiting.{add_failure}
-use Rattle.group_leading.specs.node_groups.Keeps.{Keeps}
-use Rattle.group_leading.specs.node_state.Leading.{with_waiting}
+use Rattle.proposal_core.specs.declared.proposal.Cause.TheVariants.{Died}
+use Rattle.batch_rules.specs.Waiting.{add_failure}
+use Rattle.node_groups.specs.Keeps.{Keeps}
+use Rattle.node_state.specs.Leading.{with_waiting}
 use Rattle.node_views.proofs.led_groups.wait_failed.Given as goal
 
 abbrev pub invariant-loop-p : goal.invariant-loop-p

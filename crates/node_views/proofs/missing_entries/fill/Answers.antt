@@ -1,5 +1,5 @@
 -- Nothing is put where a list does not go on to the install.
-use Rattle.group_leading.proofs.entry_delivery_laws.DoingLaws.{receive_nothing}
+use Rattle.entry_delivery.proofs.DoingLaws.{receive_nothing}
 use Rattle.node_views.proofs.WorkLaws.{nothing_filled}
 use Rattle.node_views.proofs.missing_entries.fill.Goals as goal
 

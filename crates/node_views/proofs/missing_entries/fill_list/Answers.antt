@@ -1,7 +1,7 @@
 -- One entry after another.
 use Rattle.std.proofs.Common.{refl, ◌∙◌, None, arith}
-use Rattle.group_leading.specs.node_state.Leading.{put_and_hand}
-use Rattle.group_leading.proofs.entry_delivery_laws.DoingLaws.{does_nothing, does_more, does_all, receive_nothing, receive_then}
+use Rattle.node_state.specs.Leading.{put_and_hand}
+use Rattle.entry_delivery.proofs.DoingLaws.{does_nothing, does_more, does_all, receive_nothing, receive_then}
 use Rattle.node_views.proofs.missing_entries.fill_list.Goals as goal
 
 pub loop-e-init : goal.loop-e-init

@@ -1,7 +1,7 @@
 -- What was put and handed on so far.
 use Rattle.std.proofs.Common.{◌≡◌, take, map}
-use Rattle.group_leading.specs.entry_delivery.Received.{Receive}
-use Rattle.group_leading.specs.entry_delivery.Doing.{Does}
+use Rattle.entry_delivery.specs.Received.{Receive}
+use Rattle.entry_delivery.specs.Doing.{Does}
 use Rattle.group_leading.specs.Working.{AtWork}
 use Rattle.node_views.specs.Filling.{list_filled}
 use Rattle.node_views.proofs.missing_entries.fill_list.Given as goal

@@ -1,10 +1,10 @@
 -- One list after another.
 use Rattle.std.proofs.Common.{refl, ◌∙◌, arith}
-use Rattle.group_leading.specs.node_state.declared.state.Core.{Core}
-use Rattle.group_leading.specs.node_state.HandOn.{Answering}
+use Rattle.node_state.specs.declared.state.Core.{Core}
+use Rattle.node_state.specs.HandOn.{Answering}
 use Rattle.node_views.specs.declared.missing_entries.Missing.{Missing}
 use Rattle.node_views.specs.Filling.{list_filled}
-use Rattle.group_leading.proofs.entry_delivery_laws.DoingLaws.{does_nothing, does_more, does_all, receive_nothing, receive_then}
+use Rattle.entry_delivery.proofs.DoingLaws.{does_nothing, does_more, does_all, receive_nothing, receive_then}
 use Rattle.node_views.proofs.WorkLaws.{filled_does}
 use Rattle.node_views.proofs.missing_entries.fill_lists.Goals as goal
 

@@ -1,8 +1,8 @@
 -- The lists that were filled so far.
 use Rattle.std.proofs.Common.{◌≡◌, take, map}
 use Rattle.std.specs.List.{fold}
-use Rattle.group_leading.specs.entry_delivery.Received.{Receive}
-use Rattle.group_leading.specs.entry_delivery.Doing.{Does}
+use Rattle.entry_delivery.specs.Received.{Receive}
+use Rattle.entry_delivery.specs.Doing.{Does}
 use Rattle.group_leading.specs.Working.{AtWork}
 use Rattle.node_views.specs.declared.missing_entries.Missing.{Missing}
 use Rattle.node_views.specs.Filling.{list_filled}

@@ -1,6 +1,6 @@
 -- What is lacking so far, and of the parts that are left.
 use Rattle.std.proofs.Common.{◌≡◌, drop, map}
-use Rattle.group_leading.specs.node_state.Applying.{lacking_in}
+use Rattle.node_state.specs.Applying.{lacking_in}
 use Rattle.node_views.specs.Filling.{lacking_at, with_more}
 use Rattle.node_views.proofs.missing_entries.missing_in.Given as goal
 

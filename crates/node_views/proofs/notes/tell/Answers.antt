@@ -1,7 +1,7 @@
 -- What was told is what is recorded.
 use Rattle.std.proofs.Common.{refl}
 use Rattle.std.proofs.lemmas.Result.{on_ok_weaker}
-use Rattle.group_leading.proofs.entry_delivery_laws.ReceiveLaws.{receive_one}
+use Rattle.entry_delivery.proofs.ReceiveLaws.{receive_one}
 use Rattle.node_views.proofs.notes.tell.Goals as goal
 
 pub returns-clause-received : goal.returns-clause-received

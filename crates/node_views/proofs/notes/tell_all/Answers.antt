@@ -1,7 +1,7 @@
 -- One subscription after another.
 use Rattle.std.proofs.Common.{refl, sym, ◌∙◌, append-nil}
 use Rattle.node_views.specs.Arriving.{notes_at, note_handings}
-use Rattle.group_leading.proofs.entry_delivery_laws.DoingLaws.{receive_nothing}
+use Rattle.entry_delivery.proofs.DoingLaws.{receive_nothing}
 use Rattle.node_views.proofs.ToldLaws.{record_more, receive_more}
 use Rattle.node_views.proofs.notes.tell_all.Goals as goal
 

@@ -1,7 +1,7 @@
 -- What was told and recorded so far.
 use Rattle.std.proofs.Common.{◌≡◌, ◌++◌, take, map, length}
 use Rattle.std.specs.List.{flat_map}
-use Rattle.group_leading.specs.entry_delivery.Received.{Receive}
+use Rattle.entry_delivery.specs.Received.{Receive}
 use Rattle.node_views.specs.Arriving.{notes_at, note_handings}
 use Rattle.node_views.proofs.notes.tell_all.Given as goal
 

@@ -1,5 +1,5 @@
 -- Nothing is told of a group that has no base.
-use Rattle.group_leading.proofs.entry_delivery_laws.DoingLaws.{receive_nothing}
+use Rattle.entry_delivery.proofs.DoingLaws.{receive_nothing}
 use Rattle.node_views.proofs.notes.tell_base.Goals as goal
 
 pub returns-in-None-clause-received : goal.returns-in-None-clause-received

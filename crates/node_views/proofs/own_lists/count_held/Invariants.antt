@@ -2,7 +2,7 @@
 use Rattle.std.proofs.Common.{◌≡◌, ◌≤◌, take}
 use Rattle.std.specs.Prelude.{is_some}
 use Rattle.std.specs.List.{count_by}
-use Rattle.group_leading.specs.node_state.declared.group.GroupRow.{GroupRow}
+use Rattle.node_state.specs.declared.group.GroupRow.{GroupRow}
 use Rattle.node_views.proofs.own_lists.count_held.Given as goal
 
 abbrev pub invariant-loop-row : goal.invariant-loop-row

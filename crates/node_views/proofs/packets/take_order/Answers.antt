@@ -1,6 +1,6 @@
 -- In mode fixed nothing is done, else the views take it.
 use Rattle.std.proofs.lemmas.Result.{on_ok_weaker}
-use Rattle.group_leading.proofs.entry_delivery_laws.DoingLaws.{receive_nothing}
+use Rattle.entry_delivery.proofs.DoingLaws.{receive_nothing}
 use Rattle.node_views.proofs.WorkLaws.{no_order_does, order_does}
 use Rattle.node_views.proofs.packets.take_order.Goals as goal
 

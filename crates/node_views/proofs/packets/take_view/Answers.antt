@@ -1,7 +1,7 @@
 -- What the event sends is sent, and its install is applied, if there is one.
 use Rattle.std.proofs.Common.{sym, ◌∙◌}
 use Rattle.std.proofs.lemmas.Result.{on_ok_weaker}
-use Rattle.group_leading.proofs.entry_delivery_laws.DoingLaws.{receive_nothing}
+use Rattle.entry_delivery.proofs.DoingLaws.{receive_nothing}
 use Rattle.node_views.proofs.WorkLaws.{sent_work, sent_does, taken_does}
 use Rattle.node_views.proofs.packets.take_view.Goals as goal
 

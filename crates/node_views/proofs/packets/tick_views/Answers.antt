@@ -1,6 +1,6 @@
 -- The views take the tick, and then the reminder.
 use Rattle.std.proofs.lemmas.Result.{on_ok_weaker}
-use Rattle.group_leading.proofs.entry_delivery_laws.DoingLaws.{receive_then}
+use Rattle.entry_delivery.proofs.DoingLaws.{receive_then}
 use Rattle.node_views.proofs.WorkLaws.{ticked_does}
 use Rattle.node_views.proofs.packets.tick_views.Goals as goal
 

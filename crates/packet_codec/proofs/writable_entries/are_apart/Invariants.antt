@@ -1,5 +1,5 @@
 use Rattle.std.proofs.Common.{◌≡◌, length}
-use Rattle.node_state.specs.proposal_core.ProposalCodec.{failures_differ}
+use Rattle.proposal_core.specs.ProposalCodec.{failures_differ}
 use Rattle.packet_codec.proofs.writable_entries.are_apart.Given as goal
 
 abbrev pub invariant-loop-f : goal.invariant-loop-f

@@ -1,6 +1,6 @@
 use Rattle.std.proofs.Common.{length}
-use Rattle.node_state.specs.rsct_packet.Format.{EachFits}
-use Rattle.node_state.specs.view_state.Codec.{IsSource}
+use Rattle.rsct_packet.specs.Format.{EachFits}
+use Rattle.view_state.specs.Codec.{IsSource}
 use Rattle.packet_codec.proofs.writable_lists.are_sources.Given as goal
 
 abbrev pub invariant-loop-s : goal.invariant-loop-s

@@ -1,7 +1,7 @@
 use Rattle.std.proofs.Common.{◌≡◌, length, map}
-use Rattle.node_state.specs.rsct_packet.Listed.{ascending_from}
-use Rattle.node_state.specs.rsct_packet.declared.ids.Member.{Member}
-use Rattle.node_state.specs.view_state.Codec.{members_ascend}
+use Rattle.rsct_packet.specs.Listed.{ascending_from}
+use Rattle.rsct_packet.specs.declared.ids.Member.{Member}
+use Rattle.view_state.specs.Codec.{members_ascend}
 use Rattle.packet_codec.proofs.writable_lists.do_members_ascend.Given as goal
 
 abbrev pub invariant-loop-m : goal.invariant-loop-m

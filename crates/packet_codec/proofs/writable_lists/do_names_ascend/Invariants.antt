@@ -1,6 +1,6 @@
 use Rattle.std.proofs.Common.{◌≡◌, length}
 use Rattle.std.specs.Prelude.{option_copied}
-use Rattle.node_state.specs.view_state.Codec.{names_ascend, names_ascend_from}
+use Rattle.view_state.specs.Codec.{names_ascend, names_ascend_from}
 use Rattle.packet_codec.proofs.writable_lists.do_names_ascend.Given as goal
 
 abbrev pub invariant-loop-p : goal.invariant-loop-p

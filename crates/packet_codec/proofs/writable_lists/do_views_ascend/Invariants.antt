@@ -1,5 +1,5 @@
 use Rattle.std.proofs.Common.{◌≡◌, length}
-use Rattle.node_state.specs.view_state.Codec.{views_ascend, views_ascend_from}
+use Rattle.view_state.specs.Codec.{views_ascend, views_ascend_from}
 use Rattle.packet_codec.proofs.writable_lists.do_views_ascend.Given as goal
 
 abbrev pub invariant-loop-s : goal.invariant-loop-s

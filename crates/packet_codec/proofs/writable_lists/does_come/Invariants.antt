@@ -1,5 +1,5 @@
 use Rattle.std.proofs.Common.{◌≡◌, length}
-use Rattle.node_state.specs.view_state.Codec.{comes_from}
+use Rattle.view_state.specs.Codec.{comes_from}
 use Rattle.packet_codec.proofs.writable_lists.does_come.Given as goal
 
 abbrev pub invariant-loop-s : goal.invariant-loop-s

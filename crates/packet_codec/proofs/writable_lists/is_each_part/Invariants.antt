@@ -1,6 +1,6 @@
 use Rattle.std.proofs.Common.{length}
-use Rattle.node_state.specs.rsct_packet.Format.{EachFits}
-use Rattle.node_state.specs.view_state.Codec.{IsPart}
+use Rattle.rsct_packet.specs.Format.{EachFits}
+use Rattle.view_state.specs.Codec.{IsPart}
 use Rattle.packet_codec.proofs.writable_lists.is_each_part.Given as goal
 
 abbrev pub invariant-loop-p : goal.invariant-loop-p

@@ -1,6 +1,6 @@
 use Rattle.std.proofs.Common.{◌≡◌, length, map}
-use Rattle.node_state.specs.rsct_packet.Listed.{ascending_from}
-use Rattle.node_state.specs.packet_bodies.Body.{are_report_rows}
+use Rattle.rsct_packet.specs.Listed.{ascending_from}
+use Rattle.packet_bodies.specs.Body.{are_report_rows}
 use Rattle.packet_codec.proofs.writable_packets.are_report_rows.Given as goal
 
 abbrev pub invariant-loop-row : goal.invariant-loop-row

@@ -1,7 +1,7 @@
 use Rattle.std.proofs.Common.{◌≡◌, length}
 use Rattle.std.specs.Prelude.{fold}
-use Rattle.world_packets.specs.world_model.World.{posted}
-use Rattle.world_packets.specs.world_model.World as world
+use Rattle.world_model.specs.World.{posted}
+use Rattle.world_model.specs.World as world
 use Rattle.play_state.specs.Posting.{PacketsStand, bytes_after}
 use Rattle.play_state.proofs.sent_bytes.post_all.Given as goal
 

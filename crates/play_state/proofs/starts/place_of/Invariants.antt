@@ -1,6 +1,6 @@
 use Rattle.std.proofs.Common.{◌≡◌}
-use Rattle.world_packets.specs.rsct_packet.Search.{place_where}
-use Rattle.world_packets.proofs.rsct_packet_laws.SearchLaws.{place_from}
+use Rattle.rsct_packet.specs.Search.{place_where}
+use Rattle.rsct_packet.proofs.SearchLaws.{place_from}
 use Rattle.play_state.specs.Starts.{is_start_of}
 use Rattle.play_state.proofs.starts.place_of.Given as goal
 

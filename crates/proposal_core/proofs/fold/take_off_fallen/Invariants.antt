@@ -1,5 +1,5 @@
 use Rattle.std.proofs.Common.{◌≡◌, take}
-use Rattle.group_attr.specs.rsct_packet.Providers.{without_all}
+use Rattle.rsct_packet.specs.Providers.{without_all}
 use Rattle.proposal_core.specs.Fold.{fallen_of}
 use Rattle.proposal_core.proofs.fold.take_off_fallen.Given as goal
 

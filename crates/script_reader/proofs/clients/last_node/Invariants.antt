@@ -1,5 +1,5 @@
 use Rattle.std.proofs.Common.{◌≡◌, take, find}
-use Rattle.script_words.specs.world_model.Reading.{is_client, node_of_client}
+use Rattle.world_model.specs.Reading.{is_client, node_of_client}
 use Rattle.script_reader.specs.Clients.{newest_first, client_seen}
 use Rattle.script_reader.proofs.clients.last_node.Given as goal
 

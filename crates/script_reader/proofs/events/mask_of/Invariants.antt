@@ -1,6 +1,6 @@
 use Rattle.std.proofs.Common.{◌≡◌, take}
 use Rattle.std.specs.List.{fold}
-use Rattle.node_sending.specs.rsct_packet.Mask.{no_nodes, with_node}
+use Rattle.rsct_packet.specs.Mask.{no_nodes, with_node}
 use Rattle.script_reader.proofs.events.mask_of.Given as goal
 
 abbrev pub invariant-loop-n : goal.invariant-loop-n

@@ -1,7 +1,7 @@
 use Rattle.std.proofs.Common.{◌≡◌, ◌-◌, take}
 use Rattle.std.specs.Prelude.{slice_set}
 use Rattle.std.specs.List.{fold}
-use Rattle.script_words.specs.world_model.Reading.{plain_address}
+use Rattle.world_model.specs.Reading.{plain_address}
 use Rattle.script_reader.proofs.progress.set_plain_addresses.Given as goal
 
 abbrev pub invariant-loop-n : goal.invariant-loop-n

@@ -1,6 +1,6 @@
 use Rattle.std.proofs.Common.{◌≡◌, ◌+◌, ◌≤◌, length}
-use Rattle.script_words.specs.world_model.Words.{split_on}
-use Rattle.script_words.specs.world_model.Reading.{read_from, input_limit, script_of}
+use Rattle.world_model.specs.Words.{split_on}
+use Rattle.world_model.specs.Reading.{read_from, input_limit, script_of}
 use Rattle.script_reader.specs.Reading.{reading_seen}
 use Rattle.script_reader.proofs.script.read_script.Given as goal
 

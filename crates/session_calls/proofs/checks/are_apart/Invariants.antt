@@ -1,5 +1,5 @@
 use Rattle.std.proofs.Common.{◌≡◌, drop}
-use Rattle.session_clients.specs.rsct_packet.Providers.{differ}
+use Rattle.rsct_packet.specs.Providers.{differ}
 use Rattle.session_calls.proofs.checks.are_apart.Given as goal
 
 abbrev pub invariant-loop-i : goal.invariant-loop-i

@@ -1,6 +1,6 @@
 use Rattle.std.proofs.Common.{[], refl, sym, ◌∙◌}
 use Rattle.std.proofs.lemmas.List.{append-nil}
-use Rattle.session_delivery.specs.rsct_packet.declared.ids.ProviderId.{ProviderId}
+use Rattle.rsct_packet.specs.declared.ids.ProviderId.{ProviderId}
 use Rattle.session_clients.specs.Notices.{notified}
 use Rattle.session_clients.proofs.Keeping.{keeps_more}
 use Rattle.session_clients.proofs.Standing.{notified_more, casts_one_more}

@@ -1,9 +1,9 @@
 use Rattle.std.proofs.Common.{◌≡◌, ◌++◌, List, Option, length, take}
 use Rattle.std.specs.Prelude.{map}
-use Rattle.session_delivery.specs.client_callbacks.declared.ballot.Filled.{Filled}
-use Rattle.session_delivery.specs.client_callbacks.Handed.{Handed}
+use Rattle.client_callbacks.specs.declared.ballot.Filled.{Filled}
+use Rattle.client_callbacks.specs.Handed.{Handed}
 use Rattle.session_clients.specs.Clients.{StandFor, KeepsAllBut}
-use Rattle.session_delivery.specs.session_state.HandOn.{casts_of}
+use Rattle.session_state.specs.HandOn.{casts_of}
 use Rattle.session_clients.specs.Notices.{notified, hears_at, Fillings}
 use Rattle.session_clients.proofs.clients.notify.Given as goal
 

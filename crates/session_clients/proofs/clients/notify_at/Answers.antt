@@ -1,5 +1,5 @@
 use Rattle.std.proofs.Math.Seq.{map-set_same}
-use Rattle.session_delivery.specs.client_callbacks.Handed.{Notified, notice_of}
+use Rattle.client_callbacks.specs.Handed.{Notified, notice_of}
 use Rattle.session_clients.proofs.Standing.{stand_more, map_at}
 use Rattle.session_clients.proofs.clients.notify_at.Goals as goal
 

@@ -1,8 +1,8 @@
 use Rattle.std.proofs.Common.{◌≡◌, Some, None, sym, ap, ◌∙◌}
 use Rattle.std.specs.Prelude.{map}
-use Rattle.session_delivery.specs.client_callbacks.Ballots.{BallotView, new_ballot}
-use Rattle.session_delivery.specs.session_state.State.{place_of}
-use Rattle.session_delivery.specs.session_state.HandOn.{asks}
+use Rattle.client_callbacks.specs.Ballots.{BallotView, new_ballot}
+use Rattle.session_state.specs.State.{place_of}
+use Rattle.session_state.specs.HandOn.{asks}
 use Rattle.session_clients.proofs.Standing.{cast_one}
 use Rattle.session_clients.proofs.clients.notify_one.Goals as goal
 

@@ -1,6 +1,6 @@
 use Rattle.std.proofs.Common.{◌<◌, length}
 use Rattle.std.proofs.Math.Seq.{map-set_same}
-use Rattle.session_delivery.specs.client_callbacks.Handed.{Informed}
+use Rattle.client_callbacks.specs.Handed.{Informed}
 use Rattle.session_clients.proofs.Standing.{stand_more}
 use Rattle.session_clients.proofs.clients.tell_at.Goals as goal
 

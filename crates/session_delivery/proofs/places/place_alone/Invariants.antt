@@ -1,6 +1,6 @@
 use Rattle.std.proofs.Common.{◌≡◌}
-use Rattle.session_state.specs.rsct_packet.Search.{place_where}
-use Rattle.session_state.proofs.rsct_packet_laws.SearchLaws.{place_from}
+use Rattle.rsct_packet.specs.Search.{place_where}
+use Rattle.rsct_packet.proofs.SearchLaws.{place_from}
 use Rattle.session_state.specs.State.{is_session}
 use Rattle.session_delivery.proofs.places.place_alone.Given as goal
 

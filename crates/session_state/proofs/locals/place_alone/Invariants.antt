@@ -1,6 +1,6 @@
 use Rattle.std.proofs.Common.{◌≡◌}
-use Rattle.client_callbacks.specs.rsct_packet.Search.{place_where}
-use Rattle.client_callbacks.proofs.rsct_packet_laws.SearchLaws.{place_from}
+use Rattle.rsct_packet.specs.Search.{place_where}
+use Rattle.rsct_packet.proofs.SearchLaws.{place_from}
 use Rattle.session_state.specs.State.{is_provider}
 use Rattle.session_state.proofs.locals.place_alone.Given as goal
 

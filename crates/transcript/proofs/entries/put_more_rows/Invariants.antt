@@ -1,6 +1,6 @@
 use Rattle.std.proofs.Common.{◌≡◌, ◌++◌, take}
 use Rattle.std.specs.Prelude.{codes, flat_map}
-use Rattle.script_words.specs.world_model.Text.{row_text}
+use Rattle.world_model.specs.Text.{row_text}
 use Rattle.transcript.proofs.entries.put_more_rows.Given as goal
 
 abbrev pub invariant-loop-row : goal.invariant-loop-row

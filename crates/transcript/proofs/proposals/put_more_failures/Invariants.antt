@@ -1,6 +1,6 @@
 use Rattle.std.proofs.Common.{◌≡◌, ◌++◌, take}
 use Rattle.std.specs.Prelude.{codes, flat_map}
-use Rattle.script_words.specs.world_model.Text.{failure_text}
+use Rattle.world_model.specs.Text.{failure_text}
 use Rattle.transcript.proofs.proposals.put_more_failures.Given as goal
 
 abbrev pub invariant-loop-f : goal.invariant-loop-f

@@ -1,7 +1,7 @@
 use Rattle.std.proofs.Common.{◌≡◌, ℕ, ◌++◌, take}
 use Rattle.std.specs.Prelude.{map}
-use Rattle.view_exchange.specs.view_state.declared.packet.ViewSend.{ViewSend}
-use Rattle.view_exchange.specs.view_state.declared.packet.ViewPacket.TheVariants as packet
+use Rattle.view_state.specs.declared.packet.ViewSend.{ViewSend}
+use Rattle.view_state.specs.declared.packet.ViewPacket.TheVariants as packet
 use Rattle.view_core.proofs.work.send_install_each.Given as goal
 
 abbrev pub invariant-loop-n : goal.invariant-loop-n

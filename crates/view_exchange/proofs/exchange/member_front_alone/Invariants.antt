@@ -1,6 +1,6 @@
 use Rattle.std.proofs.Common.{◌≡◌}
-use Rattle.view_state.specs.rsct_packet.Search.{front_len}
-use Rattle.view_state.proofs.rsct_packet_laws.SearchLaws.{front_from}
+use Rattle.rsct_packet.specs.Search.{front_len}
+use Rattle.rsct_packet.proofs.SearchLaws.{front_from}
 use Rattle.view_state.specs.Answers.{is_member_above}
 use Rattle.view_exchange.proofs.exchange.member_front_alone.Given as goal
 

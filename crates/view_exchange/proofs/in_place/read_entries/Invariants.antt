@@ -1,4 +1,4 @@
-use Rattle.view_state.specs.rsct_packet.Listed.{Skips}
+use Rattle.rsct_packet.specs.Listed.{Skips}
 use Rattle.view_state.specs.Codec.{sized_entry_at}
 use Rattle.view_exchange.proofs.in_place.read_entries.Given as goal
 

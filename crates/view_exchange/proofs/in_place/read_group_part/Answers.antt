@@ -1,5 +1,5 @@
 use Rattle.std.proofs.Common.{ℕ, List, sym, subst}
-use Rattle.view_state.specs.rsct_packet.Format.{IsBytes}
+use Rattle.rsct_packet.specs.Format.{IsBytes}
 use Rattle.view_exchange.proofs.Formats.{part_fits}
 use Rattle.view_exchange.proofs.in_place.read_group_part.Goals as goal
 

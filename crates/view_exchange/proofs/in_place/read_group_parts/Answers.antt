@@ -1,5 +1,5 @@
 use Rattle.std.proofs.Common.{arith}
-use Rattle.view_state.proofs.rsct_packet_laws.ListedLaws.{skips_stop}
+use Rattle.rsct_packet.proofs.ListedLaws.{skips_stop}
 use Rattle.view_state.specs.Codec.{group_part_at}
 use Rattle.view_exchange.proofs.in_place.read_group_parts.Goals as goal
 

@@ -1,7 +1,7 @@
 use Rattle.std.proofs.Common.{◌≡◌, length}
 use Rattle.std.specs.Prelude.{map}
-use Rattle.view_state.specs.rsct_packet.Listed.{ascending_from}
-use Rattle.view_state.specs.rsct_packet.declared.ids.Member.{Member}
+use Rattle.rsct_packet.specs.Listed.{ascending_from}
+use Rattle.rsct_packet.specs.declared.ids.Member.{Member}
 use Rattle.view_state.specs.Codec.{members_ascend}
 use Rattle.view_exchange.proofs.install_codec.do_members_ascend.Given as goal
 

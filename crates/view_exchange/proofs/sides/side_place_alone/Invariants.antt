@@ -1,6 +1,6 @@
 use Rattle.std.proofs.Common.{◌≡◌}
-use Rattle.view_state.specs.rsct_packet.Search.{place_where}
-use Rattle.view_state.proofs.rsct_packet_laws.SearchLaws.{place_from}
+use Rattle.rsct_packet.specs.Search.{place_where}
+use Rattle.rsct_packet.proofs.SearchLaws.{place_from}
 use Rattle.view_state.specs.Answers.{is_side_of}
 use Rattle.view_exchange.proofs.sides.side_place_alone.Given as goal
 

@@ -1,4 +1,4 @@
-use Rattle.view_state.specs.rsct_packet.Listed.{Skips}
+use Rattle.rsct_packet.specs.Listed.{Skips}
 use Rattle.view_state.specs.Codec.{source_at_front}
 use Rattle.view_exchange.proofs.sources_in_place.read_so_many.Given as goal
 

@@ -1,6 +1,6 @@
 use Rattle.std.proofs.Common.{◌≡◌, ◌-◌, ◌≤◌, length}
-use Rattle.world_model.specs.rsct_packet.Search.{place_where}
-use Rattle.world_model.proofs.rsct_packet_laws.SearchLaws.{place_from}
+use Rattle.rsct_packet.specs.Search.{place_where}
+use Rattle.rsct_packet.proofs.SearchLaws.{place_from}
 use Rattle.world_packets.specs.Packets.{is_waiting}
 use Rattle.world_packets.proofs.packets.place_of.Given as goal
 

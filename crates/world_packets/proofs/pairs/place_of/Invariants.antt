@@ -1,6 +1,6 @@
 use Rattle.std.proofs.Common.{◌≡◌}
-use Rattle.world_model.specs.rsct_packet.Search.{place_where}
-use Rattle.world_model.proofs.rsct_packet_laws.SearchLaws.{place_from}
+use Rattle.rsct_packet.specs.Search.{place_where}
+use Rattle.rsct_packet.proofs.SearchLaws.{place_from}
 use Rattle.world_packets.specs.Packets.{is_from}
 use Rattle.world_packets.proofs.pairs.place_of.Given as goal
 

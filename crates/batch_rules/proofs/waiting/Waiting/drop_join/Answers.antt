@@ -1,4 +1,4 @@
-use Rattle.proposal_core.proofs.rsct_packet_laws.ProviderLaws.{AreProviders-without}
+use Rattle.rsct_packet.proofs.ProviderLaws.{AreProviders-without}
 use Rattle.batch_rules.proofs.waiting.Waiting.drop_join.Goals as goal
 
 pub invariant_of-self : goal.invariant_of-self

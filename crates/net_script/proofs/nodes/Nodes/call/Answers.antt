@@ -1,9 +1,9 @@
 -- The node at its place is called.
 use Rattle.std.proofs.Common.{List, Some, ap, set, subst, ◌∙◌}
-use Rattle.node_core.specs.rsct_packet.Search.{place_where}
-use Rattle.node_core.specs.node_state.Step.{Calls}
+use Rattle.rsct_packet.specs.Search.{place_where}
+use Rattle.node_state.specs.Step.{Calls}
 use Rattle.node_core.specs.Node.{NodeView}
-use Rattle.play_state.specs.world_model.World.{scripts_after}
+use Rattle.world_model.specs.World.{scripts_after}
 use Rattle.net_script.specs.Standing.{is_me, with_scripts, StepsIn}
 use Rattle.net_script.specs.Hands.{NodesHear}
 use Rattle.net_script.proofs.HearLaws.{hears_by}

@@ -1,8 +1,8 @@
 -- Behind those of smaller numbers.
 use Rattle.std.proofs.Common.{ap, ◌∙◌}
 use Rattle.std.specs.Prelude.{insert}
-use Rattle.node_core.specs.rsct_packet.Search.{front_len, insert_before}
-use Rattle.node_core.proofs.rsct_packet_laws.SearchLaws.{insert_at_front}
+use Rattle.rsct_packet.specs.Search.{front_len, insert_before}
+use Rattle.rsct_packet.proofs.SearchLaws.{insert_at_front}
 use Rattle.net_script.specs.Standing.{comes_before}
 use Rattle.net_script.proofs.nodes.Nodes.insert.Goals as goal
 

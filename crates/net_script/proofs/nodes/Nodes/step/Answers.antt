@@ -1,6 +1,6 @@
 -- The node at its place steps.
 use Rattle.std.proofs.Common.{List, Some, ap, set, subst, ◌∙◌}
-use Rattle.node_core.specs.rsct_packet.Search.{place_where}
+use Rattle.rsct_packet.specs.Search.{place_where}
 use Rattle.node_core.specs.Event.{event_in}
 use Rattle.node_core.specs.Node.{NodeView}
 use Rattle.net_script.specs.Standing.{is_me, StepsIn}

@@ -1,9 +1,9 @@
 -- In mode fixed the nodes of the domain start.
 use Rattle.std.proofs.Common.{List, ℕ, sym, ◌∙◌, subst}
 use Rattle.std.specs.Prelude.{fold}
-use Rattle.node_core.specs.rsct_packet.Mask.{nodes_of}
-use Rattle.play_state.specs.world_model.World.{node_starts, empty_world, world_new}
-use Rattle.play_state.specs.world_model.World as world
+use Rattle.rsct_packet.specs.Mask.{nodes_of}
+use Rattle.world_model.specs.World.{node_starts, empty_world, world_new}
+use Rattle.world_model.specs.World as world
 use Rattle.net_script.specs.declared.world.World.{World}
 use Rattle.net_script.specs.Standing.{Stands, Goes, kept_empty}
 use Rattle.net_script.proofs.BeginLaws.{begins_fixed, begins_down}

@@ -1,7 +1,7 @@
 -- The node that is up is called, or refuses.
 use Rattle.std.proofs.Common.{refl, ap}
 use Rattle.std.proofs.lemmas.Result.{on_ok_weaker}
-use Rattle.node_core.specs.node_state.Step.{Calls}
+use Rattle.node_state.specs.Step.{Calls}
 use Rattle.net_script.proofs.CallLaws.{call_refuses, call_goes, call_passes}
 use Rattle.net_script.proofs.HearLaws.{step_heard, refusal_heard}
 use Rattle.net_script.proofs.world.World.call.Goals as goal

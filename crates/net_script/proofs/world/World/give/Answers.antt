@@ -1,9 +1,9 @@
 -- The packet is taken, and its receiver steps.
 use Rattle.std.proofs.Common.{refl, sym, ap, ◌∙◌}
 use Rattle.std.proofs.lemmas.Result.{on_ok_weaker}
-use Rattle.node_core.specs.node_state.Bytes.{event_of}
-use Rattle.play_state.specs.world_model.World.{kth_in}
-use Rattle.play_state.specs.world_packets.Packets.{Kept, world_pairs, find_pair}
+use Rattle.node_state.specs.Bytes.{event_of}
+use Rattle.world_model.specs.World.{kth_in}
+use Rattle.world_packets.specs.Packets.{Kept, world_pairs, find_pair}
 use Rattle.net_script.proofs.GivingLaws.{gives_nothing, gives_missing, gives_goes, gives_passes, bytes_given}
 use Rattle.net_script.proofs.HearLaws.{nothing_given_heard, given_heard, given_unheard}
 use Rattle.net_script.proofs.world.World.give.Goals as goal

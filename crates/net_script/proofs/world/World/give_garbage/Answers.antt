@@ -1,8 +1,8 @@
 -- No bytes are no packet.
 use Rattle.std.proofs.Common.{ℕ, OnOk, IsErrOf, subst}
-use Rattle.node_core.specs.node_state.Step.{NodeEvent}
-use Rattle.play_state.specs.world_model.World.{node_at, node_steps}
-use Rattle.world_safety.specs.world_laws.world_answers.Answers.{step_by_if}
+use Rattle.node_state.specs.Step.{NodeEvent}
+use Rattle.world_model.specs.World.{node_at, node_steps}
+use Rattle.world_laws.specs.world_answers.Answers.{step_by_if}
 use Rattle.play_state.specs.declared.world_fault.WorldFault.TheVariants.{TooMuchKept}
 use Rattle.net_script.specs.Standing.{Goes, Passes, Comes}
 use Rattle.net_script.specs.Hands.{NodeHands, HearsAs}

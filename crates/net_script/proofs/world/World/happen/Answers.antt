@@ -1,6 +1,6 @@
 -- Each kind of event is what its call does.
-use Rattle.play_state.specs.world_model.World.{happens}
-use Rattle.world_safety.specs.world_laws.world_answers.Answers.{happens_by}
+use Rattle.world_model.specs.World.{happens}
+use Rattle.world_laws.specs.world_answers.Answers.{happens_by}
 use Rattle.net_script.proofs.WorldLaws.{comes_anyway}
 use Rattle.net_script.proofs.world.World.happen.Goals as goal
 

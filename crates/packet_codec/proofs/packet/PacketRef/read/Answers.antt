@@ -1,4 +1,4 @@
-use Rattle.node_state.specs.rsct_packet.Packet.{packet_view}
+use Rattle.rsct_packet.specs.Packet.{packet_view}
 use Rattle.packet_codec.proofs.BodyFormats.{has_kind}
 use Rattle.packet_codec.proofs.packet.PacketRef.read.Goals as goal
 

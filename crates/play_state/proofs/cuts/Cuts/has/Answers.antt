@@ -1,6 +1,6 @@
 use Rattle.std.proofs.Common.{ap, ◌∙◌}
 use Rattle.std.specs.List.{list_any}
-use Rattle.world_packets.specs.world_model.Play.{is_cut_of}
+use Rattle.world_model.specs.Play.{is_cut_of}
 use Rattle.play_state.specs.Cuts.{cut_in}
 use Rattle.play_state.proofs.CutLaws.{any_in}
 use Rattle.play_state.proofs.cuts.Cuts.has.Goals as goal

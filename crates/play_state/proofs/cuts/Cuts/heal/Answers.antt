@@ -1,6 +1,6 @@
 use Rattle.std.proofs.Common.{ap, map, not, ◌∙◌}
 use Rattle.std.specs.List.{list_any}
-use Rattle.world_packets.specs.world_model.Play.{is_cut_of, networks_in, healed}
+use Rattle.world_model.specs.Play.{is_cut_of, networks_in, healed}
 use Rattle.play_state.specs.Cuts.{cut_in}
 use Rattle.play_state.proofs.CutLaws.{kept_in}
 use Rattle.play_state.proofs.cuts.Cuts.heal.Goals as goal

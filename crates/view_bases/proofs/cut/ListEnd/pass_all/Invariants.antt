@@ -1,5 +1,5 @@
 use Rattle.std.proofs.Common.{◌≡◌, IsTrue, drop}
-use Rattle.view_state.specs.proposal_core.Fold.{joiners_fit}
+use Rattle.proposal_core.specs.Fold.{joiners_fit}
 use Rattle.view_state.specs.Cut.{all_fit}
 use Rattle.view_bases.specs.Fitting.{list_with}
 use Rattle.view_bases.proofs.cut.ListEnd.pass_all.Given as goal

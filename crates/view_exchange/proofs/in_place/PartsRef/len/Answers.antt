@@ -1,4 +1,4 @@
-use Rattle.view_state.proofs.rsct_packet_laws.ListedLaws.{listed_length}
+use Rattle.rsct_packet.proofs.ListedLaws.{listed_length}
 use Rattle.view_state.specs.Codec.{group_part_at}
 use Rattle.view_exchange.proofs.in_place.PartsRef.len.Goals as goal
 

@@ -1,5 +1,5 @@
 use Rattle.std.proofs.Common.{sym, ◌∙◌}
-use Rattle.view_state.proofs.rsct_packet_laws.ListedLaws.{listed_empty, listed_first, listed_stop}
+use Rattle.rsct_packet.proofs.ListedLaws.{listed_empty, listed_first, listed_stop}
 use Rattle.view_state.specs.Codec.{source_at_front}
 use Rattle.view_exchange.proofs.sources_in_place.SourcesRef.take_first.Goals as goal
 

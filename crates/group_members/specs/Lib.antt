@@ -1,1 +1,0 @@
-pub use Rattle.group_leading.specs.client_callbacks as client_callbacks

@@ -1,2 +1,0 @@
-pub mod Below
-pub use Rattle.session_clients.proofs.rsct_packet_laws as rsct_packet_laws
