@@ -1,5 +1,6 @@
-//! Cuts messages of 1, 10 and 1,000 pieces and joins them. With the word `rates` it does so with 50,000 pieces of each
-//! and prints how long a piece and a byte took; with none it does so with 1,000 pieces and prints the counts alone.
+//! Cuts messages of 1, 10 and 1,000 pieces and joins them, with the pieces in their order and backwards. With the word
+//! `rates` it does so with 50,000 pieces of each and prints how long a piece and a byte took; with none it does so with
+//! 1,000 pieces and prints the counts alone.
 #![tactic(auto)]
 
 use piece_link::{Joiner, PIECE_SIZE, cut};
@@ -15,8 +16,10 @@ const COUNTS: [u32; 3] = [1, 10, 1000];
 struct Measured {
     cut: u32,
     joined: u32,
+    joined_backwards: u32,
     cutting: Duration,
     joining: Duration,
+    joining_backwards: Duration,
 }
 
 fn message_of(alloc: Global, count: u32) -> Result<Vec<u8>, AllocError> {
@@ -35,13 +38,20 @@ fn cut_all(alloc: Global, message: &[u8], messages: u32, pieces: &mut Vec<Vec<u8
     done
 }
 
-/// How many messages the pieces are joined to.
-fn join_all(alloc: Global, pieces: &[Vec<u8>]) -> u32 {
+/// How many messages the pieces are joined to: so many of each, in their order or from the last to the first.
+fn join_all(alloc: Global, pieces: &[Vec<u8>], count: u32, backwards: bool) -> u32 {
     let mut joiner = Joiner::new();
     let mut done = 0u32;
-    for piece in pieces {
-        if let Ok(Some(_)) = joiner.take(alloc, piece.as_slice()) {
-            done = done.saturating_add(1);
+    for message in pieces.chunks(count.max(1) as usize) {
+        for at in 0..message.len() {
+            let place = if backwards {
+                message.len() - 1 - at
+            } else {
+                at
+            };
+            if let Ok(Some(_)) = joiner.take(alloc, message[place].as_slice()) {
+                done = done.saturating_add(1);
+            }
         }
     }
     done
@@ -60,13 +70,18 @@ fn measure<R: std::rt::Clock>(
     let cut = cut_all(alloc, message.as_slice(), total / count.max(1), &mut pieces);
     let cutting = start.elapsed(rt)?;
     let start = Instant::now(rt)?;
-    let joined = join_all(alloc, pieces.as_slice());
+    let joined = join_all(alloc, pieces.as_slice(), count, false);
     let joining = start.elapsed(rt)?;
+    let start = Instant::now(rt)?;
+    let joined_backwards = join_all(alloc, pieces.as_slice(), count, true);
+    let joining_backwards = start.elapsed(rt)?;
     Ok(Measured {
         cut,
         joined,
+        joined_backwards,
         cutting,
         joining,
+        joining_backwards,
     })
 }
 
@@ -97,10 +112,13 @@ fn report<R: std::rt::Clock + Print>(
 ) -> io::Result<()> {
     let measured = measure(rt, alloc, count, total)?;
     let (messages, joined) = (measured.cut, measured.joined);
-    println!(rt; "{messages} messages of {count} pieces cut, {joined} joined")?;
+    let again = measured.joined_backwards;
+    println!(rt; "{messages} messages of {count} pieces cut, {joined} joined, {again} backwards")?;
     if let Some((lone_cut, lone_joined)) = lone {
         let cutting = each(measured.cutting, total);
         let joining = each(measured.joining, total);
+        let backwards = each(measured.joining_backwards, total);
+        let backwards_ratio = hundredths(backwards, lone_joined);
         let (cut_kib, join_kib) = (of_kib(cutting), of_kib(joining));
         let (cut_ratio, join_ratio) = (
             hundredths(cutting, lone_cut),
@@ -109,6 +127,7 @@ fn report<R: std::rt::Clock + Print>(
         println!(rt; "  a piece: {cutting} ns to cut, {joining} ns to join")?;
         println!(rt; "  1,024 bytes: {cut_kib} ns to cut, {join_kib} ns to join")?;
         println!(rt; "  in hundredths of a lone piece: {cut_ratio} to cut, {join_ratio} to join")?;
+        println!(rt; "  backwards: {backwards} ns to join, {backwards_ratio} hundredths")?;
     }
     Ok(())
 }

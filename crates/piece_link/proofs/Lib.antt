@@ -3,11 +3,13 @@ pub mod GreatestLaw
 pub mod LastLaw
 pub mod OnceLaw
 pub mod OrderLaws
+pub mod PageLaws
 pub mod PartLaws
 pub mod PieceLaws
 pub mod ReadLaws
 pub mod RowLaws
 pub mod SelfLaw
+pub mod SlotLaws
 pub mod StepLaws
 pub mod UnchangedLaw
 pub mod WholeLaws

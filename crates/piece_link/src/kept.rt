@@ -1,79 +1,119 @@
 //! What a joiner keeps of one sender: the newest message that came, as far as it came.
-ghost use Rattle.std.specs.Prelude.{◌≡◌, ℕ, List, [], length, map, None, Some, OnOk, OnErr, IfOk, option_map};
-ghost use Rattle.std.specs.Ordering.{nat_cmp};
-ghost use Rattle.std.specs.BTreeMap.{insert_entry, is_at};
-ghost use Rattle.std.specs.Map.{lookup, remove_entry};
+ghost use Rattle.std.specs.Prelude.{◌≡◌, ◌≤◌, ℕ, List, [], length, false, None, Some, OnOk, OnErr, IfOk, option_map};
 ghost use Rattle.piece_link.specs.Joining.{first_taken, has_part, is_newer, is_same, kept_taken, opened, whole_of, with_part, with_piece};
 
-use crate::piece::{PIECE_SIZE, PieceHead};
+use crate::piece::PieceHead;
+use crate::slots::{Place, Slots};
 use rsct_packet::NoMemory;
 use std::alloc::Global;
-use std::collections::BTreeMap;
 use std::marker::Model;
+use std::mem;
 
-/// The data of the pieces that came, by their indices. Memory is taken as they come: what a piece claims of the count
-/// of its message's pieces, or as its own index, costs nothing.
+/// The data of the pieces that came, by their indices. They stand one after the other as they came, each copied once,
+/// and the slot of its index says where. Memory is taken as they come: what a piece claims of the count of its
+/// message's pieces costs nothing, and its own index at most a page of slots and a row for each page before it, 12 KiB
+/// in all.
 #[derive(Drop)]
 pub struct Parts {
-    texts: BTreeMap<u32, Vec<u8>>,
+    slots: Slots,
+    bytes: Vec<u8>,
+    len: usize,
+    // One past the greatest index that came.
+    end: usize,
+    // Came each after all that are of lesser indices?
+    in_order: bool,
 }
 
 impl Model for Parts {
-    ghost use Rattle.std.specs.Prelude.{ℕ, List, map};
+    ghost use Rattle.std.specs.Prelude.{ℕ, List};
 
     ghost Value = { List (ℕ × List ℕ) };
 
-    ghost view = { λ p. map (λ e. (e.0, e.1.items)) p.texts.entries };
+    ghost use Rattle.piece_link.specs.Slots.{parts_below, text_at, AreHeld};
+
+    ghost view = { λ p. parts_below p.end (text_at p.slots p.bytes.items) };
+
+    ghost invariant = { λ p. AreHeld p.slots p.bytes.items p.len p.end p.in_order };
 }
 
 impl Parts {
+    #[tactic(auto, unfolding(crate::specs::Slots::parts_below, crate::specs::Slots::joined_below))]
     fn new(alloc: Global) -> Parts
         ensures { result ≡ [] }
     {
         Parts {
-            texts: BTreeMap::new(alloc),
+            slots: Slots::new(alloc),
+            bytes: Vec::new(alloc),
+            len: 0,
+            end: 0,
+            in_order: true,
         }
     }
 
     fn len(&self) -> usize
-        ensures { result ≡ length self.now }
+        ensures value { result ≡ length self.now }
+        ensures most { result ≤ 4294967296 }
     {
-        self.texts.len()
+        self.len
     }
 
     /// Did the piece of this index come?
-    #[tactic(auto, using(crate::proofs::PartLaws::looked_up))]
     fn has(&self, index: u32) -> bool
         ensures { result ≡ has_part self.now index }
     {
-        self.texts.contains_key(&index)
+        let at = index as usize;
+        at < self.end && self.slots.get(at).is_some()
     }
 
-    #[tactic(auto, using(crate::proofs::PartLaws::inserted))]
+    /// Adds the data of a piece that had not come.
     fn insert(&mut self, alloc: Global, index: u32, text: &[u8]) -> Result<(), NoMemory>
+        requires { has_part self.old index ≡ false }
         ensures ok { OnOk result (self.new ≡ with_part self.old index text.now) }
         ensures err { OnErr result (self.new ≡ self.old) }
     {
-        let text = Vec::from_slice(alloc, text)?;
-        self.texts.insert(index, text)?;
+        let at = index as usize;
+        self.slots.make(alloc, at)?;
+        let start = self.bytes.len();
+        self.bytes.extend_from_slice(text)?;
+        let end = self.bytes.len();
+        self.slots.put(at, Place { start, end });
+        self.in_order = self.in_order && self.end <= at;
+        self.end = self.end.max(at + 1);
+        self.len += 1;
         Ok(())
     }
 
-    #[tactic(auto, using(crate::proofs::PartLaws::removed))]
-    fn remove(&mut self, index: u32)
-        ensures { self.new ≡ remove_entry (is_at (nat_cmp index)) self.old }
+    /// The message, whose last missing piece has these data. Where the pieces came in the order of their indices their
+    /// data are handed over as they stand, and nothing is kept; else they are put together.
+    fn finish(&mut self, alloc: Global, index: u32, text: &[u8]) -> Result<Vec<u8>, NoMemory>
+        requires { has_part self.old index ≡ false }
+        ensures ok { IfOk result (λ m. m.items ≡ whole_of (with_part self.old index text.now)) }
+        ensures err { OnErr result (self.new ≡ self.old) }
     {
-        let _ = self.texts.remove(&index);
+        let at = index as usize;
+        if !self.in_order || at < self.end {
+            return self.put_together(alloc, index, text);
+        }
+        self.bytes.extend_from_slice(text)?;
+        let message = mem::replace(&mut self.bytes, Vec::new(alloc));
+        *self = Parts::new(alloc);
+        Ok(message)
     }
 
-    /// All data, one after the other.
-    fn joined(&self, alloc: Global) -> Result<Vec<u8>, NoMemory>
-        ensures { IfOk result (λ m. m.items ≡ whole_of self.now) }
+    /// All data in the order of the indices, with these of a piece that had not come.
+    fn put_together(&self, alloc: Global, index: u32, text: &[u8]) -> Result<Vec<u8>, NoMemory>
+        requires { has_part self.now index ≡ false }
+        ensures { IfOk result (λ m. m.items ≡ whole_of (with_part self.now index text.now)) }
     {
-        let room = self.texts.len().saturating_mul(PIECE_SIZE);
+        let at = index as usize;
+        let room = self.bytes.len().saturating_add(text.len());
         let mut message = Vec::with_capacity(alloc, room)?;
-        for text in self.texts.values() {
-            message.extend_from_slice(text.as_slice())?;
+        for i in 0..self.end.max(at + 1) {
+            if i == at {
+                message.extend_from_slice(text)?;
+            } else if let Some(place) = self.slots.get(i) {
+                message.extend_from_slice(&self.bytes[place.start..place.end])?;
+            }
         }
         Ok(message)
     }
@@ -124,7 +164,6 @@ impl Kept {
     }
 
     /// Takes the data of one more piece, and answers the message where it was the last missing one.
-    #[tactic(auto, using(crate::proofs::PartLaws::taken_back))]
     fn put(&mut self, alloc: Global, index: u32, text: &[u8]) -> Result<Option<Vec<u8>>, NoMemory>
         ensures ok { IfOk result (λ m.
             (self.new, option_map (λ v. v.items) m) ≡ with_piece self.old index text.now) }
@@ -136,20 +175,13 @@ impl Kept {
         if parts.has(index) {
             return Ok(None);
         }
-        parts.insert(alloc, index, text)?;
-        if parts.len() != self.count as usize {
+        if parts.len() + 1 != self.count as usize {
+            parts.insert(alloc, index, text)?;
             return Ok(None);
         }
-        match parts.joined(alloc) {
-            Ok(message) => {
-                self.parts = None;
-                Ok(Some(message))
-            }
-            Err(e) => {
-                parts.remove(index);
-                Err(e)
-            }
-        }
+        let message = parts.finish(alloc, index, text)?;
+        self.parts = None;
+        Ok(Some(message))
     }
 
     /// Takes a piece of the sender: of a newer message it takes the place of what was kept, of the kept one it is one

@@ -6,6 +6,7 @@ mod joiner;
 mod kept;
 pub mod laws;
 mod piece;
+mod slots;
 
 pub use cutting::cut;
 pub use joiner::Joiner;
