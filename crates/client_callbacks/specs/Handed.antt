@@ -26,9 +26,9 @@ pub record NoticeView : Type 0 where
 abbrev pub notice_of : Notice → NoticeView
 notice_of n = record { p = n.p; view = n.view; group = n.group.now; place = n.place; entry = n.entry.now; after = n.after.now; votes = n.votes }
 
--- what a client is handed or told
+-- what a client is handed, with what it filled into the ballot that comes with the notice, or told
 pub data Handed : Type 0 where
-  Notified : (n : NoticeView) → Handed
+  Notified : (n : NoticeView) (filled : Option Filled) → Handed
   Informed : (t : Told) → Handed
 
 -- the phase that runs, 0 where nothing does

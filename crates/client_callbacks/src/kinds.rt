@@ -1,5 +1,5 @@
 //! Kinds of clients.
-ghost use Rattle.std.specs.Prelude.{◌≡◌, ◌∷◌, ◌++◌, [], List, Option, Some, None, OnOk, IfOk};
+ghost use Rattle.std.specs.Prelude.{◌≡◌, ◌∷◌, ◌++◌, [], List, Option, Some, None, true, false, is_none, OnOk, IfOk};
 ghost use Rattle.std.specs.Option.{option_map};
 ghost use Rattle.proposal_core.specs.declared.entry.Vote.TheVariants.{Approve};
 ghost use Rattle.client_callbacks.specs.declared.votes.VoteItem.{VoteItem};
@@ -113,17 +113,32 @@ impl Callbacks for BoxedClient {
     }
 }
 
-/// A client of a daemon: one that a votes word says, or an object that was handed in.
+/// A client of a daemon: one that a votes word says, or an object that was handed in. Its script is none exactly at
+/// an object: since no call changes the script, no call makes the one kind of client into the other.
 #[derive(Drop)]
 pub enum DaemonClient {
     Script(ScriptClient),
     Boxed(BoxedClient),
 }
 
+impl DaemonClient {
+    /// Is it an object that was handed in?
+    pub fn is_boxed(&self) -> bool
+        ensures value { result ≡ script_in (λ (c : _). false) (λ (b : _). true) self.now }
+        ensures script { result ≡ is_none (script_in (λ (c : _). Some c.items) (λ (b : _). None)
+            self.now) }
+    {
+        match self {
+            DaemonClient::Script(_) => false,
+            DaemonClient::Boxed(_) => true,
+        }
+    }
+}
+
 impl Callbacks for DaemonClient {
     ghost stands_for = { λ d h. ForDaemon (λ (c : _). Unit {0}) (λ (b : _). (Callbacks-box b.inner).stands_for b.inner.value h) d };
 
-    ghost script = { λ d. script_in (λ (c : _). Some c.items) (λ (b : _). (Callbacks-box b.inner).script b.inner.value) d };
+    ghost script = { λ d. script_in (λ (c : _). Some c.items) (λ (b : _). None) d };
 
     fn notice(&mut self, notice: &Notice<'_>, ballot: &mut Ballot) -> Result<(), NoMemory> {
         match self {

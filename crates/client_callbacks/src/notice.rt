@@ -27,16 +27,18 @@ pub struct Notice<'a> {
 /// A client: an object that is handed notices, which it may answer with a vote, and that is told what becomes
 /// of its requests and subscriptions. After `NoMemory` nothing is said of the object.
 pub trait Callbacks: Drop {
-    /// It was handed these, in this order. An object need not keep them.
+    /// It was handed these, in this order, and filled these ballots. An object need not keep them.
     ghost stands_for: { Self → List Handed → Type 0 };
 
     /// The items that say how it votes in each phase, where it votes by such items.
     ghost script: { Self → Option (List (Option VoteItem)) };
 
-    /// Hands it a notice, with a ballot to fill.
+    /// Hands it a notice, with a ballot to fill. What it stands for then tells the notice with what the ballot is
+    /// filled with, or that it is not filled.
     fn notice(&mut self, notice: &Notice<'_>, ballot: &mut Ballot) -> Result<(), NoMemory>
         ensures stands { (h : List Handed) → stands_for self.old h
-            → OnOk result (stands_for self.new (h ++ Notified (notice_of notice.now) ∷ [])) }
+            → OnOk result (stands_for self.new (h ++ Notified (notice_of notice.now)
+            ballot.new.filled ∷ [])) }
         ensures script { OnOk result (script self.new ≡ script self.old) }
         ensures fills { OnOk result
             (Fills (script self.old) notice.now.after.now ballot.old ballot.new) }

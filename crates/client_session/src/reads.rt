@@ -1,31 +1,18 @@
 //! What a node reads of its sessions.
 ghost use Rattle.std.specs.Prelude.{◌≡◌, IfOk, is_some, find, slice_get, option_copied};
-ghost use Rattle.rsct_packet.specs.Search.{place_where};
 ghost use Rattle.subscribe_core.specs.Subs.{notes_of};
-ghost use Rattle.session_state.specs.State.{is_session, is_named, provider_of, client_token, member_token, sub_token, client_name};
+ghost use Rattle.session_state.specs.State.{is_session, provider_of, client_token, member_token, sub_token, client_name};
 ghost use Rattle.session_clients.specs.Clients.{client_named};
 
 use crate::sessions::Sessions;
 use client_callbacks::Callbacks;
 use proposal_core::GroupState;
 use rsct_packet::{NoMemory, ProviderId};
-use session_calls::{client_token, member_token, sub_token};
+use session_calls::{client_token, member_token, session_place, sub_token};
 use session_delivery::is_live;
 use session_state::{KeptBallot, MemberToken, Provider, Request, Session};
 use std::alloc::Global;
 use subscribe_core::{ClientToken, SubToken, Subscription, Tokens};
-
-#[tactic(auto, using(rsct_packet::proofs::SearchLaws::place_search))]
-fn place(rows: &[Session], name: &[u8]) -> Option<usize>
-    ensures { result ≡ place_where (is_named name.now) rows.now }
-{
-    for (i, row) in rows.iter().enumerate() {
-        if row.name.as_slice() == name {
-            return Some(i);
-        }
-    }
-    None
-}
 
 fn session_of(rows: &[Session], client: ClientToken) -> Option<&Session>
     ensures { option_copied result ≡ find (is_session client) rows.now }
@@ -87,7 +74,7 @@ impl<C: Callbacks> Sessions<C> {
     pub fn client(&self, name: &[u8]) -> Option<&C>
         ensures { option_copied result ≡ client_named self.now name.now }
     {
-        match place(self.state().sessions.as_slice(), name) {
+        match session_place(self.state(), name) {
             None => None,
             Some(i) => self.clients().get(i),
         }

@@ -7,7 +7,7 @@ ghost use Rattle.client_callbacks.specs.Handed.{Handed};
 ghost use Rattle.session_state.specs.State.{no_sessions, client_place, place_of};
 ghost use Rattle.session_state.specs.Calls.{Answers, AnswersAlways, inited, joined, left, expelled, state_changed, message_sent, attributes_changed, voted, subscribe_taken, unsubscribe_taken, goodbye_taken, removed_at};
 ghost use Rattle.session_state.specs.HandOn.{hearers, casts_out, handed_on, takes_telling, take_telling, subscriber_of};
-ghost use Rattle.session_clients.specs.Clients.{StandFor, is_at, KeepsAllBut, KeepsScripts};
+ghost use Rattle.session_clients.specs.Clients.{StandFor, StandAfter, is_at, KeepsAllBut, KeepsScripts};
 ghost use Rattle.session_clients.specs.Notices.{notified, hears_at, told_lists, noted_lists, Fillings};
 
 use client_callbacks::{Callbacks, Told, Why};
@@ -251,7 +251,7 @@ impl<C: Callbacks> Sessions<C> {
     /// Hands an entry on: each local provider that takes part hears it, members before the entry first, then
     /// running joiners, then new ones. Its client may fill a ballot where the entry asks for votes. `before` and
     /// `after` are the group's states before and after the entry. What was handed and cast goes to the end of
-    /// `out`. A client that is handed nothing keeps its value, also where memory runs out.
+    /// `out`: each client stands for its notice with the ballot that is cast. A client that is handed nothing keeps its value, also where memory runs out.
     pub fn hand_on(
         &mut self,
         alloc: Global,
@@ -264,10 +264,6 @@ impl<C: Callbacks> Sessions<C> {
         out: &mut Casts,
     ) -> Result<(), NoMemory>
         requires { IsTrue (joiners_fit after.now) }
-        ensures stand { (hs : List (List Handed)) → StandFor C.stands_for self.old.clients hs
-            → OnOk result (StandFor C.stands_for self.new.clients
-            (notified self.old.state view group.now place entry.now after.now
-            (hearers self.old.state group.now before.now entry.now) hs)) }
         ensures scripts { OnOk result (KeepsScripts C.script self.old.clients self.new.clients) }
         ensures others { KeepsAllBut (hears_at self.old.state
             (hearers self.old.state group.now before.now entry.now)) self.old.clients
@@ -277,7 +273,9 @@ impl<C: Callbacks> Sessions<C> {
             (hearers self.old.state group.now before.now entry.now) bs
             × (self.new.state ≡ handed_on self.old.state group.now before.now after.now entry.now
             bs) × (out.new ≡ out.old ++ casts_out self.old.state group.now before.now after.now
-            entry.now bs)) }
+            entry.now bs) × StandAfter C.stands_for self.old.clients self.new.clients
+            (notified self.old.state view group.now place entry.now after.now
+            (casts_out self.old.state group.now before.now after.now entry.now bs))) }
     {
         let voters = after.voters(alloc)?;
         let n = NewEntry {

@@ -69,6 +69,11 @@ is_for_back s t place (happened.Heard p v g i e members value) keeps lives h = b
     by : StaysOf s t p ⊎ IsDropped t p → (place ≡ place_of s p) × (provider_of s p ≡ None → ⊥)
     by (inl a) = (h.0 ∙ a.place, λ e. h.1 (a.live e))
     by (inr d) = absurd (h.1 d.live)
+is_for_back s t place (happened.Cast p proto phase vote value message) keeps lives h = by (keeps p)
+  where
+    by : StaysOf s t p ⊎ IsDropped t p → (place ≡ place_of s p) × (provider_of s p ≡ None → ⊥)
+    by (inl a) = (h.0 ∙ a.place, λ e. h.1 (a.live e))
+    by (inr d) = absurd (h.1 d.live)
 is_for_back s t place (happened.Told p r why) keeps lives h = by (keeps p)
   where
     by : StaysOf s t p ⊎ IsDropped t p → (place ≡ place_of s p) × (provider_of s p ≡ None → outstanding s p ≡ None → ⊥)
@@ -82,7 +87,6 @@ is_for_back s t place (happened.Ring n network ring members neighbour) keeps liv
 is_for_back s t place (happened.In n v ms) keeps lives h = absurd h
 is_for_back s t place (happened.Base n v g old len st) keeps lives h = absurd h
 is_for_back s t place (happened.Put n v g i e) keeps lives h = absurd h
-is_for_back s t place (happened.Cast p proto phase vote value message) keeps lives h = absurd h
 is_for_back s t place (happened.Asked p r g x) keeps lives h = absurd h
 is_for_back s t place (happened.Refused n client fault) keeps lives h = absurd h
 is_for_back s t place (happened.Shown n line) keeps lives h = absurd h
@@ -95,13 +99,13 @@ pub are_for_both : (s : SessionState) (xs ys : List Handing) → AreFor s xs →
 are_for_both s [] ys a b = b
 are_for_both s (x ∷ xs) ys a b = (a.0, are_for_both s xs ys a.1 b)
 
-after_both : (xs ys : List Handing) (rss : List (List Logged)) → after_handings (xs ++ ys) rss ≡ after_handings ys (after_handings xs rss)
+pub after_both : (xs ys : List Handing) (rss : List (List Logged)) → after_handings (xs ++ ys) rss ≡ after_handings ys (after_handings xs rss)
 unfolding after_handings
 after_both [] ys rss = refl
 after_both (h ∷ xs) ys rss = after_both xs ys (given_to h.place (logged h) rss)
 
 pub receive_then : {C : Type 0} (R : C → List Handed → Type 0) (cs ds es : List C) → Joins (Receive R cs ds) (Receive R ds es) (Receive R cs es)
-receive_then R cs ds es xs ys a b rss h = rw (after_both xs ys rss) (b (after_handings xs rss) (a rss h))
+receive_then R cs ds es xs ys a b firsts rss h = rw (after_both xs ys rss) (b firsts (after_handings xs rss) (a firsts rss h))
 
 pub joins_nothing : (P : List Handing → Type 0) → Joins P IsNothing P
 joins_nothing P xs ys p none = rw (none, append-nil xs) p
@@ -109,7 +113,7 @@ joins_nothing P xs ys p none = rw (none, append-nil xs) p
 -- nothing is handed to anyone
 pub receive_nothing : {C : Type 0} (R : C → List Handed → Type 0) (cs : List C) → Receive R cs cs []
 unfolding after_handings
-receive_nothing R cs rss h = h
+receive_nothing R cs firsts rss h = h
 
 -- ---- the states of groups along the records of what is handed
 
@@ -124,9 +128,11 @@ stated_then s t u a b xs ys first next o =
     ∙ (ap (λ (ls : List Logged). logged_by xs ++ ls) (logged_same b.records (λ g. state_along g a.records (state_of s g)) (state_of t) (λ g. sym (a.states o g)) ∙ next (a.order o))
     ∙ sym (logged_apart xs ys)))
 
-unlogged : (rs : List Happened) (states : List ℕ → GroupState) → handed_in rs ≡ [] → logged_in rs states ≡ []
+-- records that tell nothing that was handed
+pub unlogged : (rs : List Happened) (states : List ℕ → GroupState) → handed_in rs ≡ [] → logged_in rs states ≡ []
 unlogged [] states h = refl
 unlogged (happened.Heard p v g i e members value ∷ rs) states h = absurd cc
+unlogged (happened.Cast p proto phase vote value message ∷ rs) states h = absurd cc
 unlogged (happened.Told p r why ∷ rs) states h = absurd cc
 unlogged (happened.Noted node client v i told ∷ rs) states h = absurd cc
 unlogged (happened.Up n i ∷ rs) states h = unlogged rs (λ k. state_then k (happened.Up n i) (states k)) h
@@ -135,7 +141,6 @@ unlogged (happened.Ring n network ring members neighbour ∷ rs) states h = unlo
 unlogged (happened.In n v ms ∷ rs) states h = unlogged rs (λ k. state_then k (happened.In n v ms) (states k)) h
 unlogged (happened.Base n v g old len st ∷ rs) states h = unlogged rs (λ k. state_then k (happened.Base n v g old len st) (states k)) h
 unlogged (happened.Put n v g i e ∷ rs) states h = unlogged rs (λ k. state_then k (happened.Put n v g i e) (states k)) h
-unlogged (happened.Cast p proto phase vote value message ∷ rs) states h = unlogged rs (λ k. state_then k (happened.Cast p proto phase vote value message) (states k)) h
 unlogged (happened.Asked p r g x ∷ rs) states h = unlogged rs (λ k. state_then k (happened.Asked p r g x) (states k)) h
 unlogged (happened.Refused n client fault ∷ rs) states h = unlogged rs (λ k. state_then k (happened.Refused n client fault) (states k)) h
 unlogged (happened.Shown n line ∷ rs) states h = unlogged rs (λ k. state_then k (happened.Shown n line) (states k)) h

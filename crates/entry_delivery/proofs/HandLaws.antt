@@ -1,5 +1,5 @@
 -- What handing an entry on does: the row of its definition, for all answers that agree with what clients filled.
-use Rattle.std.proofs.Common.{◌≡◌, ℕ, ◌+◌, ◌≤◌, Bool, true, false, ◌&&◌, ◌++◌, List, [], ◌∷◌, length, map, filter, cond, Option, Some, None, is_some, refl, sym, ap, subst, ◌∙◌, arith, append_assoc, append-nil, length-append}
+use Rattle.std.proofs.Common.{◌≡◌, ℕ, ◌+◌, ◌≤◌, Bool, true, false, ◌++◌, List, [], ◌∷◌, length, map, filter, cond, Option, Some, None, is_some, refl, sym, ap, subst, ◌∙◌, arith, append_assoc, append-nil, length-append}
 use Rattle.std.specs.List.{fold, flat_map}
 use Rattle.std.specs.Option.{unwrap_or}
 use Rattle.std.specs.Prelude.{find}
@@ -7,11 +7,10 @@ use Rattle.std.proofs.lemmas.List.Elements.{filter-append}
 use Rattle.rsct_packet.specs.declared.ids.ProviderId.{ProviderId}
 use Rattle.rsct_packet.specs.declared.ids.ProtoId.{ProtoId}
 use Rattle.rsct_packet.specs.declared.ids.ViewId.{ViewId}
-use Rattle.rsct_packet.specs.Providers.{among}
 use Rattle.proposal_core.specs.declared.entry.Entry.{Entry}
 use Rattle.proposal_core.specs.declared.group_state.GroupState.{GroupState}
 use Rattle.proposal_core.specs.declared.group_state.Running.{Running}
-use Rattle.proposal_core.specs.Fold.{joiners_in, voters, voters_at}
+use Rattle.proposal_core.specs.Fold.{joiners_in}
 use Rattle.subscribe_core.specs.declared.subs.Subscription.{Subscription}
 use Rattle.subscribe_core.specs.Subs.{SubsView, is_of_group, differs}
 use Rattle.client_callbacks.specs.declared.ballot.Filled.{Filled}
@@ -22,11 +21,12 @@ use Rattle.session_state.specs.declared.casts.Cast.{Cast}
 use Rattle.session_state.specs.declared.state.Session.{Session}
 use Rattle.session_state.specs.declared.state.SessionState.{SessionState}
 use Rattle.session_state.specs.declared.state.Provider.{Provider}
-use Rattle.session_state.specs.State.{is_session, provider_of, name_in, client_name}
+use Rattle.session_state.specs.State.{is_session, provider_of, place_of, name_in, client_name}
 use Rattle.session_state.specs.Calls.{SameSessions}
-use Rattle.session_state.specs.HandOn.{opens_phase, asks, hears, hearers_in, brought_by, cast_with, cast_of, casts_of, casts_out, hearers, beginners}
+use Rattle.session_state.specs.HandOn.{asks, hears, hearers_in, brought_by, cast_with, cast_of, casts_of, casts_out, hearers, beginners}
 use Rattle.session_state.specs.HandOn as session
 use Rattle.session_clients.specs.Notices.{Fillings}
+use Rattle.session_clients.proofs.Standing.{asks_runs}
 use Rattle.node_state.specs.declared.happened.Happened.{Happened}
 use Rattle.node_state.specs.declared.happened.Happened.TheVariants as happened
 use Rattle.node_state.specs.declared.packet.Body.{Body}
@@ -38,28 +38,12 @@ use Rattle.session_state.specs.Owners.{KeepsOwners}
 use Rattle.node_state.specs.Handed.{is_handed, handed_in, state_along, Logged, logged_in}
 use Rattle.node_state.proofs.AlongLaws.{LeavesStates, leaves_both, along_records, logged_both}
 use Rattle.entry_delivery.specs.Received.{Handing, AreFor, told_by, logged_by}
-use Rattle.entry_delivery.specs.Telling.{heard_in, note_in, heard_handings, note_handing, noted_handings}
+use Rattle.entry_delivery.specs.Telling.{heard_in, note_in, filled_handing, heard_handing, heard_handings, note_handing, noted_handings}
 use Rattle.entry_delivery.specs.Doing.{Joins, Question, Agrees, Rise, AreFilled, Does, Ready}
 use Rattle.entry_delivery.proofs.DoingLaws.{rise_lower, rise_upper, told_both, logged_apart, are_for_back, are_for_both, Beside, beside_itself, beside_then, beside_as, beside_grows, ready_same, ready_beside}
 use Rattle.entry_delivery.proofs.KeepLaws.{SameNames, heard_same}
 use Rattle.entry_delivery.proofs.OwnerLaws.{heard_owners}
 use Rattle.entry_delivery.proofs.StateLaws.{heard_leaves, heard_stated, noted_leave, noted_stated, noted_records, told_groups}
-
--- ---- who is asked
-
-asks_head : (b : Bool) → b && false ≡ true → ⊥
-asks_head true h = absurd (cc)
-asks_head false h = absurd (cc)
-
-runs_where : (b : Bool) (s : GroupState) (run : Option Running) (p : ProviderId) → b && among (voters_at s run) p ≡ true → is_some run ≡ true
-unfolding voters_at
-runs_where b s None p h = absurd (asks_head b h)
-runs_where b s (Some run) p h = refl
-
--- a vote is asked for where a protocol runs
-asks_runs : (e : Entry) (after : GroupState) (p : ProviderId) → asks e after p ≡ true → is_some after.running ≡ true
-unfolding asks voters
-asks_runs e after p h = runs_where (opens_phase e) after after.running p h
 
 -- ---- the questions
 
@@ -262,28 +246,26 @@ comes_to s t u w v to g i before after e x cs view sessions handing noting sendi
 
 -- ---- what is handed
 
--- the records of what is heard tell it, in order, with no other that is handed to a client
-filled_unhanded : (p : ProviderId) (proto : ProtoId) (phase : ℕ) (b : Option Filled) → handed_in (cast_record p proto phase b) ≡ []
+-- the records of what is heard and cast tell it, in order, with no other that is handed to a client
+filled_told : (place : Option ℕ) (p : ProviderId) (proto : ProtoId) (phase : ℕ) (b : Option Filled) → handed_in (cast_record p proto phase b) ≡ told_by (map (filled_handing place) (cast_record p proto phase b))
 unfolding cast_record
-filled_unhanded p proto phase None = refl
-filled_unhanded p proto phase (Some b) = refl
+filled_told place p proto phase None = refl
+filled_told place p proto phase (Some b) = refl
 
-cast_unhanded : (p : ProviderId) (c : Option (ProtoId × ℕ × BallotView)) → handed_in (cast_records p c) ≡ []
+cast_told : (place : Option ℕ) (p : ProviderId) (c : Option (ProtoId × ℕ × BallotView)) → handed_in (cast_records p c) ≡ told_by (map (filled_handing place) (cast_records p c))
 unfolding cast_records
-cast_unhanded p None = refl
-cast_unhanded p (Some c) = filled_unhanded p c.0 c.1 (c.2).filled
+cast_told place p None = refl
+cast_told place p (Some c) = filled_told place p c.0 c.1 (c.2).filled
 
-heard_told : (scripts : List (Option (List (Option VoteItem)))) (s : SessionState) (level : ℕ) (v : ViewId) (g : List ℕ) (i : ℕ) (e : Entry) (after : GroupState) (ps : List ProviderId) (bs : List (Option Filled)) → Fillings scripts s e after ps bs
-    → handed_in (flat_map (heard_in v g i e after) (casts_of e after level ps bs)) ≡ told_by (heard_handings s v g i e after ps)
-unfolding cast_of
-heard_told scripts s level v g i e after [] bs h = refl
-heard_told scripts s level v g i e after (p ∷ ps) [] h = absurd h
-heard_told scripts s level v g i e after (p ∷ ps) (b ∷ bs) h =
-    let c : Cast = cast_of e after level p b in
-    let rest : List Happened = flat_map (heard_in v g i e after) (casts_of e after level ps bs) in
-    ap (λ (rs : List Happened). happened.Heard p v g i e after.members after.value ∷ rs)
+heard_told : (s : SessionState) (v : ViewId) (g : List ℕ) (i : ℕ) (e : Entry) (after : GroupState) (cs : List Cast) → handed_in (flat_map (heard_in v g i e after) cs) ≡ told_by (heard_handings s v g i e after cs)
+heard_told s v g i e after [] = refl
+heard_told s v g i e after (c ∷ cs) =
+    let rest : List Happened = flat_map (heard_in v g i e after) cs in
+    let mine : List Handing = map (filled_handing (place_of s c.p)) (cast_records c.p c.cast) in
+    ap (λ (rs : List Happened). happened.Heard c.p v g i e after.members after.value ∷ rs)
     (filter-append is_handed (cast_records c.p c.cast) rest
-    ∙ (ap (λ (rs : List Happened). rs ++ handed_in rest) (cast_unhanded c.p c.cast) ∙ heard_told scripts s level v g i e after ps bs h.1))
+    ∙ (ap (λ (rs : List Happened). rs ++ handed_in rest) (cast_told (place_of s c.p) c.p c.cast)
+    ∙ (ap (λ (rs : List Happened). told_by mine ++ rs) (heard_told s v g i e after cs) ∙ sym (told_both mine (heard_handings s v g i e after cs)))))
 
 notes_told : (me : ℕ) (v : ViewId) (s : SessionState) (g : List ℕ) (place : Option ℕ) (st : GroupState) (us : List Subscription) → handed_in (map (note_in me v s g place st) us) ≡ told_by (map (note_handing me v s g place st) us)
 notes_told me v s g place st [] = refl
@@ -341,14 +323,30 @@ unfolding hearers_in
 live_in s g part [] = tt
 live_in s g part (p ∷ ps) = live_head s g part p (hearers_in s g part ps) (hears g part (provider_of s p)) refl (live_in s g part ps)
 
-heard_owned_in : (s : SessionState) (v : ViewId) (g : List ℕ) (i : ℕ) (e : Entry) (after : GroupState) (ps : List ProviderId) → AreLive s ps → AreFor s (heard_handings s v g i e after ps)
-heard_owned_in s v g i e after [] h = tt
-heard_owned_in s v g i e after (p ∷ ps) h = ((refl, h.0), heard_owned_in s v g i e after ps h.1)
+filled_owned : (s : SessionState) (p : ProviderId) (proto : ProtoId) (phase : ℕ) (b : Option Filled) → (provider_of s p ≡ None → ⊥) → AreFor s (map (filled_handing (place_of s p)) (cast_record p proto phase b))
+unfolding cast_record
+filled_owned s p proto phase None live = tt
+filled_owned s p proto phase (Some b) live = ((refl, live), tt)
 
-heard_owned : (s : SessionState) (v : ViewId) (g : List ℕ) (i : ℕ) (e : Entry) (before after : GroupState) → AreFor s (heard_handings s v g i e after (hearers s g before e))
+cast_owned : (s : SessionState) (p : ProviderId) (c : Option (ProtoId × ℕ × BallotView)) → (provider_of s p ≡ None → ⊥) → AreFor s (map (filled_handing (place_of s p)) (cast_records p c))
+unfolding cast_records
+cast_owned s p None live = tt
+cast_owned s p (Some c) live = filled_owned s p c.0 c.1 (c.2).filled live
+
+heard_owned_in : (s : SessionState) (level : ℕ) (v : ViewId) (g : List ℕ) (i : ℕ) (e : Entry) (after : GroupState) (ps : List ProviderId) (bs : List (Option Filled)) → AreLive s ps → AreFor s (heard_handings s v g i e after (casts_of e after level ps bs))
+unfolding cast_of
+heard_owned_in s level v g i e after [] bs h = tt
+heard_owned_in s level v g i e after (p ∷ ps) [] h =
+    let c : Cast = cast_of e after level p None in
+    are_for_both s (heard_handing s v g i e after c) (heard_handings s v g i e after (casts_of e after level ps [])) ((refl, h.0), cast_owned s p c.cast h.0) (heard_owned_in s level v g i e after ps [] h.1)
+heard_owned_in s level v g i e after (p ∷ ps) (b ∷ bs) h =
+    let c : Cast = cast_of e after level p b in
+    are_for_both s (heard_handing s v g i e after c) (heard_handings s v g i e after (casts_of e after level ps bs)) ((refl, h.0), cast_owned s p c.cast h.0) (heard_owned_in s level v g i e after ps bs h.1)
+
+heard_owned : (s : SessionState) (v : ViewId) (g : List ℕ) (i : ℕ) (e : Entry) (before after : GroupState) (bs : List (Option Filled)) → AreFor s (heard_handings s v g i e after (casts_of e after s.level (hearers s g before e) bs))
 unfolding hearers beginners
-heard_owned s v g i e before after =
-    heard_owned_in s v g i e after (hearers s g before e)
+heard_owned s v g i e before after bs =
+    heard_owned_in s s.level v g i e after (hearers s g before e) bs
     (live_both s (hearers_in s g true before.members ++ hearers_in s g true (joiners_in before.running)) (hearers_in s g false (brought_by e))
     (live_both s (hearers_in s g true before.members) (hearers_in s g true (joiners_in before.running)) (live_in s g true before.members) (live_in s g true (joiners_in before.running))) (live_in s g false (brought_by e)))
 
@@ -362,7 +360,7 @@ with_owners s g before after e cs = heard_owners s g after e (hearers s g before
 
 pub handed_does : (scripts : List (Option (List (Option VoteItem)))) (P Q W : List Handing → Type 0) → Joins P Q W → (s t u w : Core) (v : ViewId) (to : Option ℕ) (g : List ℕ) (i : ℕ) (before after : GroupState) (e : Entry) (bs : List (Option Filled)) (cs : List Cast)
     → v ≡ s.views.view → SameSessions s.sessions t.sessions → Fillings scripts s.sessions e after (hearers s.sessions g before e) bs → cs ≡ casts_out s.sessions g before after e bs → after ≡ state_of s g
-    → t ≡ recorded_all (with_sessions s (session.handed_on s.sessions g before after e bs)) (flat_map (heard_in v g i e after) cs) → P (heard_handings s.sessions v g i e after (hearers s.sessions g before e))
+    → t ≡ recorded_all (with_sessions s (session.handed_on s.sessions g before after e bs)) (flat_map (heard_in v g i e after) cs) → P (heard_handings s.sessions v g i e after cs)
     → u ≡ noted t g i before after → Q (noted_handings t g i before after) → w ≡ casts_sent u g to cs → Does scripts W s w (λ f. hand_on f s to g i before after e)
 unfolding along_records
 handed_does scripts P Q W join s t u w v to g i before after e bs cs view same fillings casting state handing heard noting noted sending =
@@ -379,21 +377,22 @@ handed_does scripts P Q W join s t u w v to g i before after e bs cs view same f
     told ∙ ap (λ (xs : List Cast). length s.records + length (flat_map (heard_in v g i e after) xs)) casts in
     let kept : u.sessions ≡ t.sessions = ap (λ (x : Core). x.sessions) noting ∙ noted_keeps t g i before after in
     let after_sessions : t.sessions ≡ session.handed_on s.sessions g before after e bs = ap (λ (x : Core). x.sessions) handing ∙ told_sessions s _ _ in
-    let mine : List Handing = heard_handings s.sessions v g i e after ps in
+    let mine : List Handing = heard_handings s.sessions v g i e after cs in
     let theirs : List Handing = noted_handings t g i before after in
     let owners : KeepsOwners s.sessions t.sessions = subst (λ (x : SessionState). KeepsOwners s.sessions x) (sym (after_sessions ∙ sessions)) (with_owners s.sessions g before after e cs) in
     let first : handed_in t.records ≡ handed_in s.records ++ told_by mine =
-    ap handed_in (records ∙ ap (λ (xs : List Cast). s.records ++ flat_map (heard_in v g i e after) xs) casts)
-    ∙ (filter-append is_handed s.records (flat_map (heard_in v g i e after) (casts_of e after s.sessions.level ps bs))
-    ∙ ap (λ (rs : List Happened). handed_in s.records ++ rs) (heard_told scripts s.sessions s.sessions.level v g i e after ps bs fillings)) in
-    let heards : List Happened = flat_map (heard_in v g i e after) (casts_of e after s.sessions.level ps bs) in
+    ap handed_in records
+    ∙ (filter-append is_handed s.records (flat_map (heard_in v g i e after) cs)
+    ∙ ap (λ (rs : List Happened). handed_in s.records ++ rs) (heard_told s.sessions v g i e after cs)) in
+    let heards : List Happened = flat_map (heard_in v g i e after) cs in
     let also : (u.records ≡ t.records ++ told_by theirs) × (u.groups ≡ t.groups) = rw noting (noted_records t g i before after) in
     let more : w.records ≡ s.records ++ (heards ++ told_by theirs) =
     beside.records
     ∙ (also.0
-    ∙ (ap (λ (rs : List Happened). rs ++ told_by theirs) (records ∙ ap (λ (xs : List Cast). s.records ++ flat_map (heard_in v g i e after) xs) casts) ∙ append_assoc s.records heards (told_by theirs))) in
+    ∙ (ap (λ (rs : List Happened). rs ++ told_by theirs) records ∙ append_assoc s.records heards (told_by theirs))) in
     let groups : w.groups ≡ s.groups = beside.groups ∙ (also.1 ∙ (ap (λ (x : Core). x.groups) handing ∙ told_groups s _ _)) in
-    let heards_leave : LeavesStates heards = heard_leaves v g i e after (casts_of e after s.sessions.level ps bs) in
+    let heards_leave : LeavesStates heards = heard_leaves v g i e after cs in
+    let owned : AreFor s.sessions mine = subst (λ (xs : List Cast). AreFor s.sessions (heard_handings s.sessions v g i e after xs)) (sym casts) (heard_owned s.sessions v g i e before after bs) in
     let second : handed_in u.records ≡ handed_in t.records ++ told_by theirs = ap (λ (x : Core). handed_in x.records) noting ∙ noted_told t g i before after in
     record {
       asked = questions (length s.records) s.sessions e after ps bs;
@@ -410,12 +409,12 @@ handed_does scripts P Q W join s t u w v to g i before after e bs cs view same f
           ∙ (second
           ∙ (ap (λ (rs : List Happened). rs ++ told_by theirs) first
           ∙ (append_assoc (handed_in s.records) (told_by mine) (told_by theirs) ∙ ap (λ (rs : List Happened). handed_in s.records ++ rs) (sym (told_both mine theirs)))));
-      owned = are_for_both s.sessions mine theirs (heard_owned s.sessions v g i e before after) (are_for_back s.sessions t.sessions theirs owners same.0 (noted_owned t g i before after));
+      owned = are_for_both s.sessions mine theirs owned (are_for_back s.sessions t.sessions theirs owners same.0 (noted_owned t g i before after));
       owners = subst (λ (x : SessionState). KeepsOwners s.sessions x) (sym (beside.sessions ∙ kept)) owners;
       along = along_records s w (heards ++ told_by theirs) more groups (leaves_both heards (told_by theirs) heards_leave (noted_leave t g i before after));
       stated = λ o.
           logged_both heards (told_by theirs) (state_of s)
-          ∙ (ap (λ (ls : List Logged). ls ++ logged_in (told_by theirs) (λ h. state_along h heards (state_of s h))) (heard_stated scripts s.sessions s.sessions.level v g i e after ps bs (state_of s) fillings state)
+          ∙ (ap (λ (ls : List Logged). ls ++ logged_in (told_by theirs) (λ h. state_along h heards (state_of s h))) (heard_stated s.sessions v g i e after cs (state_of s) state)
           ∙ (ap (λ (ls : List Logged). logged_by mine ++ ls) (noted_stated t g i before after (λ h. state_along h heards (state_of s h))) ∙ sym (logged_apart mine theirs)));
       received = join mine theirs heard noted;
     }

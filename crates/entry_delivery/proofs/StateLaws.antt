@@ -9,21 +9,20 @@ use Rattle.proposal_core.specs.declared.group_state.GroupState.{GroupState}
 use Rattle.subscribe_core.specs.declared.subs.Subscription.{Subscription}
 use Rattle.subscribe_core.specs.Subs.{is_of_group, differs}
 use Rattle.client_callbacks.specs.declared.ballot.Filled.{Filled}
-use Rattle.client_callbacks.specs.declared.votes.VoteItem.{VoteItem}
 use Rattle.client_callbacks.specs.Ballots.{BallotView}
 use Rattle.session_state.specs.declared.casts.Cast.{Cast}
 use Rattle.session_state.specs.declared.state.SessionState.{SessionState}
-use Rattle.session_state.specs.HandOn.{cast_of, casts_of}
-use Rattle.session_clients.specs.Notices.{Fillings}
+use Rattle.session_state.specs.State.{place_of}
 use Rattle.node_state.specs.declared.happened.Happened.{Happened}
 use Rattle.node_state.specs.declared.happened.Happened.TheVariants as happened
 use Rattle.node_state.specs.declared.state.Core.{Core}
 use Rattle.node_state.specs.State.{recorded_all, with_sessions}
 use Rattle.node_state.specs.HandOn.{cast_record, cast_records, note_of, notes, noted}
-use Rattle.node_state.specs.Handed.{Logged, logged_in}
-use Rattle.node_state.proofs.AlongLaws.{LeavesStates, leaves_both}
+use Rattle.node_state.specs.Handed.{state_along, Logged, logged_in}
+use Rattle.node_state.proofs.AlongLaws.{LeavesStates, leaves_both, logged_same, logged_both}
 use Rattle.entry_delivery.specs.Received.{Handing, told_by, logged, logged_by}
-use Rattle.entry_delivery.specs.Telling.{heard_in, heard_handings, note_handing, noted_handings}
+use Rattle.entry_delivery.specs.Telling.{heard_in, filled_handing, heard_handings, note_handing, noted_handings}
+use Rattle.entry_delivery.proofs.DoingLaws.{logged_apart}
 
 -- ---- what is heard
 
@@ -41,28 +40,33 @@ pub heard_leaves : (v : ViewId) (g : List ℕ) (i : ℕ) (e : Entry) (after : Gr
 heard_leaves v g i e after [] = λ h st. refl
 heard_leaves v g i e after (c ∷ cs) = leaves_both (heard_in v g i e after c) (flat_map (heard_in v g i e after) cs) (cast_leaves c.p c.cast) (heard_leaves v g i e after cs)
 
-cast_record_unlogged : (p : ProviderId) (proto : ProtoId) (phase : ℕ) (b : Option Filled) (rs : List Happened) (states : List ℕ → GroupState) → logged_in (cast_record p proto phase b ++ rs) states ≡ logged_in rs states
+cast_record_logged : (place : Option ℕ) (p : ProviderId) (proto : ProtoId) (phase : ℕ) (b : Option Filled) (states : List ℕ → GroupState)
+    → logged_in (cast_record p proto phase b) states ≡ logged_by (map (filled_handing place) (cast_record p proto phase b))
 unfolding cast_record
-cast_record_unlogged p proto phase None rs states = refl
-cast_record_unlogged p proto phase (Some b) rs states = refl
+cast_record_logged place p proto phase None states = refl
+cast_record_logged place p proto phase (Some b) states = refl
 
-cast_unlogged : (p : ProviderId) (c : Option (ProtoId × ℕ × BallotView)) (rs : List Happened) (states : List ℕ → GroupState) → logged_in (cast_records p c ++ rs) states ≡ logged_in rs states
+cast_logged : (place : Option ℕ) (p : ProviderId) (c : Option (ProtoId × ℕ × BallotView)) (states : List ℕ → GroupState)
+    → logged_in (cast_records p c) states ≡ logged_by (map (filled_handing place) (cast_records p c))
 unfolding cast_records
-cast_unlogged p None rs states = refl
-cast_unlogged p (Some c) rs states = cast_record_unlogged p c.0 c.1 (c.2).filled rs states
+cast_logged place p None states = refl
+cast_logged place p (Some c) states = cast_record_logged place p c.0 c.1 (c.2).filled states
 
 -- who hears the entry is handed it with the state that its group has
-pub heard_stated : (scripts : List (Option (List (Option VoteItem)))) (s : SessionState) (level : ℕ) (v : ViewId) (g : List ℕ) (i : ℕ) (e : Entry) (after : GroupState) (ps : List ProviderId) (bs : List (Option Filled)) (states : List ℕ → GroupState) → Fillings scripts s e after ps bs → after ≡ states g
-    → logged_in (flat_map (heard_in v g i e after) (casts_of e after level ps bs)) states ≡ logged_by (heard_handings s v g i e after ps)
-unfolding cast_of
-heard_stated scripts s level v g i e after [] bs states h is = refl
-heard_stated scripts s level v g i e after (p ∷ ps) [] states h is = absurd h
-heard_stated scripts s level v g i e after (p ∷ ps) (b ∷ bs) states h is =
-    let c : Cast = cast_of e after level p b in
-    let rest : List Happened = flat_map (heard_in v g i e after) (casts_of e after level ps bs) in
-    let what : Happened = happened.Heard p v g i e after.members after.value in
-    ap (λ (ls : List Logged). record { what = what; after = states g } ∷ ls) (cast_unlogged c.p c.cast rest states ∙ heard_stated scripts s level v g i e after ps bs states h.1 is)
-    ∙ ap (λ st. record { what = what; after = st } ∷ logged_by (heard_handings s v g i e after ps)) (sym is)
+pub heard_stated : (s : SessionState) (v : ViewId) (g : List ℕ) (i : ℕ) (e : Entry) (after : GroupState) (cs : List Cast) (states : List ℕ → GroupState) → after ≡ states g
+    → logged_in (flat_map (heard_in v g i e after) cs) states ≡ logged_by (heard_handings s v g i e after cs)
+heard_stated s v g i e after [] states is = refl
+heard_stated s v g i e after (c ∷ cs) states is =
+    let rest : List Happened = flat_map (heard_in v g i e after) cs in
+    let cast : List Happened = cast_records c.p c.cast in
+    let what : Happened = happened.Heard c.p v g i e after.members after.value in
+    let same : (h : List ℕ) → states h ≡ state_along h cast (states h) = λ h. sym (cast_leaves c.p c.cast h (states h)) in
+    ap (λ (ls : List Logged). record { what = what; after = states g } ∷ ls)
+    (logged_both cast rest states
+    ∙ (ap (λ (ls : List Logged). ls ++ logged_in rest (λ h. state_along h cast (states h))) (cast_logged (place_of s c.p) c.p c.cast states)
+    ∙ (ap (λ (ls : List Logged). logged_by (map (filled_handing (place_of s c.p)) cast) ++ ls) (logged_same rest (λ h. state_along h cast (states h)) states (λ h. sym (same h)) ∙ heard_stated s v g i e after cs states is)
+    ∙ sym (logged_apart (map (filled_handing (place_of s c.p)) cast) (heard_handings s v g i e after cs)))))
+    ∙ ap (λ st. record { what = what; after = st } ∷ logged_by (map (filled_handing (place_of s c.p)) cast ++ heard_handings s v g i e after cs)) (sym is)
 
 -- ---- what subscribers are told
 

@@ -1,8 +1,10 @@
--- What clients were handed and told, as the records of their node tell it.
-use Rattle.std.specs.Prelude.{◌≡◌, ℕ, zero, suc, List, [], ◌∷◌, ◌++◌, fold, Option, Some, None}
+-- What clients were handed and told, and what they filled, as the records of their node tell it.
+use Rattle.std.specs.Prelude.{◌≡◌, ℕ, zero, suc, List, [], ◌∷◌, ◌++◌, fold, map, Option, Some, None}
 use Rattle.std.specs.Option.{unwrap_or}
 use Rattle.proposal_core.specs.declared.group_state.GroupState.{GroupState}
+use Rattle.rsct_packet.specs.declared.ids.ProviderId.{ProviderId}
 use Rattle.subscribe_core.specs.declared.subs.ClientToken.{ClientToken}
+use Rattle.client_callbacks.specs.declared.ballot.Filled.{Filled}
 use Rattle.client_callbacks.specs.declared.told.Told.TheVariants as told
 use Rattle.client_callbacks.specs.Handed.{Handed, Notified, Informed}
 use Rattle.session_state.specs.declared.state.SessionState.{SessionState}
@@ -13,49 +15,84 @@ use Rattle.node_state.specs.declared.happened.Happened.{Happened}
 use Rattle.node_state.specs.declared.happened.Happened.TheVariants as happened
 use Rattle.node_state.specs.Handed.{Logged}
 
--- ---- what a record tells
+-- ---- what a log tells
 
--- the record tells that this was handed: a notice with this state after it, or a telling
-abbrev pub TellsWith : Handed → GroupState → Happened → Type 0
-TellsWith x after (happened.Heard p v g i e members value) = (x ≡ Notified (notice_to v g i e after p)) × (after.members ≡ members) × (after.value ≡ value)
-TellsWith x after (happened.Told p r why) = x ≡ Informed (told.Refused p r why)
-TellsWith x after (happened.Noted n client v i t) = x ≡ Informed t
-TellsWith x after _ = ⊥
+-- the ballot that a record tells
+abbrev pub ballot_told : Happened → Option Filled
+ballot_told (happened.Cast p proto phase vote value message) = Some (record { vote = vote; value = value; message = message })
+ballot_told _ = None
 
-abbrev pub Tells : Handed → Logged → Type 0
-Tells x r = TellsWith x r.after r.what
+-- the ballot that was filled with a notice: the record directly behind that of the notice tells it, where there is one
+abbrev pub ballot_behind : List Logged → Option Filled
+ballot_behind [] = None
+ballot_behind (r ∷ rs) = ballot_told r.what
 
--- one after another
-abbrev pub TellEach : List Handed → List Logged → Type 0
-TellEach [] [] = Unit {0}
-TellEach [] (r ∷ rs) = ⊥
-TellEach (x ∷ xs) [] = ⊥
-TellEach (x ∷ xs) (r ∷ rs) = Tells x r × TellEach xs rs
+-- the record tells that this was handed: a notice with this state after it, of which this ballot was filled, or a telling
+abbrev pub handed_if : Happened → GroupState → Option Filled → List Handed
+handed_if (happened.Heard p v g i e members value) after b = Notified (notice_to v g i e after p) b ∷ []
+handed_if (happened.Told p r why) after b = Informed (told.Refused p r why) ∷ []
+handed_if (happened.Noted n client v i t) after b = Informed t ∷ []
+handed_if _ after b = []
 
--- of each client
-abbrev pub TellAll : List (List Handed) → List (List Logged) → Type 0
-TellAll [] [] = Unit {0}
-TellAll [] (rs ∷ rss) = ⊥
-TellAll (xs ∷ xss) [] = ⊥
-TellAll (xs ∷ xss) (rs ∷ rss) = TellEach xs rs × TellAll xss rss
+-- what a client was handed, as its log tells it
+abbrev pub handed_by : List Logged → List Handed
+handed_by [] = []
+handed_by (r ∷ rs) = handed_if r.what r.after (ballot_behind rs) ++ handed_by rs
 
--- each client stands for what these records tell that it was handed, in order
-pub record WereHanded {C : Type 0} (R : C → List Handed → Type 0) (clients : List C) (rss : List (List Logged)) : Type 0 where
-  pub lists : List (List Handed)
-  pub stand : StandFor R clients lists
-  pub told : TellAll lists rss
+-- the provider that heard
+abbrev pub hearer : Happened → Option ProviderId
+hearer (happened.Heard p v g i e members value) = Some p
+hearer _ = None
+
+-- a record of a log, directly behind what this provider heard: the record of a notice has members and value of the state
+-- that was handed, and that of a ballot stands directly behind the notice that its own provider heard
+abbrev pub IsLogged : Option ProviderId → Happened → GroupState → Type 0
+IsLogged o (happened.Heard p v g i e members value) after = (after.members ≡ members) × (after.value ≡ value)
+IsLogged o (happened.Cast p proto phase vote value message) after = o ≡ Some p
+IsLogged o (happened.Told p r why) after = Unit {0}
+IsLogged o (happened.Noted n client v i t) after = Unit {0}
+IsLogged o _ after = ⊥
+
+abbrev pub AreLogged : Option ProviderId → List Logged → Type 0
+AreLogged o [] = Unit {0}
+AreLogged o (r ∷ rs) = IsLogged o r.what r.after × AreLogged (hearer r.what) rs
+
+-- the log of a client
+abbrev pub IsLog : List Logged → Type 0
+IsLog rs = AreLogged None rs
+
+abbrev pub AreLogs : List (List Logged) → Type 0
+AreLogs [] = Unit {0}
+AreLogs (rs ∷ rss) = IsLog rs × AreLogs rss
+
+-- what clients stood for at first, with what each was handed since; one behind them stood for nothing
+abbrev pub joined : List (List Handed) → List (List Handed) → List (List Handed)
+joined [] hs = hs
+joined (f ∷ fs) [] = []
+joined (f ∷ fs) (h ∷ hs) = (f ++ h) ∷ joined fs hs
+
+-- each client, which stood for one of these lists at first, stands for that and for what its log tells, in order
+pub record WereHandedFrom {C : Type 0} (R : C → List Handed → Type 0) (firsts : List (List Handed)) (clients : List C) (rss : List (List Logged)) : Type 0 where
+  pub stand : StandFor R clients (joined firsts (map handed_by rss))
+  pub logs : AreLogs rss
+
+-- each client stands for what its log tells
+abbrev pub WereHanded : {C : Type 0} → (C → List Handed → Type 0) → List C → List (List Logged) → Type 0
+WereHanded R clients rss = WereHandedFrom R [] clients rss
 
 -- ---- what is handed in a row
 
--- what a record tells, and the place of the client that was handed it: none where there is no such client
+-- what a record tells, and the place of the client that was handed or filled it: none where there is no such client
 pub record Handing : Type 0 where
   pub place : Option ℕ
   pub what : Happened
   pub after : GroupState
 
--- the client is that of the record's provider, which is live or whose request is outstanding; or that of its name
+-- the client is that of the record's provider, which is live, or also whose request is outstanding where it is told; or
+-- that of its name
 abbrev pub IsFor : SessionState → Option ℕ → Happened → Type 0
 IsFor s place (happened.Heard p v g i e members value) = (place ≡ place_of s p) × (provider_of s p ≡ None → ⊥)
+IsFor s place (happened.Cast p proto phase vote value message) = (place ≡ place_of s p) × (provider_of s p ≡ None → ⊥)
 IsFor s place (happened.Told p r why) = (place ≡ place_of s p) × (provider_of s p ≡ None → outstanding s p ≡ None → ⊥)
 IsFor s place (happened.Noted n name v i t) = (c : ClientToken) × (place ≡ client_place s c) × (name ≡ unwrap_or (client_name s c) [])
 IsFor s place _ = ⊥
@@ -89,6 +126,6 @@ given_to (Some i) r rss = given_at i r rss
 unfoldable pub after_handings : List Handing → List (List Logged) → List (List Logged)
 after_handings hs rss = fold (λ (t : List (List Logged)) (h : Handing). given_to h.place (logged h) t) rss hs
 
--- these, and no others, were handed to the clients
+-- these, and no others, were handed to the clients, whatever each stood for at first
 abbrev pub Receive : {C : Type 0} → (C → List Handed → Type 0) → List C → List C → List Handing → Type 0
-Receive R old new hs = (rss : List (List Logged)) → WereHanded R old rss → WereHanded R new (after_handings hs rss)
+Receive R old new hs = (firsts : List (List Handed)) (rss : List (List Logged)) → WereHandedFrom R firsts old rss → WereHandedFrom R firsts new (after_handings hs rss)

@@ -1,6 +1,5 @@
 -- The records of an entry that is handed on, by what each of them names.
-use Rattle.std.specs.Prelude.{ℕ, true, false, List, [], ◌∷◌, map, filter, Option, Some}
-use Rattle.rsct_packet.specs.declared.ids.ProviderId.{ProviderId}
+use Rattle.std.specs.Prelude.{ℕ, true, false, List, [], ◌∷◌, map, flat_map, filter, Option, Some}
 use Rattle.rsct_packet.specs.declared.ids.ViewId.{ViewId}
 use Rattle.proposal_core.specs.declared.entry.Entry.{Entry}
 use Rattle.proposal_core.specs.declared.group_state.GroupState.{GroupState}
@@ -27,12 +26,17 @@ note_in me v t g place st u = happened.Noted me (subscriber_name t u) v place (t
 
 -- ---- what clients are handed
 
-abbrev pub heard_handing : SessionState → ViewId → List ℕ → ℕ → Entry → GroupState → ProviderId → Handing
-heard_handing s v g i e after p = record { place = place_of s p; what = happened.Heard p v g i e after.members after.value; after = after }
+abbrev pub filled_handing : Option ℕ → Happened → Handing
+filled_handing place r = record { place = place; what = r; after = empty_state }
 
--- by each of ps
-abbrev pub heard_handings : SessionState → ViewId → List ℕ → ℕ → Entry → GroupState → List ProviderId → List Handing
-heard_handings s v g i e after ps = map (heard_handing s v g i e after) ps
+-- the client of the provider is handed the notice, and fills what is cast
+abbrev pub heard_handing : SessionState → ViewId → List ℕ → ℕ → Entry → GroupState → Cast → List Handing
+heard_handing s v g i e after c =
+    record { place = place_of s c.p; what = happened.Heard c.p v g i e after.members after.value; after = after } ∷ map (filled_handing (place_of s c.p)) (cast_records c.p c.cast)
+
+-- for each of cs
+abbrev pub heard_handings : SessionState → ViewId → List ℕ → ℕ → Entry → GroupState → List Cast → List Handing
+heard_handings s v g i e after cs = flat_map (heard_handing s v g i e after) cs
 
 -- by the client of a subscription
 abbrev pub note_handing : ℕ → ViewId → SessionState → List ℕ → Option ℕ → GroupState → Subscription → Handing

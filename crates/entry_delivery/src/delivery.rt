@@ -155,8 +155,7 @@ fn hand<C: Callbacks>(
     ensures scripts { OnOk result (KeepsScripts C.script clients.old.items clients.new.items) }
     ensures received { OnOk result (Receive C.stands_for clients.old.items clients.new.items
         (heard_handings core.old.sessions entry.now.view entry.now.group.now entry.now.place
-        entry.now.entry.now entry.now.after.now (hearers core.old.sessions entry.now.group.now
-        before.now entry.now.entry.now))) }
+        entry.now.entry.now entry.now.after.now casts.new)) }
     ensures same { SameSessions core.old.sessions core.new.sessions }
     ensures handed { OnOk result ((bs : List (Option Filled))
         × Fillings (map C.script clients.old.items) core.old.sessions entry.now.entry.now

@@ -1,4 +1,5 @@
--- What of a step's records tells what a client was handed, and the states of groups along the records.
+-- What of a step's records tells what a client was handed and what it filled, and the states of groups along the
+-- records.
 use Rattle.std.specs.Prelude.{◌≡◌, ℕ, Bool, true, false, List, [], ◌∷◌, ◌++◌, filter, if◌then◌else◌}
 use Rattle.std.specs.Str.{bytes_eq}
 use Rattle.proposal_core.specs.declared.group_state.GroupState.{GroupState}
@@ -8,9 +9,10 @@ use Rattle.node_state.specs.declared.happened.Happened.TheVariants as happened
 use Rattle.node_state.specs.declared.state.Core.{Core}
 use Rattle.node_state.specs.State.{InNameOrder, state_of}
 
--- a client was handed this, or told
+-- a client was handed this, filled it into the ballot of what it was handed, or was told it
 abbrev pub is_handed : Happened → Bool
 is_handed (happened.Heard p v g i e members value) = true
+is_handed (happened.Cast p proto phase vote value message) = true
 is_handed (happened.Told p r why) = true
 is_handed (happened.Noted node client v i told) = true
 is_handed _ = false
@@ -41,13 +43,14 @@ pub record Along (s t : Core) : Type 0 where
 
 -- ---- what is handed, with the states
 
--- a record of what a client was handed, and where it heard an entry the state of the group after that
+-- a record of what a client was handed, filled or was told, and where it heard an entry the state of the group after that
 pub record Logged : Type 0 where
   pub what : Happened
   pub after : GroupState
 
 abbrev pub logged_if : Happened → (List ℕ → GroupState) → List Logged
 logged_if (happened.Heard p v g i e members value) states = record { what = happened.Heard p v g i e members value; after = states g } ∷ []
+logged_if (happened.Cast p proto phase vote value message) states = record { what = happened.Cast p proto phase vote value message; after = empty_state } ∷ []
 logged_if (happened.Told p r why) states = record { what = happened.Told p r why; after = empty_state } ∷ []
 logged_if (happened.Noted node client v i told) states = record { what = happened.Noted node client v i told; after = empty_state } ∷ []
 logged_if _ states = []

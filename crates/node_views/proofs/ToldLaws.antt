@@ -128,7 +128,7 @@ untold_place s (Some x) false e = absurd cc
 -- nobody is told of a provider that is not live
 pub untold_receive : {C : Type 0} (R : C → List Handed → Type 0) (cs : List C) (s : SessionState) (p : ProviderId) (r : ℕ) (takes : Bool) → takes ≡ takes_telling s p r Dissolved → takes ≡ false → Receive R cs cs (handed_at (place_of s p) (happened.Told p r Dissolved) ∷ [])
 unfolding after_handings takes_telling place_of
-untold_receive R cs s p r takes is out = rw (untold_place s (provider_of s p) (is_numbered r (outstanding s p)) (sym is ∙ out)) (λ rss h. h)
+untold_receive R cs s p r takes is out = rw (untold_place s (provider_of s p) (is_numbered r (outstanding s p)) (sym is ∙ out)) (λ firsts rss h. h)
 
 -- ---- what subscribers are told
 

@@ -1,5 +1,6 @@
 //! What a node reads of its sessions.
 ghost use Rattle.std.specs.Prelude.{◌≡◌, find, option_copied};
+ghost use Rattle.rsct_packet.specs.Search.{place_where};
 ghost use Rattle.subscribe_core.specs.Subs.{is_of};
 ghost use Rattle.session_state.specs.State.{is_named, is_in_group, client_token, member_token, sub_token};
 
@@ -10,6 +11,18 @@ fn session_named<'a>(rows: &'a [Session], name: &[u8]) -> Option<&'a Session>
     ensures { option_copied result ≡ find (is_named name.now) rows.now }
 {
     rows.iter().find(|x| x.name.as_slice() == name)
+}
+
+#[tactic(auto, using(rsct_packet::proofs::SearchLaws::place_search))]
+fn place_named(rows: &[Session], name: &[u8]) -> Option<usize>
+    ensures { result ≡ place_where (is_named name.now) rows.now }
+{
+    for (i, row) in rows.iter().enumerate() {
+        if row.name.as_slice() == name {
+            return Some(i);
+        }
+    }
+    None
 }
 
 fn provider_in<'a>(rows: &'a [Provider], client: ClientToken, group: &[u8]) -> Option<&'a Provider>
@@ -28,6 +41,13 @@ fn subscription_of<'a>(
 {
     rows.iter()
         .find(|x| x.client == client && x.group.as_slice() == group)
+}
+
+/// The place of the live session of a name, at which its client stands too.
+pub fn session_place(sessions: &SessionState, name: &[u8]) -> Option<usize>
+    ensures { result ≡ place_where (is_named name.now) sessions.now.sessions }
+{
+    place_named(sessions.sessions.as_slice(), name)
 }
 
 /// The token of the live session of a name; 0 where there is none.

@@ -1,8 +1,7 @@
 -- One client more was handed something.
-use Rattle.std.proofs.Common.{◌≡◌, ℕ, zero, suc, ◌+◌, ◌<◌, List, [], ◌∷◌, ◌++◌, Option, Some, None, length, get_or, set, take, refl, ap, arith}
+use Rattle.std.proofs.Common.{◌≡◌, ℕ, zero, suc, ◌+◌, ◌<◌, true, false, ◌&&◌, is_some, List, [], ◌∷◌, ◌++◌, Option, Some, None, length, get_or, set, take, refl, sym, ap, ◌∙◌, arith}
 use Rattle.std.proofs.Common.{append_assoc}
 use Rattle.std.proofs.lemmas.List.{take_more}
-use Rattle.std.proofs.lemmas.List.Sums.{fold_more}
 use Rattle.std.proofs.Common.{IsTrue, Bool}
 use Rattle.std.specs.Prelude.{map, slice_get}
 use Rattle.rsct_packet.specs.declared.ids.ViewId.{ViewId}
@@ -11,6 +10,9 @@ use Rattle.client_callbacks.specs.Handed.{Notified}
 use Rattle.session_state.specs.declared.casts.Cast.{Cast}
 use Rattle.proposal_core.specs.declared.entry.Entry.{Entry}
 use Rattle.proposal_core.specs.declared.group_state.GroupState.{GroupState}
+use Rattle.proposal_core.specs.declared.group_state.Running.{Running}
+use Rattle.proposal_core.specs.Fold.{voters, voters_at}
+use Rattle.rsct_packet.specs.Providers.{among}
 use Rattle.rsct_packet.specs.declared.ids.ProviderId.{ProviderId}
 use Rattle.client_callbacks.specs.declared.ballot.Filled.{Filled}
 use Rattle.client_callbacks.specs.declared.votes.VoteItem.{VoteItem}
@@ -19,9 +21,9 @@ use Rattle.session_state.specs.declared.state.SessionState.{SessionState}
 use Rattle.std.proofs.Common.{length-append, length-take, length-drop}
 use Rattle.session_state.specs.Calls.{removed_at}
 use Rattle.session_state.specs.State.{place_of}
-use Rattle.session_state.specs.HandOn.{asks, cast_with, cast_of, casts_of}
-use Rattle.session_clients.specs.Clients.{StandFor, add_at, add_for}
-use Rattle.session_clients.specs.Notices.{notice_to, notified, script_for, FillsAs, Filling, Fillings}
+use Rattle.session_state.specs.HandOn.{opens_phase, asks, cast_with, cast_of, casts_of}
+use Rattle.session_clients.specs.Clients.{StandFor, StandAfter, add_at, add_for}
+use Rattle.session_clients.specs.Notices.{notice_to, ballot_of, notified, script_for, FillsAs, Filling, Fillings}
 
 pub stand_more : {C : Type 0} (R : C → List Handed → Type 0) (x : Handed) (cs : List C) (hs : List (List Handed)) (i : ℕ) (d y : C) → i < length cs
     → ((h : List Handed) → R (get_or cs i d) h → R y (h ++ x ∷ []))
@@ -45,11 +47,51 @@ casts_more scripts s e after level [] (c ∷ bs) p b f = absurd f
 casts_more scripts s e after level (q ∷ ps) [] p b f = absurd f
 casts_more scripts s e after level (q ∷ ps) (c ∷ bs) p b f = ap (λ (xs : List _). cast_of e after level q c ∷ xs) (casts_more scripts s e after level ps bs p b f.1)
 
--- one provider more was handed the notice
-pub notified_more : (s : SessionState) (v : ViewId) (g : List ℕ) (i : ℕ) (e : Entry) (after : GroupState) (ps : List ProviderId) (k : ℕ) (d : ProviderId) (hs : List (List Handed)) → k < length ps
-    → notified s v g i e after (take (k + 1) ps) hs ≡ add_for (place_of s (get_or ps k d)) (Notified (notice_to v g i e after (get_or ps k d))) (notified s v g i e after (take k ps) hs)
+-- ---- what is filled is what is cast
+
+asks_head : (b : Bool) → b && false ≡ true → ⊥
+asks_head true h = absurd (cc)
+asks_head false h = absurd (cc)
+
+runs_where : (b : Bool) (s : GroupState) (run : Option Running) (p : ProviderId) → b && among (voters_at s run) p ≡ true → is_some run ≡ true
+unfolding voters_at
+runs_where b s None p h = absurd (asks_head b h)
+runs_where b s (Some run) p h = refl
+
+-- a vote is asked for where a protocol runs
+pub asks_runs : (e : Entry) (after : GroupState) (p : ProviderId) → asks e after p ≡ true → is_some after.running ≡ true
+unfolding asks voters
+asks_runs e after p h = runs_where (opens_phase e) after after.running p h
+
+-- where votes are asked for only while a protocol runs, a cast has what was filled
+filled_kept : (v : Bool) (run : Option Running) (l : ℕ) (p : ProviderId) (f : Option Filled) → IsTrue (may_hold v l f) → (v ≡ true → is_some run ≡ true) → ballot_of (cast_with v run l p f) ≡ f
+filled_kept false run l p None h r = refl
+filled_kept false run l p (Some f) h r = absurd cc
+filled_kept true None l p f h r = let no : false ≡ true = r refl in absurd cc
+filled_kept true (Some run) l p None h r = refl
+filled_kept true (Some run) l p (Some f) h r = refl
+
+pub cast_has_filled : (e : Entry) (after : GroupState) (p : ProviderId) (v : Bool) (l : ℕ) (f : Option Filled) (c : Cast) → v ≡ asks e after p → IsTrue (may_hold v l f) → c ≡ cast_with v after.running l p f → ballot_of c ≡ f
+cast_has_filled e after p v l f c ev holds made = ap ballot_of made ∙ filled_kept v after.running l p f holds (λ y. asks_runs e after p (sym ev ∙ y))
+
+-- one provider more was handed the notice, and cast
+notified_more : (s : SessionState) (v : ViewId) (g : List ℕ) (i : ℕ) (e : Entry) (after : GroupState) (cs : List Cast) (c : Cast) (hs : List (List Handed))
+    → notified s v g i e after (cs ++ c ∷ []) hs ≡ add_for (place_of s c.p) (Notified (notice_to v g i e after c.p) (ballot_of c)) (notified s v g i e after cs hs)
 unfolding notified
-notified_more s v g i e after ps k d hs lt = fold_more (λ t p. add_for (place_of s p) (Notified (notice_to v g i e after p)) t) hs ps k d lt
+notified_more s v g i e after [] c hs = refl
+notified_more s v g i e after (d ∷ cs) c hs = notified_more s v g i e after cs c (add_for (place_of s d.p) (Notified (notice_to v g i e after d.p) (ballot_of d)) hs)
+
+cast_by : (e : Entry) (after : GroupState) (level : ℕ) (p : ProviderId) (b : Option Filled) → (cast_of e after level p b).p ≡ p
+unfolding cast_of
+cast_by e after level p b = refl
+
+pub stand_one_more : {C : Type 0} (R : C → List Handed → Type 0) (cs ds es : List C) (s : SessionState) (v : ViewId) (g : List ℕ) (i : ℕ) (e : Entry) (after : GroupState) (before : List Cast) (p : ProviderId) (b : Option Filled) (c : Cast) → c ≡ cast_of e after s.level p b
+    → StandAfter R cs ds (notified s v g i e after before) → StandAfter R ds es (add_for (place_of s p) (Notified (notice_to v g i e after p) (ballot_of c))) → StandAfter R cs es (notified s v g i e after (before ++ cast_of e after s.level p b ∷ []))
+stand_one_more R cs ds es s v g i e after before p b c made first next hs h =
+    let same : c.p ≡ p = ap (λ (x : Cast). x.p) made ∙ cast_by e after s.level p b in
+    let all : notified s v g i e after (before ++ c ∷ []) hs ≡ add_for (place_of s p) (Notified (notice_to v g i e after p) (ballot_of c)) (notified s v g i e after before hs) =
+    notified_more s v g i e after before c hs ∙ ap (λ (q : ProviderId). add_for (place_of s q) (Notified (notice_to v g i e after q) (ballot_of c)) (notified s v g i e after before hs)) same in
+    rw (← made, all) (next (notified s v g i e after before hs) (first hs h))
 
 -- a ballot that was handed to a client is what it may fill, and its cast
 pub cast_one : (scripts : List (Option (List (Option VoteItem)))) (s : SessionState) (e : Entry) (after : GroupState) (p : ProviderId) (v : Bool) (l : ℕ) (f : Option Filled) (c : Cast)
@@ -67,14 +109,19 @@ map_at f (c ∷ cs) zero d lt = refl
 map_at f (c ∷ cs) (suc i) d lt = map_at f cs i d (omega arith)
 
 -- what was filled so far, with one provider more
-pub casts_one_more : (scripts : List (Option (List (Option VoteItem)))) (s : SessionState) (e : Entry) (after : GroupState) (ps : List ProviderId) (k : ℕ) (d : ProviderId) (bs : List (Option Filled)) (b : Option Filled) (start old pushed : List Cast) (c : Cast)
+pub casts_one_more : {C : Type 0} (R : C → List Handed → Type 0) (cs ds es : List C) (scripts : List (Option (List (Option VoteItem)))) (s : SessionState) (v : ViewId) (g : List ℕ) (i : ℕ) (e : Entry) (after : GroupState) (ps : List ProviderId) (k : ℕ) (d : ProviderId) (bs : List (Option Filled)) (b : Option Filled) (start old pushed : List Cast) (c : Cast)
     → k < length ps → Fillings scripts s e after (take k ps) bs → Filling scripts s e after (get_or ps k d) b
     → old ≡ start ++ casts_of e after s.level (take k ps) bs → c ≡ cast_of e after s.level (get_or ps k d) b → pushed ≡ old ++ c ∷ []
+    → StandAfter R cs ds (notified s v g i e after (casts_of e after s.level (take k ps) bs))
+    → StandAfter R ds es (add_for (place_of s (get_or ps k d)) (Notified (notice_to v g i e after (get_or ps k d)) (ballot_of c)))
     → (x : List (Option Filled)) × Fillings scripts s e after (take (k + 1) ps) x × (pushed ≡ start ++ casts_of e after s.level (take (k + 1) ps) x)
-casts_one_more scripts s e after ps k d bs b start old pushed c lt f g eo ec ep = (
+    × StandAfter R cs es (notified s v g i e after (casts_of e after s.level (take (k + 1) ps) x))
+casts_one_more R cs ds es scripts s v g i e after ps k d bs b start old pushed c lt f h eo ec ep first next = (
   bs ++ b ∷ [],
-  rw (take_more ps k d lt) (Fillings_more scripts s e after (take k ps) bs (get_or ps k d) b f g),
+  rw (take_more ps k d lt) (Fillings_more scripts s e after (take k ps) bs (get_or ps k d) b f h),
   rw (take_more ps k d lt, casts_more scripts s e after s.level (take k ps) bs (get_or ps k d) b f, ep, eo, ec) (append_assoc start (casts_of e after s.level (take k ps) bs) (cast_of e after s.level (get_or ps k d) b ∷ [])),
+  rw (take_more ps k d lt, casts_more scripts s e after s.level (take k ps) bs (get_or ps k d) b f)
+      (stand_one_more R cs ds es s v g i e after (casts_of e after s.level (take k ps) bs) (get_or ps k d) b c ec first next),
 )
 
 -- lists of one length without what stands at a place of each

@@ -26,6 +26,10 @@ StandFor R [] (h ∷ hs) = ⊥
 StandFor R (c ∷ cs) [] = ⊥
 StandFor R (c ∷ cs) (h ∷ hs) = R c h × StandFor R cs hs
 
+-- where the clients stood for lists, they stand for these after a change
+abbrev pub StandAfter : {C : Type 0} → (C → List Handed → Type 0) → List C → List C → (List (List Handed) → List (List Handed)) → Type 0
+StandAfter R old new change = (hs : List (List Handed)) → StandFor R old hs → StandFor R new (change hs)
+
 -- the lists of clients with one more thing at the end of one
 abbrev pub add_at : ℕ → Handed → List (List Handed) → List (List Handed)
 add_at i x [] = []

@@ -2,6 +2,7 @@
 use Rattle.std.specs.Prelude.{◌≡◌, ℕ, Bool, List, [], ◌∷◌, All, map, Option, Some, None, IsTrue, IsSome, slice_get, if◌then◌else◌}
 use Rattle.std.specs.List.{fold, list_any}
 use Rattle.rsct_packet.specs.declared.ids.ProviderId.{ProviderId}
+use Rattle.rsct_packet.specs.declared.ids.ProtoId.{ProtoId}
 use Rattle.rsct_packet.specs.declared.ids.ViewId.{ViewId}
 use Rattle.proposal_core.specs.declared.entry.Entry.{Entry}
 use Rattle.proposal_core.specs.declared.group_state.GroupState.{GroupState}
@@ -14,6 +15,7 @@ use Rattle.client_callbacks.specs.declared.told.Told.TheVariants as told
 use Rattle.client_callbacks.specs.declared.told.Why.{Why}
 use Rattle.client_callbacks.specs.Ballots.{BallotView, new_ballot, may_hold}
 use Rattle.client_callbacks.specs.Handed.{Handed, Notified, Informed, NoticeView, Fills, voted_by}
+use Rattle.session_state.specs.declared.casts.Cast.{Cast}
 use Rattle.session_state.specs.declared.state.SessionState.{SessionState}
 use Rattle.session_state.specs.State.{place_of}
 use Rattle.session_state.specs.HandOn.{asks, takes_telling, subscriber_of}
@@ -22,9 +24,17 @@ use Rattle.session_clients.specs.Clients.{add_for, is_at}
 abbrev pub notice_to : ViewId → List ℕ → ℕ → Entry → GroupState → ProviderId → NoticeView
 notice_to v g i e after p = record { p = p; view = v; group = g; place = i; entry = e; after = after; votes = asks e after p }
 
--- the lists of clients after those of ps were handed the notice
-unfoldable pub notified : SessionState → ViewId → List ℕ → ℕ → Entry → GroupState → List ProviderId → List (List Handed) → List (List Handed)
-notified s v g i e after ps hs = fold (λ t p. add_for (place_of s p) (Notified (notice_to v g i e after p)) t) hs ps
+abbrev pub ballot_in : Option (ProtoId × ℕ × BallotView) → Option Filled
+ballot_in None = None
+ballot_in (Some c) = (c.2).filled
+
+-- what was filled into the ballot of what a provider casts
+abbrev pub ballot_of : Cast → Option Filled
+ballot_of c = ballot_in c.cast
+
+-- the lists of clients after those of the providers of cs were handed the notice and cast cs
+unfoldable pub notified : SessionState → ViewId → List ℕ → ℕ → Entry → GroupState → List Cast → List (List Handed) → List (List Handed)
+notified s v g i e after cs hs = fold (λ t c. add_for (place_of s c.p) (Notified (notice_to v g i e after c.p) (ballot_of c)) t) hs cs
 
 -- whether the client at a place has one of ps
 unfoldable pub hears_at : SessionState → List ProviderId → ℕ → Bool

@@ -7,8 +7,8 @@ ghost use Rattle.client_callbacks.specs.Handed.{Handed, Notified, Informed, noti
 ghost use Rattle.session_state.specs.State.{place_of};
 ghost use Rattle.session_state.specs.Calls.{SameSessions};
 ghost use Rattle.session_state.specs.HandOn.{hearers, handed_on, casts_out, cast_with, cast_of, casts_of};
-ghost use Rattle.session_clients.specs.Clients.{StandFor, add_at, add_for, is_at, KeepsAllBut, KeepsScripts};
-ghost use Rattle.session_clients.specs.Notices.{notice_to, notified, hears_at, FillsAs, Filling, Fillings};
+ghost use Rattle.session_clients.specs.Clients.{StandFor, StandAfter, add_at, add_for, is_at, KeepsAllBut, KeepsScripts};
+ghost use Rattle.session_clients.specs.Notices.{notice_to, ballot_of, notified, hears_at, FillsAs, Filling, Fillings};
 
 use client_callbacks::{Ballot, Callbacks, Notice, Told};
 use proposal_core::{GroupState, Running};
@@ -44,7 +44,8 @@ fn cast_from(provider: ProviderId, ballot: Ballot, running: &Option<Running>) ->
 fn hand_to<C: Callbacks>(client: &mut C, level: u8, notice: &Notice<'_>) -> Result<Ballot, NoMemory>
     requires { IsTrue (is_level level) }
     ensures stands { (h : List Handed) → C.stands_for client.old h
-        → OnOk result (C.stands_for client.new (h ++ Notified (notice_of notice.now) ∷ [])) }
+        → IfOk result (λ b. C.stands_for client.new (h ++ Notified (notice_of notice.now)
+        b.filled ∷ [])) }
     ensures script { OnOk result (C.script client.new ≡ C.script client.old) }
     ensures fills { IfOk result (λ b. Fills (C.script client.old) notice.now.after.now
         (new_ballot notice.now.votes level) b) }
@@ -64,9 +65,8 @@ fn notify_at<C: Callbacks>(
 ) -> Result<Ballot, NoMemory>
     requires level { IsTrue (is_level level) }
     requires within { place < length clients.old.items }
-    ensures stand { (hs : List (List Handed)) → StandFor C.stands_for clients.old.items hs
-        → OnOk result (StandFor C.stands_for clients.new.items
-        (add_at place (Notified (notice_of notice.now)) hs)) }
+    ensures stand { IfOk result (λ b. StandAfter C.stands_for clients.old.items
+        clients.new.items (add_at place (Notified (notice_of notice.now) b.filled))) }
     ensures scripts { OnOk result (KeepsScripts C.script clients.old.items clients.new.items) }
     ensures length { length clients.new.items ≡ length clients.old.items }
     ensures others { KeepsAllBut (λ k. is_at k (Some place)) clients.old.items clients.new.items }
@@ -87,11 +87,10 @@ fn notify_one<C: Callbacks>(
 ) -> Result<Cast, NoMemory>
     requires level { IsTrue (is_level state.now.level) }
     requires aligned { length clients.old.items ≡ length state.now.sessions }
-    ensures stand { (hs : List (List Handed)) → StandFor C.stands_for clients.old.items hs
-        → OnOk result (StandFor C.stands_for clients.new.items
-        (add_for (place_of state.now provider) (Notified
+    ensures stand { IfOk result (λ c. StandAfter C.stands_for clients.old.items
+        clients.new.items (add_for (place_of state.now provider) (Notified
         (notice_to entry.now.view entry.now.group.now entry.now.place entry.now.entry.now
-        entry.now.after.now provider)) hs)) }
+        entry.now.after.now provider) (ballot_of c)))) }
     ensures scripts { OnOk result (KeepsScripts C.script clients.old.items clients.new.items) }
     ensures length { length clients.new.items ≡ length clients.old.items }
     ensures others { KeepsAllBut (λ k. is_at k (place_of state.now provider)) clients.old.items
@@ -123,7 +122,8 @@ fn notify_one<C: Callbacks>(
     }
 }
 
-/// Hands the clients of these providers the notice of an entry, one after another.
+/// Hands the clients of these providers the notice of an entry, one after another: each stands then for the notice
+/// with what it filled, which is what the provider casts.
 pub fn notify<C: Callbacks>(
     state: &SessionState,
     clients: &mut Vec<C>,
@@ -133,10 +133,6 @@ pub fn notify<C: Callbacks>(
 ) -> Result<(), NoMemory>
     requires level { IsTrue (is_level state.now.level) }
     requires aligned { length clients.old.items ≡ length state.now.sessions }
-    ensures stand { (hs : List (List Handed)) → StandFor C.stands_for clients.old.items hs
-        → OnOk result (StandFor C.stands_for clients.new.items
-        (notified state.now entry.now.view entry.now.group.now entry.now.place entry.now.entry.now
-        entry.now.after.now providers.now hs)) }
     ensures scripts { OnOk result (KeepsScripts C.script clients.old.items clients.new.items) }
     ensures length { length clients.new.items ≡ length clients.old.items }
     ensures others { KeepsAllBut
@@ -145,7 +141,10 @@ pub fn notify<C: Callbacks>(
         × Fillings (map C.script clients.old.items) state.now entry.now.entry.now
         entry.now.after.now providers.now bs × (casts.new
         ≡ casts.old ++ casts_of entry.now.entry.now entry.now.after.now state.now.level
-        providers.now bs)) }
+        providers.now bs) × StandAfter C.stands_for clients.old.items clients.new.items
+        (notified state.now entry.now.view entry.now.group.now entry.now.place entry.now.entry.now
+        entry.now.after.now (casts_of entry.now.entry.now entry.now.after.now state.now.level
+        providers.now bs))) }
 {
     for p in providers {
         let cast = notify_one(state, clients, entry, *p)?;
@@ -174,7 +173,8 @@ pub fn tell_at<C: Callbacks>(
     Ok(())
 }
 
-/// Hands an entry on: each local provider that takes part hears it.
+/// Hands an entry on: each local provider that takes part hears it. Its client stands then for the notice with what it
+/// filled, which is what the provider casts.
 #[tactic(auto, unfolding(session_state::specs::HandOn::handed_on, session_state::specs::HandOn::casts_out))]
 pub fn hand_entry_on<C: Callbacks>(
     state: &mut SessionState,
@@ -186,11 +186,6 @@ pub fn hand_entry_on<C: Callbacks>(
 ) -> Result<(), NoMemory>
     requires level { IsTrue (is_level state.old.level) }
     requires aligned { length clients.old.items ≡ length state.old.sessions }
-    ensures stand { (hs : List (List Handed)) → StandFor C.stands_for clients.old.items hs
-        → OnOk result (StandFor C.stands_for clients.new.items
-        (notified state.old entry.now.view entry.now.group.now entry.now.place entry.now.entry.now
-        entry.now.after.now (hearers state.old entry.now.group.now before.now entry.now.entry.now)
-        hs)) }
     ensures scripts { OnOk result (KeepsScripts C.script clients.old.items clients.new.items) }
     ensures length { length clients.new.items ≡ length clients.old.items }
     ensures others { KeepsAllBut (hears_at state.old
@@ -203,7 +198,10 @@ pub fn hand_entry_on<C: Callbacks>(
         bs × (state.new ≡ handed_on state.old entry.now.group.now before.now entry.now.after.now
         entry.now.entry.now bs) × (out.new ≡ out.old
         ++ casts_out state.old entry.now.group.now before.now entry.now.after.now
-        entry.now.entry.now bs)) }
+        entry.now.entry.now bs) × StandAfter C.stands_for clients.old.items clients.new.items
+        (notified state.old entry.now.view entry.now.group.now entry.now.place entry.now.entry.now
+        entry.now.after.now (casts_out state.old entry.now.group.now before.now
+        entry.now.after.now entry.now.entry.now bs))) }
 {
     let ps = hearers(state, alloc, entry.group.bytes(), before, entry.entry)?;
     let beginning = beginners(state, alloc, entry.group.bytes(), entry.entry)?;

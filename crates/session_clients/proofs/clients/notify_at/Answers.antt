@@ -5,7 +5,7 @@ use Rattle.session_clients.proofs.clients.notify_at.Goals as goal
 
 pub returns-clause-stand : goal.returns-clause-stand
 returns-clause-stand g c = λ hs s.
-    stand_more g.C.Callbacks.stands_for (Notified (notice_of c.args.notice.now)) c.args.clients.now.items hs c.args.place c.index_mut.result.now c.hand_to.new.client c.requires.within
+    stand_more g.C.Callbacks.stands_for (Notified (notice_of c.args.notice.now) c.in_ok-ballot.ballot.filled) c.args.clients.now.items hs c.args.place c.index_mut.result.now c.hand_to.new.client c.requires.within
     (λ h r. c.in_ok-ballot.ensures.stands h (rw c.index_mut.ensures.value r)) s
 
 pub returns-clause-scripts : goal.returns-clause-scripts
