@@ -10,3 +10,4 @@ mod view_packets;
 
 pub use events::NodeEvent;
 pub use node::{Node, StepFault};
+pub use packet_codec::is_packet;

@@ -1,6 +1,6 @@
 //! A node that runs: its state, its clients, and whether it has halted.
-ghost use Rattle.std.specs.Prelude.{◌≡◌, ◌↔◌, ℕ, [], List, false, map, IfOk, OnOk, IsErrOf, IsTrue};
-ghost use Rattle.session_clients.specs.Clients.{KeepsScripts};
+ghost use Rattle.std.specs.Prelude.{◌≡◌, ◌↔◌, ◌++◌, ℕ, [], List, false, map, option_copied, IfOk, OnOk, OnErr, IsErrOf, IsTrue};
+ghost use Rattle.session_clients.specs.Clients.{KeepsScripts, client_named};
 ghost use Rattle.session_state.specs.State.{client_token, client_place};
 ghost use Rattle.session_state.specs.Calls.{inited, removed_at};
 ghost use Rattle.node_calls.specs.Calling.{clients_with};
@@ -9,15 +9,19 @@ ghost use Rattle.entry_delivery.specs.Doing.{Does, RowDoes};
 ghost use Rattle.node_state.specs.declared.call.CallLine.TheVariants as call;
 ghost use Rattle.node_state.specs.Calls.{take_call};
 ghost use Rattle.node_state.specs.State.{InNameOrder};
+ghost use Rattle.node_state.specs.Status.{status_text};
 ghost use Rattle.node_state.specs.Step.{Calls, at_work, started, stepped};
 ghost use Rattle.node_core.specs.Event.{called, event_in, is_taken};
+ghost use Rattle.node_core.specs.Node.{sessions_in};
 
 use crate::events::{NodeEvent, take_event};
 use crate::sessions::{close_session, open_session};
 use client_callbacks::Callbacks;
 use node_start::start_core;
-use node_state::{Config, Core, Packets, Records};
+use node_state::{Config, Core, Packets, Records, What};
+use node_text::status_text;
 use rsct_packet::{List, NoMemory};
+use session_calls::session_place;
 use std::alloc::Global;
 use std::marker::Model;
 use std::mem;
@@ -84,13 +88,33 @@ impl<C: Callbacks> Node<C> {
         self.clients.as_slice()
     }
 
+    /// The client of the live session of this name.
+    pub fn client(&self, name: &[u8]) -> Option<&C>
+        ensures { option_copied result ≡ client_named (sessions_in self.now) name.now }
+    {
+        let place = session_place(&self.core.sessions, name)?;
+        self.clients.get(place)
+    }
+
     pub fn is_halted(&self) -> bool
         ensures { result ≡ self.now.halted }
     {
         self.halted
     }
 
-    /// Takes what its last step sent.
+    /// Appends the lines of a status as the node stands, as a reply to a status client carries them. Where memory
+    /// runs out nothing is appended.
+    pub fn status(&self, alloc: Global, what: What, out: &mut Vec<u8>) -> Result<(), NoMemory>
+        ensures ok { OnOk result (out.new.items
+            ≡ out.old.items ++ status_text self.now.core what) }
+        ensures err { OnErr result (out.new.items ≡ out.old.items) }
+    {
+        let text = status_text(&self.core, alloc, what)?;
+        out.extend_from_slice(text.as_slice())?;
+        Ok(())
+    }
+
+    /// Takes what its last step sent. The bytes of a packet are those of its `Datagram` in `world_packets`.
     #[tactic(auto, using(crate::proofs::StepLaws::work_beside))]
     pub fn take_sends(&mut self, alloc: Global) -> Packets
         ensures taken { result ≡ self.old.core.sends }

@@ -13,6 +13,6 @@ mod writable_packets;
 mod writing;
 
 pub use laws::packets_are_read_again;
-pub use packet::{BodyRef, PacketRef};
+pub use packet::{BodyRef, PacketRef, is_packet};
 pub use writable_packets::is_writable;
 pub use writing::{head_of, write_packet};

@@ -1,7 +1,7 @@
 //! A packet in place: what a daemon reads off a datagram.
 ghost use Rattle.std.specs.Prelude.{◌≡◌, ◌≤◌, Option, option_map};
 ghost use Rattle.node_state.specs.Bodies.{body_at};
-ghost use Rattle.node_state.specs.Bytes.{packet_of};
+ghost use Rattle.node_state.specs.Bytes.{packet_of, is_packet};
 ghost use Rattle.packet_codec.specs.InPlace.{body_in, packet_in};
 
 use crate::groups::{
@@ -142,4 +142,13 @@ impl<'a> PacketRef<'a> {
             body,
         })
     }
+}
+
+/// Are these bytes a packet: a head, and a body of its kind's grammar that takes all that the head names? It copies
+/// nothing.
+#[tactic(auto, unfolding(node_state::specs::Bytes::is_packet))]
+pub fn is_packet(bytes: &[u8]) -> bool
+    ensures { result ≡ is_packet bytes.now }
+{
+    PacketRef::read(bytes).is_some()
 }

@@ -1,5 +1,5 @@
 -- Single steps that no script can show.
-use Rattle.std.specs.Prelude.{ℕ, Bool, List, [], ◌∷◌, map, codes, slice_set}
+use Rattle.std.specs.Prelude.{ℕ, Bool, List, [], ◌∷◌, map, length, codes, slice_set, Option, Some, None}
 use Rattle.std.specs.Option.{unwrap_or}
 use Rattle.std.specs.List.{list_any, list_all}
 use Rattle.rsct_packet.specs.declared.ids.ViewId.{ViewId}
@@ -16,6 +16,8 @@ use Rattle.node_state.specs.Bytes.{is_packet}
 use Rattle.world_model.specs.Words.{hex_word}
 use Rattle.world_model.specs.World.{by_scripts}
 use Rattle.world_model.specs.Load.{settings_of}
+use Rattle.world_model.specs.Reading.{ScriptRead, IsScript, IsNone}
+use Rattle.world_model.specs.Settings.{daemon_script, own_calls, own_boxed}
 
 -- one node, which speaks level 2
 unfoldable pub one_settings : Config
@@ -171,6 +173,36 @@ join_at_two = codes "mode fixed\nnode 1\nlevel 1 1\nbegin\nclient 1 a A\njoin a 
 abbrev pub cut_rings : List ℕ
 cut_rings =
     codes "node 1\nnode 2\nbegin\nstart 1\nstart 2\nrun 2\ncut 1 2\nclient 1 a A\njoin a db 1\nrun 2\nheal 1 2\ntick 2\ndrop 2 1\ndeliver 1 2 1\nrun 3\nstop 1\nrun 1\n"
+
+-- ---- settings
+
+-- for a daemon of node 1 with so many objects
+abbrev pub served : ℕ → List ℕ → ScriptRead
+served objects bytes = daemon_script 1 (Some objects) bytes
+
+-- to ask node 1
+abbrev pub asked : List ℕ → ScriptRead
+asked bytes = daemon_script 1 None bytes
+
+-- whether a script is read, and then whether it has a `begin`
+abbrev pub read_in : ScriptRead → Option Bool
+read_in (IsScript s) = Some s.begun
+read_in (IsNone n why) = None
+
+-- how many calls of clients of node 1
+abbrev pub own_in : ScriptRead → ℕ
+own_in (IsScript s) = length (own_calls 1 s)
+own_in (IsNone n why) = 99
+
+-- how many of its clients take an object
+abbrev pub boxed_in : ScriptRead → ℕ
+boxed_in (IsScript s) = length (own_boxed 1 s)
+boxed_in (IsNone n why) = 99
+
+-- the bytes of the calls
+abbrev pub texts_in : ScriptRead → List (List ℕ)
+texts_in (IsScript s) = s.texts
+texts_in (IsNone n why) = []
 
 -- opens each word of this file, for a computation
 unfoldable pub samples_opens : Unit {0}

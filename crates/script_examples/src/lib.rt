@@ -5,6 +5,7 @@ pub mod rows_basic;
 pub mod rows_bytes;
 pub mod rows_queue;
 pub mod rows_rings;
+pub mod rows_settings;
 pub mod rows_steps;
 pub mod rows_views;
 pub mod rows_votes;

@@ -3,3 +3,4 @@ pub mod EachLaws
 pub mod SaidLaws
 pub mod ReadLaws
 pub mod ScriptLaws
+pub mod SettingsLaws

@@ -1,13 +1,25 @@
 -- A script is read line by line.
-use Rattle.std.proofs.Common.{◌≡◌, ℕ, ◌+◌, ◌<◌, ◌≤◌, nat_lt, Bool, true, false, List, [], ◌∷◌, length, refl, sym, ◌∙◌, ap, arith}
+use Rattle.std.proofs.Common.{◌≡◌, ℕ, ◌+◌, ◌<◌, ◌≤◌, nat_lt, Bool, true, false, List, [], ◌∷◌, length, Result, refl, sym, ◌∙◌, ap, subst, arith}
 use Rattle.std.proofs.lemmas.Bool.{le-ltb, lt-ltb}
 use Rattle.rsct_packet.specs.Lists.{is_empty}
 use Rattle.world_model.specs.declared.script.LineWhy.TheVariants.{Long}
-use Rattle.world_model.specs.Reading.{Reading, Read, Good, Bad, ScriptRead, IsNone, read_line, finished, input_limit, read_from}
+use Rattle.world_model.specs.Reading.{Reading, Read, Good, Bad, ScriptRead, IsNone, with_text, texted, read_line, at_end, input_limit, read_from}
 use Rattle.script_reader.specs.declared.faults.LineFault.{LineFault}
 use Rattle.script_reader.specs.declared.faults.LineFault.TheVariants as line_fault
 use Rattle.script_reader.specs.Faults.{fault_at}
-use Rattle.script_reader.specs.Reading.{FailsLine, FailsScript}
+use Rattle.world_model.specs.declared.script.Script.{Script}
+use Rattle.script_reader.specs.declared.faults.ScriptFault.{ScriptFault}
+use Rattle.script_reader.specs.Reading.{FailsLine, FailsScript, GivesScript}
+
+-- a line of words, with its bytes
+pub texted_fails : (bytes : List ℕ) (x : Read) (e : LineFault) → FailsLine e x → FailsLine e (texted bytes x)
+unfolding texted
+texted_fails bytes x line_fault.NoMemory h = tt
+texted_fails bytes x (line_fault.Bad why) h = ap (λ y. texted bytes y) h
+
+pub texted_good : (bytes : List ℕ) (x : Read) (r q : Reading) → x ≡ Good r → q ≡ with_text r bytes r.has_call → texted bytes x ≡ Good q
+unfolding texted
+texted_good bytes x r q e f = ap (λ y. texted bytes y) e ∙ ap Good (sym f)
 
 -- what is read after a line
 abbrev pub line_after : Read → ℕ → ℕ → List (List ℕ) → ScriptRead
@@ -15,7 +27,7 @@ line_after (Good q) n i cs = read_from q (n + 1) i cs
 line_after (Bad why) n i cs = IsNone n why
 
 abbrev pub last_after : Read → ℕ → ScriptRead
-last_after (Good q) n = finished q
+last_after (Good q) n = at_end q n
 last_after (Bad why) n = IsNone n why
 
 line_head : (x : Read) (n i : ℕ) (cs : List (List ℕ))
@@ -23,7 +35,7 @@ line_head : (x : Read) (n i : ℕ) (cs : List (List ℕ))
 line_head (Good q) n i cs = refl
 line_head (Bad why) n i cs = refl
 
-last_head : (x : Read) (n : ℕ) → ◌≡◌ {A = ScriptRead} (elim x [ Good q ↦ finished q | Bad why ↦ IsNone n why ]) (last_after x n)
+last_head : (x : Read) (n : ℕ) → ◌≡◌ {A = ScriptRead} (elim x [ Good q ↦ at_end q n | Bad why ↦ IsNone n why ]) (last_after x n)
 last_head (Good q) n = refl
 last_head (Bad why) n = refl
 
@@ -63,10 +75,13 @@ line_fails r n i b bs cs line_fault.NoMemory all e f h g k = tt
 line_fails r n i b bs cs (line_fault.Bad why) all e f h g k = sym k ∙ (short_next r n i b bs cs e f h ∙ ap (λ y. line_after y n (i + length b + 1) cs) g)
 
 -- what follows the last line feed
-pub no_line : (r : Reading) (n i : ℕ) (b : List ℕ) → length b ≡ 0 → read_from r n i (b ∷ []) ≡ finished r
+no_more : (r : Reading) (n i : ℕ) (b : List ℕ) → length b ≡ 0 → read_from r n i (b ∷ []) ≡ at_end r n
 unfolding read_from
-no_line r n i [] e = refl
-no_line r n i (x ∷ xs) e = absurd (omega arith)
+no_more r n i [] e = refl
+no_more r n i (x ∷ xs) e = absurd (omega arith)
+
+pub no_line : (r : Reading) (n i : ℕ) (b : List ℕ) (s : Result Script ScriptFault) → length b ≡ 0 → GivesScript s (at_end r n) → GivesScript s (read_from r n i (b ∷ []))
+no_line r n i b s e g = subst (GivesScript s) (sym (no_more r n i b e)) g
 
 short_last : (r : Reading) (n i : ℕ) (b : List ℕ) → 0 < length b → i + length b ≤ input_limit → read_from r n i (b ∷ []) ≡ last_after (read_line r false false b) n
 short_last r n i b f h = last_line r n i b f ∙ ap (λ t. last_after (read_line r false t b) n) (le-ltb input_limit (i + length b) h)
@@ -75,9 +90,9 @@ pub last_long : (r : Reading) (n i : ℕ) (b : List ℕ) → 0 < length b → in
 last_long r n i b f h =
     last_line r n i b f ∙ (ap (λ t. last_after (read_line r false t b) n) (lt-ltb input_limit (i + length b) h) ∙ ap (λ x. last_after x n) (long_line r false b))
 
-pub last_taken : (r q : Reading) (n i : ℕ) (b : List ℕ) → 0 < length b → i + length b ≤ input_limit → read_line r false false b ≡ Good q
-    → read_from r n i (b ∷ []) ≡ finished q
-last_taken r q n i b f h g = short_last r n i b f h ∙ ap (λ x. last_after x n) g
+pub last_taken : (r q : Reading) (n i : ℕ) (b : List ℕ) (s : Result Script ScriptFault) → 0 < length b → i + length b ≤ input_limit → read_line r false false b ≡ Good q
+    → GivesScript s (at_end q n) → GivesScript s (read_from r n i (b ∷ []))
+last_taken r q n i b s f h e g = subst (GivesScript s) (sym (short_last r n i b f h ∙ ap (λ x. last_after x n) e)) g
 
 pub last_fails : (r : Reading) (n i : ℕ) (b : List ℕ) (x : LineFault) → 0 < length b → i + length b ≤ input_limit → FailsLine x (read_line r false false b)
     → FailsScript (fault_at n x) (read_from r n i (b ∷ []))

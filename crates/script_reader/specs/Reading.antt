@@ -12,6 +12,7 @@ use Rattle.script_reader.specs.Clients.{newest_first}
 abbrev pub reading_seen : ReadSoFar → Reading
 reading_seen r =
     record {
+      aim = r.aim;
       config = r.config;
       has_mode = r.has_mode;
       has_adapter = r.has_adapter;
@@ -19,8 +20,11 @@ reading_seen r =
       has_port = r.has_port;
       has_domain = r.has_domain;
       begun = r.begun;
+      left = r.left;
       clients = r.clients;
       lines = newest_first (λ l. l) r.lines;
+      texts = newest_first (λ t. t) r.texts;
+      has_call = r.has_call;
     }
 
 abbrev pub FailsLine : LineFault → Read → Type 0

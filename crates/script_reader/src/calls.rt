@@ -7,7 +7,7 @@ ghost use Rattle.client_callbacks.specs.Votes.{text_word, vote_word};
 ghost use Rattle.script_words.specs.Answers.{GivesWord};
 ghost use Rattle.script_reader.specs.Said.{GivesSaid, GivesVotes, client_said, join_said, leave_said, expel_said, state_said, message_said, attrs_said, vote_said, subscribe_said, unsubscribe_said, goodbye_said};
 
-use crate::said::{ClientVotes, Said};
+use crate::said::{BOXED, ClientVotes, Said};
 use client_callbacks::{VoteItem, text_word, vote_word, votes_word};
 use node_state::CallLine;
 use rsct_packet::{List, ProviderId};
@@ -62,7 +62,7 @@ fn vote_of(alloc: Global, word: &[u8]) -> Result<VoteItem, WordFault>
 fn client_votes(alloc: Global, word: &[u8]) -> Result<ClientVotes, WordFault>
     ensures { GivesVotes result (client_votes word.now) }
 {
-    if word == b"boxed".as_slice() {
+    if word == BOXED {
         return Ok(ClientVotes::Boxed);
     }
     match votes_word(alloc, word)? {

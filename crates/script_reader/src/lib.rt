@@ -13,4 +13,4 @@ mod script;
 mod settings;
 
 pub use faults::ScriptFault;
-pub use script::{INPUT_LIMIT, read_script};
+pub use script::{INPUT_LIMIT, read_daemon, read_script};

@@ -1,23 +1,27 @@
 //! What has been read of a script, and what a good line adds to it.
-ghost use Rattle.std.specs.Prelude.{◌≡◌, ◌-◌, [], OnOk, map, slice_set, slice_get, false};
+ghost use Rattle.std.specs.Prelude.{◌≡◌, ◌-◌, [], OnOk, IfOk, map, slice_set, slice_get, false};
 ghost use Rattle.std.specs.List.{fold};
 ghost use Rattle.std.specs.Option.{unwrap_or};
 ghost use Rattle.rsct_packet.specs.Mask.{node_numbers};
-ghost use Rattle.world_model.specs.Reading.{first_settings, nothing_read, plain_address, settled, settled_if, with_address, with_line, with_client, finished, taken, IsScript};
+ghost use Rattle.world_model.specs.Reading.{first_settings, objects_of, nothing_read, plain_address, settled, settled_if, with_address, with_line, with_call, votes_said, left_after, with_client, with_text, lacks_begin, at_end, taken};
 ghost use Rattle.script_reader.specs.Said.{said_seen, votes_seen};
-ghost use Rattle.script_reader.specs.Reading.{reading_seen};
+ghost use Rattle.script_reader.specs.Reading.{reading_seen, GivesScript};
 
 use crate::calls::caller;
 use crate::clients::Clients;
+use crate::faults::ScriptFault;
 use crate::said::{ClientVotes, Said};
 use node_state::{CallLine, Config, Mode};
 use rsct_packet::{List, Mask, NODES, NoMemory};
 use std::alloc::Global;
-use world_model::{Event, Line, Lines, Script};
+use world_model::{Aim, Event, Line, LineWhy, Lines, Script};
 
-/// What has been read, and which settings; clients and lines in their order.
+/// What has been read, for what, and which settings; clients, lines and texts in their order. `left`: how many
+/// objects no client has taken. `texts`: the bytes of those lines that are calls. `has_call`: the last line is a
+/// call whose bytes are not kept yet.
 #[derive(Drop)]
 pub struct ReadSoFar {
+    pub aim: Aim,
     pub config: Config,
     pub has_mode: bool,
     pub has_adapter: bool,
@@ -25,8 +29,11 @@ pub struct ReadSoFar {
     pub has_port: bool,
     pub has_domain: bool,
     pub begun: bool,
+    pub left: u32,
     pub clients: Clients,
     pub lines: Lines,
+    pub texts: List<List<u8>>,
+    pub has_call: bool,
 }
 
 /// The settings of a script that has none.
@@ -110,13 +117,47 @@ fn set_address(addr: &mut [[u32; 32]], node: u8, network: u8, address: u32)
     }
 }
 
+/// The objects that give votes.
+#[tactic(auto, unfolding(world_model::specs::Reading::objects_of))]
+fn objects_of(aim: Aim) -> u32
+    ensures { result ≡ objects_of aim }
+{
+    match aim {
+        Aim::Serves(_, objects) => objects,
+        _ => 0,
+    }
+}
+
+/// How many objects are left after a line of a client of this node.
+#[tactic(auto, unfolding(world_model::specs::Reading::left_after))]
+fn left_after(aim: Aim, node: u8, votes: &ClientVotes, left: u32) -> u32
+    ensures { result ≡ left_after aim node (votes_seen votes.now) left }
+{
+    match (aim, votes) {
+        (Aim::Serves(me, _), ClientVotes::Boxed) if node == me => left.saturating_sub(1),
+        _ => left,
+    }
+}
+
+/// Do the settings of a node end before their `begin`?
+#[tactic(auto, unfolding(world_model::specs::Reading::lacks_begin))]
+fn lacks_begin(aim: Aim, begun: bool) -> bool
+    ensures { result ≡ lacks_begin aim begun }
+{
+    match aim {
+        Aim::Plays => false,
+        _ => !begun,
+    }
+}
+
 impl ReadSoFar {
     /// Nothing.
     #[tactic(auto, unfolding(world_model::specs::Reading::nothing_read))]
-    pub fn new(alloc: Global) -> ReadSoFar
-        ensures { reading_seen result ≡ nothing_read }
+    pub fn new(alloc: Global, aim: Aim) -> ReadSoFar
+        ensures { reading_seen result ≡ nothing_read aim }
     {
         ReadSoFar {
+            aim,
             config: first_settings(),
             has_mode: false,
             has_adapter: false,
@@ -124,8 +165,11 @@ impl ReadSoFar {
             has_port: false,
             has_domain: false,
             begun: false,
+            left: objects_of(aim),
             clients: Clients::new(alloc),
             lines: List::new(alloc),
+            texts: List::new(alloc),
+            has_call: false,
         }
     }
 
@@ -141,17 +185,21 @@ impl ReadSoFar {
         }
     }
 
-    /// The script, where no line follows.
-    #[tactic(auto, unfolding(world_model::specs::Reading::finished), using(crate::proofs::ReadLaws::newest_back))]
-    pub fn finish(self) -> Script
-        ensures { finished (reading_seen self) ≡ IsScript result }
+    /// The script, where no line of this number follows; settings of a node lack their `begin` there.
+    #[tactic(auto, unfolding(world_model::specs::Reading::at_end, world_model::specs::Reading::script_in), using(crate::proofs::ReadLaws::newest_back))]
+    pub fn finish(self, number: u32) -> Result<Script, ScriptFault>
+        ensures { GivesScript result (at_end (reading_seen self) number) }
     {
+        if lacks_begin(self.aim, self.begun) {
+            return Err(ScriptFault::Line(number, LineWhy::MissingWord));
+        }
         let config = self.settled();
-        Script {
+        Ok(Script {
             config,
             begun: self.begun,
             lines: self.lines,
-        }
+            texts: self.texts,
+        })
     }
 
     #[tactic(auto, unfolding(world_model::specs::Reading::with_line), using(std::proofs::lemmas::Grind::common_steps))]
@@ -161,7 +209,30 @@ impl ReadSoFar {
         self.lines.push(line)
     }
 
-    #[tactic(auto, unfolding(world_model::specs::Reading::with_line, world_model::specs::Reading::with_client))]
+    #[tactic(auto, unfolding(world_model::specs::Reading::with_call), using(std::proofs::lemmas::Grind::common_steps))]
+    fn take_call(&mut self, node: u8, call: CallLine) -> Result<(), NoMemory>
+        ensures { OnOk result (reading_seen self.new
+            ≡ with_call (reading_seen self.old) node call) }
+    {
+        self.lines.push(Line::Plain(Event::Call(node, call)))?;
+        self.has_call = true;
+        Ok(())
+    }
+
+    /// Keeps the bytes of the line that was taken, if it is a call.
+    #[tactic(auto, unfolding(world_model::specs::Reading::with_text), using(std::proofs::lemmas::Grind::common_steps))]
+    pub fn keep_text(&mut self, alloc: Global, line: &[u8]) -> Result<(), NoMemory>
+        ensures { OnOk result (reading_seen self.new
+            ≡ with_text (reading_seen self.old) line.now self.old.has_call) }
+    {
+        if self.has_call {
+            self.texts.push(List::of(alloc, line)?)?;
+            self.has_call = false;
+        }
+        Ok(())
+    }
+
+    #[tactic(auto, unfolding(world_model::specs::Reading::with_client, world_model::specs::Reading::with_call))]
     fn take_client(
         &mut self,
         alloc: Global,
@@ -172,14 +243,11 @@ impl ReadSoFar {
         ensures { OnOk result (reading_seen self.new
             ≡ with_client (reading_seen self.old) node name (votes_seen votes)) }
     {
-        match votes {
-            ClientVotes::Boxed => Ok(()),
-            ClientVotes::Scripted(votes) => {
-                let known = List::of(alloc, name.as_slice())?;
-                self.clients.add(known, node)?;
-                self.take_line(Line::Plain(Event::Call(node, CallLine::Init { node, name, votes })))
-            }
-        }
+        let known = List::of(alloc, name.as_slice())?;
+        self.left = left_after(self.aim, node, &votes, self.left);
+        let votes = votes.into_word(alloc)?;
+        self.clients.add(known, node)?;
+        self.take_call(node, CallLine::Init { node, name, votes })
     }
 
     /// Takes in what a good line says.
@@ -231,7 +299,7 @@ impl ReadSoFar {
             Said::Client(node, name, votes) => self.take_client(alloc, node, name, votes),
             Said::Call(call) => {
                 let node = self.clients.node_of(caller(&call));
-                self.take_line(Line::Plain(Event::Call(node, call)))
+                self.take_call(node, call)
             }
         }
     }

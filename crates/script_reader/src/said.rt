@@ -1,20 +1,38 @@
 //! What a line says.
+ghost use Rattle.std.specs.Prelude.{◌≡◌, IfOk};
 ghost use Rattle.world_model.specs.Lines.{said};
+ghost use Rattle.world_model.specs.Reading.{votes_said};
 ghost use Rattle.script_words.specs.Heads.{head_seen};
-ghost use Rattle.script_reader.specs.Said.{GivesSaid};
+ghost use Rattle.script_reader.specs.Said.{GivesSaid, votes_seen};
 
 use crate::{calls, events, settings};
 use node_state::{CallLine, Mode};
-use rsct_packet::List;
+use rsct_packet::{List, NoMemory};
 use script_words::{Head, WordFault, Words};
 use std::alloc::Global;
 use world_model::Line;
+
+/// The word of a client whose votes an object gives.
+pub const BOXED: &[u8] = b"boxed";
 
 /// How a client votes: as an object says, or as the word does.
 #[derive(Drop)]
 pub enum ClientVotes {
     Boxed,
     Scripted(List<u8>),
+}
+
+impl ClientVotes {
+    /// The word that says so.
+    #[tactic(auto, unfolding(world_model::specs::Reading::votes_said))]
+    pub fn into_word(self, alloc: Global) -> Result<List<u8>, NoMemory>
+        ensures { IfOk result (λ w. w ≡ votes_said (votes_seen self)) }
+    {
+        match self {
+            ClientVotes::Boxed => List::of(alloc, BOXED),
+            ClientVotes::Scripted(word) => Ok(word),
+        }
+    }
 }
 
 /// The nodes that a line names.

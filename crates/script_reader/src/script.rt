@@ -1,7 +1,8 @@
 //! A script from its bytes, line by line.
-ghost use Rattle.std.specs.Prelude.{◌≡◌, ◌≤◌, ◌∷◌, [], Some, false};
+ghost use Rattle.std.specs.Prelude.{◌≡◌, ◌≤◌, ◌∷◌, [], Some, IfOk, false};
 ghost use Rattle.std.specs.List.{list_any};
-ghost use Rattle.world_model.specs.Reading.{is_bad_byte, is_comment, is_extra, skipped_line, taken_unless, said_line, counted_line, formed_line, worded_line, read_line, read_from, input_limit, script_of};
+ghost use Rattle.world_model.specs.Reading.{is_bad_byte, is_comment, is_extra, skipped_line, taken_unless, said_line, counted_line, formed_line, worded_line, words_in, texted, read_line, read_from, input_limit, read_for, script_of};
+ghost use Rattle.world_model.specs.Settings.{aim_of, daemon_script, KeepsFor, HasTexts};
 ghost use Rattle.script_words.specs.Heads.{form_seen};
 ghost use Rattle.script_reader.specs.Said.{said_seen};
 ghost use Rattle.script_reader.specs.Reading.{reading_seen, GivesLine, GivesScript};
@@ -12,7 +13,7 @@ use crate::reasons::reason;
 use crate::said::{Said, read_said};
 use script_words::{Form, WordFault, Words, cut_at, form_of};
 use std::alloc::Global;
-use world_model::{LineWhy, Script};
+use world_model::{Aim, LineWhy, Script};
 
 /// How many bytes an input has at most.
 pub const INPUT_LIMIT: usize = 16_777_216;
@@ -123,6 +124,23 @@ fn worded_line(
     counted_line(alloc, read, form, words)
 }
 
+/// Takes a line of words, and keeps the bytes of a call.
+#[tactic(auto, using(crate::proofs::ScriptLaws::texted_fails, crate::proofs::ScriptLaws::texted_good))]
+fn texted_line(
+    alloc: Global,
+    read: &mut ReadSoFar,
+    whole: bool,
+    line: &[u8],
+) -> Result<(), LineFault>
+    ensures { GivesLine result read.new (texted line.now
+        (worded_line (reading_seen read.old) whole (words_in line.now))) }
+{
+    let mut words = Words::of(line);
+    worded_line(alloc, read, whole, &mut words)?;
+    read.keep_text(alloc, line)?;
+    Ok(())
+}
+
 /// Takes a line within the limit of an input. `whole`: its line feed stands behind it.
 #[tactic(auto, unfolding(world_model::specs::Reading::read_line))]
 fn read_line(alloc: Global, read: &mut ReadSoFar, whole: bool, line: &[u8]) -> Result<(), LineFault>
@@ -134,8 +152,7 @@ fn read_line(alloc: Global, read: &mut ReadSoFar, whole: bool, line: &[u8]) -> R
     if is_comment(line) {
         return skip_line(read, whole);
     }
-    let mut words = Words::of(line);
-    worded_line(alloc, read, whole, &mut words)
+    texted_line(alloc, read, whole, line)
 }
 
 /// Takes what follows the last line feed, at this place of the input, as the line of this number.
@@ -151,24 +168,23 @@ fn read_last(
     ensures { GivesScript result (read_from (reading_seen read) number place (line.now ∷ [])) }
 {
     if line.len() == 0 {
-        return Ok(read.finish());
+        return read.finish(number);
     }
     if place + line.len() > INPUT_LIMIT {
         return Err(ScriptFault::Line(number, LineWhy::Long));
     }
     match read_line(alloc, &mut read, false, line) {
-        Ok(()) => Ok(read.finish()),
+        Ok(()) => read.finish(number),
         Err(fault) => Err(fault.at(number)),
     }
 }
 
-/// The script that the bytes spell. Otherwise the fault is the number of the first line, from 1 on, that is in no
-/// script, and the first reason why, in the order of `LineWhy`; or memory has run out.
-#[tactic(auto, unfolding(world_model::specs::Reading::script_of), using(crate::proofs::ScriptLaws::line_long, crate::proofs::ScriptLaws::line_taken, crate::proofs::ScriptLaws::line_fails, crate::proofs::ScriptLaws::last_piece))]
-pub fn read_script(alloc: Global, bytes: &[u8]) -> Result<Script, ScriptFault>
-    ensures { GivesScript result (script_of bytes.now) }
+/// The script that the bytes spell, read for this.
+#[tactic(auto, unfolding(world_model::specs::Reading::read_for), using(crate::proofs::ScriptLaws::line_long, crate::proofs::ScriptLaws::line_taken, crate::proofs::ScriptLaws::line_fails, crate::proofs::ScriptLaws::last_piece))]
+fn read_lines(alloc: Global, bytes: &[u8], aim: Aim) -> Result<Script, ScriptFault>
+    ensures { GivesScript result (read_for aim bytes.now) }
 {
-    let mut read = ReadSoFar::new(alloc);
+    let mut read = ReadSoFar::new(alloc, aim);
     let mut number = 1;
     let mut place = 0;
     let mut left = bytes;
@@ -185,4 +201,60 @@ pub fn read_script(alloc: Global, bytes: &[u8]) -> Result<Script, ScriptFault>
         left = after;
     }
     read_last(alloc, read, number, place, left)
+}
+
+/// The script that the bytes spell. Otherwise the fault is the number of the first line, from 1 on, that is in no
+/// script, and the first reason why, in the order of `LineWhy`; or memory has run out.
+#[tactic(auto, unfolding(world_model::specs::Reading::script_of))]
+pub fn read_script(alloc: Global, bytes: &[u8]) -> Result<Script, ScriptFault>
+    ensures { GivesScript result (script_of bytes.now) }
+{
+    read_lines(alloc, bytes, Aim::Plays)
+}
+
+#[tactic(auto, unfolding(world_model::specs::Settings::aim_of))]
+fn aim_of(me: u8, objects: Option<u32>) -> Aim
+    ensures { result ≡ aim_of me objects }
+{
+    match objects {
+        Some(objects) => Aim::Serves(me, objects),
+        None => Aim::Asks(me),
+    }
+}
+
+#[tactic(auto, unfolding(world_model::specs::Settings::daemon_script))]
+fn read_settings(
+    alloc: Global,
+    bytes: &[u8],
+    me: u8,
+    objects: Option<u32>,
+) -> Result<Script, ScriptFault>
+    ensures { GivesScript result (daemon_script me objects bytes.now) }
+{
+    read_lines(alloc, bytes, aim_of(me, objects))
+}
+
+/// The script that the bytes spell as the settings of node `me` (1 to 32): for a daemon of it, with `objects` for
+/// so many of its clients, or, with none, for who asks it. The fault is that of `read_script`, with these rules
+/// more:
+///
+/// - There is a `begin` line. Without one the line after the last one lacks a word.
+/// - Node `me` has a line before `begin`, which has an unknown node otherwise.
+/// - A mode other than `rings` is out of place.
+/// - For a daemon, a line after `begin` that is no call is out of place, and so is a call of a client of node `me`
+///   that is none of `client`, `join` and `subscribe`.
+/// - The votes of a client may be `boxed`. For a daemon each such client of node `me` takes an object; where none
+///   is left, the line is of a boxed client.
+#[tactic(auto, using(crate::proofs::SettingsLaws::keeps_for, crate::proofs::SettingsLaws::keeps_texts))]
+pub fn read_daemon(
+    alloc: Global,
+    bytes: &[u8],
+    me: u8,
+    objects: Option<u32>,
+) -> Result<Script, ScriptFault>
+    ensures read { GivesScript result (daemon_script me objects bytes.now) }
+    ensures keeps { IfOk result (KeepsFor me objects) }
+    ensures texts { IfOk result HasTexts }
+{
+    read_settings(alloc, bytes, me, objects)
 }

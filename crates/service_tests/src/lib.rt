@@ -11,4 +11,6 @@ mod requests;
 #[cfg(test)]
 mod rows;
 #[cfg(test)]
+mod settings;
+#[cfg(test)]
 mod texts;

@@ -3,6 +3,7 @@ pub mod Text
 pub mod Words
 pub mod Lines
 pub mod Reading
+pub mod Settings
 pub mod World
 pub mod Play
 pub mod Kept

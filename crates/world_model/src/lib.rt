@@ -6,4 +6,4 @@ mod script;
 
 pub use event::{Event, Events};
 pub use node_state::CallLine;
-pub use script::{Line, LineWhy, Lines, Script};
+pub use script::{Aim, Line, LineWhy, Lines, Script};

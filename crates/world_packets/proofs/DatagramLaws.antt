@@ -15,6 +15,9 @@ is_datagram p b h e =
     let again : packet_as b ≡ p = packet_again p b h e in
     record { reads = ap packet_of e ∙ (packet_read_again p h ∙ ap Some (sym again)); spells = e ∙ ap bytes_of (sym again) }
 
+pub datagram_spells : (b : List ℕ) → IsDatagram b → b ≡ bytes_of (packet_as b)
+datagram_spells b h = h.spells
+
 -- as many bytes as its packet has
 pub datagram_len : (b : List ℕ) → IsDatagram b → length b ≡ packet_len (packet_as b)
 unfolding packet_len

@@ -1,6 +1,6 @@
 //! The bytes of a packet.
 ghost use Rattle.std.specs.Prelude.{◌≡◌, IfOk, Some};
-ghost use Rattle.node_state.specs.Bytes.{packet_of, packet_len};
+ghost use Rattle.node_state.specs.Bytes.{packet_of, bytes_of, packet_len};
 
 use node_state::Packet;
 use packet_codec::{is_writable, write_packet};
@@ -40,9 +40,11 @@ impl Datagram {
         Ok(Datagram { bytes })
     }
 
-    /// The bytes, which are the packet's.
+    /// The bytes, which are read as the packet, and are those that spell it.
+    #[tactic(auto, using(crate::proofs::DatagramLaws::datagram_spells))]
     pub fn bytes(&self) -> &[u8]
-        ensures { packet_of result.now ≡ Some self.now }
+        ensures read { packet_of result.now ≡ Some self.now }
+        ensures spelled { result.now ≡ bytes_of self.now }
     {
         self.bytes.as_slice()
     }

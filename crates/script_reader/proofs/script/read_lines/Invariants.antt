@@ -1,12 +1,12 @@
 use Rattle.std.proofs.Common.{◌≡◌, ◌+◌, ◌≤◌, length}
 use Rattle.world_model.specs.Words.{split_on}
-use Rattle.world_model.specs.Reading.{read_from, input_limit, script_of}
+use Rattle.world_model.specs.Reading.{read_from, input_limit, read_for}
 use Rattle.script_reader.specs.Reading.{reading_seen}
-use Rattle.script_reader.proofs.script.read_script.Given as goal
+use Rattle.script_reader.proofs.script.read_lines.Given as goal
 
 abbrev pub invariant-loop-line : goal.invariant-loop-line
 invariant-loop-line l = record {
-  read : read_from (reading_seen l.read) l.number l.place (split_on 10 l.left) ≡ script_of l.bytes;
+  read : read_from (reading_seen l.read) l.number l.place (split_on 10 l.left) ≡ read_for l.fn.aim l.bytes;
   within : l.place ≤ input_limit;
   numbered : l.number ≤ l.place + 1;
 }
