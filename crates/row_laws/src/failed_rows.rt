@@ -1,7 +1,7 @@
 //! Why entries say that providers failed, in every run.
 
 ghost use Rattle.row_laws.specs.failed_rows.Failures.{GoodbyesLetGo};
-ghost use Rattle.row_laws.specs.failed_rows.Scenes.{FailuresAreHonest, JoinsHaveOneGroup};
+ghost use Rattle.row_laws.specs.failed_rows.Scenes.{FailuresAreHonest, RequestsHaveOneGroup};
 
 /// Where a place of a list is put first: a default row of who failed has the default vote of the state's attributes, and its
 /// provider is on the failed list of that state, or its own node gave it up; and a failure leave names members of that state
@@ -17,8 +17,8 @@ pub fn goodbyes_let_go()
     ensures { GoodbyesLetGo }
 {}
 
-/// The join of each provider is asked for in one group alone, since its number is given once.
-#[tactic(auto, using(crate::proofs::failed_rows::Groups::joins_have_one_group))]
-pub fn joins_have_one_group()
-    ensures { JoinsHaveOneGroup }
+/// Each request of a provider is asked in one group alone, since its number is given once.
+#[tactic(auto, using(crate::proofs::failed_rows::Groups::requests_have_one_group))]
+pub fn requests_have_one_group()
+    ensures { RequestsHaveOneGroup }
 {}

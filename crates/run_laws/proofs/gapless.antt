@@ -30,3 +30,4 @@ pub mod Later
 pub mod Told
 pub mod HeardLaw
 pub mod Quiet
+pub mod Alike

@@ -13,4 +13,5 @@ pub mod Scenes
 pub mod Pairs
 pub mod Folds
 pub mod Law
+pub mod Once
 pub mod Rings

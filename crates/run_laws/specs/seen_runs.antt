@@ -1,3 +1,4 @@
 pub mod Seen
 pub mod Rings
+pub mod Once
 pub mod Law

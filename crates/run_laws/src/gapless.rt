@@ -2,6 +2,7 @@
 
 ghost use Rattle.run_laws.specs.gapless.Heard.{EachPutIsHeard, AllHearEachPut};
 ghost use Rattle.run_laws.specs.gapless.Hears.{TakersHear};
+ghost use Rattle.run_laws.specs.gapless.Alike.{TakersHearAlike};
 ghost use Rattle.run_laws.specs.gapless.Left.{TheToldWereLeftBehind, JustTheLeftBehindAreTold};
 ghost use Rattle.run_laws.specs.gapless.Takers.{TakersTakePart};
 
@@ -46,4 +47,10 @@ pub fn each_put_is_heard_by_takers()
 #[tactic(auto, using(crate::proofs::gapless::Quiet::all_hear))]
 pub fn all_hear_each_put()
     ensures { AllHearEachPut }
+{}
+
+/// So two providers that take part at one place of a view's list both hear it, with the same entry, members and value, in every run
+/// whose groups are safe; and where their nodes go from that view into the same next one, their lists are equal.
+pub fn takers_hear_alike()
+    ensures { TakersHearAlike }
 {}

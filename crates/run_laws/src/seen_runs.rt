@@ -1,5 +1,6 @@
 //! What the records of every run show by themselves, one after another.
 
+ghost use Rattle.run_laws.specs.seen_runs.Once.{EveryRequestBeginsOnce};
 ghost use Rattle.run_laws.specs.seen_runs.Law.{EveryTraceIsSeen, EveryHeardIsFold, EveryRingIsSeen, EveryTraceIsSeenWithRings};
 
 /// Whatever starts, stops and steps, the records show all that records alone can show of a safe run, but for its rings: they are
@@ -7,6 +8,12 @@ ghost use Rattle.run_laws.specs.seen_runs.Law.{EveryTraceIsSeen, EveryHeardIsFol
 #[tactic(auto, using(crate::proofs::seen_runs::Law::traces_seen))]
 pub fn every_trace_is_seen()
     ensures { EveryTraceIsSeen }
+{}
+
+/// Each request of a provider is asked in one group, and at its own node it begins at one place of one view, over all groups.
+#[tactic(auto, using(crate::proofs::seen_runs::Once::requests_once))]
+pub fn requests_begin_once()
+    ensures { EveryRequestBeginsOnce }
 {}
 
 /// What a provider hears carries the members and the value that the records of its node make of the list up to its place: the

@@ -12,6 +12,7 @@ pub mod Founds
 pub mod CutLaw
 pub mod Firsts
 pub mod Lines
+pub mod Noted
 pub mod OnceLaw
 pub mod Tests
 pub mod BasesLaw

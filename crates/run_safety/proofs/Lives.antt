@@ -1,27 +1,31 @@
 -- Every life keeps all parts, so each law holds of it.
-use Rattle.std.proofs.Common.{refl, Some, true, ◌≡◌, ℕ, ◌+◌, ◌<◌, ◌⊎◌, List, [], ◌∷◌, length, sym, ◌∙◌, subst}
+use Rattle.std.proofs.Common.{refl, Some, None, Option, true, ◌≡◌, ℕ, ◌+◌, ◌<◌, ◌⊎◌, List, [], ◌∷◌, length, sym, ◌∙◌, subst, inl, inr, arith}
 use Rattle.std.specs.Prelude.{slice_get}
 use Rattle.rsct_packet.specs.declared.ids.ViewId.{ViewId}
 use Rattle.rsct_packet.specs.declared.ids.ProviderId.{ProviderId}
+use Rattle.rsct_packet.specs.declared.ids.Member.{Member}
 use Rattle.proposal_core.specs.declared.entry.Entry.{Entry}
 use Rattle.proposal_core.specs.declared.proposal.Proposal.{Proposal}
 use Rattle.proposal_core.specs.Fold.{fits}
 use Rattle.rsct_packet.specs.Search.{Has}
 use Rattle.run_safety.specs.ViewOrder.{Lt, Le}
-use Rattle.run_safety.specs.Group.{member, Standing, members_of, Packet, Install, Append, Request, Refusal, In, Put, Told, Line, Kept, Noted, kept}
+use Rattle.run_safety.specs.Group.{member, Standing, Reply, members_of, Origin, Packet, Install, Append, Request, Refusal, In, Put, Told, Line, Kept, Noted, kept}
 use Rattle.run_safety.specs.GroupLists.{OneEntryOf, puts_of}
 use Rattle.run_safety.specs.Bases.{Bases, state_of_list, leader_of}
 use Rattle.run_safety.specs.Requests.{carried}
 use Rattle.run_safety.specs.Tallies.{IsTallied, Tallied, Fitted}
 use Rattle.run_safety.specs.Moves.{Leads, Changes, Opening, Born, Collected, SetAt, entered, grown, Due, Life, Dawn, NextEvent, Promises, Answers, Appends, Follows, Starts, Enters, Founds, Names, Hears, Asks, Requests, Refuses, IsTold, Acknowledges, Settles}
-use Rattle.run_safety.specs.GroupLaws.{Leading, OneBase, BaseOfInstall, HeardIsFold, RequestsOnce, StableHeld}
+use Rattle.run_safety.specs.GroupLaws.{Leading, OneBase, Brought, BaseOfInstall, HeardIsFold, RequestsOnce, StableHeld}
 use Rattle.run_safety.proofs.Prefix.{prefix_get}
+use Rattle.run_safety.proofs.Past as past
+use Rattle.run_safety.proofs.Past.{born_number}
+use Rattle.run_safety.proofs.Noted.{noted_in}
 use Rattle.run_safety.proofs.CutLaw.{cut_by, law_same_members, law_same_lists, law_cut}
 use Rattle.run_safety.proofs.Whole.{Whole, whole_dawn, whole_turn, whole_promises, whole_answers, whole_acks, whole_settles, whole_names, whole_asks}
 use Rattle.run_safety.proofs.WholeNotes.{whole_requests, whole_refuses, whole_told, whole_hears}
 use Rattle.run_safety.proofs.WholeLists.{whole_appends, whole_follows, whole_starts, whole_enters, whole_founds}
-use Rattle.run_safety.specs.SafeGroups.{BaseWon, LivesAreSafe}
-use Rattle.run_safety.specs.Bases.{BaseIs, side_state}
+use Rattle.run_safety.specs.SafeGroups.{ComesFromNowhere, Settled, BasesSettled, NotedBasesWin, LivesAreSafe}
+use Rattle.run_safety.specs.Bases.{BaseIs, Wins, side_state}
 use Rattle.run_safety.specs.Always.{AlwaysOneList, AlwaysInOrder, AlwaysRising, AlwaysSameMembers, AlwaysOneInstall, AlwaysOneBase, AlwaysTogether, AlwaysCut, AlwaysFold, AlwaysBase, AlwaysLed, AlwaysOnce, AlwaysStable, AlwaysTallied, AlwaysApprovedByAll, AlwaysFitted}
 use Rattle.run_safety.proofs.OnceLaw.{begun_once}
 use Rattle.run_safety.proofs.HeardLaw.{heard_law, front_of, take_front}
@@ -78,8 +82,8 @@ module _ (o : Opening) (nodes : ℕ → Standing) (ps : List Packet) (all : List
   pub law_leading : Leading o (kept all) leads bases
   law_leading = record { firsts = w.firsts.first; of_base = w.of_base; of_none = w.of_none }
 
-  pub law_one_base : OneBase all bases
-  law_one_base = record { noted = w.based_ok.noted; by_all = w.based_ok.by_all }
+  pub law_one_base : Life o nodes ps all leads bases → OneBase all bases
+  law_one_base life = record { noted = w.based_ok.noted; by_all = w.based_ok.by_all; entered = noted_in life }
 
   pub law_base : BaseOfInstall ps (kept all) bases
   law_base v ms ss h =
@@ -101,6 +105,22 @@ module _ (o : Opening) (nodes : ℕ → Standing) (ps : List Packet) (all : List
           let c : Some p.1 ≡ Some e = sym a ∙ g in
           let d : p.1 ≡ e = cc in
           (p.0, subst (λ f. Has (Put p.0 u i f) (kept all)) d p.2)
+
+  -- a view is entered by its install, or it is one in which nodes start
+  pub law_settled : BasesSettled all bases
+  law_settled n j v ms h = at (w.good.past.origin n j v ms h)
+    where
+      none : (b : Option Origin) → bases v ≡ b → v.number ≡ 1 → bases v ≡ None
+      none None e one = e
+      none (Some b) e one = absurd (let k = w.based_ok.installed v b e in let l = (w.good.past.made v k.0 k.1 k.2).later in omega (arith, l, one))
+
+      at : past.Origin o ps n j v ms → (ComesFromNowhere (kept all) n j v × (bases v ≡ None)) ⊎ Settled (kept all) bases v ms
+      at (inl born) =
+          let one : v.number ≡ 1 = born_number o n j v ms born in
+          inl ((λ u f. let k = w.good.past.left n j v u ms h f in let l = (w.good.past.made v ms k.0 k.1).later in absurd (omega (arith, l, one))), none (bases v) refl one)
+      at (inr k) =
+          let q = law_base v ms k.0 k.1 in
+          inr (record { replies = q.0; lists = k.0; brought = q.1; base = q.2 })
 
   pub law_heard : HeardIsFold all bases
   law_heard = heard_law o nodes ps all w.log leads bases w.good w.heard
@@ -136,7 +156,7 @@ pub always_one_install : AlwaysOneInstall
 always_one_install o nodes ps all leads bases life = (whole life).good.inv.one
 
 pub always_one_base : AlwaysOneBase
-always_one_base o nodes ps all leads bases life = law_one_base o nodes ps all leads bases (whole life)
+always_one_base o nodes ps all leads bases life = law_one_base o nodes ps all leads bases (whole life) life
 
 pub always_together : AlwaysTogether
 always_together o nodes ps all leads bases life =
@@ -171,13 +191,19 @@ always_approved_by_all o nodes ps all leads bases life =
 pub always_fitted : AlwaysFitted
 always_fitted o nodes ps all leads bases life = law_fitted o nodes ps all leads bases (whole life)
 
--- a base that is noted was installed
-won : (o : Opening) (nodes : ℕ → Standing) (ps : List Packet) (all : List Line) (leads : Leads) (bases : Bases) (w : Whole o nodes ps all leads bases) → BaseWon all bases
-won o nodes ps all leads bases w n v b h =
-    let e = w.based_ok.noted n v b h in
-    let k = w.based_ok.installed v b e in
-    let q = law_base o nodes ps all leads bases w v k.0 k.1 k.2 in
-    (k.0, q.0, k.1, q.1, subst (λ c. BaseIs q.0 k.1 (λ u. side_state bases k.1 u) c) e q.2)
+-- so a base that is noted is that of the winning side
+pub noted_bases_win : NotedBasesWin
+noted_bases_win o all safe n v b h = at (safe.settled n was.0 v was.1 was.2)
+  where
+    was : (j : ℕ) × (ms : List Member) × Has (In n j v ms) (kept all)
+    was = safe.one_base.entered n v b h
+
+    base : safe.bases v ≡ Some b
+    base = safe.one_base.noted n v b h
+
+    at : (ComesFromNowhere (kept all) n was.0 v × (safe.bases v ≡ None)) ⊎ Settled (kept all) safe.bases v was.1 → (j : ℕ) × (ms : List Member) × Has (In n j v ms) (kept all) × (rs : List Reply) × (ss : (ViewId → List Entry)) × Brought (kept all) safe.bases v ms rs ss × Wins rs ss (λ u. side_state safe.bases ss u) b
+    at (inl none) = let q : None ≡ Some b = sym none.1 ∙ base in absurd (cc)
+    at (inr s) = (was.0, was.1, was.2, s.replies, s.lists, s.brought, subst (λ c. BaseIs s.replies s.lists (λ u. side_state safe.bases s.lists u) c) base s.base)
 
 pub lives_are_safe : LivesAreSafe
 lives_are_safe o nodes ps all leads bases life =
@@ -191,8 +217,8 @@ lives_are_safe o nodes ps all leads bases life =
       members = law_same_members o nodes ps (kept all) w.log leads w.good.inv w.good.past;
       together = law_same_lists o nodes ps (kept all) w.log leads w.good.inv w.good.past;
       cut = law_cut o nodes ps (kept all) w.log leads w.good.inv w.good.past;
-      one_base = law_one_base o nodes ps all leads bases w;
-      base_won = won o nodes ps all leads bases w;
+      one_base = law_one_base o nodes ps all leads bases w life;
+      settled = law_settled o nodes ps all leads bases w;
       heard_fold = law_heard o nodes ps all leads bases w;
       leading = law_leading o nodes ps all leads bases w;
       requests = law_requests o nodes ps all leads bases w;

@@ -31,10 +31,11 @@ pub record Leading (o : Opening) (tr : List Record) (leads : Leads) (bases : Bas
   pub of_base : (v : ViewId) (b : Origin) → bases v ≡ Some b → leads v ≡ leader_of v (Some b)
   pub of_none : (v : ViewId) (n j : ℕ) → bases v ≡ None → leads v ≡ Some (member n j) → MayLead o v n
 
--- a base is one for all nodes that enter the view, and each of them notes it
+-- a base is one for all nodes that enter the view, each of them notes it, and nobody else does
 pub record OneBase (all : List Line) (bases : Bases) : Type 0 where
   pub noted : (n : ℕ) (v : ViewId) (b : Origin) → Has (Noted (Based n v b)) all → bases v ≡ Some b
   pub by_all : (n j : ℕ) (v : ViewId) (ms : List Member) (b : Origin) → Has (In n j v ms) (kept all) → bases v ≡ Some b → Has (Noted (Based n v b)) all
+  pub entered : (n : ℕ) (v : ViewId) (b : Origin) → Has (Noted (Based n v b)) all → (j : ℕ) × (ms : List Member) × Has (In n j v ms) (kept all)
 
 -- the base of an installed view, from what its members brought: for each its old view, and for each old view the
 -- entries up to the cut

@@ -2,7 +2,6 @@ pub mod Past
 pub mod Stays
 pub mod SafeLists
 pub mod SafeHeard
-pub mod Safe
 pub mod ViewOrder
 pub mod Group
 pub mod GroupLists

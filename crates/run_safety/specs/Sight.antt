@@ -14,10 +14,14 @@ abbrev pub inc_in : ℕ → List Member → ℕ
 inc_in n [] = 0
 inc_in n (m ∷ ms) = if m.node == n then m.inc else inc_in n ms
 
+-- the view that the node is in; where it is in none, one that no node enters
+abbrev pub view_or_none : Option ViewId → ViewId
+view_or_none None = record { number = 0; coord = 0; inc = 0 }
+view_or_none (Some v) = v
+
 -- a refusal is told in the view that the node is in
 abbrev pub told_in : ProviderId → ℕ → Option ViewId → List Line
-told_in p r None = []
-told_in p r (Some v) = Noted (Told p r v) ∷ []
+told_in p r o = Noted (Told p r (view_or_none o)) ∷ []
 
 -- what a record is to the group, after the records before it
 abbrev pub lines_at : List ℕ → List Happened → Happened → List Line

@@ -1,12 +1,13 @@
 //! What a safe run is, and that whatever happens to a group, its life is safe.
 //!
-//! `specs/Safe` says what a safe run is, over the records of all nodes. `specs/Moves` says all that can happen to
-//! one group; each function here is a law over every list of such moves, in whatever order they come.
+//! `specs/SafeGroups` says what a safe run is to each group, `specs/SafeLists` and `specs/SafeHeard` what it is over the
+//! records of all nodes. `specs/Moves` says all that can happen to one group; each function here is a law over every
+//! list of such moves, in whatever order they come.
 #![tactic(auto)]
 
 ghost use Rattle.run_safety.specs.Always.{AlwaysOneList, AlwaysInOrder, AlwaysRising, AlwaysSameMembers, AlwaysOneInstall, AlwaysOneBase, AlwaysTogether, AlwaysCut, AlwaysFold, AlwaysBase, AlwaysLed, AlwaysOnce, AlwaysStable, AlwaysTallied, AlwaysApprovedByAll, AlwaysFitted};
 ghost use Rattle.run_safety.specs.Failures.{FailureLeavesTakeTheFallen};
-ghost use Rattle.run_safety.specs.SafeGroups.{LivesAreSafe, GroupsGiveOneList};
+ghost use Rattle.run_safety.specs.SafeGroups.{LivesAreSafe, NotedBasesWin, GroupsGiveOneList};
 ghost use Rattle.run_safety.specs.RunTallies.{GroupsCloseByTally};
 
 /// Two entries that nodes put at one place of one view's list are the same.
@@ -107,6 +108,13 @@ pub fn entries_fit()
 #[tactic(auto, using(crate::proofs::Lives::lives_are_safe))]
 pub fn lives_are_safe()
     ensures { LivesAreSafe }
+{}
+
+/// In the lines of a group that are safe, each base that a node notes is that of the winning side of its view, among the
+/// members that the node itself names.
+#[tactic(auto, using(crate::proofs::Lives::noted_bases_win))]
+pub fn noted_bases_win()
+    ensures { NotedBasesWin }
 {}
 
 /// Where what each group sees of a run is safe, two entries at one place of one view's list of one group are the same

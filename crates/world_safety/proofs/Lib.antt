@@ -9,4 +9,5 @@ pub mod Runs
 pub mod Saying
 pub mod Lined
 pub mod Playing
+pub mod Moments
 pub mod Scripts

@@ -10,6 +10,7 @@ use Rattle.world_model.specs.declared.script.Line.TheVariants as line
 use Rattle.world_model.specs.declared.script.Script.{Script}
 use Rattle.world_model.specs.Reading.{IsScript, script_of}
 use Rattle.world_model.specs.World.{records_of}
+use Rattle.run_laws.specs.ring_runs.Rings.{AddressesFit}
 use Rattle.world_laws.specs.world_answers.Answers.{Answered, events_in, answered_records}
 use Rattle.world_safety.specs.Events.{AllMayHappen}
 use Rattle.world_safety.specs.Scripts.{IsSafe, IsSafeRun, ScriptIsSafe, KeptRunIsSafe}
@@ -23,9 +24,10 @@ abbrev pub LinesMay : Mode → List Line → Type 0
 LinesMay m [] = Unit {0}
 LinesMay m (l ∷ ls) = LineMay m l × LinesMay m ls
 
--- the lines of the script may happen
-abbrev pub MayPlay : Script → Type 0
-MayPlay s = LinesMay s.config.mode s.lines
+-- the lines of the script may happen, and on each network the addresses of its settings differ
+pub record MayPlay (s : Script) : Type 0 where
+  pub lines : LinesMay s.config.mode s.lines
+  pub addresses : (net : ℕ) → AddressesFit s.config net
 
 -- each script that is read is such a one
 abbrev pub ScriptsMayPlay : Type 0

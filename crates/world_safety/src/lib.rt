@@ -3,6 +3,7 @@
 
 ghost use Rattle.world_safety.specs.Safety.{RunHasTheRecords, EveryRunIsReached, EveryRunIsSafe};
 ghost use Rattle.world_safety.specs.Scripts.{EveryScriptIsSafe, EveryKeptRunIsSafe};
+ghost use Rattle.world_safety.specs.Lemmas.{SafeRunsHaveOneList, SafeRunsLeaveNoGap};
 ghost use Rattle.world_safety.specs.Plays.{ScriptsMayPlay, EveryAnswerIsSafe, EventsAreSafe, EveryPlayIsSafe, EveryKeptPlayIsSafe};
 
 /// The run of a list of plain events has the records of the world after them.
@@ -43,7 +44,18 @@ pub fn events_are_safe()
     ensures { EventsAreSafe }
 {}
 
-/// The lines of each script that is read may happen: they name no node 0 that starts, and start none in mode fixed.
+/// In a safe run two entries at one place of one view's list of a group are the same.
+pub fn safe_runs_have_one_list()
+    ensures { SafeRunsHaveOneList }
+{}
+
+/// In a safe run a provider hears every place between two that it hears.
+pub fn safe_runs_leave_no_gap()
+    ensures { SafeRunsLeaveNoGap }
+{}
+
+/// Each script that is read may play: its lines name no node 0 that starts, and start none in mode fixed; and on each network
+/// the addresses of its settings differ.
 #[tactic(auto, using(crate::proofs::Lined::scripts_may_play))]
 pub fn scripts_may_play()
     ensures { ScriptsMayPlay }

@@ -15,7 +15,7 @@ use Rattle.node_state.specs.declared.happened.Happened.{Happened}
 use Rattle.node_state.specs.declared.happened.Happened.TheVariants as happened
 use Rattle.run_safety.specs.Past.{History, records_of, earlier, view_now, puts_of, base_of, fold_from, state_at}
 use Rattle.run_safety.specs.ViewOrder.{is_same}
-use Rattle.run_safety.specs.Sight.{told_in, lines_at, lines_with, lines_of}
+use Rattle.run_safety.specs.Sight.{view_or_none, told_in, lines_at, lines_with, lines_of}
 use Rattle.run_safety.specs.Group.{Origin, Record, In, Put, Begins, Note, Based, Line, Kept, Noted, kept}
 use Rattle.run_safety.specs.Group as group
 use Rattle.run_safety.specs.GroupLists.{WasIn}
@@ -60,8 +60,7 @@ module _ (n : ℕ) (v : ViewId) (g : List ℕ) where
   other_if s false l all other k = k
 
   other_told : (s : GroupState) (p : ProviderId) (r : ℕ) (o : Option ViewId) (all : List Line) → BaseKnown s all → BaseKnown s (told_in p r o ++ all)
-  other_told s p r None all k = k
-  other_told s p r (Some u) all k = other_base s (Noted (group.Told p r u)) all (λ b e. cc) k
+  other_told s p r o all k = other_base s (Noted (group.Told p r (view_or_none o))) all (λ b e. cc) k
 
   base_step : (r : Happened) (rs : List Happened) (all : List Line) → BaseKnown (base_of n v g rs) all → BaseKnown (base_of n v g (r ∷ rs)) (lines_at g rs r ++ all)
   base_step (happened.Base m u h old len s) rs all k =

@@ -84,9 +84,8 @@ put_named (x ∷ before) k n v g i e h =
 -- ---- what a group sees of them
 
 pub none_told : (p : ProviderId) (r : ℕ) (o : Option ViewId) (x : Record) → Has (Kept x) (told_in p r o) → ⊥
-none_told p r None x h = h
-none_told p r (Some v) x (inl q) = cc
-none_told p r (Some v) x (inr z) = z
+none_told p r o x (inl q) = cc
+none_told p r o x (inr z) = z
 
 -- a put that the group sees is the run's own
 line_put : (g : List ℕ) (now : List Happened) (before : History) (r : Happened) → PutNamed now before r → (n : ℕ) (v : ViewId) (i : ℕ) (e : Entry) → Has (Kept (Put n v i e)) (lines_at g (earlier now before) r) → Named e

@@ -18,9 +18,9 @@ use Rattle.node_state.specs.declared.happened.Happened.{Happened}
 use Rattle.node_state.specs.declared.happened.Happened.TheVariants as happened
 use Rattle.node_state.specs.declared.state.Core.{Core}
 use Rattle.node_state.specs.State.{recorded, with_sessions}
-use Rattle.run_safety.specs.Stays.{asks_join}
 use Rattle.step_refinement.proofs.SessionLaws.{provider_self, handed_later}
 use Rattle.row_laws.proofs.failed_rows.Living.{IsLive, Slimmer, slim_same, told_slim, handed_slim}
+use Rattle.row_laws.proofs.failed_rows.Facts.{Unasked}
 use Rattle.row_laws.proofs.failed_rows.Origin.{Slim, slim_self, slim_more, slim_on}
 use Rattle.provider_laws.proofs.leaving.Walk.{Fine, Alike, Known, Keeps}
 
@@ -112,20 +112,20 @@ fine_says a t (happened.Noted n c v i told) s k = tt
 fine_says a t (happened.Refused n c fault) s k = tt
 fine_says a t (happened.Shown n line) s k = tt
 
-fine_unasked : (t : SessionState) (r : Happened) → Fine t r → (p : ProviderId) → asks_join p r ≡ false
-fine_unasked t (happened.Up n j) k p = refl
-fine_unasked t (happened.Down n) k p = refl
-fine_unasked t (happened.Ring n j i ms b) k p = refl
-fine_unasked t (happened.In n v ms) k p = refl
-fine_unasked t (happened.Base n v g old len st) k p = refl
-fine_unasked t (happened.Put n v g i e) k p = refl
-fine_unasked t (happened.Heard q v g i e ms value) k p = refl
-fine_unasked t (happened.Cast q proto phase vote value message) k p = refl
-fine_unasked t (happened.Asked q r g x) k p = absurd k
-fine_unasked t (happened.Told q r y) k p = refl
-fine_unasked t (happened.Noted n c v i told) k p = refl
-fine_unasked t (happened.Refused n c fault) k p = refl
-fine_unasked t (happened.Shown n line) k p = refl
+fine_asks : (t : SessionState) (r : Happened) → Fine t r → Unasked r
+fine_asks t (happened.Up n j) k = tt
+fine_asks t (happened.Down n) k = tt
+fine_asks t (happened.Ring n j i ms b) k = tt
+fine_asks t (happened.In n v ms) k = tt
+fine_asks t (happened.Base n v g old len st) k = tt
+fine_asks t (happened.Put n v g i e) k = tt
+fine_asks t (happened.Heard q v g i e ms value) k = tt
+fine_asks t (happened.Cast q proto phase vote value message) k = tt
+fine_asks t (happened.Asked q r g x) k = absurd k
+fine_asks t (happened.Told q r y) k = tt
+fine_asks t (happened.Noted n c v i told) k = tt
+fine_asks t (happened.Refused n c fault) k = tt
+fine_asks t (happened.Shown n line) k = tt
 
 -- ---- the walk
 
@@ -148,13 +148,13 @@ module _ (root : Core) where
       by r (inl i) = inl i
       by r (inr j) = inr (says_on root.sessions s.sessions u r l.slim j)
 
-  pushed : (s : Core) (r : Happened) → ((p : ProviderId) → asks_join p r ≡ false) → Says root.sessions s.sessions r → Left root s → Left root (record s { records = s.records ++ r ∷ [] })
+  pushed : (s : Core) (r : Happened) → Unasked r → Says root.sessions s.sessions r → Left root s → Left root (record s { records = s.records ++ r ∷ [] })
   pushed s r none says k =
       record { slim = slim_more (Some root) s.sessions s.records (r ∷ []) one k.slim; last = k.last; asked = k.asked; grown = λ x i. append_has_left x s.records (r ∷ []) (k.grown x i); fresh = λ x i. by x (has_append x s.records (r ∷ []) i) }
     where
-      one : (x : Happened) → Has x (r ∷ []) → (p : ProviderId) → asks_join p x ≡ false
-      one x (inl e) p = ap (asks_join p) e ∙ none p
-      one x (inr z) p = absurd z
+      one : (x : Happened) → Has x (r ∷ []) → Unasked x
+      one x (inl e) = subst Unasked (sym e) none
+      one x (inr z) = absurd z
 
       by : (x : Happened) → Has x s.records ⊎ Has x (r ∷ []) → Has x root.records ⊎ Says root.sessions s.sessions x
       by x (inl i) = k.fresh x i
@@ -168,11 +168,11 @@ module _ (root : Core) where
   told : (s : Core) (p : ProviderId) (r : ℕ) (y : Why) → Known s.sessions p → Left root s → Left root (recorded (with_sessions s (take_telling s.sessions p r y)) (happened.Told p r y))
   unfolding recorded with_sessions
   told s p r y known k =
-      pushed (record s { sessions = take_telling s.sessions p r y }) (happened.Told p r y) (λ q. refl) (known_then s p k known, gone_told s.sessions p r y) (less_on s (take_telling s.sessions p r y) (told_less s.sessions p r y) k)
+      pushed (record s { sessions = take_telling s.sessions p r y }) (happened.Told p r y) tt (known_then s p k known, gone_told s.sessions p r y) (less_on s (take_telling s.sessions p r y) (told_less s.sessions p r y) k)
 
   noted : (s : Core) (r : Happened) → Fine s.sessions r → Left root s → Left root (recorded s r)
   unfolding recorded
-  noted s r fine k = pushed s r (fine_unasked s.sessions r fine) (fine_says root.sessions s.sessions r k.slim.sessions fine) k
+  noted s r fine k = pushed s r (fine_asks s.sessions r fine) (fine_says root.sessions s.sessions r k.slim.sessions fine) k
 
   handed : (s : Core) (t : SessionState) (g : List ℕ) (before after : GroupState) (e : Entry) (bs : List (Option Filled)) → s.sessions ≡ t → Left root s → Left root (with_sessions s (handed_on t g before after e bs))
   unfolding with_sessions

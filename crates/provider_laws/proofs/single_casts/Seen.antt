@@ -17,7 +17,7 @@ use Rattle.run_safety.specs.Past.{History, earlier, records_of, view_now, puts_a
 use Rattle.run_safety.specs.Group.{Origin, Record, In, Put, Begins, Line, Kept, Noted, Based, kept}
 use Rattle.run_safety.specs.Group as group
 use Rattle.run_safety.specs.GroupLists as lists
-use Rattle.run_safety.specs.Sight.{inc_in, told_in, lines_at, lines_with, lines_of}
+use Rattle.run_safety.specs.Sight.{view_or_none, inc_in, told_in, lines_at, lines_with, lines_of}
 use Rattle.node_state.proofs.NameOrder.{text_same, text_self}
 
 -- ---- puts
@@ -167,9 +167,8 @@ line_from x g (e ∷ before) h = by (line_comes x g e.records before (lines_of g
         ⊎_elim (λ (a : x ≡ Kept Begins). inl a) (λ (a : (r : Happened) × (rs : List Happened) × Has r (records_of before) × Has x (lines_at g rs r)). inr (a.0, a.1, append_has_right a.0 e.records (records_of before) a.2, a.3)) (rest q)
 
 none_told : (x : Line) (p : ProviderId) (r : ℕ) (o : Option ViewId) → Has x (told_in p r o) → (u : ViewId) × (x ≡ Noted (group.Told p r u))
-none_told x p r None h = absurd h
-none_told x p r (Some u) (inl e) = (u, e)
-none_told x p r (Some u) (inr z) = absurd z
+none_told x p r o (inl e) = (view_or_none o, e)
+none_told x p r o (inr z) = absurd z
 
 one_of : {A : Type 0} (x y : A) (b : Bool) → Has x (if b then y ∷ [] else []) → (b ≡ true) × (x ≡ y)
 one_of x y true (inl e) = (refl, e)

@@ -226,9 +226,8 @@ asked_at p r g x rs (happened.Asked q m h y) k = by (bytes_eq h g) refl k
 asked_at p r g x rs (happened.Told q m why) k = by (view_now q.node rs) k
   where
     by : (o : Option ViewId) → Has (Noted (group.Asked p r x)) (told_in q m o) → happened.Asked p r g x ≡ happened.Told q m why
-    by None z = absurd z
-    by (Some u) (inl z) = absurd (cc)
-    by (Some u) (inr z) = absurd z
+    by o (inl z) = absurd (cc)
+    by o (inr z) = absurd z
 asked_at p r g x rs (happened.Noted m c u j told) k = absurd k
 asked_at p r g x rs (happened.Refused m c fault) k = absurd k
 asked_at p r g x rs (happened.Shown m line) k = absurd k

@@ -34,7 +34,7 @@ use Rattle.row_laws.proofs.honest_votes.At.{found, leads_row}
 use Rattle.row_laws.specs.failed_rows.Failures.{IsRefused, IsCut, WasTold, GoneCause, EachPut}
 use Rattle.step_refinement.proofs.SessionLaws.{provider_same}
 use Rattle.row_laws.proofs.failed_rows.Living.{IsLive, told_lives, told_slim}
-use Rattle.row_laws.proofs.failed_rows.Facts.{Whys, Takers, takers_pushed, TallyIs, QueueIs, Track, BasesFit, Quiet, quiet_stays, quiet_puts, quiet_accepted, Stepped, quiet_of, BodyFails, body_on, quiet_unasked, Lives, lives_on, OwnFor, own_pushed}
+use Rattle.row_laws.proofs.failed_rows.Facts.{Whys, Takers, takers_pushed, TallyIs, QueueIs, Track, BasesFit, Quiet, quiet_stays, quiet_puts, quiet_accepted, Stepped, quiet_of, BodyFails, body_on, quiet_unasked, Unasked, quiet_asks, Lives, lives_on, OwnFor, own_pushed}
 use Rattle.row_laws.proofs.failed_rows.Origin.{Origin, SlimIf, slim_self, slim_more, slim_on, slim_free}
 
 -- ---- the node
@@ -166,20 +166,28 @@ module _ (h : History) (said : ProviderId → Type 0) (origin : Origin) (P L M :
 
     pub at_recorded : (s : Core) (r : Happened) → Quiet r → At h said origin P L M T G Q s → At h said origin P L M T G Q (recorded s r)
     at_recorded s r quiet a =
-        at_record s r (slim_more origin.root s.sessions s.records (r ∷ []) (λ x i p. one p x i) a.slim) (λ g xs. quiet_stays s.views.me g r quiet xs) (λ now k. quiet_puts r quiet now h k) (λ m. quiet_accepted r quiet) (quiet_of s.views.me r quiet) (own_pushed h said origin.born s.sessions s (r ∷ []) (λ x i p. one p x i) a.own) a
+        at_record s r (slim_more origin.root s.sessions s.records (r ∷ []) asks a.slim) (λ g xs. quiet_stays s.views.me g r quiet xs) (λ now k. quiet_puts r quiet now h k) (λ m. quiet_accepted r quiet) (quiet_of s.views.me r quiet) (own_pushed h said origin.born s.sessions s (r ∷ []) (λ x i p. one p x i) a.own) a
       where
         one : (p : ProviderId) (x : Happened) → Has x (r ∷ []) → asks_join p x ≡ false
         one p x (inl e) = ap (asks_join p) e ∙ quiet_unasked r quiet p
         one p x (inr z) = absurd z
 
+        asks : (x : Happened) → Has x (r ∷ []) → Unasked x
+        asks x (inl e) = subst Unasked (sym e) (quiet_asks r quiet)
+        asks x (inr z) = absurd z
+
     -- a call is refused
     pub at_call_refused : (s : Core) (n : ℕ) (client : List ℕ) (f : GsFault) → (M → ⊥) → At h said origin P L M T G Q s → At h said origin P L M T G Q (recorded s (happened.Refused n client f))
     at_call_refused s n client f none a =
-        at_record s (happened.Refused n client f) (slim_more origin.root s.sessions s.records (happened.Refused n client f ∷ []) (λ x i p. one p x i) a.slim) (λ g xs. refl) (λ now k. (tt, k)) (λ m. absurd (none m)) tt (own_pushed h said origin.born s.sessions s (happened.Refused n client f ∷ []) (λ x i p. one p x i) a.own) a
+        at_record s (happened.Refused n client f) (slim_more origin.root s.sessions s.records (happened.Refused n client f ∷ []) asks a.slim) (λ g xs. refl) (λ now k. (tt, k)) (λ m. absurd (none m)) tt (own_pushed h said origin.born s.sessions s (happened.Refused n client f ∷ []) (λ x i p. one p x i) a.own) a
       where
         one : (p : ProviderId) (x : Happened) → Has x (happened.Refused n client f ∷ []) → asks_join p x ≡ false
         one p x (inl e) = ap (asks_join p) e
         one p x (inr z) = absurd z
+
+        asks : (x : Happened) → Has x (happened.Refused n client f ∷ []) → Unasked x
+        asks x (inl e) = subst Unasked (sym e) tt
+        asks x (inr z) = absurd z
 
     -- a provider that is there asks
     pub at_asked : origin.root ≡ None → (s : Core) (q : ProviderId) (k : ℕ) (g : List ℕ) (x : Proposal) → IsLive s.sessions q → q.node ≡ s.views.me → At h said origin P L M T G Q s → At h said origin P L M T G Q (recorded s (happened.Asked q k g x))

@@ -54,7 +54,7 @@ use Rattle.row_laws.proofs.honest_votes.Ending.{Every, NoGroup}
 use Rattle.row_laws.specs.failed_rows.Failures.{FromElsewhere, IsCut, EachPut}
 use Rattle.row_laws.proofs.failed_rows.Queues.{Stays, failed_stays}
 use Rattle.row_laws.proofs.failed_rows.Bases.{bases_put, bases_track, base_is, new_stay, bases_entered, found_self}
-use Rattle.row_laws.proofs.failed_rows.Facts.{Whys, JoinedIn, takers_pushed, Quiet, BasesFit, Stepped, stepped_incs, BodyFails, body_on, Track, own_pushed, Split, split, turned_split}
+use Rattle.row_laws.proofs.failed_rows.Facts.{Whys, JoinedIn, takers_pushed, Quiet, Unasked, BasesFit, Stepped, stepped_incs, BodyFails, body_on, Track, own_pushed, Split, split, turned_split}
 use Rattle.row_laws.proofs.failed_rows.Living.{slim_same}
 use Rattle.row_laws.proofs.failed_rows.Origin.{Origin, slim_more, slim_on}
 use Rattle.row_laws.proofs.failed_rows.At.{At, at_fold, at_sent, at_recorded_all, at_views, at_told}
@@ -136,7 +136,7 @@ module _ (h : History) (said : ProviderId → Type 0) (origin : Origin) (P L M :
         inc = a.inc;
         counted = a.counted;
         own = own_pushed h said origin.born s.sessions s rs unasked a.own;
-        slim = slim_on origin.root s.sessions (level_set s i.members) (s.records ++ rs) (slim_same s.sessions (level_set s i.members) refl refl refl) (slim_more origin.root s.sessions s.records rs unasked a.slim);
+        slim = slim_on origin.root s.sessions (level_set s i.members) (s.records ++ rs) (slim_same s.sessions (level_set s i.members) refl refl refl) (slim_more origin.root s.sessions s.records rs asks a.slim);
         sends = λ p j. subst (λ z. BodyFails said z p.body) (sym turned) (body_on said (reverse rs) (reverse s.records ++ records_of h) p.body (a.sends p j));
         puts = λ l fit. subst (λ z. EachPut (reverse z) h) (append_assoc s.records (entering ∷ []) (map (base_noted me i.view) bs)) (bases_put h me i.view bs (s.records ++ entering ∷ []) (subst (λ z. EachPut z h) (sym (reverse-append s.records (entering ∷ []))) tt));
         accepted = λ m r j. ⊎_elim (λ (k : Has r s.records). a.accepted m r k) (λ (k : Has r rs). plain r k) (has_append r s.records rs j);
@@ -174,6 +174,10 @@ module _ (h : History) (said : ProviderId → Type 0) (origin : Origin) (P L M :
       unasked : (r : Happened) → Has r rs → (p : ProviderId) → asks_join p r ≡ false
       unasked r (inl e) p = ap (asks_join p) e
       unasked r (inr j) p = let k = has_map (base_noted me i.view) r bs j in ap (asks_join p) k.2
+
+      asks : (r : Happened) → Has r rs → Unasked r
+      asks r (inl e) = subst Unasked (sym e) tt
+      asks r (inr j) = let k = has_map (base_noted me i.view) r bs j in subst Unasked (sym k.2) tt
 
       mine : (r : Happened) → Has r rs → Stepped me r
       mine r (inl e) = subst (Stepped me) (sym e) refl

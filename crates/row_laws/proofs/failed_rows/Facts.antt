@@ -261,6 +261,41 @@ body_on said newer rs (body.Reply question text) k = tt
 
 -- ---- who is over
 
+-- nothing is asked for
+abbrev pub Unasked : Happened → Type 0
+Unasked (happened.Asked p r g x) = ⊥
+Unasked _ = Unit {0}
+
+pub unasked_join : (r : Happened) → Unasked r → (p : ProviderId) → asks_join p r ≡ false
+unasked_join (happened.Up m j) k p = refl
+unasked_join (happened.Down m) k p = refl
+unasked_join (happened.Ring m j i ms b) k p = refl
+unasked_join (happened.In m v ms) k p = refl
+unasked_join (happened.Base m v g u len st) k p = refl
+unasked_join (happened.Put m v g i e) k p = refl
+unasked_join (happened.Heard o v g i e ms value) k p = refl
+unasked_join (happened.Cast o proto phase vote value message) k p = refl
+unasked_join (happened.Asked o r g x) k p = absurd k
+unasked_join (happened.Told o r why) k p = refl
+unasked_join (happened.Noted m c v i told) k p = refl
+unasked_join (happened.Refused m c fault) k p = refl
+unasked_join (happened.Shown m line) k p = refl
+
+pub quiet_asks : (r : Happened) → Quiet r → Unasked r
+quiet_asks (happened.Up m j) q = absurd q
+quiet_asks (happened.Down m) q = absurd q
+quiet_asks (happened.Ring m j i ms b) q = tt
+quiet_asks (happened.In m v ms) q = absurd q
+quiet_asks (happened.Base m v g u len st) q = absurd q
+quiet_asks (happened.Put m v g i e) q = absurd q
+quiet_asks (happened.Heard o v g i e ms value) q = tt
+quiet_asks (happened.Cast o proto phase vote value message) q = tt
+quiet_asks (happened.Asked o r g x) q = absurd q
+quiet_asks (happened.Told o r why) q = tt
+quiet_asks (happened.Noted m c v i told) q = tt
+quiet_asks (happened.Refused m c fault) q = absurd q
+quiet_asks (happened.Shown m line) q = tt
+
 pub quiet_unasked : (r : Happened) → Quiet r → (p : ProviderId) → asks_join p r ≡ false
 quiet_unasked (happened.Up m j) q p = absurd q
 quiet_unasked (happened.Down m) q p = absurd q

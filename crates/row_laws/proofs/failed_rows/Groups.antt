@@ -1,56 +1,49 @@
--- A provider's join is asked for in one group alone, since its number is given once.
-use Rattle.std.proofs.Common.{◌≡◌, ◌⊎◌, ◌≤◌, ℕ, ◌+◌, List, [], ◌∷◌, ◌++◌, Some, None, true, false, refl, sym, ◌∙◌, subst, inl, inr, ⊎_elim, arith}
-use Rattle.std.specs.Prelude.{fold, reverse}
+-- A provider's request is asked in one group alone, since its number is given once.
+use Rattle.std.proofs.Common.{◌≡◌, ◌⊎◌, ◌≤◌, ℕ, ◌+◌, List, [], ◌∷◌, ◌++◌, Option, Some, None, true, refl, sym, ◌∙◌, subst, inl, inr, ⊎_elim, arith}
+use Rattle.std.specs.Prelude.{fold, map, reverse}
 use Rattle.rsct_packet.specs.declared.ids.ProviderId.{ProviderId}
 use Rattle.rsct_packet.specs.Mask.{nodes_of}
 use Rattle.rsct_packet.specs.Search.{Has}
-use Rattle.rsct_packet.proofs.HasLaws.{has_append}
+use Rattle.rsct_packet.proofs.HasLaws.{has_append, has_map}
 use Rattle.proposal_core.specs.declared.proposal.Proposal.{Proposal}
 use Rattle.node_state.specs.declared.config.Config.{Config}
 use Rattle.node_state.specs.declared.happened.Happened.{Happened}
 use Rattle.node_state.specs.declared.happened.Happened.TheVariants as happened
 use Rattle.node_state.specs.declared.state.Core.{Core}
 use Rattle.node_state.specs.HandOn.{Answering}
-use Rattle.node_state.specs.Step.{NodeEvent, Ticks, Asks, Given, Calls, Garbage, at_work, started, stepped}
+use Rattle.node_state.specs.Step.{NodeEvent, Ticks, Asks, Given, Calls, Garbage, at_work, started, first_view, first_members, own_rings, ring_record, stepped}
+use Rattle.node_state.specs.State.{with_sessions}
+use Rattle.session_state.specs.declared.state.Provider.{Provider}
 use Rattle.world_model.specs.declared.event.Event.{Event}
 use Rattle.run_safety.specs.Past.{records_of}
 use Rattle.run_safety.specs.Group as group
 use Rattle.run_safety.specs.Group.{Noted}
 use Rattle.row_laws.proofs.failed_rows.Fitting.{asked_seen}
-use Rattle.row_laws.proofs.failed_rows.Asked.{asks_it}
-use Rattle.run_safety.specs.Stays.{asks_join}
-use Rattle.run_safety.proofs.Tests.{has_any}
 use Rattle.step_refinement.specs.Ghost.{asking}
 use Rattle.step_refinement.specs.Tied.{Scene, NodeIs, NodeIsIf, Rests}
 use Rattle.step_refinement.specs.Rows.{nothing_yet, starts_too, ended, Arises}
 use Rattle.step_refinement.specs.Runs.{IsNote}
 use Rattle.step_refinement.proofs.Changed.{set_here}
 use Rattle.step_refinement.proofs.RunLaw.{reached_rests}
-use Rattle.row_laws.specs.failed_rows.Scenes.{Names, Played, Nothing, AllStart, Starts, Stops, Steps, Notes, JoinsHaveOneGroup}
+use Rattle.row_laws.specs.failed_rows.Scenes.{Names, Played, Nothing, AllStart, Starts, Stops, Steps, Notes, RequestsHaveOneGroup}
 use Rattle.row_laws.proofs.failed_rows.Origin.{root_of}
 use Rattle.row_laws.proofs.failed_rows.Joining.{OneAsk, one_call}
 use Rattle.row_laws.proofs.failed_rows.Between.{who_is}
-use Rattle.row_laws.proofs.failed_rows.Starting.{AllFresh, started_unasked, fold_fresh}
+use Rattle.row_laws.proofs.failed_rows.Starting.{with_is}
+use Rattle.row_laws.proofs.failed_rows.Facts.{Unasked}
 use Rattle.row_laws.proofs.hearing.Incarnations.{incs_of}
 use Rattle.row_laws.proofs.hearing.Listening.{reverse_has}
 use Rattle.row_laws.proofs.failed_rows.Law.{reached, played_honest, asked_by_call, asked_here}
 
--- nobody asks
-abbrev Unasked : List Happened → Type 0
-Unasked rs = (p : ProviderId) (g : List ℕ) (x : Proposal) → Has (happened.Asked p p.join g x) rs → ⊥
-
-none_asks : (rs : List Happened) → ((p : ProviderId) (r : Happened) → Has r rs → asks_join p r ≡ false) → Unasked rs
-none_asks rs none p g x i = let z : true ≡ false = sym (asks_it p g x) ∙ none p (happened.Asked p p.join g x) i in cc
-
--- each join in one group
+-- each request in one group
 abbrev OneGroup : List Happened → Type 0
-OneGroup rs = (p : ProviderId) (g h : List ℕ) (x y : Proposal) → Has (happened.Asked p p.join g x) rs → Has (happened.Asked p p.join h y) rs → g ≡ h
+OneGroup rs = (p : ProviderId) (r : ℕ) (g h : List ℕ) (x y : Proposal) → Has (happened.Asked p r g x) rs → Has (happened.Asked p r h y) rs → g ≡ h
 
-quiet_group : (rs old : List Happened) → Unasked rs → OneGroup old → OneGroup (rs ++ old)
-quiet_group rs old none k p g h x y a b = k p g h x y (there g x a) (there h y b)
+quiet_group : (rs old : List Happened) → ((r : Happened) → Has r rs → Unasked r) → OneGroup old → OneGroup (rs ++ old)
+quiet_group rs old none k p r g h x y a b = k p r g h x y (there g x a) (there h y b)
   where
-    there : (g : List ℕ) (x : Proposal) → Has (happened.Asked p p.join g x) (rs ++ old) → Has (happened.Asked p p.join g x) old
-    there g x a = ⊎_elim (λ (i : Has (happened.Asked p p.join g x) rs). absurd (none p g x i)) (λ (i : Has (happened.Asked p p.join g x) old). i) (has_append (happened.Asked p p.join g x) rs old a)
+    there : (g : List ℕ) (x : Proposal) → Has (happened.Asked p r g x) (rs ++ old) → Has (happened.Asked p r g x) old
+    there g x a = ⊎_elim (λ (i : Has (happened.Asked p r g x) rs). absurd (none (happened.Asked p r g x) i)) (λ (i : Has (happened.Asked p r g x) old). i) (has_append (happened.Asked p r g x) rs old a)
 
 -- ---- a step
 
@@ -64,85 +57,93 @@ module _ (c : Config) (w : Scene) (n : ℕ) (f : Answering) (s : Core) (e : Node
   after : (g : List ℕ) → Rests g (ended w n v t)
   after g = reached_rests c (ended w n v t) (reached c (ended w n v t) (Steps w n f s e v k up arises says)) g
 
+  -- its providers are of its incarnation
+  own : (x : Provider) → Has x s.sessions.providers → x.p.inc ≡ s.sessions.inc
+  own x i =
+      let here : NodeIs (rests []).ghost [] n s = (subst (NodeIsIf w.config (rests []).ghost [] n (w.incs n)) up ((rests []).nodes n)).0 in
+      (here.owes.providers x i).1 ∙ sym here.owes.inc_of
+
   -- what asks in it is one record, with the next number
   one : (e' : NodeEvent) → OneAsk s.sessions (root_of (at_work s) e').records
-  one Ticks p g x i = absurd i
-  one (Asks mask) p g x i = absurd i
-  one (Given q) p g x i = absurd i
-  one Garbage p g x i = absurd i
-  one (Calls d) p g x i = one_call d (at_work s) refl ((rests []).turns n s up).numbered p g x i
+  one Ticks p r g x i = absurd i
+  one (Asks mask) p r g x i = absurd i
+  one (Given q) p r g x i = absurd i
+  one Garbage p r g x i = absurd i
+  one (Calls d) p r g x i = one_call d (at_work s) refl own p r g x i
 
-  new : (p : ProviderId) (g : List ℕ) (x : Proposal) → Has (happened.Asked p p.join g x) t.records → ((root_of (at_work s) e).records ≡ happened.Asked p p.join g x ∷ []) × (p.join ≡ s.sessions.last_request + 1) × (p.inc ≡ s.sessions.inc)
-  new p g x i = one e p g x (asked_by_call w n f s e v up rests after arises says (incs_of c w (reached c w k) n) (played_honest c w k) p g x i)
+  new : (p : ProviderId) (r : ℕ) (g : List ℕ) (x : Proposal) → Has (happened.Asked p r g x) t.records → ((root_of (at_work s) e).records ≡ happened.Asked p r g x ∷ []) × (r ≡ s.sessions.last_request + 1) × (p.inc ≡ s.sessions.inc)
+  new p r g x i = one e p r g x (asked_by_call w n f s e v up rests after arises says (incs_of c w (reached c w k) n) (played_honest c w k) p r g x i)
 
   -- numbers that were given before are lower
-  lower : (p : ProviderId) (g : List ℕ) (x : Proposal) → p.node ≡ n → p.inc ≡ s.sessions.inc → Has (happened.Asked p p.join g x) (records_of w.before) → p.join ≤ s.sessions.last_request
-  lower p g x node inc i =
-      let r : Rests g w = rests g in
-      let here : NodeIs r.ghost g n s = (subst (NodeIsIf w.config r.ghost g n (w.incs n)) up (r.nodes n)).0 in
-      let line : Has (Noted (group.Asked p p.join x)) r.ghost.all = subst (Has (Noted (group.Asked p p.join x))) (sym r.lines) (asked_seen p p.join g x w.before i) in
-      here.owes.given (asking p p.join g) (r.sound.asked p p.join x line) node (inc ∙ here.owes.inc_of)
+  lower : (p : ProviderId) (r : ℕ) (g : List ℕ) (x : Proposal) → p.node ≡ n → p.inc ≡ s.sessions.inc → Has (happened.Asked p r g x) (records_of w.before) → r ≤ s.sessions.last_request
+  lower p r g x node inc i =
+      let z : Rests g w = rests g in
+      let here : NodeIs z.ghost g n s = (subst (NodeIsIf w.config z.ghost g n (w.incs n)) up (z.nodes n)).0 in
+      let line : Has (Noted (group.Asked p r x)) z.ghost.all = subst (Has (Noted (group.Asked p r x))) (sym z.lines) (asked_seen p r g x w.before i) in
+      here.owes.given (asking p r g) (z.sound.asked p r x line) node (inc ∙ here.owes.inc_of)
 
-  apart : (p : ProviderId) (g h : List ℕ) (x y : Proposal) → Has (happened.Asked p p.join g x) t.records → Has (happened.Asked p p.join h y) (records_of w.before) → ⊥
-  apart p g h x y i j =
-      let z = new p g x i in
+  apart : (p : ProviderId) (r : ℕ) (g h : List ℕ) (x y : Proposal) → Has (happened.Asked p r g x) t.records → Has (happened.Asked p r h y) (records_of w.before) → ⊥
+  apart p r g h x y i j =
+      let z = new p r g x i in
       let me : t.views.me ≡ n = who_is (ended w n v t) (after []) n t (set_here w.cores n (Some t)) in
-      let le = lower p h y (asked_here w n f s e v up rests after arises says (incs_of c w (reached c w k) n) (played_honest c w k) p g x i ∙ me) z.2 j in
+      let le = lower p r h y (asked_here w n f s e v up rests after arises says (incs_of c w (reached c w k) n) (played_honest c w k) p r g x i ∙ me) z.2 j in
       let number = z.1 in
       omega (arith, le, number)
 
   step_group : OneGroup (records_of w.before) → OneGroup (reverse t.records ++ records_of w.before)
-  step_group old p g h x y a b =
-      by (has_append (happened.Asked p p.join g x) (reverse t.records) (records_of w.before) a) (has_append (happened.Asked p p.join h y) (reverse t.records) (records_of w.before) b)
+  step_group old p r g h x y a b =
+      by (has_append (happened.Asked p r g x) (reverse t.records) (records_of w.before) a) (has_append (happened.Asked p r h y) (reverse t.records) (records_of w.before) b)
     where
-      both : (happened.Asked p p.join g x ∷ [] ≡ happened.Asked p p.join h y ∷ []) → g ≡ h
+      both : (happened.Asked p r g x ∷ [] ≡ happened.Asked p r h y ∷ []) → g ≡ h
       both e = cc
 
-      by : Has (happened.Asked p p.join g x) (reverse t.records) ⊎ Has (happened.Asked p p.join g x) (records_of w.before) → Has (happened.Asked p p.join h y) (reverse t.records) ⊎ Has (happened.Asked p p.join h y) (records_of w.before) → g ≡ h
+      by : Has (happened.Asked p r g x) (reverse t.records) ⊎ Has (happened.Asked p r g x) (records_of w.before) → Has (happened.Asked p r h y) (reverse t.records) ⊎ Has (happened.Asked p r h y) (records_of w.before) → g ≡ h
       by (inl i) (inl j) =
-          both (sym (new p g x (reverse_has (happened.Asked p p.join g x) t.records i)).0 ∙ (new p h y (reverse_has (happened.Asked p p.join h y) t.records j)).0)
-      by (inl i) (inr j) = absurd (apart p g h x y (reverse_has (happened.Asked p p.join g x) t.records i) j)
-      by (inr i) (inl j) = absurd (apart p h g y x (reverse_has (happened.Asked p p.join h y) t.records j) i)
-      by (inr i) (inr j) = old p g h x y i j
+          both (sym (new p r g x (reverse_has (happened.Asked p r g x) t.records i)).0 ∙ (new p r h y (reverse_has (happened.Asked p r h y) t.records j)).0)
+      by (inl i) (inr j) = absurd (apart p r g h x y (reverse_has (happened.Asked p r g x) t.records i) j)
+      by (inr i) (inl j) = absurd (apart p r h g y x (reverse_has (happened.Asked p r h y) t.records j) i)
+      by (inr i) (inr j) = old p r g h x y i j
 
 -- ---- every scene
 
-note_unasked : (p : ProviderId) (r : Happened) → IsNote r → asks_join p r ≡ false
-note_unasked p (happened.Up m j) k = absurd k
-note_unasked p (happened.Down m) k = absurd k
-note_unasked p (happened.Ring m j i ms b) k = absurd k
-note_unasked p (happened.In m v ms) k = absurd k
-note_unasked p (happened.Base m v g u len st) k = absurd k
-note_unasked p (happened.Put m v g i e) k = absurd k
-note_unasked p (happened.Heard q v g i e ms value) k = absurd k
-note_unasked p (happened.Cast q proto phase vote value message) k = absurd k
-note_unasked p (happened.Asked q r g x) k = absurd k
-note_unasked p (happened.Told q r why) k = absurd k
-note_unasked p (happened.Noted m c v i told) k = absurd k
-note_unasked p (happened.Refused m c fault) k = refl
-note_unasked p (happened.Shown m line) k = refl
+note_asks : (r : Happened) → IsNote r → Unasked r
+note_asks (happened.Refused m c fault) k = tt
+note_asks (happened.Shown m line) k = tt
+note_asks _ k = absurd k
 
-pub joins_have_one_group : JoinsHaveOneGroup
-joins_have_one_group c w k = by w k
+-- a node that starts asks for nothing
+started_asks : (c : Config) (n j : ℕ) (r : Happened) → Has r (started c n j).records → Unasked r
+unfolding started with_sessions ring_record
+started_asks c n j r (inl e) = subst Unasked (sym e) tt
+started_asks c n j r (inr i) =
+    ⊎_elim (λ (a : Has r (map (ring_record n) (own_rings c c.mode n j))). let z = has_map (ring_record n) r (own_rings c c.mode n j) a in subst Unasked (sym z.2) tt) (λ (a : Has r (happened.In n (first_view c c.mode n j) (first_members c c.mode n j) ∷ [])). last a) (has_append r (map (ring_record n) (own_rings c c.mode n j)) (happened.In n (first_view c c.mode n j) (first_members c c.mode n j) ∷ []) i)
+  where
+    last : Has r (happened.In n (first_view c c.mode n j) (first_members c c.mode n j) ∷ []) → Unasked r
+    last (inl e) = subst Unasked (sym e) tt
+    last (inr z) = absurd z
+
+too_group : (w : Scene) (n : ℕ) (o : Option Core) → OneGroup (records_of w.before) → OneGroup (records_of (starts_too w n o).before)
+too_group w n (Some s) k = k
+too_group w n None k =
+    let rs : List Happened = (started w.config n (w.incs n + 1)).records in
+    subst OneGroup (sym (with_is w.before rs)) (quiet_group (reverse rs) (records_of w.before) (λ r i. started_asks w.config n (w.incs n + 1) r (reverse_has r rs i)) k)
+
+fold_group : (ns : List ℕ) (w : Scene) → OneGroup (records_of w.before) → OneGroup (records_of (fold (λ (w : Scene) n. starts_too w n (w.cores n)) w ns).before)
+fold_group [] w k = k
+fold_group (n ∷ ns) w k = fold_group ns (starts_too w n (w.cores n)) (too_group w n (w.cores n) k)
+
+pub requests_have_one_group : RequestsHaveOneGroup
+requests_have_one_group c w k = by w k
   where
     by : (w : Scene) → Played c w → OneGroup (records_of w.before)
-    by _ Nothing = λ p g h x y a b. absurd a
-    by _ (AllStart fixed) = λ p g h x y a b. absurd (let q : true ≡ false = sym (has_any (asks_join p) (records_of began.before) (happened.Asked p p.join g x) a (asks_it p g x)) ∙ fresh.unasked p in cc)
-      where
-        bare : Scene
-        bare = record (nothing_yet c) { before = record { event = None; records = [] } ∷ [] }
-
-        began : Scene
-        began = fold (λ (w : Scene) n. starts_too w n (w.cores n)) bare (nodes_of c.nodes)
-
-        fresh : AllFresh began
-        fresh = fold_fresh (nodes_of c.nodes) bare (record { sent = refl; nodes = λ m. tt; puts = (tt, tt); unasked = λ q. refl })
+    by _ Nothing = λ p r g h x y a b. absurd a
+    by _ (AllStart fixed) = fold_group (nodes_of c.nodes) (record (nothing_yet c) { before = record { event = None; records = [] } ∷ [] }) (λ p r g h x y a b. absurd a)
     by _ (Starts w n e k free real down) =
-        quiet_group (reverse (started w.config n (w.incs n + 1)).records) (records_of w.before) (none_asks (reverse (started w.config n (w.incs n + 1)).records) (λ p r i. started_unasked w.config n (w.incs n + 1) p r (reverse_has r (started w.config n (w.incs n + 1)).records i))) (by w k)
-    by _ (Stops w n e s k up) = quiet_group (happened.Down n ∷ []) (records_of w.before) (λ p g x i. down p g x i) (by w k)
+        quiet_group (reverse (started w.config n (w.incs n + 1)).records) (records_of w.before) (λ r i. started_asks w.config n (w.incs n + 1) r (reverse_has r (started w.config n (w.incs n + 1)).records i)) (by w k)
+    by _ (Stops w n e s k up) = quiet_group (happened.Down n ∷ []) (records_of w.before) down (by w k)
       where
-        down : (p : ProviderId) (g : List ℕ) (x : Proposal) → Has (happened.Asked p p.join g x) (happened.Down n ∷ []) → ⊥
-        down p g x (inl q) = cc
-        down p g x (inr z) = z
+        down : (r : Happened) → Has r (happened.Down n ∷ []) → Unasked r
+        down r (inl q) = subst Unasked (sym q) tt
+        down r (inr z) = absurd z
     by _ (Steps w n f s e v k up arises says) = step_group c w n f s e v k up arises says (by w k)
-    by _ (Notes w e rs k notes) = quiet_group (reverse rs) (records_of w.before) (none_asks (reverse rs) (λ p r i. note_unasked p r (notes r (reverse_has r rs i)))) (by w k)
+    by _ (Notes w e rs k notes) = quiet_group (reverse rs) (records_of w.before) (λ r i. note_asks r (notes r (reverse_has r rs i))) (by w k)

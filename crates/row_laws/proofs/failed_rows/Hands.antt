@@ -33,7 +33,7 @@ use Rattle.node_state.proofs.NameOrder.{text_same}
 use Rattle.row_laws.proofs.hearing.Handing.{has_among, handed_kept}
 use Rattle.row_laws.specs.failed_rows.Failures.{TakenOff}
 use Rattle.row_laws.proofs.failed_rows.Living.{IsLive, handed_lives, handed_slim}
-use Rattle.row_laws.proofs.failed_rows.Facts.{Quiet, quiet_unasked, Lives, OwnFor, own_pushed, PutOff, off_heard, JoinedIn, Takers, takers_pushed}
+use Rattle.row_laws.proofs.failed_rows.Facts.{Quiet, quiet_unasked, quiet_asks, Lives, OwnFor, own_pushed, PutOff, off_heard, JoinedIn, Takers, takers_pushed}
 use Rattle.row_laws.proofs.failed_rows.Origin.{Origin, SlimIf, slim_more, slim_on}
 use Rattle.row_laws.proofs.failed_rows.At.{At, at_recorded_all, at_sessions}
 use Rattle.row_laws.proofs.failed_rows.Sends.{at_casts_sent}
@@ -117,7 +117,7 @@ module _ (h : History) (said : ProviderId → Type 0) (origin : Origin) (P L M :
   pending_all : (u : SessionState) (rs : List Happened) (s : Core) → AllQuiet rs → Pending u s → Pending u (recorded_all s rs)
   unfolding recorded_all
   pending_all u rs s quiet k =
-      record { at = at_recorded_all h said origin P L M T G Q rs s quiet k.at; next = own_pushed h said origin.born u s rs (λ r i p. quiet_unasked r (quiet r i) p) k.next; takers = takers_pushed h s.views.me u s.records rs k.takers; slim = slim_more origin.root u s.records rs (λ r i p. quiet_unasked r (quiet r i) p) k.slim }
+      record { at = at_recorded_all h said origin P L M T G Q rs s quiet k.at; next = own_pushed h said origin.born u s rs (λ r i p. quiet_unasked r (quiet r i) p) k.next; takers = takers_pushed h s.views.me u s.records rs k.takers; slim = slim_more origin.root u s.records rs (λ r i. quiet_asks r (quiet r i)) k.slim }
 
   pending_noted : (u : SessionState) (s : Core) (g : List ℕ) (i : ℕ) (before after : GroupState) → Pending u s → Pending u (noted s g i before after)
   unfolding noted notes
@@ -139,7 +139,7 @@ module _ (h : History) (said : ProviderId → Type 0) (origin : Origin) (P L M :
         at = at_recorded_all h said origin P L M T G Q rs s (all_quiet s g i e after cs) a;
         next = own bs;
         takers = takers_pushed h s.views.me u s.records rs (begins bs);
-        slim = slim_more origin.root u s.records rs (λ r j p. quiet_unasked r (all_quiet s g i e after cs r j) p) (slim_on origin.root s.sessions u s.records (handed_slim s.sessions g before after e bs) a.slim);
+        slim = slim_more origin.root u s.records rs (λ r j. quiet_asks r (all_quiet s g i e after cs r j)) (slim_on origin.root s.sessions u s.records (handed_slim s.sessions g before after e bs) a.slim);
       }) in
       at_casts_sent h said origin P L M T G Q (with_sessions t u) g to cs (at_sessions h said origin P L M T G Q t u k.slim k.next k.takers k.at)
     where

@@ -275,43 +275,43 @@ call_now of (call.Unsubscribe client g) s none low k =
 call_now of (call.Goodbye client) s none low k =
     said_now of (call.Goodbye client) s client _ _ none (λ u e. subst (Owned of) (sym (unless_is _ (end_session s.sessions (client_token s.sessions client)) u e)) (owned_ended of s.sessions (client_token s.sessions client) k)) k
 
--- ---- a call asks for one join at most, with the next number
+-- ---- a call asks for one thing at most, with the next number
 
--- what asks for a join is all that is recorded, its number is the next one, and its provider is of the node's incarnation
+-- what is asked for is all that is recorded, its number is the next one, and its provider is of the node's incarnation
 abbrev pub OneAsk : SessionState → List Happened → Type 0
 OneAsk s rs =
-    (p : ProviderId) (g : List ℕ) (x : Proposal) → Has (happened.Asked p p.join g x) rs → (rs ≡ happened.Asked p p.join g x ∷ []) × (p.join ≡ s.last_request + 1) × (p.inc ≡ s.inc)
+    (p : ProviderId) (r : ℕ) (g : List ℕ) (x : Proposal) → Has (happened.Asked p r g x) rs → (rs ≡ happened.Asked p r g x ∷ []) × (r ≡ s.last_request + 1) × (p.inc ≡ s.inc)
 
-module _ (s : Core) (none : s.records ≡ []) (low : (x : Provider) → Has x s.sessions.providers → x.p.join ≤ s.sessions.last_request) where
+module _ (s : Core) (none : s.records ≡ []) (own : (x : Provider) → Has x s.sessions.providers → x.p.inc ≡ s.sessions.inc) where
   abbrev OneOf : List Happened → Type 0
   OneOf rs = OneAsk s.sessions rs
 
   one_silent : (rs : List Happened) → rs ≡ [] → OneOf rs
-  one_silent rs e p g x i = absurd (subst (Has (happened.Asked p p.join g x)) e i)
+  one_silent rs e p r g x i = absurd (subst (Has (happened.Asked p r g x)) e i)
 
-  one_other : (rs : List Happened) (r : Happened) → rs ≡ [] → ((p : ProviderId) (g : List ℕ) (x : Proposal) → happened.Asked p p.join g x ≡ r → ⊥) → OneOf (rs ++ r ∷ [])
-  one_other rs r e other p g x i = absurd (out (subst (λ z. Has (happened.Asked p p.join g x) (z ++ r ∷ [])) e i))
+  one_other : (rs : List Happened) (r : Happened) → rs ≡ [] → ((p : ProviderId) (k : ℕ) (g : List ℕ) (x : Proposal) → happened.Asked p k g x ≡ r → ⊥) → OneOf (rs ++ r ∷ [])
+  one_other rs r e other p k g x i = absurd (out (subst (λ z. Has (happened.Asked p k g x) (z ++ r ∷ [])) e i))
     where
-      out : Has (happened.Asked p p.join g x) (r ∷ []) → ⊥
-      out (inl q) = other p g x q
+      out : Has (happened.Asked p k g x) (r ∷ []) → ⊥
+      out (inl q) = other p k g x q
       out (inr z) = z
 
   one_refused : (client : List ℕ) (f : GsFault) → OneOf (refuse_call s client f).records
   unfolding refuse_call recorded
-  one_refused client f = one_other s.records (happened.Refused s.views.me client f) none (λ p g x q. cc)
+  one_refused client f = one_other s.records (happened.Refused s.views.me client f) none (λ p k g x q. cc)
 
   one_changed : (client : List ℕ) (r : Result SessionState GsFault) → OneOf (changed s client r).records
   unfolding changed with_sessions
   one_changed client (Ok u) = one_silent s.records none
   one_changed client (Err f) = one_refused client f
 
-  -- a request of a provider that is there has a later number than its join
+  -- a provider that is there asks
   one_asked : (client : List ℕ) (r : Result SessionState GsFault) → ((u : SessionState) → r ≡ Ok u → Asks s.sessions u) → NewAsks r → OneOf (proposed s client r).records
   unfolding proposed ask_last with_sessions recorded
   one_asked client (Err f) asks new = one_refused client f
   one_asked client (Ok u) asks new =
       let d : Core = record s { sessions = u } in
-      subst (λ o. OneOf (ask_last d o).records) (sym j.last) (subst OneOf (sym (request_sends (recorded d a) q).records) (one_other s.records a none late))
+      subst (λ o. OneOf (ask_last d o).records) (sym j.last) (subst OneOf (sym (request_sends (recorded d a) q).records) (subst (λ z. OneOf (z ++ a ∷ [])) (sym none) at))
     where
       j : Asks s.sessions u
       j = asks u refl
@@ -322,15 +322,15 @@ module _ (s : Core) (none : s.records ≡ []) (low : (x : Provider) → Has x s.
       a : Happened
       a = happened.Asked q.p q.r q.group q.proposal
 
-      late : (p : ProviderId) (g : List ℕ) (x : Proposal) → happened.Asked p p.join g x ≡ happened.Asked q.p q.r q.group q.proposal → ⊥
-      late p g x e =
-          let k = new q j.last in
+      inc : q.p.inc ≡ s.sessions.inc
+      inc = let k = new q j.last in sym (ap (λ (z : ProviderId). z.inc) k.2) ∙ own k.0 (subst (Has k.0) j.providers k.1)
+
+      at : (p : ProviderId) (r : ℕ) (g : List ℕ) (x : Proposal) → Has (happened.Asked p r g x) (a ∷ []) → (a ∷ [] ≡ happened.Asked p r g x ∷ []) × (r ≡ s.sessions.last_request + 1) × (p.inc ≡ s.sessions.inc)
+      at p r g x (inl e) =
           let who : p ≡ q.p = cc in
-          let number : p.join ≡ q.r = cc in
-          let le : k.0.p.join ≤ s.sessions.last_request = low k.0 (subst (Has k.0) j.providers k.1) in
-          let same : k.0.p.join ≡ p.join = ap (λ (z : ProviderId). z.join) (k.2 ∙ sym who) in
-          let next : q.r ≡ s.sessions.last_request + 1 = j.number in
-          omega (arith, le, same, number, next)
+          let number : r ≡ q.r = cc in
+          (ap (λ z. z ∷ []) (sym e), number ∙ j.number, ap (λ (z : ProviderId). z.inc) who ∙ inc)
+      at p r g x (inr z) = absurd z
 
   one_cast : (c : Core) (o : Option KeptBallot) → c.records ≡ [] → OneOf (cast_last c o).records
   unfolding cast_last record_ballot ballot_sent_if recorded
@@ -339,7 +339,7 @@ module _ (s : Core) (none : s.records ≡ []) (low : (x : Provider) → Has x s.
     where
       kept : (o : Option Filled) → OneOf (record_ballot c b o).records
       kept None = one_silent c.records e
-      kept (Some f) = one_other c.records (happened.Cast b.p b.proto b.phase f.vote f.value f.message) e (λ p g x q. cc)
+      kept (Some f) = one_other c.records (happened.Cast b.p b.proto b.phase f.vote f.value f.message) e (λ p k g x q. cc)
 
       sent : (t : Core) (z : Bool) → OneOf t.records → OneOf (ballot_sent_if t b z).records
       sent t true k = k
@@ -374,12 +374,12 @@ module _ (s : Core) (none : s.records ≡ []) (low : (x : Provider) → Has x s.
       a : Happened
       a = happened.Asked new (s.sessions.last_request + 1) g (Join (new ∷ []) attrs None)
 
-      at : (p : ProviderId) (k : List ℕ) (x : Proposal) → Has (happened.Asked p p.join k x) (a ∷ []) → (a ∷ [] ≡ happened.Asked p p.join k x ∷ []) × (p.join ≡ s.sessions.last_request + 1) × (p.inc ≡ s.sessions.inc)
-      at p k x (inl e) =
+      at : (p : ProviderId) (r : ℕ) (k : List ℕ) (x : Proposal) → Has (happened.Asked p r k x) (a ∷ []) → (a ∷ [] ≡ happened.Asked p r k x ∷ []) × (r ≡ s.sessions.last_request + 1) × (p.inc ≡ s.sessions.inc)
+      at p r k x (inl e) =
           let who : p ≡ new = cc in
-          let number : p.join ≡ s.sessions.last_request + 1 = cc in
+          let number : r ≡ s.sessions.last_request + 1 = cc in
           (ap (λ z. z ∷ []) (sym e), number, ap (λ (z : ProviderId). z.inc) who)
-      at p k x (inr z) = absurd z
+      at p r k x (inr z) = absurd z
 
       one : OneOf (s.records ++ a ∷ [])
       one = subst (λ z. OneOf (z ++ a ∷ [])) (sym none) at
@@ -400,16 +400,16 @@ message_asks : (s : SessionState) (m : MemberToken) (phases : Phases) (bytes : L
 unfolding message_sent
 message_asks s m phases bytes = made_asks s m phases _ _
 
-pub one_call : (c : CallLine) (s : Core) → s.records ≡ [] → ((x : Provider) → Has x s.sessions.providers → x.p.join ≤ s.sessions.last_request) → OneAsk s.sessions (take_call s c).records
+pub one_call : (c : CallLine) (s : Core) → s.records ≡ [] → ((x : Provider) → Has x s.sessions.providers → x.p.inc ≡ s.sessions.inc) → OneAsk s.sessions (take_call s c).records
 unfolding take_call joined
-one_call (call.Init node name votes) s none low = one_changed s none low name (inited s.sessions name)
-one_call (call.Join client g instance attrs) s none low = one_joined s none low client g instance attrs (join_fault s.sessions (client_token s.sessions client) g attrs)
-one_call (call.Leave client g phases) s none low = one_asked s none low client (left s.sessions (caller s.sessions client g) phases) (left_asks s.sessions (caller s.sessions client g) phases) (left_lives s.sessions (caller s.sessions client g) phases).1
-one_call (call.Expel client g phases out) s none low = one_asked s none low client (expelled s.sessions (caller s.sessions client g) phases out) (expelled_asks s.sessions (caller s.sessions client g) phases out) (expelled_lives s.sessions (caller s.sessions client g) phases out).1
-one_call (call.ChangeState client g phases value) s none low = one_asked s none low client (state_changed s.sessions (caller s.sessions client g) phases value) (state_asks s.sessions (caller s.sessions client g) phases value) (state_lives s.sessions (caller s.sessions client g) phases value).1
-one_call (call.SendMessage client g phases bytes) s none low = one_asked s none low client (message_sent s.sessions (caller s.sessions client g) phases bytes) (message_asks s.sessions (caller s.sessions client g) phases bytes) (message_lives s.sessions (caller s.sessions client g) phases bytes).1
-one_call (call.ChangeAttributes client g phases attrs) s none low = one_asked s none low client (attributes_changed s.sessions (caller s.sessions client g) phases attrs) (changes_asks s.sessions (caller s.sessions client g) phases attrs) (attributes_lives s.sessions (caller s.sessions client g) phases attrs).1
-one_call (call.Vote client g v value) s none low = one_given s none low client (voted s.sessions (caller s.sessions client g) v value)
-one_call (call.Subscribe client g) s none low = one_changed s none low client (subscribe_taken s.sessions (client_token s.sessions client) g (holds s g))
-one_call (call.Unsubscribe client g) s none low = one_changed s none low client (unsubscribe_taken s.sessions (client_token s.sessions client) (subscriber s.sessions client g))
-one_call (call.Goodbye client) s none low = one_said s none low client (filter (is_client_of (client_token s.sessions client)) s.sessions.providers) (goodbye_taken s.sessions (client_token s.sessions client))
+one_call (call.Init node name votes) s none own = one_changed s none own name (inited s.sessions name)
+one_call (call.Join client g instance attrs) s none own = one_joined s none own client g instance attrs (join_fault s.sessions (client_token s.sessions client) g attrs)
+one_call (call.Leave client g phases) s none own = one_asked s none own client (left s.sessions (caller s.sessions client g) phases) (left_asks s.sessions (caller s.sessions client g) phases) (left_lives s.sessions (caller s.sessions client g) phases).1
+one_call (call.Expel client g phases out) s none own = one_asked s none own client (expelled s.sessions (caller s.sessions client g) phases out) (expelled_asks s.sessions (caller s.sessions client g) phases out) (expelled_lives s.sessions (caller s.sessions client g) phases out).1
+one_call (call.ChangeState client g phases value) s none own = one_asked s none own client (state_changed s.sessions (caller s.sessions client g) phases value) (state_asks s.sessions (caller s.sessions client g) phases value) (state_lives s.sessions (caller s.sessions client g) phases value).1
+one_call (call.SendMessage client g phases bytes) s none own = one_asked s none own client (message_sent s.sessions (caller s.sessions client g) phases bytes) (message_asks s.sessions (caller s.sessions client g) phases bytes) (message_lives s.sessions (caller s.sessions client g) phases bytes).1
+one_call (call.ChangeAttributes client g phases attrs) s none own = one_asked s none own client (attributes_changed s.sessions (caller s.sessions client g) phases attrs) (changes_asks s.sessions (caller s.sessions client g) phases attrs) (attributes_lives s.sessions (caller s.sessions client g) phases attrs).1
+one_call (call.Vote client g v value) s none own = one_given s none own client (voted s.sessions (caller s.sessions client g) v value)
+one_call (call.Subscribe client g) s none own = one_changed s none own client (subscribe_taken s.sessions (client_token s.sessions client) g (holds s g))
+one_call (call.Unsubscribe client g) s none own = one_changed s none own client (unsubscribe_taken s.sessions (client_token s.sessions client) (subscriber s.sessions client g))
+one_call (call.Goodbye client) s none own = one_said s none own client (filter (is_client_of (client_token s.sessions client)) s.sessions.providers) (goodbye_taken s.sessions (client_token s.sessions client))

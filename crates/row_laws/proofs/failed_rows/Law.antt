@@ -143,13 +143,13 @@ module _ (w : Scene) (n : ℕ) (f : Answering) (s : Core) (e : NodeEvent) (v : E
   at : At w.before Said (origin_of s (Some (root_of (at_work s) e))) (Unit {0}) (Unit {0}) Leaves Every NoGroup Every t
   at = at_stepped w n f s Said Leaves e k.sent (λ h. begin_tied h w n s up (rests h)) arises at_begin calls
 
-  -- whoever asks for a join in this event asks by the call
-  pub asked_by_call : (p : ProviderId) (g : List ℕ) (x : Proposal) → Has (happened.Asked p p.join g x) t.records → Has (happened.Asked p p.join g x) (root_of (at_work s) e).records
+  -- whoever asks in this event asks by the call
+  pub asked_by_call : (p : ProviderId) (r : ℕ) (g : List ℕ) (x : Proposal) → Has (happened.Asked p r g x) t.records → Has (happened.Asked p r g x) (root_of (at_work s) e).records
   asked_by_call = at.slim.asked
 
   -- at its own node
-  pub asked_here : (p : ProviderId) (g : List ℕ) (x : Proposal) → Has (happened.Asked p p.join g x) t.records → p.node ≡ t.views.me
-  asked_here p g x i = at.whose (happened.Asked p p.join g x) i
+  pub asked_here : (p : ProviderId) (r : ℕ) (g : List ℕ) (x : Proposal) → Has (happened.Asked p r g x) t.records → p.node ≡ t.views.me
+  asked_here p r g x i = at.whose (happened.Asked p r g x) i
 
   fit : BasesFit t.records
   fit r i = noted_fit (ended w n v t) after r (has_turned r t.records (records_of w.before) (append_has_left r t.records (records_of w.before) i))

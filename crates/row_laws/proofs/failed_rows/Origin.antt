@@ -1,11 +1,9 @@
 -- Since the call of an event nobody came in at the node, and nobody asked for a join.
-use Rattle.std.proofs.Common.{◌≡◌, ◌⊎◌, ℕ, List, ◌++◌, Option, Some, None, true, false, refl, sym, ap, ◌∙◌, inl, inr}
-use Rattle.std.specs.Prelude.{◌==◌, ◌&&◌, reverse}
+use Rattle.std.proofs.Common.{◌≡◌, ◌⊎◌, ℕ, List, ◌++◌, Option, Some, None, refl, ap, ◌∙◌, inl, inr}
+use Rattle.std.specs.Prelude.{reverse}
 use Rattle.std.specs.List.{list_any}
-use Rattle.std.proofs.lemmas.Bool.{eq-eqb}
 use Rattle.std.proofs.lemmas.List.{reverse-append}
 use Rattle.rsct_packet.specs.declared.ids.ProviderId.{ProviderId}
-use Rattle.rsct_packet.specs.Providers.{same_provider}
 use Rattle.rsct_packet.specs.Search.{Has}
 use Rattle.rsct_packet.proofs.HasLaws.{has_append}
 use Rattle.proposal_core.specs.declared.proposal.Proposal.{Proposal}
@@ -16,16 +14,15 @@ use Rattle.node_state.specs.declared.state.Core.{Core}
 use Rattle.node_state.specs.Calls.{take_call}
 use Rattle.node_state.specs.Step.{NodeEvent, Ticks, Asks, Given, Calls, Garbage}
 use Rattle.run_safety.specs.Stays.{asks_join}
-use Rattle.step_refinement.proofs.SessionLaws.{provider_self}
 use Rattle.row_laws.proofs.hearing.Listening.{reverse_has}
 use Rattle.row_laws.proofs.failed_rows.Living.{Slimmer, slim_same, slim_then}
-use Rattle.row_laws.proofs.failed_rows.Facts.{none_asked}
+use Rattle.row_laws.proofs.failed_rows.Facts.{Unasked, unasked_join, none_asked}
 
 -- nobody came in and nobody asked since a state of the node
 pub record Slim (root : Core) (t : SessionState) (rs : List Happened) : Type 0 where
   pub sessions : Slimmer root.sessions t
   pub asks : (p : ProviderId) → list_any (asks_join p) (reverse rs) ≡ list_any (asks_join p) (reverse root.records)
-  pub asked : (p : ProviderId) (g : List ℕ) (x : Proposal) → Has (happened.Asked p p.join g x) rs → Has (happened.Asked p p.join g x) root.records
+  pub asked : (p : ProviderId) (r : ℕ) (g : List ℕ) (x : Proposal) → Has (happened.Asked p r g x) rs → Has (happened.Asked p r g x) root.records
 
 -- what a step is measured by: the incarnation, and the node after the call, where one is followed
 pub record Origin : Type 0 where
@@ -37,22 +34,20 @@ SlimIf None t rs = Unit {0}
 SlimIf (Some c) t rs = Slim c t rs
 
 pub slim_self : (s : Core) → Slim s s.sessions s.records
-slim_self s = record { sessions = slim_same s.sessions s.sessions refl refl refl; asks = λ p. refl; asked = λ p g x i. i }
+slim_self s = record { sessions = slim_same s.sessions s.sessions refl refl refl; asks = λ p. refl; asked = λ p r g x i. i }
 
-pub slim_more : (o : Option Core) (t : SessionState) (rs new : List Happened) → ((r : Happened) → Has r new → (p : ProviderId) → asks_join p r ≡ false) → SlimIf o t rs → SlimIf o t (rs ++ new)
+pub slim_more : (o : Option Core) (t : SessionState) (rs new : List Happened) → ((r : Happened) → Has r new → Unasked r) → SlimIf o t rs → SlimIf o t (rs ++ new)
 slim_more None t rs new none k = tt
 slim_more (Some root) t rs new none k =
     record {
       sessions = k.sessions;
-      asks = λ p. ap (list_any (asks_join p)) (reverse-append rs new) ∙ none_asked p (reverse new) (reverse rs) (λ r i. none r (reverse_has r new i) p) ∙ k.asks p;
-      asked = λ p g x i. before p g x (has_append (happened.Asked p p.join g x) rs new i);
+      asks = λ p. ap (list_any (asks_join p)) (reverse-append rs new) ∙ none_asked p (reverse new) (reverse rs) (λ r i. unasked_join r (none r (reverse_has r new i)) p) ∙ k.asks p;
+      asked = λ p r g x i. before p r g x (has_append (happened.Asked p r g x) rs new i);
     }
   where
-    before : (p : ProviderId) (g : List ℕ) (x : Proposal) → Has (happened.Asked p p.join g x) rs ⊎ Has (happened.Asked p p.join g x) new → Has (happened.Asked p p.join g x) root.records
-    before p g x (inl i) = k.asked p g x i
-    before p g x (inr i) =
-        let asks : (same_provider p p && (p.join == p.join)) ≡ true = λ j. provider_self p j && eq-eqb p.join p.join refl j in
-        absurd (let z : true ≡ false = sym asks ∙ none (happened.Asked p p.join g x) i p in cc)
+    before : (p : ProviderId) (r : ℕ) (g : List ℕ) (x : Proposal) → Has (happened.Asked p r g x) rs ⊎ Has (happened.Asked p r g x) new → Has (happened.Asked p r g x) root.records
+    before p r g x (inl i) = k.asked p r g x i
+    before p r g x (inr i) = absurd (none (happened.Asked p r g x) i)
 
 pub slim_on : (o : Option Core) (t u : SessionState) (rs : List Happened) → Slimmer t u → SlimIf o t rs → SlimIf o u rs
 slim_on None t u rs a k = tt

@@ -27,7 +27,7 @@ use Rattle.run_safety.specs.Stays as kept
 use Rattle.node_state.proofs.NameOrder.{cases_text, text_self, text_other, row_here, row_there, rows_ordered}
 use Rattle.row_laws.proofs.honest_votes.At.{found, leads_row}
 use Rattle.row_laws.specs.failed_rows.Failures.{GoneCause, PutHolds, EntryFails, EachPut, state_held, state_of_stay, state_in_stays}
-use Rattle.row_laws.proofs.failed_rows.Facts.{Whys, takers_pushed, TallyIs, QueueIs, Track, BasesFit, Stepped, BodyFails, body_on, own_pushed, PutOff}
+use Rattle.row_laws.proofs.failed_rows.Facts.{Whys, takers_pushed, TallyIs, QueueIs, Track, BasesFit, Stepped, BodyFails, body_on, Unasked, own_pushed, PutOff}
 use Rattle.row_laws.proofs.failed_rows.Origin.{Origin, slim_more}
 use Rattle.row_laws.proofs.failed_rows.At.{At}
 use Rattle.session_state.specs.HandOn.{hearers, is_present}
@@ -121,7 +121,7 @@ module _ (h : History) (said : ProviderId → Type 0) (origin : Origin) (P L M :
           inc = a.inc;
           counted = a.counted;
           own = own_pushed h said origin.born s.sessions s (r ∷ []) unasked a.own;
-          slim = slim_more origin.root s.sessions s.records (r ∷ []) unasked a.slim;
+          slim = slim_more origin.root s.sessions s.records (r ∷ []) asks a.slim;
           sends = λ p i. subst (λ z. BodyFails said (z ++ records_of h) p.body) (sym turned) (body_on said (r ∷ []) (reverse s.records ++ records_of h) p.body (a.sends p i));
           puts = λ l fit. let was : BasesFit s.records = λ x i. fit x (append_has_left x s.records (r ∷ []) i) in subst (λ z. EachPut z h) (sym turned) (holds l was, a.puts l was);
           accepted = λ m x i. one m x (has_append x s.records (r ∷ []) i);
@@ -162,6 +162,10 @@ module _ (h : History) (said : ProviderId → Type 0) (origin : Origin) (P L M :
         unasked : (x : Happened) → Has x (r ∷ []) → (p : ProviderId) → asks_join p x ≡ false
         unasked x (inl q) p = ap (asks_join p) q
         unasked x (inr z) p = absurd z
+
+        asks : (x : Happened) → Has x (r ∷ []) → Unasked x
+        asks x (inl q) = subst Unasked (sym q) tt
+        asks x (inr z) = absurd z
 
         here : found c g ≡ f (found s g)
         here = row_here g f (λ x. refl) s a.order

@@ -15,7 +15,6 @@ use Rattle.row_laws.specs.hearing.Hearing.{last_heard, Follows, InARow, AtPut, H
 use Rattle.node_state.proofs.NameOrder.{text_same}
 use Rattle.step_refinement.proofs.SessionLaws.{provider_same}
 use Rattle.row_laws.proofs.hearing.Attending.{heard_own}
-use Rattle.row_laws.proofs.hearing.Listening.{providers_hear}
 
 number_is : {a b : ℕ} → Some a ≡ Some b → a ≡ b
 number_is e = cc
@@ -128,4 +127,4 @@ module _ (p : ProviderId) (v : ViewId) (g : List ℕ) where
       let le : j ≤ d.last = d.upto in c.all k low (omega (arith, same, le, high))
 
 pub no_gap : HeardLeavesNoGap
-no_gap c w reached p v g i k j a b low high = between p v g (records_of w.before) (all_in_a_row w.before (providers_hear c w reached)) i k j a b low high
+no_gap h heard p v g i k j a b low high = between p v g (records_of h) (all_in_a_row h heard) i k j a b low high

@@ -36,7 +36,7 @@ pub data Played (c : Config) : Scene → Type 0 where
 abbrev pub FailuresAreHonest : Type 0
 FailuresAreHonest = (c : Config) (w : Scene) → Played c w → FailuresHaveCauses w.before
 
--- the join of each provider is asked for in one group alone
-abbrev pub JoinsHaveOneGroup : Type 0
-JoinsHaveOneGroup =
-    (c : Config) (w : Scene) → Played c w → (p : ProviderId) (g h : List ℕ) (x y : Proposal) → Has (Asked p p.join g x) (records_of w.before) → Has (Asked p p.join h y) (records_of w.before) → g ≡ h
+-- each request of a provider is asked in one group alone
+abbrev pub RequestsHaveOneGroup : Type 0
+RequestsHaveOneGroup =
+    (c : Config) (w : Scene) → Played c w → (p : ProviderId) (r : ℕ) (g h : List ℕ) (x y : Proposal) → Has (Asked p r g x) (records_of w.before) → Has (Asked p r h y) (records_of w.before) → g ≡ h

@@ -66,8 +66,9 @@ NoGap h =
 abbrev pub ProvidersHearInARow : Type 0
 ProvidersHearInARow = (c : Config) (w : Scene) → Reached c w → HeardInARow w.before
 
+-- so it is wherever places are heard in a row
 abbrev pub HeardLeavesNoGap : Type 0
-HeardLeavesNoGap = (c : Config) (w : Scene) → Reached c w → NoGap w.before
+HeardLeavesNoGap = (h : History) → HeardInARow h → NoGap h
 
 -- Whoever is a provider of a node and takes part has heard all that the node put into the list of its view: the last place that
 -- it heard is the list's last one, and where it heard nothing of that view, the list is empty.

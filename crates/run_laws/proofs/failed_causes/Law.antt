@@ -171,7 +171,7 @@ none_later p g (r ∷ newer) older s x = by (puts_join p g r) refl (none_later p
 
     by : (b : Bool) → puts_join p g r ≡ b → list_any (puts_join p g) newer ≡ false → (b || list_any (puts_join p g) newer) ≡ false
     by true e rest =
-        absurd ((begins_once p g r (newer ++ older) (puts_it p g r e) s.0).once x.view x.place x.entry (more newer) (join_carried p x.entry x.joins))
+        absurd ((begins_once p g r (newer ++ older) (puts_it p g r e) s.0).once x.view g x.place x.entry (more newer) (join_carried p x.entry x.joins))
     by false e rest = rest
 
 -- ---- whose join is not put, and who was taken off where it took part
@@ -225,7 +225,7 @@ module _ (p : ProviderId) (g : List ℕ) (why : Why) (older : List Happened) (re
           absurd (refused.unput x.view g x.place x.entry (subst (λ z. Has z older) x.is h) x.joins)
 
   still_told : (newer : List Happened) → WasRefused p p.join (newer ++ tells ∷ older)
-  still_told [] = inl (refl, refl, refused.in_view.0, refused.in_view.1)
+  still_told [] = inl (refl, refl)
   still_told (r ∷ newer) = inr (still_told newer)
 
   pub refused_unput : (newer : List Happened) → Seen (newer ++ tells ∷ older) → list_any (puts_join p g) (newer ++ tells ∷ older) ≡ false

@@ -1,4 +1,4 @@
--- Each scene that events lead to has the records of one in whose history calls are named; so a provider's join is asked for in one
+-- Each scene that events lead to has the records of one in whose history calls are named; so a provider's request is asked in one
 -- group alone in each of them.
 use Rattle.std.proofs.Common.{◌≡◌, ℕ, ◌+◌, List, [], ◌∷◌, ◌++◌, Some, refl, sym, ap, subst}
 use Rattle.std.specs.Prelude.{reverse}
@@ -16,7 +16,7 @@ use Rattle.step_refinement.specs.Rows.{all_started, over, Arises}
 use Rattle.step_refinement.specs.Runs.{Reached}
 use Rattle.step_refinement.specs.Runs as runs
 use Rattle.row_laws.specs.failed_rows.Scenes.{Names, Played, Nothing, AllStart, Starts, Stops, Steps, Notes}
-use Rattle.row_laws.proofs.failed_rows.Groups.{joins_have_one_group}
+use Rattle.row_laws.proofs.failed_rows.Groups.{requests_have_one_group}
 
 -- the same scene with another history
 abbrev told_as : Scene → History → Scene
@@ -70,7 +70,11 @@ renamed c _ (runs.Notes w e rs k notes) =
     let z = renamed c w k in
     record { history = record { event = Some e; records = reverse rs } ∷ z.history; played = Notes (told_as w z.history) e rs z.played notes; same = ap (λ os. reverse rs ++ os) z.same }
 
-pub joined_in_one : (c : Config) (w : Scene) → Reached c w → (p : ProviderId) (g h : List ℕ) (x y : Proposal) → Has (Asked p p.join g x) (records_of w.before) → Has (Asked p p.join h y) (records_of w.before) → g ≡ h
-joined_in_one c w k p g h x y a b =
+pub asked_in_one : (c : Config) (w : Scene) → Reached c w → (p : ProviderId) (r : ℕ) (g h : List ℕ) (x y : Proposal) → Has (Asked p r g x) (records_of w.before) → Has (Asked p r h y) (records_of w.before) → g ≡ h
+asked_in_one c w k p r g h x y a b =
     let z = renamed c w k in
-    joins_have_one_group c (told_as w z.history) z.played p g h x y (subst (Has (Asked p p.join g x)) (sym z.same) a) (subst (Has (Asked p p.join h y)) (sym z.same) b)
+    requests_have_one_group c (told_as w z.history) z.played p r g h x y (subst (Has (Asked p r g x)) (sym z.same) a) (subst (Has (Asked p r h y)) (sym z.same) b)
+
+-- so its join is
+pub joined_in_one : (c : Config) (w : Scene) → Reached c w → (p : ProviderId) (g h : List ℕ) (x y : Proposal) → Has (Asked p p.join g x) (records_of w.before) → Has (Asked p p.join h y) (records_of w.before) → g ≡ h
+joined_in_one c w k p = asked_in_one c w k p p.join

@@ -172,7 +172,7 @@ module _ (n : ℕ) (before : History) (p : ProviderId) (node : p.node ≡ n) (fi
 
       by : Stood t p h false ⊎ Over n h p rs → Stood t p h false ⊎ Dissolving p rs
       by (inl s) = inl s
-      by (inr (inl q)) = absurd (once.once q.view q.place q.entry q.there (join_carried p q.entry q.joins))
+      by (inr (inl q)) = absurd (once.once q.view h q.place q.entry q.there (join_carried p q.entry q.joins))
       by (inr (inr (inl q))) = absurd (once.untold q)
       by (inr (inr (inr q))) = inr q
 

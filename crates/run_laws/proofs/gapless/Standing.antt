@@ -19,7 +19,7 @@ use Rattle.session_state.specs.State.{provider_of}
 use Rattle.session_state.specs.HandOn.{is_join, is_dissolved, take_telling, beginners, handed_on}
 use Rattle.node_state.specs.declared.happened.Happened.{Happened}
 use Rattle.node_state.specs.declared.happened.Happened.TheVariants as happened
-use Rattle.run_safety.specs.Past.{History, Within, earlier, view_now}
+use Rattle.run_safety.specs.Past.{History, Within, earlier}
 use Rattle.run_safety.specs.Requests.{carried}
 use Rattle.run_safety.specs.Stays.{Stay, stays, is_join_of, part, takes_part}
 use Rattle.run_safety.specs.Stays as stay
@@ -33,7 +33,7 @@ use Rattle.run_laws.specs.seen_runs.Seen.{WasTold}
 use Rattle.provider_laws.proofs.leaving.Left.{told_kept}
 use Rattle.run_laws.specs.gapless.Takers.{Taker, Stood, AskedJoin, Dissolving}
 use Rattle.run_laws.proofs.gapless.Forward.{Drops, told_stands, asked_own}
-use Rattle.run_laws.proofs.gapless.Growing.{asked_back, Over, over_more, dissolving_more, Inert, inert_unasked, inert_stays, stay_view}
+use Rattle.run_laws.proofs.gapless.Growing.{asked_back, Over, over_more, dissolving_more, Inert, inert_unasked, inert_stays}
 
 -- a request for a join has the number of its provider, which does not take part
 abbrev pub JoinWaits : SessionState → Type 0
@@ -134,8 +134,7 @@ module _ (n : ℕ) (before : History) (p : ProviderId) (node : p.node ≡ n) (fi
         off same (inl d) z =
             let own = asked_own t q d.0 d.1 in
             let number : (d.0).r ≡ (d.0).p.join = (k.joins d.0 own.0 d.3).0 in
-            let x = k.stay [] in
-            inl (inl (same, sym d.2 ∙ number ∙ ap (λ (z : ProviderId). z.join) (own.1 ∙ same), x.now.view, subst (λ m. view_now m rs ≡ Some x.now.view) (sym (ap (λ (z : ProviderId). z.node) same ∙ node)) (stay_view n [] rs x.now x.older x.is)))
+            inl (inl (same, sym d.2 ∙ number ∙ ap (λ (z : ProviderId). z.join) (own.1 ∙ same)))
 
         waits : (g : List ℕ) → Stood t p g false ⊎ Over n g p rs → Stood (take_telling t q r y) p g false ⊎ Over n g p (told ∷ rs)
         waits g (inr o) = inr (over_more n g p told rs o)

@@ -255,7 +255,7 @@ module _ (c : Config) (w : Scene) (n : ℕ) (f : Answering) (s : Core) (e : Node
 
                 by : Stood t.sessions p g false ⊎ Over n g p then → ⊥
                 by (inl a) = not_waits g a
-                by (inr (inl a)) = once.once a.view a.place a.entry (past_has (happened.Put n a.view g a.place a.entry) a.there) (join_carried p a.entry a.joins)
+                by (inr (inl a)) = once.once a.view g a.place a.entry (past_has (happened.Put n a.view g a.place a.entry) a.there) (join_carried p a.entry a.joins)
                 by (inr (inr (inl a))) = once.untold (told_all p p.join l.older Y (subst (λ b. WasTold p p.join (b ++ records_of w.before)) (sym inner) (subst (WasTold p p.join) (sym (append_assoc (reverse adds.more) (reverse t.records) (records_of w.before))) (told_all p p.join (reverse adds.more) then a))))
                 by (inr (inr (inr a))) = no_dis a
 

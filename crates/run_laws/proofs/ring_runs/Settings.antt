@@ -5,18 +5,18 @@ use Rattle.std.specs.List.{list_all, list_any}
 use Rattle.std.specs.Option.{unwrap_or}
 use Rattle.std.proofs.lemmas.List.{length-replicate}
 use Rattle.std.proofs.lemmas.Bool.{and_parts, or_parts, ltb-true, leb-true, eq-eqb}
-use Rattle.rsct_packet.specs.Lists.{is_empty}
 use Rattle.rsct_packet.specs.Mask.{has_node, node_numbers, is_node}
 use Rattle.rsct_packet.specs.Search.{Has}
 use Rattle.rsct_packet.proofs.HasLaws.{all_has, has_map, get_has}
 use Rattle.adapter_ring.specs.Addresses.{addr_of}
 use Rattle.node_state.specs.declared.config.Config.{Config}
 use Rattle.node_state.specs.Settings.{addresses_on, address_at}
-use Rattle.world_model.specs.declared.script.LineWhy.{LineWhy}
-use Rattle.world_model.specs.declared.script.LineWhy.TheVariants.{BadByte, MissingWord, ExtraWord, UnknownNode, UnknownClient, OutOfPlace}
-use Rattle.world_model.specs.Words.{split_on, chosen}
-use Rattle.world_model.specs.Lines.{Form, forms, Boxed, Scripted, Votes, Said, SaysMode, SaysNode, SaysAdapter, SaysHb, SaysPort, SaysLevel, SaysDomain, SaysBegin, SaysLine, SaysClient, SaysCall, said}
-use Rattle.world_model.specs.Reading.{Reading, Read, Good, Bad, nothing_read, plain_address, settled_if, settled, nodes_said, is_known_client, is_second_adapter, misplaced, last_reason, reason, with_line, with_client, with_config, with_address, taken, taken_unless, said_line, is_extra, counted_line, formed_line, skipped_line, worded_line, is_comment, words_in, is_bad_byte, read_line, ScriptRead, IsScript, IsNone, finished, input_limit, read_from, script_of}
+use Rattle.world_model.specs.declared.script.Aim.{Aim}
+use Rattle.world_model.specs.declared.script.Aim.TheVariants.{Plays}
+use Rattle.world_model.specs.declared.script.Script.{Script}
+use Rattle.world_model.specs.Lines.{Said, SaysMode, SaysNode, SaysAdapter, SaysHb, SaysPort, SaysLevel, SaysDomain, SaysBegin, SaysLine, SaysClient, SaysCall}
+use Rattle.world_model.specs.Reading.{Reading, nothing_read, plain_address, settled_if, settled, is_second_adapter, misplaced, with_line, with_call, with_client, with_config, with_address, taken, with_text, IsScript, script_in, read_for, script_of}
+use Rattle.world_model.proofs.ReadingLaws.{reasonless, Keeps, EndsWith, read_keeps}
 use Rattle.run_laws.specs.ring_runs.Rings.{AddressesFit, ScriptAddressesFit}
 use Rattle.run_laws.proofs.ring_runs.Finding.{Differ}
 
@@ -114,16 +114,6 @@ none_of (a ∷ row) address e (inr h) = none_of row address (or_parts (a == addr
 
 -- ---- one line
 
-unreasoned : (o : Option LineWhy) (a b d : Bool) → ◌≡◌ {A = Option LineWhy} (elim a [ false ↦ Some UnknownNode | true ↦ elim b [ false ↦ Some UnknownClient | true ↦ elim d [ true ↦ Some OutOfPlace | false ↦ o ] ] ]) None → d ≡ false
-unreasoned o false b d e = absurd (cc)
-unreasoned o true false d e = absurd (cc)
-unreasoned o true true true e = absurd (cc)
-unreasoned o true true false e = refl
-
-in_place : (r : Reading) (x : Said) → reason r x ≡ None → misplaced r x ≡ false
-unfolding reason
-in_place r x e = unreasoned (last_reason r x) (list_all (has_node r.config.nodes) (nodes_said x)) (is_known_client x r.clients) (misplaced r x) e
-
 adapter_fine : (r : Reading) (n network address : ℕ) → Fine r → is_second_adapter r.config n network address ≡ false → (row : List ℕ) → Has row (with_address r.config n network address).addr → RowFits row
 unfolding is_second_adapter with_address
 adapter_fine r n network address f place row h =
@@ -133,13 +123,8 @@ adapter_fine r n network address f place row h =
     let now : RowFits (set old (n - 1) address) = record { few = subst (λ z. z ≤ 32) (sym (length-set old (n - 1) address)) fits.few; apart = apart_set old (n - 1) address new fits.apart } in
     ⊎_elim (λ (e : row ≡ set old (n - 1) address). subst RowFits (sym e) now) (λ (g : Has row r.config.addr). f.rows row g) (set_has r.config.addr (network - 1) (set old (n - 1) address) row h)
 
-client_fine : (r : Reading) (n : ℕ) (name : List ℕ) (votes : Votes) → Fine r → Fine (with_client r n name votes)
-unfolding with_client
-client_fine r n name Boxed f = f
-client_fine r n name (Scripted word) f = record { rows = f.rows }
-
 taken_fine : (r : Reading) (x : Said) → Fine r → misplaced r x ≡ false → Fine (taken r x)
-unfolding taken misplaced with_config with_line with_address
+unfolding taken misplaced with_config with_line with_call with_client with_address
 taken_fine r (SaysMode m) f place = record { rows = f.rows }
 taken_fine r (SaysNode n) f place = record { rows = f.rows }
 taken_fine r (SaysAdapter n network address) f place =
@@ -150,65 +135,25 @@ taken_fine r (SaysLevel n inc) f place = record { rows = f.rows }
 taken_fine r (SaysDomain d) f place = record { rows = f.rows }
 taken_fine r SaysBegin f place = record { rows = f.rows }
 taken_fine r (SaysLine ns l) f place = record { rows = f.rows }
-taken_fine r (SaysClient n name votes) f place = client_fine r n name votes f
+taken_fine r (SaysClient n name votes) f place = record { rows = f.rows }
 taken_fine r (SaysCall client c) f place = record { rows = f.rows }
 
--- ---- the bytes of a line
-
-abbrev ReadFine : Read → Type 0
-ReadFine (Good r) = Fine r
-ReadFine (Bad why) = Unit {0}
-
-unless_fine : (r : Reading) (x : Said) → Fine r → (o : Option LineWhy) → reason r x ≡ o → ReadFine (taken_unless r x o)
-unfolding taken_unless
-unless_fine r x f None e = taken_fine r x f (in_place r x e)
-unless_fine r x f (Some why) e = tt
-
-said_fine : (r : Reading) (o : Option Said) → Fine r → ReadFine (said_line r o)
-unfolding said_line
-said_fine r None f = tt
-said_fine r (Some x) f = unless_fine r x f (reason r x) refl
-
-counted_fine : (r : Reading) (form : Form) (ws : List (List ℕ)) → Fine r → ReadFine (counted_line r form ws)
-unfolding counted_line
-counted_fine r form ws f = by (nat_lt (length ws) form.least) (is_extra (length ws) form.most)
+text_fine : (r : Reading) (bytes : List ℕ) → Fine r → Fine (with_text r bytes r.has_call)
+unfolding with_text
+text_fine r bytes f = by r.has_call
   where
-    by : (a b : Bool) → ReadFine (elim a [ true ↦ Bad MissingWord | false ↦ elim b [ true ↦ Bad ExtraWord | false ↦ said_line r (said form.head ws) ] ])
-    by true b = tt
-    by false true = tt
-    by false false = said_fine r (said form.head ws) f
+    by : (b : Bool) → Fine (with_text r bytes b)
+    by true = record { rows = f.rows }
+    by false = f
 
-formed_fine : (r : Reading) (whole : Bool) (ws : List (List ℕ)) (o : Option Form) → Fine r → ReadFine (formed_line r whole ws o)
-unfolding formed_line
-formed_fine r whole ws None f = tt
-formed_fine r true ws (Some form) f = counted_fine r form ws f
-formed_fine r false ws (Some form) f = tt
-
-skipped_fine : (r : Reading) (whole : Bool) → Fine r → ReadFine (skipped_line r whole)
-unfolding skipped_line
-skipped_fine r true f = f
-skipped_fine r false f = tt
-
-worded_fine : (r : Reading) (whole : Bool) (ws : List (List ℕ)) → Fine r → ReadFine (worded_line r whole ws)
-unfolding worded_line
-worded_fine r whole [] f = skipped_fine r whole f
-worded_fine r whole (w ∷ ws) f = formed_fine r whole ws (chosen forms w) f
-
-read_fine : (r : Reading) (whole long : Bool) (bytes : List ℕ) → Fine r → ReadFine (read_line r whole long bytes)
-unfolding read_line
-read_fine r whole true bytes f = tt
-read_fine r whole false bytes f = by (list_any is_bad_byte bytes) (is_comment bytes)
-  where
-    by : (a b : Bool) → ReadFine (elim a [ true ↦ Bad BadByte | false ↦ elim b [ true ↦ skipped_line r whole | false ↦ worded_line r whole (words_in bytes) ] ])
-    by true b = tt
-    by false true = skipped_fine r whole f
-    by false false = worded_fine r whole (words_in bytes) f
+keeps_fine : Keeps Fine Fine
+keeps_fine = record {
+  says = λ r h ws x e none f. taken_fine r x f (reasonless r x none).placed;
+  rests = λ r f. f;
+  texts = text_fine;
+}
 
 -- ---- a whole script
-
-abbrev ScriptFine : ScriptRead → Type 0
-ScriptFine (IsScript s) = (row : List ℕ) → Has row s.config.addr → RowFits row
-ScriptFine (IsNone n why) = Unit {0}
 
 plain_fits : (c : Config) → RowFits (map (plain_address c) node_numbers)
 unfolding rises
@@ -223,31 +168,13 @@ settled_fine r f true row h = f.rows row h
 settled_fine r f false row h =
     ⊎_elim (λ (q : row ≡ map (plain_address r.config) node_numbers). subst RowFits (sym q) (plain_fits r.config)) (λ (g : Has row r.config.addr). f.rows row g) (set_has r.config.addr 0 (map (plain_address r.config) node_numbers) row h)
 
-finished_fine : (r : Reading) → Fine r → ScriptFine (finished r)
-unfolding finished settled
-finished_fine r f = settled_fine r f r.has_adapter
-
-last_fine : (x : Read) (n : ℕ) → ReadFine x → ScriptFine (elim x [ Good q ↦ finished q | Bad why ↦ IsNone n why ])
-last_fine (Good q) n f = finished_fine q f
-last_fine (Bad why) n f = tt
-
-next_fine : (x : Read) (n i : ℕ) (bs : List (List ℕ)) → ((q : Reading) → Fine q → ScriptFine (read_from q (n + 1) i bs)) → ReadFine x → ScriptFine (elim x [ Good q ↦ read_from q (n + 1) i bs | Bad why ↦ IsNone n why ])
-next_fine (Good q) n i bs rest f = rest q f
-next_fine (Bad why) n i bs rest f = tt
-
-from_fine : (bs : List (List ℕ)) (r : Reading) (n i : ℕ) → Fine r → ScriptFine (read_from r n i bs)
-unfolding read_from
-from_fine [] r n i f = finished_fine r f
-from_fine (b ∷ bs) r n i f = by (is_empty bs) (is_empty b) (λ q g. from_fine bs q (n + 1) (i + length b + 1) g)
-  where
-    by : (u v : Bool) → ((q : Reading) → Fine q → ScriptFine (read_from q (n + 1) (i + length b + 1) bs)) → ScriptFine (elim u [ true ↦ elim v [ true ↦ finished r | false ↦ elim (read_line r false (nat_lt input_limit (i + length b)) b) [ Good q ↦ finished q | Bad why ↦ IsNone n why ] ] | false ↦ elim (read_line r true (nat_lt input_limit (i + length b + 1)) b) [ Good q ↦ read_from q (n + 1) (i + length b + 1) bs | Bad why ↦ IsNone n why ] ])
-    by true true rest = finished_fine r f
-    by true false rest = last_fine (read_line r false (nat_lt input_limit (i + length b)) b) n (read_fine r false (nat_lt input_limit (i + length b)) b f)
-    by false v rest = next_fine (read_line r true (nat_lt input_limit (i + length b + 1)) b) n (i + length b + 1) bs rest (read_fine r true (nat_lt input_limit (i + length b + 1)) b f)
-
-none_fine : Fine nothing_read
+none_fine : (aim : Aim) → Fine (nothing_read aim)
 unfolding nothing_read
-none_fine = record { rows = λ row h. subst RowFits (sym (copies 4 (replicate 32 0) row h)) zeros_fit }
+none_fine aim = record { rows = λ row h. subst RowFits (sym (copies 4 (replicate 32 0) row h)) zeros_fit }
+
+script_rows : (r : Reading) → Fine r → (row : List ℕ) → Has row (script_in r).config.addr → RowFits row
+unfolding script_in settled
+script_rows r f = settled_fine r f r.has_adapter
 
 -- ---- what is asked of settings
 
@@ -269,8 +196,19 @@ fit_of c net fits = record { nodes = fits.few; differ = λ a b up e. by a b (is_
     by a b true false e f up same = absurd (omega arith)
     by a b false q e f up same = absurd (omega arith)
 
+-- for whatever a script is read
+pub addresses_fit : (aim : Aim) (bytes : List ℕ) (s : Script) → read_for aim bytes ≡ IsScript s → (net : ℕ) → AddressesFit s.config net
+addresses_fit aim bytes s e net =
+    let end : EndsWith Fine s = read_keeps Fine Fine keeps_fine aim bytes s (none_fine aim) e in
+    subst (λ (x : Script). AddressesFit x.config net) (sym end.is) (fit_of (script_in end.last).config net (row_fits (script_in end.last).config (script_rows end.last end.keeps) net))
+
+-- settings that have no address yet have the plain ones
+pub plain_addresses_fit : (c : Config) → c.addr ≡ replicate 4 (replicate 32 0) → (net : ℕ) → AddressesFit (settled_if c false) net
+plain_addresses_fit c none net =
+    let r : Reading = record (nothing_read Plays) { config = c } in
+    let fine : Fine r = record { rows = λ row h. subst RowFits (sym (copies 4 (replicate 32 0) row (subst (Has row) none h))) zeros_fit } in
+    fit_of (settled_if c false) net (row_fits (settled_if c false) (settled_fine r fine false) net)
+
 pub script_addresses_fit : ScriptAddressesFit
 unfolding script_of
-script_addresses_fit bytes s e net =
-    let rows : (row : List ℕ) → Has row s.config.addr → RowFits row = subst ScriptFine e (from_fine (split_on 10 bytes) nothing_read 1 0 none_fine) in
-    fit_of s.config net (row_fits s.config rows net)
+script_addresses_fit bytes s e net = addresses_fit Plays bytes s e net

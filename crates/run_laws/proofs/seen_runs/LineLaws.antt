@@ -27,7 +27,7 @@ use Rattle.run_safety.proofs.Founds.{found_new}
 use Rattle.run_safety.proofs.CutLaw.{law_same_members, law_same_lists}
 use Rattle.run_safety.proofs.Whole.{Whole}
 use Rattle.run_safety.proofs.OnceLaw.{begun_once}
-use Rattle.run_safety.proofs.Lives.{whole, law_one_entry, law_one_base, law_base}
+use Rattle.run_safety.proofs.Lives.{whole, law_one_entry, law_base}
 use Rattle.run_laws.proofs.seen_runs.LineRules.{bare, Entered, last_in, GoesOn, base_in, InSeen, OnceLine, PutSeen, BasedSeen, LineSeen, LinesSeen}
 use Rattle.run_laws.proofs.seen_runs.BareLines.{kept_bare, had_bare, has_bare, bare_inserted, base_bare, base_is}
 use Rattle.run_laws.proofs.seen_runs.LineFacts.{order_older, asked_older, kept_older, lines_split, last_puts, put_at, held_puts, from_in}
@@ -100,7 +100,7 @@ module _ (o : Opening) (nodes : ℕ → Standing) (ps : List Packet) (all : List
               absurd (omega (arith, l, place, z.1))
 
   -- a view that a node enters; what was known of bases before
-  in_shows : (older : List Line) (n j : ℕ) (v : ViewId) (ms : List Member) → kept all ≡ In n j v ms ∷ kept older → GoesOn j (last_in n (kept older)) → ((m i k : ℕ) (u : ViewId) (ns os : List Member) (b : Origin) → Has (In m i u ns) (kept older) → Has (In n k u os) (kept older) → Has (Noted (Based m u b)) older → Has (Noted (Based n u b)) older) → InSeen (bare older) n j v ms
+  in_shows : (older : List Line) (n j : ℕ) (v : ViewId) (ms : List Member) → kept all ≡ In n j v ms ∷ kept older → GoesOn j (last_in n (kept older)) → ((m i l k : ℕ) (u : ViewId) (ns os : List Member) (b : Origin) → Has (In m i u ns) (kept older) → Has (In l k u os) (kept older) → Has (Noted (Based m u b)) older → Has (Noted (Based l u b)) older) → InSeen (bare older) n j v ms
   in_shows older n j v ms is on known =
       record {
         own = (same_members n n j j v ms ms head head).1;
@@ -108,7 +108,7 @@ module _ (o : Opening) (nodes : ℕ → Standing) (ps : List Packet) (all : List
         same = λ m i ns h. (same_members m n i j v ns ms (there (In m i v ns) (unbare (In m i v ns) h)) head).0;
         rising = λ u ns h. (subst Rises is w.good.inv.rises).0 u ns (unbare (In n j u ns) h);
         together = λ m i u ns h f g. together m i u ns (unbare (In m i v ns) h) (subst (λ tr. From tr m i v u) (kept_bare older) f) (subst (λ tr. From tr n j v u) (kept_bare older) g);
-        bases = λ m i k u ns os b h g f. has_bare (Based n u b) older tt (known m i k u ns os b (unbare (In m i u ns) h) (unbare (In n k u os) g) (had_bare (Noted (Based m u b)) older f));
+        bases = λ m i l k u ns os b h g f. has_bare (Based l u b) older tt (known m i l k u ns os b (unbare (In m i u ns) h) (unbare (In l k u os) g) (had_bare (Noted (Based m u b)) older f));
       }
     where
       unbare : (r : Record) → Has r (kept (bare older)) → Has r (kept older)
@@ -229,7 +229,7 @@ module _ (o : Opening) (nodes : ℕ → Standing) (ps : List Packet) (all : List
 
       enters : kept all ≡ In n x.inc v ms ∷ kept filled → ((y : Note) → Has (Noted y) old → Has (Noted y) all) → InSeen (bare filled) n x.inc v ms
       enters q within =
-          in_shows filled n x.inc v ms q (subst (GoesOn x.inc) (sym (ap (last_in n) (kept_lines n x.view (length x.list) fills old) ∙ last_puts n n x.view (length x.list) fills (kept old) ∙ last)) (omega arith)) (λ m i k u ns os c h g f. let z = note_lines (Based m u c) n x.view (length x.list) fills old f in has_lines (Noted (Based n u c)) n x.view (length x.list) fills old (by_old n k u os c (in_old n k u os g) (w.based_ok.noted m u c (within (Based m u c) z))))
+          in_shows filled n x.inc v ms q (subst (GoesOn x.inc) (sym (ap (last_in n) (kept_lines n x.view (length x.list) fills old) ∙ last_puts n n x.view (length x.list) fills (kept old) ∙ last)) (omega arith)) (λ m i l k u ns os c h g f. let z = note_lines (Based m u c) n x.view (length x.list) fills old f in has_lines (Noted (Based l u c)) n x.view (length x.list) fills old (by_old l k u os c (in_old l k u os g) (w.based_ok.noted m u c (within (Based m u c) z))))
 
       at : (c : Option Origin) → all ≡ entered n x v ms ss c old → bases v ≡ c → Shown c
       at None q e =
@@ -282,7 +282,7 @@ lines_seen {o = o} (Follows nodes now ps all leads bases n x e life is up same s
     (put_shows o now _ _ leads bases w [] all n x.view (length x.list) e refl (x.inc, last_is life n x is up) (λ b q. by_all life n x.inc x.view was.0 b was.1 q), lines_seen life)
 lines_seen {o = o} (Starts nodes now ps all leads bases n x v ms life is quiet born how c) =
     let w = whole (Starts nodes now ps all leads bases n x v ms life is quiet born how c) in
-    (in_shows o now _ _ leads bases w all n (x.inc + 1) v ms refl (goes_on (kept all) n (nodes n) x (at_last life n) is) (λ m i k u ns os b h g f. by_all life n k u os b g ((whole life).based_ok.noted m u b f)), lines_seen life)
+    (in_shows o now _ _ leads bases w all n (x.inc + 1) v ms refl (goes_on (kept all) n (nodes n) x (at_last life n) is) (λ m i l k u ns os b h g f. by_all life l k u os b g ((whole life).based_ok.noted m u b f)), lines_seen life)
 lines_seen {o = o} (Enters nodes now ps all leads bases n x v ms ss life is quiet up at lt among sent c) =
     let w = whole (Enters nodes now ps all leads bases n x v ms ss life is quiet up at lt among sent c) in
     entered_shows o now _ _ leads bases w all n x v ms ss (bases v) refl refl sent (was_in life n x is up) (last_is life n x is up) (λ m k u os b h e. by_all life m k u os b h e) (lines_seen life)

@@ -66,7 +66,7 @@ pub record InSeen (all : List Line) (n j : ℕ) (v : ViewId) (ms : List Member) 
   pub same : (m i : ℕ) (ns : List Member) → Has (In m i v ns) (kept all) → ns ≡ ms
   pub rising : (u : ViewId) (ns : List Member) → Has (In n j u ns) (kept all) → Lt u v
   pub together : (m i : ℕ) (u : ViewId) (ns : List Member) → Has (In m i v ns) (kept all) → From (kept all) m i v u → From (kept all) n j v u → puts_of n u (kept all) ≡ puts_of m u (kept all)
-  pub bases : (m i k : ℕ) (u : ViewId) (ns os : List Member) (b : Origin) → Has (In m i u ns) (kept all) → Has (In n k u os) (kept all) → Has (Noted (Based m u b)) all → Has (Noted (Based n u b)) all
+  pub bases : (m i l k : ℕ) (u : ViewId) (ns os : List Member) (b : Origin) → Has (In m i u ns) (kept all) → Has (In l k u os) (kept all) → Has (Noted (Based m u b)) all → Has (Noted (Based l u b)) all
 
 -- of a node's own provider, a request begins once there, after it was asked and not after it was told a refusal
 pub record OnceLine (all : List Line) (n : ℕ) (e : Entry) (p : ProviderId) (r : ℕ) : Type 0 where

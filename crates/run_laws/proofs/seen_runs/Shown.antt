@@ -22,19 +22,32 @@ use Rattle.run_safety.specs.ViewOrder.{is_same}
 use Rattle.run_safety.specs.Group.{member, Reply, members_of, Origin, Record, In, Put, Begins, Note, Based, Asked, Told, Line, Kept, Noted, kept}
 use Rattle.run_safety.specs.GroupLists as lists
 use Rattle.run_safety.specs.Bases as bases
-use Rattle.run_safety.specs.Past.{History, records_of, Within, EachRecord, puts_of, base_of, state_now, fold_from}
-use Rattle.run_safety.specs.Sight.{inc_in, told_in, lines_at, lines_with, lines_of}
+use Rattle.run_safety.specs.Past.{History, records_of, Within, EachRecord, view_now, puts_of, base_of, state_now, fold_from}
+use Rattle.run_safety.specs.Sight.{inc_in, view_or_none, told_in, lines_at, lines_with, lines_of}
 use Rattle.run_safety.specs.SafeLists.{Each, NextPlace, Fitting}
 use Rattle.run_safety.specs.Tallies.{IsTallied}
+use Rattle.run_safety.specs.Requests.{carried, Meets}
 use Rattle.run_safety.proofs.Past.{member_reply, reply_member}
 use Rattle.run_safety.proofs.Tests.{any_has, has_any}
 use Rattle.step_refinement.proofs.Acks.{has_member}
-use Rattle.run_laws.specs.seen_runs.Seen.{SameSeen, LeavesTogether, lives, marked, CutFrom, BaseSeenAt, BaseSeen, SameBases, SameEntry, TallySeen, WasTold, BeginsOnce, OnceSeen, from_of, is_from}
+use Rattle.run_laws.specs.seen_runs.Seen.{SameSeen, LeavesTogether, lives, marked, CutFrom, BaseSeenAt, BaseSeen, SameBases, SameEntry, TallySeen, WasTold, from_of, is_from, RisesSeen}
 use Rattle.run_laws.proofs.seen_runs.LineRules as rules
 use Rattle.run_laws.proofs.seen_runs.LineRules.{bare, InSeen, OnceLine, PutSeen, BasedSeen, LineSeen, LinesSeen}
 use Rattle.run_laws.proofs.seen_runs.BareLines.{kept_bare, had_bare, has_bare, bare_append, base_bare}
 use Rattle.run_laws.proofs.seen_runs.Sights.{cut, LineOf, Enters, Puts, Bases, Hears, Asks, Tells, Else, line_of, line_in, recorded, puts_same, base_same}
 use Rattle.run_laws.proofs.seen_runs.Froms.{line_kept, in_kept, in_recorded, from_line, line_from}
+
+-- ---- requests of one group
+
+-- of a provider of the node, a request begins once there in the group, after it was asked and not after it was told a refusal
+pub record BeginsThere (rs : List Happened) (n : ℕ) (g : List ℕ) (e : Entry) (p : ProviderId) (r : ℕ) : Type 0 where
+  pub asked : (x : Proposal) × Has (happened.Asked p r g x) rs × Meets p x e
+  pub untold : WasTold p r rs → ⊥
+  pub once : (v : ViewId) (i : ℕ) (f : Entry) → Has (happened.Put n v g i f) rs → Has (p, r) (carried f) → ⊥
+
+abbrev pub OnceThere : List Happened → Happened → Type 0
+OnceThere rs (happened.Put n v g i e) = (p : ProviderId) (r : ℕ) → p.node ≡ n → Has (p, r) (carried e) → BeginsThere rs n g e p r
+OnceThere rs _ = Unit {0}
 
 -- ---- what a line's older ones show
 
@@ -74,7 +87,8 @@ told_now g p r (x ∷ now) before old (inr t) =
     let k = told_now g p r now before old t in
     (k.0, append_has_right (Noted (Told p r k.0)) (lines_at g (now ++ records_of before) x) (lines_of g (cut now before)) k.1)
 told_now g p r (happened.Told q k why ∷ now) before old (inl t) =
-    (t.2, subst (λ (z : ProviderId × ℕ × Option ViewId). Has (Noted (Told p r t.2)) (told_in z.0 z.1 z.2 ++ lines_of g (cut now before))) (λ i. (sym t.0 i, sym t.1 i, sym t.3 i)) (inl refl))
+    let o : Option ViewId = view_now q.node (now ++ records_of before) in
+    (view_or_none o, subst (λ (z : ProviderId × ℕ). Has (Noted (Told p r (view_or_none o))) (told_in z.0 z.1 o ++ lines_of g (cut now before))) (λ i. (sym t.0 i, sym t.1 i)) (inl refl))
 told_now g p r (happened.Up m j ∷ now) before old (inl t) = absurd t
 told_now g p r (happened.Down m ∷ now) before old (inl t) = absurd t
 told_now g p r (happened.Ring m net id ms x ∷ now) before old (inl t) = absurd t
@@ -265,7 +279,7 @@ module _ (now : List Happened) (before : History) where
       at _ _ (Tells o s why t q) there (inr z) = absurd z
       at _ _ (Else y silent) there z = absurd z
 
-  once_shown : (n : ℕ) (v : ViewId) (g : List ℕ) (i : ℕ) (e : Entry) {p : ProviderId} {r : ℕ} → OnceLine (bare (L g)) n e p r → BeginsOnce rs n g e p r
+  once_shown : (n : ℕ) (v : ViewId) (g : List ℕ) (i : ℕ) (e : Entry) {p : ProviderId} {r : ℕ} → OnceLine (bare (L g)) n e p r → BeginsThere rs n g e p r
   once_shown n v g i e {p = p} {r = r} q =
       record {
         asked = (q.asked.0, asked_recorded g p r q.asked.0 (had_bare (Noted (Asked p r q.asked.0)) (L g) q.asked.1), q.asked.2);
@@ -277,6 +291,7 @@ module _ (now : List Happened) (before : History) where
 
 pub record GroupShown (rs : List Happened) (r : Happened) : Type 0 where
   pub members : SameSeen rs r
+  pub rises : RisesSeen rs r
   pub together : LeavesTogether rs r
   pub base : BaseSeen rs r
   pub bases_same : SameBases rs r
@@ -284,25 +299,26 @@ pub record GroupShown (rs : List Happened) (r : Happened) : Type 0 where
   pub entry : SameEntry rs r
   pub fitting : Fitting rs r
   pub tally : TallySeen rs r
-  pub once : OnceSeen rs r
+  pub once : OnceThere rs r
 
 shown : (r : Happened) (now : List Happened) (before : History) → AllShow (cut (r ∷ now) before) → GroupShown (now ++ records_of before) r
-shown (happened.Up n j) now before all = record { members = tt; together = tt; base = tt; bases_same = tt; place = tt; entry = tt; fitting = tt; tally = tt; once = tt }
-shown (happened.Down n) now before all = record { members = tt; together = tt; base = tt; bases_same = tt; place = tt; entry = tt; fitting = tt; tally = tt; once = tt }
-shown (happened.Ring n net id ms x) now before all = record { members = tt; together = tt; base = tt; bases_same = tt; place = tt; entry = tt; fitting = tt; tally = tt; once = tt }
-shown (happened.Heard p v g i e ms value) now before all = record { members = tt; together = tt; base = tt; bases_same = tt; place = tt; entry = tt; fitting = tt; tally = tt; once = tt }
-shown (happened.Cast p proto phase vote value message) now before all = record { members = tt; together = tt; base = tt; bases_same = tt; place = tt; entry = tt; fitting = tt; tally = tt; once = tt }
-shown (happened.Asked p r g x) now before all = record { members = tt; together = tt; base = tt; bases_same = tt; place = tt; entry = tt; fitting = tt; tally = tt; once = tt }
-shown (happened.Told p r why) now before all = record { members = tt; together = tt; base = tt; bases_same = tt; place = tt; entry = tt; fitting = tt; tally = tt; once = tt }
-shown (happened.Noted n c v i t) now before all = record { members = tt; together = tt; base = tt; bases_same = tt; place = tt; entry = tt; fitting = tt; tally = tt; once = tt }
-shown (happened.Refused n c f) now before all = record { members = tt; together = tt; base = tt; bases_same = tt; place = tt; entry = tt; fitting = tt; tally = tt; once = tt }
-shown (happened.Shown n l) now before all = record { members = tt; together = tt; base = tt; bases_same = tt; place = tt; entry = tt; fitting = tt; tally = tt; once = tt }
+shown (happened.Up n j) now before all = record { members = tt; rises = tt; together = tt; base = tt; bases_same = tt; place = tt; entry = tt; fitting = tt; tally = tt; once = tt }
+shown (happened.Down n) now before all = record { members = tt; rises = tt; together = tt; base = tt; bases_same = tt; place = tt; entry = tt; fitting = tt; tally = tt; once = tt }
+shown (happened.Ring n net id ms x) now before all = record { members = tt; rises = tt; together = tt; base = tt; bases_same = tt; place = tt; entry = tt; fitting = tt; tally = tt; once = tt }
+shown (happened.Heard p v g i e ms value) now before all = record { members = tt; rises = tt; together = tt; base = tt; bases_same = tt; place = tt; entry = tt; fitting = tt; tally = tt; once = tt }
+shown (happened.Cast p proto phase vote value message) now before all = record { members = tt; rises = tt; together = tt; base = tt; bases_same = tt; place = tt; entry = tt; fitting = tt; tally = tt; once = tt }
+shown (happened.Asked p r g x) now before all = record { members = tt; rises = tt; together = tt; base = tt; bases_same = tt; place = tt; entry = tt; fitting = tt; tally = tt; once = tt }
+shown (happened.Told p r why) now before all = record { members = tt; rises = tt; together = tt; base = tt; bases_same = tt; place = tt; entry = tt; fitting = tt; tally = tt; once = tt }
+shown (happened.Noted n c v i t) now before all = record { members = tt; rises = tt; together = tt; base = tt; bases_same = tt; place = tt; entry = tt; fitting = tt; tally = tt; once = tt }
+shown (happened.Refused n c f) now before all = record { members = tt; rises = tt; together = tt; base = tt; bases_same = tt; place = tt; entry = tt; fitting = tt; tally = tt; once = tt }
+shown (happened.Shown n l) now before all = record { members = tt; rises = tt; together = tt; base = tt; bases_same = tt; place = tt; entry = tt; fitting = tt; tally = tt; once = tt }
 shown (happened.Base n v g u len s) now before all =
-    record { members = tt; together = tt; base = base_shown now before n v g u len s all; bases_same = tt; place = tt; entry = tt; fitting = tt; tally = tt; once = tt }
+    record { members = tt; rises = tt; together = tt; base = base_shown now before n v g u len s all; bases_same = tt; place = tt; entry = tt; fitting = tt; tally = tt; once = tt }
 shown (happened.Put n v g i e) now before all =
     let q = put_line now before n v g i e all in
     record {
       members = tt;
+      rises = tt;
       together = tt;
       base = tt;
       bases_same = tt;
@@ -315,9 +331,10 @@ shown (happened.Put n v g i e) now before all =
 shown (happened.In n w ms) now before all =
     record {
       members = λ m ns k. (in_line now before n w ms all []).same m (inc_in m ns) ns (in_bare now before [] m w ns k);
+      rises = λ u ns k e. (in_line now before n w ms all []).rising u ns (subst (λ j. Has (In n j u ns) (kept (bare (lines_of [] (cut now before))))) e (in_bare now before [] n u ns k));
       together = λ m v g k e f. sym (puts_bare now before n v g) ∙ (in_line now before n w ms all g).together m (inc_in m ms) v ms (in_bare now before g m w ms k) (from_bare now before g m (inc_in m ms) w v e) (from_bare now before g n (inc_in n ms) w v f) ∙ puts_bare now before m v g;
       base = tt;
-      bases_same = λ v os ns m g u len s a b c. based_recorded now before g n v u len s (had_bare (Noted (Based n v (record { old = u; len = len; state = s }))) (lines_of g (cut now before)) ((in_line now before n w ms all g).bases m (inc_in m ns) (inc_in n os) v ns os (record { old = u; len = len; state = s }) (in_bare now before g m v ns b) (in_bare now before g n v os a) (has_bare (Based m v (record { old = u; len = len; state = s })) (lines_of g (cut now before)) tt (based_line now before g m v u len s c))));
+      bases_same = λ m k v os ns g u len s a b c. based_recorded now before g k v u len s (had_bare (Noted (Based k v (record { old = u; len = len; state = s }))) (lines_of g (cut now before)) ((in_line now before n w ms all g).bases m (inc_in m os) k (inc_in k ns) v os ns (record { old = u; len = len; state = s }) (in_bare now before g m v os a) (in_bare now before g k v ns b) (has_bare (Based m v (record { old = u; len = len; state = s })) (lines_of g (cut now before)) tt (based_line now before g m v u len s c))));
       place = tt;
       entry = tt;
       fitting = tt;

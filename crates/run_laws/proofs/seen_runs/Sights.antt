@@ -19,7 +19,7 @@ use Rattle.run_safety.specs.ViewOrder.{is_same}
 use Rattle.run_safety.specs.Group.{Origin, Record, In, Put, Begins, Note, Based, Heard, Asked, Told, Line, Kept, Noted, kept}
 use Rattle.run_safety.specs.GroupLists as lists
 use Rattle.run_safety.specs.Past.{History, records_of, view_now, puts_of, puts_after, base_of, base_after}
-use Rattle.run_safety.specs.Sight.{inc_in, told_in, lines_at, lines_with, lines_of}
+use Rattle.run_safety.specs.Sight.{inc_in, view_or_none, lines_at, lines_with, lines_of}
 use Rattle.run_safety.proofs.SightLaws.{kept_append}
 use Rattle.run_laws.specs.seen_runs.Seen.{from_after}
 use Rattle.run_laws.proofs.seen_runs.LineRules as rules
@@ -43,7 +43,7 @@ pub data LineOf (g : List ℕ) (rs : List Happened) : Happened → List Line →
   Bases : (n : ℕ) (v : ViewId) (h : List ℕ) (u : ViewId) (len : ℕ) (s : GroupState) → h ≡ g → LineOf g rs (happened.Base n v h u len s) (Noted (Based n v (record { old = u; len = len; state = s })) ∷ [])
   Hears : (p : ProviderId) (v : ViewId) (h : List ℕ) (i : ℕ) (e : Entry) (ms : List ProviderId) (value : List ℕ) → h ≡ g → LineOf g rs (happened.Heard p v h i e ms value) (Noted (Heard p v i e ms value) ∷ [])
   Asks : (p : ProviderId) (r : ℕ) (h : List ℕ) (x : Proposal) → h ≡ g → LineOf g rs (happened.Asked p r h x) (Noted (Asked p r x) ∷ [])
-  Tells : (p : ProviderId) (r : ℕ) (why : Why) (v : ViewId) → view_now p.node rs ≡ Some v → LineOf g rs (happened.Told p r why) (Noted (Told p r v) ∷ [])
+  Tells : (p : ProviderId) (r : ℕ) (why : Why) (v : ViewId) → view_or_none (view_now p.node rs) ≡ v → LineOf g rs (happened.Told p r why) (Noted (Told p r v) ∷ [])
   Else : (r : Happened) → Silent g r → LineOf g rs r []
 
 others : (g : List ℕ) (a b c : Bool) → c ≡ false → (a && (b && c)) ≡ false
@@ -80,11 +80,7 @@ line_of g rs (happened.Asked p r h x) = by (bytes_eq h g) refl
     by : (b : Bool) → bytes_eq h g ≡ b → LineOf g rs (happened.Asked p r h x) (if b then Noted (Asked p r x) ∷ [] else [])
     by true e = Asks p r h x (name_is h g e)
     by false e = Else (happened.Asked p r h x) (record { puts = λ n v old. refl; base = λ n v old. refl; from = λ m j v old. refl; no_view = λ n v ms q. cc })
-line_of g rs (happened.Told p r why) = by (view_now p.node rs) refl
-  where
-    by : (o : Option ViewId) → view_now p.node rs ≡ o → LineOf g rs (happened.Told p r why) (told_in p r o)
-    by None e = Else (happened.Told p r why) (record { puts = λ n v old. refl; base = λ n v old. refl; from = λ m j v old. refl; no_view = λ n v ms q. cc })
-    by (Some v) e = Tells p r why v e
+line_of g rs (happened.Told p r why) = Tells p r why (view_or_none (view_now p.node rs)) refl
 line_of g rs (happened.Noted m c u i t) = Else (happened.Noted m c u i t) (record { puts = λ n v old. refl; base = λ n v old. refl; from = λ m j v old. refl; no_view = λ n v ms q. cc })
 line_of g rs (happened.Refused m c f) = Else (happened.Refused m c f) (record { puts = λ n v old. refl; base = λ n v old. refl; from = λ m j v old. refl; no_view = λ n v ms q. cc })
 line_of g rs (happened.Shown m l) = Else (happened.Shown m l) (record { puts = λ n v old. refl; base = λ n v old. refl; from = λ m j v old. refl; no_view = λ n v ms q. cc })

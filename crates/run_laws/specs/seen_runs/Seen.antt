@@ -12,12 +12,13 @@ use Rattle.proposal_core.specs.declared.group_state.GroupState.{GroupState}
 use Rattle.proposal_core.specs.Fold.{present}
 use Rattle.node_state.specs.declared.happened.Happened.{Happened}
 use Rattle.node_state.specs.declared.happened.Happened.TheVariants.{Up, In, Base, Put, Heard, Asked, Told}
-use Rattle.run_safety.specs.Past.{puts_of, base_of, fold_from, state_at, view_now}
+use Rattle.run_safety.specs.Past.{puts_of, base_of, fold_from, state_at}
 use Rattle.run_safety.specs.Sight.{inc_in}
+use Rattle.run_safety.specs.ViewOrder.{Lt}
 use Rattle.run_safety.specs.SafeLists.{NextPlace, InItsView, Fitting, Rising, AmongMembers}
 use Rattle.run_safety.specs.Requests.{carried, Meets}
 use Rattle.run_safety.specs.Tallies.{IsTallied}
-use Rattle.run_safety.specs.SafeHeard.{latest_put, HeardState}
+use Rattle.run_safety.specs.SafeHeard.{latest_put, InOrder, HeardState}
 use Rattle.row_laws.specs.hearing.Hearing.{last_heard}
 use Rattle.row_laws.specs.honest_votes.Casts.{EntryCast}
 use Rattle.entry_laws.specs.closing_rows.Rows.{HasRows}
@@ -30,6 +31,11 @@ use Rattle.provider_laws.specs.single_casts.Single.{CastAfterNotice, NotCastBefo
 abbrev pub StartsLater : List Happened → Happened → Type 0
 StartsLater rs (Up n j) = (k : ℕ) → Has (Up n k) rs → k < j
 StartsLater rs _ = Unit {0}
+
+-- the views that a node enters in one incarnation rise, whatever stopped it in between
+abbrev pub RisesSeen : List Happened → Happened → Type 0
+RisesSeen rs (In n v ms) = (u : ViewId) (ns : List Member) → Has (In n u ns) rs → inc_in n ns ≡ inc_in n ms → Lt u v
+RisesSeen rs _ = Unit {0}
 
 -- all who enter a view name the same members
 abbrev pub SameSeen : List Happened → Happened → Type 0
@@ -88,10 +94,10 @@ abbrev pub BaseSeen : List Happened → Happened → Type 0
 BaseSeen rs (Base n v g u len s) = BaseSeenAt rs n v g u len s
 BaseSeen rs _ = Unit {0}
 
--- of two nodes that were in a view, each recorded the bases of the other, as one of them enters the next
+-- of any two nodes that were in a view, each recorded the bases of the other, as some node enters a view
 abbrev pub SameBases : List Happened → Happened → Type 0
 SameBases rs (In n w ms) =
-    (v : ViewId) (os ns : List Member) (m : ℕ) (g : List ℕ) (u : ViewId) (len : ℕ) (s : GroupState) → Has (In n v os) rs → Has (In m v ns) rs → Has (Base m v g u len s) rs → Has (Base n v g u len s) rs
+    (m k : ℕ) (v : ViewId) (os ns : List Member) (g : List ℕ) (u : ViewId) (len : ℕ) (s : GroupState) → Has (In m v os) rs → Has (In k v ns) rs → Has (Base m v g u len s) rs → Has (Base k v g u len s) rs
 SameBases rs _ = Unit {0}
 
 -- ---- entries
@@ -111,20 +117,25 @@ abbrev pub VotesSeen : List Happened → Happened → Type 0
 VotesSeen rs (Put n v g i e) = EntryCast rs e
 VotesSeen rs _ = Unit {0}
 
--- the provider was told a refusal of it, or that its group was dissolved, while its node was in a view
-abbrev pub ToldAfter : ProviderId → ℕ → List Happened → Happened → Type 0
-ToldAfter p r rs (Told q k why) = (q ≡ p) × (k ≡ r) × (v : ViewId) × (view_now q.node rs ≡ Some v)
-ToldAfter p r rs _ = ⊥
+-- the provider was told a refusal of it, or that its group was dissolved
+abbrev pub IsTold : ProviderId → ℕ → Happened → Type 0
+IsTold p r (Told q k why) = (q ≡ p) × (k ≡ r)
+IsTold p r _ = ⊥
 
 abbrev pub WasTold : ProviderId → ℕ → List Happened → Type 0
 WasTold p r [] = ⊥
-WasTold p r (x ∷ rs) = ToldAfter p r rs x ⊎ WasTold p r rs
+WasTold p r (x ∷ rs) = IsTold p r x ⊎ WasTold p r rs
 
--- of a provider of the node, a request begins once there, after it was asked and not after it was told a refusal
+-- each request is of one group
+abbrev pub AskedInOne : List Happened → Happened → Type 0
+AskedInOne rs (Asked p r g x) = (h : List ℕ) (y : Proposal) → Has (Asked p r h y) rs → h ≡ g
+AskedInOne rs _ = Unit {0}
+
+-- of a provider of the node, a request begins once there, over all groups, after it was asked and not after it was told a refusal
 pub record BeginsOnce (rs : List Happened) (n : ℕ) (g : List ℕ) (e : Entry) (p : ProviderId) (r : ℕ) : Type 0 where
   pub asked : (x : Proposal) × Has (Asked p r g x) rs × Meets p x e
   pub untold : WasTold p r rs → ⊥
-  pub once : (v : ViewId) (i : ℕ) (f : Entry) → Has (Put n v g i f) rs → Has (p, r) (carried f) → ⊥
+  pub once : (v : ViewId) (h : List ℕ) (i : ℕ) (f : Entry) → Has (Put n v h i f) rs → Has (p, r) (carried f) → ⊥
 
 abbrev pub OnceSeen : List Happened → Happened → Type 0
 OnceSeen rs (Put n v g i e) = (p : ProviderId) (r : ℕ) → p.node ≡ n → Has (p, r) (carried e) → BeginsOnce rs n g e p r
@@ -148,6 +159,7 @@ HeardSeen rs _ = Unit {0}
 pub record SeenAt (rs : List Happened) (r : Happened) : Type 0 where
   pub life : StartsLater rs r
   pub rising : Rising rs r
+  pub rises : RisesSeen rs r
   pub among : AmongMembers rs r
   pub members : SameSeen rs r
   pub together : LeavesTogether rs r
@@ -159,9 +171,11 @@ pub record SeenAt (rs : List Happened) (r : Happened) : Type 0 where
   pub fitting : Fitting rs r
   pub tally : TallySeen rs r
   pub votes : VotesSeen rs r
+  pub asked : AskedInOne rs r
   pub once : OnceSeen rs r
   pub rows : RowsSeen rs r
   pub heard : HeardSeen rs r
+  pub takes_part : InOrder rs r
   pub carries : HeardState rs r
   pub noticed : CastAfterNotice rs r
   pub cast : NotCastBefore rs r

@@ -1,0 +1,6 @@
+-- One list is said of any two places, so the law is named here.
+use Rattle.world_safety.proofs.Scripts.{safe_runs_have_one_list}
+use Rattle.world_safety.proofs.safe_runs_have_one_list.Goals as goal
+
+pub returns : goal.returns
+returns c = safe_runs_have_one_list
