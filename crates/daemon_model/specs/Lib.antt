@@ -1,0 +1,6 @@
+pub mod Sent
+pub mod Daemon
+pub mod Settings
+pub mod Lives
+pub mod Samples
+pub mod Opens

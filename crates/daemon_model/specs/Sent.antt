@@ -1,0 +1,71 @@
+-- What a daemon sends: each packet in pieces. And how what a link tells compares with that: a send that fails is a lost packet.
+use Rattle.std.specs.Prelude.{◌≡◌, ℕ, ◌+◌, Bool, true, false, List, [], ◌∷◌, ◌++◌, map, Option}
+use Rattle.hags_io.specs.declared.link.LinkCall.{LinkCall}
+use Rattle.hags_io.specs.declared.link.LinkCall.TheVariants as call
+use Rattle.hags_io.specs.Links.{Grows}
+use Rattle.piece_link.specs.Pieces.{can_cut, message_by, pieces_of}
+use Rattle.node_state.specs.declared.packet.Packet.{Packet}
+use Rattle.node_state.specs.Bytes.{bytes_of}
+
+-- ---- packets in pieces
+
+-- a piece goes to the packet's receiver, on the packet's network
+abbrev pub piece_call : Packet → List ℕ → LinkCall
+piece_call p piece = call.Sent p.to p.network piece true
+
+-- the pieces of a packet, as the message of this number of this node in this incarnation
+abbrev pub packet_pieces : ℕ → ℕ → ℕ → Packet → List (List ℕ)
+packet_pieces me incarnation number p = pieces_of (message_by me incarnation number (bytes_of p))
+
+-- a packet that is too long to cut is lost, and takes no number
+abbrev pub calls_if : Bool → List LinkCall → List LinkCall
+calls_if true calls = calls
+calls_if false calls = []
+
+abbrev pub number_if : Bool → ℕ → ℕ
+number_if true number = number + 1
+number_if false number = number
+
+unfoldable pub packet_calls : ℕ → ℕ → ℕ → Packet → List LinkCall
+packet_calls me incarnation number p =
+    calls_if (can_cut (bytes_of p)) (map (piece_call p) (packet_pieces me incarnation number p))
+
+unfoldable pub number_past : ℕ → Packet → ℕ
+number_past number p = number_if (can_cut (bytes_of p)) number
+
+-- packets in their order, each with the next number; and the number after them
+unfoldable pub sent_calls : ℕ → ℕ → ℕ → List Packet → List LinkCall
+sent_calls me incarnation number [] = []
+sent_calls me incarnation number (p ∷ ps) =
+    packet_calls me incarnation number p ++ sent_calls me incarnation (number_past number p) ps
+
+unfoldable pub number_after : ℕ → List Packet → ℕ
+number_after number [] = number
+number_after number (p ∷ ps) = number_after (number_past number p) ps
+
+-- ---- what a link tells of them
+
+-- each send as if it went out
+abbrev pub as_sent : LinkCall → LinkCall
+as_sent (call.Sent node network bytes out) = call.Sent node network bytes true
+as_sent (call.Received network bytes) = call.Received network bytes
+as_sent call.Quiet = call.Quiet
+as_sent call.Failed = call.Failed
+
+-- the link's list grew by these, whether the sends among them went out or not
+pub record Went (before after : Option (List LinkCall)) (more : List LinkCall) : Type 0 where
+  pub calls : List LinkCall
+  pub told : Grows before after calls
+  pub are : map as_sent calls ≡ more
+
+-- it grew by a front of these
+pub record WentFront (before after : Option (List LinkCall)) (more : List LinkCall) : Type 0 where
+  pub calls : List LinkCall
+  pub back : List LinkCall
+  pub told : Grows before after calls
+  pub are : map as_sent calls ++ back ≡ more
+
+-- opens each word of this file, for a computation
+unfoldable pub sent_opens : Unit {0}
+unfolding packet_calls number_past sent_calls number_after
+sent_opens = tt

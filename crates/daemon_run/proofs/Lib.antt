@@ -1,0 +1,10 @@
+pub mod KeepLaws
+pub mod WentLaws
+pub mod GoesLaws
+pub mod NodeLaws
+pub mod StepLaws
+pub mod TurnLaws
+pub mod ServeLaws
+pub mod PlaceLaws
+pub mod CallLaws
+pub mod EndLaws

@@ -1,0 +1,94 @@
+-- Steps of a daemon's node, with what they send and record.
+use Rattle.std.proofs.Common.{◌≡◌, ℕ, List, [], ◌∷◌, ◌++◌, Option, Some, None, refl, sym, ◌∙◌, ap, subst}
+use Rattle.std.specs.Io.KnownBytes.{Appends}
+use Rattle.hags_io.specs.Edges.{GrowsByFront}
+use Rattle.hags_io.specs.declared.link.LinkCall.{LinkCall}
+use Rattle.node_state.specs.declared.call.CallLine.{CallLine}
+use Rattle.node_state.specs.declared.happened.Happened.{Happened}
+use Rattle.node_state.specs.declared.state.Core.{Core}
+use Rattle.node_state.specs.HandOn.{Answering}
+use Rattle.node_state.specs.Step.{NodeEvent, at_work, stepped}
+use Rattle.node_core.specs.Node.{NodeView}
+use Rattle.daemon_model.specs.Sent.{Went, WentFront, sent_calls, number_after}
+use Rattle.daemon_model.specs.Daemon.{Daemon, left_by, stepped_by, records_text}
+use Rattle.daemon_run.specs.declared.running.Running.{Running}
+use Rattle.daemon_run.specs.Doing.{daemon_of, Goes, Broke, Breaks, Settles, SettlesFront, IsStep, StepsAs, StepBreaks}
+use Rattle.daemon_run.proofs.WentLaws.{none_went}
+use Rattle.daemon_run.proofs.GoesLaws.{Adds, breaks_none}
+
+-- nobody answers
+pub silent : Answering
+silent = λ place sessions entry after p. None
+
+pub adds_left : (d : Daemon) (s : Core) → Adds d (left_by d s)
+unfolding left_by
+adds_left d s = record { calls = sent_calls d.me d.incarnation d.number s.sends; called = refl; records = s.records; recorded = refl }
+
+pub adds_step : (f : Answering) (e : NodeEvent) (d : Daemon) → Adds d (stepped_by f e d)
+unfolding stepped_by
+adds_step f e d = adds_left d (stepped f d.core e)
+
+-- a step begins with a node at work
+from_work : (f : Answering) (s : Core) (e : NodeEvent) → stepped f (at_work s) e ≡ stepped f s e
+unfolding stepped
+from_work f s e = refl
+
+module _ {C : Type 0} where
+  step_is : (r : Running C) (f : Answering) (c : Core) (e : NodeEvent) (before : List LinkCall) (noted : List Happened) → c ≡ stepped f r.node.core e
+      → stepped_by f e (daemon_of r before noted) ≡ left_by (daemon_of r before noted) c
+  unfolding stepped_by
+  step_is r f c e before noted h = ap (left_by (daemon_of r before noted)) (from_work f r.node.core e ∙ sym h)
+
+  pub settled_is : (r s : Running C) (a b : Option (List LinkCall)) (x y : Option (List ℕ)) → Settles r s a b x y → (before : List LinkCall) (noted : List Happened)
+      → left_by (daemon_of r before noted) r.node.core ≡ daemon_of s (before ++ sent_calls r.me r.incarnation r.number r.node.core.sends) (noted ++ r.node.core.records)
+  unfolding left_by
+  settled_is r s a b x y h before noted = ap (λ (t : Running C). daemon_of t (before ++ sent_calls r.me r.incarnation r.number r.node.core.sends) (noted ++ r.node.core.records)) (sym h.is)
+
+  pub settled_goes : (r s : Running C) (a b : Option (List LinkCall)) (x y : Option (List ℕ)) → Settles r s a b x y → Goes r s a b x y (λ d. left_by d r.node.core)
+  settled_goes r s a b x y h = record {
+    calls = sent_calls r.me r.incarnation r.number r.node.core.sends;
+    records = r.node.core.records;
+    is = settled_is r s a b x y h;
+    went = h.went;
+    written = h.written;
+  }
+
+  pub settled_breaks : (r : Running C) (a b : Option (List LinkCall)) (x y : Option (List ℕ)) → SettlesFront r a b x y → Breaks r a b x y (λ d. left_by d r.node.core)
+  unfolding left_by
+  settled_breaks r a b x y h = λ before noted. record {
+    calls = sent_calls r.me r.incarnation r.number r.node.core.sends;
+    called = refl;
+    went = h.went;
+    records = r.node.core.records;
+    recorded = refl;
+    front = h.front;
+  }
+
+  left_same : (r : Running C) (n : NodeView C) (before : List LinkCall) (noted : List Happened) → left_by (daemon_of r before noted) n.core ≡ left_by (daemon_of (record r { node = n }) before noted) n.core
+  unfolding left_by
+  left_same r n before noted = refl
+
+  done_at : (r s : Running C) (n : NodeView C) (a b : Option (List LinkCall)) (x y : Option (List ℕ)) (e : NodeEvent) (f : Answering) → n.core ≡ stepped f r.node.core e → Settles (record r { node = n }) s a b x y → StepsAs r s a b x y e
+  done_at r s n a b x y e f core h =
+      let g = settled_goes (record r { node = n }) s a b x y h in
+      record {
+        answers = f;
+        goes = record { calls = g.calls; records = g.records; is = λ before noted. step_is r f n.core e before noted core ∙ (left_same r n before noted ∙ g.is before noted); went = g.went; written = g.written };
+      }
+
+  broke_at : (r : Running C) (n : NodeView C) (a b : Option (List LinkCall)) (x y : Option (List ℕ)) (e : NodeEvent) (f : Answering) → n.core ≡ stepped f r.node.core e → SettlesFront (record r { node = n }) a b x y → StepBreaks r a b x y e
+  broke_at r n a b x y e f core h = record {
+    answers = f;
+    breaks = λ before noted. subst (Broke before noted a b x y) (sym (step_is r f n.core e before noted core ∙ left_same r n before noted)) (settled_breaks (record r { node = n }) a b x y h before noted);
+  }
+
+  -- what the node did is sent and written
+  pub step_done : (r q s : Running C) (a b : Option (List LinkCall)) (x y : Option (List ℕ)) (e : NodeEvent) → IsStep r q e → Settles q s a b x y → StepsAs r s a b x y e
+  step_done r q s a b x y e h g = done_at r s q.node a b x y e h.answers h.core (subst (λ (t : Running C). Settles t s a b x y) h.is g)
+
+  pub step_broke : (r q : Running C) (a b : Option (List LinkCall)) (x y : Option (List ℕ)) (e : NodeEvent) → IsStep r q e → SettlesFront q a b x y → StepBreaks r a b x y e
+  step_broke r q a b x y e h g = broke_at r q.node a b x y e h.answers h.core (subst (λ (t : Running C). SettlesFront t a b x y) h.is g)
+
+  -- any answers will do where the node had no memory for its step
+  pub step_none : (r : Running C) (a : Option (List LinkCall)) (x : Option (List ℕ)) (e : NodeEvent) → StepBreaks r a a x x e
+  step_none r a x e = record { answers = silent; breaks = breaks_none r a a x (stepped_by silent e) (none_went a) (adds_step silent e) }

@@ -1,0 +1,185 @@
+-- The parts of a turn, and turns.
+use Rattle.std.proofs.Common.{◌≡◌, ℕ, ◌+◌, ◌-◌, ◌≤◌, ◌<◌, min, nat_le, Bool, true, false, List, [], ◌∷◌, ◌++◌, Option, Some, None, refl, sym, ◌∙◌, ap, subst, append_assoc, append-nil}
+use Rattle.std.proofs.lemmas.Bool.{le-leb, lt-leb}
+use Rattle.hags_io.specs.declared.link.LinkCall.{LinkCall}
+use Rattle.hags_io.specs.declared.link.LinkCall.TheVariants as call
+use Rattle.hags_io.specs.Links.{Grows, Same, Counts}
+use Rattle.piece_link.specs.Joining.{Joining, Joined, joined_as, taken}
+use Rattle.node_state.specs.declared.happened.Happened.{Happened}
+use Rattle.node_state.specs.HandOn.{Answering}
+use Rattle.node_state.specs.Bytes.{event_of}
+use Rattle.node_state.specs.Step.{Ticks}
+use Rattle.daemon_model.specs.Sent.{Went, as_sent}
+use Rattle.daemon_model.specs.Daemon.{Daemon, Turn, stepped_by, is_due, ticked_if, ticked, joined_by, received, given, heard, turned}
+use Rattle.daemon_run.specs.declared.running.Running.{Running}
+use Rattle.daemon_run.specs.Doing.{daemon_of, Goes, Broke, Breaks, StepsAs, StepBreaks, TicksAs, TickBreaks, GivesAs, GiveBreaks, taken_in, TakesAs, TakeBreaks, HearsAs, HearBreaks, TurnsAs, TurnBreaks}
+use Rattle.daemon_run.proofs.WentLaws.{same_went, none_went}
+use Rattle.daemon_run.proofs.GoesLaws.{Adds, adds_none, adds_on, goes_none, goes_on, goes_as, breaks_as, breaks_on, breaks_more, breaks_none, nothing_written}
+use Rattle.daemon_run.proofs.StepLaws.{silent, adds_step}
+
+-- ---- what each part adds
+
+adds_tick : (moment : ℕ) (f : Answering) (due : Bool) (d : Daemon) → Adds d (ticked_if due moment f d)
+adds_tick moment f true d = let h = adds_step f Ticks (record d { last = moment }) in record { calls = h.calls; called = h.called; records = h.records; recorded = h.recorded }
+adds_tick moment f false d = adds_none d
+
+adds_given : (message : Option (List ℕ)) (f : Answering) (d : Daemon) → Adds d (given message f d)
+unfolding given
+adds_given None f d = adds_none d
+adds_given (Some message) f d = adds_step f (event_of message) d
+
+adds_received : (got : LinkCall) (d : Daemon) → Adds d (received got d)
+unfolding received
+adds_received got d = record { calls = as_sent got ∷ []; called = refl; records = []; recorded = sym (append-nil d.records) }
+
+pub adds_heard : (got : LinkCall) (f : Answering) (d : Daemon) → Adds d (heard got f d)
+unfolding heard
+adds_heard got f d = adds_on d (received got d) _ (adds_received got d) (adds_given (joined_by got d.joining).message f (received got d))
+
+pub adds_turn : (t : Turn) (d : Daemon) → Adds d (turned d t)
+unfolding turned
+adds_turn t d = adds_on d (ticked t.moment t.tick d) _ (adds_tick t.moment t.tick (is_due d.last t.moment) d) (adds_heard t.got t.answers (ticked t.moment t.tick d))
+
+-- ---- when a tick is due
+
+due : (last moment : ℕ) → 100 ≤ moment - last → is_due last moment ≡ true
+due last moment h = le-leb 100 (moment - last) h
+
+undue : (last moment : ℕ) → moment - last < 100 → is_due last moment ≡ false
+undue last moment h = lt-leb 100 (moment - last) h
+
+adds_taken : (bytes : List ℕ) (f : Answering) (d : Daemon) → Adds d (taken_in bytes f d)
+adds_taken bytes f d =
+    let h = adds_given (taken d.joining bytes).message f (record d { joining = (taken d.joining bytes).joining }) in
+    record { calls = h.calls; called = h.called; records = h.records; recorded = h.recorded }
+
+-- a datagram is told, and then taken in
+abbrev told_of : LinkCall → Daemon → Daemon
+told_of got d = record d { failed = 0; calls = d.calls ++ as_sent got ∷ [] }
+
+module _ {C : Type 0} where
+  -- ---- a tick
+
+  tick_is : (r : Running C) (moment : ℕ) (f : Answering) → 100 ≤ moment - r.last → (before : List LinkCall) (noted : List Happened)
+      → ticked moment f (daemon_of r before noted) ≡ stepped_by f Ticks (daemon_of (record r { last = moment }) before noted)
+  tick_is r moment f le before noted = ap (λ q. ticked_if q moment f (daemon_of r before noted)) (due r.last moment le)
+
+  pub tick_done : (r s : Running C) (moment : ℕ) (a b : Option (List LinkCall)) (x y : Option (List ℕ)) → 100 ≤ moment - r.last → StepsAs (record r { last = moment }) s a b x y Ticks → TicksAs r s a b x y moment
+  tick_done r s moment a b x y le h = record { answers = h.answers; goes = goes_as r (record r { last = moment }) s a b x y (ticked moment h.answers) (stepped_by h.answers Ticks) (tick_is r moment h.answers le) h.goes }
+
+  pub tick_broke : (r : Running C) (moment : ℕ) (a b : Option (List LinkCall)) (x y : Option (List ℕ)) → 100 ≤ moment - r.last → StepBreaks (record r { last = moment }) a b x y Ticks → TickBreaks r a b x y moment
+  tick_broke r moment a b x y le h = record { answers = h.answers; breaks = breaks_as r (record r { last = moment }) a b x y (ticked moment h.answers) (stepped_by h.answers Ticks) (tick_is r moment h.answers le) h.breaks }
+
+  pub tick_not : (r : Running C) (moment : ℕ) (a : Option (List LinkCall)) (x : Option (List ℕ)) → moment - r.last < 100 → TicksAs r r a a x x moment
+  tick_not r moment a x lt = record {
+    answers = silent;
+    goes = goes_as r r r a a x x (ticked moment silent) (λ d. d) (λ before noted. ap (λ q. ticked_if q moment silent (daemon_of r before noted)) (undue r.last moment lt)) (goes_none r a x);
+  }
+
+  -- ---- a message
+
+  pub give_done : (r s : Running C) (a b : Option (List LinkCall)) (x y : Option (List ℕ)) (message : List ℕ) → StepsAs r s a b x y (event_of message) → GivesAs r s a b x y (Some message)
+  unfolding given
+  give_done r s a b x y message h = record { answers = h.answers; goes = goes_as r r s a b x y (given (Some message) h.answers) (stepped_by h.answers (event_of message)) (λ before noted. refl) h.goes }
+
+  pub give_broke : (r : Running C) (a b : Option (List LinkCall)) (x y : Option (List ℕ)) (message : List ℕ) → StepBreaks r a b x y (event_of message) → GiveBreaks r a b x y (Some message)
+  unfolding given
+  give_broke r a b x y message h = record { answers = h.answers; breaks = breaks_as r r a b x y (given (Some message) h.answers) (stepped_by h.answers (event_of message)) (λ before noted. refl) h.breaks }
+
+  pub give_nothing : (r : Running C) (a : Option (List LinkCall)) (x : Option (List ℕ)) → GivesAs r r a a x x None
+  unfolding given
+  give_nothing r a x = record { answers = silent; goes = goes_as r r r a a x x (given None silent) (λ d. d) (λ before noted. refl) (goes_none r a x) }
+
+  -- ---- a datagram
+
+  take_is : (r : Running C) (bytes : List ℕ) (j : Joining) (m : Option (List ℕ)) (f : Answering) → joined_as j m ≡ taken r.joiner bytes → (before : List LinkCall) (noted : List Happened)
+      → taken_in bytes f (daemon_of r before noted) ≡ given m f (daemon_of (record r { joiner = j }) before noted)
+  take_is r bytes j m f h before noted = ap (λ (t : Joined). given t.message f (record (daemon_of r before noted) { joining = t.joining })) (sym h)
+
+  pub take_done : (r s : Running C) (bytes : List ℕ) (j : Joining) (m : Option (List ℕ)) (a b : Option (List LinkCall)) (x y : Option (List ℕ)) → joined_as j m ≡ taken r.joiner bytes → GivesAs (record r { joiner = j }) s a b x y m → TakesAs r s a b x y bytes
+  take_done r s bytes j m a b x y is h = record { answers = h.answers; goes = goes_as r (record r { joiner = j }) s a b x y (taken_in bytes h.answers) (given m h.answers) (take_is r bytes j m h.answers is) h.goes }
+
+  pub take_broke : (r : Running C) (bytes : List ℕ) (j : Joining) (m : Option (List ℕ)) (a b : Option (List LinkCall)) (x y : Option (List ℕ)) → joined_as j m ≡ taken r.joiner bytes → GiveBreaks (record r { joiner = j }) a b x y m → TakeBreaks r a b x y bytes
+  take_broke r bytes j m a b x y is h = record { answers = h.answers; breaks = breaks_as r (record r { joiner = j }) a b x y (taken_in bytes h.answers) (given m h.answers) (take_is r bytes j m h.answers is) h.breaks }
+
+  pub take_none : (r : Running C) (bytes : List ℕ) (a : Option (List LinkCall)) (x : Option (List ℕ)) → TakeBreaks r a a x x bytes
+  take_none r bytes a x = record { answers = silent; breaks = breaks_none r a a x (taken_in bytes silent) (none_went a) (adds_taken bytes silent) }
+
+  -- ---- a receive
+
+  -- what is told of a receive stands before what comes of it
+  after_receive : (r q : Running C) (got : LinkCall) (a b : Option (List LinkCall)) (x : Option (List ℕ)) (f : Daemon → Daemon) → as_sent got ≡ got → Grows a b (got ∷ [])
+      → ((before : List LinkCall) (noted : List Happened) → f (daemon_of r before noted) ≡ daemon_of q (before ++ as_sent got ∷ []) noted) → Goes r q a b x x f
+  after_receive r q got a b x f same h is = record {
+    calls = as_sent got ∷ [];
+    records = [];
+    is = λ before noted. is before noted ∙ ap (daemon_of q (before ++ as_sent got ∷ [])) (sym (append-nil noted));
+    went = record { calls = got ∷ []; told = h; are = refl };
+    written = nothing_written x;
+  }
+
+  hear_is : (r : Running C) (k : ℕ) (bytes : List ℕ) (f : Answering) (before : List LinkCall) (noted : List Happened)
+      → heard (call.Received k bytes) f (daemon_of r before noted) ≡ taken_in bytes f (told_of (call.Received k bytes) (daemon_of r before noted))
+  unfolding heard received
+  hear_is r k bytes f before noted = refl
+
+  told_goes : (r : Running C) (k : ℕ) (bytes : List ℕ) (a b : Option (List LinkCall)) (x : Option (List ℕ)) → Grows a b (call.Received k bytes ∷ []) → Goes r (record r { failed = 0 }) a b x x (told_of (call.Received k bytes))
+  told_goes r k bytes a b x h = after_receive r (record r { failed = 0 }) (call.Received k bytes) a b x (told_of (call.Received k bytes)) refl h (λ before noted. refl)
+
+  pub hear_done : (r s : Running C) (k : ℕ) (bytes : List ℕ) (a b c : Option (List LinkCall)) (x y : Option (List ℕ)) → Grows a b (call.Received k bytes ∷ []) → TakesAs (record r { failed = 0 }) s b c x y bytes → HearsAs r s a c x y
+  hear_done r s k bytes a b c x y h g = record {
+    got = call.Received k bytes;
+    answers = g.answers;
+    goes = goes_as r r s a c x y (heard (call.Received k bytes) g.answers) (λ d. taken_in bytes g.answers (told_of (call.Received k bytes) d)) (hear_is r k bytes g.answers)
+        (goes_on r (record r { failed = 0 }) s a b c x x y (told_of (call.Received k bytes)) (taken_in bytes g.answers) (told_goes r k bytes a b x h) g.goes);
+  }
+
+  pub hear_broke : (r : Running C) (k : ℕ) (bytes : List ℕ) (a b c : Option (List LinkCall)) (x y : Option (List ℕ)) → Grows a b (call.Received k bytes ∷ []) → TakeBreaks (record r { failed = 0 }) b c x y bytes → HearBreaks r a c x y
+  hear_broke r k bytes a b c x y h g = record {
+    got = call.Received k bytes;
+    answers = g.answers;
+    breaks = breaks_as r r a c x y (heard (call.Received k bytes) g.answers) (λ d. taken_in bytes g.answers (told_of (call.Received k bytes) d)) (hear_is r k bytes g.answers)
+        (breaks_on r (record r { failed = 0 }) a b c x x y (told_of (call.Received k bytes)) (taken_in bytes g.answers) (told_goes r k bytes a b x h) g.breaks);
+  }
+
+  pub hear_quiet : (r : Running C) (a b : Option (List LinkCall)) (x : Option (List ℕ)) → Grows a b (call.Quiet ∷ []) → HearsAs r (record r { failed = 0 }) a b x x
+  unfolding heard received given
+  hear_quiet r a b x h = record { got = call.Quiet; answers = silent; goes = after_receive r (record r { failed = 0 }) call.Quiet a b x (heard call.Quiet silent) refl h (λ before noted. refl) }
+
+  pub hear_failed : (r : Running C) (n : ℕ) (a b : Option (List LinkCall)) (x : Option (List ℕ)) → n ≡ min (r.failed + 1) 16 → Grows a b (call.Failed ∷ []) → HearsAs r (record r { failed = n }) a b x x
+  unfolding heard received given
+  hear_failed r n a b x is h = record {
+    got = call.Failed;
+    answers = silent;
+    goes = after_receive r (record r { failed = n }) call.Failed a b x (heard call.Failed silent) refl h (λ before noted. ap (λ (k : ℕ). daemon_of (record r { failed = k }) (before ++ call.Failed ∷ []) noted) (sym is));
+  }
+
+  -- a daemon that had no memory to receive
+  pub hear_none : (r : Running C) (a b : Option (List LinkCall)) (x : Option (List ℕ)) → Same a b → HearBreaks r a b x x
+  hear_none r a b x h = record { got = call.Quiet; answers = silent; breaks = breaks_none r a b x (heard call.Quiet silent) (λ more. same_went a b more h) (adds_heard call.Quiet silent) }
+
+  -- ---- a turn
+
+  pub turn_done : (r s t : Running C) (moment : ℕ) (a b c : Option (List LinkCall)) (x y z u v : Option (List ℕ)) → Counts u v (moment ∷ []) → TicksAs r s a b x y moment → HearsAs s t b c y z → TurnsAs r t a c x z u v
+  unfolding turned
+  turn_done r s t moment a b c x y z u v at p q = record {
+    turn = record { moment = moment; tick = p.answers; got = q.got; answers = q.answers };
+    moments = at;
+    goes = goes_on r s t a b c x y z (ticked moment p.answers) (heard q.got q.answers) p.goes q.goes;
+  }
+
+  pub turn_broke : (r s : Running C) (moment : ℕ) (a b c : Option (List LinkCall)) (x y z u v : Option (List ℕ)) → Counts u v (moment ∷ []) → TicksAs r s a b x y moment → HearBreaks s b c y z → TurnBreaks r a c x z u v
+  unfolding turned
+  turn_broke r s moment a b c x y z u v at p q = record {
+    turn = record { moment = moment; tick = p.answers; got = q.got; answers = q.answers };
+    moments = at;
+    breaks = breaks_on r s a b c x y z (ticked moment p.answers) (heard q.got q.answers) p.goes q.breaks;
+  }
+
+  pub turn_ends : (r : Running C) (moment : ℕ) (a b : Option (List LinkCall)) (x y u v : Option (List ℕ)) → Counts u v (moment ∷ []) → TickBreaks r a b x y moment → TurnBreaks r a b x y u v
+  unfolding turned
+  turn_ends r moment a b x y u v at p = record {
+    turn = record { moment = moment; tick = p.answers; got = call.Quiet; answers = silent };
+    moments = at;
+    breaks = breaks_more r a b x y (ticked moment p.answers) (heard call.Quiet silent) p.breaks (adds_heard call.Quiet silent);
+  }

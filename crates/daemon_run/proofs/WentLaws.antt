@@ -1,0 +1,197 @@
+-- What goes out, piece by piece and packet by packet.
+use Rattle.std.proofs.Common.{◌≡◌, ℕ, zero, suc, ◌+◌, ◌<◌, ◌≤◌, Bool, true, false, List, [], ◌∷◌, ◌++◌, length, drop, map, get_or, Option, Some, None, refl, sym, ◌∙◌, ap, subst, arith, append_assoc, append-nil, add-one}
+use Rattle.std.proofs.lemmas.List.{map-append}
+use Rattle.std.proofs.Math.Seq.{drop-cons}
+use Rattle.hags_io.specs.declared.link.LinkCall.{LinkCall}
+use Rattle.hags_io.specs.declared.link.LinkCall.TheVariants as call
+use Rattle.hags_io.specs.Links.{Grows, Same}
+use Rattle.piece_link.specs.Pieces.{can_cut, message_by, pieces_of}
+use Rattle.node_state.specs.declared.packet.Packet.{Packet}
+use Rattle.node_state.specs.Bytes.{bytes_of}
+use Rattle.daemon_model.specs.Sent.{as_sent, piece_call, packet_pieces, packet_calls, calls_if, number_if, number_past, sent_calls, number_after, Went, WentFront}
+
+-- ---- what lists grow by
+
+pub grows_none : (a : Option (List LinkCall)) → Grows a a []
+grows_none None = tt
+grows_none (Some xs) = ap Some (sym (append-nil xs))
+
+pub grows_on : (a b c : Option (List LinkCall)) (xs ys : List LinkCall) → Grows a b xs → Grows b c ys → Grows a c (xs ++ ys)
+grows_on None b c xs ys p q = tt
+grows_on (Some zs) b c xs ys p q =
+    let at : Grows (Some (zs ++ xs)) c ys = subst (λ o. Grows o c ys) p q in
+    at ∙ ap Some (append_assoc zs xs ys)
+
+pub grows_same : (a b c : Option (List LinkCall)) (xs : List LinkCall) → Grows a b xs → Same b c → Grows a c xs
+grows_same None b c xs p q = tt
+grows_same (Some zs) b c xs p q = let at : Same (Some (zs ++ xs)) c = subst (λ o. Same o c) p q in at
+
+pub went_nothing : (a : Option (List LinkCall)) → Went a a []
+went_nothing a = record { calls = []; told = grows_none a; are = refl }
+
+pub went_one : (a b : Option (List LinkCall)) (p : Packet) (piece : List ℕ) (out : Bool) → Grows a b (call.Sent p.to p.network piece out ∷ []) → Went a b (piece_call p piece ∷ [])
+went_one a b p piece out h = record { calls = call.Sent p.to p.network piece out ∷ []; told = h; are = refl }
+
+pub went_on : (a b c : Option (List LinkCall)) (xs ys : List LinkCall) → Went a b xs → Went b c ys → Went a c (xs ++ ys)
+went_on a b c xs ys p q = record {
+  calls = p.calls ++ q.calls;
+  told = grows_on a b c p.calls q.calls p.told q.told;
+  are = map-append as_sent p.calls q.calls ∙ (ap (λ t. t ++ map as_sent q.calls) p.are ∙ ap (λ t. xs ++ t) q.are);
+}
+
+-- ---- fronts
+
+pub all_went : (a b : Option (List LinkCall)) (more : List LinkCall) → Went a b more → WentFront a b more
+all_went a b more w = record { calls = w.calls; back = []; told = w.told; are = append-nil _ ∙ w.are }
+
+pub none_went : (a : Option (List LinkCall)) (more : List LinkCall) → WentFront a a more
+none_went a more = record { calls = []; back = more; told = grows_none a; are = refl }
+
+pub same_went : (a b : Option (List LinkCall)) (more : List LinkCall) → Same a b → WentFront a b more
+same_went a b more h = record { calls = []; back = more; told = grows_same a a b [] (grows_none a) h; are = refl }
+
+pub went_front_on : (a b c : Option (List LinkCall)) (xs ys : List LinkCall) → Went a b xs → WentFront b c ys → WentFront a c (xs ++ ys)
+went_front_on a b c xs ys p q = record {
+  calls = p.calls ++ q.calls;
+  back = q.back;
+  told = grows_on a b c p.calls q.calls p.told q.told;
+  are = ap (λ t. t ++ q.back) (map-append as_sent p.calls q.calls) ∙ (append_assoc (map as_sent p.calls) (map as_sent q.calls) q.back ∙ (ap (λ t. t ++ (map as_sent q.calls ++ q.back)) p.are ∙ ap (λ t. xs ++ t) q.are));
+}
+
+pub went_front_more : (a b : Option (List LinkCall)) (xs ys : List LinkCall) → WentFront a b xs → WentFront a b (xs ++ ys)
+went_front_more a b xs ys p = record {
+  calls = p.calls;
+  back = p.back ++ ys;
+  told = p.told;
+  are = sym (append_assoc (map as_sent p.calls) p.back ys) ∙ ap (λ t. t ++ ys) p.are;
+}
+
+-- ---- items of a list
+
+pub next_item : {X : Type 0} (i : ℕ) (x : X) (xs : List X) → i < length xs → x ≡ get_or xs i x → drop i xs ≡ x ∷ drop (i + 1) xs
+next_item i x xs h is = rw add-one (drop-cons xs i x h ∙ ap (λ y. y ∷ drop (suc i) xs) (sym is))
+
+pub no_item : {X : Type 0} (i : ℕ) (xs : List X) → length xs ≤ i → drop i xs ≡ []
+no_item zero [] le = refl
+no_item zero (x ∷ xs) le = absurd (omega arith)
+no_item (suc i) [] le = refl
+no_item (suc i) (x ∷ xs) le = let below : length xs ≤ i = omega arith in no_item i xs below
+
+-- a front went, and what is left is this
+pub record WentTo (a b : Option (List LinkCall)) (left more : List LinkCall) : Type 0 where
+  pub done : List LinkCall
+  pub whole : done ++ left ≡ more
+  pub went : Went a b done
+
+pub to_begin : (a : Option (List LinkCall)) (more : List LinkCall) → WentTo a a more more
+to_begin a more = record { done = []; whole = refl; went = went_nothing a }
+
+to_next : (a b c : Option (List LinkCall)) (xs left more : List LinkCall) → WentTo a b (xs ++ left) more → Went b c xs → WentTo a c left more
+to_next a b c xs left more w q = record {
+  done = w.done ++ xs;
+  whole = append_assoc w.done xs left ∙ w.whole;
+  went = went_on a b c w.done xs w.went q;
+}
+
+to_front : (a b c : Option (List LinkCall)) (xs left more : List LinkCall) → WentTo a b (xs ++ left) more → WentFront b c xs → WentFront a c more
+to_front a b c xs left more w q =
+    subst (WentFront a c) w.whole (went_front_on a b c w.done (xs ++ left) w.went (went_front_more b c xs left q))
+
+to_end : (a b : Option (List LinkCall)) (more : List LinkCall) → WentTo a b [] more → Went a b more
+to_end a b more w = subst (Went a b) (sym (append-nil w.done) ∙ w.whole) w.went
+
+-- ---- pieces, each of which stands for its bytes
+
+module _ {V : Type 0} (items : V → List ℕ) (p : Packet) where
+  abbrev pub pieces_left : List V → List LinkCall
+  pieces_left vs = map (piece_call p) (map items vs)
+
+  pub piece_next : (a b c : Option (List LinkCall)) (i : ℕ) (v : V) (vs : List V) (more : List LinkCall) → i < length vs → v ≡ get_or vs i v
+      → WentTo a b (pieces_left (drop i vs)) more → Went b c (piece_call p (items v) ∷ []) → WentTo a c (pieces_left (drop (i + 1) vs)) more
+  piece_next a b c i v vs more h is w q =
+      to_next a b c (piece_call p (items v) ∷ []) (pieces_left (drop (i + 1) vs)) more (subst (λ t. WentTo a b (pieces_left t) more) (next_item i v vs h is) w) q
+
+  pub piece_front : (a b c : Option (List LinkCall)) (left more : List LinkCall) → WentTo a b left more → Same b c → WentFront a c more
+  piece_front a b c left more w q = to_front a b c left [] more (subst (λ t. WentTo a b t more) (sym (append-nil left)) w) (same_went b c left q)
+
+  pub pieces_done : (a b : Option (List LinkCall)) (i : ℕ) (vs : List V) (more : List LinkCall) → length vs ≤ i → WentTo a b (pieces_left (drop i vs)) more → Went a b more
+  pieces_done a b i vs more le w = to_end a b more (subst (λ t. WentTo a b (pieces_left t) more) (no_item i vs le) w)
+
+-- ---- a packet
+
+pub calls_cut : (me inc number : ℕ) (p : Packet) → can_cut (bytes_of p) ≡ true → packet_calls me inc number p ≡ map (piece_call p) (packet_pieces me inc number p)
+unfolding packet_calls
+calls_cut me inc number p e = ap (λ t. calls_if t (map (piece_call p) (packet_pieces me inc number p))) e
+
+pub calls_not_cut : (me inc number : ℕ) (p : Packet) → can_cut (bytes_of p) ≡ false → packet_calls me inc number p ≡ []
+unfolding packet_calls
+calls_not_cut me inc number p e = ap (λ t. calls_if t (map (piece_call p) (packet_pieces me inc number p))) e
+
+pub number_cut : (number : ℕ) (p : Packet) → can_cut (bytes_of p) ≡ true → number_past number p ≡ number + 1
+unfolding number_past
+number_cut number p e = ap (λ t. number_if t number) e
+
+pub number_not_cut : (number : ℕ) (p : Packet) → can_cut (bytes_of p) ≡ false → number_past number p ≡ number
+unfolding number_past
+number_not_cut number p e = ap (λ t. number_if t number) e
+
+-- its bytes cannot be cut, and it is lost
+pub packet_lost : (me inc number : ℕ) (p : Packet) (bytes : List ℕ) (a : Option (List LinkCall)) → bytes ≡ bytes_of p → can_cut bytes ≡ false → Went a a (packet_calls me inc number p)
+packet_lost me inc number p bytes a is e = subst (Went a a) (sym (calls_not_cut me inc number p (ap can_cut (sym is) ∙ e))) (went_nothing a)
+
+pub number_lost : (number : ℕ) (p : Packet) (bytes : List ℕ) → bytes ≡ bytes_of p → can_cut bytes ≡ false → number ≡ number_past number p
+number_lost number p bytes is e = sym (number_not_cut number p (ap can_cut (sym is) ∙ e))
+
+-- its pieces are sent, or a front of them
+pieces_are : (me inc number : ℕ) (p : Packet) (bytes : List ℕ) (pieces : List (List ℕ)) → bytes ≡ bytes_of p → can_cut bytes ≡ true → pieces ≡ pieces_of (message_by me inc number bytes) → map (piece_call p) pieces ≡ packet_calls me inc number p
+pieces_are me inc number p bytes pieces is e pieces_is =
+    ap (map (piece_call p)) (pieces_is ∙ ap (λ t. pieces_of (message_by me inc number t)) is) ∙ sym (calls_cut me inc number p (ap can_cut (sym is) ∙ e))
+
+pub packet_sent : (me inc number : ℕ) (p : Packet) (bytes : List ℕ) (pieces : List (List ℕ)) (a b : Option (List LinkCall)) → bytes ≡ bytes_of p → can_cut bytes ≡ true → pieces ≡ pieces_of (message_by me inc number bytes) → Went a b (map (piece_call p) pieces)
+    → Went a b (packet_calls me inc number p)
+packet_sent me inc number p bytes pieces a b is e pieces_is w = subst (Went a b) (pieces_are me inc number p bytes pieces is e pieces_is) w
+
+pub packet_front : (me inc number : ℕ) (p : Packet) (bytes : List ℕ) (pieces : List (List ℕ)) (a b : Option (List LinkCall)) → bytes ≡ bytes_of p → can_cut bytes ≡ true → pieces ≡ pieces_of (message_by me inc number bytes) → WentFront a b (map (piece_call p) pieces)
+    → WentFront a b (packet_calls me inc number p)
+packet_front me inc number p bytes pieces a b is e pieces_is w = subst (WentFront a b) (pieces_are me inc number p bytes pieces is e pieces_is) w
+
+pub number_sent : (number next : ℕ) (p : Packet) (bytes : List ℕ) → bytes ≡ bytes_of p → can_cut bytes ≡ true → next ≡ number + 1 → next ≡ number_past number p
+number_sent number next p bytes is e n = n ∙ sym (number_cut number p (ap can_cut (sym is) ∙ e))
+
+-- ---- packets
+
+-- what is left is that of the packets that are left, from this number on
+pub record PacketsTo (me inc number first : ℕ) (left all : List Packet) (a b : Option (List LinkCall)) : Type 0 where
+  pub to : WentTo a b (sent_calls me inc number left) (sent_calls me inc first all)
+  pub number_is : number_after number left ≡ number_after first all
+
+pub packets_begin : (me inc number : ℕ) (ps : List Packet) (a : Option (List LinkCall)) → PacketsTo me inc number number ps ps a a
+packets_begin me inc number ps a = record { to = to_begin a _; number_is = refl }
+
+pub packets_next : (me inc number next first i : ℕ) (p : Packet) (ps : List Packet) (a b c : Option (List LinkCall)) → i < length ps → p ≡ get_or ps i p → next ≡ number_past number p
+    → PacketsTo me inc number first (drop i ps) ps a b → Went b c (packet_calls me inc number p) → PacketsTo me inc next first (drop (i + 1) ps) ps a c
+unfolding sent_calls number_after
+packets_next me inc number next first i p ps a b c h is past w q =
+    let at : PacketsTo me inc number first (p ∷ drop (i + 1) ps) ps a b = subst (λ t. PacketsTo me inc number first t ps a b) (next_item i p ps h is) w in
+    rw past (record { to = to_next a b c (packet_calls me inc number p) _ _ at.to q; number_is = at.number_is })
+
+pub packets_front : (me inc number first i : ℕ) (p : Packet) (ps : List Packet) (a b c : Option (List LinkCall)) → i < length ps → p ≡ get_or ps i p
+    → PacketsTo me inc number first (drop i ps) ps a b → WentFront b c (packet_calls me inc number p) → WentFront a c (sent_calls me inc first ps)
+unfolding sent_calls number_after
+packets_front me inc number first i p ps a b c h is w q =
+    let at : PacketsTo me inc number first (p ∷ drop (i + 1) ps) ps a b = subst (λ t. PacketsTo me inc number first t ps a b) (next_item i p ps h is) w in
+    to_front a b c (packet_calls me inc number p) _ _ at.to q
+
+pub packets_done : (me inc number first i : ℕ) (ps : List Packet) (a b : Option (List LinkCall)) → length ps ≤ i
+    → PacketsTo me inc number first (drop i ps) ps a b → Went a b (sent_calls me inc first ps)
+unfolding sent_calls number_after
+packets_done me inc number first i ps a b le w =
+    let at : PacketsTo me inc number first [] ps a b = subst (λ t. PacketsTo me inc number first t ps a b) (no_item i ps le) w in
+    to_end a b _ at.to
+
+pub packets_number : (me inc number first i : ℕ) (ps : List Packet) (a b : Option (List LinkCall)) → length ps ≤ i
+    → PacketsTo me inc number first (drop i ps) ps a b → number ≡ number_after first ps
+unfolding sent_calls number_after
+packets_number me inc number first i ps a b le w =
+    let at : PacketsTo me inc number first [] ps a b = subst (λ t. PacketsTo me inc number first t ps a b) (no_item i ps le) w in
+    at.number_is

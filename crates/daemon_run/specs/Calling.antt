@@ -1,0 +1,64 @@
+-- How the calls of the settings follow one another, and how a daemon begins.
+use Rattle.std.specs.Prelude.{◌≡◌, ℕ, false, List, [], ◌∷◌, map, Option}
+use Rattle.std.specs.Io.KnownBytes.{Appends}
+use Rattle.hags_io.specs.Edges.{GrowsByFront}
+use Rattle.hags_io.specs.declared.link.LinkCall.{LinkCall}
+use Rattle.node_state.specs.declared.call.CallLine.{CallLine}
+use Rattle.node_state.specs.declared.config.Config.{Config}
+use Rattle.node_state.specs.Step.{started}
+use Rattle.world_model.specs.declared.script.Script.{Script}
+use Rattle.daemon_model.specs.Sent.{Went, WentFront}
+use Rattle.daemon_model.specs.Daemon.{Daemon, Opening, begun, opened_all, own_calls, records_text}
+use Rattle.daemon_run.specs.declared.running.Running.{Running}
+use Rattle.daemon_run.specs.Doing.{daemon_of, Goes, Breaks}
+
+abbrev pub calls_in : List Opening → List CallLine
+calls_in os = map (λ (o : Opening). o.call) os
+
+-- these calls are carried out
+pub record CallsAs {C : Type 0} (r s : Running C) (calls : List CallLine) (a b : Option (List LinkCall)) (x y : Option (List ℕ)) : Type 0 where
+  pub opening : List Opening
+  pub are : calls_in opening ≡ calls
+  pub goes : Goes r s a b x y (λ d. opened_all d opening)
+
+-- one of them broke off
+pub record CallsBreak {C : Type 0} (r : Running C) (calls : List CallLine) (a b : Option (List LinkCall)) (x y : Option (List ℕ)) : Type 0 where
+  pub opening : List Opening
+  pub are : calls_in opening ≡ calls
+  pub breaks : Breaks r a b x y (λ d. opened_all d opening)
+
+-- ---- from the start on
+
+-- one whose node has just started
+abbrev pub fresh_running : {C : Type 0} → Config → ℕ → ℕ → ℕ → Running C
+fresh_running c me incarnation moment = record {
+  me = me;
+  incarnation = incarnation;
+  node = record { core = started c me incarnation; clients = []; halted = false };
+  joiner = [];
+  last = moment;
+  number = 1;
+  failed = 0;
+}
+
+-- the daemon d is reached: it stands as the one that runs, what it did is told, and its lines are written
+pub record Reached {C : Type 0} (d : Daemon) (s : Running C) (a b : Option (List LinkCall)) (x y : Option (List ℕ)) : Type 0 where
+  pub is : d ≡ daemon_of s d.calls d.records
+  pub went : Went a b d.calls
+  pub written : Appends x y (records_text d.records)
+
+-- on the way to d it broke off
+pub record Stopped (d : Daemon) (a b : Option (List LinkCall)) (x y : Option (List ℕ)) : Type 0 where
+  pub went : WentFront a b d.calls
+  pub front : GrowsByFront x y (records_text d.records)
+
+-- the node started, and the calls of the settings are carried out
+pub record BeginsAs {C : Type 0} (script : Script) (me incarnation moment : ℕ) (s : Running C) (a b : Option (List LinkCall)) (x y : Option (List ℕ)) : Type 0 where
+  pub opening : List Opening
+  pub are : calls_in opening ≡ own_calls me script.lines
+  pub reached : Reached (opened_all (begun script.config me incarnation moment) opening) s a b x y
+
+pub record BeginBreaks (script : Script) (me incarnation moment : ℕ) (a b : Option (List LinkCall)) (x y : Option (List ℕ)) : Type 0 where
+  pub opening : List Opening
+  pub are : calls_in opening ≡ own_calls me script.lines
+  pub stopped : Stopped (opened_all (begun script.config me incarnation moment) opening) a b x y

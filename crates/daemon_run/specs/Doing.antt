@@ -1,0 +1,135 @@
+-- How a daemon that runs follows the one of the definitions.
+use Rattle.std.specs.Prelude.{◌≡◌, ℕ, ◌≤◌, min, ◌+◌, List, [], ◌∷◌, ◌++◌, Option, Some, None}
+use Rattle.std.specs.Io.KnownBytes.{Appends}
+use Rattle.hags_io.specs.Edges.{GrowsByFront}
+use Rattle.hags_io.specs.Links.{Counts}
+use Rattle.hags_io.specs.declared.link.LinkCall.{LinkCall}
+use Rattle.piece_link.specs.Joining.{taken}
+use Rattle.node_state.specs.declared.call.CallLine.{CallLine}
+use Rattle.node_state.specs.declared.happened.Happened.{Happened}
+use Rattle.node_state.specs.declared.state.Core.{Core}
+use Rattle.node_state.specs.HandOn.{Answering}
+use Rattle.node_state.specs.Step.{NodeEvent, Calls, at_work, stepped}
+use Rattle.daemon_model.specs.Sent.{Went, WentFront, sent_calls, number_after}
+use Rattle.daemon_model.specs.Daemon.{Daemon, Turn, stepped_by, ticked, given, heard, turned, records_text}
+use Rattle.daemon_run.specs.declared.running.Running.{Running}
+
+-- the daemon that stands like this, and did this so far
+abbrev pub daemon_of : {C : Type 0} → Running C → List LinkCall → List Happened → Daemon
+daemon_of r calls records = record {
+  me = r.me;
+  incarnation = r.incarnation;
+  core = at_work r.node.core;
+  last = r.last;
+  joining = r.joiner;
+  number = r.number;
+  failed = r.failed;
+  calls = calls;
+  records = records;
+}
+
+-- the one that runs came from r to s as f says: the link's list grew by the calls of that, and its lines were written
+pub record Goes {C : Type 0} (r s : Running C) (a b : Option (List LinkCall)) (x y : Option (List ℕ)) (f : Daemon → Daemon) : Type 0 where
+  pub calls : List LinkCall
+  pub records : List Happened
+  pub is : (before : List LinkCall) (noted : List Happened) → f (daemon_of r before noted) ≡ daemon_of s (before ++ calls) (noted ++ records)
+  pub went : Went a b calls
+  pub written : Appends x y (records_text records)
+
+-- on the way to e it broke off, where so much was done before: of the calls and of the lines there was a front
+pub record Broke (before : List LinkCall) (noted : List Happened) (a b : Option (List LinkCall)) (x y : Option (List ℕ)) (e : Daemon) : Type 0 where
+  pub calls : List LinkCall
+  pub called : e.calls ≡ before ++ calls
+  pub went : WentFront a b calls
+  pub records : List Happened
+  pub recorded : e.records ≡ noted ++ records
+  pub front : GrowsByFront x y (records_text records)
+
+abbrev pub Breaks : {C : Type 0} → Running C → Option (List LinkCall) → Option (List LinkCall) → Option (List ℕ) → Option (List ℕ) → (Daemon → Daemon) → Type 0
+Breaks r a b x y f = (before : List LinkCall) (noted : List Happened) → Broke before noted a b x y (f (daemon_of r before noted))
+
+-- which node it is stays, and how many receives failed in a row
+abbrev pub IsSame : {C : Type 0} → Running C → Running C → Type 0
+IsSame r s = (s.me ≡ r.me) × (s.failed ≡ r.failed)
+
+-- ---- steps
+
+-- what the node left is sent and written
+pub record Settles {C : Type 0} (r s : Running C) (a b : Option (List LinkCall)) (x y : Option (List ℕ)) : Type 0 where
+  pub is : s ≡ record r { node = record (r.node) { core = at_work r.node.core }; number = number_after r.number r.node.core.sends }
+  pub went : Went a b (sent_calls r.me r.incarnation r.number r.node.core.sends)
+  pub written : Appends x y (records_text r.node.core.records)
+
+pub record SettlesFront {C : Type 0} (r : Running C) (a b : Option (List LinkCall)) (x y : Option (List ℕ)) : Type 0 where
+  pub went : WentFront a b (sent_calls r.me r.incarnation r.number r.node.core.sends)
+  pub front : GrowsByFront x y (records_text r.node.core.records)
+
+-- the node did the event, with some answers of its clients, and nothing else changed
+pub record IsStep {C : Type 0} (r s : Running C) (e : NodeEvent) : Type 0 where
+  pub answers : Answering
+  pub core : s.node.core ≡ stepped answers r.node.core e
+  pub is : s ≡ record r { node = s.node }
+
+-- an event, with what it sends and records
+pub record StepsAs {C : Type 0} (r s : Running C) (a b : Option (List LinkCall)) (x y : Option (List ℕ)) (e : NodeEvent) : Type 0 where
+  pub answers : Answering
+  pub goes : Goes r s a b x y (stepped_by answers e)
+
+pub record StepBreaks {C : Type 0} (r : Running C) (a b : Option (List LinkCall)) (x y : Option (List ℕ)) (e : NodeEvent) : Type 0 where
+  pub answers : Answering
+  pub breaks : Breaks r a b x y (stepped_by answers e)
+
+-- ---- parts of a turn
+
+-- a tick, where it is due
+pub record TicksAs {C : Type 0} (r s : Running C) (a b : Option (List LinkCall)) (x y : Option (List ℕ)) (moment : ℕ) : Type 0 where
+  pub answers : Answering
+  pub goes : Goes r s a b x y (ticked moment answers)
+
+pub record TickBreaks {C : Type 0} (r : Running C) (a b : Option (List LinkCall)) (x y : Option (List ℕ)) (moment : ℕ) : Type 0 where
+  pub answers : Answering
+  pub breaks : Breaks r a b x y (ticked moment answers)
+
+-- a whole message
+pub record GivesAs {C : Type 0} (r s : Running C) (a b : Option (List LinkCall)) (x y : Option (List ℕ)) (message : Option (List ℕ)) : Type 0 where
+  pub answers : Answering
+  pub goes : Goes r s a b x y (given message answers)
+
+pub record GiveBreaks {C : Type 0} (r : Running C) (a b : Option (List LinkCall)) (x y : Option (List ℕ)) (message : Option (List ℕ)) : Type 0 where
+  pub answers : Answering
+  pub breaks : Breaks r a b x y (given message answers)
+
+-- the bytes of a datagram are joined, and the message that is whole by it is given
+abbrev pub taken_in : List ℕ → Answering → Daemon → Daemon
+taken_in bytes f d = given (taken d.joining bytes).message f (record d { joining = (taken d.joining bytes).joining })
+
+pub record TakesAs {C : Type 0} (r s : Running C) (a b : Option (List LinkCall)) (x y : Option (List ℕ)) (bytes : List ℕ) : Type 0 where
+  pub answers : Answering
+  pub goes : Goes r s a b x y (taken_in bytes answers)
+
+pub record TakeBreaks {C : Type 0} (r : Running C) (a b : Option (List LinkCall)) (x y : Option (List ℕ)) (bytes : List ℕ) : Type 0 where
+  pub answers : Answering
+  pub breaks : Breaks r a b x y (taken_in bytes answers)
+
+-- a receive, with what it brings
+pub record HearsAs {C : Type 0} (r s : Running C) (a b : Option (List LinkCall)) (x y : Option (List ℕ)) : Type 0 where
+  pub got : LinkCall
+  pub answers : Answering
+  pub goes : Goes r s a b x y (heard got answers)
+
+pub record HearBreaks {C : Type 0} (r : Running C) (a b : Option (List LinkCall)) (x y : Option (List ℕ)) : Type 0 where
+  pub got : LinkCall
+  pub answers : Answering
+  pub breaks : Breaks r a b x y (heard got answers)
+
+-- ---- a turn
+
+pub record TurnsAs {C : Type 0} (r s : Running C) (a b : Option (List LinkCall)) (x y : Option (List ℕ)) (u v : Option (List ℕ)) : Type 0 where
+  pub turn : Turn
+  pub moments : Counts u v (turn.moment ∷ [])
+  pub goes : Goes r s a b x y (λ d. turned d turn)
+
+pub record TurnBreaks {C : Type 0} (r : Running C) (a b : Option (List LinkCall)) (x y : Option (List ℕ)) (u v : Option (List ℕ)) : Type 0 where
+  pub turn : Turn
+  pub moments : Counts u v (turn.moment ∷ [])
+  pub breaks : Breaks r a b x y (λ d. turned d turn)

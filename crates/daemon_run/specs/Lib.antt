@@ -1,0 +1,5 @@
+pub mod Keeping
+pub mod Doing
+pub mod Calling
+pub mod Serving
+pub mod Ends

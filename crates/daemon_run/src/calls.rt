@@ -1,0 +1,192 @@
+//! The calls of the settings: those of the own node's clients.
+ghost use Rattle.std.specs.Prelude.{◌≡◌, ◌≤◌, ℕ, ◌∷◌, [], OnOk, OnErr, IfSome, IsTrue, None, Err};
+ghost use Rattle.hags_io.specs.Edges.{Rose};
+ghost use Rattle.node_state.specs.declared.call.CallLine.TheVariants as call;
+ghost use Rattle.node_state.specs.Step.{Calls};
+ghost use Rattle.daemon_model.specs.Daemon.{own_call, own_calls};
+ghost use Rattle.daemon_run.specs.Keeping.{KeepsLink};
+ghost use Rattle.daemon_run.specs.Doing.{IsSame, IsStep, StepsAs, StepBreaks};
+ghost use Rattle.daemon_run.specs.Calling.{CallsAs, CallsBreak};
+
+use crate::running::Running;
+use crate::writing::Stop;
+use client_callbacks::{BoxedClient, Callbacks, DaemonClient, ScriptClient};
+use hags_io::{Link, Sink};
+use node_core::NodeEvent;
+use node_state::CallLine;
+use rsct_packet::NoMemory;
+use std::alloc::Global;
+use world_model::{Event, Line};
+
+/// What gives a daemon its clients.
+pub trait Hosts<C> {
+    /// The client of a votes word. That there is none counts as want of memory.
+    fn client(&mut self, alloc: Global, votes: &[u8]) -> Result<C, NoMemory>;
+}
+
+/// The objects that were handed to a daemon and that no client has taken.
+#[derive(Drop)]
+pub struct Objects {
+    pub left: Vec<Box<dyn Callbacks>>,
+}
+
+impl Hosts<DaemonClient> for Objects {
+    /// The client of a votes word: for `boxed` it is the next of the objects, and else one that votes as the word says.
+    /// That no object is left, or that it is no votes word, counts as want of memory: good settings have neither.
+    fn client(&mut self, alloc: Global, votes: &[u8]) -> Result<DaemonClient, NoMemory> {
+        if votes == b"boxed".as_slice() {
+            if self.left.is_empty() {
+                return Err(NoMemory);
+            }
+            let inner = self.left.remove(0);
+            return Ok(DaemonClient::Boxed(BoxedClient { inner }));
+        }
+        match ScriptClient::new(alloc, votes)? {
+            Some(client) => Ok(DaemonClient::Script(client)),
+            None => Err(NoMemory),
+        }
+    }
+}
+
+/// The call of a line, where it is one of the own node's clients.
+fn own_call(me: u8, line: &Line) -> Option<&CallLine>
+    ensures some { IfSome result (λ c. own_call me line.now ≡ c.now ∷ []) }
+    ensures none { result ≡ None → own_call me line.now ≡ [] }
+{
+    match line {
+        Line::Plain(Event::Call(node, call)) => { if *node == me { Some(call) } else { None } }
+        _ => None,
+    }
+}
+
+impl<C: Callbacks> Running<C> {
+    /// A client begins its session.
+    fn begin_session<H: Hosts<C>>(
+        &mut self,
+        alloc: Global,
+        name: &[u8],
+        votes: &[u8],
+        hosts: &mut H,
+    ) -> Result<(), NoMemory>
+        ensures does { OnOk result ((node : ℕ) → IsStep self.old self.new
+            (Calls (call.Init node name.now votes.now))) }
+        ensures same { IsSame self.old self.new }
+    {
+        let client = hosts.client(alloc, votes)?;
+        match self.node.begin_session(alloc, name, client) {
+            Ok(()) => Ok(()),
+            Err(_) => Err(NoMemory),
+        }
+    }
+
+    /// A client ends its session.
+    fn say_goodbye(&mut self, alloc: Global, client: &[u8]) -> Result<(), NoMemory>
+        ensures does { OnOk result (IsStep self.old self.new (Calls (call.Goodbye client.now))) }
+        ensures same { IsSame self.old self.new }
+    {
+        match self.node.say_goodbye(alloc, client) {
+            Ok(()) => Ok(()),
+            Err(_) => Err(NoMemory),
+        }
+    }
+
+    /// A call happens to the node.
+    fn call<H: Hosts<C>>(
+        &mut self,
+        alloc: Global,
+        call: &CallLine,
+        hosts: &mut H,
+    ) -> Result<(), NoMemory>
+        ensures does { OnOk result (IsStep self.old self.new (Calls call.now)) }
+        ensures same { IsSame self.old self.new }
+    {
+        match call {
+            CallLine::Init { name, votes, .. } => {
+                self.begin_session(alloc, name.as_slice(), votes.as_slice(), hosts)
+            }
+            CallLine::Goodbye { client } => self.say_goodbye(alloc, client.as_slice()),
+            _ => self.happen(alloc, NodeEvent::Call(call)),
+        }
+    }
+
+    /// A call happens, and what it leaves is sent and written.
+    #[tactic(auto, using(crate::proofs::StepLaws::step_done, crate::proofs::StepLaws::step_broke, crate::proofs::StepLaws::step_none, crate::proofs::KeepLaws::keeps_itself))]
+    fn carry_call<H: Hosts<C>, K: Sink, L: Link>(
+        &mut self,
+        alloc: Global,
+        call: &CallLine,
+        hosts: &mut H,
+        out: &mut K,
+        link: &mut L,
+    ) -> Result<(), Stop>
+        requires { self.old.me ≤ 32 }
+        ensures done { OnOk result (StepsAs self.old self.new (L.calls link.old) (L.calls link.new)
+            (K.held out.old) (K.held out.new) (Calls call.now)) }
+        ensures broke { OnErr result (StepBreaks self.old (L.calls link.old) (L.calls link.new)
+            (K.held out.old) (K.held out.new) (Calls call.now)) }
+        ensures same { IsSame self.old self.new }
+        ensures keeps { KeepsLink (L.places link.old) (L.places link.new) (L.opened link.old)
+            (L.opened link.new) (L.faults link.old) (L.faults link.new) }
+        ensures later { K.faults out.old ≤ K.faults out.new }
+        ensures fault { result ≡ Err Stop.WriteFault → Rose (K.faults out.old) (K.faults out.new) }
+    {
+        if self.call(alloc, call, hosts).is_err() {
+            return Err(Stop::NoMemory);
+        }
+        self.settle(alloc, out, link)
+    }
+
+    /// A line of the settings: a call of the own node's clients is carried out, and any other line is skipped.
+    #[tactic(auto, using(crate::proofs::CallLaws::call_done, crate::proofs::CallLaws::call_broke, crate::proofs::CallLaws::call_none, crate::proofs::KeepLaws::keeps_itself))]
+    fn carry_line<H: Hosts<C>, K: Sink, L: Link>(
+        &mut self,
+        alloc: Global,
+        line: &Line,
+        hosts: &mut H,
+        out: &mut K,
+        link: &mut L,
+    ) -> Result<(), Stop>
+        requires { self.old.me ≤ 32 }
+        ensures done { OnOk result (CallsAs self.old self.new (own_call self.old.me line.now)
+            (L.calls link.old) (L.calls link.new) (K.held out.old) (K.held out.new)) }
+        ensures broke { OnErr result (CallsBreak self.old (own_call self.old.me line.now)
+            (L.calls link.old) (L.calls link.new) (K.held out.old) (K.held out.new)) }
+        ensures same { IsSame self.old self.new }
+        ensures keeps { KeepsLink (L.places link.old) (L.places link.new) (L.opened link.old)
+            (L.opened link.new) (L.faults link.old) (L.faults link.new) }
+        ensures later { K.faults out.old ≤ K.faults out.new }
+        ensures fault { result ≡ Err Stop.WriteFault → Rose (K.faults out.old) (K.faults out.new) }
+    {
+        match own_call(self.me, line) {
+            Some(call) => self.carry_call(alloc, call, hosts, out, link),
+            None => Ok(()),
+        }
+    }
+
+    /// The lines of the settings, in order.
+    #[tactic(auto, using(crate::proofs::CallLaws::lines_begin, crate::proofs::CallLaws::lines_next, crate::proofs::CallLaws::lines_broke, crate::proofs::CallLaws::lines_all, crate::proofs::KeepLaws::keeps_itself, crate::proofs::KeepLaws::keeps_on))]
+    pub fn carry_lines<H: Hosts<C>, K: Sink, L: Link>(
+        &mut self,
+        alloc: Global,
+        lines: &[Line],
+        hosts: &mut H,
+        out: &mut K,
+        link: &mut L,
+    ) -> Result<(), Stop>
+        requires { self.old.me ≤ 32 }
+        ensures done { OnOk result (CallsAs self.old self.new (own_calls self.old.me lines.now)
+            (L.calls link.old) (L.calls link.new) (K.held out.old) (K.held out.new)) }
+        ensures broke { OnErr result (CallsBreak self.old (own_calls self.old.me lines.now)
+            (L.calls link.old) (L.calls link.new) (K.held out.old) (K.held out.new)) }
+        ensures same { IsSame self.old self.new }
+        ensures keeps { KeepsLink (L.places link.old) (L.places link.new) (L.opened link.old)
+            (L.opened link.new) (L.faults link.old) (L.faults link.new) }
+        ensures later { K.faults out.old ≤ K.faults out.new }
+        ensures fault { result ≡ Err Stop.WriteFault → Rose (K.faults out.old) (K.faults out.new) }
+    {
+        for line in lines {
+            self.carry_line(alloc, line, hosts, out, link)?;
+        }
+        Ok(())
+    }
+}

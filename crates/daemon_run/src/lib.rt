@@ -1,0 +1,13 @@
+//! A daemon at work: one node over a link, a sink and a clock, turn by turn.
+#![tactic(auto)]
+
+mod calls;
+mod places;
+mod running;
+mod sending;
+mod serving;
+mod turns;
+mod writing;
+
+pub use calls::{Hosts, Objects};
+pub use serving::{Served, Serving, serve};

@@ -1,0 +1,122 @@
+//! What a daemon sends: packets, in pieces.
+ghost use Rattle.std.specs.Prelude.{◌≡◌, ◌≤◌, ◌∷◌, [], map, OnOk, OnErr, IfOk};
+ghost use Rattle.hags_io.specs.Links.{Same};
+ghost use Rattle.node_state.specs.Bytes.{bytes_of};
+ghost use Rattle.daemon_model.specs.Sent.{piece_call, packet_calls, number_past, sent_calls, number_after, Went, WentFront};
+ghost use Rattle.daemon_run.specs.Keeping.{KeepsLink};
+
+use hags_io::{Link, Put};
+use node_state::Packet;
+use packet_codec::{is_writable, write_packet};
+use piece_link::cut;
+use rsct_packet::NoMemory;
+use std::alloc::Global;
+
+/// Sends a piece of a packet. One that the link fails to send is lost.
+#[tactic(auto, using(crate::proofs::WentLaws::went_one, crate::proofs::KeepLaws::keeps_link))]
+fn send_piece<L: Link>(link: &mut L, packet: &Packet, piece: &[u8]) -> Result<(), NoMemory>
+    ensures done { OnOk result (Went (L.calls link.old) (L.calls link.new)
+        (piece_call packet.now piece.now ∷ [])) }
+    ensures broke { OnErr result (Same (L.calls link.old) (L.calls link.new)) }
+    ensures keeps { KeepsLink (L.places link.old) (L.places link.new) (L.opened link.old)
+        (L.opened link.new) (L.faults link.old) (L.faults link.new) }
+{
+    match link.send(packet.to, packet.network, piece) {
+        Put::Done => Ok(()),
+        Put::Failed => Ok(()),
+        Put::NoMemory => Err(NoMemory),
+    }
+}
+
+/// Sends pieces of a packet, in this order.
+#[tactic(auto, using(crate::proofs::WentLaws::to_begin, crate::proofs::WentLaws::piece_next, crate::proofs::WentLaws::piece_front, crate::proofs::WentLaws::pieces_done, crate::proofs::KeepLaws::keeps_itself, crate::proofs::KeepLaws::keeps_on))]
+fn send_pieces<L: Link>(link: &mut L, packet: &Packet, pieces: &[Vec<u8>]) -> Result<(), NoMemory>
+    ensures done { OnOk result (Went (L.calls link.old) (L.calls link.new)
+        (map (piece_call packet.now) (map (λ d. d.items) pieces.now))) }
+    ensures broke { OnErr result (WentFront (L.calls link.old) (L.calls link.new)
+        (map (piece_call packet.now) (map (λ d. d.items) pieces.now))) }
+    ensures keeps { KeepsLink (L.places link.old) (L.places link.new) (L.opened link.old)
+        (L.opened link.new) (L.faults link.old) (L.faults link.new) }
+{
+    for piece in pieces {
+        send_piece(link, packet, piece.as_slice())?;
+    }
+    Ok(())
+}
+
+/// The bytes of a packet. One that has no spelling, since its numbers, lists or texts pass what its fields can hold,
+/// counts as want of memory: no packet of a node is so, but that is not proved.
+fn bytes_of(alloc: Global, packet: &Packet) -> Result<Vec<u8>, NoMemory>
+    ensures { IfOk result (λ bytes. bytes.items ≡ bytes_of packet.now) }
+{
+    if !is_writable(packet) {
+        return Err(NoMemory);
+    }
+    let mut bytes = Vec::new(alloc);
+    write_packet(alloc, &mut bytes, packet)?;
+    Ok(bytes)
+}
+
+/// Sends a packet as the message of this number, which is raised. One that is too long to cut is lost, and takes no
+/// number. A number past the last one counts as want of memory.
+#[tactic(auto, using(crate::proofs::WentLaws::none_went, crate::proofs::WentLaws::packet_lost, crate::proofs::WentLaws::number_lost, crate::proofs::WentLaws::packet_sent, crate::proofs::WentLaws::number_sent, crate::proofs::WentLaws::packet_front, crate::proofs::KeepLaws::keeps_itself))]
+pub fn send_packet<L: Link>(
+    alloc: Global,
+    me: u8,
+    incarnation: u32,
+    number: &mut u64,
+    packet: &Packet,
+    link: &mut L,
+) -> Result<(), NoMemory>
+    requires { me ≤ 32 }
+    ensures done { OnOk result (Went (L.calls link.old) (L.calls link.new)
+        (packet_calls me incarnation number.old packet.now)) }
+    ensures number { OnOk result (number.new ≡ number_past number.old packet.now) }
+    ensures broke { OnErr result (WentFront (L.calls link.old) (L.calls link.new)
+        (packet_calls me incarnation number.old packet.now)) }
+    ensures keeps { KeepsLink (L.places link.old) (L.places link.new) (L.opened link.old)
+        (L.opened link.new) (L.faults link.old) (L.faults link.new) }
+{
+    let Some(next) = number.checked_add(1) else {
+        return Err(NoMemory);
+    };
+    let bytes = bytes_of(alloc, packet)?;
+    let mut pieces = Vec::new(alloc);
+    if !cut(
+        alloc,
+        me,
+        incarnation,
+        *number,
+        bytes.as_slice(),
+        &mut pieces,
+    )? {
+        return Ok(());
+    }
+    *number = next;
+    send_pieces(link, packet, pieces.as_slice())
+}
+
+/// Sends packets, in this order, each as the next message.
+#[tactic(auto, using(crate::proofs::WentLaws::packets_begin, crate::proofs::WentLaws::packets_next, crate::proofs::WentLaws::packets_front, crate::proofs::WentLaws::packets_done, crate::proofs::WentLaws::packets_number, crate::proofs::KeepLaws::keeps_itself, crate::proofs::KeepLaws::keeps_on))]
+pub fn send_packets<L: Link>(
+    alloc: Global,
+    me: u8,
+    incarnation: u32,
+    number: &mut u64,
+    packets: &[Packet],
+    link: &mut L,
+) -> Result<(), NoMemory>
+    requires { me ≤ 32 }
+    ensures done { OnOk result (Went (L.calls link.old) (L.calls link.new)
+        (sent_calls me incarnation number.old packets.now)) }
+    ensures number { OnOk result (number.new ≡ number_after number.old packets.now) }
+    ensures broke { OnErr result (WentFront (L.calls link.old) (L.calls link.new)
+        (sent_calls me incarnation number.old packets.now)) }
+    ensures keeps { KeepsLink (L.places link.old) (L.places link.new) (L.opened link.old)
+        (L.opened link.new) (L.faults link.old) (L.faults link.new) }
+{
+    for packet in packets {
+        send_packet(alloc, me, incarnation, number, packet, link)?;
+    }
+    Ok(())
+}
