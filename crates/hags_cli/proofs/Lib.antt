@@ -1,3 +1,5 @@
 pub mod InputLaws
 pub mod LongInputs
 pub mod RunLaws
+pub mod TaskLaws
+pub mod LoadLaws

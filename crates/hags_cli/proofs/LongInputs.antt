@@ -2,11 +2,13 @@
 use Rattle.std.proofs.Common.{◌≡◌, ℕ, ◌+◌, ◌<◌, ◌≤◌, ◌==◌, nat_lt, Bool, true, false, List, [], ◌∷◌, ◌++◌, length, refl, sym, ◌∙◌, ap, arith, append_assoc, append-nil, length-append}
 use Rattle.std.proofs.lemmas.Bool.Decides.{nat_tests}
 use Rattle.rsct_packet.specs.Lists.{is_empty}
+use Rattle.world_model.specs.declared.script.Aim.{Aim}
+use Rattle.world_model.specs.declared.script.Aim.TheVariants.{Plays}
 use Rattle.world_model.specs.declared.script.LineWhy.{LineWhy}
 use Rattle.world_model.specs.declared.script.LineWhy.TheVariants.{Long}
 use Rattle.world_model.specs.declared.script.Script.{Script}
 use Rattle.world_model.specs.Words.{split_on, push_head}
-use Rattle.world_model.specs.Reading.{Reading, Read, Good, Bad, ScriptRead, IsScript, IsNone, read_line, nothing_read, input_limit, read_from, script_of}
+use Rattle.world_model.specs.Reading.{Reading, Read, Good, Bad, ScriptRead, IsScript, IsNone, read_line, nothing_read, input_limit, read_from, read_for, script_of}
 use Rattle.script_words.proofs.SplitLaws.{some_piece}
 use Rattle.script_reader.specs.declared.faults.LineFault.TheVariants as line_fault
 use Rattle.script_reader.proofs.ScriptLaws.{line_long, line_taken, line_fails, last_long}
@@ -92,25 +94,33 @@ front_read (x ∷ xs) g pre r n i h k =
     (λ q w. let there : input_limit < i + length pre + 1 + 0 + length xs = omega arith in front_read xs g [] q (n + 1) (i + length pre + 1) w there)
     (front_read xs g (pre ++ x ∷ []) r n i h here)
 
-long_bad : (f g : List ℕ) → input_limit < length f → AreBad (script_of (f ++ g)) (script_of f)
-unfolding script_of
-long_bad f g h =
+long_bad : (aim : Aim) (f g : List ℕ) → input_limit < length f → AreBad (read_for aim (f ++ g)) (read_for aim f)
+unfolding read_for
+long_bad aim f g h =
     let past : input_limit < 0 + 0 + length f = omega arith in
-    bad_along _ _ _ _ (ap (λ l. read_from nothing_read 1 0 l) (sym (begun_nil (split_on 10 (f ++ g)) (some_piece 10 (f ++ g))))) (ap (λ l. read_from nothing_read 1 0 l) (sym (begun_nil (split_on 10 f) (some_piece 10 f))))
-    (front_read f g [] nothing_read 1 0 (omega arith) past)
+    bad_along _ _ _ _ (ap (λ l. read_from (nothing_read aim) 1 0 l) (sym (begun_nil (split_on 10 (f ++ g)) (some_piece 10 (f ++ g))))) (ap (λ l. read_from (nothing_read aim) 1 0 l) (sym (begun_nil (split_on 10 f) (some_piece 10 f))))
+    (front_read f g [] (nothing_read aim) 1 0 (omega arith) past)
 
--- an input longer than its limit is read as any front of it that is
+-- an input longer than its limit is read as any front of it that is, for whatever it is read
+pub long_reads_for : (aim : Aim) (f g : List ℕ) → input_limit < length f → read_for aim (f ++ g) ≡ read_for aim f
+long_reads_for aim f g h = let bad = long_bad aim f g h in bad.first ∙ sym bad.second
+
 pub long_reads : (f g : List ℕ) → input_limit < length f → script_of (f ++ g) ≡ script_of f
-long_reads f g h = let bad = long_bad f g h in bad.first ∙ sym bad.second
+unfolding script_of
+long_reads f g h = long_reads_for Plays f g h
 
-within_or_bad : (t : Bool) (f : List ℕ) (s : Script) → nat_lt input_limit (length f) ≡ t → script_of f ≡ IsScript s → length f ≤ input_limit
-within_or_bad true f s t e =
+within_or_bad : (t : Bool) (aim : Aim) (f : List ℕ) (s : Script) → nat_lt input_limit (length f) ≡ t → read_for aim f ≡ IsScript s → length f ≤ input_limit
+within_or_bad true aim f s t e =
     let past : input_limit < length f = grind (arith, nat_tests, t) in
-    let bad = long_bad f [] past in
+    let bad = long_bad aim f [] past in
     let none : IsNone bad.line bad.why ≡ IsScript s = sym bad.second ∙ e in
     absurd cc
-within_or_bad false f s t e = grind (arith, nat_tests, t)
+within_or_bad false aim f s t e = grind (arith, nat_tests, t)
 
--- a script is within the limit
+-- a script is within the limit, for whatever it is read
+pub script_within_for : (aim : Aim) (f : List ℕ) (s : Script) → read_for aim f ≡ IsScript s → length f ≤ input_limit
+script_within_for aim f s e = within_or_bad (nat_lt input_limit (length f)) aim f s refl e
+
 pub script_within : (f : List ℕ) (s : Script) → script_of f ≡ IsScript s → length f ≤ input_limit
-script_within f s e = within_or_bad (nat_lt input_limit (length f)) f s refl e
+unfolding script_of
+script_within f s e = script_within_for Plays f s e

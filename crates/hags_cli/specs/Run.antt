@@ -1,50 +1,50 @@
--- How an input is read, and what a run leaves.
-use Rattle.std.specs.Prelude.{◌≡◌, ℕ, Bool, false, ◌==◌, ◌&&◌, List, [], ◌∷◌, length, codes, Option, Some, None, ◌⊎◌, slice_get, IfSome, ◌++◌, if◌then◌else◌}
-use Rattle.std.specs.Str.{bytes_eq}
+-- How an input is read, what a run leaves, and what is said of how it ended.
+use Rattle.std.specs.Prelude.{◌≡◌, ℕ, ◌==◌, List, [], ◌∷◌, codes, Option, Some, None, ◌⊎◌, IfSome, ◌++◌, if◌then◌else◌}
 use Rattle.std.specs.Io.KnownBytes.{Appends, Keeps}
-use Rattle.hags_io.specs.Edges.{GrowsByFront}
+use Rattle.hags_io.specs.Edges.{GrowsByFront, Rose}
+use Rattle.node_state.specs.declared.happened.Happened.{Happened}
 use Rattle.world_model.specs.declared.script.LineWhy.{LineWhy}
 use Rattle.world_model.specs.declared.script.Script.{Script}
 use Rattle.world_model.specs.Reading.{IsScript, IsNone, script_of}
-use Rattle.world_model.specs.Play.{script_records, lines_text, written}
+use Rattle.world_model.specs.Play.{script_records, written}
 use Rattle.world_model.specs.Kept.{kept_past, kept_records, most_kept}
 use Rattle.net_script.specs.PlaySafe.{ScriptIsSafe, KeptRunIsSafe}
-use Rattle.hags_cli.specs.declared.run_command.Ending.{Ending}
-use Rattle.hags_cli.specs.declared.run_command.Ending.TheVariants as ending
+use Rattle.hags_cli.specs.declared.ending.Ending.{Ending}
+use Rattle.hags_cli.specs.declared.ending.Ending.TheVariants as ending
 
 -- an input is read as this front of it is
 abbrev pub ReadsAs : List ℕ → List ℕ → Type 0
 ReadsAs front b = script_of b ≡ script_of front
 
--- the input is a script, its packets are within the limit, and the text of its records was written, which are those of a safe run
-pub record PlaysAll (old new : Option (List ℕ)) (b : List ℕ) : Type 0 where
+-- the input is a script, its packets are within the limit, and what is shown of its records was written, which are those
+-- of a safe run
+pub record PlaysAll (shown : List Happened → List ℕ) (old new : Option (List ℕ)) (b : List ℕ) : Type 0 where
   pub script : Script
   pub spelled : script_of b ≡ IsScript script
   pub within : kept_past most_kept script ≡ None
-  pub written : Appends old new (lines_text [] (script_records script))
+  pub written : Appends old new (shown (script_records script))
   pub safe : ScriptIsSafe script
 
--- the input is a script, its packets pass the limit, and the text of what is recorded before that was written: the
--- records of a safe run
-pub record PlaysPast (old new : Option (List ℕ)) (b : List ℕ) : Type 0 where
+-- the input is a script, its packets pass the limit, and what is shown of the records before that was written: those of
+-- a safe run
+pub record PlaysPast (shown : List Happened → List ℕ) (old new : Option (List ℕ)) (b : List ℕ) : Type 0 where
   pub script : Script
   pub spelled : script_of b ≡ IsScript script
   pub sum : ℕ
   pub past : kept_past most_kept script ≡ Some sum
-  pub written : Appends old new (lines_text [] (kept_records most_kept script))
+  pub written : Appends old new (shown (kept_records most_kept script))
   pub safe : KeptRunIsSafe most_kept script
 
--- the input is a script, and a front of the text of what it records within the limit was written: the records of a
--- safe run
-pub record PlaysFront (old new : Option (List ℕ)) (b : List ℕ) : Type 0 where
+-- the input is a script, and a front of what is shown of its records within the limit was written: those of a safe run
+pub record PlaysFront (shown : List Happened → List ℕ) (old new : Option (List ℕ)) (b : List ℕ) : Type 0 where
   pub script : Script
   pub spelled : script_of b ≡ IsScript script
-  pub written : GrowsByFront old new (lines_text [] (kept_records most_kept script))
+  pub written : GrowsByFront old new (shown (kept_records most_kept script))
   pub safe : KeptRunIsSafe most_kept script
 
 -- nothing was written, or the input is a script and a front of its text was
-abbrev pub MayHavePlayed : Option (List ℕ) → Option (List ℕ) → List ℕ → Type 0
-MayHavePlayed old new b = Keeps old new ⊎ PlaysFront old new b
+abbrev pub MayHavePlayed : (List Happened → List ℕ) → Option (List ℕ) → Option (List ℕ) → List ℕ → Type 0
+MayHavePlayed shown old new b = Keeps old new ⊎ PlaysFront shown old new b
 
 -- the input has a line that is in no script
 pub record IsOutside (b : List ℕ) : Type 0 where
@@ -52,12 +52,16 @@ pub record IsOutside (b : List ℕ) : Type 0 where
   pub why : LineWhy
   pub fault : script_of b ≡ IsNone line why
 
--- a front of the line that names the first bad line, that of the input where the source tells it, was said
-pub record SaysLine (left old new : Option (List ℕ)) : Type 0 where
+-- the whole text was said; or nothing, where there was no memory for it; or a front of it, where the sink failed
+abbrev pub Says : ℕ → ℕ → Option (List ℕ) → Option (List ℕ) → List ℕ → Type 0
+Says faults later old new text = Appends old new text ⊎ (Keeps old new ⊎ (Rose faults later × GrowsByFront old new text))
+
+-- so was the line that names the first bad line, that of the input where the source tells it
+pub record SaysLine (left : Option (List ℕ)) (faults later : ℕ) (old new : Option (List ℕ)) : Type 0 where
   pub line : ℕ
   pub why : LineWhy
   pub fault : IfSome left (λ b. script_of b ≡ IsNone line why)
-  pub said : GrowsByFront old new (written [] (IsNone line why))
+  pub said : Says faults later old new (written [] (IsNone line why))
 
 -- the source tells what is left, and it is a script
 abbrev pub SpellsScript : Option (List ℕ) → Type 0
@@ -95,11 +99,3 @@ said_of status =
 abbrev pub ending_text : Ending → List ℕ
 ending_text (ending.BadLine n why) = written [] (IsNone n why)
 ending_text e = said_of (status_of e)
-
-abbrev pub equals : List ℕ → Option (List ℕ) → Bool
-equals w None = false
-equals w (Some x) = bytes_eq x w
-
--- just the one word `run`
-abbrev pub is_run : List (List ℕ) → Bool
-is_run ws = (length ws == 1) && equals (codes "run") (slice_get ws 0)

@@ -3,8 +3,10 @@ ghost use Rattle.std.specs.Prelude.{◌≡◌, ◌≢◌, IfSome};
 ghost use Rattle.std.specs.Io.KnownBytes.{IsAtEnd, Keeps};
 ghost use Rattle.hags_io.specs.Edges.{Rose};
 ghost use Rattle.world_model.specs.Reading.{script_of, IsNone};
+ghost use Rattle.transcript.specs.Kinds.{kinds_text};
 ghost use Rattle.hags_cli.specs.Run.{PlaysAll, PlaysPast, PlaysFront, MayHavePlayed, OnBadLine};
 
+use crate::ending::Ending;
 use crate::input::{InputFault, read_input};
 use hags_io::{Sink, Source};
 use net_script::play;
@@ -12,38 +14,27 @@ use play_state::PlayFault;
 use script_reader::{ScriptFault, read_script};
 use std::alloc::Global;
 use transcript::Kinds;
-use world_model::LineWhy;
 
-/// How many bytes the packets of one run may have.
+/// How many bytes the packets of one run may have, and those of one load.
 pub const MOST_KEPT: u64 = 536_870_912;
 
-/// How a call ended. `BadLine` has the number of the first line that is in no script, and the first reason.
-#[derive(Clone, Copy, Debug, PartialEq, Eq)]
-pub enum Ending {
-    Done,
-    Usage,
-    BadLine(u32, LineWhy),
-    NoMemory,
-    ReadFault,
-    WriteFault,
-    TooMuchKept,
-}
-
-/// Reads a script to its end, plays it, and writes its records as they come.
+/// Reads a script to its end, plays it, and writes its records of these kinds as they come.
 #[tactic(auto, using(crate::proofs::RunLaws::plays_all, crate::proofs::RunLaws::plays_past, crate::proofs::RunLaws::plays_front, crate::proofs::RunLaws::has_bad_line, crate::proofs::RunLaws::may_have_played, crate::proofs::RunLaws::nothing_played, crate::proofs::RunLaws::at_end))]
-pub fn run<S: Source, K: Sink>(alloc: Global, input: &mut S, out: &mut K) -> Ending
+pub fn run<S: Source, K: Sink>(alloc: Global, kinds: Kinds, input: &mut S, out: &mut K) -> Ending
     ensures done { result ≡ Ending.Done → IfSome (S.left input.old)
-        (PlaysAll (K.held out.old) (K.held out.new)) × IsAtEnd (S.left input.new) }
+        (PlaysAll (kinds_text kinds) (K.held out.old) (K.held out.new))
+        × IsAtEnd (S.left input.new) }
     ensures outside { OnBadLine result (λ n why. IfSome (S.left input.old)
         (λ b. script_of b ≡ IsNone n why) × Keeps (K.held out.old) (K.held out.new)) }
     ensures memory { result ≡ Ending.NoMemory → IfSome (S.left input.old)
-        (MayHavePlayed (K.held out.old) (K.held out.new)) }
+        (MayHavePlayed (kinds_text kinds) (K.held out.old) (K.held out.new)) }
     ensures read { result ≡ Ending.ReadFault → Rose (S.faults input.old) (S.faults input.new)
         × Keeps (K.held out.old) (K.held out.new) }
     ensures write { result ≡ Ending.WriteFault → Rose (K.faults out.old) (K.faults out.new)
-        × IfSome (S.left input.old) (PlaysFront (K.held out.old) (K.held out.new)) }
+        × IfSome (S.left input.old)
+        (PlaysFront (kinds_text kinds) (K.held out.old) (K.held out.new)) }
     ensures past { result ≡ Ending.TooMuchKept → IfSome (S.left input.old)
-        (PlaysPast (K.held out.old) (K.held out.new)) }
+        (PlaysPast (kinds_text kinds) (K.held out.old) (K.held out.new)) }
     ensures command { result ≢ Ending.Usage }
 {
     let front = match read_input(alloc, input) {
@@ -56,7 +47,7 @@ pub fn run<S: Source, K: Sink>(alloc: Global, input: &mut S, out: &mut K) -> End
         Err(ScriptFault::Line(number, why)) => return Ending::BadLine(number, why),
         Err(ScriptFault::NoMemory) => return Ending::NoMemory,
     };
-    match play(alloc, &script, Kinds::all(), MOST_KEPT, out) {
+    match play(alloc, &script, kinds, MOST_KEPT, out) {
         Ok(()) => Ending::Done,
         Err(PlayFault::Kept(_)) => Ending::TooMuchKept,
         Err(PlayFault::WriteFault) => Ending::WriteFault,

@@ -11,10 +11,13 @@ const ALL: &[u8] = b"\
 hags: group membership for clusters, proved
 
 usage: hags run [--kinds LIST]
+       hags load N
 
 commands:
   run    plays the script on standard input, and writes the transcript of all
          that its daemons did
+  load   plays a script that it generates, of N steps at eight nodes, and writes
+         how many views, entries and refusals came of it
 
 An example: one node, and one client that joins a group.
 
@@ -74,6 +77,40 @@ pages: docs/examples.md, scripts line by line; docs/messages.md, what each
 message means; README.md
 ";
 
+const LOAD: &[u8] = b"\
+hags load: plays a script that it generates, and writes a summary
+
+usage: hags load N
+
+It reads nothing. Eight nodes come into one view, and a client of each joins a
+group. Then come N steps, N from 1 to 2,000, each at a node that a fixed
+sequence of numbers picks: mostly a message, and else a vote on a state, a node
+that stops and comes back, or a partition that is healed. The same N always
+gives the same.
+
+An example:
+
+  hags load 1
+
+It writes how many steps there were, how many times a node entered a view, put
+an entry into its list, handed one to a client and told one of a refusal:
+
+  load 1
+  views 32
+  puts 86
+  heard 58
+  told 1
+
+status:
+  0  the summary was written
+  1  the words are faulty
+  3  no memory
+  5  write fault
+  7  the packets of the run passed 536,870,912 bytes; nothing was written
+
+pages: docs/command-line.md; README.md
+";
+
 /// What `--help` says of all commands, or of one, to the byte; `None` exactly where that command is not built yet.
 pub fn help_text(about: Option<CommandName>) -> Option<&'static [u8]>
     ensures { bytes_of result ≡ help_of about }
@@ -81,6 +118,7 @@ pub fn help_text(about: Option<CommandName>) -> Option<&'static [u8]>
     match about {
         None => Some(ALL),
         Some(CommandName::Run) => Some(RUN),
-        Some(_) => None,
+        Some(CommandName::Load) => Some(LOAD),
+        Some(CommandName::Daemon | CommandName::Status) => None,
     }
 }

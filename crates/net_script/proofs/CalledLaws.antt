@@ -1,4 +1,5 @@
--- What a call leaves before the end of its step: it hands nothing to a client, and within a session the sessions stay.
+-- What a call leaves before the end of its step: it hands nothing to a client but the ballot that a `vote` gives, and
+-- within a session the sessions stay.
 use Rattle.std.proofs.Common.{◌≡◌, ℕ, Bool, true, false, List, [], ◌∷◌, Option, Some, None, Result, Ok, Err, IsTrue, refl, sym, ap, ◌∙◌}
 use Rattle.std.specs.Prelude.{find, fold, if◌then◌else◌}
 use Rattle.std.specs.List.{last_or}
@@ -24,17 +25,21 @@ use Rattle.node_state.specs.declared.call.CallLine.TheVariants as call
 use Rattle.node_state.specs.declared.happened.Happened.TheVariants as happened
 use Rattle.node_state.specs.declared.packet.Body.{Body}
 use Rattle.node_state.specs.declared.state.Core.{Core}
-use Rattle.node_state.specs.State.{frozen, leader_of, with_sessions, recorded}
+use Rattle.proposal_core.specs.declared.group_state.GroupState.{GroupState}
+use Rattle.node_state.specs.declared.happened.Happened.{Happened}
+use Rattle.node_state.specs.State.{frozen, leader_of, with_sessions, recorded, recorded_all}
 use Rattle.node_state.specs.Sending.{send_if_known, send_request_to, send_request, send_kept_to, send_kept}
 use Rattle.node_state.specs.Calls.{caller, refuse_call, changed, ask_last, proposed, record_ballot, ballot_sent_if, cast_last, give_ballot, send_gone, send_all_gone, goodbye_said, take_call}
 use Rattle.node_state.specs.Step.{NodeEvent, Ticks, Asks, Given, Calls, at_work}
 use Rattle.node_state.specs.Step as step
-use Rattle.node_state.specs.Handed.{handed_in, Along}
-use Rattle.node_state.proofs.AlongLaws.{along_same, along_itself, along_then}
+use Rattle.node_state.specs.Handed.{handed_in, Along, logged_in}
+use Rattle.node_state.proofs.AlongLaws.{along_records, along_same, along_itself, along_then}
+use Rattle.entry_delivery.proofs.DoingLaws.{unlogged}
 use Rattle.node_groups.specs.Keeps.{Keeps}
 use Rattle.node_groups.proofs.KeepLaws.{keeps_itself, record_keeps, sent_keeps}
 use Rattle.node_calls.specs.Calling.{is_within_session}
 use Rattle.node_core.specs.Event.{called}
+use Rattle.net_script.specs.Hands.{given_by}
 
 -- the same sessions, nothing more is handed, and the states of groups are as the records tell
 pub record Quiet (s t : Core) : Type 0 where
@@ -47,6 +52,17 @@ quiet s t k = record { lives = k.sessions.0; unhanded = k.handed; along = k.alon
 
 quiet_then : (s t u : Core) → Quiet s t → Quiet t u → Quiet s u
 quiet_then s t u a b = record { lives = b.lives ∙ a.lives; unhanded = b.unhanded ∙ a.unhanded; along = along_then s t u a.along b.along }
+
+-- the same sessions, and the states of groups are as the records tell
+pub record Still (s t : Core) : Type 0 where
+  pub lives : t.sessions.sessions ≡ s.sessions.sessions
+  pub along : Along s t
+
+still : (s t : Core) → Quiet s t → Still s t
+still s t q = record { lives = q.lives; along = q.along }
+
+still_then : (s t u : Core) → Still s t → Still t u → Still s u
+still_then s t u a b = record { lives = b.lives ∙ a.lives; along = along_then s t u a.along b.along }
 
 quiet_with : (s : Core) (u : SessionState) → u.sessions ≡ s.sessions.sessions → Quiet s (with_sessions s u)
 unfolding with_sessions
@@ -107,20 +123,23 @@ asked_quiet s (Some q) =
     let t : Core = recorded s (happened.Asked q.p q.r q.group q.proposal) in
     quiet_then s t (ask_last s (Some q)) (quiet s t (record_keeps s (happened.Asked q.p q.r q.group q.proposal) refl (λ g st. refl))) (request_quiet t q)
 
-cast_quiet : (s : Core) (k : KeptBallot) (b : Option Filled) → Quiet s (record_ballot s k b)
-unfolding record_ballot
-cast_quiet s k None = quiet s s (keeps_itself s)
-cast_quiet s k (Some b) = quiet s (record_ballot s k (Some b)) (record_keeps s (happened.Cast k.p k.proto k.phase b.vote b.value b.message) refl (λ g st. refl))
+-- a ballot that is given is recorded as one that is filled
+
+cast_still : (s : Core) (k : KeptBallot) (b : Option Filled) → Still s (record_ballot s k b)
+unfolding record_ballot recorded recorded_all
+cast_still s k None = still s s (quiet s s (keeps_itself s))
+cast_still s k (Some b) = record { lives = refl; along = along_records s (record_ballot s k (Some b)) (happened.Cast k.p k.proto k.phase b.vote b.value b.message ∷ []) refl refl (λ g st. refl) }
 
 ballot_quiet : (s : Core) (k : KeptBallot) (b : Bool) → Quiet s (ballot_sent_if s k b)
 unfolding ballot_sent_if
 ballot_quiet s k true = quiet s s (keeps_itself s)
 ballot_quiet s k false = kept_quiet s k
 
-last_cast_quiet : (s : Core) (o : Option KeptBallot) → Quiet s (cast_last s o)
+last_cast_still : (s : Core) (o : Option KeptBallot) → Still s (cast_last s o)
 unfolding cast_last
-last_cast_quiet s None = quiet s s (keeps_itself s)
-last_cast_quiet s (Some k) = quiet_then s (record_ballot s k k.ballot.filled) (cast_last s (Some k)) (cast_quiet s k k.ballot.filled) (ballot_quiet (record_ballot s k k.ballot.filled) k (frozen s))
+last_cast_still s None = still s s (quiet s s (keeps_itself s))
+last_cast_still s (Some k) =
+    let t : Core = record_ballot s k k.ballot.filled in still_then s t (cast_last s (Some k)) (cast_still s k k.ballot.filled) (still t (cast_last s (Some k)) (ballot_quiet t k (frozen s)))
 
 -- ---- calls whose sessions stay
 
@@ -138,11 +157,11 @@ proposed_quiet s client (Ok u) same =
     quiet_then s (with_sessions s u) (proposed s client (Ok u)) (quiet_with s u (same u refl)) (asked_quiet (with_sessions s u) (last_or None u.requests))
 proposed_quiet s client (Err f) same = quiet_refused s client f
 
-given_quiet : (s : Core) (client : List ℕ) (r : Result SessionState GsFault) → Same s.sessions r → Quiet s (give_ballot s client r)
+given_still : (s : Core) (client : List ℕ) (r : Result SessionState GsFault) → Same s.sessions r → Still s (give_ballot s client r)
 unfolding give_ballot
-given_quiet s client (Ok u) same =
-    quiet_then s (with_sessions s u) (give_ballot s client (Ok u)) (quiet_with s u (same u refl)) (last_cast_quiet (with_sessions s u) (last_or None u.kept))
-given_quiet s client (Err f) same = quiet_refused s client f
+given_still s client (Ok u) same =
+    still_then s (with_sessions s u) (give_ballot s client (Ok u)) (still s (with_sessions s u) (quiet_with s u (same u refl))) (last_cast_still (with_sessions s u) (last_or None u.kept))
+given_still s client (Err f) same = still s (refuse_call s client f) (quiet_refused s client f)
 
 module _ (s : SessionState) where
   unless_same : (o : Option GsFault) (t : SessionState) → t.sessions ≡ s.sessions → Same s (unless_fault o t)
@@ -187,21 +206,43 @@ module _ (s : SessionState) where
 
 -- ---- the calls
 
-within_quiet : (s : Core) (c : CallLine) → IsTrue (is_within_session c) → Quiet s (take_call s c)
-unfolding take_call joined left expelled state_changed message_sent subscribe_taken unsubscribe_taken join_asked
-within_quiet s (call.Init node name votes) h = absurd cc
-within_quiet s (call.Join client g instance attrs) h = proposed_quiet s client _ (unless_same s.sessions (join_fault s.sessions (client_token s.sessions client) g attrs) (join_asked s.sessions (client_token s.sessions client) g instance attrs) refl)
-within_quiet s (call.Leave client g phases) h = proposed_quiet s client _ (made_same s.sessions (caller s.sessions client g) phases _ _)
-within_quiet s (call.Expel client g phases out) h = proposed_quiet s client _ (made_same s.sessions (caller s.sessions client g) phases _ _)
-within_quiet s (call.ChangeState client g phases value) h = proposed_quiet s client _ (made_same s.sessions (caller s.sessions client g) phases _ _)
-within_quiet s (call.SendMessage client g phases bytes) h = proposed_quiet s client _ (made_same s.sessions (caller s.sessions client g) phases _ _)
-within_quiet s (call.ChangeAttributes client g phases attrs) h = proposed_quiet s client _ (attributes_same s.sessions (caller s.sessions client g) phases attrs)
-within_quiet s (call.Vote client g v value) h = given_quiet s client _ (votes_same s.sessions (caller s.sessions client g) v value)
-within_quiet s (call.Subscribe client g) h = changed_quiet s client _ (unless_same s.sessions _ _ refl)
-within_quiet s (call.Unsubscribe client g) h = changed_quiet s client _ (unless_same s.sessions _ _ refl)
-within_quiet s (call.Goodbye client) h = absurd cc
+-- it gives no ballot
+abbrev is_silent : CallLine → Bool
+is_silent (call.Vote client g vote value) = false
+is_silent _ = true
 
--- nothing more is handed, and the states of groups are as the records tell
+within_quiet : (s : Core) (c : CallLine) → IsTrue (is_within_session c) → IsTrue (is_silent c) → Quiet s (take_call s c)
+unfolding take_call joined left expelled state_changed message_sent subscribe_taken unsubscribe_taken join_asked
+within_quiet s (call.Init node name votes) h n = absurd cc
+within_quiet s (call.Join client g instance attrs) h n = proposed_quiet s client _ (unless_same s.sessions (join_fault s.sessions (client_token s.sessions client) g attrs) (join_asked s.sessions (client_token s.sessions client) g instance attrs) refl)
+within_quiet s (call.Leave client g phases) h n = proposed_quiet s client _ (made_same s.sessions (caller s.sessions client g) phases _ _)
+within_quiet s (call.Expel client g phases out) h n = proposed_quiet s client _ (made_same s.sessions (caller s.sessions client g) phases _ _)
+within_quiet s (call.ChangeState client g phases value) h n = proposed_quiet s client _ (made_same s.sessions (caller s.sessions client g) phases _ _)
+within_quiet s (call.SendMessage client g phases bytes) h n = proposed_quiet s client _ (made_same s.sessions (caller s.sessions client g) phases _ _)
+within_quiet s (call.ChangeAttributes client g phases attrs) h n = proposed_quiet s client _ (attributes_same s.sessions (caller s.sessions client g) phases attrs)
+within_quiet s (call.Vote client g v value) h n = absurd cc
+within_quiet s (call.Subscribe client g) h n = changed_quiet s client _ (unless_same s.sessions _ _ refl)
+within_quiet s (call.Unsubscribe client g) h n = changed_quiet s client _ (unless_same s.sessions _ _ refl)
+within_quiet s (call.Goodbye client) h n = absurd cc
+
+vote_still : (s : Core) (client g : List ℕ) (v : Vote) (value : Option (List ℕ)) → Still s (take_call s (call.Vote client g v value))
+unfolding take_call
+vote_still s client g v value = given_still s client _ (votes_same s.sessions (caller s.sessions client g) v value)
+
+within_still : (s : Core) (c : CallLine) → IsTrue (is_within_session c) → Still s (take_call s c)
+within_still s (call.Vote client g v value) h = vote_still s client g v value
+within_still s (call.Init node name votes) h = absurd cc
+within_still s (call.Goodbye client) h = absurd cc
+within_still s (call.Join client g instance attrs) h = still s _ (within_quiet s (call.Join client g instance attrs) refl refl)
+within_still s (call.Leave client g phases) h = still s _ (within_quiet s (call.Leave client g phases) refl refl)
+within_still s (call.Expel client g phases out) h = still s _ (within_quiet s (call.Expel client g phases out) refl refl)
+within_still s (call.ChangeState client g phases value) h = still s _ (within_quiet s (call.ChangeState client g phases value) refl refl)
+within_still s (call.SendMessage client g phases bytes) h = still s _ (within_quiet s (call.SendMessage client g phases bytes) refl refl)
+within_still s (call.ChangeAttributes client g phases attrs) h = still s _ (within_quiet s (call.ChangeAttributes client g phases attrs) refl refl)
+within_still s (call.Subscribe client g) h = still s _ (within_quiet s (call.Subscribe client g) refl refl)
+within_still s (call.Unsubscribe client g) h = still s _ (within_quiet s (call.Unsubscribe client g) refl refl)
+
+-- nothing more is handed than this, and the states of groups are as the records tell
 record Unheard (s t : Core) : Type 0 where
   unhanded : handed_in t.records ≡ handed_in s.records
   along : Along s t
@@ -221,35 +262,55 @@ goodbye_unheard s client ended (Ok u) =
     let q : Quiet t (send_all_gone t ended) = all_gone_quiet t ended in record { unhanded = q.unhanded; along = along_then s t _ (along_same s t refl refl) q.along }
 goodbye_unheard s client ended (Err f) = unheard s _ (quiet_refused s client f)
 
-call_unheard : (s : Core) (c : CallLine) → Unheard s (take_call s c)
+call_unheard : (s : Core) (c : CallLine) → IsTrue (is_silent c) → Unheard s (take_call s c)
 unfolding take_call
-call_unheard s (call.Init node name votes) = init_unheard s name _
-call_unheard s (call.Goodbye client) = goodbye_unheard s client _ _
-call_unheard s (call.Join client g instance attrs) = unheard s _ (within_quiet s (call.Join client g instance attrs) refl)
-call_unheard s (call.Leave client g phases) = unheard s _ (within_quiet s (call.Leave client g phases) refl)
-call_unheard s (call.Expel client g phases out) = unheard s _ (within_quiet s (call.Expel client g phases out) refl)
-call_unheard s (call.ChangeState client g phases value) = unheard s _ (within_quiet s (call.ChangeState client g phases value) refl)
-call_unheard s (call.SendMessage client g phases bytes) = unheard s _ (within_quiet s (call.SendMessage client g phases bytes) refl)
-call_unheard s (call.ChangeAttributes client g phases attrs) = unheard s _ (within_quiet s (call.ChangeAttributes client g phases attrs) refl)
-call_unheard s (call.Vote client g v value) = unheard s _ (within_quiet s (call.Vote client g v value) refl)
-call_unheard s (call.Subscribe client g) = unheard s _ (within_quiet s (call.Subscribe client g) refl)
-call_unheard s (call.Unsubscribe client g) = unheard s _ (within_quiet s (call.Unsubscribe client g) refl)
+call_unheard s (call.Init node name votes) n = init_unheard s name _
+call_unheard s (call.Goodbye client) n = goodbye_unheard s client _ _
+call_unheard s (call.Join client g instance attrs) n = unheard s _ (within_quiet s (call.Join client g instance attrs) refl refl)
+call_unheard s (call.Leave client g phases) n = unheard s _ (within_quiet s (call.Leave client g phases) refl refl)
+call_unheard s (call.Expel client g phases out) n = unheard s _ (within_quiet s (call.Expel client g phases out) refl refl)
+call_unheard s (call.ChangeState client g phases value) n = unheard s _ (within_quiet s (call.ChangeState client g phases value) refl refl)
+call_unheard s (call.SendMessage client g phases bytes) n = unheard s _ (within_quiet s (call.SendMessage client g phases bytes) refl refl)
+call_unheard s (call.ChangeAttributes client g phases attrs) n = unheard s _ (within_quiet s (call.ChangeAttributes client g phases attrs) refl refl)
+call_unheard s (call.Vote client g v value) n = absurd cc
+call_unheard s (call.Subscribe client g) n = unheard s _ (within_quiet s (call.Subscribe client g) refl refl)
+call_unheard s (call.Unsubscribe client g) n = unheard s _ (within_quiet s (call.Unsubscribe client g) refl refl)
 
 -- ---- events
 
-called_unheard : (s : Core) (ev : NodeEvent) → Unheard s (called s ev)
-called_unheard s Ticks = record { unhanded = refl; along = along_itself s }
-called_unheard s (Asks mask) = record { unhanded = refl; along = along_itself s }
-called_unheard s (Given p) = record { unhanded = refl; along = along_itself s }
-called_unheard s step.Garbage = record { unhanded = refl; along = along_itself s }
-called_unheard s (Calls c) = call_unheard s c
+-- what the records that a call leaves tell is what a `vote` gives
+pub record CallHands (s t : Core) (given : List Happened) : Type 0 where
+  pub told : handed_in t.records ≡ handed_in given
+  pub stated : (states : List ℕ → GroupState) → logged_in t.records states ≡ logged_in given states
+  pub along : Along s t
 
--- no event hands anything to a client before its rows
-pub called_unhanded : (s : Core) (ev : NodeEvent) → handed_in (called (at_work s) ev).records ≡ []
-called_unhanded s ev = (called_unheard (at_work s) ev).unhanded
+nothing_handed : (s t : Core) → s.records ≡ [] → Unheard s t → CallHands s t []
+nothing_handed s t empty u =
+    let none : handed_in t.records ≡ [] = u.unhanded ∙ ap handed_in empty in record { told = none; stated = λ states. unlogged t.records states none; along = u.along }
 
-pub called_along : (s : Core) (ev : NodeEvent) → Along (at_work s) (called (at_work s) ev)
-called_along s ev = (called_unheard (at_work s) ev).along
+call_hands : (s : Core) (c : CallLine) → CallHands (at_work s) (take_call (at_work s) c) (given_by (at_work s) (Calls c))
+call_hands s (call.Vote client g v value) = record { told = refl; stated = λ states. refl; along = (vote_still (at_work s) client g v value).along }
+call_hands s (call.Init node name votes) = nothing_handed (at_work s) _ refl (call_unheard (at_work s) (call.Init node name votes) refl)
+call_hands s (call.Goodbye client) = nothing_handed (at_work s) _ refl (call_unheard (at_work s) (call.Goodbye client) refl)
+call_hands s (call.Join client g instance attrs) = nothing_handed (at_work s) _ refl (call_unheard (at_work s) (call.Join client g instance attrs) refl)
+call_hands s (call.Leave client g phases) = nothing_handed (at_work s) _ refl (call_unheard (at_work s) (call.Leave client g phases) refl)
+call_hands s (call.Expel client g phases out) = nothing_handed (at_work s) _ refl (call_unheard (at_work s) (call.Expel client g phases out) refl)
+call_hands s (call.ChangeState client g phases value) = nothing_handed (at_work s) _ refl (call_unheard (at_work s) (call.ChangeState client g phases value) refl)
+call_hands s (call.SendMessage client g phases bytes) = nothing_handed (at_work s) _ refl (call_unheard (at_work s) (call.SendMessage client g phases bytes) refl)
+call_hands s (call.ChangeAttributes client g phases attrs) = nothing_handed (at_work s) _ refl (call_unheard (at_work s) (call.ChangeAttributes client g phases attrs) refl)
+call_hands s (call.Subscribe client g) = nothing_handed (at_work s) _ refl (call_unheard (at_work s) (call.Subscribe client g) refl)
+call_hands s (call.Unsubscribe client g) = nothing_handed (at_work s) _ refl (call_unheard (at_work s) (call.Unsubscribe client g) refl)
+
+idle : (s : Core) → CallHands (at_work s) (at_work s) []
+idle s = nothing_handed (at_work s) (at_work s) refl (record { unhanded = refl; along = along_itself (at_work s) })
+
+-- no event hands anything to a client before its rows but the ballot that a call gives
+pub called_hands : (s : Core) (ev : NodeEvent) → CallHands (at_work s) (called (at_work s) ev) (given_by (at_work s) ev)
+called_hands s Ticks = idle s
+called_hands s (Asks mask) = idle s
+called_hands s (Given p) = idle s
+called_hands s step.Garbage = idle s
+called_hands s (Calls c) = call_hands s c
 
 -- the event neither begins nor ends a session
 abbrev pub is_within : NodeEvent → Bool
@@ -261,4 +322,4 @@ called_lives s Ticks h = refl
 called_lives s (Asks mask) h = refl
 called_lives s (Given p) h = refl
 called_lives s step.Garbage h = refl
-called_lives s (Calls c) h = (within_quiet (at_work s) c h).lives
+called_lives s (Calls c) h = (within_still (at_work s) c h).lives

@@ -19,6 +19,7 @@ use Rattle.play_state.specs.declared.world_fault.WorldFault.TheVariants as world
 use Rattle.node_state.specs.HandOn.{Answering}
 use Rattle.world_laws.specs.world_answers.Answers.{Items, Answered, happens_by, goes_on}
 use Rattle.world_laws.specs.world_answers.Plays.{AnsweredPlay, with_answers, PlaysEvent}
+use Rattle.load_script.specs.Counting.{counted}
 use Rattle.net_script.specs.declared.world.World as kept
 use Rattle.net_script.specs.Standing.{Holds, Goes, Passes, Comes}
 use Rattle.net_script.specs.Hands.{Hears}
@@ -81,14 +82,14 @@ module _ {C : Type 0} {script : C → Option Items} {said : Items → Option Ite
   event_hears R s d p v e a none rs empty h recorded hears old stand =
       let x = hears p.world h.stands old stand in
       let all : rs ≡ x.0 = x.2 ∙ ap (λ xs. xs ++ x.0) empty in
-      (x.1, (x.0, x.1, recorded ∙ ap (λ xs. reverse_onto xs v.trace) all, hands_same p.world v e x.0 old x.1 h.same x.3, refl), x.4)
+      (x.1, (x.0, x.1, recorded ∙ ap (λ xs. reverse_onto xs v.trace) all, hands_same p.world v e x.0 old x.1 h.same x.3, (d.nodes, x.4), refl), x.4)
 
 module _ {C : Type 0} {script : C → Option Items} {said : Items → Option Items} {R : C → List Handed → Type 0} where
   -- an event happened within the limit
-  pub event_moved : (s t : Stage C) (p : AnsweredPlay) (v : World) (e : Event) (none rs : List Happened) → none ≡ [] → At script said s p v → t ≡ record s { world = t.world }
+  pub event_moved : (s t : Stage C) (p : AnsweredPlay) (v : World) (e : Event) (none rs : List Happened) → none ≡ [] → At script said s p v → t.cuts ≡ s.cuts → t.counts ≡ counted s.counts rs
       → (g : Comes script said s.world (Goes script said s.world t.world none rs) (λ f w. happens_by f w e) (λ w. happens w e))
       → Hears R script said s.world t.world none rs e → Moved script said R s t p (with_answers p e g.answers) v (happens_by g.answers v e) (answered e g.answers ∷ []) rs
-  event_moved s t p v e none rs empty h same comes hears =
+  event_moved s t p v e none rs empty h cuts counts comes hears =
       let x : Answered = answered e comes.answers in
       let g : Goes script said s.world t.world none rs p.world (goes_on p.world x) = comes.comes p.world h.stands in
       let recorded : Recorded v (goes_on v x) rs = trace_same p.world v x rs h.same (g.trace ∙ ap (λ xs. reverse_onto xs p.world.trace) (ap (λ xs. xs ++ g.records) (sym empty) ∙ sym g.out)) in
@@ -97,19 +98,20 @@ module _ {C : Type 0} {script : C → Option Items} {said : Items → Option Ite
         runs = one_runs s.world.limit s.world.kept t.world.kept v x g.sent (sent_same p.world v x g.sent h.same g.sends) g.within;
         limit = g.limit;
         recorded = recorded;
+        counts = counts;
         comes = refl;
         hears = event_hears R s t.world p v e comes.answers none rs empty h recorded hears;
-        at = record { stands = g.stands; cuts = h.cuts ∙ sym (ap (λ (z : Stage C). z.cuts) same); same = same_goes p.world v x h.same };
+        at = record { stands = g.stands; cuts = h.cuts ∙ sym cuts; same = same_goes p.world v x h.same };
       }
 
   -- and was written
-  pub event_went : {U : Type 0} (u : U) (k : Kinds) (a b : Option (List ℕ)) (s t : Stage C) (p : AnsweredPlay) (v : World) (e : Event) (none rs : List Happened) → none ≡ [] → At script said s p v → t ≡ record s { world = t.world }
+  pub event_went : {U : Type 0} (u : U) (k : Kinds) (a b : Option (List ℕ)) (s t : Stage C) (p : AnsweredPlay) (v : World) (e : Event) (none rs : List Happened) → none ≡ [] → At script said s p v → t.cuts ≡ s.cuts → t.counts ≡ counted s.counts rs
       → Comes script said s.world (Goes script said s.world t.world none rs) (λ f w. happens_by f w e) (λ w. happens w e) → Hears R script said s.world t.world none rs e → Appends a b (kinds_text k rs)
       → LeadsTo script said R (Ok u) k a b s t p (PlaysEvent said p e) v
-  event_went u k a b s t p v e none rs empty h same g hears w = record {
+  event_went u k a b s t p v e none rs empty h cuts counts g hears w = record {
     play = with_answers p e g.answers;
     made = event_played s p v e h g;
-    outcome = record { events = answered e g.answers ∷ []; records = rs; world = happens_by g.answers v e; moved = event_moved s t p v e none rs empty h same g hears; written = w };
+    outcome = record { events = answered e g.answers ∷ []; records = rs; world = happens_by g.answers v e; moved = event_moved s t p v e none rs empty h cuts counts g hears; written = w };
   }
 
   event_broke : (k : Kinds) (a b : Option (List ℕ)) (s t : Stage C) (p q : AnsweredPlay) (v u : World) (es : List Answered) (rs : List Happened) → Moved script said R s t p q v u es rs → GrowsByFront a b (kinds_text k rs) → Broke k a b s p q v
@@ -121,9 +123,13 @@ module _ {C : Type 0} {script : C → Option Items} {said : Items → Option Ite
   put_broke put_fault.NoMemory k a b s t p q v u es rs m w = event_broke k a b s t p q v u es rs m w
 
 module _ {C : Type 0} {script : C → Option Items} {said : Items → Option Items} where
-  -- it happened, and was not written whole
-  pub event_put_stops : (R : C → List Handed → Type 0) (f : PutFault) (k : Kinds) (a b : Option (List ℕ)) (s t : Stage C) (p : AnsweredPlay) (v : World) (e : Event) (none rs : List Happened) → none ≡ [] → At script said s p v → t ≡ record s { world = t.world }
-      → Comes script said s.world (Goes script said s.world t.world none rs) (λ f w. happens_by f w e) (λ w. happens w e) → Hears R script said s.world t.world none rs e → GrowsByFront a b (kinds_text k rs)
+  -- it happened, and was not counted or written whole
+  pub event_put_stops : (R : C → List Handed → Type 0) (f : PutFault) (k : Kinds) (a b : Option (List ℕ)) (s : Stage C) (d : kept.World C) (p : AnsweredPlay) (v : World) (e : Event) (none rs : List Happened) → none ≡ [] → At script said s p v
+      → Comes script said s.world (Goes script said s.world d none rs) (λ f w. happens_by f w e) (λ w. happens w e) → Hears R script said s.world d none rs e → GrowsByFront a b (kinds_text k rs)
       → (q : AnsweredPlay) × PlaysEvent said p e q × Stopped (fault_of_put f) k a b s p q v
-  event_put_stops R f k a b s t p v e none rs empty h same g hears w =
-      (with_answers p e g.answers, event_played s p v e h g, put_broke {R = R} f k a b s t p (with_answers p e g.answers) v (happens_by g.answers v e) (answered e g.answers ∷ []) rs (event_moved s t p v e none rs empty h same g hears) w)
+  event_put_stops R f k a b s d p v e none rs empty h g hears w =
+      let t : Stage C = record s { world = d; counts = counted s.counts rs } in (
+        with_answers p e g.answers,
+        event_played s p v e h g,
+        put_broke {R = R} f k a b s t p (with_answers p e g.answers) v (happens_by g.answers v e) (answered e g.answers ∷ []) rs (event_moved s t p v e none rs empty h refl refl g hears) w,
+      )

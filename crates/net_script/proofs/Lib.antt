@@ -24,3 +24,4 @@ pub mod PlaySafeLaws
 pub mod SafePlays
 pub mod PlayLaws
 pub mod WordedLaws
+pub mod LoadLaws

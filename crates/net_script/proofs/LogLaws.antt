@@ -60,7 +60,7 @@ module _ {C : Type 0} (R : C → List Handed → Type 0) where
       new = record { node = k; logs = [] }
 
       stands : (k ≡ n.core.views.me) × WereHanded R n.clients []
-      stands = (me, rw none (record { lists = []; stand = tt; told = tt }))
+      stands = (me, rw none (record { stand = tt; logs = tt }))
 
       by : (ms : List (NodeView C)) (ys : Logs) → LogsStand R ms ys → LogsStand R (insert_before (comes_before k) n ms) (logs_begun k ys)
       by [] [] g = (stands.0, stands.1, tt)

@@ -30,12 +30,12 @@ hands_same w v e rs old new same h = subst (λ z. EventHands z e rs old new) (sy
 
 -- ---- one part and then the next
 
-hands_then : (w : World) (es fs : List Answered) (old mid new : Logs) → RunHands w es old mid → RunHands (fold goes_on w es) fs mid new → RunHands w (es ++ fs) old new
-hands_then w [] fs old mid new e h = subst (λ ls. RunHands w fs ls new) e h
-hands_then w (a ∷ es) fs old mid new f h = (f.0, f.1, f.2, f.3, hands_then (goes_on w a) es fs f.1 mid new f.4 h)
+hands_then : {C : Type 0} (R : C → List Handed → Type 0) (w : World) (es fs : List Answered) (old mid new : Logs) → RunHands R w es old mid → RunHands R (fold goes_on w es) fs mid new → RunHands R w (es ++ fs) old new
+hands_then R w [] fs old mid new e h = subst (λ ls. RunHands R w fs ls new) e h
+hands_then R w (a ∷ es) fs old mid new f h = (f.0, f.1, f.2, f.3, f.4, hands_then R (goes_on w a) es fs f.1 mid new f.5 h)
 
 pub hears_then : {C : Type 0} (R : C → List Handed → Type 0) (ns ms os : List (NodeView C)) (w v : World) (es fs : List Answered) → v ≡ fold goes_on w es → RunHears R ns ms w es → RunHears R ms os v fs → RunHears R ns os w (es ++ fs)
 hears_then R ns ms os w v es fs comes f g old stand =
     let x = f old stand in
     let y = g x.0 x.2 in
-    (y.0, hands_then w es fs old x.0 y.0 x.1 (subst (λ z. RunHands z fs x.0 y.0) comes y.1), y.2)
+    (y.0, hands_then R w es fs old x.0 y.0 x.1 (subst (λ z. RunHands R z fs x.0 y.0) comes y.1), y.2)

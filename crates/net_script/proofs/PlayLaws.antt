@@ -48,7 +48,7 @@ pub record Opened {C : Type 0} (script : C → Option Items) (said : Items → O
   pub kept : s.world.kept ≡ 0
   pub trace : (world_new c).trace ≡ reverse_onto rs []
 
-reversed_nothing : {A : Type 0} (xs : List A) → [] ≡ reverse_onto xs [] → xs ≡ []
+pub reversed_nothing : {A : Type 0} (xs : List A) → [] ≡ reverse_onto xs [] → xs ≡ []
 reversed_nothing xs e = sym (reversed_back xs []) ∙ ap (λ zs. reverse_onto zs []) (sym e)
 
 -- all records so far
@@ -152,7 +152,7 @@ module _ {C : Type 0} {script : C → Option Items} {said : Items → Option Ite
   clients_stand : (kinds : Kinds) (b c : Option (List ℕ)) (s t : Stage C) (f : Config) (p : AnsweredPlay) → LogsStand R s.world.nodes (empty_logs (world_new f)) → Went script said R kinds b c s t (starting f) p (world_new f) → ClientsStand R (Ok t.world) f p
   clients_stand kinds b c s t f p empty w =
       let x = w.moved.hears (empty_logs (world_new f)) empty in
-      (x.0, subst (λ es. RunHands (world_new f) es (empty_logs (world_new f)) x.0) (sym (answered_all f p w.events w.moved.happens)) x.1, x.2)
+      (x.0, subst (λ es. RunHands R (world_new f) es (empty_logs (world_new f)) x.0) (sym (answered_all f p w.events w.moved.happens)) x.1, x.2)
 
   -- ---- as the play of the lines ended
 

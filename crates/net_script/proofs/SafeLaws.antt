@@ -17,7 +17,7 @@ use Rattle.world_laws.proofs.world_answers.Waits.{same_goes}
 use Rattle.world_safety.proofs.Turned.{onto_more}
 use Rattle.world_safety.proofs.Scripts.{events_are_safe}
 pub use Rattle.world_safety.proofs.Scripts.{every_answer_is_safe, every_play_is_safe, every_kept_play_is_safe}
-pub use Rattle.world_safety.proofs.Lined.{scripts_may_play}
+pub use Rattle.world_safety.proofs.Lined.{scripts_may_play, plain_addresses_fit}
 use Rattle.net_script.specs.declared.world.World.{World}
 use Rattle.world_laws.specs.world_answers.Answers.{Items}
 use Rattle.net_script.specs.Standing.{Goes, Comes, kept_empty}

@@ -79,7 +79,7 @@ same_records c p es e same = ap (λ zs. reverse_onto (fold goes_on (world_new c)
 
 -- the events of a play of lines that may happen, in order, may happen
 play_may : (said : Items → Option Items) (x : Script) (p : AnsweredPlay) → PlaysLines said (starting x.config) x.lines p → MayPlay x → AllMayHappen x.config (events_in (answered_in p))
-play_may said x p h may = all_turned x.config p.events [] (lines_fine said x.config (starting x.config) x.lines p may h tt) tt
+play_may said x p h may = all_turned x.config p.events [] (lines_fine said x.config (starting x.config) x.lines p may.lines h tt) tt
 
 pub answered_play_is_safe : (said : Items → Option Items) (x : Script) (p : AnsweredPlay) → PlaysLines said (starting x.config) x.lines p → MayPlay x → IsSafe x.config (answered_in p) (records_in p)
 answered_play_is_safe said x p h may =

@@ -15,6 +15,9 @@ use Rattle.world_laws.proofs.world_answers.Adding.{grew_then}
 use Rattle.world_laws.specs.world_answers.Answers.{Items, Answered, goes_on}
 use Rattle.world_laws.specs.world_answers.Plays.{AnsweredPlay}
 use Rattle.world_laws.specs.world_answers.Limits.{AnsweredRuns, AnsweredEnds, AnsweredTells, Grew}
+use Rattle.load_script.specs.declared.counts.Counts.{Counts}
+use Rattle.load_script.specs.Counting.{counted}
+use Rattle.load_script.proofs.CountLaws.{counted_then}
 use Rattle.net_script.specs.Hands.{LogsStand}
 use Rattle.transcript.specs.declared.kinds.Kinds.{Kinds}
 use Rattle.transcript.specs.Kinds.{kinds_text}
@@ -54,11 +57,11 @@ module _ {C : Type 0} {script : C → Option Items} {said : Items → Option Ite
   -- ---- nothing happens
 
   pub moved_none : (s : Stage C) (p : AnsweredPlay) (v : World) → At script said s p v → Moved script said R s s p p v v [] []
-  moved_none s p v h = record { happens = refl; runs = runs_none s.world.limit s.world.kept v; limit = refl; recorded = refl; comes = refl; hears = λ old stand. (old, refl, stand); at = h }
+  moved_none s p v h = record { happens = refl; runs = runs_none s.world.limit s.world.kept v; limit = refl; recorded = refl; counts = refl; comes = refl; hears = λ old stand. (old, refl, stand); at = h }
 
   -- only what waits and what is cut off changes
-  pub moved_still : (s t : Stage C) (p q : AnsweredPlay) (v : World) → q.events ≡ p.events → t.world.limit ≡ s.world.limit → t.world.kept ≡ s.world.kept → t.world.nodes ≡ s.world.nodes → At script said t q v → Moved script said R s t p q v v [] []
-  moved_still s t p q v e limit kept nodes h = record { happens = e; runs = subst (λ k. AnsweredRuns s.world.limit s.world.kept v [] k v) (sym kept) (runs_none s.world.limit s.world.kept v); limit = limit; recorded = refl; comes = refl; hears = λ old stand. (old, refl, subst (λ ns. LogsStand R ns old) (sym nodes) stand); at = h }
+  pub moved_still : (s t : Stage C) (p q : AnsweredPlay) (v : World) → q.events ≡ p.events → t.world.limit ≡ s.world.limit → t.world.kept ≡ s.world.kept → t.world.nodes ≡ s.world.nodes → t.counts ≡ s.counts → At script said t q v → Moved script said R s t p q v v [] []
+  moved_still s t p q v e limit kept nodes counts h = record { happens = e; runs = subst (λ k. AnsweredRuns s.world.limit s.world.kept v [] k v) (sym kept) (runs_none s.world.limit s.world.kept v); limit = limit; recorded = refl; counts = counts; comes = refl; hears = λ old stand. (old, refl, subst (λ ns. LogsStand R ns old) (sym nodes) stand); at = h }
 
   pub went_still : (k : Kinds) (a : Option (List ℕ)) (s t : Stage C) (p q : AnsweredPlay) (v : World) → Moved script said R s t p q v v [] [] → Went script said R k a a s t p q v
   unfolding kinds_text
@@ -81,6 +84,7 @@ module _ {C : Type 0} {script : C → Option Items} {said : Items → Option Ite
       runs = runs_then s.world.limit s.world.kept m.world.kept t.world.kept v f.world g.world f.events g.events f.moved.runs (subst (λ l. AnsweredRuns l m.world.kept f.world g.events t.world.kept g.world) f.moved.limit g.moved.runs);
       limit = g.moved.limit ∙ f.moved.limit;
       recorded = recorded_then v f.world g.world f.records g.records f.moved.recorded g.moved.recorded;
+      counts = g.moved.counts ∙ (ap (λ (c : Counts). counted c g.records) f.moved.counts ∙ sym (counted_then s.counts f.records g.records));
       comes = g.moved.comes ∙ (ap (λ z. fold goes_on z g.events) f.moved.comes ∙ sym (fold-append goes_on v f.events g.events));
       hears = hears_then R s.world.nodes m.world.nodes t.world.nodes v f.world f.events g.events f.moved.comes f.moved.hears g.moved.hears;
       at = g.moved.at;

@@ -1,13 +1,13 @@
 -- The text of records as it is written.
-use Rattle.std.proofs.Common.{◌≡◌, ℕ, zero, suc, ◌+◌, ◌<◌, ◌≤◌, true, false, cond, List, [], ◌∷◌, ◌++◌, length, drop, get_or, Option, refl, sym, ◌∙◌, ap, subst, arith, append_assoc, append-nil, add-one}
+use Rattle.std.proofs.Common.{◌≡◌, ℕ, zero, suc, ◌+◌, ◌<◌, ◌≤◌, true, false, cond, List, [], ◌∷◌, ◌++◌, length, take, drop, get_or, Option, refl, sym, ◌∙◌, ap, subst, arith, append_assoc, append-nil, add-one}
 use Rattle.std.specs.Prelude.{filter, flat_map}
 use Rattle.std.proofs.Math.Seq.{drop-cons}
+use Rattle.std.proofs.lemmas.List.{take_more}
 use Rattle.std.proofs.lemmas.List.Elements.{filter-append}
 use Rattle.std.proofs.lemmas.List.Concat.{flat_map-append}
 use Rattle.std.specs.Io.KnownBytes.{Appends}
-use Rattle.std.proofs.KnownBytes.{Appends-nil, Appends-trans}
+use Rattle.std.proofs.KnownBytes.{Appends-nil}
 use Rattle.hags_io.specs.Edges.{GrowsByFront}
-use Rattle.hags_io.proofs.ByteLaws.{front_on}
 use Rattle.node_state.specs.declared.happened.Happened.{Happened}
 use Rattle.world_model.specs.Text.{line_of}
 use Rattle.transcript.specs.declared.kinds.Kinds.{Kinds}
@@ -53,33 +53,10 @@ no_item zero (x ∷ xs) le = absurd (omega arith)
 no_item (suc i) [] le = refl
 no_item (suc i) (x ∷ xs) le = let below : length xs ≤ i = omega arith in no_item i xs below
 
--- a front of the text is written, and the rest is that of the records that are left
-pub record WrittenTo (kinds : Kinds) (a b : Option (List ℕ)) (left : List Happened) (text : List ℕ) : Type 0 where
-  pub done : List ℕ
-  pub whole : done ++ kinds_text kinds left ≡ text
-  pub written : Appends a b done
+-- the lines of one record more
+pub text_more : (k : Kinds) (i : ℕ) (r : Happened) (rs : List Happened) → i < length rs → r ≡ get_or rs i r → kinds_text k (take (i + 1) rs) ≡ kinds_text k (take i rs) ++ kinds_text k (r ∷ [])
+text_more k i r rs h is = ap (kinds_text k) (take_more rs i r h ∙ ap (λ x. take i rs ++ x ∷ []) (sym is)) ∙ kinds_append k (take i rs) (r ∷ [])
 
-pub written_first : (k : Kinds) (a : Option (List ℕ)) (rs : List Happened) → WrittenTo k a a rs (kinds_text k rs)
-written_first k a rs = record { done = []; whole = refl; written = Appends-nil a }
-
-left_text : (k : Kinds) (i : ℕ) (r : Happened) (rs : List Happened) → i < length rs → r ≡ get_or rs i r → kinds_text k (drop i rs) ≡ kinds_text k (r ∷ []) ++ kinds_text k (drop (i + 1) rs)
-left_text k i r rs h is = ap (kinds_text k) (next_item i r rs h is) ∙ kinds_append k (r ∷ []) (drop (i + 1) rs)
-
-pub written_next : (k : Kinds) (a b c : Option (List ℕ)) (i : ℕ) (r : Happened) (rs : List Happened) (text : List ℕ) → i < length rs → r ≡ get_or rs i r
-    → WrittenTo k a b (drop i rs) text → Appends b c (kinds_text k (r ∷ [])) → WrittenTo k a c (drop (i + 1) rs) text
-written_next k a b c i r rs text h is p q = record {
-  done = p.done ++ kinds_text k (r ∷ []);
-  whole = append_assoc p.done (kinds_text k (r ∷ [])) (kinds_text k (drop (i + 1) rs)) ∙ (ap (λ t. p.done ++ t) (sym (left_text k i r rs h is)) ∙ p.whole);
-  written = Appends-trans a b c _ _ p.written q;
-}
-
-pub written_front : (k : Kinds) (a b c : Option (List ℕ)) (i : ℕ) (r : Happened) (rs : List Happened) (text : List ℕ) → i < length rs → r ≡ get_or rs i r
-    → WrittenTo k a b (drop i rs) text → GrowsByFront b c (kinds_text k (r ∷ [])) → GrowsByFront a c text
-written_front k a b c i r rs text h is p q =
-    front_on a b c p.done (kinds_text k (r ∷ [])) (kinds_text k (drop (i + 1) rs)) text (ap (λ t. p.done ++ t) (sym (left_text k i r rs h is)) ∙ p.whole) p.written q
-
-pub written_all : (k : Kinds) (a b : Option (List ℕ)) (i : ℕ) (rs : List Happened) (text : List ℕ) → length rs ≤ i → WrittenTo k a b (drop i rs) text → Appends a b text
+pub no_text : (k : Kinds) → kinds_text k [] ≡ []
 unfolding kinds_text
-written_all k a b i rs text le p =
-    let whole : p.done ≡ text = sym (append-nil p.done) ∙ (ap (λ xs. p.done ++ kinds_text k xs) (sym (no_item i rs le)) ∙ p.whole) in
-    subst (Appends a b) whole p.written
+no_text k = refl

@@ -43,9 +43,10 @@ EndsAs script said (Err e) kinds limit c p old new = StopsAs e kinds limit c p o
 abbrev pub FrontIsSafe : ℕ → Config → AnsweredPlay → Type 0
 FrontIsSafe limit c p = (es : List Answered) × (fs : List Answered) × (answered_in p ≡ es ++ fs) × IsSafe c es (records_within limit c p)
 
--- each client of the world at the end stands for what the run of the play handed to it, in order
+-- each client of the world at the end stands for what the run of the play handed to it, in order, and for what it filled;
+-- and so did those that are gone
 abbrev pub ClientsStand : {C : Type 0} → (C → List Handed → Type 0) → Result (World C) PlayFault → Config → AnsweredPlay → Type 0
-ClientsStand R (Ok w) c p = (logs : Logs) × RunHands (world_new c) (answered_in p) (empty_logs (world_new c)) logs × LogsStand R w.nodes logs
+ClientsStand R (Ok w) c p = (logs : Logs) × RunHands R (world_new c) (answered_in p) (empty_logs (world_new c)) logs × LogsStand R w.nodes logs
 ClientsStand R (Err e) c p = Unit {0}
 
 -- the script was played: with what the clients answered, its lines come to this play, and it ended like this; its clients

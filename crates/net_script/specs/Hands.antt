@@ -13,6 +13,7 @@ use Rattle.node_state.specs.declared.state.Core.{Core}
 use Rattle.rsct_packet.specs.Ids.{last_u32}
 use Rattle.node_state.specs.Step.{NodeEvent, Ticks, Asks, Given, Calls, at_work}
 use Rattle.node_state.specs.Step as step
+use Rattle.node_state.specs.Calls.{take_call}
 use Rattle.node_state.specs.State.{state_of}
 use Rattle.node_state.specs.Handed.{handed_in, Logged, logged_in}
 use Rattle.node_calls.specs.Calling.{clients_with}
@@ -28,7 +29,8 @@ use Rattle.net_script.specs.declared.world.World.{World}
 use Rattle.net_script.specs.declared.steps.Left.{Left}
 use Rattle.net_script.specs.Standing.{NodesStand, Stands}
 
--- the records of what each client of a node was handed, with the states of groups, in the order of the sessions
+-- the records of what each client of a node was handed and what it filled, with the states of groups, in the order of
+-- the sessions
 pub record ClientLogs : Type 0 where
   pub node : ℕ
   pub logs : List (List Logged)
@@ -73,12 +75,17 @@ logs_called s (Given p) ls = ls
 logs_called s step.Garbage ls = ls
 logs_called s (Calls c) ls = logs_called_by s c ls
 
--- what the step of a node hands to its clients: what its records tell, with the states that they make of those of its
--- groups, each to the client whose it is once a call is taken
+-- what a `vote` call records: the ballot that it gives, where it is taken. No object filled that one
+abbrev pub given_by : Core → NodeEvent → List Happened
+given_by s (Calls (call.Vote client g vote value)) = (take_call s (call.Vote client g vote value)).records
+given_by s _ = []
+
+-- what the step of a node hands to its clients, and what they fill: all that its records tell but the ballot that a call
+-- gives, with the states that they make of those of its groups, each to the client whose it is once a call is taken
 pub record StepHands (s : Core) (ev : NodeEvent) (rs : List Happened) (old new : List (List Logged)) : Type 0 where
   pub handings : List Handing
-  pub told : handed_in rs ≡ told_by handings
-  pub stated : logged_in rs (state_of s) ≡ logged_by handings
+  pub told : handed_in rs ≡ handed_in (given_by (at_work s) ev) ++ told_by handings
+  pub stated : logged_in rs (state_of s) ≡ logged_in (given_by (at_work s) ev) (state_of s) ++ logged_by handings
   pub owned : AreFor (called (at_work s) ev).sessions handings
   pub logs : new ≡ after_handings handings (logs_called s ev old)
 
@@ -121,11 +128,16 @@ EventHands w (event.Show n what) rs old new = HandsNothing rs old new
 EventHands w (event.Deliver a b k) rs old new = DeliveryHands (node_at w b) (kth_between w a b k) b rs old new
 EventHands w (event.Garbage n bytes) rs old new = NodeHands (node_at w n) n step.Garbage rs old new
 
--- what these events, from the world w on, hand to clients
-abbrev pub RunHands : world.World → List Answered → Logs → Logs → Type 0
-RunHands w [] old new = new ≡ old
-RunHands w (e ∷ es) old new =
-    (rs : List Happened) × (mid : Logs) × ((goes_on w e).trace ≡ reverse_onto rs w.trace) × EventHands w e.event rs old mid × RunHands (goes_on w e) es mid new
+-- at some nodes each client stood for what its log tells
+abbrev pub Stood : {C : Type 0} → (C → List Handed → Type 0) → Logs → Type 0
+Stood {C} R logs = (ns : List (NodeView C)) × LogsStand R ns logs
+
+-- what these events, from the world w on, hand to clients. After each of them some client stood for each log, also where
+-- it is gone at the end
+abbrev pub RunHands : {C : Type 0} → (C → List Handed → Type 0) → world.World → List Answered → Logs → Logs → Type 0
+RunHands R w [] old new = new ≡ old
+RunHands R w (e ∷ es) old new =
+    (rs : List Happened) × (mid : Logs) × ((goes_on w e).trace ≡ reverse_onto rs w.trace) × EventHands w e.event rs old mid × Stood R mid × RunHands R (goes_on w e) es mid new
 
 -- no client is there yet
 abbrev pub empty_logs : world.World → Logs

@@ -10,6 +10,7 @@ use Rattle.world_laws.specs.world_runs.Runs.{SameRun, Recorded}
 use Rattle.world_laws.specs.world_answers.Answers.{Items, Answered, goes_on}
 use Rattle.world_laws.specs.world_answers.Plays.{AnsweredPlay}
 use Rattle.world_laws.specs.world_answers.Limits.{AnsweredRuns, AnsweredEnds, AnsweredTells, Grew}
+use Rattle.load_script.specs.Counting.{counted}
 use Rattle.net_script.specs.Standing.{Stands}
 use Rattle.net_script.specs.Hands.{Logs, LogsStand, RunHands}
 use Rattle.transcript.specs.declared.kinds.Kinds.{Kinds}
@@ -27,14 +28,15 @@ pub record At {C : Type 0} (script : C → Option Items) (said : Items → Optio
 -- from a world on, these events make the one nodes into the other: where each client stood for what its log told, it
 -- stands for that and for what they hand to it
 abbrev pub RunHears : {C : Type 0} → (C → List Handed → Type 0) → List (NodeView C) → List (NodeView C) → World → List Answered → Type 0
-RunHears R ns ms w es = (old : Logs) → LogsStand R ns old → (new : Logs) × RunHands w es old new × LogsStand R ms new
+RunHears R ns ms w es = (old : Logs) → LogsStand R ns old → (new : Logs) × RunHands R w es old new × LogsStand R ms new
 
--- the play went on from p to q by these events, within the limit, and they recorded this
+-- the play went on from p to q by these events, within the limit, and they recorded this, which was counted
 pub record Moved {C : Type 0} (script : C → Option Items) (said : Items → Option Items) (R : C → List Handed → Type 0) (s t : Stage C) (p q : AnsweredPlay) (v u : World) (es : List Answered) (rs : List Happened) : Type 0 where
   pub happens : Grew p q es
   pub runs : AnsweredRuns s.world.limit s.world.kept v es t.world.kept u
   pub limit : t.world.limit ≡ s.world.limit
   pub recorded : Recorded v u rs
+  pub counts : t.counts ≡ counted s.counts rs
   pub comes : u ≡ fold goes_on v es
   pub hears : RunHears R s.world.nodes t.world.nodes v es
   pub at : At script said t q u

@@ -10,7 +10,8 @@ use Rattle.node_state.specs.declared.happened.Happened.{Happened}
 use Rattle.node_state.specs.declared.packet.Packet.{Packet}
 use Rattle.node_state.specs.HandOn.{Answering}
 use Rattle.node_state.specs.Step.{NodeEvent, Calls, at_work, stepped}
-use Rattle.node_core.specs.Node.{NodeView}
+use Rattle.session_clients.specs.Clients.{client_named}
+use Rattle.node_core.specs.Node.{NodeView, sessions_in}
 use Rattle.world_model.specs.World.{Script, items_in, scripts_after}
 use Rattle.world_model.specs.World as world
 use Rattle.world_model.specs.Kept.{Bytes, with_packet}
@@ -25,6 +26,11 @@ use Rattle.net_script.specs.declared.steps.Left.{Left}
 
 abbrev pub is_me : {C : Type 0} → ℕ → NodeView C → Bool
 is_me n x = x.core.views.me == n
+
+-- the client of the live session of a name, at the node that was found
+abbrev pub client_in : {C : Type 0} → Option (NodeView C) → List ℕ → Option C
+client_in None name = None
+client_in (Some n) name = client_named (sessions_in n) name
 
 abbrev pub number_in : {C : Type 0} → NodeView C → ℕ
 number_in x = x.core.views.me

@@ -8,6 +8,7 @@ mod event;
 mod flow;
 mod lifecycle;
 mod lines;
+mod loads;
 mod nodes;
 mod plain_events;
 mod records;
@@ -19,7 +20,9 @@ mod steps;
 mod world;
 
 pub use flow::FLOW_LIMIT;
+pub use loads::load;
 pub use nodes::Nodes;
+pub use records::write_records;
 pub use script::{play, play_as};
 pub use stage::Stage;
 pub use world::World;

@@ -16,7 +16,7 @@ use std::alloc::Global;
 use transcript::Kinds;
 use world_model::Event;
 
-/// A plain event happens, and what it records is written.
+/// A plain event happens, and what it records is counted and written.
 pub fn play_event<C: Made, K: Sink>(
     alloc: Global,
     stage: &mut Stage<C>,
@@ -32,6 +32,7 @@ pub fn play_event<C: Made, K: Sink>(
 {
     let mut records: Records = List::new(alloc);
     stage.world.event(alloc, event, &mut records)?;
+    stage.counts.count(records.as_slice())?;
     write_records(alloc, kinds, records.as_slice(), out)?;
     Ok(())
 }

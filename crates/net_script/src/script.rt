@@ -16,6 +16,7 @@ use crate::records::write_records;
 use crate::stage::Stage;
 use client_callbacks::{Made, ScriptClient};
 use hags_io::Sink;
+use load_script::Counts;
 use node_state::Records;
 use play_state::{Cuts, PlayFault};
 use rsct_packet::List;
@@ -42,10 +43,15 @@ fn play_begun<C: Made, K: Sink>(
     let mut stage = Stage {
         world,
         cuts: Cuts::new(alloc),
+        counts: Counts::none(),
     };
     match play_lines(alloc, &mut stage, kinds, script.lines.as_slice(), out) {
         Ok(()) => {
-            let Stage { world, cuts: _ } = stage;
+            let Stage {
+                world,
+                cuts: _,
+                counts: _,
+            } = stage;
             Ok(world)
         }
         Err(e) => Err(e),

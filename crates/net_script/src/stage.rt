@@ -2,11 +2,14 @@
 
 use crate::World;
 use client_callbacks::{Callbacks, ScriptClient};
+use load_script::Counts;
 use play_state::Cuts;
 
-/// The world that a script is played in, and which nodes are cut off from each other.
+/// The world that a script is played in, which nodes are cut off from each other, and what was counted of the records so
+/// far.
 #[derive(Drop)]
 pub struct Stage<C: Callbacks = ScriptClient> {
     pub world: World<C>,
     pub cuts: Cuts,
+    pub counts: Counts,
 }

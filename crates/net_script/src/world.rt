@@ -1,9 +1,9 @@
 //! What happens in a world.
-ghost use Rattle.std.specs.Prelude.{◌≡◌, ℕ, OnOk, IsErrOf, IsTrue, Some};
+ghost use Rattle.std.specs.Prelude.{◌≡◌, ℕ, OnOk, IsErrOf, IsTrue, Some, find, option_copied};
 ghost use Rattle.node_core.specs.Event.{event_in, is_taken};
 ghost use Rattle.world_model.specs.World.{node_at, node_steps};
 ghost use Rattle.world_laws.specs.world_answers.Answers.{step_by_if};
-ghost use Rattle.net_script.specs.Standing.{Goes, Passes, Comes, Settled};
+ghost use Rattle.net_script.specs.Standing.{is_me, client_in, Goes, Passes, Comes, Settled};
 ghost use Rattle.play_state.specs.Posting.{bytes_after};
 ghost use Rattle.net_script.specs.Hands.{NodeHands, HearsAs};
 
@@ -26,6 +26,15 @@ pub struct World<C: Callbacks = ScriptClient> {
     pub packets: WorldPackets,
     pub kept: u64,
     pub limit: u64,
+}
+
+impl<C: Callbacks> World<C> {
+    /// The client of the live session of this name, at this node, if it is up.
+    pub fn client(&self, node: u8, name: &[u8]) -> Option<&C>
+        ensures { option_copied result ≡ client_in (find (is_me node) self.now.nodes) name.now }
+    {
+        self.nodes.get(node)?.client(name)
+    }
 }
 
 impl<C: Made> World<C> {

@@ -94,13 +94,13 @@ fn each_failing_take_is_a_read_fault(rt: HostRuntime) -> Result<(), Fail> {
 
 #[test]
 fn each_failing_put_is_a_write_fault(rt: HostRuntime) -> Result<(), Fail> {
-    for (call, whole) in [(1, 0), (2, 1), (3, 2), (4, 3), (5, 4), (6, 5)] {
+    for (call, whole) in [(1, 0), (2, 2), (3, 3), (4, 5)] {
         let (status, out) = ran(rt.alloc(), ONE_JOIN, &[], &[call])?;
         assert_eq!(rt; status, 5);
         assert!(rt; ONE_JOIN_TRANSCRIPT.starts_with(out.held()));
         assert_eq!(rt; count_lines(out.held()), whole);
     }
-    let (status, _out) = ran(rt.alloc(), ONE_JOIN, &[], &[7])?;
+    let (status, _out) = ran(rt.alloc(), ONE_JOIN, &[], &[5])?;
     assert_eq!(rt; status, 0);
     Ok(())
 }
@@ -120,7 +120,7 @@ fn a_bad_line_is_named(rt: HostRuntime) -> Result<(), Fail> {
 }
 
 #[test]
-fn other_words_are_told_the_usage(rt: HostRuntime) -> Result<(), Fail> {
+fn no_words_are_told_the_usage(rt: HostRuntime) -> Result<(), Fail> {
     let (status, err) = said(rt.alloc(), &[], ONE_JOIN)?;
     assert_eq!(rt; status, 1);
     assert!(rt; err.held().starts_with(b"hags: usage: hags run ".as_slice()));

@@ -168,3 +168,9 @@ all_lines rs = ap (flat_map line_of) (filter_alike (shows all_kinds) (is_shown [
 pub named_lines : (word : List ℕ) (k : Kinds) (rs : List Happened) → kinds_of word ≡ Some k → kinds_text k rs ≡ lines_text (kinds_in word) rs
 unfolding kinds_text lines_text
 named_lines word k rs e = ap (flat_map line_of) (filter_alike (shows k) (is_shown (kinds_in word)) rs (λ r. named_show word k r e))
+
+-- no kinds show nothing
+pub no_lines : (rs : List Happened) → kinds_text no_kinds rs ≡ []
+unfolding kinds_text
+no_lines [] = refl
+no_lines (r ∷ rs) = ap (λ (t : Bool). flat_map line_of (if t then r ∷ filter (shows no_kinds) rs else filter (shows no_kinds) rs)) (no_shows r) ∙ no_lines rs

@@ -368,13 +368,20 @@ fn put_record(alloc: Global, out: &mut Vec<u8>, happened: &Happened) -> Result<(
     }
 }
 
-/// The line of a record.
+/// The line of a record, at the end.
 #[tactic(auto, unfolding(world_model::specs::Text::line_of))]
+pub fn put_line(alloc: Global, out: &mut Vec<u8>, happened: &Happened) -> Result<(), NoMemory>
+    ensures { OnOk result (out.new.items ≡ out.old.items ++ line_of happened.now) }
+{
+    put_record(alloc, out, happened)?;
+    put_text(out, b"\n")
+}
+
+/// The line of a record.
 pub fn line_of(alloc: Global, happened: &Happened) -> Result<Vec<u8>, NoMemory>
     ensures { IfOk result (λ b. b.items ≡ line_of happened.now) }
 {
     let mut out = Vec::new(alloc);
-    put_record(alloc, &mut out, happened)?;
-    put_text(&mut out, b"\n")?;
+    put_line(alloc, &mut out, happened)?;
     Ok(out)
 }

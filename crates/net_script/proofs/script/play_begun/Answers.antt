@@ -11,10 +11,10 @@ returns-in_err-write_records-clause-played g c =
 
 pub returns-in-Ok-clause-played : goal.returns-in-Ok-clause-played
 returns-in-Ok-clause-played g c =
-    played_done c.args.kinds _ _ _ c.args.limit (record { world = c.in_ok-world.world; cuts = c.new-2.result }) c.play_lines.new.stage c.args.script.now c.new.new.out
-    (opened c.args.script.now.config c.args.limit (record { world = c.in_ok-world.world; cuts = c.new-2.result }) c.new-records.result c.new.new.out c.new-records.ensures c.new-2.ensures c.in_ok-world.ensures.goes) c.in_ok-world.ensures.hears (rw c.as_slice.ensures at c.in_ok-write_records.ensures.done) (rw c.as_slice-2.ensures at c.in-Ok.ensures.outcome)
+    played_done c.args.kinds _ _ _ c.args.limit (record { world = c.in_ok-world.world; cuts = c.new-2.result; counts = c.none.result }) c.play_lines.new.stage c.args.script.now c.new.new.out
+    (opened c.args.script.now.config c.args.limit (record { world = c.in_ok-world.world; cuts = c.new-2.result; counts = c.none.result }) c.new-records.result c.new.new.out c.new-records.ensures c.new-2.ensures c.in_ok-world.ensures.goes) c.in_ok-world.ensures.hears (rw c.as_slice.ensures at c.in_ok-write_records.ensures.done) (rw c.as_slice-2.ensures at c.in-Ok.ensures.outcome)
 
 pub returns-clause-played : goal.returns-clause-played
 returns-clause-played g c =
-    played_stopped c.in-Err.e c.args.kinds _ _ _ c.args.limit (record { world = c.in_ok-world.world; cuts = c.new-2.result }) c.play_lines.new.stage c.args.script.now c.new.new.out
-    (opened c.args.script.now.config c.args.limit (record { world = c.in_ok-world.world; cuts = c.new-2.result }) c.new-records.result c.new.new.out c.new-records.ensures c.new-2.ensures c.in_ok-world.ensures.goes) (rw c.as_slice.ensures at c.in_ok-write_records.ensures.done) (rw c.as_slice-2.ensures at c.in-Err.ensures.outcome)
+    played_stopped c.in-Err.e c.args.kinds _ _ _ c.args.limit (record { world = c.in_ok-world.world; cuts = c.new-2.result; counts = c.none.result }) c.play_lines.new.stage c.args.script.now c.new.new.out
+    (opened c.args.script.now.config c.args.limit (record { world = c.in_ok-world.world; cuts = c.new-2.result; counts = c.none.result }) c.new-records.result c.new.new.out c.new-records.ensures c.new-2.ensures c.in_ok-world.ensures.goes) (rw c.as_slice.ensures at c.in_ok-write_records.ensures.done) (rw c.as_slice-2.ensures at c.in-Err.ensures.outcome)

@@ -1,0 +1,17 @@
+//! What `--help` and `--version` write.
+ghost use Rattle.hags_cli.specs.Tasks.{TellEnds};
+
+use crate::ending::Ending;
+use hags_io::{Put, Sink};
+
+/// Writes a text.
+pub fn tell<K: Sink>(text: &[u8], out: &mut K) -> Ending
+    ensures { TellEnds result text.now (K.faults out.old) (K.faults out.new)
+        (K.held out.old) (K.held out.new) }
+{
+    match out.put(text) {
+        Put::Done => Ending::Done,
+        Put::Failed => Ending::WriteFault,
+        Put::NoMemory => Ending::NoMemory,
+    }
+}
