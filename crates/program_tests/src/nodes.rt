@@ -1,11 +1,10 @@
-//! A node by itself: its status by name, and what it sends as bytes.
+//! A node by itself: its status by name, and bytes that are no packet.
 use client_callbacks::ScriptClient;
-use node_core::{Node, NodeEvent, is_packet};
+use node_core::{Node, is_packet};
 use node_state::What;
 use rsct_packet::NoMemory;
 use script_reader::read_daemon;
 use std::alloc::Global;
-use world_packets::Datagram;
 
 /// Node 1 of nodes 1 and 2, in its incarnation 5.
 fn node(alloc: Global) -> Option<Node<ScriptClient>> {
@@ -35,25 +34,7 @@ fn status(rt: HostRuntime) {
     assert!(rt; says(alloc, What::Hagsgr, b">") == Some(true));
 }
 
-/// Does a first tick send one thing, and is that a packet by its bytes?
-fn sends_a_packet(alloc: Global) -> Result<bool, NoMemory> {
-    let Some(mut node) = node(alloc) else {
-        return Err(NoMemory);
-    };
-    if node.step(alloc, NodeEvent::Tick).is_err() {
-        return Err(NoMemory);
-    }
-    let sends = node.take_sends(alloc);
-    for packet in sends.as_slice() {
-        if !is_packet(Datagram::of(alloc, packet)?.bytes()) {
-            return Ok(false);
-        }
-    }
-    Ok(sends.as_slice().len() == 1)
-}
-
 #[test]
-fn sends(rt: HostRuntime) {
-    assert!(rt; sends_a_packet(rt.alloc()).ok() == Some(true));
+fn other_bytes(rt: HostRuntime) {
     assert!(rt; !is_packet(b"RG"));
 }
