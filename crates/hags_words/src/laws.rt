@@ -7,5 +7,6 @@ ghost use Rattle.hags_words.specs.Spelled.{Use, words_of, values_of, AreUses};
 /// words give just their values. A value that is a word of its own does not begin with a hyphen.
 #[tactic(auto, using(crate::proofs::SpelledLaws::spelled_is_given))]
 pub fn words_give_what_they_say()
-    ensures { (uses : List Use) → AreUses [] uses → given_of (words_of uses) ≡ Some (values_of uses) }
+    ensures { (uses : List Use) → AreUses [] uses
+        → given_of (words_of uses) ≡ Some (values_of uses) }
 {}

@@ -11,5 +11,6 @@ pub fn first_asker_stays()
     ensures first { (g : List ℕ) (a : ℕ) (table : List Leader) → node_of g table ≡ None
         → length table < 64 → looked_up g a table ≡ Some a }
     ensures stays { (g : List ℕ) (a b n : ℕ) (asked : List LookUp) (table : List Leader)
-        → looked_up g a table ≡ Some n → looked_up g b (all_asked asked (lookup g a table)) ≡ Some n }
+        → looked_up g a table ≡ Some n
+        → looked_up g b (all_asked asked (lookup g a table)) ≡ Some n }
 {}

@@ -54,7 +54,8 @@ fn play_step<C: Made, K: Sink>(
 ) -> Result<(), PlayFault>
     ensures outcome { (p : AnsweredPlay) → (v : world.World) → At C.script C.script_of stage.old p v
         → LeadsTo C.script C.script_of C.stands_for result kinds (K.held out.old)
-        (K.held out.new) stage.old stage.new p (PlaysLines C.script_of p (step_lines number seed)) v }
+        (K.held out.new) stage.old stage.new p
+        (PlaysLines C.script_of p (step_lines number seed)) v }
     ensures later { K.faults out.old ≤ K.faults out.new }
     ensures fault { result ≡ Err PlayFault.WriteFault → Rose (K.faults out.old) (K.faults out.new) }
 {

@@ -100,17 +100,17 @@ fn script(rt: &impl Abort, alloc: Global, text: &[u8]) -> Script {
     read_script(alloc, text).ok().expect(rt, "a script")
 }
 
-/// The node and the instance of the i-th call, which is a join.
-fn joined(script: &Script, i: usize) -> Option<(u8, u16)> {
-    match script.call(i)? {
+/// The node and the instance of the call of this index, which is a join.
+fn joined(script: &Script, index: usize) -> Option<(u8, u16)> {
+    match script.call(index)? {
         (node, CallLine::Join { instance, .. }) => Some((node, *instance)),
         _ => None,
     }
 }
 
-/// Is this the line of the i-th call?
-fn is_line(script: &Script, i: usize, text: &[u8]) -> bool {
-    match script.line(i) {
+/// Is this the line of the call of this index?
+fn is_line(script: &Script, index: usize, text: &[u8]) -> bool {
+    match script.line(index) {
         None => false,
         Some(line) => line == text,
     }

@@ -13,5 +13,6 @@ pub fn first_votes_stand()
         → (after_all cs (tally_new ps d limit)).voters ≡ first_rows ps d limit cs }
     ensures outcome { (ps : List ProviderId) (d : DefaultVote) (limit : ℕ) (cs : List Command)
         → let voters = first_rows ps d limit cs in
-        outcome (after_all cs (tally_new ps d limit)) ≡ (if list_any is_open voters then None else Some (tally_of (rows_of voters))) }
+        outcome (after_all cs (tally_new ps d limit))
+        ≡ (if list_any is_open voters then None else Some (tally_of (rows_of voters))) }
 {}

@@ -105,14 +105,14 @@ impl Script {
         &self.config
     }
 
-    /// The i-th of the lines that are calls, from 0 on, with the node of its client; none exactly where there are
+    /// The call line of this index, from 0 on, with the node of its client; none exactly where there are
     /// not so many. It goes through the lines before it.
     #[tactic(auto, unfolding(crate::specs::Settings::call_at, crate::specs::Settings::calls_of), using(crate::proofs::CallLaws::each_call))]
-    pub fn call(&self, i: usize) -> Option<(u8, &CallLine)>
-        ensures { option_map (λ p. (p.0, p.1.now)) result ≡ call_at self.now i }
+    pub fn call(&self, index: usize) -> Option<(u8, &CallLine)>
+        ensures { option_map (λ p. (p.0, p.1.now)) result ≡ call_at self.now index }
     {
         let mut lines = self.lines.as_slice();
-        let mut left = i;
+        let mut left = index;
         while let [line, after @ ..] = lines {
             if let Some((node, call)) = call_on(line) {
                 if left == 0 {
@@ -128,10 +128,10 @@ impl Script {
     /// The bytes of that call's line, without its line feed; none exactly where there are not so many. A script
     /// that was not read from bytes has none.
     #[tactic(auto, unfolding(crate::specs::Settings::text_at))]
-    pub fn line(&self, i: usize) -> Option<&[u8]>
-        ensures { option_map (λ t. t.now) result ≡ text_at self.now i }
+    pub fn line(&self, index: usize) -> Option<&[u8]>
+        ensures { option_map (λ t. t.now) result ≡ text_at self.now index }
     {
-        match self.texts.get(i) {
+        match self.texts.get(index) {
             None => None,
             Some(text) => Some(text.as_slice()),
         }
