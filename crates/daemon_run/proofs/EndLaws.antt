@@ -116,7 +116,7 @@ grows_before : (a q b : Option (List LinkCall)) (xs : List LinkCall) → Same a 
 grows_before None q b xs h p = tt
 grows_before (Some ys) q b xs h p = let at : Grows (Some ys) b xs = subst (λ o. Grows o b xs) h p in at
 
-went_before : (a q b : Option (List LinkCall)) (xs : List LinkCall) → Same a q → Went q b xs → Went a b xs
+pub went_before : (a q b : Option (List LinkCall)) (xs : List LinkCall) → Same a q → Went q b xs → Went a b xs
 went_before a q b xs h w = record { calls = w.calls; told = grows_before a q b w.calls h w.told; are = w.are }
 
 went_front_before : (a q b : Option (List LinkCall)) (xs : List LinkCall) → Same a q → WentFront q b xs → WentFront a b xs

@@ -10,4 +10,7 @@ mod turns;
 mod writing;
 
 pub use calls::{Hosts, Objects};
-pub use serving::{Served, Serving, serve};
+pub use places::tell_places;
+pub use sending::send_packet;
+pub use serving::{Served, Serving, buffer, serve};
+pub use turns::MOST_FAILED;

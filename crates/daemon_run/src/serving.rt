@@ -38,8 +38,8 @@ pub struct Served<C: Callbacks> {
     pub node: Option<Node<C>>,
 }
 
-/// The memory into which datagrams are received.
-fn buffer(alloc: Global, len: usize) -> Result<Vec<u8>, NoMemory>
+/// The memory into which datagrams are received: so many bytes.
+pub fn buffer(alloc: Global, len: usize) -> Result<Vec<u8>, NoMemory>
     ensures { IfOk result (λ v. vec_len v ≡ len) }
 {
     Ok(vec![in alloc; 0u8; len]?)

@@ -16,7 +16,7 @@ use std::alloc::Global;
 const TICK: u64 = 100;
 
 /// So many receives that fail in a row end a daemon.
-const MOST_FAILED: u8 = 16;
+pub const MOST_FAILED: u8 = 16;
 
 /// Why a daemon ends before its last turn.
 #[derive(Clone, Copy, Debug, PartialEq, Eq)]

@@ -1,0 +1,10 @@
+//! A status client: one question to a daemon, and the receives until its answer.
+#![tactic(auto)]
+
+mod asking;
+mod question;
+mod waiting;
+
+pub use asking::ask;
+pub use question::Asking;
+pub use waiting::AskFault;
