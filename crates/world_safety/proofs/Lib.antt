@@ -11,3 +11,6 @@ pub mod Lined
 pub mod Playing
 pub mod Moments
 pub mod Scripts
+pub mod Steady
+pub mod SteadyRuns
+pub mod HeardStates

@@ -1,23 +1,20 @@
 -- At each moment of a run its nodes are those of a scene that events lead to.
-use Rattle.std.proofs.Common.{◌≡◌, ℕ, List, [], ◌∷◌, ◌++◌, Some, ◌∙◌, subst}
+use Rattle.std.proofs.Common.{◌≡◌, List, [], ◌∷◌, ◌++◌, ◌∙◌, subst}
 use Rattle.node_state.specs.declared.config.Config.{Config}
-use Rattle.node_state.specs.declared.state.Core.{Core}
 use Rattle.node_state.specs.Step.{NodeEvent, Ticks, Asks, Given, Calls, Garbage}
 use Rattle.world_model.specs.World.{World}
-use Rattle.run_safety.specs.Past.{History, history_of}
 use Rattle.step_refinement.specs.Tied.{Scene}
 use Rattle.step_refinement.specs.Rows.{Arises}
-use Rattle.step_refinement.specs.Runs.{Reached}
 use Rattle.run_laws.specs.tails.Tails.{TailsHeld}
 use Rattle.run_laws.proofs.tails.Law.{tails_held}
 use Rattle.send_laws.proofs.Law.{runs_send}
 use Rattle.world_laws.specs.world_answers.Answers.{Answered, events_in, answered_after}
-use Rattle.world_safety.specs.Events.{run_of_events, AllMayHappen}
-use Rattle.world_safety.specs.Mirrors.{Mirrors, core_at}
+use Rattle.world_safety.specs.Events.{AllMayHappen}
+use Rattle.world_safety.specs.Mirrors.{Mirrors}
 use Rattle.world_safety.specs.Moments.{AtEachMoment, AllTailsHeld, CanCome, StepsSendFew}
 use Rattle.world_safety.proofs.Runs.{every_run_is_reached}
 
-front_may : (c : Config) (front rest : List Answered) → AllMayHappen c (events_in (front ++ rest)) → AllMayHappen c (events_in front)
+pub front_may : (c : Config) (front rest : List Answered) → AllMayHappen c (events_in (front ++ rest)) → AllMayHappen c (events_in front)
 front_may c [] rest may = tt
 front_may c (e ∷ front) rest may = (may.0, front_may c front rest may.1)
 

@@ -5,3 +5,4 @@ pub mod Moments
 pub mod Scripts
 pub mod Plays
 pub mod Lemmas
+pub mod HeardStates

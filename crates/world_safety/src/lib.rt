@@ -4,6 +4,7 @@
 ghost use Rattle.world_safety.specs.Safety.{RunHasTheRecords, EveryRunIsReached, EveryRunIsSafe};
 ghost use Rattle.world_safety.specs.Scripts.{EveryScriptIsSafe, EveryKeptRunIsSafe};
 ghost use Rattle.world_safety.specs.Lemmas.{SafeRunsHaveOneList, SafeRunsLeaveNoGap};
+ghost use Rattle.world_safety.specs.HeardStates.{HeardStatesAreFolds, FoldsStay};
 ghost use Rattle.world_safety.specs.Plays.{ScriptsMayPlay, EveryAnswerIsSafe, EventsAreSafe, EveryPlayIsSafe, EveryKeptPlayIsSafe};
 
 /// The run of a list of plain events has the records of the world after them.
@@ -52,6 +53,19 @@ pub fn safe_runs_have_one_list()
 /// In a safe run a provider hears every place between two that it hears.
 pub fn safe_runs_leave_no_gap()
     ensures { SafeRunsLeaveNoGap }
+{}
+
+/// What a provider hears at place i of its node's list of a group comes with the fold of the first i + 1 entries of that
+/// list: in every run of events that may happen, whatever kind of clients there are, and whatever they answer.
+#[tactic(auto, using(crate::proofs::HeardStates::heard_states_are_folds))]
+pub fn heard_states_are_folds()
+    ensures { HeardStatesAreFolds }
+{}
+
+/// And what was the fold of a front of a list is it still after whatever comes then.
+#[tactic(auto, using(crate::proofs::HeardStates::folds_stay))]
+pub fn folds_stay()
+    ensures { FoldsStay }
 {}
 
 /// Each script that is read may play: its lines name no node 0 that starts, and start none in mode fixed; and on each network
