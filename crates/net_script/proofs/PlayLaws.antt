@@ -37,6 +37,7 @@ use Rattle.play_state.specs.Faults.{fault_of_put}
 use Rattle.net_script.specs.Stage.{At, Went, Passed, Broke, Stopped, LeadsTo}
 use Rattle.net_script.specs.Ends.{records_in, records_within, StopsAs, EndsAs, ClientsStand, PlayedAs}
 use Rattle.net_script.proofs.SafePlays.{answered_play_is_safe, answered_front_is_safe}
+use Rattle.net_script.proofs.FoldLaws.{answered_play_folds}
 use Rattle.net_script.proofs.TextLaws.{kinds_append, none_front}
 
 -- ---- the beginning
@@ -160,13 +161,13 @@ module _ {C : Type 0} {script : C → Option Items} {said : Items → Option Ite
       → ((p : AnsweredPlay) → (v : World) → At script said s p v → LeadsTo script said R (Ok u) kinds b c s t p (PlaysLines said p x.lines) v) → PlayedAs script said R (Ok t.world) kinds limit x a c
   played_done kinds a b c limit s t x first o empty begun next =
       let l = next (starting x.config) (world_new x.config) o.at in
-      record { play = l.play; lines = l.made; ends = play_done kinds a b c limit s t x.config l.play first o begun l.outcome; hands = clients_stand kinds b c s t x.config l.play empty l.outcome; safe = answered_play_is_safe said x l.play l.made; safe_front = answered_front_is_safe said limit x l.play l.made }
+      record { play = l.play; lines = l.made; ends = play_done kinds a b c limit s t x.config l.play first o begun l.outcome; hands = clients_stand kinds b c s t x.config l.play empty l.outcome; safe = answered_play_is_safe said x l.play l.made; safe_front = answered_front_is_safe said limit x l.play l.made; folds = answered_play_folds R said x l.play l.made }
 
   pub played_stopped : {U : Type 0} (e : PlayFault) (kinds : Kinds) (a b c : Option (List ℕ)) (limit : ℕ) (s t : Stage C) (x : Script) (first : List Happened) → Opened script said limit s x.config first → Appends a b (kinds_text kinds first)
       → ((p : AnsweredPlay) → (v : World) → At script said s p v → LeadsTo {U = U} script said R (Err e) kinds b c s t p (PlaysLines said p x.lines) v) → PlayedAs script said R (Err e) kinds limit x a c
   played_stopped e kinds a b c limit s t x first o begun next =
       let l = next (starting x.config) (world_new x.config) o.at in
-      record { play = l.play; lines = l.made; ends = play_stopped e kinds a b c limit s x.config l.play first o begun l.outcome; hands = tt; safe = answered_play_is_safe said x l.play l.made; safe_front = answered_front_is_safe said limit x l.play l.made }
+      record { play = l.play; lines = l.made; ends = play_stopped e kinds a b c limit s x.config l.play first o begun l.outcome; hands = tt; safe = answered_play_is_safe said x l.play l.made; safe_front = answered_front_is_safe said limit x l.play l.made; folds = answered_play_folds R said x l.play l.made }
 
 -- ---- it ended before the first line
 
@@ -188,11 +189,11 @@ pub starts_stopped : {C : Type 0} (script : C → Option Items) (said : Items �
     → PlayedAs script said R r kinds limit x a a
 starts_stopped script said R r kinds limit x a h =
     let p = lines_go said (starting x.config) x.lines in
-    record { play = p.0; lines = p.1; ends = ended_err script said r play_fault.NoMemory kinds limit x.config p.0 a a h (none_front a (kinds_text kinds (records_within limit x.config p.0))); hands = ended_hands R r x.config p.0 h.0; safe = answered_play_is_safe said x p.0 p.1; safe_front = answered_front_is_safe said limit x p.0 p.1 }
+    record { play = p.0; lines = p.1; ends = ended_err script said r play_fault.NoMemory kinds limit x.config p.0 a a h (none_front a (kinds_text kinds (records_within limit x.config p.0))); hands = ended_hands R r x.config p.0 h.0; safe = answered_play_is_safe said x p.0 p.1; safe_front = answered_front_is_safe said limit x p.0 p.1; folds = answered_play_folds R said x p.0 p.1 }
 
 -- what they recorded could not be written
 pub starts_cut : {C : Type 0} (script : C → Option Items) (said : Items → Option Items) (R : C → List Handed → Type 0) (r : Result (kept.World C) PlayFault) (f : PutFault) (kinds : Kinds) (limit : ℕ) (x : Script) (a b : Option (List ℕ)) (first : List Happened) → IsErr r × IsErrAnd r (λ e. e ≡ fault_of_put f)
     → (world_new x.config).trace ≡ reverse_onto first [] → GrowsByFront a b (kinds_text kinds first) → PlayedAs script said R r kinds limit x a b
 starts_cut script said R r f kinds limit x a b first h trace g =
     let p = first_front said kinds a b limit x.config x.lines first trace g in
-    record { play = p.0; lines = p.1; ends = ended_err script said r (fault_of_put f) kinds limit x.config p.0 a b h (front_stops f kinds limit x.config p.0 a b p.2); hands = ended_hands R r x.config p.0 h.0; safe = answered_play_is_safe said x p.0 p.1; safe_front = answered_front_is_safe said limit x p.0 p.1 }
+    record { play = p.0; lines = p.1; ends = ended_err script said r (fault_of_put f) kinds limit x.config p.0 a b h (front_stops f kinds limit x.config p.0 a b p.2); hands = ended_hands R r x.config p.0 h.0; safe = answered_play_is_safe said x p.0 p.1; safe_front = answered_front_is_safe said limit x p.0 p.1; folds = answered_play_folds R said x p.0 p.1 }

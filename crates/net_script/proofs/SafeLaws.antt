@@ -14,6 +14,7 @@ use Rattle.world_laws.specs.world_answers.Answers.{Answered, events_in, happens_
 use Rattle.world_safety.specs.Events.{MayHappen, AllMayHappen}
 use Rattle.world_safety.specs.Scripts.{IsSafe, IsSafeRun}
 use Rattle.world_laws.proofs.world_answers.Waits.{same_goes}
+use Rattle.world_safety.proofs.HeardStates.{answered_last}
 use Rattle.world_safety.proofs.Turned.{onto_more}
 use Rattle.world_safety.proofs.Scripts.{events_are_safe}
 pub use Rattle.world_safety.proofs.Scripts.{every_answer_is_safe, every_play_is_safe, every_kept_play_is_safe}
@@ -35,10 +36,6 @@ one_answered c (x ∷ xs) e may this = (may.0, one_answered c xs e may.1 this)
 after_last : (c : Config) (es : List Event) (e : Event) → world_after c (es ++ e ∷ []) ≡ happens (world_after c es) e
 unfolding world_after
 after_last c es e = fold-append happens (world_new c) es (e ∷ [])
-
-answered_last : (c : Config) (es : List Answered) (e : Answered) → answered_after c (es ++ e ∷ []) ≡ goes_on (answered_after c es) e
-unfolding answered_after
-answered_last c es e = fold-append goes_on (world_new c) es (e ∷ [])
 
 -- the records after more were added
 grown : (rs old new : List Happened) → new ≡ reverse_onto rs old → reverse_onto new [] ≡ reverse_onto old [] ++ rs

@@ -17,6 +17,7 @@ use Rattle.world_laws.specs.world_answers.Answers.{Items, Answered, events_in, g
 use Rattle.world_laws.specs.world_answers.Plays.{AnsweredPlay, starting, PlaysEvent, PlaysEach, TakesPacket, TakesNext, PlaysFlow, PlaysTick, numbers_up, PlaysRounds, PlaysLine, PlaysLines}
 use Rattle.world_laws.specs.world_answers.Limits.{answered_within, answered_in, limited}
 use Rattle.world_laws.proofs.world_answers.Adding.{lines_add}
+use Rattle.world_safety.proofs.Moments.{front_may}
 use Rattle.net_script.specs.Safe.{MayHappen, AllMayHappen, IsSafe, LineMay, LinesMay, MayPlay}
 use Rattle.net_script.proofs.SafeLaws.{every_answer_is_safe}
 use Rattle.net_script.specs.Ends.{records_in, FrontIsSafe}
@@ -78,7 +79,7 @@ unfolding answered_records answered_after
 same_records c p es e same = ap (λ zs. reverse_onto (fold goes_on (world_new c) zs).trace []) e ∙ ap (λ (w : World). reverse_onto w.trace []) same
 
 -- the events of a play of lines that may happen, in order, may happen
-play_may : (said : Items → Option Items) (x : Script) (p : AnsweredPlay) → PlaysLines said (starting x.config) x.lines p → MayPlay x → AllMayHappen x.config (events_in (answered_in p))
+pub play_may : (said : Items → Option Items) (x : Script) (p : AnsweredPlay) → PlaysLines said (starting x.config) x.lines p → MayPlay x → AllMayHappen x.config (events_in (answered_in p))
 play_may said x p h may = all_turned x.config p.events [] (lines_fine said x.config (starting x.config) x.lines p may.lines h tt) tt
 
 pub answered_play_is_safe : (said : Items → Option Items) (x : Script) (p : AnsweredPlay) → PlaysLines said (starting x.config) x.lines p → MayPlay x → IsSafe x.config (answered_in p) (records_in p)
@@ -112,10 +113,6 @@ limited_front limit sum w (e ∷ es) =
     by : (z : Ended) (o : Option ℕ) → Front (goes_on w e) es z.world → Front w (e ∷ es) (ends_by w z o).world
     by z (Some n) f = record { front = []; rest = e ∷ es; whole = refl; comes = refl }
     by z None f = record { front = e ∷ f.front; rest = f.rest; whole = ap (λ zs. e ∷ zs) f.whole; comes = f.comes }
-
-front_may : (c : Config) (xs ys : List Answered) → AllMayHappen c (events_in (xs ++ ys)) → AllMayHappen c (events_in xs)
-front_may c [] ys a = tt
-front_may c (x ∷ xs) ys a = (a.0, front_may c xs ys a.1)
 
 front_records : (c : Config) (es : List Answered) (v : World) → v ≡ fold goes_on (world_new c) es → answered_records c es ≡ reverse_onto v.trace []
 unfolding answered_records answered_after

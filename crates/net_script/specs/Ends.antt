@@ -15,6 +15,7 @@ use Rattle.net_script.specs.Safe.{IsSafe, MayPlay}
 use Rattle.net_script.specs.declared.world.World.{World}
 use Rattle.net_script.specs.Standing.{Stands}
 use Rattle.net_script.specs.Hands.{Logs, LogsStand, RunHands, empty_logs}
+use Rattle.net_script.specs.Folds.{StatesAreFolds}
 use Rattle.transcript.specs.declared.kinds.Kinds.{Kinds}
 use Rattle.transcript.specs.Kinds.{kinds_text}
 use Rattle.play_state.specs.declared.play_fault.PlayFault.{PlayFault}
@@ -51,7 +52,7 @@ ClientsStand R (Err e) c p = Unit {0}
 
 -- the script was played: with what the clients answered, its lines come to this play, and it ended like this; its clients
 -- stand for what they were handed; and where the lines of the script may happen the run of the play is safe, the whole
--- one and up to the event that passes the limit
+-- one and up to the event that passes the limit, and the states that come with what clients hear are folds
 pub record PlayedAs {C : Type 0} (script : C → Option Items) (said : Items → Option Items) (R : C → List Handed → Type 0) (r : Result (World C) PlayFault) (kinds : Kinds) (limit : ℕ) (x : Script) (old new : Option (List ℕ)) : Type 0 where
   pub play : AnsweredPlay
   pub lines : PlaysLines said (starting x.config) x.lines play
@@ -59,3 +60,4 @@ pub record PlayedAs {C : Type 0} (script : C → Option Items) (said : Items →
   pub hands : ClientsStand R r x.config play
   pub safe : MayPlay x → IsSafe x.config (answered_in play) (records_in play)
   pub safe_front : MayPlay x → FrontIsSafe limit x.config play
+  pub folds : MayPlay x → StatesAreFolds R x.config (answered_in play)

@@ -80,7 +80,9 @@ fn play_nothing<C: Made>(alloc: Global, script: &Script, limit: u64) -> Result<W
 /// is that with which its run would begin.
 ///
 /// Each client of the world at the end stands for what the run handed to it since its session began, in order, as the
-/// records of the run tell it (`hands`).
+/// records of the run tell it (`hands`). Where the lines of the script may happen, the state that comes
+/// with the entry at place i of a group's list is the fold of the first i + 1 entries of that list, in every log that the
+/// run hands out, also to clients that are gone later (`folds`).
 pub fn play_as<C: Made, K: Sink>(
     alloc: Global,
     script: &Script,
