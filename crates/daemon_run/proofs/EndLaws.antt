@@ -1,24 +1,24 @@
 -- How a daemon's whole life comes together.
-use Rattle.std.proofs.Common.{◌≡◌, ℕ, ◌≤◌, Bool, true, false, List, [], ◌∷◌, length, Option, Some, None, refl, sym, ◌∙◌, ap, subst, arith}
-use Rattle.std.specs.Io.KnownBytes.{Appends}
-use Rattle.hags_io.specs.Edges.{GrowsByFront}
+use Rattle.std.proofs.Common.{◌≡◌, ℕ, ◌≤◌, Bool, true, false, List, [], ◌∷◌, Option, Some, None, refl, sym, ap, subst, arith}
 use Rattle.hags_io.specs.declared.link.LinkCall.{LinkCall}
 use Rattle.hags_io.specs.Links.{Counts, Grows}
+use Rattle.client_callbacks.specs.declared.votes.VoteItem.{VoteItem}
+use Rattle.client_callbacks.specs.Handed.{Handed}
+use Rattle.node_core.specs.Node.{NodeView}
 use Rattle.node_state.specs.declared.state.Core.{Core}
 use Rattle.node_state.specs.Step.{at_work}
 use Rattle.world_model.specs.declared.script.Script.{Script}
 use Rattle.daemon_model.specs.Sent.{Went, WentFront}
-use Rattle.daemon_model.specs.Daemon.{Daemon, Life, Turn, begun, opened_all, turned_all, lived, records_text, turn_moments, life_moments}
-use Rattle.daemon_model.specs.Lives.{GoesOn, Lived, LivedFront, ServesAs, ServesTo, ServesFront, first_of, last_of, most_failed}
+use Rattle.daemon_model.specs.Daemon.{Daemon, Life, Turn, begun, opened_all, turned_all, lived, turn_moments}
+use Rattle.daemon_model.specs.Lives.{GoesOn, Lived, ServesAs, ServesTo, ServesFront, most_failed}
 use Rattle.daemon_run.specs.declared.running.Running.{Running}
 use Rattle.daemon_run.specs.Doing.{daemon_of}
-use Rattle.daemon_run.specs.Calling.{Reached, Stopped, BeginsAs, BeginBreaks}
-use Rattle.daemon_run.specs.Ends.{NothingDone, Opens}
-use Rattle.daemon_run.specs.Keeping.{KeepsLink}
+use Rattle.daemon_run.specs.Calling.{Reached, BeginsAs, BeginBreaks}
+use Rattle.daemon_run.specs.Ends.{NothingDone, Opens, HandsOver}
+use Rattle.daemon_run.specs.Audience.{Audience, audience_of, OpeningHands, TurnsHand, Attend, AttendWith}
 use Rattle.hags_io.specs.Links.{Same, Tells, was_opened}
-use Rattle.hags_io.specs.declared.link.Places.{Places}
 use Rattle.daemon_run.specs.Serving.{TurnsDone, TurnsEnded, TurnsBroken}
-use Rattle.daemon_run.proofs.ServeLaws.{counts_none, counts_on}
+use Rattle.daemon_run.proofs.ServeLaws.{counts_on}
 use Rattle.daemon_run.proofs.CallLaws.{reached_on, stopped_on}
 
 -- no turn was begun
@@ -31,7 +31,7 @@ serves_none script me inc moment turns a b x y u v at h = record {
 }
 
 module _ {C : Type 0} where
-  lived_as : (script : Script) (me inc moment : ℕ) (s t : Running C) (turns : List Turn) (a b c : Option (List LinkCall)) (x y z u v w : Option (List ℕ)) → Counts u v (moment ∷ []) → (h : BeginsAs script me inc moment s a b x y)
+  pub lived_as : {A B : List C → Audience → Type 0} (script : Script) (me inc moment : ℕ) (s t : Running C) (turns : List Turn) (a b c : Option (List LinkCall)) (x y z u v w : Option (List ℕ)) → Counts u v (moment ∷ []) → (h : BeginsAs A B script me inc moment s a b x y)
       → Reached (turned_all (opened_all (begun script.config me inc moment) h.opening) turns) t a c x z → Counts v w (turn_moments turns)
       → Lived script me inc (record { start = moment; opening = h.opening; turns = turns }) a c x z u w
   unfolding lived
@@ -42,7 +42,7 @@ module _ {C : Type 0} where
     written = r.written;
   }
 
-  pub serves_all : (script : Script) (me inc moment count : ℕ) (s t : Running C) (a b c : Option (List LinkCall)) (x y z u v w : Option (List ℕ)) → Counts u v (moment ∷ []) → BeginsAs script me inc moment s a b x y → TurnsDone s t count b c y z v w
+  unfoldable pub serves_all : {A B D : List C → Audience → Type 0} (script : Script) (me inc moment count : ℕ) (s t : Running C) (a b c : Option (List LinkCall)) (x y z u v w : Option (List ℕ)) → Counts u v (moment ∷ []) → BeginsAs A B script me inc moment s a b x y → TurnsDone D s t count b c y z v w
       → ServesAs script me inc count (at_work t.node.core) a c x z u w
   unfolding lived
   serves_all script me inc moment count s t a b c x y z u v w at h q =
@@ -56,7 +56,27 @@ module _ {C : Type 0} where
         core_is = sym (ap (λ (e : Daemon). e.core) r.is);
       }
 
-  pub serves_to : (script : Script) (me inc moment count : ℕ) (s t : Running C) (a b c : Option (List LinkCall)) (x y z u v w : Option (List ℕ)) → Counts u v (moment ∷ []) → BeginsAs script me inc moment s a b x y → TurnsEnded s t count b c y z v w
+  -- and what it handed to its clients
+  pub hands_over : {P Q : List (List Handed) → Type 0} {R : C → List Handed → Type 0} {votes : C → Option (List (Option VoteItem))} (script : Script) (me inc moment count : ℕ) (s t : Running C) (a b c : Option (List LinkCall)) (x y z u v w : Option (List ℕ)) → Counts u v (moment ∷ [])
+      → BeginsAs (AttendWith P R votes) (AttendWith Q R votes) script me inc moment s a b x y → TurnsDone (Attend R votes) s t count b c y z v w → HandsOver P R votes script me inc count t.node a c x z u w
+  unfolding lived serves_all
+  hands_over {P = P} {Q = Q} {R = R} {votes = votes} script me inc moment count s t a b c x y z u v w at h q = record {
+    serves = serves_all script me inc moment count s t a b c x y z u v w at h q;
+    hands = λ lists held.
+        let d : Daemon = opened_all (begun script.config me inc moment) h.opening in
+        let first : (m : Audience) × OpeningHands (begun script.config me inc moment) h.opening (audience_of lists) m × AttendWith Q R votes s.node.clients m = h.attends (audience_of lists) (attends_first lists held) in
+        let next : (n : Audience) × TurnsHand (daemon_of s d.calls d.records) q.turns first.0 n × Attend R votes t.node.clients n = q.attends d.calls d.records first.0 first.2.attend in (
+          next.0,
+          (first.0, first.1, subst (λ (e : Daemon). TurnsHand e q.turns first.0 next.0) (sym h.reached.is) next.1),
+          next.2,
+        );
+  }
+    where
+      -- no session, and the objects as they were handed in
+      attends_first : (lists : List (List Handed)) → P lists → AttendWith P R votes [] (audience_of lists)
+      attends_first lists held = record { left = held; attend = record { stand = record { stand = tt; logs = tt }; even = refl; boxed = refl } }
+
+  pub serves_to : {A B : List C → Audience → Type 0} (script : Script) (me inc moment count : ℕ) (s t : Running C) (a b c : Option (List LinkCall)) (x y z u v w : Option (List ℕ)) → Counts u v (moment ∷ []) → BeginsAs A B script me inc moment s a b x y → TurnsEnded s t count b c y z v w
       → ServesTo script me inc count a c x z u w
   unfolding lived
   serves_to script me inc moment count s t a b c x y z u v w at h q =
@@ -69,7 +89,7 @@ module _ {C : Type 0} where
         ended = subst (λ (n : ℕ). most_failed ≤ n) (sym (ap (λ (e : Daemon). e.failed) r.is)) q.ended;
       }
 
-  pub serves_front : (script : Script) (me inc moment count : ℕ) (s : Running C) (a b c : Option (List LinkCall)) (x y z u v w : Option (List ℕ)) → Counts u v (moment ∷ []) → BeginsAs script me inc moment s a b x y → TurnsBroken s count b c y z v w
+  pub serves_front : {A B : List C → Audience → Type 0} (script : Script) (me inc moment count : ℕ) (s : Running C) (a b c : Option (List LinkCall)) (x y z u v w : Option (List ℕ)) → Counts u v (moment ∷ []) → BeginsAs A B script me inc moment s a b x y → TurnsBroken s count b c y z v w
       → ServesFront script me inc count a c x z u w
   unfolding lived
   serves_front script me inc moment count s a b c x y z u v w at h q =
@@ -122,12 +142,18 @@ went_before a q b xs h w = record { calls = w.calls; told = grows_before a q b w
 went_front_before : (a q b : Option (List LinkCall)) (xs : List LinkCall) → Same a q → WentFront q b xs → WentFront a b xs
 went_front_before a q b xs h w = record { calls = w.calls; back = w.back; told = grows_before a q b w.calls h w.told; are = w.are }
 
-lived_before : (script : Script) (me inc : ℕ) (life : Life) (a q b : Option (List LinkCall)) (x y u v : Option (List ℕ)) → Same a q → Lived script me inc life q b x y u v → Lived script me inc life a b x y u v
+pub lived_before : (script : Script) (me inc : ℕ) (life : Life) (a q b : Option (List LinkCall)) (x y u v : Option (List ℕ)) → Same a q → Lived script me inc life q b x y u v → Lived script me inc life a b x y u v
 lived_before script me inc life a q b x y u v h l = record { opening = l.opening; moments = l.moments; went = went_before a q b _ h l.went; written = l.written }
 
-pub serves_all_before : (script : Script) (me inc turns : ℕ) (core : Core) (a q b : Option (List LinkCall)) (x y u v : Option (List ℕ)) → Same a q → ServesAs script me inc turns core q b x y u v → ServesAs script me inc turns core a b x y u v
+unfoldable pub serves_all_before : (script : Script) (me inc turns : ℕ) (core : Core) (a q b : Option (List LinkCall)) (x y u v : Option (List ℕ)) → Same a q → ServesAs script me inc turns core q b x y u v → ServesAs script me inc turns core a b x y u v
 serves_all_before script me inc turns core a q b x y u v h p =
     record { life = p.life; lived = lived_before script me inc p.life a q b x y u v h p.lived; so_many = p.so_many; goes_on = p.goes_on; core_is = p.core_is }
+
+pub hands_over_before : {C : Type 0} {P : List (List Handed) → Type 0} {R : C → List Handed → Type 0} {votes : C → Option (List (Option VoteItem))} (script : Script) (me inc turns : ℕ) (node : NodeView C) (a q b : Option (List LinkCall)) (x y u v : Option (List ℕ)) → Same a q
+    → HandsOver P R votes script me inc turns node q b x y u v → HandsOver P R votes script me inc turns node a b x y u v
+unfolding serves_all_before
+hands_over_before script me inc turns node a q b x y u v h p =
+    record { serves = serves_all_before script me inc turns (at_work node.core) a q b x y u v h p.serves; hands = p.hands }
 
 pub serves_to_before : (script : Script) (me inc turns : ℕ) (a q b : Option (List LinkCall)) (x y u v : Option (List ℕ)) → Same a q → ServesTo script me inc turns q b x y u v → ServesTo script me inc turns a b x y u v
 serves_to_before script me inc turns a q b x y u v h p =

@@ -12,8 +12,9 @@ use Rattle.world_model.specs.Text.{line_of}
 use Rattle.daemon_model.specs.Sent.{Went, WentFront}
 use Rattle.daemon_model.specs.Daemon.{Daemon, records_text}
 use Rattle.daemon_run.specs.declared.running.Running.{Running}
-use Rattle.daemon_run.specs.Doing.{daemon_of, Goes, Broke, Breaks}
-use Rattle.daemon_run.proofs.WentLaws.{went_nothing, went_on, all_went, none_went, went_front_on, went_front_more}
+use Rattle.daemon_run.specs.Audience.{Audience}
+use Rattle.daemon_run.specs.Doing.{daemon_of, Goes, Broke, Breaks, Attends}
+use Rattle.daemon_run.proofs.WentLaws.{went_nothing, went_on, went_front_on, went_front_more}
 
 -- ---- lines
 
@@ -142,6 +143,19 @@ module _ {C : Type 0} where
   pub goes_as : (r q s : Running C) (a b : Option (List LinkCall)) (x y : Option (List ℕ)) (f g : Daemon → Daemon) → ((before : List LinkCall) (noted : List Happened) → f (daemon_of r before noted) ≡ g (daemon_of q before noted))
       → Goes q s a b x y g → Goes r s a b x y f
   goes_as r q s a b x y f g same p = record { calls = p.calls; records = p.records; is = λ before noted. same before noted ∙ p.is before noted; went = p.went; written = p.written }
+
+  -- ---- what they hand
+
+  -- in one part and in the next
+  pub attends_on : (A B D : List C → Audience → Type 0) (r s t : Running C) (a b : Option (List LinkCall)) (x y : Option (List ℕ)) (f : Daemon → Daemon) (H K : Daemon → Audience → Audience → Type 0) → Goes r s a b x y f
+      → Attends A B r s H → Attends B D s t K → Attends A D r t (λ d u w. (v : Audience) × H d u v × K (f d) v w)
+  attends_on A B D r s t a b x y f H K p h k before noted u q =
+      let one : (v : Audience) × H (daemon_of r before noted) u v × B s.node.clients v = h before noted u q in
+      let next : (w : Audience) × K (daemon_of s (before ++ p.calls) (noted ++ p.records)) one.0 w × D t.node.clients w = k (before ++ p.calls) (noted ++ p.records) one.0 one.2 in (
+        next.0,
+        (one.0, one.1, subst (λ (d : Daemon). K d one.0 next.0) (sym (p.is before noted)) next.1),
+        next.2,
+      )
 
   -- ---- parts that broke off
 

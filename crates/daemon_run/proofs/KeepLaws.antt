@@ -1,5 +1,5 @@
 -- What receives and sends leave of a link, one after the other.
-use Rattle.std.proofs.Common.{◌≡◌, ℕ, ◌≤◌, Bool, List, Option, Some, None, refl, subst, arith}
+use Rattle.std.proofs.Common.{ℕ, ◌≤◌, Bool, Option, Some, None, refl, subst, arith}
 use Rattle.hags_io.specs.Links.{Same}
 use Rattle.hags_io.specs.declared.link.Places.{Places}
 use Rattle.daemon_run.specs.Keeping.{KeepsLink}

@@ -1,8 +1,8 @@
 -- Places that are told one after the other.
-use Rattle.std.proofs.Common.{◌≡◌, ℕ, zero, suc, ◌+◌, List, Option, Some, None, refl, sym, ◌∙◌, ap, subst, add-one, arith}
-use Rattle.std.specs.Prelude.{nat_lt, ◌<◌, Bool, true, false}
+use Rattle.std.proofs.Common.{◌≡◌, ℕ, suc, ◌+◌, Option, Some, None, refl, sym, ◌∙◌, ap, subst, add-one}
+use Rattle.std.specs.Prelude.{true, false}
 use Rattle.hags_io.specs.declared.link.Places.{Places}
-use Rattle.hags_io.specs.Links.{Same, Tells}
+use Rattle.hags_io.specs.Links.{Tells}
 use Rattle.hags_io.specs.Places.{with_place}
 use Rattle.node_state.specs.declared.config.Config.{Config}
 use Rattle.node_state.specs.Settings.{has_adapter, address_at}

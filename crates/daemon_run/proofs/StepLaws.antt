@@ -1,20 +1,19 @@
 -- Steps of a daemon's node, with what they send and record.
-use Rattle.std.proofs.Common.{◌≡◌, ℕ, List, [], ◌∷◌, ◌++◌, Option, Some, None, refl, sym, ◌∙◌, ap, subst}
-use Rattle.std.specs.Io.KnownBytes.{Appends}
-use Rattle.hags_io.specs.Edges.{GrowsByFront}
+use Rattle.std.proofs.Common.{◌≡◌, ℕ, List, ◌++◌, Option, None, refl, sym, ◌∙◌, ap, subst}
 use Rattle.hags_io.specs.declared.link.LinkCall.{LinkCall}
-use Rattle.node_state.specs.declared.call.CallLine.{CallLine}
 use Rattle.node_state.specs.declared.happened.Happened.{Happened}
 use Rattle.node_state.specs.declared.state.Core.{Core}
 use Rattle.node_state.specs.HandOn.{Answering}
 use Rattle.node_state.specs.Step.{NodeEvent, at_work, stepped}
 use Rattle.node_core.specs.Node.{NodeView}
-use Rattle.daemon_model.specs.Sent.{Went, WentFront, sent_calls, number_after}
-use Rattle.daemon_model.specs.Daemon.{Daemon, left_by, stepped_by, records_text}
+use Rattle.daemon_model.specs.Sent.{sent_calls}
+use Rattle.daemon_model.specs.Daemon.{Daemon, left_by, stepped_by}
 use Rattle.daemon_run.specs.declared.running.Running.{Running}
+use Rattle.daemon_run.specs.Audience.{Audience, StepHands}
 use Rattle.daemon_run.specs.Doing.{daemon_of, Goes, Broke, Breaks, Settles, SettlesFront, IsStep, StepsAs, StepBreaks}
 use Rattle.daemon_run.proofs.WentLaws.{none_went}
 use Rattle.daemon_run.proofs.GoesLaws.{Adds, breaks_none}
+use Rattle.daemon_run.proofs.NodeLaws.{from_work}
 
 -- nobody answers
 pub silent : Answering
@@ -27,11 +26,6 @@ adds_left d s = record { calls = sent_calls d.me d.incarnation d.number s.sends;
 pub adds_step : (f : Answering) (e : NodeEvent) (d : Daemon) → Adds d (stepped_by f e d)
 unfolding stepped_by
 adds_step f e d = adds_left d (stepped f d.core e)
-
--- a step begins with a node at work
-from_work : (f : Answering) (s : Core) (e : NodeEvent) → stepped f (at_work s) e ≡ stepped f s e
-unfolding stepped
-from_work f s e = refl
 
 module _ {C : Type 0} where
   step_is : (r : Running C) (f : Answering) (c : Core) (e : NodeEvent) (before : List LinkCall) (noted : List Happened) → c ≡ stepped f r.node.core e
@@ -68,13 +62,10 @@ module _ {C : Type 0} where
   unfolding left_by
   left_same r n before noted = refl
 
-  done_at : (r s : Running C) (n : NodeView C) (a b : Option (List LinkCall)) (x y : Option (List ℕ)) (e : NodeEvent) (f : Answering) → n.core ≡ stepped f r.node.core e → Settles (record r { node = n }) s a b x y → StepsAs r s a b x y e
+  done_at : (r s : Running C) (n : NodeView C) (a b : Option (List LinkCall)) (x y : Option (List ℕ)) (e : NodeEvent) (f : Answering) → n.core ≡ stepped f r.node.core e → Settles (record r { node = n }) s a b x y → Goes r s a b x y (stepped_by f e)
   done_at r s n a b x y e f core h =
       let g = settled_goes (record r { node = n }) s a b x y h in
-      record {
-        answers = f;
-        goes = record { calls = g.calls; records = g.records; is = λ before noted. step_is r f n.core e before noted core ∙ (left_same r n before noted ∙ g.is before noted); went = g.went; written = g.written };
-      }
+      record { calls = g.calls; records = g.records; is = λ before noted. step_is r f n.core e before noted core ∙ (left_same r n before noted ∙ g.is before noted); went = g.went; written = g.written }
 
   broke_at : (r : Running C) (n : NodeView C) (a b : Option (List LinkCall)) (x y : Option (List ℕ)) (e : NodeEvent) (f : Answering) → n.core ≡ stepped f r.node.core e → SettlesFront (record r { node = n }) a b x y → StepBreaks r a b x y e
   broke_at r n a b x y e f core h = record {
@@ -83,10 +74,19 @@ module _ {C : Type 0} where
   }
 
   -- what the node did is sent and written
-  pub step_done : (r q s : Running C) (a b : Option (List LinkCall)) (x y : Option (List ℕ)) (e : NodeEvent) → IsStep r q e → Settles q s a b x y → StepsAs r s a b x y e
-  step_done r q s a b x y e h g = done_at r s q.node a b x y e h.answers h.core (subst (λ (t : Running C). Settles t s a b x y) h.is g)
+  pub step_done : {A B : List C → Audience → Type 0} (r q s : Running C) (a b : Option (List LinkCall)) (x y : Option (List ℕ)) (e : NodeEvent) → IsStep A B r q e → Settles q s a b x y → StepsAs A B r s a b x y e
+  step_done {B = B} r q s a b x y e h g = record {
+    answers = h.answers;
+    goes = done_at r s q.node a b x y e h.answers h.core (subst (λ (t : Running C). Settles t s a b x y) h.is g);
+    attends = λ before noted u k.
+        let t : (v : Audience) × StepHands h.answers e (at_work r.node.core) u v × B q.node.clients v = h.attends u k in (
+          t.0,
+          t.1,
+          subst (λ (z : Running C). B z.node.clients t.0) (sym g.is) t.2,
+        );
+  }
 
-  pub step_broke : (r q : Running C) (a b : Option (List LinkCall)) (x y : Option (List ℕ)) (e : NodeEvent) → IsStep r q e → SettlesFront q a b x y → StepBreaks r a b x y e
+  pub step_broke : {A B : List C → Audience → Type 0} (r q : Running C) (a b : Option (List LinkCall)) (x y : Option (List ℕ)) (e : NodeEvent) → IsStep A B r q e → SettlesFront q a b x y → StepBreaks r a b x y e
   step_broke r q a b x y e h g = broke_at r q.node a b x y e h.answers h.core (subst (λ (t : Running C). SettlesFront t a b x y) h.is g)
 
   -- any answers will do where the node had no memory for its step

@@ -1,5 +1,5 @@
 -- How the calls of the settings follow one another, and how a daemon begins.
-use Rattle.std.specs.Prelude.{◌≡◌, ℕ, false, List, [], ◌∷◌, map, Option}
+use Rattle.std.specs.Prelude.{◌≡◌, ℕ, false, List, [], map, Option}
 use Rattle.std.specs.Io.KnownBytes.{Appends}
 use Rattle.hags_io.specs.Edges.{GrowsByFront}
 use Rattle.hags_io.specs.declared.link.LinkCall.{LinkCall}
@@ -10,16 +10,18 @@ use Rattle.world_model.specs.declared.script.Script.{Script}
 use Rattle.daemon_model.specs.Sent.{Went, WentFront}
 use Rattle.daemon_model.specs.Daemon.{Daemon, Opening, begun, opened_all, own_calls, records_text}
 use Rattle.daemon_run.specs.declared.running.Running.{Running}
-use Rattle.daemon_run.specs.Doing.{daemon_of, Goes, Breaks}
+use Rattle.daemon_run.specs.Audience.{Audience, OpeningHands}
+use Rattle.daemon_run.specs.Doing.{daemon_of, Goes, Breaks, Attends}
 
 abbrev pub calls_in : List Opening → List CallLine
 calls_in os = map (λ (o : Opening). o.call) os
 
 -- these calls are carried out
-pub record CallsAs {C : Type 0} (r s : Running C) (calls : List CallLine) (a b : Option (List LinkCall)) (x y : Option (List ℕ)) : Type 0 where
+pub record CallsAs {C : Type 0} (A B : List C → Audience → Type 0) (r s : Running C) (calls : List CallLine) (a b : Option (List LinkCall)) (x y : Option (List ℕ)) : Type 0 where
   pub opening : List Opening
   pub are : calls_in opening ≡ calls
   pub goes : Goes r s a b x y (λ d. opened_all d opening)
+  pub attends : Attends A B r s (λ d. OpeningHands d opening)
 
 -- one of them broke off
 pub record CallsBreak {C : Type 0} (r : Running C) (calls : List CallLine) (a b : Option (List LinkCall)) (x y : Option (List ℕ)) : Type 0 where
@@ -53,10 +55,11 @@ pub record Stopped (d : Daemon) (a b : Option (List LinkCall)) (x y : Option (Li
   pub front : GrowsByFront x y (records_text d.records)
 
 -- the node started, and the calls of the settings are carried out
-pub record BeginsAs {C : Type 0} (script : Script) (me incarnation moment : ℕ) (s : Running C) (a b : Option (List LinkCall)) (x y : Option (List ℕ)) : Type 0 where
+pub record BeginsAs {C : Type 0} (A B : List C → Audience → Type 0) (script : Script) (me incarnation moment : ℕ) (s : Running C) (a b : Option (List LinkCall)) (x y : Option (List ℕ)) : Type 0 where
   pub opening : List Opening
   pub are : calls_in opening ≡ own_calls me script.lines
   pub reached : Reached (opened_all (begun script.config me incarnation moment) opening) s a b x y
+  pub attends : (z : Audience) → A [] z → (v : Audience) × OpeningHands (begun script.config me incarnation moment) opening z v × B s.node.clients v
 
 pub record BeginBreaks (script : Script) (me incarnation moment : ℕ) (a b : Option (List LinkCall)) (x y : Option (List ℕ)) : Type 0 where
   pub opening : List Opening

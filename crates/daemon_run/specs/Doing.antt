@@ -1,18 +1,17 @@
 -- How a daemon that runs follows the one of the definitions.
-use Rattle.std.specs.Prelude.{◌≡◌, ℕ, ◌≤◌, min, ◌+◌, List, [], ◌∷◌, ◌++◌, Option, Some, None}
+use Rattle.std.specs.Prelude.{◌≡◌, ℕ, List, [], ◌∷◌, ◌++◌, Option}
 use Rattle.std.specs.Io.KnownBytes.{Appends}
 use Rattle.hags_io.specs.Edges.{GrowsByFront}
 use Rattle.hags_io.specs.Links.{Counts}
 use Rattle.hags_io.specs.declared.link.LinkCall.{LinkCall}
 use Rattle.piece_link.specs.Joining.{taken}
-use Rattle.node_state.specs.declared.call.CallLine.{CallLine}
 use Rattle.node_state.specs.declared.happened.Happened.{Happened}
-use Rattle.node_state.specs.declared.state.Core.{Core}
 use Rattle.node_state.specs.HandOn.{Answering}
-use Rattle.node_state.specs.Step.{NodeEvent, Calls, at_work, stepped}
+use Rattle.node_state.specs.Step.{NodeEvent, at_work, stepped}
 use Rattle.daemon_model.specs.Sent.{Went, WentFront, sent_calls, number_after}
-use Rattle.daemon_model.specs.Daemon.{Daemon, Turn, stepped_by, ticked, given, heard, turned, records_text}
+use Rattle.daemon_model.specs.Daemon.{Daemon, Turn, stepped_by, is_due, ticked, given, heard, turned, records_text}
 use Rattle.daemon_run.specs.declared.running.Running.{Running}
+use Rattle.daemon_run.specs.Audience.{Audience, StepHands, TickHands, GivenHands, TakenHands, HeardHands, TurnHands}
 
 -- the daemon that stands like this, and did this so far
 abbrev pub daemon_of : {C : Type 0} → Running C → List LinkCall → List Happened → Daemon
@@ -48,6 +47,11 @@ pub record Broke (before : List LinkCall) (noted : List Happened) (a b : Option 
 abbrev pub Breaks : {C : Type 0} → Running C → Option (List LinkCall) → Option (List LinkCall) → Option (List ℕ) → Option (List ℕ) → (Daemon → Daemon) → Type 0
 Breaks r a b x y f = (before : List LinkCall) (noted : List Happened) → Broke before noted a b x y (f (daemon_of r before noted))
 
+-- Where A held of the clients with some audience, H comes from that to one of which B holds with the clients now.
+abbrev pub Attends : {C : Type 0} → (List C → Audience → Type 0) → (List C → Audience → Type 0) → Running C → Running C → (Daemon → Audience → Audience → Type 0) → Type 0
+Attends A B r s H =
+    (before : List LinkCall) (noted : List Happened) (x : Audience) → A r.node.clients x → (y : Audience) × H (daemon_of r before noted) x y × B s.node.clients y
+
 -- which node it is stays, and how many receives failed in a row
 abbrev pub IsSame : {C : Type 0} → Running C → Running C → Type 0
 IsSame r s = (s.me ≡ r.me) × (s.failed ≡ r.failed)
@@ -65,15 +69,17 @@ pub record SettlesFront {C : Type 0} (r : Running C) (a b : Option (List LinkCal
   pub front : GrowsByFront x y (records_text r.node.core.records)
 
 -- the node did the event, with some answers of its clients, and nothing else changed
-pub record IsStep {C : Type 0} (r s : Running C) (e : NodeEvent) : Type 0 where
+pub record IsStep {C : Type 0} (A B : List C → Audience → Type 0) (r s : Running C) (e : NodeEvent) : Type 0 where
   pub answers : Answering
   pub core : s.node.core ≡ stepped answers r.node.core e
   pub is : s ≡ record r { node = s.node }
+  pub attends : (x : Audience) → A r.node.clients x → (y : Audience) × StepHands answers e (at_work r.node.core) x y × B s.node.clients y
 
 -- an event, with what it sends and records
-pub record StepsAs {C : Type 0} (r s : Running C) (a b : Option (List LinkCall)) (x y : Option (List ℕ)) (e : NodeEvent) : Type 0 where
+pub record StepsAs {C : Type 0} (A B : List C → Audience → Type 0) (r s : Running C) (a b : Option (List LinkCall)) (x y : Option (List ℕ)) (e : NodeEvent) : Type 0 where
   pub answers : Answering
   pub goes : Goes r s a b x y (stepped_by answers e)
+  pub attends : Attends A B r s (λ d. StepHands answers e d.core)
 
 pub record StepBreaks {C : Type 0} (r : Running C) (a b : Option (List LinkCall)) (x y : Option (List ℕ)) (e : NodeEvent) : Type 0 where
   pub answers : Answering
@@ -82,18 +88,20 @@ pub record StepBreaks {C : Type 0} (r : Running C) (a b : Option (List LinkCall)
 -- ---- parts of a turn
 
 -- a tick, where it is due
-pub record TicksAs {C : Type 0} (r s : Running C) (a b : Option (List LinkCall)) (x y : Option (List ℕ)) (moment : ℕ) : Type 0 where
+pub record TicksAs {C : Type 0} (A : List C → Audience → Type 0) (r s : Running C) (a b : Option (List LinkCall)) (x y : Option (List ℕ)) (moment : ℕ) : Type 0 where
   pub answers : Answering
   pub goes : Goes r s a b x y (ticked moment answers)
+  pub attends : Attends A A r s (λ d. TickHands (is_due d.last moment) answers d.core)
 
 pub record TickBreaks {C : Type 0} (r : Running C) (a b : Option (List LinkCall)) (x y : Option (List ℕ)) (moment : ℕ) : Type 0 where
   pub answers : Answering
   pub breaks : Breaks r a b x y (ticked moment answers)
 
 -- a whole message
-pub record GivesAs {C : Type 0} (r s : Running C) (a b : Option (List LinkCall)) (x y : Option (List ℕ)) (message : Option (List ℕ)) : Type 0 where
+pub record GivesAs {C : Type 0} (A : List C → Audience → Type 0) (r s : Running C) (a b : Option (List LinkCall)) (x y : Option (List ℕ)) (message : Option (List ℕ)) : Type 0 where
   pub answers : Answering
   pub goes : Goes r s a b x y (given message answers)
+  pub attends : Attends A A r s (λ d. GivenHands message answers d.core)
 
 pub record GiveBreaks {C : Type 0} (r : Running C) (a b : Option (List LinkCall)) (x y : Option (List ℕ)) (message : Option (List ℕ)) : Type 0 where
   pub answers : Answering
@@ -103,19 +111,21 @@ pub record GiveBreaks {C : Type 0} (r : Running C) (a b : Option (List LinkCall)
 abbrev pub taken_in : List ℕ → Answering → Daemon → Daemon
 taken_in bytes f d = given (taken d.joining bytes).message f (record d { joining = (taken d.joining bytes).joining })
 
-pub record TakesAs {C : Type 0} (r s : Running C) (a b : Option (List LinkCall)) (x y : Option (List ℕ)) (bytes : List ℕ) : Type 0 where
+pub record TakesAs {C : Type 0} (A : List C → Audience → Type 0) (r s : Running C) (a b : Option (List LinkCall)) (x y : Option (List ℕ)) (bytes : List ℕ) : Type 0 where
   pub answers : Answering
   pub goes : Goes r s a b x y (taken_in bytes answers)
+  pub attends : Attends A A r s (TakenHands bytes answers)
 
 pub record TakeBreaks {C : Type 0} (r : Running C) (a b : Option (List LinkCall)) (x y : Option (List ℕ)) (bytes : List ℕ) : Type 0 where
   pub answers : Answering
   pub breaks : Breaks r a b x y (taken_in bytes answers)
 
 -- a receive, with what it brings
-pub record HearsAs {C : Type 0} (r s : Running C) (a b : Option (List LinkCall)) (x y : Option (List ℕ)) : Type 0 where
+pub record HearsAs {C : Type 0} (A : List C → Audience → Type 0) (r s : Running C) (a b : Option (List LinkCall)) (x y : Option (List ℕ)) : Type 0 where
   pub got : LinkCall
   pub answers : Answering
   pub goes : Goes r s a b x y (heard got answers)
+  pub attends : Attends A A r s (HeardHands got answers)
 
 pub record HearBreaks {C : Type 0} (r : Running C) (a b : Option (List LinkCall)) (x y : Option (List ℕ)) : Type 0 where
   pub got : LinkCall
@@ -124,10 +134,11 @@ pub record HearBreaks {C : Type 0} (r : Running C) (a b : Option (List LinkCall)
 
 -- ---- a turn
 
-pub record TurnsAs {C : Type 0} (r s : Running C) (a b : Option (List LinkCall)) (x y : Option (List ℕ)) (u v : Option (List ℕ)) : Type 0 where
+pub record TurnsAs {C : Type 0} (A : List C → Audience → Type 0) (r s : Running C) (a b : Option (List LinkCall)) (x y : Option (List ℕ)) (u v : Option (List ℕ)) : Type 0 where
   pub turn : Turn
   pub moments : Counts u v (turn.moment ∷ [])
   pub goes : Goes r s a b x y (λ d. turned d turn)
+  pub attends : Attends A A r s (λ d. TurnHands d turn)
 
 pub record TurnBreaks {C : Type 0} (r : Running C) (a b : Option (List LinkCall)) (x y : Option (List ℕ)) (u v : Option (List ℕ)) : Type 0 where
   pub turn : Turn

@@ -1,7 +1,14 @@
 -- How a daemon ends.
 use Rattle.std.specs.Prelude.{◌≡◌, ℕ, Bool, true, false, List, Option}
+use Rattle.client_callbacks.specs.declared.votes.VoteItem.{VoteItem}
+use Rattle.client_callbacks.specs.Handed.{Handed}
 use Rattle.hags_io.specs.declared.link.LinkCall.{LinkCall}
 use Rattle.hags_io.specs.Links.{Same, Tells, was_opened}
+use Rattle.node_state.specs.Step.{at_work}
+use Rattle.node_core.specs.Node.{NodeView}
+use Rattle.world_model.specs.declared.script.Script.{Script}
+use Rattle.daemon_model.specs.Lives.{ServesAs}
+use Rattle.daemon_run.specs.Audience.{Audience, audience_of, LifeHands, Attend}
 
 -- nothing was received, sent, written or read of the clock
 pub record NothingDone (a b : Option (List LinkCall)) (x y u v : Option (List ℕ)) : Type 0 where
@@ -15,3 +22,9 @@ pub record Opens (o r : Option (Option (ℕ × Bool))) (port status : ℕ) (N P 
   pub told : Tells o r (was_opened port done)
   pub closed : done ≡ false → (status ≡ 6) × N
   pub ended : done ≡ true → status ≡ 6 → P
+
+-- It did all its turns. Where the objects that it was given stood for these lists, the clients of its sessions stand at
+-- the end for their own, each with what its life handed to that client, in order.
+pub record HandsOver {C : Type 0} (P : List (List Handed) → Type 0) (R : C → List Handed → Type 0) (votes : C → Option (List (Option VoteItem))) (script : Script) (me incarnation turns : ℕ) (node : NodeView C) (a b : Option (List LinkCall)) (x y : Option (List ℕ)) (u v : Option (List ℕ)) : Type 0 where
+  pub serves : ServesAs script me incarnation turns (at_work node.core) a b x y u v
+  pub hands : (lists : List (List Handed)) → P lists → (last : Audience) × LifeHands script me incarnation serves.life (audience_of lists) last × Attend R votes node.clients last

@@ -1,4 +1,5 @@
 pub mod Keeping
+pub mod Audience
 pub mod Doing
 pub mod Calling
 pub mod Serving

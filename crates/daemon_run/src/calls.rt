@@ -1,9 +1,12 @@
 //! The calls of the settings: those of the own node's clients.
-ghost use Rattle.std.specs.Prelude.{◌≡◌, ◌≤◌, ℕ, ◌∷◌, [], OnOk, OnErr, IfSome, IsTrue, None, Err};
+ghost use Rattle.std.specs.Prelude.{◌≡◌, ◌≤◌, ℕ, ◌∷◌, [], List, OnOk, OnErr, IfOk, IfSome, IsTrue, None, Err, is_none};
 ghost use Rattle.hags_io.specs.Edges.{Rose};
 ghost use Rattle.node_state.specs.declared.call.CallLine.TheVariants as call;
 ghost use Rattle.node_state.specs.Step.{Calls};
 ghost use Rattle.daemon_model.specs.Daemon.{own_call, own_calls};
+ghost use Rattle.client_callbacks.specs.Handed.{Handed};
+ghost use Rattle.session_clients.specs.Clients.{StandFor};
+ghost use Rattle.daemon_run.specs.Audience.{is_boxed, first_for, left_for, Attend, AttendWith};
 ghost use Rattle.daemon_run.specs.Keeping.{KeepsLink};
 ghost use Rattle.daemon_run.specs.Doing.{IsSame, IsStep, StepsAs, StepBreaks};
 ghost use Rattle.daemon_run.specs.Calling.{CallsAs, CallsBreak};
@@ -18,10 +21,18 @@ use rsct_packet::NoMemory;
 use std::alloc::Global;
 use world_model::{Event, Line};
 
-/// What gives a daemon its clients.
-pub trait Hosts<C> {
+/// What gives a daemon its clients: for the votes word `boxed` the next of the objects that it has, and for any other
+/// word a client that was handed nothing.
+pub trait Hosts<C: Callbacks> {
+    /// The objects that it can still give stand for these lists, in order.
+    ghost stand: { Self → List (List Handed) → Type 0 };
+
     /// The client of a votes word. That there is none counts as want of memory.
-    fn client(&mut self, alloc: Global, votes: &[u8]) -> Result<C, NoMemory>;
+    fn client(&mut self, alloc: Global, votes: &[u8]) -> Result<C, NoMemory>
+        ensures gives { (lists : List (List Handed)) → stand self.old lists
+            → IfOk result (λ c. C.stands_for c (first_for votes.now lists)
+            × stand self.new (left_for votes.now lists)) }
+        ensures votes { IfOk result (λ c. is_none (C.script c) ≡ is_boxed votes.now) };
 }
 
 /// The objects that were handed to a daemon and that no client has taken.
@@ -31,6 +42,8 @@ pub struct Objects {
 }
 
 impl Hosts<DaemonClient> for Objects {
+    ghost stand = { λ o lists. StandFor (λ (b : _) (h : _). (Callbacks-box b).stands_for b.value h) o.left.items lists };
+
     /// The client of a votes word: for `boxed` it is the next of the objects, and else one that votes as the word says.
     /// That no object is left, or that it is no votes word, counts as want of memory: good settings have neither.
     fn client(&mut self, alloc: Global, votes: &[u8]) -> Result<DaemonClient, NoMemory> {
@@ -68,7 +81,9 @@ impl<C: Callbacks> Running<C> {
         votes: &[u8],
         hosts: &mut H,
     ) -> Result<(), NoMemory>
-        ensures does { OnOk result ((node : ℕ) → IsStep self.old self.new
+        ensures does { OnOk result ((node : ℕ) → IsStep
+            (AttendWith (H.stand hosts.old) C.stands_for C.script)
+            (AttendWith (H.stand hosts.new) C.stands_for C.script) self.old self.new
             (Calls (call.Init node name.now votes.now))) }
         ensures same { IsSame self.old self.new }
     {
@@ -81,7 +96,8 @@ impl<C: Callbacks> Running<C> {
 
     /// A client ends its session.
     fn say_goodbye(&mut self, alloc: Global, client: &[u8]) -> Result<(), NoMemory>
-        ensures does { OnOk result (IsStep self.old self.new (Calls (call.Goodbye client.now))) }
+        ensures does { OnOk result (IsStep (Attend C.stands_for C.script)
+            (Attend C.stands_for C.script) self.old self.new (Calls (call.Goodbye client.now))) }
         ensures same { IsSame self.old self.new }
     {
         match self.node.say_goodbye(alloc, client) {
@@ -91,13 +107,16 @@ impl<C: Callbacks> Running<C> {
     }
 
     /// A call happens to the node.
+    #[tactic(auto, using(crate::proofs::NodeLaws::within_kept, crate::proofs::NodeLaws::goodbye_kept))]
     fn call<H: Hosts<C>>(
         &mut self,
         alloc: Global,
         call: &CallLine,
         hosts: &mut H,
     ) -> Result<(), NoMemory>
-        ensures does { OnOk result (IsStep self.old self.new (Calls call.now)) }
+        ensures does { OnOk result (IsStep (AttendWith (H.stand hosts.old) C.stands_for C.script)
+            (AttendWith (H.stand hosts.new) C.stands_for C.script) self.old self.new
+            (Calls call.now)) }
         ensures same { IsSame self.old self.new }
     {
         match call {
@@ -120,8 +139,10 @@ impl<C: Callbacks> Running<C> {
         link: &mut L,
     ) -> Result<(), Stop>
         requires { self.old.me ≤ 32 }
-        ensures done { OnOk result (StepsAs self.old self.new (L.calls link.old) (L.calls link.new)
-            (K.held out.old) (K.held out.new) (Calls call.now)) }
+        ensures done { OnOk result (StepsAs (AttendWith (H.stand hosts.old) C.stands_for C.script)
+            (AttendWith (H.stand hosts.new) C.stands_for C.script) self.old self.new
+            (L.calls link.old) (L.calls link.new) (K.held out.old) (K.held out.new)
+            (Calls call.now)) }
         ensures broke { OnErr result (StepBreaks self.old (L.calls link.old) (L.calls link.new)
             (K.held out.old) (K.held out.new) (Calls call.now)) }
         ensures same { IsSame self.old self.new }
@@ -147,8 +168,10 @@ impl<C: Callbacks> Running<C> {
         link: &mut L,
     ) -> Result<(), Stop>
         requires { self.old.me ≤ 32 }
-        ensures done { OnOk result (CallsAs self.old self.new (own_call self.old.me line.now)
-            (L.calls link.old) (L.calls link.new) (K.held out.old) (K.held out.new)) }
+        ensures done { OnOk result (CallsAs (AttendWith (H.stand hosts.old) C.stands_for C.script)
+            (AttendWith (H.stand hosts.new) C.stands_for C.script) self.old self.new
+            (own_call self.old.me line.now) (L.calls link.old) (L.calls link.new)
+            (K.held out.old) (K.held out.new)) }
         ensures broke { OnErr result (CallsBreak self.old (own_call self.old.me line.now)
             (L.calls link.old) (L.calls link.new) (K.held out.old) (K.held out.new)) }
         ensures same { IsSame self.old self.new }
@@ -174,8 +197,10 @@ impl<C: Callbacks> Running<C> {
         link: &mut L,
     ) -> Result<(), Stop>
         requires { self.old.me ≤ 32 }
-        ensures done { OnOk result (CallsAs self.old self.new (own_calls self.old.me lines.now)
-            (L.calls link.old) (L.calls link.new) (K.held out.old) (K.held out.new)) }
+        ensures done { OnOk result (CallsAs (AttendWith (H.stand hosts.old) C.stands_for C.script)
+            (AttendWith (H.stand hosts.new) C.stands_for C.script) self.old self.new
+            (own_calls self.old.me lines.now) (L.calls link.old) (L.calls link.new)
+            (K.held out.old) (K.held out.new)) }
         ensures broke { OnErr result (CallsBreak self.old (own_calls self.old.me lines.now)
             (L.calls link.old) (L.calls link.new) (K.held out.old) (K.held out.new)) }
         ensures same { IsSame self.old self.new }

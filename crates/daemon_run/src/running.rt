@@ -2,6 +2,7 @@
 ghost use Rattle.std.specs.Prelude.{◌≡◌, ◌≤◌, OnOk, OnErr, IsTrue, Err};
 ghost use Rattle.hags_io.specs.Edges.{Rose};
 ghost use Rattle.node_core.specs.Event.{event_in, is_taken};
+ghost use Rattle.daemon_run.specs.Audience.{Attend};
 ghost use Rattle.daemon_run.specs.Keeping.{KeepsLink};
 ghost use Rattle.daemon_run.specs.Doing.{IsSame, Settles, SettlesFront, IsStep, StepsAs, StepBreaks};
 
@@ -60,7 +61,8 @@ impl<C: Callbacks> Running<C> {
     /// An event happens to the node.
     pub(crate) fn happen(&mut self, alloc: Global, event: NodeEvent<'_>) -> Result<(), NoMemory>
         requires taken { IsTrue (is_taken event) }
-        ensures does { OnOk result (IsStep self.old self.new (event_in event.entry)) }
+        ensures does { OnOk result (IsStep (Attend C.stands_for C.script)
+            (Attend C.stands_for C.script) self.old self.new (event_in event.entry)) }
         ensures same { IsSame self.old self.new }
     {
         match self.node.step(alloc, event) {
@@ -80,7 +82,8 @@ impl<C: Callbacks> Running<C> {
     ) -> Result<(), Stop>
         requires within { self.old.me ≤ 32 }
         requires taken { IsTrue (is_taken event) }
-        ensures done { OnOk result (StepsAs self.old self.new (L.calls link.old) (L.calls link.new)
+        ensures done { OnOk result (StepsAs (Attend C.stands_for C.script)
+            (Attend C.stands_for C.script) self.old self.new (L.calls link.old) (L.calls link.new)
             (K.held out.old) (K.held out.new) (event_in event.entry)) }
         ensures broke { OnErr result (StepBreaks self.old (L.calls link.old) (L.calls link.new)
             (K.held out.old) (K.held out.new) (event_in event.entry)) }

@@ -7,7 +7,8 @@ ghost use Rattle.daemon_model.specs.Settings.{all_places};
 ghost use Rattle.daemon_model.specs.Lives.{ServesAs, ServesTo, ServesFront};
 ghost use Rattle.daemon_run.specs.Keeping.{KeepsLink};
 ghost use Rattle.daemon_run.specs.Calling.{BeginsAs, BeginBreaks, fresh_running};
-ghost use Rattle.daemon_run.specs.Ends.{NothingDone, Opens};
+ghost use Rattle.daemon_run.specs.Audience.{AttendWith};
+ghost use Rattle.daemon_run.specs.Ends.{NothingDone, Opens, HandsOver};
 
 use crate::calls::Hosts;
 use crate::places::tell_places;
@@ -78,8 +79,11 @@ fn begin<C: Callbacks, H: Hosts<C>, K: Sink, L: Link>(
     link: &mut L,
 ) -> Result<Running<C>, Stop>
     requires { serving.me ≤ 32 }
-    ensures done { IfOk result (λ r. BeginsAs script.now serving.me serving.incarnation moment r
-        (L.calls link.old) (L.calls link.new) (K.held out.old) (K.held out.new)) }
+    ensures done { IfOk result (λ r. BeginsAs
+        (AttendWith (H.stand hosts.old) C.stands_for C.script)
+        (AttendWith (H.stand hosts.new) C.stands_for C.script) script.now serving.me
+        serving.incarnation moment r (L.calls link.old) (L.calls link.new) (K.held out.old)
+        (K.held out.new)) }
     ensures broke { OnErr result (BeginBreaks script.now serving.me serving.incarnation moment
         (L.calls link.old) (L.calls link.new) (K.held out.old) (K.held out.new)) }
     ensures within { IfOk result (λ r. r.me ≤ 32) }
@@ -97,7 +101,7 @@ fn begin<C: Callbacks, H: Hosts<C>, K: Sink, L: Link>(
 }
 
 /// The whole life of a daemon whose link is open.
-#[tactic(auto, using(crate::proofs::EndLaws::serves_none, crate::proofs::EndLaws::serves_all, crate::proofs::EndLaws::serves_to, crate::proofs::EndLaws::serves_front, crate::proofs::CallLaws::begins_none, crate::proofs::KeepLaws::keeps_itself, crate::proofs::KeepLaws::keeps_on))]
+#[tactic(auto, using(crate::proofs::EndLaws::serves_none, crate::proofs::EndLaws::serves_all, crate::proofs::EndLaws::hands_over, crate::proofs::EndLaws::serves_to, crate::proofs::EndLaws::serves_front, crate::proofs::CallLaws::begins_none, crate::proofs::KeepLaws::keeps_itself, crate::proofs::KeepLaws::keeps_on))]
 fn live<C: Callbacks, H: Hosts<C>, K: Sink, L: Link, M: Clock>(
     alloc: Global,
     script: &Script,
@@ -111,6 +115,10 @@ fn live<C: Callbacks, H: Hosts<C>, K: Sink, L: Link, M: Clock>(
     ensures done { IfOk result (λ node. ServesAs script.now serving.me serving.incarnation
         serving.turns (at_work node.core) (L.calls link.old) (L.calls link.new) (K.held out.old)
         (K.held out.new) (M.moments clock.old) (M.moments clock.new)) }
+    ensures hands { IfOk result (λ node. HandsOver (H.stand hosts.old)
+        C.stands_for C.script script.now serving.me serving.incarnation serving.turns node
+        (L.calls link.old) (L.calls link.new) (K.held out.old) (K.held out.new)
+        (M.moments clock.old) (M.moments clock.new)) }
     ensures ended { result ≡ Err Ending.LinkFault → ServesTo script.now serving.me
         serving.incarnation serving.turns (L.calls link.old) (L.calls link.new) (K.held out.old)
         (K.held out.new) (M.moments clock.old) (M.moments clock.new) }
@@ -164,7 +172,12 @@ fn without_node<C: Callbacks>(status: u8) -> Served<C>
 /// The status is 0 after all turns; 6 where the link could not be opened, or 16 receives in a row failed; 5 where `out`
 /// failed; and 3 where memory has run out. In the last two cases what was sent and written is a front of what the
 /// definition of the daemon's run gives (`crates/daemon_model`), and in the others all of it.
-#[tactic(auto, using(crate::proofs::EndLaws::opens_closed, crate::proofs::EndLaws::opens_open, crate::proofs::EndLaws::tells_kept, crate::proofs::EndLaws::nothing_done, crate::proofs::EndLaws::serves_all_before, crate::proofs::EndLaws::serves_to_before, crate::proofs::EndLaws::serves_front_before, crate::proofs::KeepLaws::same_on))]
+///
+/// Where the status is 0, and the objects that `hosts` had stood for some lists, each client of the node's sessions
+/// stands for its own (`hands`): that of the k-th line whose word is `boxed` for the k-th list, and any other for an empty
+/// one, each with the notices and tellings behind it that the run handed to that client, in order, and the ballots that it
+/// filled. Just the clients of those lines vote by no items, so that no other client stands in place of an object.
+#[tactic(auto, using(crate::proofs::EndLaws::opens_closed, crate::proofs::EndLaws::opens_open, crate::proofs::EndLaws::tells_kept, crate::proofs::EndLaws::nothing_done, crate::proofs::EndLaws::serves_all_before, crate::proofs::EndLaws::hands_over_before, crate::proofs::EndLaws::serves_to_before, crate::proofs::EndLaws::serves_front_before, crate::proofs::KeepLaws::same_on))]
 pub fn serve<C: Callbacks, H: Hosts<C>, K: Sink, L: Link, M: Clock>(
     alloc: Global,
     script: &Script,
@@ -186,6 +199,10 @@ pub fn serve<C: Callbacks, H: Hosts<C>, K: Sink, L: Link, M: Clock>(
     ensures served { result.status ≡ 0 → IfSome result.node (λ node. ServesAs script.now serving.me
         serving.incarnation serving.turns (at_work node.core) (L.calls link.old) (L.calls link.new)
         (K.held out.old) (K.held out.new) (M.moments clock.old) (M.moments clock.new)) }
+    ensures hands { result.status ≡ 0 → IfSome result.node (λ node. HandsOver (H.stand hosts.old)
+        C.stands_for C.script script.now serving.me serving.incarnation serving.turns node
+        (L.calls link.old) (L.calls link.new) (K.held out.old) (K.held out.new)
+        (M.moments clock.old) (M.moments clock.new)) }
     ensures memory { result.status ≡ 3 → ServesFront script.now serving.me serving.incarnation
         serving.turns (L.calls link.old) (L.calls link.new) (K.held out.old) (K.held out.new)
         (M.moments clock.old) (M.moments clock.new) }

@@ -1,6 +1,7 @@
 //! The turns of a daemon.
 ghost use Rattle.std.specs.Prelude.{◌≡◌, ◌≤◌, ◌<◌, OnOk, OnErr, Some, Err, length};
 ghost use Rattle.hags_io.specs.Edges.{Rose};
+ghost use Rattle.daemon_run.specs.Audience.{Attend};
 ghost use Rattle.daemon_run.specs.Keeping.{KeepsLink};
 ghost use Rattle.daemon_run.specs.Doing.{IsSame, TicksAs, TickBreaks, GivesAs, GiveBreaks, TakesAs, TakeBreaks, HearsAs, HearBreaks, TurnsAs, TurnBreaks};
 ghost use Rattle.daemon_run.specs.Serving.{TurnsDone, TurnsEnded, TurnsBroken};
@@ -37,7 +38,8 @@ impl<C: Callbacks> Running<C> {
         link: &mut L,
     ) -> Result<(), Stop>
         requires { self.old.me ≤ 32 }
-        ensures done { OnOk result (TicksAs self.old self.new (L.calls link.old) (L.calls link.new)
+        ensures done { OnOk result (TicksAs (Attend C.stands_for C.script) self.old self.new
+            (L.calls link.old) (L.calls link.new)
             (K.held out.old) (K.held out.new) moment) }
         ensures broke { OnErr result (TickBreaks self.old (L.calls link.old) (L.calls link.new)
             (K.held out.old) (K.held out.new) moment) }
@@ -64,7 +66,8 @@ impl<C: Callbacks> Running<C> {
         link: &mut L,
     ) -> Result<(), Stop>
         requires { self.old.me ≤ 32 }
-        ensures done { OnOk result (GivesAs self.old self.new (L.calls link.old) (L.calls link.new)
+        ensures done { OnOk result (GivesAs (Attend C.stands_for C.script) self.old self.new
+            (L.calls link.old) (L.calls link.new)
             (K.held out.old) (K.held out.new) (Some message.now)) }
         ensures broke { OnErr result (GiveBreaks self.old (L.calls link.old) (L.calls link.new)
             (K.held out.old) (K.held out.new) (Some message.now)) }
@@ -87,7 +90,8 @@ impl<C: Callbacks> Running<C> {
         link: &mut L,
     ) -> Result<(), Stop>
         requires { self.old.me ≤ 32 }
-        ensures done { OnOk result (TakesAs self.old self.new (L.calls link.old) (L.calls link.new)
+        ensures done { OnOk result (TakesAs (Attend C.stands_for C.script) self.old self.new
+            (L.calls link.old) (L.calls link.new)
             (K.held out.old) (K.held out.new) datagram.now) }
         ensures broke { OnErr result (TakeBreaks self.old (L.calls link.old) (L.calls link.new)
             (K.held out.old) (K.held out.new) datagram.now) }
@@ -115,7 +119,8 @@ impl<C: Callbacks> Running<C> {
     ) -> Result<(), Stop>
         requires within { self.old.me ≤ 32 }
         requires room { 65536 ≤ length buf.old }
-        ensures done { OnOk result (HearsAs self.old self.new (L.calls link.old) (L.calls link.new)
+        ensures done { OnOk result (HearsAs (Attend C.stands_for C.script) self.old self.new
+            (L.calls link.old) (L.calls link.new)
             (K.held out.old) (K.held out.new)) }
         ensures broke { OnErr result (HearBreaks self.old (L.calls link.old) (L.calls link.new)
             (K.held out.old) (K.held out.new)) }
@@ -157,7 +162,8 @@ impl<C: Callbacks> Running<C> {
     ) -> Result<(), Stop>
         requires within { self.old.me ≤ 32 }
         requires room { 65536 ≤ length buf.old }
-        ensures done { OnOk result (TurnsAs self.old self.new (L.calls link.old) (L.calls link.new)
+        ensures done { OnOk result (TurnsAs (Attend C.stands_for C.script) self.old self.new
+            (L.calls link.old) (L.calls link.new)
             (K.held out.old) (K.held out.new) (M.moments clock.old) (M.moments clock.new)) }
         ensures broke { OnErr result (TurnBreaks self.old (L.calls link.old) (L.calls link.new)
             (K.held out.old) (K.held out.new) (M.moments clock.old) (M.moments clock.new)) }
@@ -188,9 +194,9 @@ impl<C: Callbacks> Running<C> {
     ) -> Result<(), Ending>
         requires within { self.old.me ≤ 32 }
         requires room { 65536 ≤ length buf.old }
-        ensures done { OnOk result (TurnsDone self.old self.new turns (L.calls link.old)
-            (L.calls link.new) (K.held out.old) (K.held out.new) (M.moments clock.old)
-            (M.moments clock.new)) }
+        ensures done { OnOk result (TurnsDone (Attend C.stands_for C.script) self.old self.new
+            turns (L.calls link.old) (L.calls link.new) (K.held out.old) (K.held out.new)
+            (M.moments clock.old) (M.moments clock.new)) }
         ensures ended { result ≡ Err Ending.LinkFault → TurnsEnded self.old self.new turns
             (L.calls link.old) (L.calls link.new) (K.held out.old) (K.held out.new)
             (M.moments clock.old) (M.moments clock.new) }

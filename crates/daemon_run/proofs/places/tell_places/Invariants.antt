@@ -1,4 +1,4 @@
-use Rattle.std.proofs.Common.{◌≡◌, ◌≤◌}
+use Rattle.std.proofs.Common.{◌≡◌}
 use Rattle.hags_io.specs.Links.{Same, Tells}
 use Rattle.daemon_model.specs.Settings.{places_upto}
 use Rattle.daemon_run.proofs.places.tell_places.Given as goal

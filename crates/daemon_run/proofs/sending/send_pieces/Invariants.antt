@@ -1,4 +1,4 @@
-use Rattle.std.proofs.Common.{drop, map}
+use Rattle.std.proofs.Common.{drop}
 use Rattle.daemon_run.specs.Keeping.{KeepsLink}
 use Rattle.daemon_run.proofs.WentLaws.{WentTo, pieces_left}
 use Rattle.daemon_run.proofs.sending.send_pieces.Given as goal

@@ -1,6 +1,11 @@
--- A turn broke off.
-use Rattle.daemon_run.proofs.EndLaws.{serves_front}
+-- All turns were done, or one broke off.
+use Rattle.daemon_run.proofs.EndLaws.{hands_over, serves_front}
 use Rattle.daemon_run.proofs.serving.live.Goals as goal
+
+pub returns-in-Ok-serve_turns-clause-hands : goal.returns-in-Ok-serve_turns-clause-hands
+returns-in-Ok-serve_turns-clause-hands g c =
+    hands_over c.args.script.now c.args.serving.me c.args.serving.incarnation c.now-moment.result c.args.serving.turns c.in-Ok-begin.running c.serve_turns.new.self _ _ _ _ _ _ _ _ _
+    c.now-moment.ensures.told c.in-Ok-begin.ensures.done c.in-Ok-serve_turns.ensures.done
 
 pub returns-in-Err-WriteFault-serve_turns-clause-written :
     goal.returns-in-Err-WriteFault-serve_turns-clause-written

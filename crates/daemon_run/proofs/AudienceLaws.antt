@@ -1,0 +1,297 @@
+-- Clients that come and go, and what the rows of a step hand to them.
+use Rattle.std.proofs.Common.{◌≡◌, ℕ, zero, suc, ◌+◌, Bool, true, false, List, [], ◌∷◌, ◌++◌, length, Option, Some, None, Result, Ok, Err, IsTrue, refl, sym, ap, ◌∙◌, subst, append-nil, length-append, arith}
+use Rattle.std.specs.Prelude.{map, remove, is_none, fold}
+use Rattle.std.specs.List.{last_or}
+use Rattle.std.proofs.lemmas.List.{map-append}
+use Rattle.client_callbacks.specs.declared.ballot.Filled.{Filled}
+use Rattle.client_callbacks.specs.declared.votes.VoteItem.{VoteItem}
+use Rattle.client_callbacks.specs.Handed.{Handed}
+use Rattle.session_clients.specs.Clients.{StandFor}
+use Rattle.session_state.specs.declared.fault.GsFault.{GsFault}
+use Rattle.session_state.specs.declared.state.KeptBallot.{KeptBallot}
+use Rattle.session_state.specs.declared.state.Provider.{Provider}
+use Rattle.session_state.specs.declared.state.Request.{Request}
+use Rattle.session_state.specs.declared.state.SessionState.{SessionState}
+use Rattle.session_state.specs.Calls.{removed_at}
+use Rattle.node_state.specs.declared.call.CallLine.{CallLine}
+use Rattle.node_state.specs.declared.call.CallLine.TheVariants as call
+use Rattle.node_state.specs.declared.packet.Body.{Body}
+use Rattle.node_state.specs.declared.packet.Packet.{Packet}
+use Rattle.node_state.specs.declared.state.Core.{Core}
+use Rattle.node_state.specs.Bytes.{packet_of, event_in, event_of}
+use Rattle.node_state.specs.HandOn.{Answering}
+use Rattle.node_state.specs.Handed.{Logged}
+use Rattle.node_state.specs.State.{InNameOrder, frozen, leader_of, with_sessions, recorded}
+use Rattle.node_state.specs.Sending.{sent, send_on, send_if_known, send_request_to, send_request, send_kept_to, send_kept}
+use Rattle.node_state.specs.Calls.{refuse_call, changed, ask_last, proposed, record_ballot, ballot_sent_if, cast_last, give_ballot, send_gone, send_all_gone, goodbye_said, take_call}
+use Rattle.node_state.specs.Step.{NodeEvent, Ticks, Asks, Given, Calls, at_work}
+use Rattle.node_state.specs.Step as step
+use Rattle.node_calls.specs.Calling.{clients_with, is_within_session}
+use Rattle.entry_delivery.specs.Received.{handed_by, AreLogs, joined, Handing, logged, given_at, given_to, after_handings, Receive}
+use Rattle.entry_delivery.specs.Doing.{Does}
+use Rattle.node_core.specs.declared.events.NodeEvent.TheVariants as event
+use Rattle.node_core.specs.declared.events.NodeEvent as events
+use Rattle.node_core.specs.Event.{called, is_taken}
+use Rattle.node_core.specs.Event as taken
+use Rattle.daemon_run.specs.Audience.{Audience, audience_called, attended, RowsHand, Attend}
+
+-- ---- a call leaves the groups as they are
+
+abbrev SameGroups : Core → Core → Type 0
+SameGroups s t = t.groups ≡ s.groups
+
+known_groups : (s : Core) (to : Option ℕ) (b : Body) → SameGroups s (send_if_known s to b)
+unfolding send_if_known sent send_on
+known_groups s None b = refl
+known_groups s (Some n) b = refl
+
+to_groups : (s : Core) (q : Request) (to : Option ℕ) → SameGroups s (send_request_to s q to)
+unfolding send_request_to sent send_on
+to_groups s q None = refl
+to_groups s q (Some n) = refl
+
+request_groups : (s : Core) (q : Request) → SameGroups s (send_request s q)
+unfolding send_request
+request_groups s q = by (frozen s)
+  where
+    by : (b : Bool) → SameGroups s (elim b as (λ x. Core) [ true ↦ s | false ↦ send_request_to s q (leader_of s q.group) ])
+    by true = refl
+    by false = to_groups s q (leader_of s q.group)
+
+asked_groups : (s : Core) (o : Option Request) → SameGroups s (ask_last s o)
+unfolding ask_last recorded
+asked_groups s None = refl
+asked_groups s (Some q) = request_groups _ q
+
+kept_groups : (s : Core) (k : KeptBallot) (to : Option ℕ) (b : Option Filled) → SameGroups s (send_kept_to s k to b)
+unfolding send_kept_to
+kept_groups s k to None = refl
+kept_groups s k to (Some b) = known_groups s to _
+
+ballot_groups : (s : Core) (k : KeptBallot) (b : Bool) → SameGroups s (ballot_sent_if s k b)
+unfolding ballot_sent_if send_kept
+ballot_groups s k true = refl
+ballot_groups s k false = kept_groups s k (leader_of s k.group) k.ballot.filled
+
+noted_groups : (s : Core) (k : KeptBallot) (b : Option Filled) → SameGroups s (record_ballot s k b)
+unfolding record_ballot recorded
+noted_groups s k None = refl
+noted_groups s k (Some b) = refl
+
+cast_groups : (s : Core) (o : Option KeptBallot) → SameGroups s (cast_last s o)
+unfolding cast_last
+cast_groups s None = refl
+cast_groups s (Some k) = ballot_groups (record_ballot s k k.ballot.filled) k (frozen s) ∙ noted_groups s k k.ballot.filled
+
+each_gone_groups : (s : Core) (xs : List Provider) → SameGroups s (fold send_gone s xs)
+unfolding send_gone
+each_gone_groups s [] = refl
+each_gone_groups s (x ∷ xs) = each_gone_groups (send_gone s x) xs ∙ known_groups s (leader_of s x.group) _
+
+all_gone_groups : (s : Core) (xs : List Provider) → SameGroups s (send_all_gone s xs)
+unfolding send_all_gone
+all_gone_groups s xs = by (frozen s)
+  where
+    by : (b : Bool) → SameGroups s (elim b as (λ x. Core) [ true ↦ s | false ↦ fold send_gone s xs ])
+    by true = refl
+    by false = each_gone_groups s xs
+
+changed_groups : (s : Core) (client : List ℕ) (r : Result SessionState GsFault) → SameGroups s (changed s client r)
+unfolding changed refuse_call with_sessions recorded
+changed_groups s client (Ok t) = refl
+changed_groups s client (Err f) = refl
+
+proposed_groups : (s : Core) (client : List ℕ) (r : Result SessionState GsFault) → SameGroups s (proposed s client r)
+unfolding proposed refuse_call with_sessions recorded
+proposed_groups s client (Ok t) = asked_groups _ (last_or None t.requests)
+proposed_groups s client (Err f) = refl
+
+given_groups : (s : Core) (client : List ℕ) (r : Result SessionState GsFault) → SameGroups s (give_ballot s client r)
+unfolding give_ballot refuse_call with_sessions recorded
+given_groups s client (Ok t) = cast_groups _ (last_or None t.kept)
+given_groups s client (Err f) = refl
+
+said_groups : (s : Core) (client : List ℕ) (ended : List Provider) (r : Result SessionState GsFault) → SameGroups s (goodbye_said s client ended r)
+unfolding goodbye_said refuse_call with_sessions recorded
+said_groups s client ended (Ok t) = all_gone_groups _ ended
+said_groups s client ended (Err f) = refl
+
+call_groups : (s : Core) (c : CallLine) → SameGroups s (take_call s c)
+unfolding take_call
+call_groups s (call.Init node name votes) = changed_groups s name _
+call_groups s (call.Join client g instance attrs) = proposed_groups s client _
+call_groups s (call.Leave client g phases) = proposed_groups s client _
+call_groups s (call.Expel client g phases out) = proposed_groups s client _
+call_groups s (call.ChangeState client g phases value) = proposed_groups s client _
+call_groups s (call.SendMessage client g phases bytes) = proposed_groups s client _
+call_groups s (call.ChangeAttributes client g phases attrs) = proposed_groups s client _
+call_groups s (call.Vote client g v value) = given_groups s client _
+call_groups s (call.Subscribe client g) = changed_groups s client _
+call_groups s (call.Unsubscribe client g) = changed_groups s client _
+call_groups s (call.Goodbye client) = said_groups s client _ _
+
+called_groups : (s : Core) (e : NodeEvent) → SameGroups s (called s e)
+called_groups s Ticks = refl
+called_groups s (Asks mask) = refl
+called_groups s (Given p) = refl
+called_groups s step.Garbage = refl
+called_groups s (Calls c) = call_groups s c
+
+pub called_order : (s : Core) (e : NodeEvent) → InNameOrder s.groups → InNameOrder (called (at_work s) e).groups
+called_order s e order = subst InNameOrder (sym (called_groups (at_work s) e)) order
+
+-- ---- events that neither begin nor end a session
+
+packet_attended : (p : Option Packet) (s : Core) (x : Audience) → attended s (event_in p) x ≡ x
+packet_attended None s x = refl
+packet_attended (Some p) s x = refl
+
+pub message_attended : (message : List ℕ) (s : Core) (x : Audience) → attended s (event_of message) x ≡ x
+unfolding event_of
+message_attended message s x = packet_attended (packet_of message) s x
+
+pub within_attended : (c : CallLine) → IsTrue (is_within_session c) → (s : Core) (x : Audience) → audience_called s c x ≡ x
+within_attended (call.Init node name votes) h s x = absurd cc
+within_attended (call.Goodbye client) h s x = absurd cc
+within_attended _ h s x = refl
+
+pub taken_attended : (e : events.NodeEvent) → IsTrue (is_taken e) → (s : Core) (x : Audience) → attended s (taken.event_in e) x ≡ x
+taken_attended event.Tick h s x = refl
+taken_attended (event.Ask mask) h s x = refl
+taken_attended (event.Datagram bytes) h s x = message_attended bytes.now s x
+taken_attended (event.Call c) h s x = within_attended c.now h s x
+
+-- ---- lists of clients
+
+pub joined_added : (fs hs : List (List Handed)) (f h : List Handed) → length fs ≡ length hs → joined (fs ++ f ∷ []) (hs ++ h ∷ []) ≡ joined fs hs ++ (f ++ h) ∷ []
+joined_added [] [] f h e = refl
+joined_added [] (x ∷ hs) f h e = absurd (omega arith)
+joined_added (g ∷ fs) [] f h e = absurd (omega arith)
+joined_added (g ∷ fs) (x ∷ hs) f h e =
+    let below : length fs ≡ length hs = omega arith in ap (λ (t : List (List Handed)). (g ++ x) ∷ t) (joined_added fs hs f h below)
+
+joined_removed : (i : ℕ) (fs hs : List (List Handed)) → length fs ≡ length hs → joined (remove fs i) (remove hs i) ≡ remove (joined fs hs) i
+joined_removed zero [] [] e = refl
+joined_removed (suc i) [] [] e = refl
+joined_removed zero [] (x ∷ hs) e = absurd (omega arith)
+joined_removed (suc i) [] (x ∷ hs) e = absurd (omega arith)
+joined_removed zero (g ∷ fs) [] e = absurd (omega arith)
+joined_removed (suc i) (g ∷ fs) [] e = absurd (omega arith)
+joined_removed zero (g ∷ fs) (x ∷ hs) e = refl
+joined_removed (suc i) (g ∷ fs) (x ∷ hs) e =
+    let below : length fs ≡ length hs = omega arith in ap (λ (t : List (List Handed)). (g ++ x) ∷ t) (joined_removed i fs hs below)
+
+even_removed : {X Y : Type 0} (i : ℕ) (xs : List X) (ys : List Y) → length xs ≡ length ys → length (remove xs i) ≡ length (remove ys i)
+even_removed zero [] [] e = refl
+even_removed (suc i) [] [] e = refl
+even_removed zero [] (y ∷ ys) e = absurd (omega arith)
+even_removed (suc i) [] (y ∷ ys) e = absurd (omega arith)
+even_removed zero (x ∷ xs) [] e = absurd (omega arith)
+even_removed (suc i) (x ∷ xs) [] e = absurd (omega arith)
+even_removed zero (x ∷ xs) (y ∷ ys) e = let below : length xs ≡ length ys = omega arith in below
+even_removed (suc i) (x ∷ xs) (y ∷ ys) e =
+    let below : length xs ≡ length ys = omega arith in ap suc (even_removed i xs ys below)
+
+map_removed : {X Y : Type 0} (f : X → Y) (i : ℕ) (xs : List X) → map f (remove xs i) ≡ remove (map f xs) i
+map_removed f zero [] = refl
+map_removed f (suc i) [] = refl
+map_removed f zero (x ∷ xs) = refl
+map_removed f (suc i) (x ∷ xs) = ap (λ ys. f x ∷ ys) (map_removed f i xs)
+
+logs_added : (rss : List (List Logged)) → AreLogs rss → AreLogs (rss ++ [] ∷ [])
+logs_added [] h = (tt, tt)
+logs_added (rs ∷ rss) h = (h.0, logs_added rss h.1)
+
+logs_removed : (i : ℕ) (rss : List (List Logged)) → AreLogs rss → AreLogs (remove rss i)
+logs_removed zero [] h = tt
+logs_removed (suc i) [] h = tt
+logs_removed zero (rs ∷ rss) h = h.1
+logs_removed (suc i) (rs ∷ rss) h = (h.0, logs_removed i rss h.1)
+
+given_even : (i : ℕ) (r : Logged) (rss : List (List Logged)) → length (given_at i r rss) ≡ length rss
+given_even zero r [] = refl
+given_even (suc i) r [] = refl
+given_even zero r (rs ∷ rss) = refl
+given_even (suc i) r (rs ∷ rss) = ap suc (given_even i r rss)
+
+to_even : (o : Option ℕ) (r : Logged) (rss : List (List Logged)) → length (given_to o r rss) ≡ length rss
+to_even None r rss = refl
+to_even (Some i) r rss = given_even i r rss
+
+handings_even : (hs : List Handing) (rss : List (List Logged)) → length (after_handings hs rss) ≡ length rss
+unfolding after_handings
+handings_even [] rss = refl
+handings_even (h ∷ hs) rss = handings_even hs (given_to h.place (logged h) rss) ∙ to_even h.place (logged h) rss
+
+map_even : (rss : List (List Logged)) → length (map handed_by rss) ≡ length rss
+map_even [] = refl
+map_even (rs ∷ rss) = ap suc (map_even rss)
+
+module _ {C : Type 0} (R : C → List Handed → Type 0) where
+  stand_added : (cs : List C) (xss : List (List Handed)) (c : C) (xs : List Handed) → R c xs → StandFor R cs xss → StandFor R (cs ++ c ∷ []) (xss ++ xs ∷ [])
+  stand_added [] [] c xs new h = (new, tt)
+  stand_added [] (ys ∷ xss) c xs new h = absurd h
+  stand_added (d ∷ cs) [] c xs new h = absurd h
+  stand_added (d ∷ cs) (ys ∷ xss) c xs new h = (h.0, stand_added cs xss c xs new h.1)
+
+  stand_removed : (i : ℕ) (cs : List C) (xss : List (List Handed)) → StandFor R cs xss → StandFor R (remove cs i) (remove xss i)
+  stand_removed zero [] [] h = tt
+  stand_removed (suc i) [] [] h = tt
+  stand_removed i [] (ys ∷ xss) h = absurd h
+  stand_removed i (c ∷ cs) [] h = absurd h
+  stand_removed zero (c ∷ cs) (ys ∷ xss) h = h.1
+  stand_removed (suc i) (c ∷ cs) (ys ∷ xss) h = (h.0, stand_removed i cs xss h.1)
+
+module _ {C : Type 0} (R : C → List Handed → Type 0) (script : C → Option (List (Option VoteItem))) where
+  boxed_added : (cs : List C) (c : C) → map is_none (map script (cs ++ c ∷ [])) ≡ map is_none (map script cs) ++ is_none (script c) ∷ []
+  boxed_added cs c = ap (map is_none) (map-append script cs (c ∷ [])) ∙ map-append is_none (map script cs) (script c ∷ [])
+
+  -- a session that begins has its client behind all others
+  pub attend_with : (c : C) (cs : List C) (x : Audience) (left : List (List Handed)) (first : List Handed) (b : Bool) (r : Result SessionState GsFault) → R c first → is_none (script c) ≡ b → Attend R script cs x
+      → Attend R script (clients_with c cs r) (record { left = left; boxed = clients_with b x.boxed r; firsts = clients_with first x.firsts r; logs = clients_with [] x.logs r })
+  attend_with c cs x left first b (Ok t) new is h = record {
+    stand = record {
+      stand =
+          let even : length x.firsts ≡ length (map handed_by x.logs) = h.even ∙ sym (map_even x.logs) in
+          subst (StandFor R (cs ++ c ∷ [])) (sym (ap (joined (x.firsts ++ first ∷ [])) (map-append handed_by x.logs ([] ∷ [])) ∙ joined_added x.firsts (map handed_by x.logs) first [] even))
+          (stand_added R cs (joined x.firsts (map handed_by x.logs)) c (first ++ []) (subst (R c) (sym (append-nil first)) new) h.stand.stand);
+      logs = logs_added x.logs h.stand.logs;
+    };
+    even = length-append x.firsts (first ∷ []) ∙ (ap (λ n. n + 1) h.even ∙ sym (length-append x.logs ([] ∷ [])));
+    boxed = boxed_added cs c ∙ (ap (λ bs. bs ++ is_none (script c) ∷ []) h.boxed ∙ ap (λ d. x.boxed ++ d ∷ []) is);
+  }
+  attend_with c cs x left first b (Err f) new is h = record { stand = h.stand; even = h.even; boxed = h.boxed }
+
+  -- one that ends takes its client away
+  pub attend_without : (place : Option ℕ) (cs : List C) (x : Audience) → Attend R script cs x
+      → Attend R script (removed_at place cs) (record { left = x.left; boxed = removed_at place x.boxed; firsts = removed_at place x.firsts; logs = removed_at place x.logs })
+  attend_without None cs x h = record { stand = h.stand; even = h.even; boxed = h.boxed }
+  attend_without (Some i) cs x h = record {
+    stand = record {
+      stand =
+          let even : length x.firsts ≡ length (map handed_by x.logs) = h.even ∙ sym (map_even x.logs) in
+          subst (StandFor R (remove cs i)) (sym (ap (joined (remove x.firsts i)) (map_removed handed_by i x.logs) ∙ joined_removed i x.firsts (map handed_by x.logs) even))
+          (stand_removed R i cs (joined x.firsts (map handed_by x.logs)) h.stand.stand);
+      logs = logs_removed i x.logs h.stand.logs;
+    };
+    even = even_removed i x.firsts x.logs h.even;
+    boxed = ap (map is_none) (map_removed script i cs) ∙ (map_removed is_none i (map script cs) ∙ ap (λ bs. remove bs i) h.boxed);
+  }
+
+  -- what rows hand
+  pub attend_rows : (cs ds : List C) (x : Audience) (hs : List Handing) → Receive R cs ds hs → map script ds ≡ map script cs → Attend R script cs x → Attend R script ds (record x { logs = after_handings hs x.logs })
+  attend_rows cs ds x hs received same h = record {
+    stand = received x.firsts x.logs h.stand;
+    even = h.even ∙ sym (handings_even hs x.logs);
+    boxed = ap (map is_none) same ∙ h.boxed;
+  }
+
+pub rows_hand : {scripts : List (Option (List (Option VoteItem)))} {P : List Handing → Type 0} {row : Answering → Core} (s t u : Core) (x : Audience) → t ≡ u → InNameOrder s.groups → (d : Does scripts P s t row) → RowsHand s u x (record x { logs = after_handings d.handings x.logs })
+rows_hand s t u x same order d = subst (λ v. RowsHand s v x (record x { logs = after_handings d.handings x.logs })) same (record {
+  records = d.along.records;
+  more = d.along.more;
+  handings = d.handings;
+  told = d.stated order;
+  owned = d.owned;
+  logs = refl;
+})
