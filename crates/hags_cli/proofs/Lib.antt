@@ -3,3 +3,5 @@ pub mod LongInputs
 pub mod RunLaws
 pub mod TaskLaws
 pub mod LoadLaws
+pub mod SettingsLaws
+pub mod CommandLaws

@@ -105,10 +105,6 @@ long_bad aim f g h =
 pub long_reads_for : (aim : Aim) (f g : List ℕ) → input_limit < length f → read_for aim (f ++ g) ≡ read_for aim f
 long_reads_for aim f g h = let bad = long_bad aim f g h in bad.first ∙ sym bad.second
 
-pub long_reads : (f g : List ℕ) → input_limit < length f → script_of (f ++ g) ≡ script_of f
-unfolding script_of
-long_reads f g h = long_reads_for Plays f g h
-
 within_or_bad : (t : Bool) (aim : Aim) (f : List ℕ) (s : Script) → nat_lt input_limit (length f) ≡ t → read_for aim f ≡ IsScript s → length f ≤ input_limit
 within_or_bad true aim f s t e =
     let past : input_limit < length f = grind (arith, nat_tests, t) in

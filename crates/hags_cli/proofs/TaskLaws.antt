@@ -6,9 +6,12 @@ use Rattle.hags_io.specs.declared.source.Put.{Put}
 use Rattle.hags_io.specs.declared.source.Put.TheVariants as put
 use Rattle.hags_io.specs.Edges.{GrowsByFront, Rose, Puts}
 use Rattle.hags_io.proofs.ByteLaws.{none_grew}
+use Rattle.hags_io.specs.Links.{Same}
+use Rattle.daemon_run.proofs.KeepLaws.{same_itself}
 use Rattle.node_state.specs.declared.happened.Happened.{Happened}
 use Rattle.world_model.specs.declared.script.LineWhy.{LineWhy}
 use Rattle.world_model.specs.Reading.{IsScript, IsNone, script_of}
+use Rattle.world_model.specs.Settings.{daemon_script}
 use Rattle.world_model.specs.Play.{script_records, lines_text, kinds_in, why_text, written}
 use Rattle.world_model.specs.Kept.{kept_records, most_kept}
 use Rattle.transcript.specs.declared.kinds.Kinds.{Kinds}
@@ -16,8 +19,8 @@ use Rattle.transcript.specs.Kinds.{kinds_text, all_kinds, kinds_of}
 use Rattle.transcript.proofs.KindLaws.{all_lines, named_lines}
 use Rattle.hags_cli.specs.declared.ending.Ending.{Ending}
 use Rattle.hags_cli.specs.declared.ending.Ending.TheVariants as ending
-use Rattle.hags_cli.specs.Run.{PlaysAll, PlaysPast, PlaysFront, MayHavePlayed, IsOutside, Says, SaysLine, SpellsScript, OnBadLine, status_of, ending_text}
-use Rattle.hags_cli.specs.Tasks.{Task, plays, loads, tells, shown_of, Shows, played_as, Asks, DoneAs, OutsideAs, OutsideAt, MemoryAs, ReadFaultAs, WriteFaultAs, PastAs, CanBeDone, LoadEnds, TellEnds, Edges, EndsAs}
+use Rattle.hags_cli.specs.Run.{PlaysAll, PlaysPast, PlaysFront, MayHavePlayed, Says, SpellsScript, OnBadLine, PlaysTo, status_of, said_of, ending_text}
+use Rattle.hags_cli.specs.Tasks.{Task, plays, loads, tells, serves, asks, shown_of, Shows, played_as, Asks, Seen, Untouched, counted, HasFault, IsOutside, OutsideAs, OutsideAt, ReadFaultAs, LinkFaultAs, NoReplyAs, SpellsSettings, CanBeDone, LoadEnds, TellEnds, EndsAs, Ended, SaysLine}
 
 -- ---- which ending a status is
 
@@ -28,7 +31,9 @@ status_done (ending.BadLine n why) h = absurd (omega arith)
 status_done ending.NoMemory h = absurd (omega arith)
 status_done ending.ReadFault h = absurd (omega arith)
 status_done ending.WriteFault h = absurd (omega arith)
+status_done ending.LinkFault h = absurd (omega arith)
 status_done ending.TooMuchKept h = absurd (omega arith)
+status_done ending.NoReply h = absurd (omega arith)
 
 status_usage : (e : Ending) → status_of e ≡ 1 → e ≡ ending.Usage
 status_usage ending.Done h = absurd (omega arith)
@@ -37,7 +42,9 @@ status_usage (ending.BadLine n why) h = absurd (omega arith)
 status_usage ending.NoMemory h = absurd (omega arith)
 status_usage ending.ReadFault h = absurd (omega arith)
 status_usage ending.WriteFault h = absurd (omega arith)
+status_usage ending.LinkFault h = absurd (omega arith)
 status_usage ending.TooMuchKept h = absurd (omega arith)
+status_usage ending.NoReply h = absurd (omega arith)
 
 status_no_memory : (e : Ending) → status_of e ≡ 3 → e ≡ ending.NoMemory
 status_no_memory ending.Done h = absurd (omega arith)
@@ -46,7 +53,9 @@ status_no_memory (ending.BadLine n why) h = absurd (omega arith)
 status_no_memory ending.NoMemory h = refl
 status_no_memory ending.ReadFault h = absurd (omega arith)
 status_no_memory ending.WriteFault h = absurd (omega arith)
+status_no_memory ending.LinkFault h = absurd (omega arith)
 status_no_memory ending.TooMuchKept h = absurd (omega arith)
+status_no_memory ending.NoReply h = absurd (omega arith)
 
 status_read_fault : (e : Ending) → status_of e ≡ 4 → e ≡ ending.ReadFault
 status_read_fault ending.Done h = absurd (omega arith)
@@ -55,7 +64,9 @@ status_read_fault (ending.BadLine n why) h = absurd (omega arith)
 status_read_fault ending.NoMemory h = absurd (omega arith)
 status_read_fault ending.ReadFault h = refl
 status_read_fault ending.WriteFault h = absurd (omega arith)
+status_read_fault ending.LinkFault h = absurd (omega arith)
 status_read_fault ending.TooMuchKept h = absurd (omega arith)
+status_read_fault ending.NoReply h = absurd (omega arith)
 
 status_write_fault : (e : Ending) → status_of e ≡ 5 → e ≡ ending.WriteFault
 status_write_fault ending.Done h = absurd (omega arith)
@@ -64,7 +75,20 @@ status_write_fault (ending.BadLine n why) h = absurd (omega arith)
 status_write_fault ending.NoMemory h = absurd (omega arith)
 status_write_fault ending.ReadFault h = absurd (omega arith)
 status_write_fault ending.WriteFault h = refl
+status_write_fault ending.LinkFault h = absurd (omega arith)
 status_write_fault ending.TooMuchKept h = absurd (omega arith)
+status_write_fault ending.NoReply h = absurd (omega arith)
+
+status_link_fault : (e : Ending) → status_of e ≡ 6 → e ≡ ending.LinkFault
+status_link_fault ending.Done h = absurd (omega arith)
+status_link_fault ending.Usage h = absurd (omega arith)
+status_link_fault (ending.BadLine n why) h = absurd (omega arith)
+status_link_fault ending.NoMemory h = absurd (omega arith)
+status_link_fault ending.ReadFault h = absurd (omega arith)
+status_link_fault ending.WriteFault h = absurd (omega arith)
+status_link_fault ending.LinkFault h = refl
+status_link_fault ending.TooMuchKept h = absurd (omega arith)
+status_link_fault ending.NoReply h = absurd (omega arith)
 
 status_too_much_kept : (e : Ending) → status_of e ≡ 7 → e ≡ ending.TooMuchKept
 status_too_much_kept ending.Done h = absurd (omega arith)
@@ -73,49 +97,51 @@ status_too_much_kept (ending.BadLine n why) h = absurd (omega arith)
 status_too_much_kept ending.NoMemory h = absurd (omega arith)
 status_too_much_kept ending.ReadFault h = absurd (omega arith)
 status_too_much_kept ending.WriteFault h = absurd (omega arith)
+status_too_much_kept ending.LinkFault h = absurd (omega arith)
 status_too_much_kept ending.TooMuchKept h = refl
+status_too_much_kept ending.NoReply h = absurd (omega arith)
+
+status_no_reply : (e : Ending) → status_of e ≡ 9 → e ≡ ending.NoReply
+status_no_reply ending.Done h = absurd (omega arith)
+status_no_reply ending.Usage h = absurd (omega arith)
+status_no_reply (ending.BadLine n why) h = absurd (omega arith)
+status_no_reply ending.NoMemory h = absurd (omega arith)
+status_no_reply ending.ReadFault h = absurd (omega arith)
+status_no_reply ending.WriteFault h = absurd (omega arith)
+status_no_reply ending.LinkFault h = absurd (omega arith)
+status_no_reply ending.TooMuchKept h = absurd (omega arith)
+status_no_reply ending.NoReply h = refl
 
 -- ---- what each status says
 
-pub ended_done : (e : Ending) (t : Option Task) (x : Edges) → EndsAs e t x → status_of e ≡ 0 → Asks t (DoneAs x.left x.rest x.held x.now)
-ended_done e t x h s = subst (λ (z : Ending). EndsAs z t x) (status_done e s) h
+ended_as : (e f : Ending) (t : Option Task) (x : Seen) → e ≡ f → EndsAs e t x → EndsAs f t x
+ended_as e f t x is h = subst (λ (z : Ending). EndsAs z t x) is h
 
-pub ended_usage : (e : Ending) (t : Option Task) (x : Edges) → EndsAs e t x → status_of e ≡ 1 → (t ≡ None) × Keeps x.held x.now × (x.rest ≡ x.left)
-ended_usage e t x h s = subst (λ (z : Ending). EndsAs z t x) (status_usage e s) h
+outside : (task : Task) (left : Option (List ℕ)) (n : ℕ) (why : LineWhy) → IfSome left (HasFault task n why) → IfSome left (IsOutside task)
+outside task None n why h = tt
+outside task (Some b) n why h = record { line = n; why = why; fault = h }
 
-pub ended_memory : (e : Ending) (t : Option Task) (x : Edges) → EndsAs e t x → status_of e ≡ 3 → MemoryAs x.left x.held x.now t
-ended_memory e t x h s = subst (λ (z : Ending). EndsAs z t x) (status_no_memory e s) h
+outside_as : (t : Option Task) (n : ℕ) (why : LineWhy) (x : Seen) → Asks t (OutsideAt n why x) → Asks t (OutsideAs x)
+outside_as None n why x h = h
+outside_as (Some (plays list)) n why x h = (outside (plays list) x.left n why h.0, h.1, h.2)
+outside_as (Some (loads steps)) n why x h = h
+outside_as (Some (tells text)) n why x h = h
+outside_as (Some (serves s objects)) n why x h = (outside (serves s objects) x.left n why h.0, h.1, h.2)
+outside_as (Some (asks a)) n why x h = (outside (asks a) x.left n why h.0, h.1, h.2)
 
-pub ended_read : (e : Ending) (t : Option Task) (x : Edges) → EndsAs e t x → status_of e ≡ 4 → Asks t (ReadFaultAs x.reads x.reads_now x.held x.now)
-ended_read e t x h s = subst (λ (z : Ending). EndsAs z t x) (status_read_fault e s) h
-
-pub ended_write : (e : Ending) (t : Option Task) (x : Edges) → EndsAs e t x → status_of e ≡ 5 → Rose x.writes x.writes_now × Asks t (WriteFaultAs x.left x.held x.now)
-ended_write e t x h s = subst (λ (z : Ending). EndsAs z t x) (status_write_fault e s) h
-
-pub ended_past : (e : Ending) (t : Option Task) (x : Edges) → EndsAs e t x → status_of e ≡ 7 → Asks t (PastAs x.left x.held x.now)
-ended_past e t x h s = subst (λ (z : Ending). EndsAs z t x) (status_too_much_kept e s) h
-
-outside : (left : Option (List ℕ)) (n : ℕ) (why : LineWhy) → IfSome left (λ b. script_of b ≡ IsNone n why) → IfSome left IsOutside
-outside None n why h = tt
-outside (Some b) n why h = record { line = n; why = why; fault = h }
-
-outside_as : (t : Option Task) (n : ℕ) (why : LineWhy) (left old new : Option (List ℕ)) → Asks t (OutsideAt n why left old new) → Asks t (OutsideAs left old new)
-outside_as None n why left old new h = h
-outside_as (Some (plays list)) n why left old new h = (outside left n why h.0, h.1)
-outside_as (Some (loads steps)) n why left old new h = h
-outside_as (Some (tells text)) n why left old new h = h
-
-pub ended_outside : (e : Ending) (t : Option Task) (x : Edges) → EndsAs e t x → status_of e ≡ 2 → Asks t (OutsideAs x.left x.held x.now)
+ended_outside : (e : Ending) (t : Option Task) (x : Seen) → EndsAs e t x → status_of e ≡ 2 → Asks t (OutsideAs x)
 ended_outside ending.Done t x h s = absurd (omega arith)
 ended_outside ending.Usage t x h s = absurd (omega arith)
-ended_outside (ending.BadLine n why) t x h s = outside_as t n why x.left x.held x.now h
+ended_outside (ending.BadLine n why) t x h s = outside_as t n why x h
 ended_outside ending.NoMemory t x h s = absurd (omega arith)
 ended_outside ending.ReadFault t x h s = absurd (omega arith)
 ended_outside ending.WriteFault t x h s = absurd (omega arith)
+ended_outside ending.LinkFault t x h s = absurd (omega arith)
 ended_outside ending.TooMuchKept t x h s = absurd (omega arith)
+ended_outside ending.NoReply t x h s = absurd (omega arith)
 
 -- words that ask for nothing
-pub ended_words : (e : Ending) (t : Option Task) (x : Edges) → EndsAs e t x → t ≡ None → (status_of e ≡ 1) ⊎ (status_of e ≡ 3)
+ended_words : (e : Ending) (t : Option Task) (x : Seen) → EndsAs e t x → t ≡ None → (status_of e ≡ 1) ⊎ (status_of e ≡ 3)
 ended_words e t x h none = by e (subst (λ (z : Option Task). EndsAs e z x) none h)
   where
     by : (e : Ending) → EndsAs e None x → (status_of e ≡ 1) ⊎ (status_of e ≡ 3)
@@ -125,16 +151,83 @@ ended_words e t x h none = by e (subst (λ (z : Option Task). EndsAs e z x) none
     by ending.NoMemory h = inr refl
     by ending.ReadFault h = absurd h
     by ending.WriteFault h = absurd h.1
+    by ending.LinkFault h = absurd h.1
     by ending.TooMuchKept h = absurd h
+    by ending.NoReply h = absurd h
 
-pub status_known : (e : Ending) → (status_of e ≤ 5) ⊎ (status_of e ≡ 7)
+status_known : (e : Ending) → (status_of e ≤ 7) ⊎ (status_of e ≡ 9)
 status_known ending.Done = inl (omega arith)
 status_known ending.Usage = inl (omega arith)
 status_known (ending.BadLine n why) = inl (omega arith)
 status_known ending.NoMemory = inl (omega arith)
 status_known ending.ReadFault = inl (omega arith)
 status_known ending.WriteFault = inl (omega arith)
-status_known ending.TooMuchKept = inr refl
+status_known ending.LinkFault = inl (omega arith)
+status_known ending.TooMuchKept = inl (omega arith)
+status_known ending.NoReply = inr refl
+
+-- ---- where nothing fails
+
+not_outside : (left : Option (List ℕ)) (n : ℕ) (why : LineWhy) → IfSome left (λ b. script_of b ≡ IsNone n why) → SpellsScript left → ⊥
+not_outside None n why o s = s
+not_outside (Some b) n why o s = let both : IsNone n why ≡ IsScript s.0 = sym o ∙ s.1 in cc
+
+settings_not_outside : (node : ℕ) (objects : Option ℕ) (left : Option (List ℕ)) (n : ℕ) (why : LineWhy) → IfSome left (λ b. daemon_script node objects b ≡ IsNone n why) → SpellsSettings node objects left → ⊥
+settings_not_outside node objects None n why o s = s
+settings_not_outside node objects (Some b) n why o s = let both : IsNone n why ≡ IsScript s.0 = sym o ∙ s.1 in cc
+
+outside_cannot : (t : Option Task) (n : ℕ) (why : LineWhy) (x : Seen) → Asks t (OutsideAt n why x) → Asks t (CanBeDone x) → ⊥
+outside_cannot None n why x h can = h
+outside_cannot (Some (plays list)) n why x h can = not_outside x.left n why h.0 can
+outside_cannot (Some (loads steps)) n why x h can = h
+outside_cannot (Some (tells text)) n why x h can = h
+outside_cannot (Some (serves s objects)) n why x h can = settings_not_outside s.node (Some (counted objects)) x.left n why h.0 can
+outside_cannot (Some (asks a)) n why x h can = settings_not_outside a.node None x.left n why h.0 can
+
+read_rose : (t : Option Task) (x : Seen) → Asks t (ReadFaultAs x) → Rose x.reads x.reads_now
+read_rose None x h = absurd h
+read_rose (Some (plays list)) x h = h.0
+read_rose (Some (loads steps)) x h = absurd h
+read_rose (Some (tells text)) x h = absurd h
+read_rose (Some (serves s objects)) x h = h.0
+read_rose (Some (asks a)) x h = h.0
+
+asks_nothing : (t : Option Task) (P : Task → Type 0) → t ≡ None → Asks t P → ⊥
+asks_nothing t P none h = subst (λ (z : Option Task). Asks z P) none h
+
+-- where each ending has its cause, what can be done leaves three of them
+ended_complete : (e : Ending) (t : Option Task) (x : Seen) → EndsAs e t x → Asks t (CanBeDone x) → (Rose x.reads x.reads_now → ⊥) → (Rose x.writes x.writes_now → ⊥) → (Asks t (LinkFaultAs x) → ⊥) → (Asks t (NoReplyAs x) → ⊥)
+    → (status_of e ≡ 0) ⊎ ((status_of e ≡ 3) ⊎ (status_of e ≡ 7))
+ended_complete ending.Done t x h can r w l n = inl refl
+ended_complete ending.Usage t x h can r w l n = absurd (asks_nothing t (CanBeDone x) h.0 can)
+ended_complete (ending.BadLine line why) t x h can r w l n = absurd (outside_cannot t line why x h can)
+ended_complete ending.NoMemory t x h can r w l n = inr (inl refl)
+ended_complete ending.ReadFault t x h can r w l n = absurd (r (read_rose t x h))
+ended_complete ending.WriteFault t x h can r w l n = absurd (w h.0)
+ended_complete ending.LinkFault t x h can r w l n = absurd (l h.1)
+ended_complete ending.TooMuchKept t x h can r w l n = inr (inr refl)
+ended_complete ending.NoReply t x h can r w l n = absurd (n h)
+
+-- ---- all of it
+
+ended_so : (e : Ending) (t : Option Task) (x : Seen) → EndsAs e t x → Ended (status_of e) t x
+ended_so e t x h = record {
+  usage = λ s. ended_as e ending.Usage t x (status_usage e s) h;
+  words = ended_words e t x h;
+  done = λ s. ended_as e ending.Done t x (status_done e s) h;
+  outside = ended_outside e t x h;
+  memory = λ s. ended_as e ending.NoMemory t x (status_no_memory e s) h;
+  read = λ s. ended_as e ending.ReadFault t x (status_read_fault e s) h;
+  write = λ s. ended_as e ending.WriteFault t x (status_write_fault e s) h;
+  link = λ s. ended_as e ending.LinkFault t x (status_link_fault e s) h;
+  past = λ s. ended_as e ending.TooMuchKept t x (status_too_much_kept e s) h;
+  no_reply = λ s. ended_as e ending.NoReply t x (status_no_reply e s) h;
+  no_other = status_known e;
+  complete = ended_complete e t x h;
+}
+
+pub ended : (e : Ending) (n : ℕ) (t : Option Task) (x : Seen) → n ≡ status_of e → EndsAs e t x → Ended n t x
+ended e n t x is h = subst (λ (k : ℕ). Ended k t x) (sym is) (ended_so e t x h)
 
 -- ---- what is said
 
@@ -154,53 +247,42 @@ unfolding written
 says_bad_line e n why text faults later old new is line g =
     subst (λ (x : Ending). Says faults later old new (ending_text x)) (sym is) (subst (Says faults later old new) line g)
 
-line_fault : (t : Option Task) (n : ℕ) (why : LineWhy) (left old new : Option (List ℕ)) → Asks t (OutsideAt n why left old new) → IfSome left (λ b. script_of b ≡ IsNone n why)
-line_fault None n why left old new h = absurd h
-line_fault (Some (plays list)) n why left old new h = h.0
-line_fault (Some (loads steps)) n why left old new h = absurd h
-line_fault (Some (tells text)) n why left old new h = absurd h
+said_as : (e : Ending) → (status_of e ≡ 2 → ⊥) → ending_text e ≡ said_of (status_of e)
+said_as ending.Done other = refl
+said_as ending.Usage other = refl
+said_as (ending.BadLine line why) other = absurd (other refl)
+said_as ending.NoMemory other = refl
+said_as ending.ReadFault other = refl
+said_as ending.WriteFault other = refl
+said_as ending.LinkFault other = refl
+said_as ending.TooMuchKept other = refl
+said_as ending.NoReply other = refl
 
-pub says_line : (e : Ending) (t : Option Task) (x : Edges) (faults later : ℕ) (before after : Option (List ℕ)) → EndsAs e t x → Says faults later before after (ending_text e) → status_of e ≡ 2 → SaysLine x.left faults later before after
-says_line ending.Done t x faults later before after p g h = absurd (omega arith)
-says_line ending.Usage t x faults later before after p g h = absurd (omega arith)
-says_line (ending.BadLine n why) t x faults later before after p g h = record { line = n; why = why; fault = line_fault t n why x.left x.held x.now p; said = g }
-says_line ending.NoMemory t x faults later before after p g h = absurd (omega arith)
-says_line ending.ReadFault t x faults later before after p g h = absurd (omega arith)
-says_line ending.WriteFault t x faults later before after p g h = absurd (omega arith)
-says_line ending.TooMuchKept t x faults later before after p g h = absurd (omega arith)
+pub says_said : (e : Ending) (n faults later : ℕ) (old new : Option (List ℕ)) → n ≡ status_of e → n ≢ 2 → Says faults later old new (ending_text e) → Says faults later old new (said_of n)
+says_said e n faults later old new is other g =
+    subst (λ (k : ℕ). Says faults later old new (said_of k)) (sym is) (subst (Says faults later old new) (said_as e (λ two. other (is ∙ two))) g)
 
--- ---- where nothing fails
+line_fault : (t : Option Task) (n : ℕ) (why : LineWhy) (x : Seen) → Asks t (OutsideAt n why x) → IfSome x.left (λ b. Asks t (λ task. HasFault task n why b))
+line_fault None n why x h = absurd h
+line_fault (Some (plays list)) n why x h = h.0
+line_fault (Some (loads steps)) n why x h = absurd h
+line_fault (Some (tells text)) n why x h = absurd h
+line_fault (Some (serves s objects)) n why x h = h.0
+line_fault (Some (asks a)) n why x h = h.0
 
-not_outside : (left : Option (List ℕ)) → IfSome left IsOutside → SpellsScript left → ⊥
-not_outside None o s = s
-not_outside (Some b) o s = let both : IsNone o.line o.why ≡ IsScript s.0 = sym o.fault ∙ s.1 in cc
+says_line_of : (e : Ending) (t : Option Task) (x : Seen) (faults later : ℕ) (before after : Option (List ℕ)) → EndsAs e t x → Says faults later before after (ending_text e) → status_of e ≡ 2 → SaysLine t x.left faults later before after
+says_line_of ending.Done t x faults later before after p g h = absurd (omega arith)
+says_line_of ending.Usage t x faults later before after p g h = absurd (omega arith)
+says_line_of (ending.BadLine n why) t x faults later before after p g h = record { line = n; why = why; fault = line_fault t n why x p; said = g }
+says_line_of ending.NoMemory t x faults later before after p g h = absurd (omega arith)
+says_line_of ending.ReadFault t x faults later before after p g h = absurd (omega arith)
+says_line_of ending.WriteFault t x faults later before after p g h = absurd (omega arith)
+says_line_of ending.LinkFault t x faults later before after p g h = absurd (omega arith)
+says_line_of ending.TooMuchKept t x faults later before after p g h = absurd (omega arith)
+says_line_of ending.NoReply t x faults later before after p g h = absurd (omega arith)
 
-asks_nothing : (t : Option Task) (P : Task → Type 0) → t ≡ None → Asks t P → ⊥
-asks_nothing t P none h = subst (λ (z : Option Task). Asks z P) none h
-
-outside_is_no_script : (t : Option Task) (left old new : Option (List ℕ)) → Asks t (OutsideAs left old new) → Asks t (CanBeDone left) → ⊥
-outside_is_no_script None left old new h can = h
-outside_is_no_script (Some (plays list)) left old new h can = not_outside left h.0 can
-outside_is_no_script (Some (loads steps)) left old new h can = h
-outside_is_no_script (Some (tells text)) left old new h can = h
-
-read_rose : (t : Option Task) (reads later : ℕ) (old new : Option (List ℕ)) → Asks t (ReadFaultAs reads later old new) → Rose reads later
-read_rose None reads later old new h = absurd h
-read_rose (Some (plays list)) reads later old new h = h.0
-read_rose (Some (loads steps)) reads later old new h = absurd h
-read_rose (Some (tells text)) reads later old new h = absurd h
-
--- where each status has its cause, what can be done leaves three of them
-pub complete : (n : ℕ) (t : Option Task) (reads reads_now writes writes_now : ℕ) (left old new : Option (List ℕ)) (X Y Z : Type 0) → (n ≤ 5) ⊎ (n ≡ 7) → (n ≡ 1 → (t ≡ None) × X × Z) → (n ≡ 2 → Asks t (OutsideAs left old new))
-    → (n ≡ 4 → Asks t (ReadFaultAs reads reads_now old new)) → (n ≡ 5 → Rose writes writes_now × Y) → Asks t (CanBeDone left) → (Rose reads reads_now → ⊥) → (Rose writes writes_now → ⊥) → (n ≡ 0) ⊎ (n ≡ 3) ⊎ (n ≡ 7)
-complete n t reads reads_now writes writes_now left old new X Y Z (inr seven) one two four five can r w = inr (inr seven)
-complete zero t reads reads_now writes writes_now left old new X Y Z (inl le) one two four five can r w = inl refl
-complete (suc zero) t reads reads_now writes writes_now left old new X Y Z (inl le) one two four five can r w = absurd (asks_nothing t (CanBeDone left) (one refl).0 can)
-complete (suc (suc zero)) t reads reads_now writes writes_now left old new X Y Z (inl le) one two four five can r w = absurd (outside_is_no_script t left old new (two refl) can)
-complete (suc (suc (suc zero))) t reads reads_now writes writes_now left old new X Y Z (inl le) one two four five can r w = inr (inl refl)
-complete (suc (suc (suc (suc zero)))) t reads reads_now writes writes_now left old new X Y Z (inl le) one two four five can r w = absurd (r (read_rose t reads reads_now old new (four refl)))
-complete (suc (suc (suc (suc (suc zero))))) t reads reads_now writes writes_now left old new X Y Z (inl le) one two four five can r w = absurd (w (five refl).0)
-complete (suc (suc (suc (suc (suc (suc n)))))) t reads reads_now writes writes_now left old new X Y Z (inl le) one two four five can r w = absurd (omega arith)
+pub says_line : (e : Ending) (n : ℕ) (t : Option Task) (x : Seen) (faults later : ℕ) (before after : Option (List ℕ)) → n ≡ status_of e → EndsAs e t x → Says faults later before after (ending_text e) → n ≡ 2 → SaysLine t x.left faults later before after
+says_line e n t x faults later before after is p g h = says_line_of e t x faults later before after p g (sym is ∙ h)
 
 -- ---- the kinds that are named
 
@@ -246,49 +328,70 @@ may_as f g e None old new p = tt
 may_as f g e (Some b) old new (inl k) = inl k
 may_as f g e (Some b) old new (inr p) = inr (front_is f g e b old new p)
 
-pub run_ends : (k : Kinds) (list : List ℕ) → ((rs : List Happened) → kinds_text k rs ≡ shown_of list rs) → (e : Ending) (x : Edges) → (e ≡ ending.Done → IfSome x.left (PlaysAll (kinds_text k) x.held x.now) × IsAtEnd x.rest)
-    → OnBadLine e (λ n why. IfSome x.left (λ b. script_of b ≡ IsNone n why) × Keeps x.held x.now) → (e ≡ ending.NoMemory → IfSome x.left (MayHavePlayed (kinds_text k) x.held x.now)) → (e ≡ ending.ReadFault → Rose x.reads x.reads_now × Keeps x.held x.now)
-    → (e ≡ ending.WriteFault → Rose x.writes x.writes_now × IfSome x.left (PlaysFront (kinds_text k) x.held x.now)) → (e ≡ ending.TooMuchKept → IfSome x.left (PlaysPast (kinds_text k) x.held x.now)) → e ≢ ending.Usage → EndsAs e (Some (plays list)) x
-run_ends k list same ending.Done x done line memory read write past command = (all_as (kinds_text k) (shown_of list) same x.left x.held x.now (done refl).0, (done refl).1)
-run_ends k list same ending.Usage x done line memory read write past command = absurd (command refl)
-run_ends k list same (ending.BadLine n why) x done line memory read write past command = line
-run_ends k list same ending.NoMemory x done line memory read write past command = may_as (kinds_text k) (shown_of list) same x.left x.held x.now (memory refl)
-run_ends k list same ending.ReadFault x done line memory read write past command = read refl
-run_ends k list same ending.WriteFault x done line memory read write past command = ((write refl).0, front_as (kinds_text k) (shown_of list) same x.left x.held x.now (write refl).1)
-run_ends k list same ending.TooMuchKept x done line memory read write past command = past_as (kinds_text k) (shown_of list) same x.left x.held x.now (past refl)
+-- nothing but the streams was touched
+pub untouched : (x : Seen) → x.calls_now ≡ x.calls → x.places_now ≡ x.places → x.opened_now ≡ x.opened → x.moments_now ≡ x.moments → Untouched x
+untouched x calls places opened moments = record { calls = calls; places = places; opened = opened; moments = moments }
 
-pub load_ends : (e : Ending) (steps : ℕ) (x : Edges) → x.rest ≡ x.left → LoadEnds e steps x.writes x.writes_now x.held x.now → EndsAs e (Some (loads steps)) x
+pub run_ends : (k : Kinds) (list : List ℕ) → ((rs : List Happened) → kinds_text k rs ≡ shown_of list rs) → (e : Ending) (x : Seen) → Untouched x → (e ≡ ending.Done → IfSome x.left (PlaysAll (kinds_text k) x.held x.now) × IsAtEnd x.rest)
+    → OnBadLine e (λ n why. IfSome x.left (λ b. script_of b ≡ IsNone n why) × Keeps x.held x.now) → (e ≡ ending.NoMemory → IfSome x.left (MayHavePlayed (kinds_text k) x.held x.now)) → (e ≡ ending.ReadFault → Rose x.reads x.reads_now × Keeps x.held x.now)
+    → (e ≡ ending.WriteFault → Rose x.writes x.writes_now × IfSome x.left (PlaysFront (kinds_text k) x.held x.now)) → (e ≡ ending.TooMuchKept → IfSome x.left (PlaysPast (kinds_text k) x.held x.now)) → PlaysTo e → EndsAs e (Some (plays list)) x
+run_ends k list same ending.Done x still done line memory read write past command = (all_as (kinds_text k) (shown_of list) same x.left x.held x.now (done refl).0, (done refl).1)
+run_ends k list same ending.Usage x still done line memory read write past command = absurd command
+run_ends k list same (ending.BadLine n why) x still done line memory read write past command = (line.0, line.1, still)
+run_ends k list same ending.NoMemory x still done line memory read write past command = may_as (kinds_text k) (shown_of list) same x.left x.held x.now (memory refl)
+run_ends k list same ending.ReadFault x still done line memory read write past command = ((read refl).0, (read refl).1, still)
+run_ends k list same ending.WriteFault x still done line memory read write past command = ((write refl).0, front_as (kinds_text k) (shown_of list) same x.left x.held x.now (write refl).1)
+run_ends k list same ending.LinkFault x still done line memory read write past command = absurd command
+run_ends k list same ending.TooMuchKept x still done line memory read write past command = past_as (kinds_text k) (shown_of list) same x.left x.held x.now (past refl)
+run_ends k list same ending.NoReply x still done line memory read write past command = absurd command
+
+pub load_ends : (e : Ending) (steps : ℕ) (x : Seen) → x.rest ≡ x.left → LoadEnds e steps x.writes x.writes_now x.held x.now → EndsAs e (Some (loads steps)) x
 load_ends ending.Done steps x still h = (h, still)
 load_ends ending.Usage steps x still h = absurd h
 load_ends (ending.BadLine n why) steps x still h = absurd h
 load_ends ending.NoMemory steps x still h = h.written
 load_ends ending.ReadFault steps x still h = absurd h
 load_ends ending.WriteFault steps x still h = h
+load_ends ending.LinkFault steps x still h = absurd h
 load_ends ending.TooMuchKept steps x still h = h
+load_ends ending.NoReply steps x still h = absurd h
 
-pub tell_ends : (e : Ending) (text : List ℕ) (x : Edges) → x.rest ≡ x.left → TellEnds e text x.writes x.writes_now x.held x.now → EndsAs e (Some (tells text)) x
-tell_ends ending.Done text x still h = (h, still)
-tell_ends ending.Usage text x still h = absurd h
-tell_ends (ending.BadLine n why) text x still h = absurd h
-tell_ends ending.NoMemory text x still h = h
-tell_ends ending.ReadFault text x still h = absurd h
-tell_ends ending.WriteFault text x still h = h
-tell_ends ending.TooMuchKept text x still h = absurd h
+tells_so : (e : Ending) (text : List ℕ) (x : Seen) → x.rest ≡ x.left → TellEnds e text x.writes x.writes_now x.held x.now → EndsAs e (Some (tells text)) x
+tells_so ending.Done text x still h = (h, still)
+tells_so ending.Usage text x still h = absurd h
+tells_so (ending.BadLine n why) text x still h = absurd h
+tells_so ending.NoMemory text x still h = h
+tells_so ending.ReadFault text x still h = absurd h
+tells_so ending.WriteFault text x still h = h
+tells_so ending.LinkFault text x still h = absurd h
+tells_so ending.TooMuchKept text x still h = absurd h
+tells_so ending.NoReply text x still h = absurd h
 
-keeps_itself : (held : Option (List ℕ)) → Keeps held held
+pub tell_ends : (e : Ending) (text wanted : List ℕ) (x : Seen) → text ≡ wanted → x.rest ≡ x.left → TellEnds e text x.writes x.writes_now x.held x.now → EndsAs e (Some (tells wanted)) x
+tell_ends e text wanted x is still h = subst (λ (t : List ℕ). EndsAs e (Some (tells t)) x) is (tells_so e text x still h)
+
+pub keeps_itself : (held : Option (List ℕ)) → Keeps held held
 keeps_itself None = tt
 keeps_itself (Some bytes) = refl
 
--- before anything was done
-pub memory_ends : (t : Option Task) (x : Edges) → x.now ≡ x.held → EndsAs ending.NoMemory t x
-memory_ends t x still = subst (λ (z : Option (List ℕ)). MemoryAs x.left x.held z t) (sym still) (by t x.left)
-  where
-    by : (t : Option Task) (left : Option (List ℕ)) → MemoryAs left x.held x.held t
-    by None left = keeps_itself x.held
-    by (Some (plays list)) None = tt
-    by (Some (plays list)) (Some b) = inl (keeps_itself x.held)
-    by (Some (loads steps)) left = none_grew x.held x.held _ (keeps_itself x.held)
-    by (Some (tells text)) left = keeps_itself x.held
+pub keeps_same : (x : Seen) → x.now ≡ x.held → Keeps x.held x.now
+keeps_same x still = subst (Keeps x.held) (sym still) (keeps_itself x.held)
 
-pub usage_ends : (t : Option Task) (x : Edges) → t ≡ None → x.now ≡ x.held → x.rest ≡ x.left → EndsAs ending.Usage t x
-usage_ends t x none still rest = (none, subst (Keeps x.held) (sym still) (keeps_itself x.held), rest)
+calls_same : (x : Seen) → x.calls_now ≡ x.calls → Same x.calls x.calls_now
+calls_same x still = subst (Same x.calls) (sym still) (same_itself x.calls)
+
+nothing_played : (list : List ℕ) (left held now : Option (List ℕ)) → Keeps held now → IfSome left (MayHavePlayed (shown_of list) held now)
+nothing_played list None held now kept = tt
+nothing_played list (Some b) held now kept = inl kept
+
+-- before anything was done
+pub memory_ends : (t : Option Task) (x : Seen) → x.now ≡ x.held → x.calls_now ≡ x.calls → EndsAs ending.NoMemory t x
+memory_ends None x still calls = keeps_same x still
+memory_ends (Some (plays list)) x still calls = nothing_played list x.left x.held x.now (keeps_same x still)
+memory_ends (Some (loads steps)) x still calls = none_grew x.held x.now _ (keeps_same x still)
+memory_ends (Some (tells text)) x still calls = keeps_same x still
+memory_ends (Some (serves s objects)) x still calls = inl (keeps_same x still, calls_same x calls)
+memory_ends (Some (asks a)) x still calls = keeps_same x still
+
+pub usage_ends : (t : Option Task) (x : Seen) → t ≡ None → x.now ≡ x.held → x.rest ≡ x.left → Untouched x → EndsAs ending.Usage t x
+usage_ends t x none still rest touched = (none, keeps_same x still, rest, touched)

@@ -5,16 +5,17 @@ use Rattle.hags_io.specs.Edges.{GrowsByFront, Rose}
 use Rattle.node_state.specs.declared.happened.Happened.{Happened}
 use Rattle.world_model.specs.declared.script.LineWhy.{LineWhy}
 use Rattle.world_model.specs.declared.script.Script.{Script}
-use Rattle.world_model.specs.Reading.{IsScript, IsNone, script_of}
+use Rattle.world_model.specs.declared.script.Aim.{Aim}
+use Rattle.world_model.specs.Reading.{IsScript, IsNone, read_for, script_of}
 use Rattle.world_model.specs.Play.{script_records, written}
 use Rattle.world_model.specs.Kept.{kept_past, kept_records, most_kept}
 use Rattle.net_script.specs.PlaySafe.{ScriptIsSafe, KeptRunIsSafe}
 use Rattle.hags_cli.specs.declared.ending.Ending.{Ending}
 use Rattle.hags_cli.specs.declared.ending.Ending.TheVariants as ending
 
--- an input is read as this front of it is
+-- an input is read as this front of it is, for whatever it is read
 abbrev pub ReadsAs : List ℕ → List ℕ → Type 0
-ReadsAs front b = script_of b ≡ script_of front
+ReadsAs front b = (aim : Aim) → read_for aim b ≡ read_for aim front
 
 -- the input is a script, its packets are within the limit, and what is shown of its records was written, which are those
 -- of a safe run
@@ -46,22 +47,9 @@ pub record PlaysFront (shown : List Happened → List ℕ) (old new : Option (Li
 abbrev pub MayHavePlayed : (List Happened → List ℕ) → Option (List ℕ) → Option (List ℕ) → List ℕ → Type 0
 MayHavePlayed shown old new b = Keeps old new ⊎ PlaysFront shown old new b
 
--- the input has a line that is in no script
-pub record IsOutside (b : List ℕ) : Type 0 where
-  pub line : ℕ
-  pub why : LineWhy
-  pub fault : script_of b ≡ IsNone line why
-
 -- the whole text was said; or nothing, where there was no memory for it; or a front of it, where the sink failed
 abbrev pub Says : ℕ → ℕ → Option (List ℕ) → Option (List ℕ) → List ℕ → Type 0
 Says faults later old new text = Appends old new text ⊎ (Keeps old new ⊎ (Rose faults later × GrowsByFront old new text))
-
--- so was the line that names the first bad line, that of the input where the source tells it
-pub record SaysLine (left : Option (List ℕ)) (faults later : ℕ) (old new : Option (List ℕ)) : Type 0 where
-  pub line : ℕ
-  pub why : LineWhy
-  pub fault : IfSome left (λ b. script_of b ≡ IsNone line why)
-  pub said : Says faults later old new (written [] (IsNone line why))
 
 -- the source tells what is left, and it is a script
 abbrev pub SpellsScript : Option (List ℕ) → Type 0
@@ -73,6 +61,13 @@ abbrev pub OnBadLine : Ending → (ℕ → LineWhy → Type 0) → Type 0
 OnBadLine (ending.BadLine n why) P = P n why
 OnBadLine _ P = Unit {0}
 
+-- so a run ends
+abbrev pub PlaysTo : Ending → Type 0
+PlaysTo ending.Usage = ⊥
+PlaysTo ending.LinkFault = ⊥
+PlaysTo ending.NoReply = ⊥
+PlaysTo _ = Unit {0}
+
 abbrev pub status_of : Ending → ℕ
 status_of ending.Done = 0
 status_of ending.Usage = 1
@@ -80,7 +75,9 @@ status_of (ending.BadLine n why) = 2
 status_of ending.NoMemory = 3
 status_of ending.ReadFault = 4
 status_of ending.WriteFault = 5
+status_of ending.LinkFault = 6
 status_of ending.TooMuchKept = 7
+status_of ending.NoReply = 9
 
 abbrev pub line_of : List ℕ → List ℕ
 line_of text = text ++ 10 ∷ []
@@ -93,7 +90,9 @@ said_of status =
     else if status == 3 then line_of (codes "hags: no memory")
     else if status == 4 then line_of (codes "hags: read fault")
     else if status == 5 then line_of (codes "hags: write fault")
+    else if status == 6 then line_of (codes "hags: link fault")
     else if status == 7 then line_of (codes "hags: too much kept")
+    else if status == 9 then line_of (codes "hags: no reply")
     else []
 
 abbrev pub ending_text : Ending → List ℕ

@@ -1,32 +1,49 @@
 -- What the words of a call ask for, and what each of its endings leaves.
-use Rattle.std.specs.Prelude.{◌≡◌, ℕ, List, [], Option, Some, None, IfSome, option_map}
+use Rattle.std.specs.Prelude.{◌≡◌, ℕ, ◌≤◌, ◌⊎◌, ◌+◌, ◌/◌, ◌%◌, ◌^◌, ◌-◌, min, max, Bool, true, false, List, [], ◌∷◌, Option, Some, None, IfSome}
 use Rattle.std.specs.Io.KnownBytes.{Appends, Keeps, IsAtEnd}
 use Rattle.hags_io.specs.Edges.{GrowsByFront, Rose}
+use Rattle.hags_io.specs.Links.{Same, Tells, Counts, was_opened}
+use Rattle.hags_io.specs.declared.link.LinkCall.{LinkCall}
+use Rattle.hags_io.specs.declared.link.Places.{Places}
+use Rattle.node_state.specs.declared.config.Config.{Config}
 use Rattle.node_state.specs.declared.happened.Happened.{Happened}
+use Rattle.node_state.specs.declared.state.Core.{Core}
 use Rattle.world_model.specs.declared.script.LineWhy.{LineWhy}
-use Rattle.world_model.specs.Reading.{IsNone, script_of}
-use Rattle.world_model.specs.Play.{lines_text, kinds_in}
+use Rattle.world_model.specs.declared.script.Script.{Script}
+use Rattle.world_model.specs.Reading.{IsScript, IsNone, script_of}
+use Rattle.world_model.specs.Settings.{daemon_script}
+use Rattle.world_model.specs.Play.{lines_text, kinds_in, written}
 use Rattle.world_model.specs.Kept.{kept_past, most_kept}
 use Rattle.world_model.specs.Load.{load_text}
 use Rattle.transcript.specs.declared.kinds.Kinds.{Kinds}
 use Rattle.transcript.specs.Kinds.{kinds_text, kinds_of}
 use Rattle.load_script.specs.Script.{load_script}
 use Rattle.net_script.specs.PlaySafe.{ScriptIsSafe, KeptRunIsSafe}
+use Rattle.daemon_model.specs.Settings.{all_places}
+use Rattle.daemon_run.specs.Ends.{NothingDone}
+use Rattle.daemon_run.specs.declared.serving.Serving.{Serving}
+use Rattle.daemon_model.specs.Lives.{ServesAs, ServesTo, ServesFront}
+use Rattle.status_client.specs.declared.question.Asking.{Asking}
+use Rattle.status_client.specs.Waiting.{nothing_heard}
+use Rattle.status_client.specs.Asked.{Answered, Unanswered, Failing, AsksThen, EndsByLink}
 use Rattle.hags_words.specs.declared.command.Command.{Command}
 use Rattle.hags_words.specs.declared.command.Command.TheVariants as command
 use Rattle.hags_words.specs.declared.help.TheConstants.{VERSION}
 use Rattle.hags_words.specs.Commands.{command_of}
 use Rattle.hags_words.specs.Help.{help_of}
+use Rattle.hags_cli.specs.declared.daemon_command.Service.{Service}
 use Rattle.hags_cli.specs.declared.ending.Ending.{Ending}
 use Rattle.hags_cli.specs.declared.ending.Ending.TheVariants as ending
-use Rattle.hags_cli.specs.Run.{PlaysAll, PlaysPast, PlaysFront, MayHavePlayed, IsOutside, SpellsScript}
+use Rattle.hags_cli.specs.Run.{PlaysAll, PlaysPast, PlaysFront, MayHavePlayed, SpellsScript, Says}
 
 -- to play the script of the input and write the lines of these kinds, joined by commas, or of all where none is named; to
--- play a load of so many steps; or to write a text
+-- play a load of so many steps; to write a text; to serve a node, with so many objects for its clients; or to ask one
 pub data Task : Type 0 where
   plays : List ℕ → Task
   loads : ℕ → Task
   tells : List ℕ → Task
+  serves : Service → ℕ → Task
+  asks : Asking → Task
 
 -- the kinds that are named
 abbrev pub list_in : Option (List ℕ) → List ℕ
@@ -48,27 +65,58 @@ abbrev pub played_as : Option (List ℕ) → Option Task
 played_as None = Some (plays [])
 played_as (Some word) = elim (kinds_of word) [ Some kinds ↦ Some (plays word) | None ↦ None ]
 
--- a command that is not built yet asks for nothing
-abbrev pub task_for : Command → Option Task
-task_for (command.Run kinds) = played_as kinds
-task_for (command.Load steps) = Some (loads steps)
-task_for (command.Help about) = option_map tells (help_of about)
-task_for command.Version = Some (tells VERSION.now)
-task_for (command.Daemon node incarnation turns) = None
-task_for (command.Status what node turns) = None
+-- of who has so many objects
+abbrev pub task_for : ℕ → Command → Option Task
+task_for objects (command.Run kinds) = played_as kinds
+task_for objects (command.Load steps) = Some (loads steps)
+task_for objects (command.Help about) = Some (tells (help_of about))
+task_for objects command.Version = Some (tells VERSION.now)
+task_for objects (command.Daemon node incarnation turns) = Some (serves (record { node = node; incarnation = incarnation; turns = turns }) objects)
+task_for objects (command.Status what node turns) = Some (asks (record { what = what; node = node; turns = turns }))
 
-abbrev pub task_asked : Option Command → Option Task
-task_asked None = None
-task_asked (Some c) = task_for c
+abbrev pub task_asked : ℕ → Option Command → Option Task
+task_asked objects None = None
+task_asked objects (Some c) = task_for objects c
 
 -- what the words ask for, or none: usage
-abbrev pub task_of : List (List ℕ) → Option Task
-task_of words = task_asked (command_of words)
+abbrev pub task_of : ℕ → List (List ℕ) → Option Task
+task_of objects words = task_asked objects (command_of words)
 
 -- they ask for something, of which this holds
 abbrev pub Asks : Option Task → (Task → Type 0) → Type 0
 Asks None P = ⊥
 Asks (Some task) P = P task
+
+-- ---- what a call saw
+
+-- Of its input what was left and what is, and its faults; of its output what was held and what is, and its faults; what the
+-- link told and tells, and its faults; and the moments that the clock told and tells.
+pub record Seen : Type 0 where
+  pub left : Option (List ℕ)
+  pub rest : Option (List ℕ)
+  pub reads : ℕ
+  pub reads_now : ℕ
+  pub held : Option (List ℕ)
+  pub now : Option (List ℕ)
+  pub writes : ℕ
+  pub writes_now : ℕ
+  pub calls : Option (List LinkCall)
+  pub calls_now : Option (List LinkCall)
+  pub places : Option Places
+  pub places_now : Option Places
+  pub opened : Option (Option (ℕ × Bool))
+  pub opened_now : Option (Option (ℕ × Bool))
+  pub faults : ℕ
+  pub faults_now : ℕ
+  pub moments : Option (List ℕ)
+  pub moments_now : Option (List ℕ)
+
+-- nothing was told to the link, sent, received or read of the clock
+pub record Untouched (x : Seen) : Type 0 where
+  pub calls : x.calls_now ≡ x.calls
+  pub places : x.places_now ≡ x.places
+  pub opened : x.opened_now ≡ x.opened
+  pub moments : x.moments_now ≡ x.moments
 
 -- ---- what a load leaves
 
@@ -105,75 +153,242 @@ TellEnds ending.NoMemory text faults later old new = Keeps old new
 TellEnds ending.WriteFault text faults later old new = Rose faults later × GrowsByFront old new text
 TellEnds _ text faults later old new = ⊥
 
+-- ---- settings
+
+-- how many objects there are, where the last number of 32 bits stands for any more
+abbrev pub counted : ℕ → ℕ
+counted objects = min objects (2 ^ 32 - 1)
+
+-- what comes of settings that are not read
+abbrev pub SettingsEnd : ℕ → Option ℕ → Option (List ℕ) → ℕ → ℕ → Ending → Type 0
+SettingsEnd node objects left reads reads_now (ending.BadLine line why) = IfSome left (λ b. daemon_script node objects b ≡ IsNone line why)
+SettingsEnd node objects left reads reads_now ending.NoMemory = Unit {0}
+SettingsEnd node objects left reads reads_now ending.ReadFault = Rose reads reads_now
+SettingsEnd node objects left reads reads_now _ = ⊥
+
+-- ---- what a daemon leaves
+
+-- the low 32 bits of the clock's seconds, or 1 where these are 0
+abbrev pub incarnation_at : ℕ → ℕ
+incarnation_at moment = max ((moment / 1000) % 2 ^ 32) 1
+
+-- the clock is read once, for the incarnation
+pub record ByClock (moments after : Option (List ℕ)) (incarnation : ℕ) : Type 0 where
+  pub moment : ℕ
+  pub read : Counts moments after (moment ∷ [])
+  pub is : incarnation ≡ incarnation_at moment
+
+-- the incarnation is the one that is named, or the clock gives it
+abbrev pub Incarnates : Option ℕ → Option (List ℕ) → Option (List ℕ) → ℕ → Type 0
+Incarnates (Some named) moments after incarnation = (incarnation ≡ named) × (after ≡ moments)
+Incarnates None moments after incarnation = ByClock moments after incarnation
+
+-- which daemon runs: with these settings, in this incarnation, from where the clock told these moments
+pub record Running : Type 0 where
+  pub script : Script
+  pub incarnation : ℕ
+  pub moments : Option (List ℕ)
+
+-- the settings are those of the input, and the incarnation that of the words or the clock
+pub record IsRunning (x : Seen) (s : Service) (objects : ℕ) (r : Running) : Type 0 where
+  pub spelled : IfSome x.left (λ b. daemon_script s.node (Some (counted objects)) b ≡ IsScript r.script)
+  pub incarnates : Incarnates s.incarnation x.moments r.moments r.incarnation
+  pub placed : Tells x.places x.places_now (all_places r.script.config)
+
+-- it runs, and of it this holds
+pub record Runs (x : Seen) (s : Service) (objects : ℕ) (P : Running → Type 0) : Type 0 where
+  pub running : Running
+  pub is : IsRunning x s objects running
+  pub holds : P running
+
+abbrev pub port_of : Service → Running → ℕ
+port_of s r = r.script.config.port + s.node
+
+abbrev pub DaemonOpened : Seen → Service → Running → Bool → Type 0
+DaemonOpened x s r done = Tells x.opened x.opened_now (was_opened (port_of s r) done)
+
+-- it did all its turns, whatever its node came to
+pub record IsServed (script : Script) (serving : Serving) (a b : Option (List LinkCall)) (y z u v : Option (List ℕ)) : Type 0 where
+  pub core : Core
+  pub serves : ServesAs script serving.me serving.incarnation serving.turns core a b y z u v
+
+-- so a daemon ends
+abbrev pub ServedAs : Ending → Type 0
+ServedAs ending.Done = Unit {0}
+ServedAs ending.NoMemory = Unit {0}
+ServedAs ending.WriteFault = Unit {0}
+ServedAs ending.LinkFault = Unit {0}
+ServedAs _ = ⊥
+
+-- it did all its turns
+pub record ServesAll (x : Seen) (s : Service) (r : Running) : Type 0 where
+  pub opened : DaemonOpened x s r true
+  pub core : Core
+  pub serves : ServesAs r.script s.node r.incarnation s.turns core x.calls x.calls_now x.held x.now r.moments x.moments_now
+
+-- it broke off
+pub record ServesPart (x : Seen) (s : Service) (r : Running) : Type 0 where
+  pub opened : DaemonOpened x s r true
+  pub serves : ServesFront r.script s.node r.incarnation s.turns x.calls x.calls_now x.held x.now r.moments x.moments_now
+
+-- the link could not be opened, and nothing more was done; or sixteen receives in a row failed
+pub data ServesNoMore (x : Seen) (s : Service) (r : Running) : Type 0 where
+  NeverOpened : DaemonOpened x s r false → NothingDone x.calls x.calls_now x.held x.now r.moments x.moments_now → ServesNoMore x s r
+  FailedOften : DaemonOpened x s r true → ServesTo r.script s.node r.incarnation s.turns x.calls x.calls_now x.held x.now r.moments x.moments_now → ServesNoMore x s r
+
+-- ---- what a question leaves
+
+-- the settings are those of the input, and of the link this holds
+pub record AsksBy (x : Seen) (a : Asking) (P : Config → Type 0) : Type 0 where
+  pub script : Script
+  pub spelled : IfSome x.left (λ b. daemon_script a.node None b ≡ IsScript script)
+  pub placed : Tells x.places x.places_now (all_places script.config)
+  pub holds : P script.config
+
+-- the link was opened, the question went out, and then this
+abbrev pub AsksOver : Seen → Asking → (ℕ → Option (List LinkCall) → Type 0) → Config → Type 0
+AsksOver x a P c = AsksThen c a x.opened x.opened_now x.calls x.moments x.moments_now P
+
+abbrev pub GivesAnswer : Seen → Asking → List ℕ → ℕ → Option (List LinkCall) → Type 0
+GivesAnswer x a text question sent = Answered question a.turns nothing_heard text sent x.calls_now
+
+-- it was answered with a text of which this holds
+pub record IsAnswered (x : Seen) (a : Asking) (P : List ℕ → Type 0) : Type 0 where
+  pub text : List ℕ
+  pub asked : AsksBy x a (AsksOver x a (GivesAnswer x a text))
+  pub holds : P text
+
+abbrev pub GivesNone : Seen → Asking → ℕ → Option (List LinkCall) → Type 0
+GivesNone x a question sent = Unanswered question a.turns nothing_heard sent x.calls_now
+
+abbrev pub GivesFaults : Seen → Asking → ℕ → Option (List LinkCall) → Type 0
+GivesFaults x a question sent = Failing question a.turns nothing_heard sent x.calls_now
+
+-- the link could not be opened, and nothing more was done; or sixteen receives in a row failed
+abbrev pub AsksNoMore : Seen → Asking → Config → Type 0
+AsksNoMore x a c = EndsByLink x.opened x.opened_now x.calls x.calls_now (AsksOver x a (GivesFaults x a) c)
+
 -- ---- what each status leaves, task by task
 
--- all was done: a script is read to its end, and nothing else reads
-abbrev pub DoneAs : Option (List ℕ) → Option (List ℕ) → Option (List ℕ) → Option (List ℕ) → Task → Type 0
-DoneAs left rest old new (plays list) = IfSome left (PlaysAll (shown_of list) old new) × IsAtEnd rest
-DoneAs left rest old new (loads steps) = LoadsAll steps old new × (rest ≡ left)
-DoneAs left rest old new (tells text) = Appends old new text × (rest ≡ left)
+-- all was done: an input is read to its end, and a load and a text read none
+abbrev pub DoneAs : Seen → Task → Type 0
+DoneAs x (plays list) = IfSome x.left (PlaysAll (shown_of list) x.held x.now) × IsAtEnd x.rest
+DoneAs x (loads steps) = LoadsAll steps x.held x.now × (x.rest ≡ x.left)
+DoneAs x (tells text) = Appends x.held x.now text × (x.rest ≡ x.left)
+DoneAs x (serves s objects) = Runs x s objects (ServesAll x s) × IsAtEnd x.rest
+DoneAs x (asks a) = IsAnswered x a (Appends x.held x.now) × IsAtEnd x.rest
 
--- a line of the input is in no script
-abbrev pub OutsideAs : Option (List ℕ) → Option (List ℕ) → Option (List ℕ) → Task → Type 0
-OutsideAs left old new (plays list) = IfSome left IsOutside × Keeps old new
-OutsideAs left old new (loads steps) = ⊥
-OutsideAs left old new (tells text) = ⊥
+-- the input has this first bad line, for this reason: it is in no script, or in no settings
+abbrev pub HasFault : Task → ℕ → LineWhy → List ℕ → Type 0
+HasFault (plays list) line why b = script_of b ≡ IsNone line why
+HasFault (serves s objects) line why b = daemon_script s.node (Some (counted objects)) b ≡ IsNone line why
+HasFault (asks a) line why b = daemon_script a.node None b ≡ IsNone line why
+HasFault _ line why b = ⊥
 
--- this line, for this reason
-abbrev pub OutsideAt : ℕ → LineWhy → Option (List ℕ) → Option (List ℕ) → Option (List ℕ) → Task → Type 0
-OutsideAt line why left old new (plays list) = IfSome left (λ b. script_of b ≡ IsNone line why) × Keeps old new
-OutsideAt line why left old new (loads steps) = ⊥
-OutsideAt line why left old new (tells text) = ⊥
+-- a command that reads has such a line, and did nothing else
+abbrev pub OutsideAt : ℕ → LineWhy → Seen → Task → Type 0
+OutsideAt line why x (loads steps) = ⊥
+OutsideAt line why x (tells text) = ⊥
+OutsideAt line why x task = IfSome x.left (HasFault task line why) × Keeps x.held x.now × Untouched x
+
+pub record IsOutside (task : Task) (b : List ℕ) : Type 0 where
+  pub line : ℕ
+  pub why : LineWhy
+  pub fault : HasFault task line why b
+
+abbrev pub OutsideAs : Seen → Task → Type 0
+OutsideAs x (loads steps) = ⊥
+OutsideAs x (tells text) = ⊥
+OutsideAs x task = IfSome x.left (IsOutside task) × Keeps x.held x.now × Untouched x
 
 -- memory ran out, of faulty words too
-abbrev pub MemoryAs : Option (List ℕ) → Option (List ℕ) → Option (List ℕ) → Option Task → Type 0
-MemoryAs left old new None = Keeps old new
-MemoryAs left old new (Some (plays list)) = IfSome left (MayHavePlayed (shown_of list) old new)
-MemoryAs left old new (Some (loads steps)) = GrowsByFront old new (load_text steps)
-MemoryAs left old new (Some (tells text)) = Keeps old new
+abbrev pub MemoryAs : Seen → Option Task → Type 0
+MemoryAs x None = Keeps x.held x.now
+MemoryAs x (Some (plays list)) = IfSome x.left (MayHavePlayed (shown_of list) x.held x.now)
+MemoryAs x (Some (loads steps)) = GrowsByFront x.held x.now (load_text steps)
+MemoryAs x (Some (tells text)) = Keeps x.held x.now
+MemoryAs x (Some (serves s objects)) = (Keeps x.held x.now × Same x.calls x.calls_now) ⊎ Runs x s objects (ServesPart x s)
+MemoryAs x (Some (asks a)) = Keeps x.held x.now
 
 -- the input failed
-abbrev pub ReadFaultAs : ℕ → ℕ → Option (List ℕ) → Option (List ℕ) → Task → Type 0
-ReadFaultAs faults later old new (plays list) = Rose faults later × Keeps old new
-ReadFaultAs faults later old new (loads steps) = ⊥
-ReadFaultAs faults later old new (tells text) = ⊥
+abbrev pub ReadFaultAs : Seen → Task → Type 0
+ReadFaultAs x (loads steps) = ⊥
+ReadFaultAs x (tells text) = ⊥
+ReadFaultAs x task = Rose x.reads x.reads_now × Keeps x.held x.now × Untouched x
 
 -- the sink failed
-abbrev pub WriteFaultAs : Option (List ℕ) → Option (List ℕ) → Option (List ℕ) → Task → Type 0
-WriteFaultAs left old new (plays list) = IfSome left (PlaysFront (shown_of list) old new)
-WriteFaultAs left old new (loads steps) = LoadsFront steps old new
-WriteFaultAs left old new (tells text) = GrowsByFront old new text
+abbrev pub WriteFaultAs : Seen → Task → Type 0
+WriteFaultAs x (plays list) = IfSome x.left (PlaysFront (shown_of list) x.held x.now)
+WriteFaultAs x (loads steps) = LoadsFront steps x.held x.now
+WriteFaultAs x (tells text) = GrowsByFront x.held x.now text
+WriteFaultAs x (serves s objects) = Runs x s objects (ServesPart x s)
+WriteFaultAs x (asks a) = IsAnswered x a (GrowsByFront x.held x.now)
+
+-- the link failed
+abbrev pub LinkFaultAs : Seen → Task → Type 0
+LinkFaultAs x (serves s objects) = Runs x s objects (ServesNoMore x s)
+LinkFaultAs x (asks a) = AsksBy x a (AsksNoMore x a) × Keeps x.held x.now
+LinkFaultAs x _ = ⊥
 
 -- packets passed the limit
-abbrev pub PastAs : Option (List ℕ) → Option (List ℕ) → Option (List ℕ) → Task → Type 0
-PastAs left old new (plays list) = IfSome left (PlaysPast (shown_of list) old new)
-PastAs left old new (loads steps) = LoadsPast steps old new
-PastAs left old new (tells text) = ⊥
+abbrev pub PastAs : Seen → Task → Type 0
+PastAs x (plays list) = IfSome x.left (PlaysPast (shown_of list) x.held x.now)
+PastAs x (loads steps) = LoadsPast steps x.held x.now
+PastAs x _ = ⊥
 
--- what can be done where nothing fails: a load and a text always, and to play what is a script
-abbrev pub CanBeDone : Option (List ℕ) → Task → Type 0
-CanBeDone left (plays list) = SpellsScript left
-CanBeDone left (loads steps) = Unit {0}
-CanBeDone left (tells text) = Unit {0}
+-- no reply came
+abbrev pub NoReplyAs : Seen → Task → Type 0
+NoReplyAs x (asks a) = AsksBy x a (AsksOver x a (GivesNone x a)) × Keeps x.held x.now
+NoReplyAs x _ = ⊥
+
+-- the source tells what is left, and it is settings of the node
+abbrev pub SpellsSettings : ℕ → Option ℕ → Option (List ℕ) → Type 0
+SpellsSettings node objects None = ⊥
+SpellsSettings node objects (Some b) = (s : Script) × (daemon_script node objects b ≡ IsScript s)
+
+-- what can be done where nothing fails: a load and a text always, to play what is a script, and to serve or ask by settings
+abbrev pub CanBeDone : Seen → Task → Type 0
+CanBeDone x (plays list) = SpellsScript x.left
+CanBeDone x (loads steps) = Unit {0}
+CanBeDone x (tells text) = Unit {0}
+CanBeDone x (serves s objects) = SpellsSettings s.node (Some (counted objects)) x.left
+CanBeDone x (asks a) = SpellsSettings a.node None x.left
 
 -- ---- all endings
 
--- what a call saw of its streams: what was left to read and what is, what was held and what is, and the counts of faults
-pub record Edges : Type 0 where
-  pub left : Option (List ℕ)
-  pub rest : Option (List ℕ)
-  pub reads : ℕ
-  pub reads_now : ℕ
-  pub held : Option (List ℕ)
-  pub now : Option (List ℕ)
-  pub writes : ℕ
-  pub writes_now : ℕ
+abbrev pub EndsAs : Ending → Option Task → Seen → Type 0
+EndsAs ending.Done t x = Asks t (DoneAs x)
+EndsAs ending.Usage t x = (t ≡ None) × Keeps x.held x.now × (x.rest ≡ x.left) × Untouched x
+EndsAs (ending.BadLine line why) t x = Asks t (OutsideAt line why x)
+EndsAs ending.NoMemory t x = MemoryAs x t
+EndsAs ending.ReadFault t x = Asks t (ReadFaultAs x)
+EndsAs ending.WriteFault t x = Rose x.writes x.writes_now × Asks t (WriteFaultAs x)
+EndsAs ending.LinkFault t x = Rose x.faults x.faults_now × Asks t (LinkFaultAs x)
+EndsAs ending.TooMuchKept t x = Asks t (PastAs x)
+EndsAs ending.NoReply t x = Asks t (NoReplyAs x)
 
-abbrev pub EndsAs : Ending → Option Task → Edges → Type 0
-EndsAs ending.Done t x = Asks t (DoneAs x.left x.rest x.held x.now)
-EndsAs ending.Usage t x = (t ≡ None) × Keeps x.held x.now × (x.rest ≡ x.left)
-EndsAs (ending.BadLine line why) t x = Asks t (OutsideAt line why x.left x.held x.now)
-EndsAs ending.NoMemory t x = MemoryAs x.left x.held x.now t
-EndsAs ending.ReadFault t x = Asks t (ReadFaultAs x.reads x.reads_now x.held x.now)
-EndsAs ending.WriteFault t x = Rose x.writes x.writes_now × Asks t (WriteFaultAs x.left x.held x.now)
-EndsAs ending.TooMuchKept t x = Asks t (PastAs x.left x.held x.now)
+-- How a call ended, by its status. `complete`: what can be done is done, or memory runs out, or packets pass the limit, where
+-- neither the input nor the output failed, the link held, and what was asked was answered.
+pub record Ended (status : ℕ) (t : Option Task) (x : Seen) : Type 0 where
+  pub usage : status ≡ 1 → (t ≡ None) × Keeps x.held x.now × (x.rest ≡ x.left) × Untouched x
+  pub words : t ≡ None → (status ≡ 1) ⊎ (status ≡ 3)
+  pub done : status ≡ 0 → Asks t (DoneAs x)
+  pub outside : status ≡ 2 → Asks t (OutsideAs x)
+  pub memory : status ≡ 3 → MemoryAs x t
+  pub read : status ≡ 4 → Asks t (ReadFaultAs x)
+  pub write : status ≡ 5 → Rose x.writes x.writes_now × Asks t (WriteFaultAs x)
+  pub link : status ≡ 6 → Rose x.faults x.faults_now × Asks t (LinkFaultAs x)
+  pub past : status ≡ 7 → Asks t (PastAs x)
+  pub no_reply : status ≡ 9 → Asks t (NoReplyAs x)
+  pub no_other : (status ≤ 7) ⊎ (status ≡ 9)
+  pub complete : Asks t (CanBeDone x) → (Rose x.reads x.reads_now → ⊥) → (Rose x.writes x.writes_now → ⊥) → (Asks t (LinkFaultAs x) → ⊥) → (Asks t (NoReplyAs x) → ⊥)
+      → (status ≡ 0) ⊎ ((status ≡ 3) ⊎ (status ≡ 7))
+
+-- ---- what is said of a bad line
+
+-- the line that names the first bad line, that of the input where the source tells it, is said as err takes it
+pub record SaysLine (t : Option Task) (left : Option (List ℕ)) (faults later : ℕ) (old new : Option (List ℕ)) : Type 0 where
+  pub line : ℕ
+  pub why : LineWhy
+  pub fault : IfSome left (λ b. Asks t (λ task. HasFault task line why b))
+  pub said : Says faults later old new (written [] (IsNone line why))

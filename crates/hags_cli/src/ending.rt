@@ -10,5 +10,7 @@ pub enum Ending {
     NoMemory,
     ReadFault,
     WriteFault,
+    LinkFault,
     TooMuchKept,
+    NoReply,
 }

@@ -1,10 +1,10 @@
 //! The command `run`.
-ghost use Rattle.std.specs.Prelude.{◌≡◌, ◌≢◌, IfSome};
+ghost use Rattle.std.specs.Prelude.{◌≡◌, IfSome};
 ghost use Rattle.std.specs.Io.KnownBytes.{IsAtEnd, Keeps};
 ghost use Rattle.hags_io.specs.Edges.{Rose};
 ghost use Rattle.world_model.specs.Reading.{script_of, IsNone};
 ghost use Rattle.transcript.specs.Kinds.{kinds_text};
-ghost use Rattle.hags_cli.specs.Run.{PlaysAll, PlaysPast, PlaysFront, MayHavePlayed, OnBadLine};
+ghost use Rattle.hags_cli.specs.Run.{PlaysAll, PlaysPast, PlaysFront, MayHavePlayed, OnBadLine, PlaysTo};
 
 use crate::ending::Ending;
 use crate::input::{InputFault, read_input};
@@ -35,7 +35,7 @@ pub fn run<S: Source, K: Sink>(alloc: Global, kinds: Kinds, input: &mut S, out: 
         (PlaysFront (kinds_text kinds) (K.held out.old) (K.held out.new)) }
     ensures past { result ≡ Ending.TooMuchKept → IfSome (S.left input.old)
         (PlaysPast (kinds_text kinds) (K.held out.old) (K.held out.new)) }
-    ensures command { result ≢ Ending.Usage }
+    ensures endings { PlaysTo result }
 {
     let front = match read_input(alloc, input) {
         Ok(front) => front,

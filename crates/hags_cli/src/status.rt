@@ -1,13 +1,13 @@
 //! The call at the top, and its status.
-ghost use Rattle.std.specs.Prelude.{◌≡◌, ◌≢◌, ◌⊎◌, ◌≤◌, map, None, string_bytes};
-ghost use Rattle.std.specs.Io.KnownBytes.{Keeps};
-ghost use Rattle.hags_io.specs.Edges.{Rose};
-ghost use Rattle.hags_cli.specs.Run.{Says, SaysLine, status_of, said_of, ending_text};
-ghost use Rattle.hags_cli.specs.Tasks.{Asks, task_of, DoneAs, OutsideAs, MemoryAs, ReadFaultAs, WriteFaultAs, PastAs, CanBeDone};
+ghost use Rattle.std.specs.Prelude.{◌≡◌, ◌≢◌, map, string_bytes, length};
+ghost use Rattle.hags_cli.specs.Run.{Says, status_of, said_of, ending_text};
+ghost use Rattle.hags_cli.specs.Tasks.{task_of, SaysLine, Ended};
 
+use crate::edges::Edges;
 use crate::ending::Ending;
 use crate::tasks::obey;
-use hags_io::{Put, Sink, Source};
+use client_callbacks::Callbacks;
+use hags_io::{Clock, Link, Put, Sink, Source};
 use std::alloc::Global;
 use transcript::fault_line;
 
@@ -25,7 +25,9 @@ fn status_of(ending: Ending) -> u8
         Ending::NoMemory => 3,
         Ending::ReadFault => 4,
         Ending::WriteFault => 5,
+        Ending::LinkFault => 6,
         Ending::TooMuchKept => 7,
+        Ending::NoReply => 9,
     }
 }
 
@@ -39,7 +41,9 @@ fn text_of(ending: Ending) -> &'static [u8]
         Ending::NoMemory => b"hags: no memory\n",
         Ending::ReadFault => b"hags: read fault\n",
         Ending::WriteFault => b"hags: write fault\n",
+        Ending::LinkFault => b"hags: link fault\n",
         Ending::TooMuchKept => b"hags: too much kept\n",
+        Ending::NoReply => b"hags: no reply\n",
     }
 }
 
@@ -65,85 +69,64 @@ fn say_ending<E: Sink>(alloc: Global, ending: Ending, err: &mut E)
     }
 }
 
-/// Does what the words ask for, says how it ended, and answers its status.
-fn carry_out<S: Source, K: Sink, E: Sink>(
-    alloc: Global,
-    words: &[String],
-    input: &mut S,
-    out: &mut K,
-    err: &mut E,
-) -> u8
-    ensures usage { result ≡ 1 → (task_of (map string_bytes words.now) ≡ None)
-        × Keeps (K.held out.old) (K.held out.new) × (S.left input.new ≡ S.left input.old) }
-    ensures words { task_of (map string_bytes words.now) ≡ None → (result ≡ 1) ⊎ (result ≡ 3) }
-    ensures done { result ≡ 0 → Asks (task_of (map string_bytes words.now))
-        (DoneAs (S.left input.old) (S.left input.new) (K.held out.old) (K.held out.new)) }
-    ensures outside { result ≡ 2 → Asks (task_of (map string_bytes words.now))
-        (OutsideAs (S.left input.old) (K.held out.old) (K.held out.new)) }
-    ensures memory { result ≡ 3 → MemoryAs (S.left input.old) (K.held out.old) (K.held out.new)
-        (task_of (map string_bytes words.now)) }
-    ensures read { result ≡ 4 → Asks (task_of (map string_bytes words.now))
-        (ReadFaultAs (S.faults input.old) (S.faults input.new) (K.held out.old) (K.held out.new)) }
-    ensures write { result ≡ 5 → Rose (K.faults out.old) (K.faults out.new)
-        × Asks (task_of (map string_bytes words.now))
-        (WriteFaultAs (S.left input.old) (K.held out.old) (K.held out.new)) }
-    ensures past { result ≡ 7 → Asks (task_of (map string_bytes words.now))
-        (PastAs (S.left input.old) (K.held out.old) (K.held out.new)) }
-    ensures no_other { (result ≤ 5) ⊎ (result ≡ 7) }
-    ensures said { result ≢ 2 → Says (E.faults err.old) (E.faults err.new)
-        (E.held err.old) (E.held err.new) (said_of result) }
-    ensures said_line { result ≡ 2 → SaysLine (S.left input.old) (E.faults err.old)
-        (E.faults err.new) (E.held err.old) (E.held err.new) }
-{
-    let ending = obey(alloc, words, input, out);
-    say_ending(alloc, ending, err);
-    status_of(ending)
-}
-
-/// Carries out the command that the words spell, over these streams, and answers its status. What it says of a
-/// failure goes to `err`, whole where `err` takes it; a fault there changes nothing.
+/// Carries out the command that the words spell, over these edges, and answers its status. A daemon gives these objects,
+/// in their order, to those of its clients whose votes are `boxed`. What is said of a failure goes to `err`, whole where
+/// `err` takes it; a fault there changes nothing.
 ///
 /// | status | text on err | when |
 /// |---|---|---|
-/// | 0 | | `run`: the input was read to its end, and the whole text of its run was written, of the kinds that the words name; `load`: the summary of its run; `--help`, `--version`: their text |
-/// | 1 | `hags: usage: ..` | only where the words are of no command that is built; there it is this or 3. Nothing was read or written |
-/// | 2 | `hags: line L: WHY` | `run`: line L is the first of the input that is in no script, and WHY the first reason; nothing was written |
+/// | 0 | | `run`: the input was read to its end, and the whole text of its run was written, of the kinds that the words name; `load`: the summary of its run; `daemon`: all its turns were done, and the lines of its records were written; `status`: the text of the answer was written; `--help`, `--version`: their text |
+/// | 1 | `hags: usage: ..` | only where the words are of no command; there it is this or 3. Nothing was read or written |
+/// | 2 | `hags: line L: WHY` | `run`, `daemon`, `status`: line L is the first of the input that is in no script, or in no settings of the node, and WHY the first reason; nothing was written, and the link was not opened |
 /// | 3 | `hags: no memory` | memory has run out |
-/// | 4 | `hags: read fault` | `run`: the input failed; nothing was written |
+/// | 4 | `hags: read fault` | `run`, `daemon`, `status`: the input failed; nothing was written, and the link was not opened |
 /// | 5 | `hags: write fault` | `out` failed; a front of the text was written |
+/// | 6 | `hags: link fault` | `daemon`, `status`: the link could not be opened, or 16 receives in a row failed; of `daemon` all lines up to there were written, of `status` nothing |
 /// | 7 | `hags: too much kept` | the packets of the run passed 536,870,912 bytes: of `run` the text up to there was written, of `load` nothing |
-pub fn hags<S: Source, K: Sink, E: Sink>(
+/// | 9 | `hags: no reply` | `status`: none of its receives brought the answer; nothing was written |
+#[tactic(auto, using(crate::proofs::TaskLaws::says_line, crate::proofs::TaskLaws::says_said))]
+pub fn hags<S: Source, K: Sink, E: Sink, L: Link, M: Clock>(
     alloc: Global,
     words: &[String],
-    input: &mut S,
-    out: &mut K,
-    err: &mut E,
+    edges: &mut Edges<S, K, E, L, M>,
+    clients: Vec<Box<dyn Callbacks>>,
 ) -> u8
-    ensures usage { result ≡ 1 → (task_of (map string_bytes words.now) ≡ None)
-        × Keeps (K.held out.old) (K.held out.new) × (S.left input.new ≡ S.left input.old) }
-    ensures words { task_of (map string_bytes words.now) ≡ None → (result ≡ 1) ⊎ (result ≡ 3) }
-    ensures done { result ≡ 0 → Asks (task_of (map string_bytes words.now))
-        (DoneAs (S.left input.old) (S.left input.new) (K.held out.old) (K.held out.new)) }
-    ensures outside { result ≡ 2 → Asks (task_of (map string_bytes words.now))
-        (OutsideAs (S.left input.old) (K.held out.old) (K.held out.new)) }
-    ensures memory { result ≡ 3 → MemoryAs (S.left input.old) (K.held out.old) (K.held out.new)
-        (task_of (map string_bytes words.now)) }
-    ensures read { result ≡ 4 → Asks (task_of (map string_bytes words.now))
-        (ReadFaultAs (S.faults input.old) (S.faults input.new) (K.held out.old) (K.held out.new)) }
-    ensures write { result ≡ 5 → Rose (K.faults out.old) (K.faults out.new)
-        × Asks (task_of (map string_bytes words.now))
-        (WriteFaultAs (S.left input.old) (K.held out.old) (K.held out.new)) }
-    ensures past { result ≡ 7 → Asks (task_of (map string_bytes words.now))
-        (PastAs (S.left input.old) (K.held out.old) (K.held out.new)) }
-    ensures no_other { (result ≤ 5) ⊎ (result ≡ 7) }
-    ensures said { result ≢ 2 → Says (E.faults err.old) (E.faults err.new)
-        (E.held err.old) (E.held err.new) (said_of result) }
-    ensures said_line { result ≡ 2 → SaysLine (S.left input.old) (E.faults err.old)
-        (E.faults err.new) (E.held err.old) (E.held err.new) }
-    ensures complete { Asks (task_of (map string_bytes words.now)) (CanBeDone (S.left input.old))
-        → (Rose (S.faults input.old) (S.faults input.new) → ⊥)
-        → (Rose (K.faults out.old) (K.faults out.new) → ⊥) → (result ≡ 0) ⊎ (result ≡ 3)
-        ⊎ (result ≡ 7) }
+    ensures ended { Ended result (task_of (length clients.items)
+        (map string_bytes words.now)) (record {
+          left = S.left edges.old.input;
+          rest = S.left edges.new.input;
+          reads = S.faults edges.old.input;
+          reads_now = S.faults edges.new.input;
+          held = K.held edges.old.out;
+          now = K.held edges.new.out;
+          writes = K.faults edges.old.out;
+          writes_now = K.faults edges.new.out;
+          calls = L.calls edges.old.link;
+          calls_now = L.calls edges.new.link;
+          places = L.places edges.old.link;
+          places_now = L.places edges.new.link;
+          opened = L.opened edges.old.link;
+          opened_now = L.opened edges.new.link;
+          faults = L.faults edges.old.link;
+          faults_now = L.faults edges.new.link;
+          moments = M.moments edges.old.clock;
+          moments_now = M.moments edges.new.clock;
+        }) }
+    ensures said { result ≢ 2 → Says (E.faults edges.old.err) (E.faults edges.new.err)
+        (E.held edges.old.err) (E.held edges.new.err) (said_of result) }
+    ensures said_line { result ≡ 2 → SaysLine (task_of (length clients.items)
+        (map string_bytes words.now)) (S.left edges.old.input) (E.faults edges.old.err)
+        (E.faults edges.new.err) (E.held edges.old.err) (E.held edges.new.err) }
 {
-    carry_out(alloc, words, input, out, err)
+    let ending = obey(
+        alloc,
+        words,
+        &mut edges.input,
+        &mut edges.out,
+        &mut edges.link,
+        &mut edges.clock,
+        clients,
+    );
+    say_ending(alloc, ending, &mut edges.err);
+    status_of(ending)
 }

@@ -1,14 +1,19 @@
 //! What the words of a call ask for, and how it is done.
-ghost use Rattle.std.specs.Prelude.{◌≡◌, IfSome, IfNone, map, string_bytes};
+ghost use Rattle.std.specs.Prelude.{◌≡◌, IfSome, IfNone, map, string_bytes, length};
+ghost use Rattle.hags_words.specs.Commands.{IsWithin};
 ghost use Rattle.hags_cli.specs.Tasks.{Shows, plays, played_as, list_in, task_asked, task_of, EndsAs};
 
+use crate::daemon_command::{Service, serve_node};
 use crate::ending::Ending;
 use crate::load_command::load_steps;
 use crate::run_command::run;
+use crate::status_command::ask_node;
 use crate::tell_command::tell;
-use hags_io::{Sink, Source};
+use client_callbacks::Callbacks;
+use hags_io::{Clock, Link, Sink, Source};
 use hags_words::{Command, VERSION, help_text, read_command};
 use rsct_packet::List;
+use status_client::Asking;
 use std::alloc::Global;
 use transcript::Kinds;
 
@@ -25,14 +30,19 @@ fn kinds_in(list: &Option<List<u8>>) -> Option<Kinds>
     }
 }
 
-/// Does what the command asks for. A command that is not built yet is usage, as is one that is none.
-fn perform<S: Source, K: Sink>(
+/// Does what the command asks for; no command is usage.
+#[tactic(auto, using(crate::proofs::TaskLaws::run_ends, crate::proofs::TaskLaws::load_ends, crate::proofs::TaskLaws::tell_ends, crate::proofs::TaskLaws::usage_ends, crate::proofs::TaskLaws::untouched))]
+fn perform<S: Source, K: Sink, L: Link, M: Clock>(
     alloc: Global,
     command: Option<Command>,
     input: &mut S,
     out: &mut K,
+    link: &mut L,
+    clock: &mut M,
+    clients: Vec<Box<dyn Callbacks>>,
 ) -> Ending
-    ensures { EndsAs result (task_asked command) (record {
+    requires { IfSome command IsWithin }
+    ensures { EndsAs result (task_asked (length clients.items) command) (record {
       left = S.left input.old;
       rest = S.left input.new;
       reads = S.faults input.old;
@@ -41,31 +51,60 @@ fn perform<S: Source, K: Sink>(
       now = K.held out.new;
       writes = K.faults out.old;
       writes_now = K.faults out.new;
+      calls = L.calls link.old;
+      calls_now = L.calls link.new;
+      places = L.places link.old;
+      places_now = L.places link.new;
+      opened = L.opened link.old;
+      opened_now = L.opened link.new;
+      faults = L.faults link.old;
+      faults_now = L.faults link.new;
+      moments = M.moments clock.old;
+      moments_now = M.moments clock.new;
     }) }
 {
     match command {
-        None | Some(Command::Daemon { .. }) | Some(Command::Status { .. }) => Ending::Usage,
+        None => Ending::Usage,
         Some(Command::Run { kinds }) => match kinds_in(&kinds) {
             None => Ending::Usage,
             Some(kinds) => run(alloc, kinds, input, out),
         },
         Some(Command::Load { views }) => load_steps(alloc, views, out),
-        Some(Command::Help { about }) => match help_text(about) {
-            None => Ending::Usage,
-            Some(text) => tell(text, out),
-        },
+        Some(
+            Command::Daemon {
+                node,
+                incarnation,
+                turns,
+            },
+        ) => {
+            let service = Service {
+                node,
+                incarnation,
+                turns,
+            };
+            serve_node(alloc, service, input, out, link, clock, clients)
+        }
+        Some(Command::Status { what, node, turns }) => {
+            let asking = Asking { what, node, turns };
+            ask_node(alloc, asking, input, out, link, clock)
+        }
+        Some(Command::Help { about }) => tell(help_text(about), out),
         Some(Command::Version) => tell(VERSION, out),
     }
 }
 
 /// Does what the words ask for.
-pub fn obey<S: Source, K: Sink>(
+#[tactic(auto, using(crate::proofs::TaskLaws::memory_ends))]
+pub fn obey<S: Source, K: Sink, L: Link, M: Clock>(
     alloc: Global,
     words: &[String],
     input: &mut S,
     out: &mut K,
+    link: &mut L,
+    clock: &mut M,
+    clients: Vec<Box<dyn Callbacks>>,
 ) -> Ending
-    ensures { EndsAs result (task_of (map string_bytes words.now)) (record {
+    ensures { EndsAs result (task_of (length clients.items) (map string_bytes words.now)) (record {
       left = S.left input.old;
       rest = S.left input.new;
       reads = S.faults input.old;
@@ -74,10 +113,20 @@ pub fn obey<S: Source, K: Sink>(
       now = K.held out.new;
       writes = K.faults out.old;
       writes_now = K.faults out.new;
+      calls = L.calls link.old;
+      calls_now = L.calls link.new;
+      places = L.places link.old;
+      places_now = L.places link.new;
+      opened = L.opened link.old;
+      opened_now = L.opened link.new;
+      faults = L.faults link.old;
+      faults_now = L.faults link.new;
+      moments = M.moments clock.old;
+      moments_now = M.moments clock.new;
     }) }
 {
     match read_command(alloc, words) {
-        Ok(command) => perform(alloc, command, input, out),
+        Ok(command) => perform(alloc, command, input, out, link, clock, clients),
         Err(_) => Ending::NoMemory,
     }
 }

@@ -1,6 +1,6 @@
-//! What `--help` and `--version` say, of the commands that are built.
+//! What `--help` and `--version` say.
 ghost use Rattle.std.specs.Prelude.{◌≡◌};
-ghost use Rattle.hags_words.specs.Help.{bytes_of, help_of};
+ghost use Rattle.hags_words.specs.Help.{help_of};
 
 use crate::command::CommandName;
 
@@ -12,12 +12,16 @@ hags: group membership for clusters, proved
 
 usage: hags run [--kinds LIST]
        hags load N
+       hags daemon --node N [--inc I] [--turns T]
+       hags status WHAT --node N [--turns T]
 
 commands:
-  run    plays the script on standard input, and writes the transcript of all
-         that its daemons did
-  load   plays a script that it generates, of N steps at eight nodes, and writes
-         how many views, entries and refusals came of it
+  run     plays the script on standard input, and writes the transcript of all
+          that its daemons did
+  load    plays a script that it generates, of N steps at eight nodes, and
+          writes how many views, entries and refusals came of it
+  daemon  serves node N of the settings on standard input, over UDP
+  status  asks the daemon of node N what it knows, and writes the answer
 
 An example: one node, and one client that joins a group.
 
@@ -27,8 +31,9 @@ An example: one node, and one client that joins a group.
 status:
   0  done               4  read fault
   1  faulty words       5  write fault
-  2  faulty script      7  too much kept
-  3  no memory
+  2  faulty script      6  link fault
+  3  no memory          7  too much kept
+                        9  no reply
 Where it is not 0, a line on standard error says what was wrong.
 
 `hags COMMAND --help` says more of a command, and `hags --version` which
@@ -111,14 +116,88 @@ status:
 pages: docs/command-line.md; README.md
 ";
 
-/// What `--help` says of all commands, or of one, to the byte; `None` exactly where that command is not built yet.
-pub fn help_text(about: Option<CommandName>) -> Option<&'static [u8]>
-    ensures { bytes_of result ≡ help_of about }
+const DAEMON: &[u8] = b"\
+hags daemon: serves a node of a cluster, over UDP
+
+usage: hags daemon --node N [--inc I] [--turns T] < SETTINGS
+
+It reads the settings on standard input to their end: node lines, `port` and so
+on, then the line `begin`, and then what clients of the node do first. All
+daemons of a cluster have the same lines before `begin`. Node N receives on UDP
+port PORT + N of all its addresses. A line is written for each thing that
+happens at the node.
+
+  --node N     its number, from 1 to 32
+  --inc I      its incarnation, from 1 to 4,294,967,295. It must be greater at
+               each start of the node; without it the clock's seconds are taken,
+               so wait a second between two starts
+  --turns T    it ends after T turns, from 1 to 4,294,967,295, which is also
+               what is taken without it. A turn takes in one datagram, or waits
+               20 milliseconds for one
+
+An example, a node alone that ends by itself after a second or so:
+
+  printf 'node 1\\nadapter 1 1 127.0.0.1\\nport 4000\\nbegin\\n' |
+    hags daemon --node 1 --turns 50
+
+status:
+  0  all turns were done
+  1  the words are faulty; nothing was read
+  2  the settings are faulty: `hags: line L: WHY` names their first faulty line;
+     the port was not opened
+  3  no memory
+  4  read fault
+  5  write fault
+  6  the port could not be opened, or 16 receives in a row failed
+
+pages: docs/daemon.md; docs/formats.md, the settings; docs/command-line.md
+";
+
+const STATUS: &[u8] = b"\
+hags status: asks a daemon what it knows
+
+usage: hags status WHAT --node N [--turns T] < SETTINGS
+
+It reads the settings of the cluster on standard input, asks the daemon of node
+N over UDP, and writes its answer. WHAT is one of these:
+
+  hats        the rings of its adapters: a line for each network
+  hagsns      its view: the number, the coordinator, the members
+  hagsgr      the groups that it holds: leader, members, value
+  hagsvote    the votes that run
+
+  --node N     the node that is asked, from 1 to 32
+  --turns T    how many datagrams are received at most, from 1 to 4,294,967,295;
+               1,000 without it. It waits 20 milliseconds for each
+
+An example:
+
+  printf 'node 1\\nadapter 1 1 127.0.0.1\\nport 4000\\nbegin\\n' |
+    hags status hagsns --node 1
+
+status:
+  0  the answer was written; it is empty where there is nothing to tell
+  1  the words are faulty; nothing was read
+  2  the settings are faulty: `hags: line L: WHY` names their first faulty line;
+     nothing was sent
+  3  no memory
+  4  read fault
+  5  write fault
+  6  no port could be opened, or 16 receives in a row failed
+  9  no reply
+
+pages: docs/command-line.md; docs/formats.md
+";
+
+/// What `--help` says of all commands, or of one, to the byte.
+pub fn help_text(about: Option<CommandName>) -> &'static [u8]
+    ensures { result.now ≡ help_of about }
 {
     match about {
-        None => Some(ALL),
-        Some(CommandName::Run) => Some(RUN),
-        Some(CommandName::Load) => Some(LOAD),
-        Some(CommandName::Daemon | CommandName::Status) => None,
+        None => ALL,
+        Some(CommandName::Run) => RUN,
+        Some(CommandName::Load) => LOAD,
+        Some(CommandName::Daemon) => DAEMON,
+        Some(CommandName::Status) => STATUS,
     }
 }

@@ -1,7 +1,8 @@
 //! Command lines through the whole program, over sources and sinks in memory. A line here is cut into words at each space,
 //! so two spaces in a row, or one at the end, make an empty word.
+use crate::edges::{silent_edges, sink, source, words_of};
 use hags_cli::hags;
-use hags_io::{MemSink, MemSource};
+use hags_io::MemSink;
 use std::alloc::{AllocError, Global};
 use std::test::Fail;
 
@@ -14,14 +15,6 @@ const VOTES: &[u8] =
 const VOTES_PUT: &[u8] =
     b"put 1 1.1.1 db 0 once join 1.1.1.1 default=reject limit=3\nput 1 1.1.1 db 1 begin state 1.1.1.1/2 =red\nput 1 1.1.1 db 2 reject 1.1.1/1 1 1.1.1.1=LR\n";
 
-fn words_of(alloc: Global, line: &str) -> Result<Vec<String>, AllocError> {
-    let mut words = Vec::new(alloc);
-    for word in line.split(' ') {
-        words.push(String::from_str(alloc, word)?)?;
-    }
-    Ok(words)
-}
-
 /// What a call with these words wrote on out and said on err, with its status. The puts of out that `fail` names fail.
 fn called(
     alloc: Global,
@@ -30,11 +23,10 @@ fn called(
     fail: &[u32],
 ) -> Result<(u8, MemSink, MemSink), AllocError> {
     let words = words_of(alloc, line)?;
-    let mut input = MemSource::new(Vec::from_slice(alloc, script)?, Vec::new(alloc));
-    let mut out = MemSink::new(alloc, Vec::from_slice(alloc, fail)?);
-    let mut err = MemSink::new(alloc, Vec::new(alloc));
-    let status = hags(alloc, words.as_slice(), &mut input, &mut out, &mut err);
-    Ok((status, out, err))
+    let input = source(alloc, script, &[])?;
+    let mut edges = silent_edges(alloc, input, sink(alloc, fail)?, sink(alloc, &[])?)?;
+    let status = hags(alloc, words.as_slice(), &mut edges, Vec::new(alloc));
+    Ok((status, edges.out, edges.err))
 }
 
 /// Whether the call with these words ends with 0, writes this and says nothing.
@@ -91,6 +83,8 @@ fn help_and_version_are_written(rt: HostRuntime) -> Result<(), Fail> {
         ("--help", b"hags: group membership".as_slice()),
         ("run --help", b"hags run: plays".as_slice()),
         ("load --help", b"hags load: plays".as_slice()),
+        ("daemon --help", b"hags daemon: serves".as_slice()),
+        ("status --help", b"hags status: asks".as_slice()),
         ("--version", b"hags 0".as_slice()),
         ("run --version", b"hags 0".as_slice()),
         ("load --version", b"hags 0".as_slice()),
@@ -141,9 +135,16 @@ fn other_words_are_told_the_whole_usage(rt: HostRuntime) -> Result<(), Fail> {
         "load 1e3",
         "load 99999999999999999999",
         "load 1 --kinds put",
-        "daemon --node 1",
-        "daemon --help",
-        "status hats --node 1",
+        "daemon",
+        "daemon --node 0",
+        "daemon --node 33",
+        "daemon --node 1 --inc 0",
+        "daemon --node 1 --turns 0",
+        "daemon 1 --node 1",
+        "status --node 1",
+        "status hat --node 1",
+        "status hats",
+        "status hats --node 1 --inc 1",
         "client --node 1",
         "audit",
         "table",

@@ -9,8 +9,14 @@ mod clients;
 #[cfg(test)]
 mod commands;
 #[cfg(test)]
+mod daemons;
+#[cfg(test)]
+mod edges;
+#[cfg(test)]
 mod limits;
 #[cfg(test)]
 mod nodes;
+#[cfg(test)]
+mod objects;
 #[cfg(test)]
 mod runs;

@@ -1,6 +1,7 @@
 //! Runs of the whole program over sources and sinks in memory, with their statuses and faults.
+use crate::edges::{silent_edges, sink, source, words_of};
 use hags_cli::hags;
-use hags_io::{MemSink, MemSource};
+use hags_io::MemSink;
 use std::alloc::{AllocError, Global};
 use std::test::Fail;
 
@@ -10,25 +11,6 @@ const ONE_JOIN: &[u8] =
 const ONE_JOIN_TRANSCRIPT: &[u8] =
     b"up 1 1\nin 1 1.1.1 1.1\nasked 1.1.7.1 1 db join\nput 1 1.1.1 db 0 once join 1.1.7.1\nheard 1.1.7.1 1.1.1 db 0 once-join 1.1.7.1 =\nshow 1 hagsgr db leader=1 len=1 members=1.1.7.1 value=\n";
 
-/// A source with this script, which fails at these calls.
-fn source(alloc: Global, script: &[u8], fail: &[u32]) -> Result<MemSource, AllocError> {
-    let bytes = Vec::from_slice(alloc, script)?;
-    let fail = Vec::from_slice(alloc, fail)?;
-    Ok(MemSource::new(bytes, fail))
-}
-
-/// A sink that fails at these calls.
-fn sink(alloc: Global, fail: &[u32]) -> Result<MemSink, AllocError> {
-    Ok(MemSink::new(alloc, Vec::from_slice(alloc, fail)?))
-}
-
-/// The words `run`.
-fn run_words(alloc: Global) -> Result<Vec<String>, AllocError> {
-    let mut words = Vec::new(alloc);
-    words.push(String::from_str(alloc, "run")?)?;
-    Ok(words)
-}
-
 /// What a run over these objects wrote on out, with its status. Its err always fails, which changes nothing.
 fn ran(
     alloc: Global,
@@ -36,21 +18,19 @@ fn ran(
     takes: &[u32],
     puts: &[u32],
 ) -> Result<(u8, MemSink), AllocError> {
-    let words = run_words(alloc)?;
-    let mut input = source(alloc, script, takes)?;
-    let mut out = sink(alloc, puts)?;
-    let mut err = sink(alloc, &[1])?;
-    let status = hags(alloc, words.as_slice(), &mut input, &mut out, &mut err);
-    Ok((status, out))
+    let words = words_of(alloc, "run")?;
+    let input = source(alloc, script, takes)?;
+    let mut edges = silent_edges(alloc, input, sink(alloc, puts)?, sink(alloc, &[1])?)?;
+    let status = hags(alloc, words.as_slice(), &mut edges, Vec::new(alloc));
+    Ok((status, edges.out))
 }
 
 /// What a call with these words said on err, with its status.
 fn said(alloc: Global, words: &[String], script: &[u8]) -> Result<(u8, MemSink), AllocError> {
-    let mut input = source(alloc, script, &[])?;
-    let mut out = sink(alloc, &[])?;
-    let mut err = sink(alloc, &[])?;
-    let status = hags(alloc, words, &mut input, &mut out, &mut err);
-    Ok((status, err))
+    let input = source(alloc, script, &[])?;
+    let mut edges = silent_edges(alloc, input, sink(alloc, &[])?, sink(alloc, &[])?)?;
+    let status = hags(alloc, words, &mut edges, Vec::new(alloc));
+    Ok((status, edges.err))
 }
 
 /// Whether the script gives this transcript.
@@ -67,7 +47,7 @@ fn count_lines(text: &[u8]) -> usize {
 fn one_join(rt: HostRuntime) -> Result<(), Fail> {
     let alloc = rt.alloc();
     assert!(rt; gives(alloc, ONE_JOIN, ONE_JOIN_TRANSCRIPT)?);
-    let words = run_words(alloc)?;
+    let words = words_of(alloc, "run")?;
     let (status, err) = said(alloc, words.as_slice(), ONE_JOIN)?;
     assert_eq!(rt; status, 0);
     assert!(rt; err.held().is_empty());
@@ -109,7 +89,7 @@ fn each_failing_put_is_a_write_fault(rt: HostRuntime) -> Result<(), Fail> {
 fn a_bad_line_is_named(rt: HostRuntime) -> Result<(), Fail> {
     let alloc = rt.alloc();
     let script = b"mode fixed\nnode 1\nbegin\njoi a db 1\n".as_slice();
-    let words = run_words(alloc)?;
+    let words = words_of(alloc, "run")?;
     let (status, err) = said(alloc, words.as_slice(), script)?;
     assert_eq!(rt; status, 2);
     assert!(rt; err.held() == b"hags: line 4: unknown word\n".as_slice());

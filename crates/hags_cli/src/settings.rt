@@ -1,0 +1,41 @@
+//! The settings of a node, as the input of a command.
+ghost use Rattle.std.specs.Prelude.{◌≡◌, ◌≤◌, ◌+◌, IfOk, IfErr, IfSome};
+ghost use Rattle.std.specs.Io.KnownBytes.{IsAtEnd};
+ghost use Rattle.world_model.specs.Reading.{IsScript};
+ghost use Rattle.world_model.specs.Settings.{daemon_script};
+ghost use Rattle.hags_cli.specs.Tasks.{SettingsEnd};
+
+use crate::ending::Ending;
+use crate::input::{InputFault, read_input};
+use hags_io::Source;
+use script_reader::{ScriptFault, read_daemon};
+use std::alloc::Global;
+use world_model::Script;
+
+/// Reads the settings of a node (1 to 32) to their end: for a daemon of it, with so many objects for its clients, or,
+/// with none, for who asks it. The fault is how the command ends.
+#[tactic(auto, using(crate::proofs::SettingsLaws::settings_are, crate::proofs::SettingsLaws::settings_have, crate::proofs::SettingsLaws::settings_end, crate::proofs::SettingsLaws::has_ports))]
+pub fn read_settings<S: Source>(
+    alloc: Global,
+    node: u8,
+    objects: Option<u32>,
+    input: &mut S,
+) -> Result<Script, Ending>
+    ensures read { IfOk result (λ script. IfSome (S.left input.old)
+        (λ b. daemon_script node objects b ≡ IsScript script)) }
+    ensures end { IfOk result (λ _. IsAtEnd (S.left input.new)) }
+    ensures ports { IfOk result (λ script. script.config.port + 32 ≤ 65535) }
+    ensures fault { IfErr result (SettingsEnd node objects (S.left input.old)
+        (S.faults input.old) (S.faults input.new)) }
+{
+    let front = match read_input(alloc, input) {
+        Ok(front) => front,
+        Err(InputFault::ReadFault) => return Err(Ending::ReadFault),
+        Err(InputFault::NoMemory) => return Err(Ending::NoMemory),
+    };
+    match read_daemon(alloc, front.as_slice(), node, objects) {
+        Ok(script) => Ok(script),
+        Err(ScriptFault::Line(number, why)) => Err(Ending::BadLine(number, why)),
+        Err(ScriptFault::NoMemory) => Err(Ending::NoMemory),
+    }
+}
