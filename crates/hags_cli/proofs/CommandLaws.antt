@@ -1,13 +1,12 @@
 -- How the commands that take settings end.
-use Rattle.std.proofs.Common.{◌≡◌, ◌↔◌, ℕ, ◌+◌, IsTrue, is_some, Bool, true, false, List, [], ◌∷◌, Option, Some, None, IfSome, refl, sym, ◌∙◌, ap, subst, inl, inr, arith}
-use Rattle.std.specs.Io.KnownBytes.{Appends, Keeps, IsAtEnd}
-use Rattle.hags_io.specs.Edges.{GrowsByFront, Rose}
+use Rattle.std.proofs.Common.{◌≡◌, ◌↔◌, ℕ, ◌+◌, IsTrue, is_some, Bool, true, false, List, [], ◌∷◌, Option, Some, None, IfSome, refl, subst, inr, arith}
+use Rattle.std.specs.Io.KnownBytes.{IsAtEnd}
+use Rattle.hags_io.specs.Edges.{Rose}
 use Rattle.hags_io.specs.Links.{Tells, Counts, was_opened}
 use Rattle.node_state.specs.declared.config.Config.{Config}
 use Rattle.hags_io.specs.declared.link.LinkCall.{LinkCall}
 use Rattle.node_core.specs.Node.{NodeView}
 use Rattle.node_state.specs.Step.{at_work}
-use Rattle.world_model.specs.declared.script.LineWhy.{LineWhy}
 use Rattle.world_model.specs.declared.script.Script.{Script}
 use Rattle.world_model.specs.Reading.{IsScript, IsNone}
 use Rattle.world_model.specs.Settings.{daemon_script}
@@ -16,12 +15,11 @@ use Rattle.daemon_model.specs.Lives.{ServesAs, ServesTo, ServesFront}
 use Rattle.daemon_run.specs.Ends.{NothingDone, Opens}
 use Rattle.daemon_run.specs.declared.serving.Serving.{Serving}
 use Rattle.status_client.specs.declared.question.Asking.{Asking}
-use Rattle.status_client.specs.Asked.{EndsByLink}
 use Rattle.hags_cli.specs.declared.daemon_command.Service.{Service}
 use Rattle.hags_cli.specs.declared.ending.Ending.{Ending}
 use Rattle.hags_cli.specs.declared.ending.Ending.TheVariants as ending
 use Rattle.hags_cli.specs.Run.{status_of}
-use Rattle.hags_cli.specs.Tasks.{Task, serves, asks, Seen, Untouched, counted, SettingsEnd, incarnation_at, ByClock, Incarnates, Running, IsRunning, Runs, IsServed, ServedAs, ServesAll, ServesPart, ServesNoMore, NeverOpened, FailedOften, AsksBy, AsksOver, GivesAnswer, IsAnswered, GivesNone, GivesFaults, AsksNoMore, TellEnds, EndsAs}
+use Rattle.hags_cli.specs.Tasks.{serves, asks, Seen, Untouched, counted, SettingsEnd, incarnation_at, ByClock, Incarnates, Running, IsRunning, Runs, IsServed, ServedAs, ServesAll, ServesPart, ServesNoMore, NeverOpened, FailedOften, AsksBy, AsksOver, GivesAnswer, GivesNone, AsksNoMore, TellEnds, EndsAs}
 use Rattle.hags_cli.proofs.TaskLaws.{keeps_same, memory_ends}
 
 -- ---- settings that are not read

@@ -1,5 +1,5 @@
 -- How an input is read, what a run leaves, and what is said of how it ended.
-use Rattle.std.specs.Prelude.{◌≡◌, ℕ, ◌==◌, List, [], ◌∷◌, codes, Option, Some, None, ◌⊎◌, IfSome, ◌++◌, if◌then◌else◌}
+use Rattle.std.specs.Prelude.{◌≡◌, ℕ, ◌==◌, List, [], ◌∷◌, codes, Option, Some, None, ◌⊎◌, ◌++◌, if◌then◌else◌}
 use Rattle.std.specs.Io.KnownBytes.{Appends, Keeps}
 use Rattle.hags_io.specs.Edges.{GrowsByFront, Rose}
 use Rattle.node_state.specs.declared.happened.Happened.{Happened}
