@@ -102,12 +102,10 @@ fn written(alloc: Global, client: Box<dyn Callbacks>) -> Result<MemSink, AllocEr
 
 /// Does the text have this line?
 fn has_line(text: &[u8], line: &[u8]) -> bool {
-    let mut rest = text;
-    while !rest.is_empty() {
-        if rest.starts_with(line) {
+    for at in 0..text.len() {
+        if text[at..].starts_with(line) {
             return true;
         }
-        rest = &rest[1..];
     }
     false
 }
