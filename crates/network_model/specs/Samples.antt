@@ -1,9 +1,9 @@
 -- Small runs of networks, for worked examples: nodes 1 and 2, without clients.
-use Rattle.std.specs.Prelude.{ℕ, List, [], ◌∷◌, slice_index_or, codes}
+use Rattle.std.specs.Prelude.{ℕ, List, [], ◌∷◌, slice_index_or}
 use Rattle.node_state.specs.declared.config.Config.{Config}
 use Rattle.daemon_model.specs.Daemon.{records_text}
 use Rattle.daemon_model.specs.Samples.{settings_for, quiet_at, given_at}
-use Rattle.network_model.specs.Network.{Act, Begins, Turns, Ends, Net, net_after}
+use Rattle.network_model.specs.Network.{Act, Begins, Turns, Ends, net_after}
 
 unfoldable pub pair : Config
 pair = settings_for (1 ∷ 2 ∷ [])
