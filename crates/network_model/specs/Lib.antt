@@ -1,0 +1,5 @@
+pub mod Network
+pub mod Packets
+pub mod Fits
+pub mod Samples
+pub mod Opens

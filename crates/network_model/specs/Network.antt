@@ -1,0 +1,103 @@
+-- A network of daemons: daemons that start, carry out the calls of their settings, do turns and end, all in one order.
+use Rattle.std.specs.Prelude.{ℕ, zero, suc, ◌+◌, ◌-◌, List, [], ◌∷◌, ◌++◌, length, drop, flat_map, fold, Option, Some, None}
+use Rattle.hags_io.specs.declared.link.LinkCall.{LinkCall}
+use Rattle.hags_io.specs.declared.link.LinkCall.TheVariants as call
+use Rattle.node_state.specs.declared.config.Config.{Config}
+use Rattle.node_state.specs.declared.happened.Happened.{Happened}
+use Rattle.node_state.specs.declared.happened.Happened.TheVariants as happened
+use Rattle.step_refinement.specs.Rows.{at_node}
+use Rattle.daemon_model.specs.Daemon.{Daemon, Opening, Turn, begun, opened, turned}
+
+-- what happens in a network: the daemon of a node starts, in an incarnation and at a moment; it carries out a call of its
+-- settings; it does a turn; and it ends, however it does
+pub data Act : Type 0 where
+  Begins : (node incarnation moment : ℕ) → Act
+  Opens : (node : ℕ) (opening : Opening) → Act
+  Turns : (node : ℕ) (turn : Turn) → Act
+  Ends : (node : ℕ) → Act
+
+-- The daemons that are up, by their nodes; the incarnation in which the last daemon of each node started, or 0; all
+-- datagrams that were sent; and all that was recorded, in one order, as a world of nodes records it. So it has also that
+-- a node is down, where its daemon ended, and of each incarnation that a node skips a life in which it did nothing.
+pub record Net : Type 0 where
+  pub daemons : ℕ → Option Daemon
+  pub incarnations : ℕ → ℕ
+  pub wire : List (List ℕ)
+  pub records : List Happened
+
+-- before anything happened
+abbrev pub no_net : Net
+no_net = record { daemons = λ n. None; incarnations = λ n. 0; wire = []; records = [] }
+
+-- ---- what a daemon adds
+
+abbrev pub datagram_in : LinkCall → List (List ℕ)
+datagram_in (call.Sent node network bytes out) = bytes ∷ []
+datagram_in _ = []
+
+-- the datagrams among what was received and sent that were sent, whether they went out or not
+unfoldable pub datagrams_of : List LinkCall → List (List ℕ)
+datagrams_of calls = flat_map datagram_in calls
+
+-- the datagrams that a daemon sent since it was as the first
+unfoldable pub sent_since : Daemon → Daemon → List (List ℕ)
+sent_since d e = datagrams_of (drop (length d.calls) e.calls)
+
+-- and what its node recorded since then
+unfoldable pub noted_since : Daemon → Daemon → List Happened
+noted_since d e = drop (length d.records) e.records
+
+-- the daemon of a node went on from the first to the second
+unfoldable pub went_on : ℕ → Daemon → Daemon → Net → Net
+went_on n d e net = record net {
+  daemons = at_node net.daemons n (Some e);
+  wire = net.wire ++ sent_since d e;
+  records = net.records ++ noted_since d e;
+}
+
+-- ---- acts
+
+unfoldable pub starts : Config → ℕ → ℕ → ℕ → Net → Net
+starts c n incarnation moment net =
+    let d : Daemon = begun c n incarnation moment in
+    record {
+      daemons = at_node net.daemons n (Some d);
+      incarnations = at_node net.incarnations n incarnation;
+      wire = net.wire ++ datagrams_of d.calls;
+      records = net.records ++ d.records;
+    }
+
+unfoldable pub ends : ℕ → Net → Net
+ends n net = record net { daemons = at_node net.daemons n None; records = net.records ++ happened.Down n ∷ [] }
+
+-- in each of the next incarnations, so many, the node starts and is down at once
+unfoldable pub idles : Config → ℕ → ℕ → Net → Net
+idles c n zero net = net
+idles c n (suc k) net = idles c n k (ends n (starts c n (net.incarnations n + 1) 0 net))
+
+-- how many incarnations a node skips that starts in this one
+abbrev pub skipped : Net → ℕ → ℕ → ℕ
+skipped net n incarnation = incarnation - 1 - net.incarnations n
+
+unfoldable pub begins : Config → ℕ → ℕ → ℕ → Net → Net
+begins c n incarnation moment net = starts c n incarnation moment (idles c n (skipped net n incarnation) net)
+
+-- what the daemon of a node does, if it is up
+abbrev pub does_if : (Daemon → Daemon) → ℕ → Option Daemon → Net → Net
+does_if f n None net = net
+does_if f n (Some d) net = went_on n d (f d) net
+
+unfoldable pub acted : Config → Net → Act → Net
+acted c net (Begins n incarnation moment) = begins c n incarnation moment net
+acted c net (Opens n opening) = does_if (λ d. opened d opening) n (net.daemons n) net
+acted c net (Turns n turn) = does_if (λ d. turned d turn) n (net.daemons n) net
+acted c net (Ends n) = ends n net
+
+-- the network after these acts, in their order
+unfoldable pub net_after : Config → List Act → Net
+net_after c acts = fold (acted c) no_net acts
+
+-- opens each word of this file, for a computation
+unfoldable pub network_opens : Unit {0}
+unfolding at_node datagrams_of sent_since noted_since went_on starts ends idles begins acted net_after
+network_opens = tt

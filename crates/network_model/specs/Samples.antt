@@ -1,0 +1,38 @@
+-- Small runs of networks, for worked examples: nodes 1 and 2, without clients.
+use Rattle.std.specs.Prelude.{ℕ, List, [], ◌∷◌, slice_index_or}
+use Rattle.node_state.specs.declared.config.Config.{Config}
+use Rattle.daemon_model.specs.Daemon.{records_text}
+use Rattle.daemon_model.specs.Samples.{settings_for, quiet_at, given_at}
+use Rattle.network_model.specs.Network.{Act, Begins, Turns, Ends, net_after}
+
+unfoldable pub pair : Config
+pair = settings_for (1 ∷ 2 ∷ [])
+
+-- node 1 starts in incarnation 1, and 100 milliseconds later it ticks
+unfoldable pub one_ticks : List Act
+one_ticks = Begins 1 1 0 ∷ Turns 1 (quiet_at 100) ∷ []
+
+-- the datagrams that were sent
+unfoldable pub wire_after : List Act → List (List ℕ)
+wire_after acts = (net_after pair acts).wire
+
+-- what node 1 sent first
+unfoldable pub first_piece : List ℕ
+first_piece = slice_index_or (wire_after one_ticks) 0 []
+
+-- then node 2 starts, and is given that piece, twice
+unfoldable pub two_speak : List Act
+two_speak = Begins 1 1 0 ∷ Turns 1 (quiet_at 100) ∷ Begins 2 1 100 ∷ Turns 2 (given_at 100 first_piece) ∷ Turns 2 (given_at 101 first_piece) ∷ []
+
+-- the daemon of node 1 ends, and starts again, skipping incarnation 2
+unfoldable pub starts_again : List Act
+starts_again = Begins 1 1 0 ∷ Ends 1 ∷ Begins 1 3 0 ∷ []
+
+-- the lines of what was recorded
+unfoldable pub lines_after : List Act → List ℕ
+lines_after acts = records_text (net_after pair acts).records
+
+-- opens each word of this file, for a computation
+unfoldable pub samples_opens : Unit {0}
+unfolding pair one_ticks wire_after first_piece two_speak starts_again lines_after
+samples_opens = tt

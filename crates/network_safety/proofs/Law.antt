@@ -1,0 +1,152 @@
+-- The run of every network is that of a world, and so it is safe.
+use Rattle.std.proofs.Common.{◌≡◌, ◌<◌, ◌≤◌, ◌+◌, ℕ, List, [], ◌∷◌, ◌++◌, Option, Some, None, false, refl, sym, ap, ◌∙◌, subst, arith, append-nil, append_assoc}
+use Rattle.std.specs.Prelude.{fold}
+use Rattle.rsct_packet.specs.Ids.{last_u32}
+use Rattle.rsct_packet.specs.Lists.{reverse_onto}
+use Rattle.node_state.specs.declared.config.Config.{Config}
+use Rattle.node_state.specs.declared.config.Mode.{Mode}
+use Rattle.node_state.specs.declared.config.Mode.TheVariants.{Fixed, Asked, Rings}
+use Rattle.node_state.specs.declared.happened.Happened.{Happened}
+use Rattle.node_state.specs.Settings.{is_fixed}
+use Rattle.node_state.specs.Step.{Calls, stepped}
+use Rattle.world_model.specs.World.{World, empty_world, world_of, world_new}
+use Rattle.world_model.specs.declared.event.Event.TheVariants as event
+use Rattle.world_laws.proofs.world_runs.Backwards.{reversed_back}
+use Rattle.world_laws.specs.world_answers.Answers.{Answered, goes_on, answered_after, answered_records}
+use Rattle.world_safety.specs.Scripts.{IsSafe}
+use Rattle.world_safety.proofs.Scripts.{every_answer_is_safe}
+use Rattle.daemon_model.specs.Daemon.{Daemon, Opening, Turn, opened, stepped_by, left_by, turned}
+use Rattle.network_model.specs.Network.{Act, Begins, Opens, Turns, Ends, Net, no_net, skipped, begins, idles, starts, does_if, acted, net_after}
+use Rattle.network_model.specs.Packets.{opening_packets}
+use Rattle.network_model.specs.Fits.{MaySend, MayBegin, MayTurn, OfUp, MayAct, AllMayAct}
+use Rattle.network_safety.specs.Safe.{answered_by, silent, idle_events, TurnEvents, ActEvents, AreEventsOf, NetworksOfDaemonsAreSafe}
+use Rattle.network_safety.proofs.Standing.{Stands, Stand}
+use Rattle.network_safety.proofs.Stepping.{step_stands}
+use Rattle.network_safety.proofs.Acts.{its_node, called}
+use Rattle.network_safety.proofs.Turning.{TurnGoes, turn_goes}
+use Rattle.network_safety.proofs.Lives.{Idled, idles_stand, start_stands, end_stands}
+
+-- ---- before anything happened
+
+not_fixed : (m : Mode) → is_fixed m ≡ false → (c : Config) → world_of c m ≡ empty_world c
+unfolding world_of
+not_fixed Fixed free c = absurd (cc)
+not_fixed Asked free c = refl
+not_fixed Rings free c = refl
+
+nothing_stands : (c : Config) → is_fixed c.mode ≡ false → Stand c no_net [] (empty_world c)
+unfolding answered_after world_new
+nothing_stands c free =
+    record {
+      world = record {
+        may = tt;
+        is = not_fixed c.mode free c;
+        nodes = λ n. tt;
+        incs = λ n. refl;
+        trace = refl;
+        paired = record { counted = λ x h. absurd h; paired = λ p h. absurd h };
+      };
+      wires = record {
+        messages = [];
+        drawn = λ b h. absurd h;
+        fits = λ m h. absurd h;
+        distinct = λ m l h. absurd h;
+        known = λ m h. absurd h;
+        past = λ m h. absurd h;
+        up = λ n. tt;
+      };
+    }
+
+-- ---- an act
+
+record ActGoes (c : Config) (net : Net) (es : List Answered) (a : Act) : Type 0 where
+  events : List Answered
+  are : ActEvents net a events
+  world : World
+  stand : Stand c (acted c net a) (es ++ events) world
+
+module _ (c : Config) (free : is_fixed c.mode ≡ false) (net : Net) (es : List Answered) (w : World) (k : Stand c net es w) where
+  begin_goes : (n incarnation moment : ℕ) → MayBegin net n incarnation → ActGoes c net es (Begins n incarnation moment)
+  unfolding acted begins
+  begin_goes n incarnation moment may =
+      let i : ℕ = skipped net n incarnation in
+      let later : net.incarnations n < incarnation = may.later in
+      let fits : incarnation ≤ last_u32 = may.fits in
+      let r : Idled c net es n (skipped net n incarnation) = idles_stand c n free may.some may.most (skipped net n incarnation) net es w k may.down (omega (arith, later, fits)) in
+      let risen : (idles c n (skipped net n incarnation) net).incarnations n ≡ net.incarnations n + skipped net n incarnation = r.risen in
+      let now : (idles c n (skipped net n incarnation) net).incarnations n + 1 ≡ incarnation = omega (arith, later, risen) in
+      let s = start_stands c (idles c n (skipped net n incarnation) net) (es ++ idle_events n (skipped net n incarnation)) r.world r.stand n moment free may.some may.most r.down (omega (arith, now, fits)) in
+      record {
+        events = idle_events n (skipped net n incarnation) ++ silent (event.Start n) ∷ [];
+        are = refl;
+        world = goes_on r.world (silent (event.Start n));
+        stand = subst (λ zs. Stand c (starts c n incarnation moment (idles c n (skipped net n incarnation) net)) zs (goes_on r.world (silent (event.Start n)))) (append_assoc es (idle_events n (skipped net n incarnation)) (silent (event.Start n) ∷ [])) (subst (λ j. Stand c (starts c n j moment (idles c n (skipped net n incarnation) net)) ((es ++ idle_events n (skipped net n incarnation)) ++ silent (event.Start n) ∷ []) (goes_on r.world (silent (event.Start n)))) now s);
+      }
+
+  open_goes : (n : ℕ) (o : Opening) (d : Option Daemon) → net.daemons n ≡ d → OfUp (λ d. MaySend (opening_packets o d) (opened d o)) d → ActGoes c net es (Opens n o)
+  unfolding acted opened stepped_by left_by
+  open_goes n o None at may = absurd may
+  open_goes n o (Some d) at may =
+      record {
+        events = answered_by o.answers (event.Call n o.call) ∷ [];
+        are = refl;
+        world = goes_on w (answered_by o.answers (event.Call n o.call));
+        stand = subst (λ q. Stand c (does_if (λ d. opened d o) n q net) (es ++ answered_by o.answers (event.Call n o.call) ∷ []) (goes_on w (answered_by o.answers (event.Call n o.call)))) (sym at) (step_stands c net es w k n d at o.answers (Calls o.call) (answered_by o.answers (event.Call n o.call)) (stepped o.answers (its_node c net es w k n d at).node.core (Calls o.call)) (called c net es w k n d at o) may.spelled may.numbered);
+      }
+
+  turning : (n : ℕ) (t : Turn) (d : Option Daemon) → net.daemons n ≡ d → OfUp (MayTurn net t) d → ActGoes c net es (Turns n t)
+  unfolding acted
+  turning n t None at may = absurd may
+  turning n t (Some d) at may =
+      let g : TurnGoes c net es n d t = turn_goes c net es w k n d at t may in
+      record {
+        events = g.events;
+        are = subst (OfUp (TurnEvents n t g.events)) (sym at) g.are;
+        world = g.world;
+        stand = subst (λ q. Stand c (does_if (λ d. turned d t) n q net) (es ++ g.events) g.world) (sym at) g.stand;
+      }
+
+  end_goes : (n : ℕ) (d : Option Daemon) → net.daemons n ≡ d → OfUp (λ d. Unit {0}) d → ActGoes c net es (Ends n)
+  unfolding acted
+  end_goes n None at may = absurd may
+  end_goes n (Some d) at may =
+      record { events = silent (event.Stop n) ∷ []; are = refl; world = goes_on w (silent (event.Stop n)); stand = end_stands c net es w k n d at }
+
+  act_goes : (a : Act) → MayAct net a → ActGoes c net es a
+  act_goes (Begins n incarnation moment) may = begin_goes n incarnation moment may
+  act_goes (Opens n o) may = open_goes n o (net.daemons n) refl may
+  act_goes (Turns n t) may = turning n t (net.daemons n) refl may
+  act_goes (Ends n) may = end_goes n (net.daemons n) refl may
+
+-- ---- all acts
+
+record AllGo (c : Config) (net : Net) (es : List Answered) (acts : List Act) : Type 0 where
+  events : List Answered
+  are : AreEventsOf c net acts events
+  world : World
+  stand : Stand c (fold (acted c) net acts) (es ++ events) world
+
+all_go : (c : Config) → is_fixed c.mode ≡ false → (acts : List Act) (net : Net) (es : List Answered) (w : World) → Stand c net es w → AllMayAct c net acts → AllGo c net es acts
+all_go c free [] net es w k may =
+    record { events = []; are = refl; world = w; stand = subst (λ zs. Stand c net zs w) (sym (append-nil es)) k }
+all_go c free (a ∷ acts) net es w k may =
+    let first : ActGoes c net es a = act_goes c free net es w k a may.0 in
+    let rest : AllGo c (acted c net a) (es ++ first.events) acts = all_go c free acts (acted c net a) (es ++ first.events) first.world first.stand may.1 in
+    record {
+      events = first.events ++ rest.events;
+      are = (first.events, rest.events, first.are, rest.are, refl);
+      world = rest.world;
+      stand = subst (λ zs. Stand c (fold (acted c) (acted c net a) acts) zs rest.world) (append_assoc es first.events rest.events) rest.stand;
+    }
+
+pub networks_of_daemons_are_safe : NetworksOfDaemonsAreSafe
+unfolding net_after answered_records
+networks_of_daemons_are_safe c acts run =
+    let g : AllGo c no_net [] acts = all_go c run.mode acts no_net [] (empty_world c) (nothing_stands c run.mode) run.may in
+    let s : Stands c (fold (acted c) no_net acts) g.events g.world = g.stand.world in
+    let trace : reverse_onto (answered_after c g.events).trace [] ≡ (fold (acted c) no_net acts).records =
+    ap (λ (v : World). reverse_onto v.trace []) s.is ∙ ap (λ zs. reverse_onto zs []) s.trace ∙ back (fold (acted c) no_net acts).records in
+    record { events = g.events; are = g.are; may = s.may; safe = subst (IsSafe c g.events) trace (every_answer_is_safe c g.events s.may) }
+  where
+    back : (rs : List Happened) → reverse_onto (reverse_onto rs []) [] ≡ rs
+    back rs = reversed_back rs []

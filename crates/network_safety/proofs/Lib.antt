@@ -1,0 +1,12 @@
+pub mod Pairs
+pub mod Quiet
+pub mod Messages
+pub mod Joins
+pub mod WorldSteps
+pub mod Standing
+pub mod Going
+pub mod Stepping
+pub mod Acts
+pub mod Turning
+pub mod Lives
+pub mod Law
