@@ -1,3 +1,4 @@
+pub mod Holding
 pub mod At
 pub mod Quiet
 pub mod Leading
@@ -10,6 +11,7 @@ pub mod Tied
 pub mod Acted
 pub mod Steps
 pub mod Evident
+pub mod Renoted
 pub mod Law
 pub mod Climbing
 pub mod Climbs

@@ -23,8 +23,9 @@ pub fn joins_carry_lengths()
 {}
 
 /// Where a reflection is put first, its place and its value are the value place and the value of the source's state at that
-/// node; and where a join over a source is put first, it carries the length of the source's list there, and each of its
-/// providers has a member of the source on its own node.
+/// node. Where a join is put first, its attributes are those of the request of the first joiner that was chosen, if that was
+/// decided in an empty idle group, else those of the group; and where these have a source, it carries the length of the
+/// source's list there, and each of its providers has a member of the source on its own node.
 #[tactic(auto, using(crate::proofs::source_order::Law::firsts_follow_sources))]
 pub fn firsts_follow_sources()
     ensures { FirstsAlwaysFollowSources }

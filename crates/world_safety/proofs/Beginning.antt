@@ -16,6 +16,7 @@ use Rattle.run_safety.specs.Past.{History, history_of}
 use Rattle.step_refinement.specs.Tied.{Scene}
 use Rattle.step_refinement.specs.Rows.{at_node, nothing_yet, with_records, starts_too, all_started}
 use Rattle.entry_laws.specs.late_rows.Runs.{TicksAreNoted}
+use Rattle.entry_laws.specs.source_order.Meant.{DeliveriesAreNoted}
 use Rattle.row_laws.specs.failed_rows.Scenes.{Played}
 use Rattle.row_laws.specs.failed_rows.Scenes as played
 use Rattle.provider_laws.specs.leaving.Scenes.{Recounted}
@@ -82,6 +83,7 @@ pub record Begun (c : Config) (w : World) (mode : Mode) : Type 0 where
   pub scene : Scene
   pub reached : Reached c scene
   pub noted : TicksAreNoted c scene reached
+  pub given : DeliveriesAreNoted c scene reached
   pub played : Played c scene
   pub recounted : Recounted c scene
   pub mirrors : Mirrors c w scene
@@ -92,14 +94,15 @@ empty_begun c = record { config = refl; scene_config = refl; cores = λ n. refl;
 
 begun_in : (c : Config) (mode : Mode) → c.mode ≡ mode → Begun c (world_of c mode) mode
 unfolding world_of
-begun_in c Asked e = record { scene = nothing_yet c; reached = Nothing; noted = tt; played = played.Nothing; recounted = recounted.Nothing; mirrors = empty_begun c; before = refl }
-begun_in c Rings e = record { scene = nothing_yet c; reached = Nothing; noted = tt; played = played.Nothing; recounted = recounted.Nothing; mirrors = empty_begun c; before = refl }
+begun_in c Asked e = record { scene = nothing_yet c; reached = Nothing; noted = tt; given = tt; played = played.Nothing; recounted = recounted.Nothing; mirrors = empty_begun c; before = refl }
+begun_in c Rings e = record { scene = nothing_yet c; reached = Nothing; noted = tt; given = tt; played = played.Nothing; recounted = recounted.Nothing; mirrors = empty_begun c; before = refl }
 begun_in c Fixed e =
     let o : Opens c (fold node_starts (empty_world c) (nodes_of c.nodes)) (all_started c) = all_open c (nodes_of c.nodes) (empty_world c) (record (nothing_yet c) { before = at_first [] }) (none_open c) in
     record {
       scene = all_started c;
       reached = AllStart (ap is_fixed e);
       noted = tt;
+      given = tt;
       played = played.AllStart (ap is_fixed e);
       recounted = recounted.AllStart (ap is_fixed e);
       mirrors = o.mirrors;

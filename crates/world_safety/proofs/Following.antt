@@ -26,6 +26,7 @@ use Rattle.world_laws.proofs.world_runs.Traces.{after_records}
 use Rattle.step_refinement.specs.Tied.{Scene, NodeIsIf, Rests}
 use Rattle.step_refinement.specs.Rows.{over, stopped, start_with, ended, Arises}
 use Rattle.entry_laws.specs.late_rows.Runs.{NotedAs, TicksAreNoted}
+use Rattle.entry_laws.specs.source_order.Meant.{IsDelivery, DeliveryNoted, DeliveriesAreNoted}
 use Rattle.row_laws.specs.failed_rows.Scenes.{Names, Played}
 use Rattle.row_laws.specs.failed_rows.Scenes as played
 use Rattle.provider_laws.specs.leaving.Scenes.{IsCall, NoCall, IsDown, Recounted}
@@ -44,6 +45,7 @@ pub record Follows (c : Config) (s : Scene) (k : Reached c s) (e : Event) (old :
   pub scene : Scene
   pub reached : Reached c scene
   pub noted : TicksAreNoted c s k → TicksAreNoted c scene reached
+  pub given : DeliveriesAreNoted c s k → DeliveriesAreNoted c scene reached
   pub played : Played c s → Played c scene
   pub recounted : Recounted c s → Recounted c scene
   pub mirrors : Mirrors c w scene
@@ -74,6 +76,7 @@ module _ (c : Config) (w : World) (s : Scene) (k : Reached c s) (m : Mirrors c w
         scene = noted s e rs;
         reached = Notes s e rs k notes;
         noted = λ z. z;
+        given = λ z. z;
         played = λ z. played.Notes s e rs z notes;
         recounted = λ z. recounted.Notes s e rs z notes down;
         mirrors = record { config = m.config; scene_config = m.scene_config; cores = m.cores; incs = m.incs; once = m.once; sent = m.sent; paired = m.paired };
@@ -88,6 +91,7 @@ module _ (c : Config) (w : World) (s : Scene) (k : Reached c s) (m : Mirrors c w
         scene = noted s e [];
         reached = Notes s e [] k (λ r h. absurd h);
         noted = λ z. z;
+        given = λ z. z;
         played = λ z. played.Notes s e [] z (λ r h. absurd h);
         recounted = λ z. recounted.Notes s e [] z (λ r h. absurd h) (no_down e uncalled);
         mirrors = later_mirrors c w s m (noted s e []).before;
@@ -99,12 +103,13 @@ module _ (c : Config) (w : World) (s : Scene) (k : Reached c s) (m : Mirrors c w
   module _ (n : ℕ) where
     -- ---- a step
 
-    step_follows : (x : Node) → find (is_node n) w.nodes ≡ Some x → (scripts : List Script) (f : Answering) (e : NodeEvent) (v : Event) → NotedAs n e v → Names n e v → IsCall n e v → Arises s e → Follows c s k v w.trace (after_step w scripts (stepped f x.core e))
-    step_follows x up scripts f e v named called only arises =
+    step_follows : (x : Node) → find (is_node n) w.nodes ≡ Some x → (scripts : List Script) (f : Answering) (e : NodeEvent) (v : Event) → NotedAs n e v → DeliveryNoted n e v → Names n e v → IsCall n e v → Arises s e → Follows c s k v w.trace (after_step w scripts (stepped f x.core e))
+    step_follows x up scripts f e v named delivered called only arises =
         record {
           scene = ended s n v y;
           reached = reached;
           noted = λ z. (named, z);
+          given = λ z. (delivered, z);
           played = λ z. played.Steps s n f x.core e v z (m.cores n ∙ ap core_in up) arises called;
           recounted = λ z. recounted.Steps s n f x.core e v z (m.cores n ∙ ap core_in up) arises called only;
           mirrors = step_mirrors c w s m n x up scripts y me (over v y ∷ s.before);
@@ -125,10 +130,10 @@ module _ (c : Config) (w : World) (s : Scene) (k : Reached c s) (m : Mirrors c w
             let is : NodeIsIf s.config t.ghost [] n (s.incs n) (Some y) = subst (λ o. NodeIsIf s.config t.ghost [] n (s.incs n) o) (set_here s.cores n (Some y)) (t.nodes n) in
             is.0.stands.me
 
-    steps_follow : (f : Answering) (o : Option Node) → find (is_node n) w.nodes ≡ o → (e : NodeEvent) (v : Event) → NotedAs n e v → Names n e v → NoCall v → Arises s e → Follows c s k v w.trace (step_by_if f w e o)
+    steps_follow : (f : Answering) (o : Option Node) → find (is_node n) w.nodes ≡ o → (e : NodeEvent) (v : Event) → NotedAs n e v → DeliveryNoted n e v → Names n e v → NoCall v → Arises s e → Follows c s k v w.trace (step_by_if f w e o)
     unfolding step_by_if step_by
-    steps_follow f None at e v named called uncalled arises = nothing_follows v uncalled
-    steps_follow f (Some x) at e v named called uncalled arises = step_follows x at x.scripts f e v named called (λ a b is. absurd (uncalled a b is)) arises
+    steps_follow f None at e v named delivered called uncalled arises = nothing_follows v uncalled
+    steps_follow f (Some x) at e v named delivered called uncalled arises = step_follows x at x.scripts f e v named delivered called (λ a b is. absurd (uncalled a b is)) arises
 
     -- ---- a start and a stop
 
@@ -139,6 +144,7 @@ module _ (c : Config) (w : World) (s : Scene) (k : Reached c s) (m : Mirrors c w
           scene = start_with s n v y;
           reached = Starts s n v k (free_there free) real (m.cores n ∙ ap core_in down);
           noted = λ z. z;
+          given = λ z. z;
           played = λ z. played.Starts s n v z (free_there free) real (m.cores n ∙ ap core_in down);
           recounted = λ z. recounted.Starts s n v z (free_there free) real (m.cores n ∙ ap core_in down) uncalled;
           mirrors = start_mirrors c w s m n down (y.sends ++ s.sent) (over v y ∷ s.before) (λ p h. append_has_right p y.sends s.sent h);
@@ -167,6 +173,7 @@ module _ (c : Config) (w : World) (s : Scene) (k : Reached c s) (m : Mirrors c w
           scene = stopped s n v;
           reached = Stops s n v x.core k (m.cores n ∙ ap core_in at);
           noted = λ z. z;
+          given = λ z. z;
           played = λ z. played.Stops s n v x.core z (m.cores n ∙ ap core_in at);
           recounted = λ z. recounted.Stops s n v x.core z (m.cores n ∙ ap core_in at) uncalled;
           mirrors = stop_mirrors c w s m n (happened.Down n ∷ []) (stopped s n v).before;
@@ -195,19 +202,19 @@ module _ (c : Config) (w : World) (s : Scene) (k : Reached c s) (m : Mirrors c w
         refused : (r : Happened) → Has r (happened.Refused n (caller_of x) NoInit ∷ []) → IsNote r
         refused r (inl e) = subst IsNote (sym e) tt
         refused r (inr h) = absurd h
-    calls_follow f v x is (Some y) at = step_follows y at (scripts_after x y.core y.scripts) f (Calls x) v tt (λ c e. is ∙ ap (event.Call n) (called x c e)) (λ a z e. (sym (same_node n a x z (sym is ∙ e)), ap Calls (same_call n a x z (sym is ∙ e)))) tt
+    calls_follow f v x is (Some y) at = step_follows y at (scripts_after x y.core y.scripts) f (Calls x) v tt tt (λ c e. is ∙ ap (event.Call n) (called x c e)) (λ a z e. (sym (same_node n a x z (sym is ∙ e)), ap Calls (same_call n a x z (sym is ∙ e)))) tt
       where
         called : (x c : CallLine) → Calls x ≡ Calls c → x ≡ c
         called x c e = cc
 
 -- ---- a delivery
 
-delivers_follow : (f : Answering) (c : Config) (w : World) (s : Scene) (k : Reached c s) → Mirrors c w s → (a b i : ℕ) (v : Event) → NoCall v → (o : Option Node) → find (is_node b) w.nodes ≡ o → (p : Option Packet) → kth_between w a b i ≡ p → Follows c s k v w.trace (delivers_by_if f w a b i o p)
+delivers_follow : (f : Answering) (c : Config) (w : World) (s : Scene) (k : Reached c s) → Mirrors c w s → (a b i : ℕ) (v : Event) → NoCall v → IsDelivery b (Some v) → (o : Option Node) → find (is_node b) w.nodes ≡ o → (p : Option Packet) → kth_between w a b i ≡ p → Follows c s k v w.trace (delivers_by_if f w a b i o p)
 unfolding delivers_by_if step_by handled
-delivers_follow f c w s k m a b i v uncalled None at p q = nothing_follows c w s k m v uncalled
-delivers_follow f c w s k m a b i v uncalled (Some x) at None q = nothing_follows c w s k m v uncalled
-delivers_follow f c w s k m a b i v uncalled (Some x) at (Some p) q =
-    step_follows c (handled w a b i) s k (handled_mirrors c w s m a b i) b x at x.scripts f (Given p) v tt (λ c e. absurd (cc)) (λ y z is. absurd (uncalled y z is)) (kth_is (λ z. Has z s.sent) w a b i p m.paired q)
+delivers_follow f c w s k m a b i v uncalled delivered None at p q = nothing_follows c w s k m v uncalled
+delivers_follow f c w s k m a b i v uncalled delivered (Some x) at None q = nothing_follows c w s k m v uncalled
+delivers_follow f c w s k m a b i v uncalled delivered (Some x) at (Some p) q =
+    step_follows c (handled w a b i) s k (handled_mirrors c w s m a b i) b x at x.scripts f (Given p) v tt delivered (λ c e. absurd (cc)) (λ y z is. absurd (uncalled y z is)) (kth_is (λ z. Has z s.sent) w a b i p m.paired q)
 
 -- ---- each event
 
@@ -215,9 +222,9 @@ pub event_follows : (f : Answering) (c : Config) (w : World) (s : Scene) (e : Ev
 unfolding happens_by node_starts node_at
 event_follows f c w s (event.Start n) may k m = starts_follow c w s k m n (event.Start n) (λ y z is. absurd (cc)) may.0 may.1 (find (is_node n) w.nodes) refl
 event_follows f c w s (event.Stop n) may k m = stops_follow c w s k m n (event.Stop n) (λ y z is. absurd (cc)) (find (is_node n) w.nodes) refl
-event_follows f c w s (event.Tick n) may k m = steps_follow c w s k m n f (find (is_node n) w.nodes) refl Ticks (event.Tick n) refl (λ c e. absurd (cc)) (λ y z is. absurd (cc)) tt
-event_follows f c w s (event.Ask n mask) may k m = steps_follow c w s k m n f (find (is_node n) w.nodes) refl (Asks mask) (event.Ask n mask) tt (λ c e. absurd (cc)) (λ y z is. absurd (cc)) tt
+event_follows f c w s (event.Tick n) may k m = steps_follow c w s k m n f (find (is_node n) w.nodes) refl Ticks (event.Tick n) refl tt (λ c e. absurd (cc)) (λ y z is. absurd (cc)) tt
+event_follows f c w s (event.Ask n mask) may k m = steps_follow c w s k m n f (find (is_node n) w.nodes) refl (Asks mask) (event.Ask n mask) tt tt (λ c e. absurd (cc)) (λ y z is. absurd (cc)) tt
 event_follows f c w s (event.Call n x) may k m = calls_follow c w s k m n f (event.Call n x) x refl (find (is_node n) w.nodes) refl
 event_follows f c w s (event.Show n what) may k m = shows_follow c w s k m n (event.Show n what) (λ y z is. absurd (cc)) what (find (is_node n) w.nodes)
-event_follows f c w s (event.Deliver a b i) may k m = delivers_follow f c w s k m a b i (event.Deliver a b i) (λ y z is. absurd (cc)) (find (is_node b) w.nodes) refl (kth_between w a b i) refl
-event_follows f c w s (event.Garbage n bytes) may k m = steps_follow c w s k m n f (find (is_node n) w.nodes) refl step.Garbage (event.Garbage n bytes) tt (λ c e. absurd (cc)) (λ y z is. absurd (cc)) tt
+event_follows f c w s (event.Deliver a b i) may k m = delivers_follow f c w s k m a b i (event.Deliver a b i) (λ y z is. absurd (cc)) refl (find (is_node b) w.nodes) refl (kth_between w a b i) refl
+event_follows f c w s (event.Garbage n bytes) may k m = steps_follow c w s k m n f (find (is_node n) w.nodes) refl step.Garbage (event.Garbage n bytes) tt tt (λ c e. absurd (cc)) (λ y z is. absurd (cc)) tt

@@ -10,6 +10,7 @@ use Rattle.run_safety.specs.SafeLists.{OneEntry}
 use Rattle.run_safety.specs.SafeGroups.{SafeGroups}
 use Rattle.step_refinement.specs.Tied.{Scene, opening_of}
 use Rattle.entry_laws.specs.late_rows.Runs.{TicksAreNoted}
+use Rattle.entry_laws.specs.source_order.Meant.{DeliveriesAreNoted}
 use Rattle.row_laws.specs.failed_rows.Scenes.{Played}
 use Rattle.provider_laws.specs.leaving.Scenes.{Recounted}
 use Rattle.step_refinement.specs.Runs.{Reached}
@@ -31,18 +32,20 @@ record Stands (c : Config) (w : World) (run : Run) : Type 0 where
   scene : Scene
   reached : Reached c scene
   noted : TicksAreNoted c scene reached
+  given : DeliveriesAreNoted c scene reached
   played : Played c scene
   recounted : Recounted c scene
   mirrors : Mirrors c w scene
   before : scene.before ≡ history_of run
 
-stands_on : (c : Config) (w : World) (run : Run) (e : Answered) (s : Scene) (k : Reached c s) → TicksAreNoted c s k → Played c s → Recounted c s → s.before ≡ history_of run → Follows c s k e.event w.trace (goes_on w e) → Stands c (goes_on w e) (run ++ happening w e ∷ [])
-stands_on c w run e s k noted played recounted is f =
+stands_on : (c : Config) (w : World) (run : Run) (e : Answered) (s : Scene) (k : Reached c s) → TicksAreNoted c s k → DeliveriesAreNoted c s k → Played c s → Recounted c s → s.before ≡ history_of run → Follows c s k e.event w.trace (goes_on w e) → Stands c (goes_on w e) (run ++ happening w e ∷ [])
+stands_on c w run e s k noted given played recounted is f =
     let now : f.records ≡ _ = sym (since_is w (goes_on w e) f.records f.trace) in
     record {
       scene = f.scene;
       reached = f.reached;
       noted = f.noted noted;
+      given = f.given given;
       played = f.played played;
       recounted = f.recounted recounted;
       mirrors = f.mirrors;
@@ -52,15 +55,15 @@ stands_on c w run e s k noted played recounted is f =
 all_stand : (c : Config) (es : List Answered) (w : World) (run : Run) → AllMayHappen c (events_in es) → Stands c w run → Stands c (fold goes_on w es) (run ++ events_from w es)
 all_stand c [] w run may t = subst (Stands c w) (sym (append-nil run)) t
 all_stand c (e ∷ es) w run may t =
-    let one : Stands c (goes_on w e) (run ++ happening w e ∷ []) = stands_on c w run e t.scene t.reached t.noted t.played t.recounted t.before (event_follows e.answers c w t.scene e.event may.0 t.reached t.mirrors) in
+    let one : Stands c (goes_on w e) (run ++ happening w e ∷ []) = stands_on c w run e t.scene t.reached t.noted t.given t.played t.recounted t.before (event_follows e.answers c w t.scene e.event may.0 t.reached t.mirrors) in
     subst (Stands c (fold goes_on (goes_on w e) es)) (append_assoc run (happening w e ∷ []) (events_from (goes_on w e) es)) (all_stand c es (goes_on w e) (run ++ happening w e ∷ []) may.1 one)
 
 pub every_run_is_reached : EveryRunIsReached
 unfolding answered_after
 every_run_is_reached c es may =
     let b : Begun c (world_new c) c.mode = run_begun c in
-    let t = all_stand c es (world_new c) (beginning (world_new c) c.mode) may (record { scene = b.scene; reached = b.reached; noted = b.noted; played = b.played; recounted = b.recounted; mirrors = b.mirrors; before = b.before }) in
-    (t.scene, t.reached, t.noted, t.played, t.mirrors, t.before, t.recounted)
+    let t = all_stand c es (world_new c) (beginning (world_new c) c.mode) may (record { scene = b.scene; reached = b.reached; noted = b.noted; given = b.given; played = b.played; recounted = b.recounted; mirrors = b.mirrors; before = b.before }) in
+    (t.scene, t.reached, t.noted, t.played, t.mirrors, t.before, t.recounted, t.given)
 
 pub every_run_is_safe : EveryRunIsSafe
 every_run_is_safe c es may =

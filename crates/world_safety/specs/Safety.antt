@@ -8,6 +8,7 @@ use Rattle.run_safety.specs.SafeGroups.{SafeGroups}
 use Rattle.step_refinement.specs.Tied.{Scene, opening_of}
 use Rattle.step_refinement.specs.Runs.{Reached}
 use Rattle.entry_laws.specs.late_rows.Runs.{TicksAreNoted}
+use Rattle.entry_laws.specs.source_order.Meant.{DeliveriesAreNoted}
 use Rattle.row_laws.specs.failed_rows.Scenes.{Played}
 use Rattle.provider_laws.specs.leaving.Scenes.{Recounted}
 use Rattle.world_laws.specs.world_answers.Answers.{Answered, events_in, answered_after, answered_records}
@@ -18,10 +19,11 @@ use Rattle.world_safety.specs.Mirrors.{Mirrors}
 abbrev pub RunHasTheRecords : Type 0
 RunHasTheRecords = (c : Config) (es : List Answered) → trace_of (run_of_events c es) ≡ answered_records c es
 
--- what starts, stops and steps make comes to the world, by the same history, in which each tick and each call is noted, and nothing else as a call
+-- what starts, stops and steps make comes to the world, by the same history, in which each tick, each delivery and each call is noted, and nothing else
+-- as a call
 abbrev pub EveryRunIsReached : Type 0
 EveryRunIsReached =
-    (c : Config) (es : List Answered) → AllMayHappen c (events_in es) → (s : Scene) × (k : Reached c s) × TicksAreNoted c s k × Played c s × Mirrors c (answered_after c es) s × (s.before ≡ history_of (run_of_events c es)) × Recounted c s
+    (c : Config) (es : List Answered) → AllMayHappen c (events_in es) → (s : Scene) × (k : Reached c s) × TicksAreNoted c s k × Played c s × Mirrors c (answered_after c es) s × (s.before ≡ history_of (run_of_events c es)) × Recounted c s × DeliveriesAreNoted c s k
 
 -- what each group sees of the run is safe, and each view and group has one list
 abbrev pub EveryRunIsSafe : Type 0

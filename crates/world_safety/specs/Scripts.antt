@@ -97,7 +97,8 @@ pub record IsSafe (c : Config) (es : List Answered) (rs : List Happened) : Type 
   pub climbs : ReflectionsClimb (history_in c es)
   -- a join carries a source length just where its attributes have a source
   pub lengths : JoinsCarryLengths (history_in c es)
-  -- where it is put first, a reflection has the source's place and value, and a join the length of the source's list
+  -- where it is put first, a reflection has the source's place and value; and a join has the attributes of its request where that was
+  -- decided in an empty idle group, else the group's, and the length of the list of the source that these name
   pub sources : FirstsFollowSources (history_in c es)
   -- each joiner over a source has a member of the source on its node
   pub over : JoinsOverSources (history_in c es)

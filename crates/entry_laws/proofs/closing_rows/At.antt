@@ -14,11 +14,13 @@ use Rattle.proposal_core.specs.declared.group_state.GroupState.{GroupState}
 use Rattle.proposal_core.specs.Fold.{empty_state, after}
 use Rattle.proposal_core.specs.GroupView.{GroupView}
 use Rattle.proposal_core.specs.Lists.{list_or_new, state_in, len_in, with_entry}
+use Rattle.name_server.specs.declared.names.Leader.{Leader}
 use Rattle.view_state.specs.declared.views.Views.{Views}
 use Rattle.node_state.specs.declared.config.Config.{Config}
 use Rattle.node_state.specs.declared.group.GroupRow.{GroupRow}
 use Rattle.node_state.specs.declared.happened.Happened.{Happened}
 use Rattle.node_state.specs.declared.happened.Happened.TheVariants as happened
+use Rattle.node_state.specs.declared.packet.Packet.{Packet}
 use Rattle.node_state.specs.declared.state.Core.{Core}
 use Rattle.node_state.specs.State.{InNameOrder, row_found, row_of, with_row, list_of, len_of, is_this, leader_by, leader_in, leads_in, leads, recorded, recorded_all, has_name}
 use Rattle.node_state.specs.Leading.{put}
@@ -155,18 +157,20 @@ state_beside n v k l rs m u g i e ne s =
 
 -- ---- rows
 
--- nothing changes but what is sent, and the sessions
+-- nothing changes but what is sent more, and the sessions
 pub record Calm (c d : Core) : Type 0 where
   pub groups : d.groups ≡ c.groups
   pub views : d.views ≡ c.views
   pub config : d.config ≡ c.config
+  pub names : d.names ≡ c.names
   pub records : d.records ≡ c.records
+  pub sends : (p : Packet) → Has p c.sends → Has p d.sends
 
 pub calm_self : (c : Core) → Calm c c
-calm_self c = record { groups = refl; views = refl; config = refl; records = refl }
+calm_self c = record { groups = refl; views = refl; config = refl; names = refl; records = refl; sends = λ p h. h }
 
 pub calm_then : (a b c : Core) → Calm a b → Calm b c → Calm a c
-calm_then a b c p q = record { groups = q.groups ∙ p.groups; views = q.views ∙ p.views; config = q.config ∙ p.config; records = q.records ∙ p.records }
+calm_then a b c p q = record { groups = q.groups ∙ p.groups; views = q.views ∙ p.views; config = q.config ∙ p.config; names = q.names ∙ p.names; records = q.records ∙ p.records; sends = λ x h. q.sends x (p.sends x h) }
 
 pub calm_fold : {A : Type 0} (f : Core → A → Core) → ((c : Core) (x : A) → Calm c (f c x)) → (xs : List A) (c : Core) → Calm c (fold f c xs)
 calm_fold f one [] c = calm_self c
@@ -242,6 +246,11 @@ module _ (h : History) where
     at_calm c d k a =
         let x : At h T G (record c { groups = d.groups; views = d.views; config = d.config; records = d.records }) = subst (λ (z : List GroupRow × Views × Config × List Happened). At h T G (record c { groups = z.0; views = z.1; config = z.2; records = z.3 })) (λ i. (sym k.groups i, sym k.views i, sym k.config i, sym k.records i)) a in
         record { rows = record { order = x.rows.order; tallies = x.rows.tallies; led = x.rows.led }; facts = x.facts; states = x.states }
+
+    -- the coordinator's table changes
+    pub at_table : (s : Core) (table : List Leader) → At h T G s → At h T G (record s { names = table })
+    at_table s table a =
+        record { rows = record { order = a.rows.order; tallies = a.rows.tallies; led = a.rows.led }; facts = a.facts; states = a.states }
 
     pub at_recorded : (s : Core) (r : Happened) → Silent r → At h T G s → At h T G (recorded s r)
     unfolding recorded

@@ -7,7 +7,7 @@ use Rattle.rsct_packet.specs.declared.ids.ProtoId.{ProtoId}
 use Rattle.rsct_packet.specs.declared.mask.Mask.{Mask}
 use Rattle.rsct_packet.specs.Mask.{nodes_of}
 use Rattle.rsct_packet.specs.Search.{Has}
-use Rattle.rsct_packet.proofs.HasLaws.{has_append, has_map}
+use Rattle.rsct_packet.proofs.HasLaws.{has_append, has_map, append_has_left}
 use Rattle.packet_bodies.specs.declared.body.ReportRow.{ReportRow}
 use Rattle.proposal_core.specs.declared.entry.Entry.{Entry}
 use Rattle.proposal_core.specs.declared.group_state.GroupState.{GroupState}
@@ -46,7 +46,7 @@ use Rattle.node_state.specs.declared.packet.Body.TheVariants as body
 use Rattle.node_state.specs.declared.state.Core.{Core}
 use Rattle.node_state.specs.Settings.{is_rings}
 use Rattle.node_state.specs.State.{row_of, state_of, held_rows, frozen, leader_of, acked_by, least_acked, recorded, recorded_all, with_sessions}
-use Rattle.node_state.specs.Sending.{send_on, sent, send_all, send_if_known, send_request_to, send_request, send_requests, send_kept_to, send_kept, kept_sent_if, kept_sent_again, send_votes_again}
+use Rattle.node_state.specs.Sending.{packet_on, send_on, sent, send_all, send_if_known, send_request_to, send_request, send_requests, send_kept_to, send_kept, kept_sent_if, kept_sent_again, send_votes_again}
 use Rattle.node_state.specs.HandOn.{Answering, fills, cast_record, cast_records, heard, note_of, notes, noted, ballot_sent, cast_sent_of, casts_sent, hand_on}
 use Rattle.node_state.specs.Following.{told_if, take_tell}
 use Rattle.node_state.specs.Ticks.{ring_put, set_records, ring_taken, ring_row_of, ring_row, take_report, rings_union, report_of, send_report, rings_tick, tick_rings, is_lost, lost_told, tick_owed, entries_sent, list_sent_again, sent_again}
@@ -58,7 +58,7 @@ use Rattle.entry_laws.proofs.closing_rows.At.{Silent, Calm, calm_self, calm_then
 
 pub calm_on : (c : Core) (network to : ℕ) (b : Body) → Calm c (send_on c network to b)
 unfolding send_on
-calm_on c network to b = record { groups = refl; views = refl; config = refl; records = refl }
+calm_on c network to b = record { groups = refl; views = refl; config = refl; names = refl; records = refl; sends = λ p h. append_has_left p c.sends (packet_on c network to b ∷ []) h }
 
 pub calm_sent : (c : Core) (to : ℕ) (b : Body) → Calm c (sent c to b)
 unfolding sent
@@ -75,7 +75,7 @@ calm_known c (Some n) b = calm_sent c n b
 
 pub calm_sessions : (c : Core) (t : SessionState) → Calm c (with_sessions c t)
 unfolding with_sessions
-calm_sessions c t = record { groups = refl; views = refl; config = refl; records = refl }
+calm_sessions c t = record { groups = refl; views = refl; config = refl; names = refl; records = refl; sends = λ p i. i }
 
 calm_cast : (c : Core) (k : List ℕ) (to : Option ℕ) (x : Cast) → Calm c (cast_sent_of c k to x.p x.cast)
 unfolding cast_sent_of ballot_sent
@@ -175,7 +175,7 @@ report_calm : (c : Core) (m : Mask) → Calm c (send_report c m)
 unfolding send_report
 report_calm c m =
     let t : Core = record c { reach = reach.set_own c.reach m } in
-    calm_then c t (send_all t (filter (λ n. not (n == c.views.me)) (nodes_of m)) (body.Report (report_of t.reach))) (record { groups = refl; views = refl; config = refl; records = refl }) (calm_all t _ _)
+    calm_then c t (send_all t (filter (λ n. not (n == c.views.me)) (nodes_of m)) (body.Report (report_of t.reach))) (record { groups = refl; views = refl; config = refl; names = refl; records = refl; sends = λ p i. i }) (calm_all t _ _)
 
 module _ (h : History) (T G : List ℕ → Type 0) where
   -- ---- handing on
@@ -254,7 +254,7 @@ module _ (h : History) (T G : List ℕ → Type 0) where
   at_ring_taken s x a =
       let d : Core = record s { rings = ring_put s.rings x.ring } in
       let e : Core = fold (λ u (y : RingSend). send_on u y.network y.to (body.Ring y.packet)) d x.sends in
-      at_recorded_all h T G (set_records s.views.me x.ring.net x.set) e (set_silent s.views.me x.ring.net x.set) (at_calm h T G s e (calm_then s d e (record { groups = refl; views = refl; config = refl; records = refl }) (calm_fold (λ u (y : RingSend). send_on u y.network y.to (body.Ring y.packet)) (λ u y. calm_on u _ _ _) x.sends d)) a)
+      at_recorded_all h T G (set_records s.views.me x.ring.net x.set) e (set_silent s.views.me x.ring.net x.set) (at_calm h T G s e (calm_then s d e (record { groups = refl; views = refl; config = refl; names = refl; records = refl; sends = λ p i. i }) (calm_fold (λ u (y : RingSend). send_on u y.network y.to (body.Ring y.packet)) (λ u y. calm_on u _ _ _) x.sends d)) a)
 
   pub at_ring : (s : Core) (network from inc : ℕ) (p : RingPacket) → At h T G s → At h T G (ring_row s network from inc p)
   unfolding ring_row ring_row_of
@@ -266,7 +266,7 @@ module _ (h : History) (T G : List ℕ → Type 0) where
 
   pub at_report : (s : Core) (rows : List ReportRow) → At h T G s → At h T G (take_report s rows)
   unfolding take_report
-  at_report s rows a = at_calm h T G s _ (record { groups = refl; views = refl; config = refl; records = refl }) a
+  at_report s rows a = at_calm h T G s _ (record { groups = refl; views = refl; config = refl; names = refl; records = refl; sends = λ p i. i }) a
 
   pub at_rings_part : (s : Core) → At h T G s → At h T G (tick_rings s)
   unfolding tick_rings rings_tick

@@ -71,7 +71,7 @@ started_puts_none c n j r (inr i) = by (has_append r (map (ring_record n) rings)
 
 -- where it holds of all that puts nothing
 module _ (P : List Happened → History → Happened → Type 0) (none : (r : Happened) (now : List Happened) (before : History) → PutsNone r → P now before r) where
-  within_none : (h : History) (rs acc : List Happened) → ((r : Happened) → Has r rs → PutsNone r) → Within P acc h → Within P (reverse rs ++ acc) h
+  pub within_none : (h : History) (rs acc : List Happened) → ((r : Happened) → Has r rs → PutsNone r) → Within P acc h → Within P (reverse rs ++ acc) h
   within_none h [] acc puts k = k
   within_none h (r ∷ rs) acc puts k =
       let turned : reverse (r ∷ rs) ≡ reverse rs ++ (r ∷ []) = reverse-append (r ∷ []) rs in

@@ -33,7 +33,7 @@ use Rattle.run_safety.specs.Past.{History, earlier}
 use Rattle.node_state.proofs.NameOrder.{cases_text, row_here, row_there, rows_ordered}
 use Rattle.step_refinement.proofs.Appending.{handed_rows}
 use Rattle.entry_laws.specs.closing_rows.Rows.{TallyFits}
-use Rattle.entry_laws.proofs.closing_rows.At.{found, leads_row, leads_is, RowIs, PutFact, StateIs, calm_then, calm_fold, At, at_for, at_fold, at_calm, at_row, list_with}
+use Rattle.entry_laws.proofs.closing_rows.At.{found, leads_row, leads_is, RowIs, PutFact, StateIs, calm_fold, At, at_for, at_fold, at_calm, at_table, at_row, list_with}
 use Rattle.entry_laws.proofs.closing_rows.Calms.{calm_sent, request_calm, at_tell}
 use Rattle.entry_laws.proofs.closing_rows.Tallies.{failed_fits, voted_fits}
 use Rattle.entry_laws.proofs.closing_rows.Leading.{put_row, at_put_and_handed_for, at_led, at_waits, at_forgets, at_forgets_least, at_closes}
@@ -92,7 +92,7 @@ module _ (h : History) where
 
       by : (b : Bool) → Full (elim b as (λ _. Core) [ false ↦ s | true ↦ sent t from (body.Name s.views.view g (unwrap_or (names.looked_up g from s.names) 0)) ])
       by false = a
-      by true = at_calm h Every NoGroup s _ (calm_then s t _ (record { groups = refl; views = refl; config = refl; records = refl }) (calm_sent t from (body.Name s.views.view g (unwrap_or (names.looked_up g from s.names) 0)))) a
+      by true = at_calm h Every NoGroup t _ (calm_sent t from (body.Name s.views.view g (unwrap_or (names.looked_up g from s.names) 0))) (at_table h Every NoGroup s (names.lookup g from s.names) a)
 
   pub at_name : (s : Core) (g : List ℕ) (n : ℕ) → Full s → Full (take_name s g n)
   unfolding take_name named is_name_used leader_of leader_in row_of

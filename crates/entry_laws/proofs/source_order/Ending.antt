@@ -1,6 +1,6 @@
 -- What begins at the end of a step.
-use Rattle.std.proofs.Common.{◌≡◌, ℕ, zero, suc, List, [], ◌∷◌, length, Option, Some, None, Bool, true, false, refl, sym, ap, ◌∙◌, subst}
-use Rattle.std.specs.Prelude.{not, fold, filter, reverse, if◌then◌else◌}
+use Rattle.std.proofs.Common.{◌≡◌, ◌⊎◌, ℕ, zero, suc, List, [], ◌∷◌, length, Option, Some, None, Bool, true, false, cond, refl, sym, ap, ◌∙◌, subst, inl, inr}
+use Rattle.std.specs.Prelude.{not, ◌||◌, find, fold, filter, reverse, if◌then◌else◌}
 use Rattle.std.specs.List.{list_any}
 use Rattle.std.specs.Option.{option_map}
 use Rattle.rsct_packet.specs.declared.ids.ViewId.{ViewId}
@@ -10,29 +10,35 @@ use Rattle.rsct_packet.specs.Ids.{place_lt}
 use Rattle.rsct_packet.specs.Lists.{is_empty}
 use Rattle.rsct_packet.specs.Providers.{among}
 use Rattle.rsct_packet.specs.Search.{Has}
-use Rattle.rsct_packet.proofs.HasLaws.{has_filter}
+use Rattle.rsct_packet.proofs.HasLaws.{has_filter, find_has}
 use Rattle.group_attr.specs.declared.attrs.Attrs.{Attrs}
 use Rattle.proposal_core.specs.declared.proposal.Failure.{Failure}
 use Rattle.proposal_core.specs.declared.proposal.Proposal.TheVariants.{Join, Fail, Reflect}
 use Rattle.proposal_core.specs.declared.group_state.GroupState.{GroupState}
 use Rattle.proposal_core.specs.GroupView.{GroupView}
 use Rattle.proposal_core.specs.Lists.{list_or_new, state_in}
-use Rattle.batch_rules.specs.Waiting.{batches_failures, chosen_of, next_failures, failures_left, next_joins, joins_left}
+use Rattle.batch_rules.specs.Waiting.{batches_joins, batches_failures, chosen_of, next_failures, failures_left, next_joins, joins_left}
 use Rattle.source_target.specs.declared.Due.{Due}
 use Rattle.source_target.specs.declared.Due.TheVariants as owed
 use Rattle.source_target.specs.Due.{is_on, allowed, cast_outs, reflect_from, value_place, reflection_due, due_from, due}
 use Rattle.client_callbacks.specs.declared.told.Why.TheVariants.{NoSource}
+use Rattle.view_state.specs.declared.views.Views.{Views}
 use Rattle.node_state.specs.declared.group.GroupRow.{GroupRow}
+use Rattle.node_state.specs.declared.group.JoinAttrs.{JoinAttrs}
 use Rattle.node_state.specs.declared.state.Core.{Core}
-use Rattle.node_state.specs.State.{row_of, with_row, with_led, led_of, list_of, state_of, len_of, frozen, led_groups}
+use Rattle.node_state.specs.State.{new_row, row_found, has_name, row_of, with_row, with_led, led_of, list_of, state_of, len_of, frozen, led_groups}
 use Rattle.node_state.specs.Sending.{sent, send_on}
 use Rattle.node_state.specs.HandOn.{Answering}
 use Rattle.node_state.specs.Leading.{with_waiting, begins}
 use Rattle.node_state.specs.Deciding.{keep_decision, refused, known_state, lacks_source, source_len}
-use Rattle.node_state.specs.Ending.{Pass, quiet, begun_now, failures_begin, due_begins, source_begins, attrs_for, carried_len, source_refused, joins_begin, or_due, or_joins, may_begin, first_begins, group_begins, one_pass, passes, most_begun, end_step}
-use Rattle.run_safety.specs.Past.{History, earlier, state_now}
+use Rattle.node_state.specs.Ending.{Pass, quiet, begun_now, failures_begin, due_begins, source_begins, attrs_or, attrs_for, carried_len, source_refused, joins_begin, or_due, or_joins, may_begin, first_begins, group_begins, one_pass, passes, most_begun, end_step}
+use Rattle.run_safety.specs.Past.{earlier, state_now}
+use Rattle.node_state.proofs.NameOrder.{text_same}
+use Rattle.step_refinement.proofs.SessionLaws.{provider_self}
 use Rattle.entry_laws.proofs.closing_rows.At.{found, StateIs}
-use Rattle.entry_laws.specs.source_order.Sources.{SameThere, JoinsFrom}
+use Rattle.entry_laws.specs.source_order.Meant.{Decided, meant}
+use Rattle.entry_laws.specs.source_order.Sources.{SameThere, JoinsFrom, IsFirst, LacksMember, BeginsAsMeant}
+use Rattle.entry_laws.proofs.source_order.Holding.{Turn, so_far, kept_of, DecidedAs, Holds, left_fewer}
 use Rattle.entry_laws.proofs.source_order.At.{state_whole, At, at_fold}
 use Rattle.entry_laws.proofs.source_order.Leading.{NextBegun, at_waits, at_begins}
 use Rattle.entry_laws.proofs.source_order.Deciding.{at_refused}
@@ -77,6 +83,15 @@ unfolding allowed
 known_allowed None n e = absurd (cc)
 known_allowed (Some l) n e = e
 
+known_denied : (l : Option GroupView) (n : ℕ) → allowed (option_map (λ (l : GroupView). l.state) l) n ≡ false → list_any (is_on n) (state_in l).members ≡ false
+unfolding allowed
+known_denied None n e = refl
+known_denied (Some l) n e = e
+
+no_longer : (b : Bool) → not b ≡ true → b ≡ false
+no_longer false e = refl
+no_longer true e = absurd (cc)
+
 not_not : (b : Bool) → not (not b) ≡ true → b ≡ true
 not_not true e = refl
 not_not false e = absurd (cc)
@@ -97,12 +112,12 @@ waits_still : (s : Core) (g : List ℕ) (b : Attrs) → Still s (with_waiting s 
 unfolding with_waiting with_led with_row
 waits_still s g b = record { views = refl; records = refl }
 
-module _ (h : History) where
+module _ (h : Turn) where
   abbrev Full : Core → Type 0
   Full s = At h (Unit {0}) s
 
   -- the records say what state a list has
-  state_is : (s : Core) (g : List ℕ) → Full s → StateIs s.views.me s.views.view g (found s g).list (earlier (reverse s.records) h)
+  state_is : (s : Core) (g : List ℕ) → Full s → StateIs s.views.me s.views.view g (found s g).list (earlier (reverse s.records) h.before)
   state_is s g a = a.states tt g
 
   -- a reflection that is due
@@ -113,7 +128,7 @@ module _ (h : History) where
       let here = state_is s g a in
       let there = state_is s k a in
       let at : ProtoId = record { view = v; place = i } in
-      let whole = state_whole s.views.me s.views.view g (found s g).list (earlier (reverse s.records) h) here in (
+      let whole = state_whole s.views.me s.views.view g (found s g).list (earlier (reverse s.records) h.before) here in (
         ap (λ (st : GroupState). place_lt st.reflected_at (Some at)) whole ∙ d.greater,
         tt,
         record {
@@ -124,26 +139,99 @@ module _ (h : History) where
         },
       )
 
-  -- joins over a source, which nobody lost since they were chosen
-  joins_well : (s c : Core) (g : List ℕ) (ps : List ProviderId) (attrs : Attrs) → Still s c → ((p : ProviderId) → Has p ps → not (lacks_source s attrs.source p.node) ≡ true) → Full s → Full c → NextBegun h c g (Join ps attrs (carried_len c attrs.source))
-  unfolding carried_len len_of list_of row_of known_state lacks_source
-  joins_well s c g ps attrs still keep a b = (tt, lengths attrs.source, from attrs.source keep)
+  -- who is chosen first waits, and was decided
+  chosen_decided : (s : Core) (g : List ℕ) (b : Bool) (p : ProviderId) (rest : List ProviderId) → chosen_of b (led_of s g).waiting.joins ≡ p ∷ rest → Holds h s → (s.views.me ≡ h.node) × (s.views.view ≡ h.view) × DecidedAs (so_far h []) h.node h.view g p (kept_of (led_of s g) p)
+  unfolding led_of row_of
+  chosen_decided s g b p rest e k = found_row (find (has_name g) s.groups) refl e k
     where
-      lengths : (o : Option (List ℕ)) → SameThere o (carried_len c o)
-      lengths None = tt
-      lengths (Some k) = tt
+      waits : (row : GroupRow) → chosen_of b row.led.waiting.joins ≡ p ∷ rest → among row.led.waiting.joins p ≡ true
+      waits row q = by b row.led.waiting.joins q
+        where
+          head : (xs : List ProviderId) → xs ≡ p ∷ rest → among xs p ≡ true
+          head xs q = subst (λ z. among z p ≡ true) (sym q) (ap (λ t. t || among rest p) (provider_self p))
 
-      states : (k : List ℕ) → state_in (found c k).list ≡ state_in (found s k).list
-      states k =
-          (state_is c k b).state ∙ (λ j. state_now (still.views j).me (still.views j).view k (earlier (reverse (still.records j)) h)) ∙ sym (state_is s k a).state
+          by : (c : Bool) (xs : List ProviderId) → chosen_of c xs ≡ p ∷ rest → among xs p ≡ true
+          by true xs q = head xs q
+          by false [] q = absurd (cc)
+          by false (y ∷ xs) q = let z : y ≡ p = cc in subst (λ w. among (w ∷ xs) p ≡ true) (sym z) (ap (λ t. t || among xs p) (provider_self p))
 
-      from : (o : Option (List ℕ)) → ((p : ProviderId) → Has p ps → not (lacks_source s o p.node) ≡ true) → JoinsFrom c.views.me c.views.view o (carried_len c o) (earlier (reverse c.records) h) ps
-      from None keep = tt
-      from (Some k) keep =
-          record {
-            len = (state_is c k b).len;
-            members = λ p i. ap (λ (st : GroupState). list_any (is_on p.node) st.members) (state_whole c.views.me c.views.view k (found c k).list (earlier (reverse c.records) h) (state_is c k b) ∙ states k) ∙ known_allowed (found s k).list p.node (not_not (allowed (option_map (λ (l : GroupView). l.state) (found s k).list) p.node) (keep p i));
-          }
+      found_row : (o : Option GroupRow) → find (has_name g) s.groups ≡ o → chosen_of b (row_found g o).led.waiting.joins ≡ p ∷ rest → Holds h s → (s.views.me ≡ h.node) × (s.views.view ≡ h.view) × DecidedAs (so_far h []) h.node h.view g p (kept_of (row_found g o).led p)
+      found_row None at q k = absurd (let z : among [] p ≡ true = waits (new_row g) q in cc)
+      found_row (Some row) at q (inl k) =
+          let i = find_has (has_name g) s.groups row at in
+          (k.me, k.view, subst (λ z. DecidedAs (so_far h []) h.node h.view z p (kept_of row.led p)) (text_same row.name g i.1) ((k.waits row i.0).1 p (waits row q)))
+      found_row (Some row) at q (inr k) = absurd ((k.none row (find_has (has_name g) s.groups row at).0).1 p (waits row q))
+
+  -- a refusal leaves the states of lists
+  states_same : (s c : Core) → Still s c → Full s → Full c → (k : List ℕ) → state_in (found c k).list ≡ state_in (found s k).list
+  states_same s c still a b k =
+      (state_is c k b).state ∙ (λ j. state_now (still.views j).me (still.views j).view k (earlier (reverse (still.records j)) h.before)) ∙ sym (state_is s k a).state
+
+  -- joins over a source, which nobody lost since they were chosen
+  joins_from : (s c : Core) (ps : List ProviderId) (source : Option (List ℕ)) → Still s c → ((p : ProviderId) → Has p ps → not (lacks_source s source p.node) ≡ true) → Full s → Full c → JoinsFrom c.views.me c.views.view source (carried_len c source) (earlier (reverse c.records) h.before) ps
+  unfolding carried_len len_of list_of row_of known_state lacks_source
+  joins_from s c ps None still keep a b = tt
+  joins_from s c ps (Some k) still keep a b =
+      record {
+        len = (state_is c k b).len;
+        members = λ p i. ap (λ (st : GroupState). list_any (is_on p.node) st.members) (state_whole c.views.me c.views.view k (found c k).list (earlier (reverse c.records) h.before) (state_is c k b) ∙ states_same s c still a b k) ∙ known_allowed (found s k).list p.node (not_not (allowed (option_map (λ (l : GroupView). l.state) (found s k).list) p.node) (keep p i));
+      }
+
+  -- and one that was lost has no member of the source
+  lost_lacks : (s c : Core) (p : ProviderId) (source : Option (List ℕ)) → Still s c → lacks_source s source p.node ≡ true → Full s → Full c → LacksMember c.views.me c.views.view source (earlier (reverse c.records) h.before) p
+  unfolding known_state lacks_source row_of
+  lost_lacks s c p None still e a b = absurd (cc)
+  lost_lacks s c p (Some k) still e a b = λ has.
+      let here : list_any (is_on p.node) (state_in (found s k).list).members ≡ true = ap (λ (st : GroupState). list_any (is_on p.node) st.members) (sym (states_same s c still a b k) ∙ (state_is c k b).state) ∙ has in
+      let none : list_any (is_on p.node) (state_in (found s k).list).members ≡ false = known_denied (found s k).list p.node (no_longer (allowed (option_map (λ (l : GroupView). l.state) (found s k).list) p.node) e) in
+      cc
+
+  lengths_same : (c : Core) (o : Option (List ℕ)) → SameThere o (carried_len c o)
+  unfolding carried_len
+  lengths_same c None = tt
+  lengths_same c (Some k) = tt
+
+  -- a join begins with the attributes that are meant
+  module _ (s c : Core) (g : List ℕ) (p : ProviderId) (rest : List ProviderId) (still : Still s c) (me : s.views.me ≡ h.node) (view : s.views.view ≡ h.view) (full : Full s) (now : Full c) where
+    abbrev kept_in : Option (List ℕ) → List ProviderId
+    kept_in source = filter (λ (q : ProviderId). not (lacks_source s source q.node)) (p ∷ rest)
+
+    one_meant : (idle : Bool) (asked a : Attrs) → Decided (so_far h []) h.node h.view g p idle asked → a ≡ meant idle asked (state_of s g).attrs → BeginsAsMeant (so_far h (reverse c.records)) c.views.me c.views.view g (kept_in a.source) a (carried_len c a.source)
+    unfolding state_of list_of row_of
+    one_meant idle asked a decided e =
+        record {
+          first = p;
+          idle = idle;
+          asked = asked;
+          decided = subst (λ (z : ℕ × ViewId). Decided (so_far h (reverse c.records)) z.0 z.1 g p idle asked) (λ i. (sym node i, sym seen i)) decided;
+          attrs = whole;
+          from = subst (λ z. JoinsFrom c.views.me c.views.view z.source (carried_len c a.source) (earlier (reverse c.records) h.before) (kept_in a.source)) whole (joins_from s c (kept_in a.source) a.source still (λ q i. (has_filter (λ (q : ProviderId). not (lacks_source s a.source q.node)) q (p ∷ rest) i).1) full now);
+          chosen = by (lacks_source s a.source p.node) refl;
+        }
+      where
+        node : c.views.me ≡ h.node
+        node = ap (λ (v : Views). v.me) still.views ∙ me
+
+        seen : c.views.view ≡ h.view
+        seen = ap (λ (v : Views). v.view) still.views ∙ view
+
+        whole : a ≡ meant idle asked (state_now c.views.me c.views.view g (earlier (reverse c.records) h.before)).attrs
+        whole = e ∙ ap (λ (st : GroupState). meant idle asked st.attrs) (sym (states_same s c still full now g) ∙ (state_is c g now).state)
+
+        by : (b : Bool) → lacks_source s a.source p.node ≡ b → IsFirst p (kept_in a.source) ⊎ LacksMember c.views.me c.views.view a.source (earlier (reverse c.records) h.before) p
+        by false q = inl (filter (λ (r : ProviderId). not (lacks_source s a.source r.node)) rest, ap (λ b. cond (not b) (p ∷ filter (λ (r : ProviderId). not (lacks_source s a.source r.node)) rest) (filter (λ (r : ProviderId). not (lacks_source s a.source r.node)) rest)) q)
+        by true q = inr (lost_lacks s c p a.source still q full now)
+
+    all_meant : (o : Option JoinAttrs) → DecidedAs (so_far h []) h.node h.view g p o → let a : Attrs = attrs_or (state_of s g).attrs o in BeginsAsMeant (so_far h (reverse c.records)) c.views.me c.views.view g (kept_in a.source) a (carried_len c a.source)
+    all_meant None d = one_meant false d.0 (state_of s g).attrs d.1 refl
+    all_meant (Some j) d = one_meant true j.attrs j.attrs d refl
+
+  joins_well : (s c : Core) (g : List ℕ) (b : Bool) (chosen : List ProviderId) → chosen_of b (led_of s g).waiting.joins ≡ chosen → (a : Attrs) → attrs_for (state_of s g) (led_of s g).join_attrs chosen ≡ a → Still s c → is_empty (filter (λ (p : ProviderId). not (lacks_source s a.source p.node)) chosen) ≡ false → Full s → Full c → NextBegun h c g (Join (filter (λ (p : ProviderId). not (lacks_source s a.source p.node)) chosen) a (carried_len c a.source))
+  unfolding attrs_for
+  joins_well s c g b [] from a e still some full now = absurd (cc)
+  joins_well s c g b (p ∷ rest) from a e still some full now =
+      let d = chosen_decided s g b p rest from full.holds in
+      (tt, lengths_same c a.source, subst (λ z. BeginsAsMeant (so_far h (reverse c.records)) c.views.me c.views.view g (filter (λ (p : ProviderId). not (lacks_source s z.source p.node)) (p ∷ rest)) z (carried_len c z.source)) e (all_meant s c g p rest still d.0 d.1 full now (kept_of (led_of s g) p) d.2))
 
   -- ---- what begins in a group
 
@@ -155,7 +243,7 @@ module _ (h : History) where
         let st : GroupState = state_of s g in
         let out : List Failure = filter (λ (x : Failure). among st.members x.p) (next_failures st.attrs.batch (led_of s g).waiting) in
         let c : Core = with_waiting s g (failures_left st.attrs.batch) in
-        let k : Full c = at_waits h (Unit {0}) s g (failures_left st.attrs.batch) a in by c out st (is_empty out) k (at_failures n c k)
+        let k : Full c = at_waits h (Unit {0}) s g (failures_left st.attrs.batch) (λ l. record { joins = λ q e. e; attrs = refl }) a in by c out st (is_empty out) k (at_failures n c k)
       where
         by : (c : Core) (out : List Failure) (st : GroupState) (b : Bool) → Full c → Full (failures_begin n f c g).core → Full (elim b as (λ _. Pass) [ true ↦ failures_begin n f c g | false ↦ begun_now (begins f c g (Fail out) st.attrs.phases) ]).core
         by c out st true k rest = rest
@@ -189,13 +277,13 @@ module _ (h : History) where
         let out : List ProviderId = filter (λ (p : ProviderId). lacks_source s at.source p.node) chosen in
         let d : Core = with_waiting s g (joins_left st.attrs.batch) in
         let c : Core = source_refused d g at.source out in
-        let k : Full c = at_source_refused d at.source out (at_waits h (Unit {0}) s g (joins_left st.attrs.batch) a) in
+        let k : Full c = at_source_refused d at.source out (at_waits h (Unit {0}) s g (joins_left st.attrs.batch) (λ l. left_fewer l st.attrs.batch) a) in
         let still : Still s c = refused_still g at.source out s d (waits_still s g st.attrs) in
-        by c ps at (is_empty ps) k (joins_well s c g ps at still (λ p i. (has_filter (λ (p : ProviderId). not (lacks_source s at.source p.node)) p chosen i).1) a k) (at_joins n c k)
+        by c ps at (is_empty ps) k (λ some. joins_well s c g (batches_joins st.attrs.batch) chosen refl at refl still some a k) (at_joins n c k)
       where
-        by : (c : Core) (ps : List ProviderId) (at : Attrs) (b : Bool) → Full c → NextBegun h c g (Join ps at (carried_len c at.source)) → Full (joins_begin n f c g).core → Full (elim b as (λ _. Pass) [ true ↦ joins_begin n f c g | false ↦ begun_now (begins f c g (Join ps at (carried_len c at.source)) at.phases) ]).core
+        by : (c : Core) (ps : List ProviderId) (at : Attrs) (b : Bool) → Full c → (b ≡ false → NextBegun h c g (Join ps at (carried_len c at.source))) → Full (joins_begin n f c g).core → Full (elim b as (λ _. Pass) [ true ↦ joins_begin n f c g | false ↦ begun_now (begins f c g (Join ps at (carried_len c at.source)) at.phases) ]).core
         by c ps at true k well rest = rest
-        by c ps at false k well rest = at_begins h (Unit {0}) f c g (Join ps at (carried_len c at.source)) at.phases well k
+        by c ps at false k well rest = at_begins h (Unit {0}) f c g (Join ps at (carried_len c at.source)) at.phases (well refl) k
 
     at_or_due : (p : Pass) → Full p.core → Full (or_due f g p).core
     unfolding or_due

@@ -1,18 +1,19 @@
 -- Entering a view, and what a row of views leaves.
-use Rattle.std.proofs.Common.{ℕ, List, [], ◌∷◌, ◌++◌, Option, Some, None, Bool, true, false, sym, subst, inl, inr, ⊎_elim, append_assoc, append-nil}
-use Rattle.std.specs.Prelude.{◌==◌, ◌&&◌, not, map, filter, fold, flat_map, reverse, is_some}
+use Rattle.std.proofs.Common.{◌≡◌, ℕ, List, [], ◌∷◌, ◌++◌, Option, Some, None, Bool, true, false, refl, sym, ap, subst, inl, inr, ⊎_elim, append_assoc, append-nil}
+use Rattle.std.specs.Prelude.{◌==◌, ◌&&◌, not, map, filter, fold, flat_map, reverse, is_some, if◌then◌else◌}
 use Rattle.std.specs.Str.{bytes_eq}
 use Rattle.std.proofs.lemmas.List.{reverse-append}
 use Rattle.rsct_packet.specs.declared.ids.ViewId.{ViewId}
 use Rattle.rsct_packet.specs.declared.ids.ProviderId.{ProviderId}
 use Rattle.rsct_packet.specs.Providers.{among}
 use Rattle.rsct_packet.specs.Search.{Has}
-use Rattle.rsct_packet.proofs.HasLaws.{has_append}
+use Rattle.rsct_packet.proofs.HasLaws.{has_append, has_map, append_has_right}
 use Rattle.group_attr.specs.Attrs.{host_membership}
 use Rattle.proposal_core.specs.declared.proposal.Cause.TheVariants.{Died}
 use Rattle.proposal_core.specs.Fold.{present}
 use Rattle.proposal_core.specs.Lists.{state_in}
 use Rattle.batch_rules.specs.Waiting.{add_failure}
+use Rattle.name_server.specs.Names.{node_of}
 use Rattle.subscribe_core.specs.declared.subs.Subscription.{Subscription}
 use Rattle.client_callbacks.specs.declared.told.Told.TheVariants as told
 use Rattle.client_callbacks.specs.declared.told.Why.TheVariants.{Dissolved}
@@ -35,15 +36,37 @@ use Rattle.node_state.specs.State.{state_of, held_rows, recorded_all, with_sessi
 use Rattle.node_state.specs.Sending.{sent, send_requests, send_votes_again}
 use Rattle.node_state.specs.HandOn.{Answering, subscriber_name, note_of}
 use Rattle.node_state.specs.Leading.{with_waiting, tally_opened}
-use Rattle.node_state.specs.Applying.{Lacking, lacking, fill_lists, level_set, base_record, view_entered, is_in_base, number_of, dissolved, dissolved_if, group_dissolved, sides_dissolved, base_note, entering_note, entering_noted, taken_sent, owed_sent, wait_failed, phase_reopened, lead, lead_groups, entered, entered_if, apply_install, views_taken}
-use Rattle.run_safety.specs.Past.{History}
+use Rattle.node_state.specs.Applying.{Lacking, lacking, fill_lists, level_set, base_row, base_leader, base_record, view_entered, is_in_base, number_of, dissolved, dissolved_if, group_dissolved, sides_dissolved, base_note, entering_note, entering_noted, taken_sent, owed_sent, wait_failed, phase_reopened, lead, lead_groups, entered, entered_if, apply_install, views_taken}
 use Rattle.step_refinement.proofs.BaseOrder.{base_noted}
+use Rattle.step_refinement.proofs.Turns.{has_turned}
+use Rattle.node_state.proofs.NameOrder.{text_same}
+use Rattle.entry_laws.specs.source_order.Sources.{RecordedBase}
+use Rattle.entry_laws.proofs.closing_rows.Works.{Stays}
+use Rattle.entry_laws.proofs.source_order.Holding.{Turn, Bare, holds_same, failure_fewer}
 use Rattle.entry_laws.proofs.closing_rows.At.{Silent, calm_fold}
 use Rattle.entry_laws.proofs.closing_rows.Calms.{calm_sent, calm_sessions, owed_calm}
 use Rattle.entry_laws.proofs.source_order.At.{Facts, At, at_fold, at_calm, at_recorded, at_recorded_all}
 use Rattle.entry_laws.proofs.source_order.Leading.{at_waits, at_tally_opened, at_closes}
 
-module _ (h : History) where
+-- who the table names is the leader of a base
+named_base : (g : List ℕ) (m : ℕ) (bs : List Base) → node_of g (map base_leader bs) ≡ Some m → (b : Base) × Has b bs × (b.name ≡ g)
+unfolding base_leader
+named_base g m [] e = absurd (cc)
+named_base g m (b ∷ bs) e = by (bytes_eq g b.name) refl e (named_base g m bs)
+  where
+    by : (t : Bool) → bytes_eq g b.name ≡ t → (if t then Some b.leader else node_of g (map base_leader bs)) ≡ Some m → (node_of g (map base_leader bs) ≡ Some m → (c : Base) × Has c bs × (c.name ≡ g)) → (c : Base) × Has c (b ∷ bs) × (c.name ≡ g)
+    by true q e rest = (b, inl refl, sym (text_same g b.name q))
+    by false q e rest = let z = rest e in (z.0, inr z.1, z.2)
+
+has_mapped : {A B : Type 0} (f : A → B) (x : A) (xs : List A) → Has x xs → Has (f x) (map f xs)
+has_mapped f x [] i = absurd i
+has_mapped f x (y ∷ xs) (inl e) = inl (ap f e)
+has_mapped f x (y ∷ xs) (inr i) = inr (has_mapped f x xs i)
+
+turned_has : (r : Happened) (rs : List Happened) → Has r rs → Has r (reverse rs)
+turned_has r rs i = subst (Has r) (append-nil (reverse rs)) (has_turned r rs [] (subst (Has r) (sym (append-nil rs)) i))
+
+module _ (h : Turn) (none_sent : h.sent ≡ []) where
   abbrev Full : Core → Type 0
   Full s = At h ⊥ s
 
@@ -55,16 +78,31 @@ module _ (h : History) where
 
   -- (2) what stands before it was put before
   at_view_entered : (s : Core) (i : Install) → Full (view_entered s i (bases_of i))
-  unfolding view_entered level_set base_record views_entered own_install with_sessions recorded_all
+  unfolding view_entered level_set base_record base_row views_entered own_install with_sessions recorded_all
   at_view_entered s i =
       record {
         facts = subst (λ l. Facts h (reverse l)) (append_assoc s.records (enters ∷ []) (map (base_noted s.views.me i.view) (bases_of i))) (based_facts s.views.me i.view (bases_of i) (s.records ++ enters ∷ []) (subst (Facts h) (sym (reverse-append s.records (enters ∷ []))) tt));
+        holds = inr (record { none = bare; named = named });
+        sends = λ p k. absurd (subst (Has p) none_sent k);
         order = λ z. absurd z;
         states = λ z. absurd z;
       }
     where
       enters : Happened
       enters = happened.In s.views.me i.view i.members
+
+      bare : (row : GroupRow) → Has row (map base_row (bases_of i)) → Bare row
+      bare row k = let z = has_map base_row row (bases_of i) k in subst Bare (sym z.2) (refl, λ p e. absurd (cc))
+
+      named : (g : List ℕ) (m : ℕ) → node_of g (map base_leader (bases_of i)) ≡ Some m → RecordedBase s.views.me i.view g (reverse (s.records ++ enters ∷ map (base_noted s.views.me i.view) (bases_of i)))
+      named g m e =
+          let b = named_base g m (bases_of i) e in
+          record {
+            old = b.0.from;
+            len = b.0.len;
+            base = b.0.state;
+            there = turned_has (happened.Base s.views.me i.view g b.0.from b.0.len b.0.state) (s.records ++ enters ∷ map (base_noted s.views.me i.view) (bases_of i)) (append_has_right (happened.Base s.views.me i.view g b.0.from b.0.len b.0.state) s.records (enters ∷ map (base_noted s.views.me i.view) (bases_of i)) (inr (subst (λ n. Has (happened.Base s.views.me i.view n b.0.from b.0.len b.0.state) (map (base_noted s.views.me i.view) (bases_of i))) b.2 (has_mapped (base_noted s.views.me i.view) b.0 (bases_of i) b.1))));
+          }
 
   -- (3)
   at_dissolved : (s : Core) (p : ProviderId) (r : ℕ) → Full s → Full (dissolved s p r)
@@ -137,7 +175,7 @@ module _ (h : History) where
 
       waits : Full t
       waits =
-          at_fold h ⊥ (λ t p. with_waiting t g (add_failure p Died)) (filter (among (state_of s g).members) (state_of s g).failed) (λ t p i k. at_waits h ⊥ t g (add_failure p Died) k) s a
+          at_fold h ⊥ (λ t p. with_waiting t g (add_failure p Died)) (filter (among (state_of s g).members) (state_of s g).failed) (λ t p i k. at_waits h ⊥ t g (add_failure p Died) (λ l. failure_fewer l p Died) k) s a
 
       by : (b : Bool) → Full (phase_reopened f t g b)
       by false = waits
@@ -165,9 +203,9 @@ module _ (h : History) where
 
   -- ---- a row of views
 
-  pub at_views_taken : (f : Answering) (s : Core) (w : ViewWork) → Full s → Full (views_taken f s w)
+  pub at_views_taken : (f : Answering) (s : Core) (w : ViewWork) → Stays s.views w → Full s → Full (views_taken f s w)
   unfolding views_taken
-  at_views_taken f s w a =
+  at_views_taken f s w stays a =
       let c : Core = record s { views = w.views } in
       let d : Core = fold (λ t (x : ViewSend). sent t x.to (body.View x.packet)) c w.sends in
-      at_applied f d w.install (at_calm h ⊥ c d (calm_fold (λ t (x : ViewSend). sent t x.to (body.View x.packet)) (λ t x. calm_sent t x.to (body.View x.packet)) w.sends c) (record { facts = a.facts; order = λ z. absurd z; states = λ z. absurd z }))
+      at_applied f d w.install (at_calm h ⊥ c d (calm_fold (λ t (x : ViewSend). sent t x.to (body.View x.packet)) (λ t x. calm_sent t x.to (body.View x.packet)) w.sends c) (record { facts = a.facts; holds = holds_same h s c refl refl stays.me stays.view (λ r i. i) a.holds; sends = a.sends; order = λ z. absurd z; states = λ z. absurd z }))

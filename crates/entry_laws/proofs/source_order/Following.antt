@@ -1,5 +1,5 @@
 -- The rows of packets of a view.
-use Rattle.std.proofs.Common.{◌≡◌, ℕ, List, Option, Some, None, Bool, true, false, refl}
+use Rattle.std.proofs.Common.{◌≡◌, ℕ, List, [], Option, Some, None, Bool, true, false, refl, sym, ap, subst, inl}
 use Rattle.std.specs.Prelude.{◌==◌, ◌&&◌, reverse, nat_le, nat_lt}
 use Rattle.std.specs.Option.{unwrap_or}
 use Rattle.rsct_packet.specs.declared.ids.ProviderId.{ProviderId}
@@ -8,11 +8,13 @@ use Rattle.rsct_packet.specs.Providers.{among}
 use Rattle.rsct_packet.specs.Search.{Has}
 use Rattle.group_attr.specs.declared.attrs.Phases.{Phases}
 use Rattle.proposal_core.specs.declared.proposal.Cause.TheVariants.{Gone}
+use Rattle.group_attr.specs.declared.attrs.Attrs.{Attrs}
 use Rattle.proposal_core.specs.declared.proposal.Proposal.{Proposal}
+use Rattle.proposal_core.specs.declared.proposal.Proposal.TheVariants.{Join}
 use Rattle.proposal_core.specs.declared.entry.Entry.{Entry}
 use Rattle.proposal_core.specs.declared.entry.Vote.{Vote}
 use Rattle.proposal_core.specs.Fold.{runs, present}
-use Rattle.proposal_core.specs.Lists.{len_in}
+use Rattle.proposal_core.specs.Lists.{state_in, len_in}
 use Rattle.batch_rules.specs.Waiting.{add_failure, drop_join}
 use Rattle.vote_phases.specs.Tally.{TallyView, tally_fail}
 use Rattle.name_server.specs.Names as names
@@ -20,24 +22,39 @@ use Rattle.client_callbacks.specs.declared.told.Why.{Why}
 use Rattle.client_callbacks.specs.declared.told.Why.TheVariants.{GroupsFull}
 use Rattle.session_state.specs.declared.state.Request.{Request}
 use Rattle.node_state.specs.declared.group.Decision.{Decision}
+use Rattle.node_state.specs.declared.group.GroupRow.{GroupRow}
+use Rattle.node_state.specs.declared.group.Led.{Led}
 use Rattle.node_state.specs.declared.packet.Body.{Body}
 use Rattle.node_state.specs.declared.packet.Body.TheVariants as body
 use Rattle.node_state.specs.declared.state.Core.{Core}
-use Rattle.node_state.specs.State.{with_led, led_of, state_of, len_of, holds, fits_at_end, forget_below, coordinates, leads, set_leader, acked_raised, decision_of}
+use Rattle.node_state.specs.State.{InNameOrder, with_led, led_of, list_of, state_of, len_of, holds, fits_at_end, forget_below, coordinates, leads, set_leader, acked_raised, decision_of}
 use Rattle.node_state.specs.Sending.{sent, send_request}
 use Rattle.node_state.specs.HandOn.{Answering}
+use Rattle.node_state.specs.Deciding.{is_idle_empty}
+use Rattle.node_state.proofs.NameOrder.{row_here}
 use Rattle.node_state.specs.Leading.{put_and_hand, with_waiting, with_tally, closes}
 use Rattle.node_state.specs.Following.{take_lookup, take_tell, requests_of, named, is_name_used, take_name, tell_again, decide_new, request_after, request_at, is_group_refused, take_request, entry_next, entry_elsewhere, take_entry, acked, take_ack, vote_cast, take_vote, tally_failed, wait_gone, marked, gone_present, gone_of, take_gone}
-use Rattle.run_safety.specs.Past.{History}
 use Rattle.run_safety.specs.Requests as requests
 use Rattle.entry_laws.proofs.closing_rows.At.{found, calm_fold}
 use Rattle.entry_laws.proofs.closing_rows.Calms.{calm_sent, request_calm}
-use Rattle.entry_laws.proofs.source_order.At.{PutFact, At, at_fold, at_calm}
+use Rattle.entry_laws.specs.source_order.Meant.{Decided}
+use Rattle.entry_laws.proofs.source_order.Holding.{Turn, so_far, Fewer, fewer_self, failure_fewer, dropped_fewer, Going, going_row, going_looked}
+use Rattle.entry_laws.proofs.source_order.At.{PutFact, At, at_fold, at_calm, at_table}
 use Rattle.entry_laws.proofs.source_order.Quiet.{at_tell}
 use Rattle.entry_laws.proofs.source_order.Leading.{at_put_and_handed, at_led, at_led_by, at_waits, at_forgets, at_forgets_least, at_tally, at_closes}
 use Rattle.entry_laws.proofs.source_order.Deciding.{at_decided}
 
-module _ (h : History) (P : Type 0) where
+-- who leads is no part of the state
+led_state : (s : Core) (g : List ℕ) (n : ℕ) → InNameOrder s.groups → state_of (set_leader s g n) g ≡ state_of s g
+unfolding state_of list_of set_leader
+led_state s g n order = ap (λ (row : GroupRow). state_in row.list) (row_here g (λ row. record row { leader = Some n }) (λ x. refl) s order)
+
+vote_fewer : (l : Led) (p : ProviderId) (v : Vote) (value message : Option (List ℕ)) (o : Option TallyView) → Fewer l (vote_cast l p v value message o)
+unfolding vote_cast
+vote_fewer l p v value message None = fewer_self l
+vote_fewer l p v value message (Some t) = record { joins = λ q e. e; attrs = refl }
+
+module _ (h : Turn) (P : Type 0) where
   abbrev Full : Core → Type 0
   Full s = At h P s
 
@@ -46,16 +63,16 @@ module _ (h : History) (P : Type 0) where
 
   -- ---- LOOKUP and NAME
 
-  pub at_lookup : (s : Core) (from : ℕ) (g : List ℕ) → Full s → Full (take_lookup s from g)
+  pub at_lookup : (s : Core) (from : ℕ) (g : List ℕ) → Going h s → (coordinates s ≡ true → h.looked ≡ Some (g, from)) → Full s → Full (take_lookup s from g)
   unfolding take_lookup
-  at_lookup s from g a = by (coordinates s)
+  at_lookup s from g going looked a = by (coordinates s) refl
     where
       t : Core
       t = record s { names = names.lookup g from s.names }
 
-      by : (b : Bool) → Full (elim b as (λ _. Core) [ false ↦ s | true ↦ sent t from (body.Name s.views.view g (unwrap_or (names.looked_up g from s.names) 0)) ])
-      by false = a
-      by true = at_sent t from (body.Name s.views.view g (unwrap_or (names.looked_up g from s.names) 0)) (at_calm h P s t (record { groups = refl; views = refl; config = refl; records = refl }) a)
+      by : (b : Bool) → coordinates s ≡ b → Full (elim b as (λ _. Core) [ false ↦ s | true ↦ sent t from (body.Name s.views.view g (unwrap_or (names.looked_up g from s.names) 0)) ])
+      by false e = a
+      by true e = at_sent t from (body.Name s.views.view g (unwrap_or (names.looked_up g from s.names) 0)) (at_table h P s (names.lookup g from s.names) (inl (going_looked h s g from (looked e) going)) a)
 
   pub at_name : (s : Core) (g : List ℕ) (n : ℕ) → Full s → Full (take_name s g n)
   unfolding take_name named
@@ -73,10 +90,11 @@ module _ (h : History) (P : Type 0) where
   at_told_again s g p r None a = a
   at_told_again s g p r (Some y) a = at_sent s p.node (body.Tell s.views.view g p r y) a
 
-  module _ (f : Answering) (s : Core) (g : List ℕ) (p : ProviderId) (r : ℕ) (phases : Phases) (x : Proposal) (asked : Has (p, r) (requests.requests_of x)) where
+  module _ (f : Answering) (s : Core) (g : List ℕ) (p : ProviderId) (r : ℕ) (phases : Phases) (x : Proposal) (asked : Has (p, r) (requests.requests_of x)) (going : Going h s) (order : InNameOrder s.groups) (taken : (ps : List ProviderId) (attrs : Attrs) (k : Option ℕ) → x ≡ Join ps attrs k → Decided (so_far h []) h.node h.view g p (is_idle_empty (state_of s g)) attrs) where
     at_request_new : Full s → Full (decide_new f s g p r phases x)
-    unfolding decide_new
-    at_request_new a = at_decided h P f (set_leader s g s.views.me) g p r phases x asked (at_led_by h P s g s.views.me a)
+    unfolding decide_new set_leader
+    at_request_new a =
+        at_decided h P f (set_leader s g s.views.me) g p r phases x asked (going_row h s g (λ row. record row { leader = Some s.views.me }) (λ y. refl) (λ y. fewer_self y.led) going) (λ ps attrs k e. subst (λ st. Decided (so_far h []) h.node h.view g p (is_idle_empty st) attrs) (sym (led_state s g s.views.me order)) (taken ps attrs k e)) (at_led_by h P s g s.views.me a)
 
     at_request_after : (d : Decision) (b c : Bool) → Full s → Full (request_after f s g p r phases x d b c)
     unfolding request_after
@@ -102,7 +120,7 @@ module _ (h : History) (P : Type 0) where
   -- the entry was put by someone
   module _ (f : Answering) (s : Core) (from : ℕ) (g : List ℕ) (stable : ℕ) (e : Entry) where
     abbrev Known : Type 0
-    Known = PutFact (reverse s.records) h s.views.me s.views.view g (len_in (found s g).list) e
+    Known = PutFact h.what (reverse s.records) h.before s.views.me s.views.view g (len_in (found s g).list) e
 
     at_next : Known → (b : Bool) → Full s → Full (entry_next f s from g stable e b)
     unfolding entry_next
@@ -137,7 +155,7 @@ module _ (h : History) (P : Type 0) where
       t = with_led s g (λ l. record l { acked = acked_raised from n l.acked })
 
       by : (b : Bool) → Full (elim b as (λ _. Core) [ true ↦ acked s from g n | false ↦ s ])
-      by true = at_forgets_least h P t g (at_led h P s g (λ l. record l { acked = acked_raised from n l.acked }) a)
+      by true = at_forgets_least h P t g (at_led h P s g (λ l. record l { acked = acked_raised from n l.acked }) (λ l. record { joins = λ p e. e; attrs = refl }) a)
       by false = a
 
   -- ---- VOTE and GONE
@@ -150,7 +168,7 @@ module _ (h : History) (P : Type 0) where
       t = with_led s g (λ l. vote_cast l p v value message l.tally)
 
       by : (b : Bool) → Full (elim b as (λ _. Core) [ true ↦ closes f t g | false ↦ s ])
-      by true = at_closes h P f t g (at_led h P s g (λ l. vote_cast l p v value message l.tally) a)
+      by true = at_closes h P f t g (at_led h P s g (λ l. vote_cast l p v value message l.tally) (λ l. vote_fewer l p v value message l.tally) a)
       by false = a
 
   at_failed : (f : Answering) (s : Core) (g : List ℕ) (p : ProviderId) (o : Option TallyView) → Full s → Full (tally_failed f s g p o)
@@ -163,19 +181,19 @@ module _ (h : History) (P : Type 0) where
   at_gone_waits s g p a = by (among (state_of s g).members p)
     where
       by : (b : Bool) → Full (elim b as (λ _. Core) [ true ↦ with_waiting s g (add_failure p Gone) | false ↦ s ])
-      by true = at_waits h P s g (add_failure p Gone) a
+      by true = at_waits h P s g (add_failure p Gone) (λ l. failure_fewer l p Gone) a
       by false = a
 
   at_gone_present : (f : Answering) (s : Core) (g : List ℕ) (p : ProviderId) → Full s → Full (gone_present f s g p)
   unfolding gone_present
   at_gone_present f s g p a =
       let t : Core = with_led s g (λ l. record l { gone = marked l.gone p }) in
-      at_gone_waits (tally_failed f t g p (led_of t g).tally) g p (at_failed f t g p (led_of t g).tally (at_led h P s g (λ l. record l { gone = marked l.gone p }) a))
+      at_gone_waits (tally_failed f t g p (led_of t g).tally) g p (at_failed f t g p (led_of t g).tally (at_led h P s g (λ l. record l { gone = marked l.gone p }) (λ l. record { joins = λ q e. e; attrs = refl }) a))
 
   at_gone_of : (f : Answering) (s : Core) (g : List ℕ) (p : ProviderId) (b c : Bool) → Full s → Full (gone_of f s g p b c)
   unfolding gone_of
   at_gone_of f s g p true c a = at_gone_present f s g p a
-  at_gone_of f s g p false true a = at_waits h P s g (drop_join p) a
+  at_gone_of f s g p false true a = at_waits h P s g (drop_join p) (λ l. dropped_fewer l p) a
   at_gone_of f s g p false false a = a
 
   pub at_gone : (f : Answering) (s : Core) (g : List ℕ) (p : ProviderId) → Full s → Full (take_gone f s g p)

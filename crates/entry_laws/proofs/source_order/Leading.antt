@@ -25,10 +25,10 @@ use Rattle.node_state.specs.State.{with_led, led_of, state_of, len_of, fits_at_e
 use Rattle.node_state.specs.Sending.{send_all}
 use Rattle.node_state.specs.HandOn.{Answering, hand_on}
 use Rattle.node_state.specs.Leading.{put, put_and_hand, forget_least, with_waiting, wait_if, new_members_wait, appended, append_if_fits, tally_set, with_tally, tally_opened, closing, closing_of, closing_entry, is_phase, closes_from, closes, begin_many, begins}
-use Rattle.run_safety.specs.Past.{History, earlier}
 use Rattle.entry_laws.proofs.closing_rows.At.{found}
 use Rattle.entry_laws.proofs.closing_rows.Calms.{calm_all}
 use Rattle.entry_laws.proofs.closing_rows.Leading.{forgotten_state}
+use Rattle.entry_laws.proofs.source_order.Holding.{Turn, so_far, Fewer, fewer_self, failure_fewer}
 use Rattle.entry_laws.proofs.source_order.At.{BegunWell, PutWell, PutFact, At, at_put, at_fold, at_calm, at_row}
 use Rattle.entry_laws.proofs.source_order.Quiet.{at_handed}
 
@@ -64,13 +64,13 @@ closing_closes l (Some t) (Some run) e q = by (outcome t) q
     by None q = absurd (cc)
     by (Some v) q = let z : closing l t run v (nat_le max_phases run.phase) ≡ e = cc in subst Closes z (one v (nat_le max_phases run.phase))
 
-module _ (h : History) where
+module _ (h : Turn) where
   -- what the node puts next into the group's list
   abbrev pub NextWell : Core → List ℕ → Entry → Type 0
-  NextWell s g e = PutWell s.views.me s.views.view g (len_in (found s g).list) (earlier (reverse s.records) h) e
+  NextWell s g e = PutWell (so_far h (reverse s.records)) s.views.me s.views.view g (len_in (found s g).list) e
 
   abbrev pub NextBegun : Core → List ℕ → Proposal → Type 0
-  NextBegun s g x = BegunWell s.views.me s.views.view g (len_in (found s g).list) (earlier (reverse s.records) h) x
+  NextBegun s g x = BegunWell (so_far h (reverse s.records)) s.views.me s.views.view g (len_in (found s g).list) x
 
   closes_well : (s : Core) (g : List ℕ) (e : Entry) → Closes e → NextWell s g e
   closes_well s g (Once x) z = absurd z
@@ -86,29 +86,29 @@ module _ (h : History) where
 
     -- ---- an entry is put
 
-    pub at_put_and_handed : (f : Answering) (s : Core) (to : Option ℕ) (g : List ℕ) (e : Entry) → PutFact (reverse s.records) h s.views.me s.views.view g (len_in (found s g).list) e → Full s → Full (put_and_hand f s to g e)
+    pub at_put_and_handed : (f : Answering) (s : Core) (to : Option ℕ) (g : List ℕ) (e : Entry) → PutFact h.what (reverse s.records) h.before s.views.me s.views.view g (len_in (found s g).list) e → Full s → Full (put_and_hand f s to g e)
     unfolding put_and_hand
     at_put_and_handed f s to g e fact a =
         at_handed h P f (put s g e) to g (len_of s g) (state_of s g) (state_of (put s g e) g) e (at_put h P s g e fact a)
 
     -- what a leader keeps changes
-    pub at_led : (s : Core) (g : List ℕ) (f : Led → Led) → Full s → Full (with_led s g f)
+    pub at_led : (s : Core) (g : List ℕ) (f : Led → Led) → ((l : Led) → Fewer l (f l)) → Full s → Full (with_led s g f)
     unfolding with_led
-    at_led s g f a = at_row h P s g (λ row. record row { led = f row.led }) (λ x. refl) (λ x. refl) (λ x. refl) a
+    at_led s g f fewer a = at_row h P s g (λ row. record row { led = f row.led }) (λ x. refl) (λ x. refl) (λ x. refl) (λ x. fewer x.led) a
 
     -- a leader is known
     pub at_led_by : (s : Core) (g : List ℕ) (n : ℕ) → Full s → Full (set_leader s g n)
     unfolding set_leader
-    at_led_by s g n a = at_row h P s g (λ row. record row { leader = Some n }) (λ x. refl) (λ x. refl) (λ x. refl) a
+    at_led_by s g n a = at_row h P s g (λ row. record row { leader = Some n }) (λ x. refl) (λ x. refl) (λ x. refl) (λ x. fewer_self x.led) a
 
-    pub at_waits : (s : Core) (g : List ℕ) (change : WaitingView → WaitingView) → Full s → Full (with_waiting s g change)
+    pub at_waits : (s : Core) (g : List ℕ) (change : WaitingView → WaitingView) → ((l : Led) → Fewer l (record l { waiting = change l.waiting })) → Full s → Full (with_waiting s g change)
     unfolding with_waiting
-    at_waits s g change a = at_led s g (λ l. record l { waiting = change l.waiting }) a
+    at_waits s g change fewer a = at_led s g (λ l. record l { waiting = change l.waiting }) fewer a
 
     pub at_forgets : (s : Core) (g : List ℕ) (n : ℕ) → Full s → Full (forget_below s g n)
     unfolding forget_below
     at_forgets s g n a =
-        at_row h P s g (λ row. record row { list = list_forgotten n row.list }) (λ x. refl) (λ x. forgotten_state x.list n) (λ x. forgotten_len x.list n) a
+        at_row h P s g (λ row. record row { list = list_forgotten n row.list }) (λ x. refl) (λ x. forgotten_state x.list n) (λ x. forgotten_len x.list n) (λ x. fewer_self x.led) a
 
     pub at_forgets_least : (s : Core) (g : List ℕ) → Full s → Full (forget_least s g)
     unfolding forget_least
@@ -116,8 +116,8 @@ module _ (h : History) where
 
     at_waits_if : (s : Core) (g : List ℕ) (p : ProviderId) (a b : Bool) → Full s → Full (wait_if s g p a b)
     unfolding wait_if
-    at_waits_if s g p true b k = at_waits s g (add_failure p Died) k
-    at_waits_if s g p false true k = at_waits s g (add_failure p Gone) k
+    at_waits_if s g p true b k = at_waits s g (add_failure p Died) (λ l. failure_fewer l p Died) k
+    at_waits_if s g p false true k = at_waits s g (add_failure p Gone) (λ l. failure_fewer l p Gone) k
     at_waits_if s g p false false k = k
 
     at_new_members : (s : Core) (g : List ℕ) (before after : GroupState) → Full s → Full (new_members_wait s g before after)
@@ -140,11 +140,11 @@ module _ (h : History) where
 
     pub at_tally : (s : Core) (g : List ℕ) (t : Option TallyView) → Full s → Full (with_tally s g t)
     unfolding with_tally
-    at_tally s g t a = at_led s g (λ l. record l { tally = t }) a
+    at_tally s g t a = at_led s g (λ l. record l { tally = t }) (λ l. record { joins = λ p e. e; attrs = refl }) a
 
     at_tally_set : (s : Core) (g : List ℕ) (t : Option TallyView) → Full s → Full (tally_set s g t)
     unfolding tally_set
-    at_tally_set s g t a = at_led s g (λ l. record l { tally = t; given = [] }) a
+    at_tally_set s g t a = at_led s g (λ l. record l { tally = t; given = [] }) (λ l. record { joins = λ p e. e; attrs = refl }) a
 
     pub at_tally_opened : (s : Core) (g : List ℕ) → Full s → Full (tally_opened s g)
     unfolding tally_opened

@@ -46,9 +46,9 @@ use Rattle.node_state.specs.HandOn.{Answering, fills, cast_record, cast_records,
 use Rattle.node_state.specs.Following.{told_if, take_tell}
 use Rattle.node_state.specs.Ticks.{ring_put, set_records, ring_taken, ring_row_of, ring_row, take_report, rings_union, report_of, send_report, rings_tick, tick_rings}
 use Rattle.node_state.specs.Calls.{refuse_call, changed, ask_last, proposed, record_ballot, ballot_sent_if, cast_last, give_ballot, send_gone, send_all_gone, goodbye_said, take_call}
-use Rattle.run_safety.specs.Past.{History}
 use Rattle.entry_laws.proofs.closing_rows.At.{Silent, Calm, calm_self, calm_then, calm_fold}
 use Rattle.entry_laws.proofs.closing_rows.Calms.{calm_on, calm_all, calm_known, calm_sessions, request_calm}
+use Rattle.entry_laws.proofs.source_order.Holding.{Turn}
 use Rattle.entry_laws.proofs.source_order.At.{At, at_fold, at_calm, at_recorded, at_recorded_all}
 
 calm_cast : (c : Core) (k : List ℕ) (to : Option ℕ) (x : Cast) → Calm c (cast_sent_of c k to x.p x.cast)
@@ -83,9 +83,9 @@ report_calm : (c : Core) (m : Mask) → Calm c (send_report c m)
 unfolding send_report
 report_calm c m =
     let t : Core = record c { reach = reach.set_own c.reach m } in
-    calm_then c t (send_all t (filter (λ n. not (n == c.views.me)) (nodes_of m)) (body.Report (report_of t.reach))) (record { groups = refl; views = refl; config = refl; records = refl }) (calm_all t _ _)
+    calm_then c t (send_all t (filter (λ n. not (n == c.views.me)) (nodes_of m)) (body.Report (report_of t.reach))) (record { groups = refl; views = refl; config = refl; names = refl; records = refl; sends = λ p i. i }) (calm_all t _ _)
 
-module _ (h : History) (P : Type 0) where
+module _ (h : Turn) (P : Type 0) where
   -- ---- handing on
 
   cast_silent : (p : ProviderId) (c : Option (ProtoId × ℕ × BallotView)) (r : Happened) → Has r (cast_records p c) → Silent r
@@ -162,7 +162,7 @@ module _ (h : History) (P : Type 0) where
   at_ring_taken s x a =
       let d : Core = record s { rings = ring_put s.rings x.ring } in
       let e : Core = fold (λ u (y : RingSend). send_on u y.network y.to (body.Ring y.packet)) d x.sends in
-      at_recorded_all h P (set_records s.views.me x.ring.net x.set) e (set_silent s.views.me x.ring.net x.set) (at_calm h P s e (calm_then s d e (record { groups = refl; views = refl; config = refl; records = refl }) (calm_fold (λ u (y : RingSend). send_on u y.network y.to (body.Ring y.packet)) (λ u y. calm_on u _ _ _) x.sends d)) a)
+      at_recorded_all h P (set_records s.views.me x.ring.net x.set) e (set_silent s.views.me x.ring.net x.set) (at_calm h P s e (calm_then s d e (record { groups = refl; views = refl; config = refl; names = refl; records = refl; sends = λ p i. i }) (calm_fold (λ u (y : RingSend). send_on u y.network y.to (body.Ring y.packet)) (λ u y. calm_on u _ _ _) x.sends d)) a)
 
   pub at_ring : (s : Core) (network from inc : ℕ) (p : RingPacket) → At h P s → At h P (ring_row s network from inc p)
   unfolding ring_row ring_row_of
@@ -174,7 +174,7 @@ module _ (h : History) (P : Type 0) where
 
   pub at_report : (s : Core) (rows : List ReportRow) → At h P s → At h P (take_report s rows)
   unfolding take_report
-  at_report s rows a = at_calm h P s _ (record { groups = refl; views = refl; config = refl; records = refl }) a
+  at_report s rows a = at_calm h P s _ (record { groups = refl; views = refl; config = refl; names = refl; records = refl; sends = λ p i. i }) a
 
   pub at_rings_part : (s : Core) → At h P s → At h P (tick_rings s)
   unfolding tick_rings rings_tick

@@ -4,16 +4,15 @@ use Rattle.rsct_packet.specs.declared.ids.ViewId.{ViewId}
 use Rattle.proposal_core.specs.declared.proposal.Proposal.{Proposal}
 use Rattle.proposal_core.specs.declared.proposal.Proposal.TheVariants.{Join, Leave, Fail, Expel, State, Message, Attributes, Reflect}
 use Rattle.proposal_core.specs.declared.entry.Entry.{Entry}
-use Rattle.run_safety.specs.Past.{History, records_of, EachRecord}
+use Rattle.run_safety.specs.Past.{History, records_of}
 use Rattle.run_safety.specs.Sight.{lines_of}
 use Rattle.run_safety.specs.Bases.{Bases}
 use Rattle.entry_laws.proofs.closing_rows.Told.{Told}
 use Rattle.entry_laws.proofs.closing_rows.Lists.{puts_all}
 use Rattle.entry_laws.specs.source_order.Sources.{HasMemberOn, HasFront, OverSource, JoinsOverSources}
-use Rattle.entry_laws.proofs.source_order.At.{RecordFact}
 use Rattle.entry_laws.proofs.source_order.Fronts.{Bound, base_all, front_state}
 use Rattle.entry_laws.proofs.source_order.Climbs.{base_line}
-use Rattle.entry_laws.proofs.source_order.Evident.{of_begun, RightOver, RightBegun, rights_of}
+use Rattle.entry_laws.proofs.source_order.Evident.{of_begun, RightOver, RightBegun, AllFacts, rights_of}
 
 module _ (bases : List ℕ → Bases) (log : List ℕ → ViewId → List Entry) (h : History) (t : (g : List ℕ) → Told (bases g) (log g) (lines_of g h)) where
   bound : (m : ℕ) (v : ViewId) (g : List ℕ) (k : ℕ) → HasFront m v g k (records_of h) → Bound m v g (records_of h) (lines_of g h)
@@ -32,6 +31,6 @@ module _ (bases : List ℕ → Bases) (log : List ℕ → ViewId → List Entry)
   over_source v (Attributes q r a) right = tt
   over_source v (Reflect u k value) right = tt
 
-  pub joins_over : EachRecord RecordFact h → JoinsOverSources h
+  pub joins_over : AllFacts h → JoinsOverSources h
   joins_over k n v g i e there =
       of_begun (RightBegun bases log g v i) (OverSource v (records_of h)) (λ x z. over_source v x z.2) e (rights_of bases log h t k n v g i e there)

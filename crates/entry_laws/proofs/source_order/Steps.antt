@@ -1,16 +1,20 @@
 -- A whole step.
-use Rattle.std.proofs.Common.{◌≡◌, ℕ, List, [], Some, Bool, true, false, refl, sym, subst}
-use Rattle.std.specs.Prelude.{◌==◌}
+use Rattle.std.proofs.Common.{◌≡◌, ℕ, List, [], Option, Some, None, Bool, true, false, refl, sym, ap, ◌∙◌, subst, inl, inr}
+use Rattle.std.specs.Prelude.{◌==◌, ◌&&◌, if◌then◌else◌}
+use Rattle.rsct_packet.specs.declared.ids.ViewId.{ViewId}
 use Rattle.rsct_packet.specs.declared.mask.Mask.{Mask}
 use Rattle.rsct_packet.specs.Search.{Has}
 use Rattle.view_state.specs.declared.packet.ViewPacket.{ViewPacket}
 use Rattle.view_state.specs.declared.packet.ViewPacket.TheVariants as view
+use Rattle.view_state.specs.declared.views.ViewWork.{ViewWork}
 use Rattle.view_state.specs.Views.{views_at_work, ask_row, prepare_row, answer_row, refuse_row, install_row, taken_row}
+use Rattle.node_state.specs.declared.group.GroupRow.{GroupRow}
 use Rattle.node_state.specs.declared.packet.Body.{Body}
 use Rattle.node_state.specs.declared.packet.Body.TheVariants as body
 use Rattle.node_state.specs.declared.packet.Packet.{Packet}
 use Rattle.node_state.specs.declared.state.Core.{Core}
 use Rattle.node_state.specs.Settings.{is_fixed}
+use Rattle.node_state.specs.State.{coordinates}
 use Rattle.node_state.specs.HandOn.{Answering}
 use Rattle.node_state.specs.Following.{take_lookup, take_name, take_request, take_tell, take_entry, take_ack, take_vote, take_gone}
 use Rattle.node_state.specs.Applying.{own_parts, views_taken}
@@ -18,55 +22,84 @@ use Rattle.node_state.specs.Status.{status_text}
 use Rattle.node_state.specs.Ticks.{tick_rings, tick_views, tick_owed, tick_row}
 use Rattle.node_state.specs.Ending.{end_step}
 use Rattle.node_state.specs.Step.{NodeEvent, Ticks, Asks, Given, Calls, Garbage, is_used, used_if, take_order, view_row, take_body, packet_row, event_row, stepped, at_work}
+use Rattle.world_model.specs.declared.event.Event.{Event}
 use Rattle.step_refinement.specs.Tied.{Scene, Begun, Rests, Tied}
 use Rattle.step_refinement.specs.Rows.{acted, Arises}
 use Rattle.step_refinement.proofs.Begins.{begin_tied}
 use Rattle.entry_laws.proofs.closing_rows.Calms.{calm_on, owed_part_calm}
+use Rattle.entry_laws.proofs.closing_rows.Works.{Stays, begun_stays, ask_stays, prepare_stays, answer_stays, refuse_stays, install_stays, taken_stays}
+use Rattle.entry_laws.specs.source_order.Meant.{IsDelivery, DeliveryNoted}
+use Rattle.entry_laws.proofs.source_order.Holding.{Turn, so_far, RowHolds, Going, Holds, row_on}
 use Rattle.entry_laws.proofs.source_order.At.{At, at_calm}
 use Rattle.entry_laws.proofs.source_order.Quiet.{at_tell, at_ring, at_report, at_rings_part, at_call}
 use Rattle.entry_laws.proofs.source_order.Following.{at_lookup, at_name, at_request, at_entry, at_ack, at_vote, at_gone}
 use Rattle.entry_laws.proofs.source_order.Entering.{at_views_taken}
 use Rattle.entry_laws.proofs.source_order.Ticking.{at_views_part, at_led_part}
 use Rattle.entry_laws.proofs.source_order.Ending.{at_step_ended}
-use Rattle.entry_laws.proofs.source_order.Tied.{states_tied, entry_was_put, request_carries}
+use Rattle.entry_laws.proofs.source_order.Tied.{states_tied, entry_was_put, request_carries, request_decided}
 use Rattle.entry_laws.proofs.source_order.Acted.{acted_tied, begun_at_work}
 
+-- the group that is looked up, where the node is the coordinator
+looked_at : Core → Packet → Body → Option (List ℕ × ℕ)
+looked_at s p (body.Lookup v g) = if p.to == s.views.me && (is_used s p v && coordinates s) then Some (g, p.from) else None
+looked_at s p _ = None
+
+pub looked_by : Core → NodeEvent → Option (List ℕ × ℕ)
+looked_by s (Given p) = looked_at s p p.body
+looked_by s _ = None
+
+abbrev pub turn_of : Event → Scene → ℕ → Core → NodeEvent → List Packet → Turn
+turn_of v w n s e sent = record { what = Some v; before = w.before; node = n; view = s.views.view; table = s.names; looked = looked_by s e; sent = sent }
+
 -- up to its end a leader puts neither joins nor reflections
-module _ (w : Scene) (n : ℕ) (f : Answering) (s : Core) (all : (h : List ℕ) → Tied h w n s) (a : At w.before ⊥ s) where
+module _ (w : Scene) (n : ℕ) (f : Answering) (s : Core) (v : Event) (e : NodeEvent) (noted : DeliveryNoted n e v) (none : s.records ≡ []) (all : (h : List ℕ) → Tied h w n s) (going : Going (turn_of v w n s e []) s) (a : At (turn_of v w n s e []) ⊥ s) where
   abbrev Full : Core → Type 0
-  Full c = At w.before ⊥ c
+  Full c = At (turn_of v w n s e []) ⊥ c
 
   used : (t : Core) (b : Bool) → (b ≡ true → Full t) → Full (used_if s t b)
   unfolding used_if
   used t true k = k refl
   used t false k = a
 
+  taken : (y : ViewWork) → Stays s.views y → Full (views_taken f s y)
+  taken y k = at_views_taken (turn_of v w n s e []) refl f s y k a
+
   view_at : (from inc : ℕ) (y : ViewPacket) → Full (view_row f s from inc y)
   unfolding view_row
-  view_at from inc (view.Prepare v mask) = at_views_taken w.before f s (prepare_row (views_at_work s.views) from inc v mask (own_parts s)) a
-  view_at from inc (view.Answer v old parts) = at_views_taken w.before f s (answer_row (views_at_work s.views) v (record { node = from; inc = inc; view = old; parts = parts })) a
-  view_at from inc (view.Refuse v k) = at_views_taken w.before f s (refuse_row (views_at_work s.views) v k) a
-  view_at from inc (view.Install i) = at_views_taken w.before f s (install_row (views_at_work s.views) i) a
-  view_at from inc (view.Taken v) = at_views_taken w.before f s (taken_row (views_at_work s.views) from v) a
+  view_at from inc (view.Prepare u mask) = taken (prepare_row (views_at_work s.views) from inc u mask (own_parts s)) (prepare_stays s.views (views_at_work s.views) from inc u mask (own_parts s) (begun_stays s.views))
+  view_at from inc (view.Answer u old parts) = taken (answer_row (views_at_work s.views) u (record { node = from; inc = inc; view = old; parts = parts })) (answer_stays s.views (views_at_work s.views) u (record { node = from; inc = inc; view = old; parts = parts }) (begun_stays s.views))
+  view_at from inc (view.Refuse u k) = taken (refuse_row (views_at_work s.views) u k) (refuse_stays s.views (views_at_work s.views) u k (begun_stays s.views))
+  view_at from inc (view.Install i) = taken (install_row (views_at_work s.views) i) (install_stays s.views (views_at_work s.views) i (begun_stays s.views))
+  view_at from inc (view.Taken u) = taken (taken_row (views_at_work s.views) from u) (taken_stays s.views (views_at_work s.views) from u (begun_stays s.views))
 
-  body_at : (p : Packet) (b : Body) → p.body ≡ b → Has p w.sent → Full (take_body f s p b)
+  -- a packet that is given is noted as a delivery
+  delivery : (p : Packet) → e ≡ Given p → IsDelivery n (Some v)
+  delivery p is = subst (λ z. DeliveryNoted n z v) is noted
+
+  -- who is looked up
+  looked : (p : Packet) (u : ViewId) (g : List ℕ) → e ≡ Given p → p.body ≡ body.Lookup u g → (p.to == s.views.me) ≡ true → is_used s p u ≡ true → coordinates s ≡ true → looked_by s e ≡ Some (g, p.from)
+  unfolding looked_by looked_at
+  looked p u g event is mine now coord =
+      ap (looked_by s) event ∙ ap (looked_at s p) is ∙ ap (λ b. if b && (is_used s p u && coordinates s) then Some (g, p.from) else None) mine ∙ ap (λ b. if b && coordinates s then Some (g, p.from) else None) now ∙ ap (λ b. if b then Some (g, p.from) else None) coord
+
+  body_at : (p : Packet) (b : Body) → e ≡ Given p → p.body ≡ b → (p.to == s.views.me) ≡ true → Has p w.sent → Full (take_body f s p b)
   unfolding take_body
-  body_at p (body.Ring x) is sent = at_ring w.before ⊥ s p.network p.from p.inc x a
-  body_at p (body.Report rows) is sent = at_report w.before ⊥ s rows a
-  body_at p (body.View y) is sent = view_at p.from p.inc y
-  body_at p (body.Lookup v g) is sent = used (take_lookup s p.from g) (is_used s p v) (λ u. at_lookup w.before ⊥ s p.from g a)
-  body_at p (body.Name v g k) is sent = used (take_name s g k) (is_used s p v) (λ u. at_name w.before ⊥ s g k a)
-  body_at p (body.Request v g q r phases x) is sent =
-      used (take_request f s p.from g q r phases x) (is_used s p v) (λ u. at_request w.before ⊥ f s g q r phases x (request_carries v g q r phases x w n s p is sent (all g)) p.from a)
-  body_at p (body.Tell v g q r y) is sent = used (take_tell s q r y) (is_used s p v) (λ u. at_tell w.before ⊥ s q r y a)
-  body_at p (body.Entry v g i k e) is sent =
-      used (take_entry f s p.from g i k e) (is_used s p v) (λ u. at_entry w.before ⊥ f s p.from g k e i (λ at. entry_was_put v g i k e w n s p is sent (all g) u at) a)
-  body_at p (body.Ack v g k) is sent = used (take_ack s p.from g k) (is_used s p v) (λ u. at_ack w.before ⊥ s p.from g k a)
-  body_at p (body.Vote v g proto phase q ballot value message) is sent =
-      used (take_vote f s g proto phase q ballot value message) (is_used s p v) (λ u. at_vote w.before ⊥ f s g proto phase q ballot value message a)
-  body_at p (body.Gone v g q) is sent = used (take_gone f s g q) (is_used s p v) (λ u. at_gone w.before ⊥ f s g q a)
-  body_at p (body.Query question what) is sent = at_calm w.before ⊥ s _ (calm_on s p.network p.from (body.Reply question (status_text s what))) a
-  body_at p (body.Reply question text) is sent = a
+  body_at p (body.Ring y) event is mine sent = at_ring (turn_of v w n s e []) ⊥ s p.network p.from p.inc y a
+  body_at p (body.Report rows) event is mine sent = at_report (turn_of v w n s e []) ⊥ s rows a
+  body_at p (body.View y) event is mine sent = view_at p.from p.inc y
+  body_at p (body.Lookup u g) event is mine sent = used (take_lookup s p.from g) (is_used s p u) (λ now. at_lookup (turn_of v w n s e []) ⊥ s p.from g going (looked p u g event is mine now) a)
+  body_at p (body.Name u g k) event is mine sent = used (take_name s g k) (is_used s p u) (λ now. at_name (turn_of v w n s e []) ⊥ s g k a)
+  body_at p (body.Request u g q r phases y) event is mine sent =
+      used (take_request f s p.from g q r phases y) (is_used s p u) (λ now. at_request (turn_of v w n s e []) ⊥ f s g q r phases y (request_carries u g q r phases y w n s p is sent (all g)) going (all g).own.0.order (λ ps attrs k join. inl (request_decided (Some v) u g q r phases ps attrs k w n s p (is ∙ ap (body.Request u g q r phases) join) sent (delivery p event) none (all g))) p.from a)
+  body_at p (body.Tell u g q r y) event is mine sent = used (take_tell s q r y) (is_used s p u) (λ now. at_tell (turn_of v w n s e []) ⊥ s q r y a)
+  body_at p (body.Entry u g i k y) event is mine sent =
+      used (take_entry f s p.from g i k y) (is_used s p u) (λ now. at_entry (turn_of v w n s e []) ⊥ f s p.from g k y i (λ at. entry_was_put (Some v) u g i k y w n s p is sent (all g) now at) a)
+  body_at p (body.Ack u g k) event is mine sent = used (take_ack s p.from g k) (is_used s p u) (λ now. at_ack (turn_of v w n s e []) ⊥ s p.from g k a)
+  body_at p (body.Vote u g proto phase q ballot value message) event is mine sent =
+      used (take_vote f s g proto phase q ballot value message) (is_used s p u) (λ now. at_vote (turn_of v w n s e []) ⊥ f s g proto phase q ballot value message a)
+  body_at p (body.Gone u g q) event is mine sent = used (take_gone f s g q) (is_used s p u) (λ now. at_gone (turn_of v w n s e []) ⊥ f s g q a)
+  body_at p (body.Query question what) event is mine sent = at_calm (turn_of v w n s e []) ⊥ s _ (calm_on s p.network p.from (body.Reply question (status_text s what))) a
+  body_at p (body.Reply question text) event is mine sent = a
 
   order_at : (mask : Mask) → Full (take_order f s mask)
   unfolding take_order
@@ -74,21 +107,21 @@ module _ (w : Scene) (n : ℕ) (f : Answering) (s : Core) (all : (h : List ℕ) 
     where
       by : (b : Bool) → Full (elim b as (λ _. Core) [ true ↦ s | false ↦ views_taken f s (ask_row (views_at_work s.views) mask (own_parts s)) ])
       by true = a
-      by false = at_views_taken w.before f s (ask_row (views_at_work s.views) mask (own_parts s)) a
+      by false = taken (ask_row (views_at_work s.views) mask (own_parts s)) (ask_stays s.views (views_at_work s.views) mask (own_parts s) (begun_stays s.views))
 
-  acted_at : (e : NodeEvent) → Arises w e → Full (acted f s e)
+  acted_at : (y : NodeEvent) → e ≡ y → Arises w y → Full (acted f s y)
   unfolding packet_row
-  acted_at Ticks arises =
+  acted_at Ticks is arises =
       let t : Core = tick_views f (tick_rings s) in
-      at_led_part w.before f (tick_owed t) (at_calm w.before ⊥ t (tick_owed t) (owed_part_calm t) (at_views_part w.before f (tick_rings s) (at_rings_part w.before ⊥ s a)))
-  acted_at (Asks mask) arises = order_at mask
-  acted_at (Calls c) arises = at_call w.before ⊥ s c a
-  acted_at Garbage arises = a
-  acted_at (Given p) arises = by (p.to == s.views.me)
+      at_led_part (turn_of v w n s e []) f (tick_owed t) (at_calm (turn_of v w n s e []) ⊥ t (tick_owed t) (owed_part_calm t) (at_views_part (turn_of v w n s e []) refl f (tick_rings s) (at_rings_part (turn_of v w n s e []) ⊥ s a)))
+  acted_at (Asks mask) is arises = order_at mask
+  acted_at (Calls c) is arises = at_call (turn_of v w n s e []) ⊥ s c a
+  acted_at Garbage is arises = a
+  acted_at (Given p) is arises = by (p.to == s.views.me) refl
     where
-      by : (b : Bool) → Full (elim b as (λ _. Core) [ true ↦ take_body f s p p.body | false ↦ s ])
-      by false = a
-      by true = body_at p p.body refl arises
+      by : (b : Bool) → (p.to == s.views.me) ≡ b → Full (elim b as (λ _. Core) [ true ↦ take_body f s p p.body | false ↦ s ])
+      by false mine = a
+      by true mine = body_at p p.body is refl mine arises
 
 stepped_is : (f : Answering) (s : Core) (e : NodeEvent) → stepped f s e ≡ end_step f (acted f (at_work s) e)
 unfolding stepped event_row tick_row
@@ -98,12 +131,20 @@ stepped_is f s (Given p) = refl
 stepped_is f s (Calls c) = refl
 stepped_is f s Garbage = refl
 
--- then what waits begins, and the records say what states the lists have
-pub at_stepped : (w : Scene) (n : ℕ) (f : Answering) (s : Core) (e : NodeEvent) → w.cores n ≡ Some s → ((h : List ℕ) → Rests h w) → Arises w e → At w.before (Unit {0}) (stepped f s e)
-at_stepped w n f s e up rests arises =
+-- what is held does not depend on what was sent
+holds_sent : (v : Event) (w : Scene) (n : ℕ) (s : Core) (e : NodeEvent) (xs ys : List Packet) (c : Core) → Holds (turn_of v w n s e xs) c → Holds (turn_of v w n s e ys) c
+holds_sent v w n s e xs ys c (inl k) = inl (record { me = k.me; view = k.view; waits = k.waits; named = k.named })
+holds_sent v w n s e xs ys c (inr k) = inr k
+
+-- then what waits begins, and the records say what states the lists have; what was sent before stays sent
+pub at_stepped : (w : Scene) (n : ℕ) (f : Answering) (s : Core) (e : NodeEvent) (v : Event) → w.cores n ≡ Some s → ((h : List ℕ) → Rests h w) → Arises w e → DeliveryNoted n e v → ((row : GroupRow) → Has row s.groups → RowHolds w.before n s.views.view row) → At (turn_of v w n (at_work s) e (acted f (at_work s) e).sends) (Unit {0}) (stepped f s e)
+at_stepped w n f s e v up rests arises noted held =
+    let x : Turn = turn_of v w n (at_work s) e [] in
     let began : (h : List ℕ) → Tied h w n (at_work s) = λ h. begin_tied h w n s up (rests h) in
     let first : (h : List ℕ) → Begun h (at_work s) = λ h. begun_at_work h s ((rests h).begun n s up) in
     let c : Core = acted f (at_work s) e in
+    let y : Turn = turn_of v w n (at_work s) e c.sends in
     let tied : (h : List ℕ) → Tied h w n c = λ h. acted_tied w n f (at_work s) refl first began e arises h in
-    let a : At w.before ⊥ c = acted_at w n f (at_work s) began (record { facts = tt; order = λ z. absurd z; states = λ z. absurd z }) e arises in
-    subst (At w.before (Unit {0})) (sym (stepped_is f s e)) (at_step_ended w.before f c (record { facts = a.facts; order = λ z. (tied []).own.0.order; states = λ z g. states_tied g w n c (tied g) }))
+    let going : Going x (at_work s) = record { me = (began []).own.0.stands.me; view = refl; waits = λ row i. row_on w.before (so_far x []) n s.views.view row (λ g p idle a d. inr d) (held row i); named = λ g m q. inl q } in
+    let a : At x ⊥ c = acted_at w n f (at_work s) v e noted refl began going (record { facts = tt; holds = inl going; sends = λ p i. absurd i; order = λ z. absurd z; states = λ z. absurd z }) e refl arises in
+    subst (At y (Unit {0})) (sym (stepped_is f s e)) (at_step_ended y f c (record { facts = a.facts; holds = holds_sent v w n (at_work s) e [] c.sends c a.holds; sends = λ p i. i; order = λ z. (tied []).own.0.order; states = λ z g. states_tied g w n c (tied g) }))

@@ -1,5 +1,5 @@
 -- A tick.
-use Rattle.std.proofs.Common.{ℕ, List, Option, Some, None, Bool, true, false}
+use Rattle.std.proofs.Common.{◌≡◌, ℕ, List, [], Option, Some, None, Bool, true, false}
 use Rattle.std.specs.Prelude.{◌==◌, ◌&&◌, fold}
 use Rattle.proposal_core.specs.declared.entry.Entry.TheVariants.{Late}
 use Rattle.proposal_core.specs.declared.group_state.Running.{Running}
@@ -11,22 +11,23 @@ use Rattle.node_state.specs.HandOn.{Answering}
 use Rattle.node_state.specs.Leading.{with_tally}
 use Rattle.node_state.specs.Applying.{own_parts, views_taken}
 use Rattle.node_state.specs.Ticks.{ring_ask, tick_views, late_appended, announced, ticked_in, tally_ticks, sent_again, tick_group, tick_led}
-use Rattle.run_safety.specs.Past.{History}
 use Rattle.entry_laws.proofs.closing_rows.At.{calm_fold}
 use Rattle.entry_laws.proofs.closing_rows.Calms.{again_calm}
+use Rattle.entry_laws.proofs.closing_rows.Works.{begun_stays, ticks_stay, install_again_stays}
+use Rattle.entry_laws.proofs.source_order.Holding.{Turn}
 use Rattle.entry_laws.proofs.source_order.At.{At, at_fold, at_calm}
 use Rattle.entry_laws.proofs.source_order.Leading.{at_tally, at_closes, at_appended_if}
 use Rattle.entry_laws.proofs.source_order.Entering.{at_views_taken}
 
-module _ (h : History) where
+module _ (h : Turn) where
   abbrev Full : Core → Type 0
   Full s = At h ⊥ s
 
-  pub at_views_part : (f : Answering) (s : Core) → Full s → Full (tick_views f s)
+  pub at_views_part : h.sent ≡ [] → (f : Answering) (s : Core) → Full s → Full (tick_views f s)
   unfolding tick_views
-  at_views_part f s a =
+  at_views_part none f s a =
       let t : Core = views_taken f s (gathering_ticks (views_at_work s.views) (ring_ask s) (own_parts s)) in
-      at_views_taken h f t (install_again (views_at_work t.views)) (at_views_taken h f s (gathering_ticks (views_at_work s.views) (ring_ask s) (own_parts s)) a)
+      at_views_taken h none f t (install_again (views_at_work t.views)) (install_again_stays t.views (views_at_work t.views) (begun_stays t.views)) (at_views_taken h none f s (gathering_ticks (views_at_work s.views) (ring_ask s) (own_parts s)) (ticks_stay s.views (views_at_work s.views) (ring_ask s) (own_parts s) (begun_stays s.views)) a)
 
   module _ (f : Answering) where
     at_late : (s : Core) (g : List ℕ) (t : TallyView) (o : Option Running) → Full s → Full (late_appended f s g t o)

@@ -1,11 +1,12 @@
 -- Source groups and target groups: what begins in a target follows from its source.
-use Rattle.std.specs.Prelude.{ℕ, ◌≡◌, ◌⊎◌, ◌≤◌, ◌<◌, IsTrue, List, length, Option, Some, None}
+use Rattle.std.specs.Prelude.{ℕ, ◌≡◌, ◌⊎◌, ◌≤◌, ◌<◌, Bool, IsTrue, List, ◌∷◌, length, Option, Some, None}
 use Rattle.std.specs.List.{list_any}
 use Rattle.rsct_packet.specs.declared.ids.ViewId.{ViewId}
 use Rattle.rsct_packet.specs.declared.ids.ProtoId.{ProtoId}
 use Rattle.rsct_packet.specs.declared.ids.ProviderId.{ProviderId}
 use Rattle.rsct_packet.specs.Ids.{proto_lt, place_lt}
 use Rattle.rsct_packet.specs.Search.{Has}
+use Rattle.group_attr.specs.declared.attrs.Attrs.{Attrs}
 use Rattle.proposal_core.specs.declared.proposal.Proposal.{Proposal}
 use Rattle.proposal_core.specs.declared.proposal.Proposal.TheVariants.{Join, Reflect}
 use Rattle.proposal_core.specs.declared.entry.Entry.{Entry}
@@ -16,9 +17,11 @@ use Rattle.source_target.specs.Due.{is_on}
 use Rattle.node_state.specs.declared.config.Config.{Config}
 use Rattle.node_state.specs.declared.happened.Happened.{Happened}
 use Rattle.node_state.specs.declared.happened.Happened.TheVariants.{Base, Put}
-use Rattle.run_safety.specs.Past.{History, records_of, earlier, EachRecord, puts_of, state_at, state_now}
+use Rattle.world_model.specs.Run.{Happening}
+use Rattle.run_safety.specs.Past.{History, records_of, earlier, EachEvent, EachRecord, Within, puts_of, state_at, state_now}
 use Rattle.step_refinement.specs.Tied.{Scene}
 use Rattle.step_refinement.specs.Runs.{Reached}
+use Rattle.entry_laws.specs.source_order.Meant.{Decided, meant, DeliveriesAreNoted}
 
 -- what holds of the proposal that an entry begins
 abbrev pub OfBegun : (Proposal → Type 0) → Entry → Type 0
@@ -114,23 +117,43 @@ JoinsFrom n v None len rs ps = Unit {0}
 JoinsFrom n v (Some source) None rs ps = ⊥
 JoinsFrom n v (Some source) (Some k) rs ps = JoinsOver n v source k rs ps
 
-abbrev pub BegunFirst : ℕ → ViewId → List ℕ → List Happened → Proposal → Type 0
-BegunFirst n v g rs (Reflect u k value) = IsOfSource n v g rs (record { view = u; place = k }) value
-BegunFirst n v g rs (Join ps a len) = JoinsFrom n v a.source len rs ps
-BegunFirst n v g rs _ = Unit {0}
+-- the provider is the first joiner
+abbrev pub IsFirst : ProviderId → List ProviderId → Type 0
+IsFirst p ps = (rest : List ProviderId) × (ps ≡ p ∷ rest)
+
+-- there is a source, of which no member stands on the provider's node
+abbrev pub LacksMember : ℕ → ViewId → Option (List ℕ) → List Happened → ProviderId → Type 0
+LacksMember n v None rs p = ⊥
+LacksMember n v (Some source) rs p = HasMemberOn (state_now n v source rs) p.node → ⊥
+
+-- a join that begins at a node, with these events so far, has the attributes that are meant by the request of the first joiner
+-- that was chosen: so it is over the source of these; and that joiner is the first of it, or has no member of the source
+pub record BeginsAsMeant (h : History) (n : ℕ) (v : ViewId) (g : List ℕ) (ps : List ProviderId) (a : Attrs) (len : Option ℕ) : Type 0 where
+  pub first : ProviderId
+  pub idle : Bool
+  pub asked : Attrs
+  pub decided : Decided h n v g first idle asked
+  pub attrs : a ≡ meant idle asked (state_now n v g (records_of h)).attrs
+  pub from : JoinsFrom n v (meant idle asked (state_now n v g (records_of h)).attrs).source len (records_of h) ps
+  pub chosen : IsFirst first ps ⊎ LacksMember n v a.source (records_of h) first
+
+abbrev pub BegunFirst : History → ℕ → ViewId → List ℕ → Proposal → Type 0
+BegunFirst h n v g (Reflect u k value) = IsOfSource n v g (records_of h) (record { view = u; place = k }) value
+BegunFirst h n v g (Join ps a len) = BeginsAsMeant h n v g ps a len
+BegunFirst h n v g _ = Unit {0}
 
 -- a node put that place of the view's list
 abbrev pub PutBefore : List Happened → ViewId → List ℕ → ℕ → Type 0
 PutBefore rs v g i = (m : ℕ) × (f : Entry) × Has (Put m v g i f) rs
 
-abbrev pub RecordFirst : List Happened → History → Happened → Type 0
-RecordFirst now before (Put n v g i e) =
-    (PutBefore (earlier now before) v g i → ⊥) → OfBegun (BegunFirst n v g (earlier now before)) e
-RecordFirst now before _ = Unit {0}
+abbrev pub RecordFirst : Happening → List Happened → History → Happened → Type 0
+RecordFirst event now before (Put n v g i e) =
+    (PutBefore (earlier now before) v g i → ⊥) → OfBegun (BegunFirst (record { event = event.event; records = now } ∷ before) n v g) e
+RecordFirst event now before _ = Unit {0}
 
 -- each reflection and each join, where the entry is first put
 abbrev pub FirstsFollowSources : History → Type 0
-FirstsFollowSources h = EachRecord RecordFirst h
+FirstsFollowSources h = EachEvent (λ event before. Within (RecordFirst event) event.records before) h
 
 -- ---- whose node has a member of the source
 
@@ -168,7 +191,7 @@ abbrev pub JoinsAlwaysCarryLengths : Type 0
 JoinsAlwaysCarryLengths = (c : Config) (w : Scene) → Reached c w → JoinsCarryLengths w.before
 
 abbrev pub FirstsAlwaysFollowSources : Type 0
-FirstsAlwaysFollowSources = (c : Config) (w : Scene) → Reached c w → FirstsFollowSources w.before
+FirstsAlwaysFollowSources = (c : Config) (w : Scene) (k : Reached c w) → DeliveriesAreNoted c w k → FirstsFollowSources w.before
 
 abbrev pub JoinsAlwaysOverSources : Type 0
 JoinsAlwaysOverSources = (c : Config) (w : Scene) → Reached c w → JoinsOverSources w.before
