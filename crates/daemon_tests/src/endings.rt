@@ -1,0 +1,132 @@
+//! How a daemon ends, and settings that are refused.
+use crate::runs::{ALONE, ALONE_TEXT, Edges, Failing, served, settings, status};
+use std::test::Fail;
+
+const FIFTEEN: &[u32] = &[1, 2, 3, 4, 5, 6, 7, 8, 9, 10, 11, 12, 13, 14, 15];
+
+const SIXTEEN: &[u32] = &[1, 2, 3, 4, 5, 6, 7, 8, 9, 10, 11, 12, 13, 14, 15, 16];
+
+/// Not sixteen in a row.
+const SIXTEEN_APART: &[u32] = &[1, 2, 3, 4, 5, 6, 7, 8, 10, 11, 12, 13, 14, 15, 16, 17];
+
+#[test]
+fn a_link_that_does_not_open_ends_it(rt: HostRuntime) -> Result<(), Fail> {
+    let alloc = rt.alloc();
+    let failing = Failing {
+        opens: &[1],
+        ..Failing::nothing()
+    };
+    let mut edges = Edges::new(alloc, &[], &[0], failing)?;
+    assert!(rt; status(alloc, ALONE, 2, &mut edges) == Some(6));
+    assert!(rt; edges.wrote(b""));
+    assert!(rt; edges.called(b""));
+    assert!(rt; edges.link.opened() == Some((4001, false)));
+    Ok(())
+}
+
+#[test]
+fn one_failed_receive_does_not_end_it(rt: HostRuntime) -> Result<(), Fail> {
+    let alloc = rt.alloc();
+    let failing = Failing {
+        recvs: &[2],
+        ..Failing::nothing()
+    };
+    let mut edges = Edges::new(alloc, &[], &[0], failing)?;
+    assert!(rt; status(alloc, ALONE, 3, &mut edges) == Some(0));
+    assert!(rt; edges.wrote(ALONE_TEXT));
+    assert!(rt; edges.called(b"QFQ"));
+    Ok(())
+}
+
+#[test]
+fn sixteen_failed_receives_in_a_row_end_it(rt: HostRuntime) -> Result<(), Fail> {
+    let alloc = rt.alloc();
+    for (recvs, turns, want) in [
+        (SIXTEEN, 16, 6),
+        (FIFTEEN, 16, 0),
+        (SIXTEEN, 15, 0),
+        (SIXTEEN_APART, 40, 0),
+    ] {
+        let failing = Failing {
+            recvs,
+            ..Failing::nothing()
+        };
+        let mut edges = Edges::new(alloc, &[], &[0], failing)?;
+        assert!(rt; status(alloc, ALONE, turns, &mut edges) == Some(want));
+        assert!(rt; edges.wrote(ALONE_TEXT));
+    }
+    Ok(())
+}
+
+#[test]
+fn nothing_follows_the_sixteenth(rt: HostRuntime) -> Result<(), Fail> {
+    let alloc = rt.alloc();
+    let failing = Failing {
+        recvs: SIXTEEN,
+        ..Failing::nothing()
+    };
+    let mut edges = Edges::new(alloc, &[], &[0], failing)?;
+    assert!(rt; status(alloc, ALONE, 20, &mut edges) == Some(6));
+    assert!(rt; edges.called(b"FFFFFFFFFFFFFFFF"));
+    Ok(())
+}
+
+#[test]
+fn an_output_that_fails_ends_it(rt: HostRuntime) -> Result<(), Fail> {
+    let alloc = rt.alloc();
+    let failing = Failing {
+        puts: &[1],
+        ..Failing::nothing()
+    };
+    let mut edges = Edges::new(alloc, &[], &[0], failing)?;
+    assert!(rt; status(alloc, ALONE, 2, &mut edges) == Some(5));
+    assert!(rt; edges.wrote(b""));
+    assert!(rt; edges.called(b""));
+    Ok(())
+}
+
+#[test]
+fn what_went_out_before_the_output_failed_stands(rt: HostRuntime) -> Result<(), Fail> {
+    let alloc = rt.alloc();
+    let text = b"node 1\nport 4000\nbegin\nclient 1 a A\njoin a db 7\n";
+    let failing = Failing {
+        puts: &[2],
+        ..Failing::nothing()
+    };
+    let mut edges = Edges::new(alloc, &[], &[0], failing)?;
+    assert!(rt; status(alloc, text, 2, &mut edges) == Some(5));
+    assert!(rt; edges.wrote(ALONE_TEXT));
+    assert!(rt; edges.called(b"S"));
+    Ok(())
+}
+
+#[test]
+fn an_object_that_is_not_there_halts_it(rt: HostRuntime) -> Result<(), Fail> {
+    let alloc = rt.alloc();
+    let text = b"node 1\nport 4000\nbegin\nclient 1 a boxed\n";
+    let script = settings(alloc, text, 1).ok_or("settings")?;
+    let mut edges = Edges::sound(alloc, &[], &[0])?;
+    assert!(rt; served(alloc, &script, 2, &mut edges, Vec::new(alloc)) == 3);
+    assert!(rt; edges.wrote(ALONE_TEXT));
+    assert!(rt; edges.called(b""));
+    Ok(())
+}
+
+#[test]
+fn settings_are_refused_before_the_link_is_opened(rt: HostRuntime) -> Result<(), Fail> {
+    let alloc = rt.alloc();
+    for text in [
+        b"".as_slice(),
+        b"node 1\n".as_slice(),
+        b"node 2\nbegin\n".as_slice(),
+        b"mode fixed\nnode 1\nbegin\n".as_slice(),
+        b"node 1\nbegin\nflow\n".as_slice(),
+        b"node 1\nbegin\nclient 1 a boxed\n".as_slice(),
+        b"node 1\nbegin\nclient 1 a A\ngoodbye a\n".as_slice(),
+    ] {
+        let mut edges = Edges::sound(alloc, &[], &[0])?;
+        assert!(rt; status(alloc, text, 2, &mut edges) == None);
+        assert!(rt; edges.link.opened() == None);
+    }
+    Ok(())
+}

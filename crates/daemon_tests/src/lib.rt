@@ -1,0 +1,16 @@
+//! Tests of daemons: worked rows of what one reads, sends and records over a link, a clock and a sink in memory, byte for
+//! byte; the clients that it is given; how it ends; and its parts over the sockets of the system.
+#![tactic(auto)]
+
+#[cfg(test)]
+mod clients;
+#[cfg(test)]
+mod endings;
+#[cfg(test)]
+mod questions;
+#[cfg(test)]
+mod runs;
+#[cfg(test)]
+mod sockets;
+#[cfg(test)]
+mod turns;

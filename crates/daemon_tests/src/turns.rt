@@ -1,0 +1,79 @@
+//! The start of a daemon and its turns.
+use crate::runs::{ALONE, ALONE_TEXT, Edges, Failing, status};
+use std::test::Fail;
+
+/// Settings of two nodes.
+const TWO: &[u8] = b"node 1\nnode 2\nport 4000\nbegin\n";
+
+/// A piece with the PROCLAIM that node 1 sends to node 2, as its messages 1 and 2.
+const PROCLAIM_1: &[u8] =
+    b"RP\x01\0\0\0\0\x05\0\0\0\0\0\0\0\x01\0\0\0\0\0\0\0\x01RG\x01\x02\x01\x01\x02\0\0\0\0\x05\0\0\0\x09\0\0\0\x01\x01\0\0\0\x05";
+
+const PROCLAIM_2: &[u8] =
+    b"RP\x01\0\0\0\0\x05\0\0\0\0\0\0\0\x02\0\0\0\0\0\0\0\x01RG\x01\x02\x01\x01\x02\0\0\0\0\x05\0\0\0\x09\0\0\0\x01\x01\0\0\0\x05";
+
+#[test]
+fn a_node_alone_starts_and_sends_nothing(rt: HostRuntime) -> Result<(), Fail> {
+    let alloc = rt.alloc();
+    let mut edges = Edges::sound(alloc, &[], &[0])?;
+    assert!(rt; status(alloc, ALONE, 2, &mut edges) == Some(0));
+    assert!(rt; edges.wrote(ALONE_TEXT));
+    assert!(rt; edges.called(b"QQ"));
+    assert!(rt; edges.link.opened() == Some((4001, true)));
+    Ok(())
+}
+
+#[test]
+fn each_adapter_is_at_the_port_of_its_node(rt: HostRuntime) -> Result<(), Fail> {
+    let alloc = rt.alloc();
+    let text = b"node 1\nnode 3\nadapter 1 2 10.0.0.1\nadapter 3 2 10.0.0.3\nport 4000\nbegin\n";
+    let mut edges = Edges::sound(alloc, &[], &[0])?;
+    assert!(rt; status(alloc, text, 1, &mut edges) == Some(0));
+    let places = edges.link.places();
+    assert!(rt; places.get(1, 2) == Some((0x0a00_0001, 4001)));
+    assert!(rt; places.get(3, 2) == Some((0x0a00_0003, 4003)));
+    assert!(rt; places.get(1, 1) == None);
+    assert!(rt; places.get(2, 2) == None);
+    Ok(())
+}
+
+#[test]
+fn ticks_where_100_milliseconds_have_passed(rt: HostRuntime) -> Result<(), Fail> {
+    let alloc = rt.alloc();
+    let mut edges = Edges::sound(alloc, &[], &[50, 50, 149, 150, 249, 251, 350, 351])?;
+    assert!(rt; status(alloc, TWO, 7, &mut edges) == Some(0));
+    assert!(rt; edges.called(b"QQSQQSQQSQ"));
+    assert!(rt; edges.sent_to(2, 2) == Some(PROCLAIM_1));
+    assert!(rt; edges.sent_to(2, 5) == Some(PROCLAIM_2));
+    assert!(rt; edges.wrote(ALONE_TEXT));
+    Ok(())
+}
+
+#[test]
+fn a_late_tick_is_one_tick(rt: HostRuntime) -> Result<(), Fail> {
+    let alloc = rt.alloc();
+    let mut edges = Edges::sound(alloc, &[], &[0, 1000, 1000, 1099, 1100])?;
+    assert!(rt; status(alloc, TWO, 4, &mut edges) == Some(0));
+    assert!(rt; edges.called(b"SQQQSQ"));
+    Ok(())
+}
+
+#[test]
+fn a_failed_send_is_a_lost_packet(rt: HostRuntime) -> Result<(), Fail> {
+    let alloc = rt.alloc();
+    for (lost, calls) in [
+        (1, b"LQSQSQ".as_slice()),
+        (2, b"SQLQSQ".as_slice()),
+        (3, b"SQSQLQ".as_slice()),
+    ] {
+        let failing = Failing {
+            sends: &[lost],
+            ..Failing::nothing()
+        };
+        let mut edges = Edges::new(alloc, &[], &[0, 100, 200, 300], failing)?;
+        assert!(rt; status(alloc, TWO, 3, &mut edges) == Some(0), "send {lost}");
+        assert!(rt; edges.called(calls), "send {lost}");
+        assert!(rt; edges.wrote(ALONE_TEXT), "send {lost}");
+    }
+    Ok(())
+}
