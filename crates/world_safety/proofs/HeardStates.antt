@@ -47,7 +47,7 @@ pub answered_last : (c : Config) (es : List Answered) (e : Answered) → answere
 unfolding answered_after
 answered_last c es e = fold-append goes_on (world_new c) es (e ∷ [])
 
-last_may : (c : Config) (es : List Answered) (e : Answered) → AllMayHappen c (events_in (es ++ e ∷ [])) → MayHappen c e.event
+pub last_may : (c : Config) (es : List Answered) (e : Answered) → AllMayHappen c (events_in (es ++ e ∷ [])) → MayHappen c e.event
 last_may c [] e may = may.0
 last_may c (x ∷ es) e may = last_may c es e may.1
 
@@ -127,7 +127,7 @@ module _ (c : Config) (es : List Answered) (e : Answered) (may : AllMayHappen c 
       ap records_of is ∙ (history_records (run_of_events c es) ∙ (ap reverse (run_has_the_records c es) ∙ back_again (answered_after c es).trace))
 
   -- and with its records
-  trace_with : (s : Scene) (k : Reached c s) (f : Follows c s k e.event (answered_after c es).trace (goes_on (answered_after c es) e)) → records_of s.before ≡ (answered_after c es).trace → records_of f.scene.before ≡ reverse_onto f.records (answered_after c es).trace
+  trace_with : (s : Scene) (k : Reached c s) (f : Follows c s k e.event (answered_after c es) (goes_on (answered_after c es) e)) → records_of s.before ≡ (answered_after c es).trace → records_of f.scene.before ≡ reverse_onto f.records (answered_after c es).trace
   trace_with s k f is =
       ap records_of f.before ∙ (ap (λ rs. reverse f.records ++ rs) is ∙ sym (onto_is f.records (answered_after c es).trace))
 
@@ -136,14 +136,14 @@ module _ (c : Config) (es : List Answered) (e : Answered) (may : AllMayHappen c 
     scene : Scene
     reached : Reached c scene
     mirrors : Mirrors c (answered_after c es) scene
-    next : Follows c scene reached e.event (answered_after c es).trace (goes_on (answered_after c es) e)
+    next : Follows c scene reached e.event (answered_after c es) (goes_on (answered_after c es) e)
     trace : records_of scene.before ≡ (answered_after c es).trace
     steady : AllSteady (reverse_onto next.records (answered_after c es).trace)
 
   scenes : Scenes
   scenes =
       let run = every_run_is_reached c es (front_may c es (e ∷ []) may) in
-      let f : Follows c run.0 run.1 e.event (answered_after c es).trace (goes_on (answered_after c es) e) = event_follows e.answers c (answered_after c es) run.0 e.event (last_may c es e may) run.1 run.4 in
+      let f : Follows c run.0 run.1 e.event (answered_after c es) (goes_on (answered_after c es) e) = event_follows e.answers c (answered_after c es) run.0 e.event (last_may c es e may) run.1 run.4 in
       let is : records_of run.0.before ≡ (answered_after c es).trace = trace_before run.0 run.5 in
       record { scene = run.0; reached = run.1; mirrors = run.4; next = f; trace = is; steady = subst AllSteady (trace_with run.0 run.1 f is) (runs_steady c f.scene f.reached) }
 

@@ -10,6 +10,7 @@ pub mod Saying
 pub mod Lined
 pub mod Playing
 pub mod Moments
+pub mod Askers
 pub mod Scripts
 pub mod Steady
 pub mod SteadyRuns

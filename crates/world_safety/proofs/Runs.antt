@@ -38,7 +38,7 @@ record Stands (c : Config) (w : World) (run : Run) : Type 0 where
   mirrors : Mirrors c w scene
   before : scene.before ≡ history_of run
 
-stands_on : (c : Config) (w : World) (run : Run) (e : Answered) (s : Scene) (k : Reached c s) → TicksAreNoted c s k → DeliveriesAreNoted c s k → Played c s → Recounted c s → s.before ≡ history_of run → Follows c s k e.event w.trace (goes_on w e) → Stands c (goes_on w e) (run ++ happening w e ∷ [])
+stands_on : (c : Config) (w : World) (run : Run) (e : Answered) (s : Scene) (k : Reached c s) → TicksAreNoted c s k → DeliveriesAreNoted c s k → Played c s → Recounted c s → s.before ≡ history_of run → Follows c s k e.event w (goes_on w e) → Stands c (goes_on w e) (run ++ happening w e ∷ [])
 stands_on c w run e s k noted given played recounted is f =
     let now : f.records ≡ _ = sym (since_is w (goes_on w e) f.records f.trace) in
     record {

@@ -52,6 +52,7 @@ use Rattle.run_laws.proofs.gapless.Alike.{takers_hear_alike}
 use Rattle.run_safety.proofs.SightLaws.{one_entry_seen}
 use Rattle.step_refinement.specs.Tied.{opening_of}
 use Rattle.world_safety.proofs.Moments.{tails_at, sends_at}
+use Rattle.world_safety.proofs.Askers.{first_askers_lead}
 use Rattle.run_safety.specs.SafeLists.{Each}
 use Rattle.run_safety.specs.SafeHeard.{InOrder, NotLetGo, AllHear, Dissolves}
 use Rattle.provider_laws.proofs.attending.OrderLaw.{heard_in_order}
@@ -89,6 +90,7 @@ answers_safe c es may trace e =
       late = subst LateHadTime run.5 (who_is_late_had_time c run.0 run.1 run.2);
       announced = subst (LateWereAnnounced c) run.5 (subst (λ z. LateWereAnnounced z run.0.before) run.4.scene_config (who_is_late_was_announced c run.0 run.1 run.2));
       carried = subst FirstBallotsCarry run.5 (first_ballots_carry c run.0 run.1);
+      asked_first = first_askers_lead c es may;
       once = subst RequestsBeginOnce run.5 (requests_once c run.0 run.1);
       failed = subst FailuresHaveCauses run.5 (failures_are_honest c run.0 run.3);
       causes = subst FailuresHaveExactCauses run.5 (failures_are_exact c run.0 run.3);

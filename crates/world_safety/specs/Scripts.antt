@@ -33,6 +33,7 @@ use Rattle.run_safety.specs.SafeLists.{Each}
 use Rattle.run_safety.specs.SafeHeard.{InOrder, NotLetGo, AllHear, Dissolves}
 use Rattle.world_laws.specs.world_answers.Answers.{Answered, all_worded}
 use Rattle.world_safety.specs.Events.{run_of_events}
+use Rattle.world_safety.specs.Askers.{FirstAskersLead}
 use Rattle.world_safety.specs.Moments.{AtEachMoment, AllTailsHeld, StepsSendFew}
 
 -- the events of the run of these events with these answers, the latest first, each with its records
@@ -82,7 +83,9 @@ pub record IsSafe (c : Config) (es : List Answered) (rs : List Happened) : Type 
   pub late : LateHadTime (history_in c es)
   -- in a view of level 2 who is late was announced directly before
   pub announced : LateWereAnnounced c (history_in c es)
-  -- ---- requests
+  -- ---- leaders and requests
+  -- outside of mode fixed, who asks first for a group without a base leads it: the sender of the first LOOKUP that the coordinator took
+  pub asked_first : FirstAskersLead c es
   -- each request is asked in one group, and at its own node it begins at one place of one view, over all groups
   pub once : RequestsBeginOnce (history_in c es)
   -- ---- failures

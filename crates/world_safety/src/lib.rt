@@ -5,6 +5,7 @@ ghost use Rattle.world_safety.specs.Safety.{RunHasTheRecords, EveryRunIsReached,
 ghost use Rattle.world_safety.specs.Scripts.{EveryScriptIsSafe, EveryKeptRunIsSafe};
 ghost use Rattle.world_safety.specs.Lemmas.{SafeRunsHaveOneList, SafeRunsLeaveNoGap};
 ghost use Rattle.world_safety.specs.HeardStates.{HeardStatesAreFolds, FoldsStay};
+ghost use Rattle.world_safety.specs.Askers.{FirstAskersAlwaysLead};
 ghost use Rattle.world_safety.specs.Plays.{ScriptsMayPlay, EveryAnswerIsSafe, EventsAreSafe, EveryPlayIsSafe, EveryKeptPlayIsSafe};
 
 /// The run of a list of plain events has the records of the world after them.
@@ -38,6 +39,13 @@ pub fn every_kept_run_is_safe()
 /// are those of a safe run.
 pub fn every_answer_is_safe()
     ensures { EveryAnswerIsSafe }
+{}
+
+/// Outside of mode fixed, who asks first for a group without a base leads it: where the first LOOKUP of it that the coordinator
+/// of a view took is of a node, each first put into the list is this node's.
+#[tactic(auto, using(crate::proofs::Askers::first_askers_lead))]
+pub fn first_askers_lead()
+    ensures { FirstAskersAlwaysLead }
 {}
 
 /// So where the clients vote by the words of a script.

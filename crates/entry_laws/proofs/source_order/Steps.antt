@@ -40,11 +40,11 @@ use Rattle.entry_laws.proofs.source_order.Tied.{states_tied, entry_was_put, requ
 use Rattle.entry_laws.proofs.source_order.Acted.{acted_tied, begun_at_work}
 
 -- the group that is looked up, where the node is the coordinator
-looked_at : Core → Packet → Body → Option (List ℕ × ℕ)
+abbrev pub looked_at : Core → Packet → Body → Option (List ℕ × ℕ)
 looked_at s p (body.Lookup v g) = if p.to == s.views.me && (is_used s p v && coordinates s) then Some (g, p.from) else None
 looked_at s p _ = None
 
-pub looked_by : Core → NodeEvent → Option (List ℕ × ℕ)
+abbrev pub looked_by : Core → NodeEvent → Option (List ℕ × ℕ)
 looked_by s (Given p) = looked_at s p p.body
 looked_by s _ = None
 
@@ -78,7 +78,6 @@ module _ (w : Scene) (n : ℕ) (f : Answering) (s : Core) (v : Event) (e : NodeE
 
   -- who is looked up
   looked : (p : Packet) (u : ViewId) (g : List ℕ) → e ≡ Given p → p.body ≡ body.Lookup u g → (p.to == s.views.me) ≡ true → is_used s p u ≡ true → coordinates s ≡ true → looked_by s e ≡ Some (g, p.from)
-  unfolding looked_by looked_at
   looked p u g event is mine now coord =
       ap (looked_by s) event ∙ ap (looked_at s p) is ∙ ap (λ b. if b && (is_used s p u && coordinates s) then Some (g, p.from) else None) mine ∙ ap (λ b. if b && coordinates s then Some (g, p.from) else None) now ∙ ap (λ b. if b then Some (g, p.from) else None) coord
 
