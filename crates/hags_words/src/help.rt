@@ -31,7 +31,7 @@ An example: one node, and one client that joins a group.
 status:
   0  done               4  read fault
   1  faulty words       5  write fault
-  2  faulty script      6  link fault
+  2  faulty input       6  link fault
   3  no memory          7  too much kept
                         9  no reply
 Where it is not 0, a line on standard error says what was wrong.
@@ -39,8 +39,8 @@ Where it is not 0, a line on standard error says what was wrong.
 `hags COMMAND --help` says more of a command, and `hags --version` which
 version this is.
 
-pages: README.md; docs/examples.md, scripts line by line; docs/messages.md,
-what each message means
+pages: README.md; docs/examples.md, scripts line by line; docs/operating.md,
+daemons; docs/messages.md, what each message means
 ";
 
 const RUN: &[u8] = b"\
@@ -150,7 +150,7 @@ status:
   5  write fault
   6  the port could not be opened, or 16 receives in a row failed
 
-pages: docs/daemon.md; docs/formats.md, the settings; docs/command-line.md
+pages: docs/operating.md; docs/formats.md, the settings; docs/command-line.md
 ";
 
 const STATUS: &[u8] = b"\
@@ -186,7 +186,7 @@ status:
   6  no port could be opened, or 16 receives in a row failed
   9  no reply
 
-pages: docs/command-line.md; docs/formats.md
+pages: docs/operating.md, what each line says; docs/command-line.md
 ";
 
 /// What `--help` says of all commands, or of one, to the byte.
