@@ -28,11 +28,25 @@ two_speak = Begins 1 1 0 ∷ Turns 1 (quiet_at 100) ∷ Begins 2 1 100 ∷ Turns
 unfoldable pub starts_again : List Act
 starts_again = Begins 1 1 0 ∷ Ends 1 ∷ Begins 1 3 0 ∷ []
 
+-- ---- what no network may do
+
+-- node 2 is given what node 1 never sent
+unfoldable pub never_sent : List Act
+never_sent = Begins 1 1 0 ∷ Begins 2 1 0 ∷ Turns 2 (given_at 50 first_piece) ∷ []
+
+-- node 1 starts again in its old incarnation
+unfoldable pub old_incarnation : List Act
+old_incarnation = Begins 1 1 0 ∷ Ends 1 ∷ Begins 1 1 0 ∷ []
+
+-- a second daemon of node 1 starts while the first is up
+unfoldable pub two_at_once : List Act
+two_at_once = Begins 1 1 0 ∷ Begins 1 2 0 ∷ []
+
 -- the lines of what was recorded
 unfoldable pub lines_after : List Act → List ℕ
 lines_after acts = records_text (net_after pair acts).records
 
 -- opens each word of this file, for a computation
 unfoldable pub samples_opens : Unit {0}
-unfolding pair one_ticks wire_after first_piece two_speak starts_again lines_after
+unfolding pair one_ticks wire_after first_piece two_speak starts_again never_sent old_incarnation two_at_once lines_after
 samples_opens = tt

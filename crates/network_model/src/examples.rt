@@ -1,6 +1,7 @@
-//! Worked examples of networks. Each function is a law: what the definitions compute.
+//! Worked examples of networks. Each function is a law: what the definitions compute, and which runs they let be.
 ghost use Rattle.std.specs.Prelude.{◌≡◌, ◌∷◌, [], codes, length};
-ghost use Rattle.network_model.specs.Samples.{wire_after, lines_after, one_ticks, two_speak, starts_again};
+ghost use Rattle.network_model.specs.Fits.{NetworkRun};
+ghost use Rattle.network_model.specs.Samples.{pair, wire_after, lines_after, one_ticks, two_speak, starts_again, never_sent, old_incarnation, two_at_once};
 
 /// A node that skips an incarnation has a life in it in which it does nothing.
 #[tactic(auto, unfolding(crate::specs::Opens::net_opens))]
@@ -8,9 +9,31 @@ pub fn skips_an_incarnation()
     ensures { lines_after starts_again ≡ codes "up 1 1\nring 1 1 1.1.1 1 1\nin 1 1.1.1 1.1\ndown 1\nup 1 2\nring 1 1 1.2.1 1 1\nin 1 1.1.2 1.2\ndown 1\nup 1 3\nring 1 1 1.3.1 1 1\nin 1 1.1.3 1.3\n" }
 {}
 
-/// What a tick sends is on the wire, also after another node was given it.
-#[tactic(auto, unfolding(crate::specs::Opens::net_opens))]
+/// What a tick sends is on the wire, and another node is given it twice.
+#[tactic(auto, unfolding(crate::specs::Opens::net_opens), using(crate::proofs::Runs::two_speak_run))]
 pub fn speaks()
-    ensures one { length (wire_after one_ticks) ≡ 1 }
-    ensures two { lines_after two_speak ≡ codes "up 1 1\nring 1 1 1.1.1 1 1\nin 1 1.1.1 1.1\nup 2 1\nring 2 1 2.1.1 2 2\nin 2 1.2.1 2.1\n" }
+    ensures wire { length (wire_after one_ticks) ≡ 1 }
+    ensures lines { lines_after two_speak
+        ≡ codes "up 1 1\nring 1 1 1.1.1 1 1\nin 1 1.1.1 1.1\nup 2 1\nring 2 1 2.1.1 2 2\nin 2 1.2.1 2.1\n" }
+    ensures run { NetworkRun pair two_speak }
+{}
+
+/// A datagram that was never sent is given in no network's run.
+#[tactic(auto, using(crate::proofs::Runs::never_sent_run))]
+pub fn gives_what_was_sent()
+    ensures { NetworkRun pair never_sent → ⊥ }
+{}
+
+/// A node that starts again in its old incarnation is in no network's run: it enters the view 1.1.1 twice.
+#[tactic(auto, unfolding(crate::specs::Opens::net_opens), using(crate::proofs::Runs::old_incarnation_run))]
+pub fn starts_in_a_greater_incarnation()
+    ensures run { NetworkRun pair old_incarnation → ⊥ }
+    ensures lines { lines_after old_incarnation
+        ≡ codes "up 1 1\nring 1 1 1.1.1 1 1\nin 1 1.1.1 1.1\ndown 1\nup 1 1\nring 1 1 1.1.1 1 1\nin 1 1.1.1 1.1\n" }
+{}
+
+/// Two daemons of one node are up at once in no network's run.
+#[tactic(auto, using(crate::proofs::Runs::two_at_once_run))]
+pub fn has_one_daemon_of_a_node()
+    ensures { NetworkRun pair two_at_once → ⊥ }
 {}

@@ -3,4 +3,7 @@
 
 mod examples;
 
-pub use examples::{skips_an_incarnation, speaks};
+pub use examples::{
+    gives_what_was_sent, has_one_daemon_of_a_node, skips_an_incarnation, speaks,
+    starts_in_a_greater_incarnation,
+};
