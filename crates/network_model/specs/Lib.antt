@@ -1,5 +1,6 @@
 pub mod Network
 pub mod Packets
 pub mod Fits
+pub mod Lives
 pub mod Samples
 pub mod Opens

@@ -1,6 +1,6 @@
 -- The run of every network is that of a world, and so it is safe.
 use Rattle.std.proofs.Common.{◌≡◌, ◌<◌, ◌≤◌, ◌+◌, ℕ, List, [], ◌∷◌, ◌++◌, Option, Some, None, false, refl, sym, ap, ◌∙◌, subst, arith, append-nil, append_assoc}
-use Rattle.std.specs.Prelude.{fold}
+use Rattle.std.specs.Prelude.{fold, map}
 use Rattle.rsct_packet.specs.Ids.{last_u32}
 use Rattle.rsct_packet.specs.Lists.{reverse_onto}
 use Rattle.node_state.specs.declared.config.Config.{Config}
@@ -20,6 +20,8 @@ use Rattle.network_model.specs.Network.{Act, Begins, Opens, Turns, Ends, Net, no
 use Rattle.network_model.specs.Packets.{opening_packets}
 use Rattle.network_model.specs.Fits.{MaySend, MayBegin, MayTurn, OfUp, MayAct, AllMayAct}
 use Rattle.network_safety.specs.Safe.{answered_by, silent, idle_events, TurnEvents, ActEvents, AreEventsOf, NetworksOfDaemonsAreSafe}
+use Rattle.network_safety.specs.Served.{life_of, ServedDaemonsAreSafe}
+use Rattle.network_safety.proofs.Apart.{nodes_record_their_lives}
 use Rattle.network_safety.proofs.Standing.{Stands, Stand}
 use Rattle.network_safety.proofs.Stepping.{step_stands}
 use Rattle.network_safety.proofs.Acts.{its_node, called}
@@ -150,3 +152,7 @@ networks_of_daemons_are_safe c acts run =
   where
     back : (rs : List Happened) → reverse_onto (reverse_onto rs []) [] ≡ rs
     back rs = reversed_back rs []
+
+pub served_daemons_are_safe : ServedDaemonsAreSafe
+served_daemons_are_safe c served acts are run =
+    (networks_of_daemons_are_safe c acts run, nodes_record_their_lives c acts (λ n. map (life_of c n) (served n)) are)

@@ -9,4 +9,5 @@ pub mod Stepping
 pub mod Acts
 pub mod Turning
 pub mod Lives
+pub mod Apart
 pub mod Law

@@ -28,7 +28,7 @@ use Rattle.network_safety.proofs.Standing.{IsCore, Facts, facts, NodeOf, node_of
 -- ---- a start
 
 -- a daemon that starts has its node, at work; has sent nothing; and recorded that it is up
-begun_records : (c : Config) (n inc moment : ℕ) → (begun c n inc moment).records ≡ (started c n inc).records
+pub begun_records : (c : Config) (n inc moment : ℕ) → (begun c n inc moment).records ≡ (started c n inc).records
 unfolding begun left_by
 begun_records c n inc moment = refl
 

@@ -10,7 +10,7 @@ use Rattle.node_state.specs.declared.packet.Body.TheVariants as body
 use Rattle.node_state.specs.declared.packet.Packet.{Packet}
 use Rattle.node_state.specs.HandOn.{Answering}
 use Rattle.node_state.specs.Bytes.{packet_of, bytes_of}
-use Rattle.node_state.specs.Step.{Ticks, stepped}
+use Rattle.node_state.specs.Step.{Ticks, Calls, stepped}
 use Rattle.world_model.specs.World.{World}
 use Rattle.world_model.specs.declared.event.Event.TheVariants as event
 use Rattle.world_laws.specs.world_answers.Answers.{Answered, goes_on}
@@ -20,7 +20,7 @@ use Rattle.piece_link.specs.Joining.{Joining, Joined, taken}
 use Rattle.piece_link.specs.Answers.{Among}
 use Rattle.piece_link.proofs.UnchangedLaw.{unchanged, answered_at_once}
 use Rattle.daemon_model.specs.Sent.{as_sent}
-use Rattle.daemon_model.specs.Daemon.{Daemon, Turn, left_by, stepped_by, is_due, ticked_if, ticked, joined_by, received, given, heard, turned}
+use Rattle.daemon_model.specs.Daemon.{Daemon, Opening, Turn, left_by, stepped_by, opened, is_due, ticked_if, ticked, joined_by, received, given, heard, turned}
 use Rattle.network_model.specs.Network.{Net, datagrams_of, went_on}
 use Rattle.network_model.specs.Packets.{tick_packets, given_packets, turn_packets}
 use Rattle.network_model.specs.Fits.{IsQuestion, AsksAtMost, IsOfClient, MayCome, MayTurn}
@@ -123,6 +123,16 @@ given_more : (message : Option (List ℕ)) (f : Answering) (d : Daemon) → More
 unfolding given
 given_more None f d = due_more d.last d
 given_more (Some message) f d = step_more f _ d
+
+pub open_more : (d : Daemon) (o : Opening) → More d (opened d o)
+unfolding opened
+open_more d o = step_more o.answers (Calls o.call) d
+
+pub turn_more : (d : Daemon) (t : Turn) → More d (turned d t)
+unfolding turned heard
+turn_more d t =
+    let e : Daemon = ticked t.moment t.tick d in
+    more_on d e (turned d t) (tick_more (is_due d.last t.moment) t.moment t.tick d) (more_on e (received t.got e) (turned d t) (received_more t.got e) (given_more (joined_by t.got e.joining).message t.answers (received t.got e)))
 
 given_later : (message : Option (List ℕ)) (f : Answering) (d : Daemon) → d.number ≤ (given message f d).number
 unfolding given stepped_by left_by

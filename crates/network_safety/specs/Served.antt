@@ -1,0 +1,49 @@
+-- A network of daemons that `serve` ran.
+use Rattle.std.specs.Prelude.{ℕ, ◌≡◌, List, Option, Some, map}
+use Rattle.hags_io.specs.declared.link.LinkCall.{LinkCall}
+use Rattle.node_state.specs.declared.config.Config.{Config}
+use Rattle.node_state.specs.declared.state.Core.{Core}
+use Rattle.world_model.specs.declared.script.Script.{Script}
+use Rattle.daemon_model.specs.Daemon.{Life}
+use Rattle.daemon_model.specs.Lives.{ServesAs, ServesTo, ServesFront}
+use Rattle.network_model.specs.Network.{Act, no_net}
+use Rattle.network_model.specs.Lives.{LifeIn, AreLives, records_at, lives_records}
+use Rattle.network_model.specs.Fits.{NetworkRun}
+use Rattle.network_safety.specs.Safe.{IsSafeNetwork}
+
+-- what the clauses of `serve` say of a daemon that it ran: its status was 0, or 6 after the link was open, or 3 or 5
+pub data IsServed (script : Script) (me incarnation turns : ℕ) (a b : Option (List LinkCall)) (x y : Option (List ℕ)) (u v : Option (List ℕ)) : Type 0 where
+  Done : (core : Core) → ServesAs script me incarnation turns core a b x y u v → IsServed script me incarnation turns a b x y u v
+  Ended : ServesTo script me incarnation turns a b x y u v → IsServed script me incarnation turns a b x y u v
+  Broken : ServesFront script me incarnation turns a b x y u v → IsServed script me incarnation turns a b x y u v
+
+-- a daemon of a node, in the domain of these settings, over a link that tells: what link, sink and clock told before and after
+pub record Served (c : Config) (n : ℕ) : Type 0 where
+  pub script : Script
+  pub settings : script.config ≡ c
+  pub incarnation : ℕ
+  pub turns : ℕ
+  pub calls : List LinkCall
+  pub calls_after : List LinkCall
+  pub held : Option (List ℕ)
+  pub held_after : Option (List ℕ)
+  pub moments : Option (List ℕ)
+  pub moments_after : Option (List ℕ)
+  pub is : IsServed script n incarnation turns (Some calls) (Some calls_after) held held_after moments moments_after
+
+abbrev pub life_served : (script : Script) (me incarnation turns : ℕ) (a b : Option (List LinkCall)) (x y : Option (List ℕ)) (u v : Option (List ℕ)) → IsServed script me incarnation turns a b x y u v → Life
+life_served script me incarnation turns a b x y u v (Done core s) = s.life
+life_served script me incarnation turns a b x y u v (Ended s) = s.life
+life_served script me incarnation turns a b x y u v (Broken s) = s.life
+
+-- the life that the clauses give
+abbrev pub life_of : (c : Config) (n : ℕ) → Served c n → LifeIn
+life_of c n r =
+    record { incarnation = r.incarnation; life = life_served r.script n r.incarnation r.turns (Some r.calls) (Some r.calls_after) r.held r.held_after r.moments r.moments_after r.is }
+
+-- Let `serve` have run daemons over links that tell, for each node one after another, and let what they were given fit
+-- together. Then they are a safe network, whose records at each node are those of these daemons.
+abbrev pub ServedDaemonsAreSafe : Type 0
+ServedDaemonsAreSafe =
+    (c : Config) (served : (n : ℕ) → List (Served c n)) (acts : List Act) → AreLives acts (λ n. map (life_of c n) (served n)) → NetworkRun c acts
+    → IsSafeNetwork c acts × ((n : ℕ) → records_at c n no_net acts ≡ lives_records c n 0 (map (life_of c n) (served n)))
