@@ -5,7 +5,7 @@ use Rattle.rsct_packet.specs.Lists.{drop_where}
 use Rattle.rsct_packet.specs.Packet.{packet_at, front_at}
 use Rattle.node_state.specs.declared.happened.Happened.{Happened}
 use Rattle.node_state.specs.declared.packet.Packet.{Packet}
-use Rattle.node_state.specs.Bytes.{packet_of, event_in, event_of}
+use Rattle.node_state.specs.Bytes.{packet_of, is_packet, event_in, event_of}
 use Rattle.node_state.specs.declared.state.Core.{Core}
 use Rattle.node_state.specs.HandOn.{Answering}
 use Rattle.node_state.specs.Step.{NodeEvent, Given, Garbage, stepped}
@@ -72,6 +72,15 @@ bytes_given b p e = ap event_in e
 pub no_bytes : event_of [] ≡ Garbage
 unfolding event_of packet_of packet_at front_at
 no_bytes = refl
+
+none_in : (o : Option Packet) → is_some o ≡ false → event_in o ≡ Garbage
+none_in None e = refl
+none_in (Some p) e = absurd cc
+
+-- nor are other bytes that spell none
+pub no_packet : (b : List ℕ) → is_packet b ≡ false → event_of b ≡ Garbage
+unfolding is_packet event_of
+no_packet b e = none_in (packet_of b) e
 
 missing_up : (o : Option world.Node) (t : Bool) → o ≡ None → is_some o ≡ t → t ≡ true → ⊥
 missing_up None t e up there = absurd cc

@@ -1,5 +1,6 @@
 //! What happens, in one call.
 ghost use Rattle.std.specs.Prelude.{◌≡◌, ℕ, OnOk, IsErrOf};
+ghost use Rattle.node_state.specs.Bytes.{event_of};
 ghost use Rattle.node_state.specs.Step.{Garbage};
 ghost use Rattle.world_model.specs.World.{node_at, node_steps, happens};
 ghost use Rattle.world_laws.specs.world_answers.Answers.{step_by_if, happens_by};
@@ -9,15 +10,34 @@ ghost use Rattle.net_script.specs.Safe.{AnswersSafely, GoesSafely};
 
 use crate::world::World;
 use client_callbacks::Made;
-use node_core::NodeEvent;
+use node_core::{NodeEvent, is_packet};
 use node_state::Records;
 use play_state::WorldFault;
 use std::alloc::Global;
 use world_model::Event;
 
+/// What a node is handed of bytes that are to be no packet: the bytes themselves, and none of them where they spell a
+/// packet, which no script has. So its reader drops them.
+#[tactic(auto, using(crate::proofs::GivingLaws::no_bytes, crate::proofs::GivingLaws::no_packet))]
+fn garbage(bytes: &[u8]) -> &[u8]
+    ensures { event_of result.now ≡ Garbage }
+{
+    if is_packet(bytes) {
+        b"".as_slice()
+    } else {
+        bytes
+    }
+}
+
 impl<C: Made> World<C> {
     /// A node is given bytes that are no packet.
-    fn give_garbage(&mut self, alloc: Global, node: u8, out: &mut Records) -> Result<(), WorldFault>
+    fn give_garbage(
+        &mut self,
+        alloc: Global,
+        node: u8,
+        bytes: &[u8],
+        out: &mut Records,
+    ) -> Result<(), WorldFault>
         ensures goes { OnOk result (Comes C.script C.script_of self.old
             (Goes C.script C.script_of self.old self.new out.old out.new)
             (λ f w. step_by_if f w Garbage (node_at w node)) (λ w. node_steps w node Garbage)) }
@@ -29,7 +49,7 @@ impl<C: Made> World<C> {
             (λ f w. step_by_if f w Garbage (node_at w node)) (λ w. node_steps w node Garbage) }
         ensures kept { (k : ℕ) → IsErrOf result (WorldFault.TooMuchKept k) → out.new ≡ out.old }
     {
-        self.step(alloc, node, NodeEvent::Datagram(b""), out)
+        self.step(alloc, node, NodeEvent::Datagram(garbage(bytes)), out)
     }
 
     /// A plain event happens, each kind by its own call.
@@ -53,7 +73,7 @@ impl<C: Made> World<C> {
             Event::Call(n, c) => self.call(alloc, *n, c, out),
             Event::Show(n, what) => Ok(self.show(alloc, *n, *what, out)?),
             Event::Deliver(a, b, k) => self.give(alloc, *a, *b, *k, out),
-            Event::Garbage(n, _) => self.give_garbage(alloc, *n, out),
+            Event::Garbage(n, bytes) => self.give_garbage(alloc, *n, bytes.as_slice(), out),
         }
     }
 
