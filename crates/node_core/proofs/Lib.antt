@@ -1,3 +1,4 @@
 pub mod StepLaws
 pub mod StartLaws
 pub mod PartLaws
+pub mod SendLaws

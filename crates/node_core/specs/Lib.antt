@@ -1,3 +1,4 @@
 pub mod Node
 pub mod Event
 pub mod Parts
+pub mod Sends

@@ -13,6 +13,7 @@ ghost use Rattle.node_state.specs.Status.{status_text};
 ghost use Rattle.node_state.specs.Step.{Calls, at_work, started, stepped};
 ghost use Rattle.node_core.specs.Event.{called, event_in, is_taken};
 ghost use Rattle.node_core.specs.Node.{sessions_in};
+ghost use Rattle.node_core.specs.Sends.{SendsFew};
 
 use crate::events::{NodeEvent, take_event};
 use crate::sessions::{close_session, open_session};
@@ -142,6 +143,8 @@ impl<C: Callbacks> Node<C> {
         ensures does { OnOk result (RowDoes C.script C.stands_for self.old.clients self.new.clients
             (called (at_work self.old.core) (event_in event.entry)) self.new.core
             (λ f. stepped f self.old.core (event_in event.entry))) }
+        ensures sends { OnOk result
+            (SendsFew self.old.core (event_in event.entry) self.new.core) }
         ensures order { OnOk result (InNameOrder self.old.core.groups) }
         ensures goes_on { OnOk result (self.new.halted ≡ false) }
         ensures halts { IsErrOf result StepFault.NoMemory → IsTrue self.new.halted }
@@ -171,6 +174,8 @@ impl<C: Callbacks> Node<C> {
             (clients_with client self.old.clients (inited self.old.core.sessions name.now))
             self.new.clients) (take_call (at_work self.old.core) (call.Init node name.now votes))
             self.new.core (λ f. stepped f self.old.core (Calls (call.Init node name.now votes)))) }
+        ensures sends { OnOk result ((node : ℕ) (votes : List ℕ) → SendsFew self.old.core
+            (Calls (call.Init node name.now votes)) self.new.core) }
         ensures order { OnOk result (InNameOrder self.old.core.groups) }
         ensures goes_on { OnOk result (self.new.halted ≡ false) }
         ensures halts { IsErrOf result StepFault.NoMemory → IsTrue self.new.halted }
@@ -199,6 +204,8 @@ impl<C: Callbacks> Node<C> {
             (client_token self.old.core.sessions client.now)) self.old.clients) self.new.clients)
             (take_call (at_work self.old.core) (call.Goodbye client.now)) self.new.core
             (λ f. stepped f self.old.core (Calls (call.Goodbye client.now)))) }
+        ensures sends { OnOk result
+            (SendsFew self.old.core (Calls (call.Goodbye client.now)) self.new.core) }
         ensures order { OnOk result (InNameOrder self.old.core.groups) }
         ensures goes_on { OnOk result (self.new.halted ≡ false) }
         ensures halts { IsErrOf result StepFault.NoMemory → IsTrue self.new.halted }
