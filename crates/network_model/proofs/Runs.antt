@@ -39,9 +39,9 @@ never_sent_run run =
     elim (run.may.1.1.0.comes) [
       | inl among ↦ absurd among
       | inr other ↦ elim other [
-          | inl none ↦ absurd (let e : Some _ ≡ None = none in cc)
-          | inr client ↦ absurd (let e : false ≡ true = client.0 in cc)
-        ]
+        | inl none ↦ absurd (let e : Some _ ≡ None = none in cc)
+        | inr client ↦ absurd (let e : false ≡ true = client.0 in cc)
+      ]
     ]
 
 pub old_incarnation_run : NetworkRun pair old_incarnation → ⊥

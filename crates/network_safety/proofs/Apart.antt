@@ -156,8 +156,8 @@ all_same c n (a ∷ acts) net = by (is_at n a) refl (all_same c n acts (acted c 
 
 -- a daemon goes on, act after act, and then come other acts
 module _ (c : Config) (n last : ℕ) {X : Type 0} (act : X → Act) (f : Daemon → X → Daemon) (more : (d : Daemon) (x : X) → More d (f d x))
-  (state : (d : Daemon) (x : X) → acted_at c n (record { daemon = Some d; last = last }) (act x) ≡ record { daemon = Some (f d x); last = last })
-  (noted : (d : Daemon) (x : X) → noted_at c n (record { daemon = Some d; last = last }) (act x) ≡ noted_since d (f d x)) where
+    (state : (d : Daemon) (x : X) → acted_at c n (record { daemon = Some d; last = last }) (act x) ≡ record { daemon = Some (f d x); last = last })
+    (noted : (d : Daemon) (x : X) → noted_at c n (record { daemon = Some d; last = last }) (act x) ≡ noted_since d (f d x)) where
   goes_at : (xs : List X) (d : Daemon) (rest : List Act) → d.records ++ all_at c n (record { daemon = Some d; last = last }) (map act xs ++ rest) ≡ (fold f d xs).records ++ all_at c n (record { daemon = Some (fold f d xs); last = last }) rest
   unfolding all_at
   goes_at [] d rest = refl
