@@ -121,9 +121,9 @@ impl Edges {
         calls.len() == letters.len() && calls.iter().map(letter).eq(letters.iter().copied())
     }
 
-    /// What the `i`-th call sent, where it was a send to this node on network 1.
-    pub(crate) fn sent_to(&self, node: u8, i: usize) -> Option<&[u8]> {
-        match self.link.calls().get(i)? {
+    /// What the call at this index sent, where it was a send to this node on network 1.
+    pub(crate) fn sent_to(&self, node: u8, index: usize) -> Option<&[u8]> {
+        match self.link.calls().get(index)? {
             LinkCall::Sent(to, 1, piece, _) => {
                 if *to == node {
                     Some(piece.as_slice())

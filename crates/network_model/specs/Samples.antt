@@ -1,5 +1,5 @@
 -- Small runs of networks, for worked examples: nodes 1 and 2, without clients.
-use Rattle.std.specs.Prelude.{ℕ, List, [], ◌∷◌, slice_index_or}
+use Rattle.std.specs.Prelude.{ℕ, List, [], ◌∷◌, codes, slice_index_or}
 use Rattle.node_state.specs.declared.config.Config.{Config}
 use Rattle.daemon_model.specs.Daemon.{records_text}
 use Rattle.daemon_model.specs.Samples.{settings_for, quiet_at, given_at}
@@ -45,6 +45,18 @@ two_at_once = Begins 1 1 0 ∷ Begins 1 2 0 ∷ []
 -- the lines of what was recorded
 unfoldable pub lines_after : List Act → List ℕ
 lines_after acts = records_text (net_after pair acts).records
+
+-- ---- what these networks record, line by line
+
+abbrev pub starts_again_lines : List ℕ
+starts_again_lines =
+    codes "up 1 1\nring 1 1 1.1.1 1 1\nin 1 1.1.1 1.1\ndown 1\nup 1 2\nring 1 1 1.2.1 1 1\nin 1 1.1.2 1.2\ndown 1\nup 1 3\nring 1 1 1.3.1 1 1\nin 1 1.1.3 1.3\n"
+
+abbrev pub two_speak_lines : List ℕ
+two_speak_lines = codes "up 1 1\nring 1 1 1.1.1 1 1\nin 1 1.1.1 1.1\nup 2 1\nring 2 1 2.1.1 2 2\nin 2 1.2.1 2.1\n"
+
+abbrev pub old_incarnation_lines : List ℕ
+old_incarnation_lines = codes "up 1 1\nring 1 1 1.1.1 1 1\nin 1 1.1.1 1.1\ndown 1\nup 1 1\nring 1 1 1.1.1 1 1\nin 1 1.1.1 1.1\n"
 
 -- opens each word of this file, for a computation
 unfoldable pub samples_opens : Unit {0}
