@@ -1,10 +1,10 @@
 -- Which of the sample runs are runs of a network.
-use Rattle.std.proofs.Common.{◌≡◌, List, [], ◌∷◌, Some, None, refl, sym, subst, inl, inr, arith}
+use Rattle.std.proofs.Common.{◌≡◌, [], ◌∷◌, Some, None, refl, sym, subst, inl, inr, arith}
 use Rattle.std.specs.Prelude.{true, false}
 use Rattle.rsct_packet.specs.Search.{Has}
 use Rattle.node_state.specs.declared.packet.Packet.{Packet}
 use Rattle.node_state.specs.Bytes.{packet_of, bytes_of}
-use Rattle.network_model.specs.Fits.{NetworkRun, MayBegin, MayTurn}
+use Rattle.network_model.specs.Fits.{NetworkRun, MayBegin}
 use Rattle.network_model.specs.Opens.{net_opens}
 use Rattle.network_model.specs.Samples.{pair, two_speak, never_sent, old_incarnation, two_at_once}
 

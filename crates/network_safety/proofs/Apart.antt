@@ -1,6 +1,6 @@
 -- What each node records in a network are the records of its daemons' lives.
 use Rattle.std.proofs.Common.{◌≡◌, ◌≢◌, ◌+◌, ◌-◌, ℕ, zero, suc, List, [], ◌∷◌, ◌++◌, length, drop, Bool, true, false, Option, Some, None, refl, sym, ap, ◌∙◌, subst, append-nil, append_assoc}
-use Rattle.std.specs.Prelude.{◌==◌, filter, flat_map, map, fold, if◌then◌else◌}
+use Rattle.std.specs.Prelude.{filter, flat_map, map, fold, if◌then◌else◌}
 use Rattle.std.proofs.Math.Seq.{drop-append_seam}
 use Rattle.std.proofs.lemmas.Bool.{eqb-true, eqb-false}
 use Rattle.node_state.specs.declared.config.Config.{Config}
@@ -11,8 +11,8 @@ use Rattle.step_refinement.specs.Rows.{at_node}
 use Rattle.step_refinement.proofs.Changed.{set_here, set_there}
 use Rattle.daemon_model.specs.Daemon.{Daemon, Opening, Turn, begun, opened, opened_all, turned, turned_all, lived}
 use Rattle.network_model.specs.Network.{Act, Begins, Opens, Turns, Ends, Net, no_net, noted_since, went_on, starts, ends, idles, begins, does_if, acted}
-use Rattle.network_model.specs.Lives.{LifeIn, acts_of, is_at, AreLives, noted_if, records_at, idle_records, lives_records, NodesRecordTheirLives}
-use Rattle.network_safety.proofs.Going.{More, more_on, noted_is}
+use Rattle.network_model.specs.Lives.{LifeIn, acts_of, is_at, noted_if, records_at, idle_records, lives_records, NodesRecordTheirLives}
+use Rattle.network_safety.proofs.Going.{More, noted_is}
 use Rattle.network_safety.proofs.Turning.{open_more, turn_more}
 use Rattle.network_safety.proofs.Lives.{begun_records}
 
