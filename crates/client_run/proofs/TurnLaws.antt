@@ -48,9 +48,9 @@ made_as : (lines : List (List ℕ)) (c : Client) (line : List ℕ) (far : FarSta
 unfolding call_made
 made_as lines c line far b made e f may is =
     let one : ◌≡◌ {A = Client} (record c { far = far; made = if b then risen c.made else c.made }) (record c { far = far_called line c.far; made = if b then risen c.made else c.made }) =
-        ap (λ (g : FarState). record c { far = g; made = if b then risen c.made else c.made }) f in
+    ap (λ (g : FarState). record c { far = g; made = if b then risen c.made else c.made }) f in
     let two : ◌≡◌ {A = Client} (record c { far = far_called line c.far; made = if b then risen c.made else c.made }) (made_with c (Some line)) =
-        ap (λ (t : Bool). record c { far = far_called line c.far; made = if t then risen c.made else c.made }) (sym is ∙ may) in
+    ap (λ (t : Bool). record c { far = far_called line c.far; made = if t then risen c.made else c.made }) (sym is ∙ may) in
     one ∙ (two ∙ ap (made_with c) e)
 
 pub made_call : (lines : List (List ℕ)) (c : Client) (line : List ℕ) (far : FarState) (made : Bool) → Some line ≡ slice_get lines c.made → far ≡ far_called line c.far → made ≡ may_call c.far → made ≡ true

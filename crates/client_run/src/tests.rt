@@ -104,7 +104,13 @@ fn ends(
     let lines = one_call(alloc, b"client 1 a -")?;
     let usage = Usage { node: 1, turns };
     let ended = use_daemon(
-        alloc, &settings(), &lines, usage, &mut out, &mut link, &mut clock,
+        alloc,
+        &settings(),
+        &lines,
+        usage,
+        &mut out,
+        &mut link,
+        &mut clock,
     );
     Ok((ended, out.held() == want))
 }
@@ -119,8 +125,7 @@ fn no_reply_over_an_empty_link(rt: HostRuntime) {
 #[test]
 fn an_answer_and_an_event_are_written(rt: HostRuntime) {
     let pieces = [TAKEN.as_slice()];
-    let (ended, same) =
-        ends(rt.alloc(), &pieces, 2, b"did 1 taken\nheard\n").expect(&rt, "memory");
+    let (ended, same) = ends(rt.alloc(), &pieces, 2, b"did 1 taken\nheard\n").expect(&rt, "memory");
     assert!(rt; ended == Ok(()));
     assert!(rt; same);
 }
@@ -128,8 +133,7 @@ fn an_answer_and_an_event_are_written(rt: HostRuntime) {
 #[test]
 fn another_incarnation_ends_it(rt: HostRuntime) {
     let pieces = [TAKEN.as_slice(), LOST.as_slice()];
-    let (ended, same) =
-        ends(rt.alloc(), &pieces, 9, b"did 1 taken\nheard\n").expect(&rt, "memory");
+    let (ended, same) = ends(rt.alloc(), &pieces, 9, b"did 1 taken\nheard\n").expect(&rt, "memory");
     assert!(rt; ended == Err(ClientFault::Lost));
     assert!(rt; same);
 }
