@@ -1,0 +1,4 @@
+pub mod TextLaws
+pub mod TurnLaws
+pub mod RunLaws
+pub mod UseLaws

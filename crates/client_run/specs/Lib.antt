@@ -1,0 +1,3 @@
+pub mod Turns
+pub mod Running
+pub mod Using
