@@ -1,5 +1,5 @@
 -- What a daemon sends: each packet in pieces. And how what a link tells compares with that: a send that fails is a lost packet.
-use Rattle.std.specs.Prelude.{◌≡◌, ℕ, ◌+◌, Bool, true, false, List, [], ◌∷◌, ◌++◌, map, Option}
+use Rattle.std.specs.Prelude.{◌≡◌, ℕ, ◌+◌, ◌==◌, ◌&&◌, not, Bool, true, false, List, [], ◌∷◌, ◌++◌, map, Option}
 use Rattle.hags_io.specs.declared.link.LinkCall.{LinkCall}
 use Rattle.hags_io.specs.declared.link.LinkCall.TheVariants as call
 use Rattle.hags_io.specs.Links.{Grows}
@@ -33,15 +33,26 @@ packet_calls me incarnation number p =
 unfoldable pub number_past : ℕ → Packet → ℕ
 number_past number p = number_if (can_cut (bytes_of p)) number
 
+-- and so is one to a node that no network joins with the sender, as to one that the settings lack
+abbrev pub goes_out : Packet → Bool
+goes_out p = not (p.network == 0) && can_cut (bytes_of p)
+
+unfoldable pub carried_calls : ℕ → ℕ → ℕ → Packet → List LinkCall
+carried_calls me incarnation number p =
+    calls_if (goes_out p) (map (piece_call p) (packet_pieces me incarnation number p))
+
+unfoldable pub number_over : ℕ → Packet → ℕ
+number_over number p = number_if (goes_out p) number
+
 -- packets in their order, each with the next number; and the number after them
 unfoldable pub sent_calls : ℕ → ℕ → ℕ → List Packet → List LinkCall
 sent_calls me incarnation number [] = []
 sent_calls me incarnation number (p ∷ ps) =
-    packet_calls me incarnation number p ++ sent_calls me incarnation (number_past number p) ps
+    carried_calls me incarnation number p ++ sent_calls me incarnation (number_over number p) ps
 
 unfoldable pub number_after : ℕ → List Packet → ℕ
 number_after number [] = number
-number_after number (p ∷ ps) = number_after (number_past number p) ps
+number_after number (p ∷ ps) = number_after (number_over number p) ps
 
 -- ---- what a link tells of them
 
@@ -67,5 +78,5 @@ pub record WentFront (before after : Option (List LinkCall)) (more : List LinkCa
 
 -- opens each word of this file, for a computation
 unfoldable pub sent_opens : Unit {0}
-unfolding packet_calls number_past sent_calls number_after
+unfolding packet_calls number_past carried_calls number_over sent_calls number_after
 sent_opens = tt

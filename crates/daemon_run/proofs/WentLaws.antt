@@ -1,5 +1,5 @@
 -- What goes out, piece by piece and packet by packet.
-use Rattle.std.proofs.Common.{◌≡◌, ℕ, zero, suc, ◌+◌, ◌<◌, ◌≤◌, Bool, true, false, List, [], ◌∷◌, ◌++◌, length, drop, map, get_or, Option, Some, None, refl, sym, ◌∙◌, ap, subst, arith, append_assoc, append-nil, add-one}
+use Rattle.std.proofs.Common.{◌≡◌, ℕ, zero, suc, ◌+◌, ◌<◌, ◌≤◌, ◌==◌, ◌&&◌, not, Bool, true, false, List, [], ◌∷◌, ◌++◌, length, drop, map, get_or, Option, Some, None, refl, sym, ◌∙◌, ap, subst, arith, append_assoc, append-nil, add-one}
 use Rattle.std.proofs.lemmas.List.{map-append}
 use Rattle.std.proofs.Math.Seq.{drop-cons}
 use Rattle.hags_io.specs.declared.link.LinkCall.{LinkCall}
@@ -8,7 +8,7 @@ use Rattle.hags_io.specs.Links.{Grows, Same}
 use Rattle.piece_link.specs.Pieces.{can_cut, message_by, pieces_of}
 use Rattle.node_state.specs.declared.packet.Packet.{Packet}
 use Rattle.node_state.specs.Bytes.{bytes_of}
-use Rattle.daemon_model.specs.Sent.{as_sent, piece_call, packet_pieces, packet_calls, calls_if, number_if, number_past, sent_calls, number_after, Went, WentFront}
+use Rattle.daemon_model.specs.Sent.{as_sent, piece_call, packet_pieces, packet_calls, calls_if, number_if, number_past, carried_calls, number_over, sent_calls, number_after, Went, WentFront}
 
 -- ---- what lists grow by
 
@@ -158,6 +158,33 @@ packet_front me inc number p bytes pieces a b is e pieces_is w = subst (WentFron
 pub number_sent : (number next : ℕ) (p : Packet) (bytes : List ℕ) → bytes ≡ bytes_of p → can_cut bytes ≡ true → next ≡ number + 1 → next ≡ number_past number p
 number_sent number next p bytes is e n = n ∙ sym (number_cut number p (ap can_cut (sym is) ∙ e))
 
+-- no network carries it, and it is lost
+carried_if : Bool → ℕ → ℕ → ℕ → Packet → List LinkCall
+carried_if t me inc number p = calls_if (not t && can_cut (bytes_of p)) (map (piece_call p) (packet_pieces me inc number p))
+
+over_if : Bool → ℕ → Packet → ℕ
+over_if t number p = number_if (not t && can_cut (bytes_of p)) number
+
+pub nowhere_sent : (me inc number : ℕ) (p : Packet) (a : Option (List LinkCall)) → (p.network == 0) ≡ true → Went a a (carried_calls me inc number p)
+unfolding carried_calls carried_if
+nowhere_sent me inc number p a e = subst (λ t. Went a a (carried_if t me inc number p)) (sym e) (went_nothing a)
+
+pub nowhere_number : (number : ℕ) (p : Packet) → (p.network == 0) ≡ true → number ≡ number_over number p
+unfolding number_over over_if
+nowhere_number number p e = sym (ap (λ t. over_if t number p) e)
+
+pub carried_sent : (me inc number : ℕ) (p : Packet) (a b : Option (List LinkCall)) → (p.network == 0) ≡ false → Went a b (packet_calls me inc number p) → Went a b (carried_calls me inc number p)
+unfolding carried_calls packet_calls carried_if
+carried_sent me inc number p a b e w = subst (λ t. Went a b (carried_if t me inc number p)) (sym e) w
+
+pub carried_front : (me inc number : ℕ) (p : Packet) (a b : Option (List LinkCall)) → (p.network == 0) ≡ false → WentFront a b (packet_calls me inc number p) → WentFront a b (carried_calls me inc number p)
+unfolding carried_calls packet_calls carried_if
+carried_front me inc number p a b e w = subst (λ t. WentFront a b (carried_if t me inc number p)) (sym e) w
+
+pub carried_number : (number next : ℕ) (p : Packet) → (p.network == 0) ≡ false → next ≡ number_past number p → next ≡ number_over number p
+unfolding number_over number_past over_if
+carried_number number next p e n = n ∙ sym (ap (λ t. over_if t number p) e)
+
 -- ---- packets
 
 -- what is left is that of the packets that are left, from this number on
@@ -168,19 +195,19 @@ pub record PacketsTo (me inc number first : ℕ) (left all : List Packet) (a b :
 pub packets_begin : (me inc number : ℕ) (ps : List Packet) (a : Option (List LinkCall)) → PacketsTo me inc number number ps ps a a
 packets_begin me inc number ps a = record { to = to_begin a _; number_is = refl }
 
-pub packets_next : (me inc number next first i : ℕ) (p : Packet) (ps : List Packet) (a b c : Option (List LinkCall)) → i < length ps → p ≡ get_or ps i p → next ≡ number_past number p
-    → PacketsTo me inc number first (drop i ps) ps a b → Went b c (packet_calls me inc number p) → PacketsTo me inc next first (drop (i + 1) ps) ps a c
+pub packets_next : (me inc number next first i : ℕ) (p : Packet) (ps : List Packet) (a b c : Option (List LinkCall)) → i < length ps → p ≡ get_or ps i p → next ≡ number_over number p
+    → PacketsTo me inc number first (drop i ps) ps a b → Went b c (carried_calls me inc number p) → PacketsTo me inc next first (drop (i + 1) ps) ps a c
 unfolding sent_calls number_after
 packets_next me inc number next first i p ps a b c h is past w q =
     let at : PacketsTo me inc number first (p ∷ drop (i + 1) ps) ps a b = subst (λ t. PacketsTo me inc number first t ps a b) (next_item i p ps h is) w in
-    rw past (record { to = to_next a b c (packet_calls me inc number p) _ _ at.to q; number_is = at.number_is })
+    rw past (record { to = to_next a b c (carried_calls me inc number p) _ _ at.to q; number_is = at.number_is })
 
 pub packets_front : (me inc number first i : ℕ) (p : Packet) (ps : List Packet) (a b c : Option (List LinkCall)) → i < length ps → p ≡ get_or ps i p
-    → PacketsTo me inc number first (drop i ps) ps a b → WentFront b c (packet_calls me inc number p) → WentFront a c (sent_calls me inc first ps)
+    → PacketsTo me inc number first (drop i ps) ps a b → WentFront b c (carried_calls me inc number p) → WentFront a c (sent_calls me inc first ps)
 unfolding sent_calls number_after
 packets_front me inc number first i p ps a b c h is w q =
     let at : PacketsTo me inc number first (p ∷ drop (i + 1) ps) ps a b = subst (λ t. PacketsTo me inc number first t ps a b) (next_item i p ps h is) w in
-    to_front a b c (packet_calls me inc number p) _ _ at.to q
+    to_front a b c (carried_calls me inc number p) _ _ at.to q
 
 pub packets_done : (me inc number first i : ℕ) (ps : List Packet) (a b : Option (List LinkCall)) → length ps ≤ i
     → PacketsTo me inc number first (drop i ps) ps a b → Went a b (sent_calls me inc first ps)

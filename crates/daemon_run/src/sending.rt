@@ -2,7 +2,7 @@
 ghost use Rattle.std.specs.Prelude.{◌≡◌, ◌≤◌, ◌∷◌, [], map, OnOk, OnErr, IfOk};
 ghost use Rattle.hags_io.specs.Links.{Same};
 ghost use Rattle.node_state.specs.Bytes.{bytes_of};
-ghost use Rattle.daemon_model.specs.Sent.{piece_call, packet_calls, number_past, sent_calls, number_after, Went, WentFront};
+ghost use Rattle.daemon_model.specs.Sent.{piece_call, packet_calls, number_past, carried_calls, number_over, sent_calls, number_after, Went, WentFront};
 ghost use Rattle.daemon_run.specs.Keeping.{KeepsLink};
 
 use hags_io::{Link, Put};
@@ -45,7 +45,7 @@ fn send_pieces<L: Link>(link: &mut L, packet: &Packet, pieces: &[Vec<u8>]) -> Re
 }
 
 /// The bytes of a packet. One that has no spelling, since its numbers, lists or texts pass what its fields can hold,
-/// counts as want of memory: no packet of a node is so, but that is not proved.
+/// counts as want of memory: no packet that a network carries is so, but that is not proved.
 fn bytes_of(alloc: Global, packet: &Packet) -> Result<Vec<u8>, NoMemory>
     ensures { IfOk result (λ bytes. bytes.items ≡ bytes_of packet.now) }
 {
@@ -96,6 +96,32 @@ pub fn send_packet<L: Link>(
     send_pieces(link, packet, pieces.as_slice())
 }
 
+/// Sends a packet as the message of this number, which is raised. One to a node that no network joins with this one is
+/// lost, and takes no number: so a stranger's packet that asks for an answer to a node which the settings lack has none.
+#[tactic(auto, using(crate::proofs::WentLaws::nowhere_sent, crate::proofs::WentLaws::nowhere_number, crate::proofs::WentLaws::carried_sent, crate::proofs::WentLaws::carried_front, crate::proofs::WentLaws::carried_number, crate::proofs::KeepLaws::keeps_itself))]
+fn send_carried<L: Link>(
+    alloc: Global,
+    me: u8,
+    incarnation: u32,
+    number: &mut u64,
+    packet: &Packet,
+    link: &mut L,
+) -> Result<(), NoMemory>
+    requires { me ≤ 32 }
+    ensures done { OnOk result (Went (L.calls link.old) (L.calls link.new)
+        (carried_calls me incarnation number.old packet.now)) }
+    ensures number { OnOk result (number.new ≡ number_over number.old packet.now) }
+    ensures broke { OnErr result (WentFront (L.calls link.old) (L.calls link.new)
+        (carried_calls me incarnation number.old packet.now)) }
+    ensures keeps { KeepsLink (L.places link.old) (L.places link.new) (L.opened link.old)
+        (L.opened link.new) (L.faults link.old) (L.faults link.new) }
+{
+    if packet.network == 0 {
+        return Ok(());
+    }
+    send_packet(alloc, me, incarnation, number, packet, link)
+}
+
 /// Sends packets, in this order, each as the next message.
 #[tactic(auto, using(crate::proofs::WentLaws::packets_begin, crate::proofs::WentLaws::packets_next, crate::proofs::WentLaws::packets_front, crate::proofs::WentLaws::packets_done, crate::proofs::WentLaws::packets_number, crate::proofs::KeepLaws::keeps_itself, crate::proofs::KeepLaws::keeps_on))]
 pub fn send_packets<L: Link>(
@@ -116,7 +142,7 @@ pub fn send_packets<L: Link>(
         (L.opened link.new) (L.faults link.old) (L.faults link.new) }
 {
     for packet in packets {
-        send_packet(alloc, me, incarnation, number, packet, link)?;
+        send_carried(alloc, me, incarnation, number, packet, link)?;
     }
     Ok(())
 }

@@ -1,5 +1,5 @@
 -- The messages of packets: what is sent of them is in pieces, and no two have one number.
-use Rattle.std.proofs.Common.{◌≡◌, ◌<◌, ◌≤◌, ◌+◌, ◌^◌, ℕ, List, [], ◌∷◌, ◌++◌, length, Bool, true, false, refl, sym, ap, ◌∙◌, subst, inl, inr, arith}
+use Rattle.std.proofs.Common.{◌≡◌, ◌<◌, ◌≤◌, ◌+◌, ◌^◌, ℕ, List, [], ◌∷◌, ◌++◌, length, ◌==◌, ◌&&◌, not, Bool, true, false, refl, sym, ap, ◌∙◌, subst, inl, inr, arith}
 use Rattle.std.specs.Prelude.{map, nat_le}
 use Rattle.std.proofs.lemmas.Bool.{leb-true}
 use Rattle.std.proofs.lemmas.Grind.{flat_map-append}
@@ -11,7 +11,7 @@ use Rattle.node_state.specs.Bytes.{bytes_of}
 use Rattle.piece_link.specs.Pieces.{Message, can_cut, message_by, pieces_of}
 use Rattle.piece_link.specs.Answers.{Among, CanBeCut, SameKey, AreDistinct}
 use Rattle.piece_link.proofs.OnceLaw.{among_append}
-use Rattle.daemon_model.specs.Sent.{piece_call, packet_pieces, calls_if, number_if, packet_calls, number_past, sent_calls, number_after}
+use Rattle.daemon_model.specs.Sent.{piece_call, packet_pieces, calls_if, number_if, goes_out, carried_calls, number_over, sent_calls, number_after}
 use Rattle.network_model.specs.Network.{datagram_in, datagrams_of}
 
 -- ---- what is among joined lists
@@ -34,18 +34,18 @@ message_if false m = []
 unfoldable pub messages_of : ℕ → ℕ → ℕ → List Packet → List Message
 messages_of me inc number [] = []
 messages_of me inc number (p ∷ ps) =
-    message_if (can_cut (bytes_of p)) (message_by me inc number (bytes_of p)) ++ messages_of me inc (number_past number p) ps
+    message_if (goes_out p) (message_by me inc number (bytes_of p)) ++ messages_of me inc (number_over number p) ps
 
 past_le : (b : Bool) (number : ℕ) → number ≤ number_if b number
 past_le true number = omega arith
 past_le false number = omega arith
 
 pub after_le : (number : ℕ) (ps : List Packet) → number ≤ number_after number ps
-unfolding number_after number_past
+unfolding number_after number_over
 after_le number [] = omega arith
 after_le number (p ∷ ps) =
-    let a : number ≤ number_past number p = past_le (can_cut (bytes_of p)) number in
-    let b : number_past number p ≤ number_after (number_past number p) ps = after_le (number_past number p) ps in
+    let a : number ≤ number_over number p = past_le (goes_out p) number in
+    let b : number_over number p ≤ number_after (number_over number p) ps = after_le (number_over number p) ps in
     omega arith
 
 -- one of them, of one of the packets, between two numbers
@@ -63,20 +63,20 @@ wider : (me inc low high low' high' : ℕ) (p : Packet) (ps : List Packet) (m : 
 wider me inc low high low' high' p ps m a b k =
     record { sender = k.sender; incarnation = k.incarnation; from = omega (arith, k.from); below = omega (arith, k.below); cut = k.cut; packet = k.packet; has = inr k.has; bytes = k.bytes }
 
-first_one : (me inc number high : ℕ) (p : Packet) (ps : List Packet) (b : Bool) → can_cut (bytes_of p) ≡ b → number_if b number ≤ high → (m : Message) → Among m (message_if b (message_by me inc number (bytes_of p))) → IsOne me inc number high (p ∷ ps) m
+first_one : (me inc number high : ℕ) (p : Packet) (ps : List Packet) (b : Bool) → goes_out p ≡ b → number_if b number ≤ high → (m : Message) → Among m (message_if b (message_by me inc number (bytes_of p))) → IsOne me inc number high (p ∷ ps) m
 first_one me inc number high p ps true e le m (inl is) =
-    subst (IsOne me inc number high (p ∷ ps)) (sym is) (record { sender = refl; incarnation = refl; from = omega arith; below = omega (arith, le); cut = e; packet = p; has = inl refl; bytes = refl })
+    subst (IsOne me inc number high (p ∷ ps)) (sym is) (record { sender = refl; incarnation = refl; from = omega arith; below = omega (arith, le); cut = (and_true (not (p.network == 0)) (can_cut (bytes_of p)) e).1; packet = p; has = inl refl; bytes = refl })
 first_one me inc number high p ps true e le m (inr h) = absurd h
 first_one me inc number high p ps false e le m h = absurd h
 
 pub each_one : (me inc number : ℕ) (ps : List Packet) (m : Message) → Among m (messages_of me inc number ps) → IsOne me inc number (number_after number ps) ps m
-unfolding messages_of number_after number_past
+unfolding messages_of number_after number_over
 each_one me inc number [] m h = absurd h
 each_one me inc number (p ∷ ps) m h =
-    let next : ℕ = number_past number p in
-    elim (among_append m (message_if (can_cut (bytes_of p)) (message_by me inc number (bytes_of p))) (messages_of me inc next ps) h) [
-      | inl a ↦ first_one me inc number (number_after next ps) p ps (can_cut (bytes_of p)) refl (after_le next ps) m a
-      | inr b ↦ wider me inc next (number_after next ps) number (number_after next ps) p ps m (past_le (can_cut (bytes_of p)) number) (omega arith) (each_one me inc next ps m b)
+    let next : ℕ = number_over number p in
+    elim (among_append m (message_if (goes_out p) (message_by me inc number (bytes_of p))) (messages_of me inc next ps) h) [
+      | inl a ↦ first_one me inc number (number_after next ps) p ps (goes_out p) refl (after_le next ps) m a
+      | inr b ↦ wider me inc next (number_after next ps) number (number_after next ps) p ps m (past_le (goes_out p) number) (omega arith) (each_one me inc next ps m b)
     ]
 
 -- no two of them have one number
@@ -100,24 +100,24 @@ distinct_both xs ys left right apart m n hm hn same =
       ]
     ]
 
-before_rest : (me inc number : ℕ) (p : Packet) (b : Bool) → can_cut (bytes_of p) ≡ b → (m : Message) → Among m (message_if b (message_by me inc number (bytes_of p))) → m.number < number_if b number
+before_rest : (me inc number : ℕ) (p : Packet) (b : Bool) → goes_out p ≡ b → (m : Message) → Among m (message_if b (message_by me inc number (bytes_of p))) → m.number < number_if b number
 before_rest me inc number p true e m (inl is) = subst (λ (z : Message). z.number < number + 1) (sym is) (omega arith)
 before_rest me inc number p true e m (inr h) = absurd h
 before_rest me inc number p false e m h = absurd h
 
 pub own_distinct : (me inc number : ℕ) (ps : List Packet) → AreDistinct (messages_of me inc number ps)
-unfolding messages_of number_past
+unfolding messages_of number_over
 own_distinct me inc number [] = λ m n h k same. absurd h
 own_distinct me inc number (p ∷ ps) =
-    distinct_both (message_if (can_cut (bytes_of p)) first) (messages_of me inc (number_past number p) ps) (λ m n h k same. same_first first (can_cut (bytes_of p)) m n h k) (own_distinct me inc (number_past number p) ps) apart
+    distinct_both (message_if (goes_out p) first) (messages_of me inc (number_over number p) ps) (λ m n h k same. same_first first (goes_out p) m n h k) (own_distinct me inc (number_over number p) ps) apart
   where
     first : Message
     first = message_by me inc number (bytes_of p)
 
-    apart : (m n : Message) → Among m (message_if (can_cut (bytes_of p)) first) → Among n (messages_of me inc (number_past number p) ps) → SameKey m n → ⊥
+    apart : (m n : Message) → Among m (message_if (goes_out p) first) → Among n (messages_of me inc (number_over number p) ps) → SameKey m n → ⊥
     apart m n h k same =
-        let a : m.number < number_past number p = before_rest me inc number p (can_cut (bytes_of p)) refl m h in
-        let b : number_past number p ≤ n.number = (each_one me inc (number_past number p) ps n k).from in
+        let a : m.number < number_over number p = before_rest me inc number p (goes_out p) refl m h in
+        let b : number_over number p ≤ n.number = (each_one me inc (number_over number p) ps n k).from in
         let c : m.number ≡ n.number = same.number in
         absurd (omega (arith, a, b, c))
 
@@ -138,15 +138,15 @@ first_piece me inc number p true b h = (message_by me inc number (bytes_of p), i
 first_piece me inc number p false b h = absurd h
 
 pub sent_pieces : (me inc number : ℕ) (ps : List Packet) (b : List ℕ) → Among b (datagrams_of (sent_calls me inc number ps)) → (m : Message) × Among m (messages_of me inc number ps) × Among b (pieces_of m)
-unfolding messages_of sent_calls packet_calls datagrams_of
+unfolding messages_of sent_calls carried_calls datagrams_of
 sent_pieces me inc number [] b h = absurd h
 sent_pieces me inc number (p ∷ ps) b h =
-    let first : List Message = message_if (can_cut (bytes_of p)) (message_by me inc number (bytes_of p)) in
-    let rest : List Message = messages_of me inc (number_past number p) ps in
-    let split : Among b (datagrams_of (packet_calls me inc number p) ++ datagrams_of (sent_calls me inc (number_past number p) ps)) = subst (Among b) (datagrams_both (packet_calls me inc number p) (sent_calls me inc (number_past number p) ps)) h in
-    elim (among_append b (datagrams_of (packet_calls me inc number p)) (datagrams_of (sent_calls me inc (number_past number p) ps)) split) [
-      | inl a ↦ (let r = first_piece me inc number p (can_cut (bytes_of p)) b a in (r.0, among_left r.0 first rest r.1, r.2))
-      | inr a ↦ (let r = sent_pieces me inc (number_past number p) ps b a in (r.0, among_right r.0 first rest r.1, r.2))
+    let first : List Message = message_if (goes_out p) (message_by me inc number (bytes_of p)) in
+    let rest : List Message = messages_of me inc (number_over number p) ps in
+    let split : Among b (datagrams_of (carried_calls me inc number p) ++ datagrams_of (sent_calls me inc (number_over number p) ps)) = subst (Among b) (datagrams_both (carried_calls me inc number p) (sent_calls me inc (number_over number p) ps)) h in
+    elim (among_append b (datagrams_of (carried_calls me inc number p)) (datagrams_of (sent_calls me inc (number_over number p) ps)) split) [
+      | inl a ↦ (let r = first_piece me inc number p (goes_out p) b a in (r.0, among_left r.0 first rest r.1, r.2))
+      | inr a ↦ (let r = sent_pieces me inc (number_over number p) ps b a in (r.0, among_right r.0 first rest r.1, r.2))
     ]
 
 -- each can be cut, where its numbers fit
