@@ -1,4 +1,5 @@
 //! The start of a daemon and its turns.
+use crate::questions::{RINGS_ASKED, RINGS_TOLD};
 use crate::runs::{ALONE, ALONE_TEXT, Edges, Failing, status};
 use std::test::Fail;
 
@@ -11,6 +12,18 @@ const PROCLAIM_1: &[u8] =
 
 const PROCLAIM_2: &[u8] =
     b"RP\x01\0\0\0\0\x05\0\0\0\0\0\0\0\x02\0\0\0\0\0\0\0\x01RG\x01\x02\x01\x01\x02\0\0\0\0\x05\0\0\0\x09\0\0\0\x01\x01\0\0\0\x05";
+
+/// A PREPARE that node 2, in its incarnation 1, sends to node 1: of the view 0.2.1, which is below what node 1 promised.
+const PREPARE_LATE: &[u8] =
+    b"RP\x02\0\0\0\0\x01\0\0\0\0\0\0\0\x01\0\0\0\0\0\0\0\x01RG\x01\x09\x01\x02\x01\0\0\0\0\x01\0\0\0\x0d\0\0\0\0\x02\0\0\0\x01\0\0\0\x03";
+
+/// The same of the view 0.3.1, whose coordinator is no node of the settings.
+const PREPARE_STRAY: &[u8] =
+    b"RP\x02\0\0\0\0\x01\0\0\0\0\0\0\0\x01\0\0\0\0\0\0\0\x01RG\x01\x09\x01\x02\x01\0\0\0\0\x01\0\0\0\x0d\0\0\0\0\x03\0\0\0\x01\0\0\0\x03";
+
+/// What node 1 answers node 2 then, as its message 1: a REFUSE that names the number 1.
+const REFUSED: &[u8] =
+    b"RP\x01\0\0\0\0\x05\0\0\0\0\0\0\0\x01\0\0\0\0\0\0\0\x01RG\x01\x0b\x01\x01\x02\0\0\0\0\x05\0\0\0\x0d\0\0\0\0\x02\0\0\0\x01\0\0\0\x01";
 
 #[test]
 fn a_node_alone_starts_and_sends_nothing(rt: HostRuntime) -> Result<(), Fail> {
@@ -75,5 +88,25 @@ fn a_failed_send_is_a_lost_packet(rt: HostRuntime) -> Result<(), Fail> {
         assert!(rt; edges.called(calls), "send {lost}");
         assert!(rt; edges.wrote(ALONE_TEXT), "send {lost}");
     }
+    Ok(())
+}
+
+#[test]
+fn a_view_below_the_promise_is_refused(rt: HostRuntime) -> Result<(), Fail> {
+    let alloc = rt.alloc();
+    let mut edges = Edges::sound(alloc, &[PREPARE_LATE], &[0])?;
+    assert!(rt; status(alloc, TWO, 2, &mut edges) == Some(0));
+    assert!(rt; edges.called(b"DSQ"));
+    assert!(rt; edges.sent_to(2, 1) == Some(REFUSED));
+    Ok(())
+}
+
+#[test]
+fn a_refusal_to_a_node_that_the_settings_lack_is_lost(rt: HostRuntime) -> Result<(), Fail> {
+    let alloc = rt.alloc();
+    let mut edges = Edges::sound(alloc, &[PREPARE_STRAY, RINGS_ASKED], &[0])?;
+    assert!(rt; status(alloc, TWO, 3, &mut edges) == Some(0));
+    assert!(rt; edges.called(b"DDSQ"));
+    assert!(rt; edges.sent_to(0, 2) == Some(RINGS_TOLD));
     Ok(())
 }

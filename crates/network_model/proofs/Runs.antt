@@ -4,14 +4,15 @@ use Rattle.std.specs.Prelude.{true, false}
 use Rattle.rsct_packet.specs.Search.{Has}
 use Rattle.node_state.specs.declared.packet.Packet.{Packet}
 use Rattle.node_state.specs.Bytes.{packet_of, bytes_of}
+use Rattle.daemon_model.specs.Sent.{goes_out}
 use Rattle.network_model.specs.Fits.{NetworkRun, MayBegin}
 use Rattle.network_model.specs.Opens.{net_opens}
 use Rattle.network_model.specs.Samples.{pair, two_speak, never_sent, old_incarnation, two_at_once}
 
 -- one packet that is read again as itself
-one_read : {p : Packet} → (packet_of (bytes_of p) ≡ Some p) → (q : Packet) → Has q (p ∷ []) → packet_of (bytes_of q) ≡ Some q
-one_read e q (inl f) = subst (λ z. packet_of (bytes_of z) ≡ Some z) (sym f) e
-one_read e q (inr h) = absurd h
+one_read : {p : Packet} → (packet_of (bytes_of p) ≡ Some p) → (q : Packet) → Has q (p ∷ []) → goes_out q ≡ true → packet_of (bytes_of q) ≡ Some q
+one_read e q (inl f) out = subst (λ z. packet_of (bytes_of z) ≡ Some z) (sym f) e
+one_read e q (inr h) out = absurd h
 
 pub two_speak_run : NetworkRun pair two_speak
 unfolding net_opens

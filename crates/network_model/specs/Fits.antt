@@ -13,6 +13,7 @@ use Rattle.node_state.specs.declared.packet.Body.TheVariants as body
 use Rattle.node_state.specs.declared.packet.Packet.{Packet}
 use Rattle.node_state.specs.Settings.{is_fixed}
 use Rattle.node_state.specs.Bytes.{packet_of, bytes_of}
+use Rattle.daemon_model.specs.Sent.{goes_out}
 use Rattle.daemon_model.specs.Daemon.{Daemon, Turn, opened, ticked, turned}
 use Rattle.network_model.specs.Network.{Act, Begins, Opens, Turns, Ends, Net, no_net, sent_since, acted}
 use Rattle.network_model.specs.Packets.{opening_packets, turn_packets}
@@ -44,10 +45,10 @@ MayCome wire call.Failed = Unit {0}
 
 -- ---- acts
 
--- Packets that a daemon may send: each is read again as itself, and the numbers of its messages fit their field. A daemon
--- gives up, as where memory runs out, before it sends another.
+-- Packets that a daemon may send: each that goes out is read again as itself, and the numbers of its messages fit their
+-- field. A daemon gives up, as where memory runs out, before it sends another.
 pub record MaySend (ps : List Packet) (after : Daemon) : Type 0 where
-  pub spelled : (p : Packet) → Has p ps → packet_of (bytes_of p) ≡ Some p
+  pub spelled : (p : Packet) → Has p ps → goes_out p ≡ true → packet_of (bytes_of p) ≡ Some p
   pub numbered : after.number ≤ 2 ^ 64
 
 -- a node from 1 to 32 starts, in a greater incarnation than all those before, where no daemon of it is up

@@ -17,7 +17,7 @@ use Rattle.provider_laws.proofs.resting.Law.{Resting}
 use Rattle.world_safety.specs.Events.{MayHappen}
 use Rattle.world_safety.specs.Mirrors.{inc_at}
 use Rattle.world_safety.specs.Moments.{CanCome}
-use Rattle.daemon_model.specs.Sent.{number_after}
+use Rattle.daemon_model.specs.Sent.{goes_out, number_after}
 use Rattle.daemon_model.specs.Daemon.{Daemon, Opening, left_by, stepped_by, given}
 use Rattle.network_model.specs.Network.{Net, datagrams_of, sent_since, went_on}
 use Rattle.network_model.specs.Packets.{given_packets}
@@ -111,7 +111,7 @@ pub record Gives (c : Config) (net : Net) (es : List Answered) (w : World) (n : 
 
 module _ (c : Config) (net : Net) (es : List Answered) (w : World) (k : Stand c net es w) (n : ℕ) (d : Daemon) (at : net.daemons n ≡ Some d) (f : Answering) (message : List ℕ) where
   by_step : (e : NodeEvent) → event_of message ≡ e → (v : Event) (y : Core) → IsGivenTo n v → IsStep c net es w k n d at f e (answered_by f v) y
-      → ((p : Packet) → Has p (stepped f d.core (event_of message)).sends → packet_of (bytes_of p) ≡ Some p) → number_after d.number (stepped f d.core (event_of message)).sends ≤ 2 ^ 64
+      → ((p : Packet) → Has p (stepped f d.core (event_of message)).sends → goes_out p ≡ true → packet_of (bytes_of p) ≡ Some p) → number_after d.number (stepped f d.core (event_of message)).sends ≤ 2 ^ 64
       → Gives c net es w n d (stepped_by f (event_of message) d) (Some message) f
   by_step e is v y to s spelled few =
       record {
@@ -122,7 +122,7 @@ module _ (c : Config) (net : Net) (es : List Answered) (w : World) (k : Stand c 
       }
 
   given_by : (o : Option Packet) → packet_of message ≡ o → IsKnown w message
-      → ((p : Packet) → Has p (stepped f d.core (event_of message)).sends → packet_of (bytes_of p) ≡ Some p) → number_after d.number (stepped f d.core (event_of message)).sends ≤ 2 ^ 64
+      → ((p : Packet) → Has p (stepped f d.core (event_of message)).sends → goes_out p ≡ true → packet_of (bytes_of p) ≡ Some p) → number_after d.number (stepped f d.core (event_of message)).sends ≤ 2 ^ 64
       → Gives c net es w n d (stepped_by f (event_of message) d) (Some message) f
   given_by None is known spelled few =
       by_step Garbage (event_is message None is) (event.Garbage n message) (stepped f (node_of c net es w k.world n d at).node.core Garbage) refl (drops c net es w k n d at f message) spelled few
@@ -161,7 +161,7 @@ IsKnownIf w None = Unit {0}
 IsKnownIf w (Some bytes) = IsKnown w bytes
 
 pub message_gives : (c : Config) (net : Net) (es : List Answered) (w : World) (k : Stand c net es w) (n : ℕ) (d : Daemon) → net.daemons n ≡ Some d → (f : Answering) (message : Option (List ℕ)) → IsKnownIf w message
-    → ((p : Packet) → Has p (given_packets message f d) → packet_of (bytes_of p) ≡ Some p) → (given message f d).number ≤ 2 ^ 64 → Gives c net es w n d (given message f d) message f
+    → ((p : Packet) → Has p (given_packets message f d) → goes_out p ≡ true → packet_of (bytes_of p) ≡ Some p) → (given message f d).number ≤ 2 ^ 64 → Gives c net es w n d (given message f d) message f
 unfolding given stepped_by left_by
 message_gives c net es w k n d at f None known spelled few =
     record { events = []; are = refl; world = w; stand = subst (λ zs. Stand c (went_on n d d net) zs w) (sym (append-nil es)) (none_given c net es w k n d at) }

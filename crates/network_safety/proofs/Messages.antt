@@ -58,14 +58,15 @@ pub record IsOne (me inc low high : ℕ) (ps : List Packet) (m : Message) : Type
   pub packet : Packet
   pub has : Has packet ps
   pub bytes : m.bytes ≡ bytes_of packet
+  pub goes : goes_out packet ≡ true
 
 wider : (me inc low high low' high' : ℕ) (p : Packet) (ps : List Packet) (m : Message) → low' ≤ low → high ≤ high' → IsOne me inc low high ps m → IsOne me inc low' high' (p ∷ ps) m
 wider me inc low high low' high' p ps m a b k =
-    record { sender = k.sender; incarnation = k.incarnation; from = omega (arith, k.from); below = omega (arith, k.below); cut = k.cut; packet = k.packet; has = inr k.has; bytes = k.bytes }
+    record { sender = k.sender; incarnation = k.incarnation; from = omega (arith, k.from); below = omega (arith, k.below); cut = k.cut; packet = k.packet; has = inr k.has; bytes = k.bytes; goes = k.goes }
 
 first_one : (me inc number high : ℕ) (p : Packet) (ps : List Packet) (b : Bool) → goes_out p ≡ b → number_if b number ≤ high → (m : Message) → Among m (message_if b (message_by me inc number (bytes_of p))) → IsOne me inc number high (p ∷ ps) m
 first_one me inc number high p ps true e le m (inl is) =
-    subst (IsOne me inc number high (p ∷ ps)) (sym is) (record { sender = refl; incarnation = refl; from = omega arith; below = omega (arith, le); cut = (and_true (not (p.network == 0)) (can_cut (bytes_of p)) e).1; packet = p; has = inl refl; bytes = refl })
+    subst (IsOne me inc number high (p ∷ ps)) (sym is) (record { sender = refl; incarnation = refl; from = omega arith; below = omega (arith, le); cut = (and_true (not (p.network == 0)) (can_cut (bytes_of p)) e).1; packet = p; has = inl refl; bytes = refl; goes = e })
 first_one me inc number high p ps true e le m (inr h) = absurd h
 first_one me inc number high p ps false e le m h = absurd h
 

@@ -1,5 +1,5 @@
 -- A daemon's node takes a step, or only the daemon changes.
-use Rattle.std.proofs.Common.{◌≡◌, ◌<◌, ◌≤◌, ◌^◌, ℕ, List, [], ◌∷◌, ◌++◌, Option, Some, None, refl, sym, ap, ◌∙◌, subst, inl, inr, arith, append-nil}
+use Rattle.std.proofs.Common.{◌≡◌, ◌<◌, ◌≤◌, ◌^◌, ℕ, true, List, [], ◌∷◌, ◌++◌, Option, Some, None, refl, sym, ap, ◌∙◌, subst, inl, inr, arith, append-nil}
 use Rattle.std.specs.Prelude.{◌⊎◌}
 use Rattle.rsct_packet.specs.Lists.{reverse_onto}
 use Rattle.rsct_packet.specs.Search.{Has}
@@ -19,7 +19,7 @@ use Rattle.world_safety.specs.Mirrors.{core_at, inc_at}
 use Rattle.piece_link.specs.Pieces.{Message, pieces_of}
 use Rattle.piece_link.specs.Answers.{Among, SameKey}
 use Rattle.piece_link.proofs.OnceLaw.{among_append}
-use Rattle.daemon_model.specs.Sent.{sent_calls, number_after}
+use Rattle.daemon_model.specs.Sent.{goes_out, sent_calls, number_after}
 use Rattle.daemon_model.specs.Daemon.{Daemon, left_by, stepped_by}
 use Rattle.network_model.specs.Network.{Net, datagrams_of, sent_since, noted_since, went_on}
 use Rattle.network_safety.proofs.Quiet.{IsTalk, step_rests}
@@ -60,7 +60,7 @@ module _ (c : Config) (net : Net) (es : List Answered) (w : World) (k : Stand c 
       pub records : y.records ≡ (stepped f d.core e).records
       pub sends : (p : Packet) → Has p (stepped f d.core e).sends → IsTalk p.body ⊎ Has p y.sends
 
-    module _ (s : IsStep) (spelled : (p : Packet) → Has p (stepped f d.core e).sends → packet_of (bytes_of p) ≡ Some p) (few : number_after d.number (stepped f d.core e).sends ≤ 2 ^ 64) where
+    module _ (s : IsStep) (spelled : (p : Packet) → Has p (stepped f d.core e).sends → goes_out p ≡ true → packet_of (bytes_of p) ≡ Some p) (few : number_after d.number (stepped f d.core e).sends ≤ 2 ^ 64) where
       abbrev new : List Message
       new = messages_of d.me d.incarnation d.number (stepped f d.core e).sends
 
@@ -90,7 +90,7 @@ module _ (c : Config) (net : Net) (es : List Answered) (w : World) (k : Stand c 
           fresh : (m : Message) → Among m new → IsKnown (goes_on w a) m.bytes
           fresh m h p is =
               let o = one m h in
-              let same : o.packet ≡ p = (let q : Some o.packet ≡ Some p = sym (spelled o.packet o.has) ∙ sym (ap packet_of o.bytes) ∙ is in cc) in
+              let same : o.packet ≡ p = (let q : Some o.packet ≡ Some p = sym (spelled o.packet o.has o.goes) ∙ sym (ap packet_of o.bytes) ∙ is in cc) in
               elim (s.sends o.packet o.has) [
                 | inl t ↦ inl (subst (λ (z : Packet). IsTalk z.body) same t)
                 | inr h ↦ inr (subst (λ (z : Packet). Has z (goes_on w a).sent) same (s.leaves.new o.packet h))

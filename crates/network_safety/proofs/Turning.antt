@@ -19,7 +19,7 @@ use Rattle.piece_link.specs.Pieces.{Message, Piece, piece_at, pieces_of}
 use Rattle.piece_link.specs.Joining.{Joining, Joined, taken}
 use Rattle.piece_link.specs.Answers.{Among}
 use Rattle.piece_link.proofs.UnchangedLaw.{unchanged, answered_at_once}
-use Rattle.daemon_model.specs.Sent.{as_sent}
+use Rattle.daemon_model.specs.Sent.{as_sent, goes_out}
 use Rattle.daemon_model.specs.Daemon.{Daemon, Opening, Turn, left_by, stepped_by, opened, is_due, ticked_if, ticked, joined_by, received, given, heard, turned}
 use Rattle.network_model.specs.Network.{Net, datagrams_of, went_on}
 use Rattle.network_model.specs.Packets.{tick_packets, given_packets, turn_packets}
@@ -52,7 +52,7 @@ pub record Went (c : Config) (net : Net) (es : List Answered) : Type 0 where
   pub stand : Stand c net es world
 
 tick_goes : (c : Config) (net : Net) (es : List Answered) (w : World) → Stand c net es w → (n : ℕ) (d : Daemon) → net.daemons n ≡ Some d → (b : Bool) (moment : ℕ) (f : Answering)
-    → ((p : Packet) → Has p (tick_packets b moment f d) → packet_of (bytes_of p) ≡ Some p) → (ticked_if b moment f d).number ≤ 2 ^ 64 → Went c (went_on n d (ticked_if b moment f d) net) (es ++ tick_events b n f)
+    → ((p : Packet) → Has p (tick_packets b moment f d) → goes_out p ≡ true → packet_of (bytes_of p) ≡ Some p) → (ticked_if b moment f d).number ≤ 2 ^ 64 → Went c (went_on n d (ticked_if b moment f d) net) (es ++ tick_events b n f)
 unfolding stepped_by left_by
 tick_goes c net es w k n d at false moment f spelled few =
     record { world = w; stand = subst (λ zs. Stand c (went_on n d d net) zs w) (sym (append-nil es)) (none_given c net es w k n d at) }
