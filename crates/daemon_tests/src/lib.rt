@@ -7,6 +7,8 @@ mod clients;
 #[cfg(test)]
 mod endings;
 #[cfg(test)]
+mod failing;
+#[cfg(test)]
 mod questions;
 #[cfg(test)]
 mod runs;

@@ -121,6 +121,15 @@ impl Edges {
         calls.len() == letters.len() && calls.iter().map(letter).eq(letters.iter().copied())
     }
 
+    /// How many sends there were, whether they went out or not.
+    pub(crate) fn sends(&self) -> usize {
+        let calls = self.link.calls();
+        calls
+            .iter()
+            .filter(|call| matches!(call, LinkCall::Sent(_, _, _, _)))
+            .count()
+    }
+
     /// What the call at this index sent, where it was a send to this node on network 1.
     pub(crate) fn sent_to(&self, node: u8, index: usize) -> Option<&[u8]> {
         match self.link.calls().get(index)? {
