@@ -1,1 +1,2 @@
 pub mod PortLaws
+pub mod MomentLaws
